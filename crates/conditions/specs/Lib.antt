@@ -1,0 +1,10 @@
+pub mod Tree
+pub mod Grammar
+pub mod Truth
+pub mod Tokens
+pub mod Nodes
+pub mod Reads
+pub mod Laws
+pub mod Walk
+pub mod Stack
+pub mod Layout

@@ -1,0 +1,16 @@
+-- Tokens as signs.
+use Rattle.conditions.specs.declared.atom.Atom.{Atom}
+use Rattle.conditions.specs.declared.token.Token.{Token}
+use Rattle.conditions.specs.declared.token.Token.TheVariants as token
+use Rattle.conditions.specs.Grammar.{Sign}
+use Rattle.conditions.specs.Grammar as sign
+
+-- the sign that a token is
+abbrev pub sign_of : Token → Sign Atom
+sign_of (token.Atom a) = sign.Atom a
+sign_of (token.Const b) = sign.Const b
+sign_of token.Not = sign.Not
+sign_of token.And = sign.And
+sign_of token.Or = sign.Or
+sign_of token.Open = sign.Open
+sign_of token.Close = sign.Close

@@ -1,0 +1,65 @@
+//! Formulas, read from tokens.
+ghost use Rattle.std.specs.Prelude.{◌≡◌, IfOk, map};
+ghost use Rattle.conditions.specs.Tokens.{sign_of};
+ghost use Rattle.conditions.specs.Truth.{truth};
+ghost use Rattle.conditions.specs.Reads.{Reads};
+
+use crate::fault::FormulaFault;
+use crate::node::Node;
+use crate::token::Token;
+use crate::{eval, reader};
+use std::alloc::{AllocError, Global};
+use std::marker::Model;
+use tso_program::Outcome;
+
+/// A formula over final values. It is seen as a tree, and lies in memory as a list of plain nodes.
+#[derive(Drop)]
+pub struct Formula {
+    nodes: Vec<Node>,
+}
+
+impl Model for Formula {
+    ghost use Rattle.std.specs.Prelude.{◌≡◌};
+    ghost use Rattle.conditions.specs.Tree.{Tree};
+    ghost use Rattle.conditions.specs.Nodes.{tree_code, tree_of, nodes_of};
+    ghost use Rattle.conditions.specs.declared.atom.Atom.{Atom};
+
+    ghost Value = { Tree Atom };
+
+    ghost coded = { tree_code };
+
+    ghost view = { λ a. tree_of a.nodes.items };
+
+    ghost invariant = { λ a. nodes_of (tree_of a.nodes.items) ≡ a.nodes.items };
+}
+
+impl Formula {
+    /// The formula that all the tokens spell. `Refused` has the index of the first token with which no formula goes on,
+    /// or the number of tokens where more are needed.
+    pub fn read(alloc: Global, tokens: &[Token]) -> Result<Formula, FormulaFault>
+        ensures { Reads (map sign_of tokens.now) result }
+    {
+        match reader::read(alloc, tokens) {
+            Ok(nodes) => Ok(Formula { nodes }),
+            Err(fault) => Err(fault),
+        }
+    }
+
+    /// Whether the formula is true at the outcome. Takes no memory, and no stack that grows with the formula.
+    pub fn holds(&self, outcome: &Outcome) -> bool
+        ensures { result ≡ truth outcome.now self.now }
+    {
+        eval::holds(&self.nodes, outcome)
+    }
+
+    /// A formula that is equal to this one.
+    pub fn copy(&self, alloc: Global) -> Result<Formula, AllocError>
+        ensures { IfOk result (λ copy. copy ≡ self.now) }
+    {
+        let nodes = Vec::from_slice(alloc, &self.nodes)?;
+        Ok(Formula { nodes })
+    }
+}
+
+#[cfg(test)]
+mod tests;

@@ -1,0 +1,45 @@
+-- A list of costs without a fault is within the limits.
+use Rattle.std.proofs.Common.{◌≡◌, ℕ, ◌<◌, ◌≤◌, ◌==◌, Bool, true, false, cond, nat_lt, List, length, get_or, Option, None, Some, position, refl, arith}
+use Rattle.std.specs.Option.{option_map, option_or}
+use Rattle.std.specs.List.{position_or_len}
+use Rattle.std.proofs.lemmas.Bool.Decides.{nat_tests}
+use Rattle.std.proofs.lemmas.List.Sums.{fails_before_first}
+use Rattle.gap_sets.specs.declared.costs.CostFault.TheVariants.{Zero, TooLarge, TooMany}
+use Rattle.gap_sets.specs.CostLists.{IsCostList, first_free, first_too_large, first_cost_fault}
+
+-- where no place below the end is found, the place is the end
+past_the_end : (place len : ℕ) → cond (nat_lt place len) (Some place) None ≡ None → len ≤ place
+past_the_end place len e =
+    elim (nat_lt place len) as (λ b. nat_lt place len ≡ b → cond b (Some place) None ≡ None → len ≤ place) [
+      | true ↦ λ _ s. cc
+      | false ↦ λ t _. grind (arith, nat_tests)
+    ] refl e
+
+-- where no element passes a test, each fails it
+none_passes : (p : ℕ → Bool) (xs : List ℕ) (k d : ℕ) → position p xs ≡ None → k < length xs → p (get_or xs k d) ≡ false
+none_passes p xs k d none h = fails_before_first p xs k d (omega (arith, past_the_end (position_or_len p xs) (length xs) none))
+
+-- no refusal applies, so none of its three causes
+no_fault : (many : Bool) (free too_large : Option ℕ)
+    → cond many (Some TooMany) (option_or (option_map Zero free) (option_map TooLarge too_large)) ≡ None
+    → (many ≡ false) × (free ≡ None) × (too_large ≡ None)
+no_fault true free too_large e = cc
+no_fault false (Some gap) too_large e = cc
+no_fault false None (Some gap) e = cc
+no_fault false None None e = (refl, refl, refl)
+
+few : (n : ℕ) → nat_lt 64 n ≡ false → n ≤ 64
+few n h = grind (arith, nat_tests)
+
+-- what neither test finds is within the limits
+in_range : (cost : ℕ) → (cost == 0) ≡ false → nat_lt 1000000 cost ≡ false → (1 ≤ cost) × (cost ≤ 1000000)
+in_range cost some small = (grind (arith, nat_tests), grind (arith, nat_tests))
+
+-- the list is within the limits
+pub IsCostList-from_no_fault : (costs : List ℕ) → first_cost_fault costs ≡ None → IsCostList costs
+IsCostList-from_no_fault costs none =
+    let parts = no_fault (nat_lt 64 (length costs)) (first_free costs) (first_too_large costs) none in
+    record {
+      few = few (length costs) parts.0;
+      each = λ k d h. in_range (get_or costs k d) (none_passes (λ cost. cost == 0) costs k d parts.1 h) (none_passes (λ cost. nat_lt 1000000 cost) costs k d parts.2 h);
+    }

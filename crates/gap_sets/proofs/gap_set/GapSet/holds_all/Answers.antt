@@ -1,0 +1,28 @@
+use Rattle.std.proofs.Common.{◌≡◌, ℕ, ◌∙◌, inl, inr, sym, refl, true, false, Bool}
+use mathlib.Core.Bool.{true≢false}
+use Rattle.std.specs.Int.{bit_not, w64}
+use Rattle.std.specs.Int.RustNames.{bit_and}
+use Rattle.std.specs.FinSet as set
+use Rattle.std.specs.Cmp.{nat_cmp_total}
+use Rattle.std.proofs.lemmas.Bool.Decides.{eqb_tells}
+use Rattle.gap_sets.proofs.WordSets.{contains-word}
+use Rattle.gap_sets.proofs.Words.{within, not_within}
+use Rattle.gap_sets.proofs.gap_set.GapSet.holds_all.Goals as goal
+
+not_all : (b : Bool) → (b ≡ true → ⊥) → b ≡ false
+not_all b deny = elim b as (λ v. (v ≡ true → ⊥) → v ≡ false) [ true ↦ λ n. absurd (n refl) | false ↦ λ _. refl ] deny
+
+pub returns : goal.returns
+returns c =
+    let a : ℕ = c.other.inside.bits in
+    let b : ℕ = c.self.inside.bits in
+    elim (eqb_tells (bit_and a (bit_not w64 b)) 0) [
+      | inl s ↦
+          s.0 ∙ sym (set.contains-is_subset nat_cmp_total _ _ (λ q p.
+          contains-word b q _ c.self.view_is c.self.invariant ∙ within a b c.other.invariant s.1 c.self.invariant q (sym (contains-word a q _ c.other.view_is c.other.invariant) ∙ p)))
+      | inr s ↦
+          let found = not_within a b c.other.invariant c.self.invariant s.1 in
+          let q : ℕ = found.0 in
+          s.0 ∙ sym (not_all (set.is_subset c.args.other.now c.args.self.now) (λ all.
+          true≢false (sym (set.is_subset-contains nat_cmp_total _ _ all q (contains-word a q _ c.other.view_is c.other.invariant ∙ found.1)) ∙ contains-word b q _ c.self.view_is c.self.invariant ∙ found.2)))
+    ]

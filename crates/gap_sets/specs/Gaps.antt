@@ -1,0 +1,21 @@
+-- Sets of gap numbers.
+use Rattle.std.specs.Prelude.{◌≡◌, ℕ, ◌<◌, Bool, true, ◌&&◌, List}
+use Rattle.std.specs.List.{filter, range_with_len}
+use Rattle.std.specs.Ordering.{nat_cmp}
+use Rattle.std.specs.FinSet as set
+
+-- a finite set of numbers
+abbrev pub SetOfGaps : Type 0
+SetOfGaps = set.FinSet nat_cmp
+
+-- gap numbers are 0 to 63
+abbrev pub IsGapSet : SetOfGaps → Type 0
+IsGapSet s = (gap : ℕ) → set.contains s gap ≡ true → gap < 64
+
+-- the gaps of a set, ascending: the numbers from 0 to 63 that it contains
+unfoldable pub gaps_in : SetOfGaps → List ℕ
+gaps_in s = filter (set.contains s) (range_with_len 0 64)
+
+-- whether each gap of one set is in the other
+abbrev pub have_same_gaps : SetOfGaps → SetOfGaps → Bool
+have_same_gaps s t = set.is_subset s t && set.is_subset t s

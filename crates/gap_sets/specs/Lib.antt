@@ -1,0 +1,7 @@
+pub mod Bits
+pub mod BitsLaws
+pub mod CostLists
+pub mod Gaps
+pub mod Laws
+pub mod Order
+pub mod SameGaps

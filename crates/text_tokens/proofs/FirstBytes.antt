@@ -1,0 +1,260 @@
+-- What the first byte of a text tells.
+use Rattle.std.proofs.Common.{◌≡◌, ◌≢◌, ℕ, ◌<◌, ◌≤◌, ◌==◌, Bool, true, false, List, [], ◌∷◌, ◌++◌, length, Option, Some, None, cond, refl, sym, ap, ◌∙◌, arith, inl, inr}
+use Rattle.std.specs.Prelude.{slice_index, if◌then◌else◌}
+use Rattle.std.specs.List.{list_all}
+use Rattle.std.specs.Char.{is_ascii_digit}
+use Rattle.std.proofs.lemmas.Bool.{cases_Bool, and_parts, eqb-true}
+use Rattle.std.proofs.lemmas.List.{length-append}
+use Rattle.std.proofs.lemmas.Bool.Decides.{nat_tests}
+use Rattle.text_tokens.specs.declared.token.Mark.{Mark}
+use Rattle.text_tokens.specs.declared.token.Mark.TheVariants.{OpenBrace, CloseBrace, OpenBracket, CloseBracket, OpenParen, CloseParen, Semicolon, Bar, Colon, Equals, Comma, Dollar, Tilde, And, Or}
+use Rattle.text_tokens.specs.declared.token.Bad.{Bad}
+use Rattle.text_tokens.specs.declared.token.Bad.TheVariants as bad
+use Rattle.text_tokens.specs.Bytes.{is_blank, is_letter, is_word_byte}
+use Rattle.text_tokens.specs.Marks.{mark_text, mark_from}
+use Rattle.text_tokens.specs.Tokens.{Tok, Word, Number, Sign, NoToken}
+use Rattle.text_tokens.specs.Lexing.{BeginsWith, IsWord, AreDigits, IsBad}
+
+-- ---- classes of bytes, of which no two meet
+
+pub data Class : Type 0 where
+  Blank : Class
+  Letter : Class
+  Digit : Class
+  Minus : Class
+  Other : Class
+
+abbrev pub class_of : ℕ → Class
+class_of b = if is_blank b then Blank else if is_letter b then Letter else if is_ascii_digit b then Digit else if b == 45 then Minus else Other
+
+pub blank_class : (b : ℕ) → is_blank b ≡ true → class_of b ≡ Blank
+blank_class b h = rw h refl
+
+letter_not_blank : (b : ℕ) → is_letter b ≡ true → is_blank b ≡ false
+letter_not_blank b h = grind (arith, nat_tests)
+
+digit_not_blank : (b : ℕ) → is_ascii_digit b ≡ true → is_blank b ≡ false
+digit_not_blank b h = grind (arith, nat_tests)
+
+digit_not_letter : (b : ℕ) → is_ascii_digit b ≡ true → is_letter b ≡ false
+digit_not_letter b h = grind (arith, nat_tests)
+
+pub letter_class : (b : ℕ) → is_letter b ≡ true → class_of b ≡ Letter
+letter_class b h = rw (letter_not_blank b h, h) refl
+
+pub digit_class : (b : ℕ) → is_ascii_digit b ≡ true → class_of b ≡ Digit
+digit_class b h = rw (digit_not_blank b h, digit_not_letter b h, h) refl
+
+minus_class : (b : ℕ) → b ≡ 45 → class_of b ≡ Minus
+minus_class b h = rw h refl
+
+not_minus : (b : ℕ) → b ≢ 45 → (b == 45) ≡ false
+not_minus b h = grind (arith, nat_tests)
+
+pub letter_goes_on : (b : ℕ) → is_letter b ≡ true → is_word_byte b ≡ true
+letter_goes_on b h = rw h refl
+
+pub digit_goes_on : (b : ℕ) → is_ascii_digit b ≡ true → is_word_byte b ≡ true
+digit_goes_on b h = grind (arith, nat_tests)
+
+pub no_letter : (b : ℕ) → is_word_byte b ≡ false → is_letter b ≡ false
+no_letter b h = grind (arith, nat_tests)
+
+pub no_digit : (b : ℕ) → is_word_byte b ≡ false → is_ascii_digit b ≡ false
+no_digit b h = grind (arith, nat_tests)
+
+pub no_word_byte : (b : ℕ) → is_letter b ≡ false → is_ascii_digit b ≡ false → is_word_byte b ≡ false
+no_word_byte b h g = grind (arith, nat_tests)
+
+other_class : (b : ℕ) → is_blank b ≡ false → is_word_byte b ≡ false → b ≢ 45 → class_of b ≡ Other
+other_class b h g k = rw (h, no_letter b g, no_digit b g, not_minus b k) refl
+
+word_class : (b : ℕ) → class_of b ≡ Other → is_word_byte b ≡ true → ⊥
+word_class b h w =
+    elim (cases_Bool (is_letter b)) [
+      | inl y ↦ let bad : Letter ≡ Other = sym (letter_class b y) ∙ h in absurd cc
+      | inr n ↦ let digit : is_ascii_digit b ≡ true = rw n at w in let bad : Digit ≡ Other = sym (digit_class b digit) ∙ h in absurd cc
+    ]
+
+false_from : (t : Bool) → (t ≡ true → ⊥) → t ≡ false
+false_from true h = absurd (h refl)
+false_from false h = refl
+
+pub other_parts : (b : ℕ) → class_of b ≡ Other → (is_blank b ≡ false) × (is_word_byte b ≡ false) × (b ≢ 45)
+other_parts b h = (
+  false_from (is_blank b) (λ y. let bad : Blank ≡ Other = sym (blank_class b y) ∙ h in absurd cc),
+  false_from (is_word_byte b) (word_class b h),
+  λ e. let bad : Minus ≡ Other = sym (minus_class b e) ∙ h in absurd cc,
+)
+
+-- ---- the first byte of two texts, one behind the other
+
+pub first_of : (xs rest : List ℕ) → 0 < length xs → slice_index (xs ++ rest) 0 ≡ slice_index xs 0
+first_of [] rest some = absurd (omega arith)
+first_of (x ∷ xs) rest some = refl
+
+pub word_some : (w : List ℕ) → IsWord w → 0 < length w
+word_some [] h = absurd cc
+word_some (x ∷ w) h = omega arith
+
+pub first_digit : (ds : List ℕ) → AreDigits ds → is_ascii_digit (slice_index ds 0) ≡ true
+first_digit [] h = absurd (omega (arith, h.0))
+first_digit (x ∷ ds) h = (and_parts (is_ascii_digit x) (list_all is_ascii_digit ds) h.1).0
+
+-- ---- marks
+
+pub mark_some : (m : Mark) → 0 < length (mark_text m)
+mark_some OpenBrace = omega arith
+mark_some CloseBrace = omega arith
+mark_some OpenBracket = omega arith
+mark_some CloseBracket = omega arith
+mark_some OpenParen = omega arith
+mark_some CloseParen = omega arith
+mark_some Semicolon = omega arith
+mark_some Bar = omega arith
+mark_some Colon = omega arith
+mark_some Equals = omega arith
+mark_some Comma = omega arith
+mark_some Dollar = omega arith
+mark_some Tilde = omega arith
+mark_some And = omega arith
+mark_some Or = omega arith
+
+pub mark_short : (m : Mark) → length (mark_text m) ≤ 2
+mark_short OpenBrace = omega arith
+mark_short CloseBrace = omega arith
+mark_short OpenBracket = omega arith
+mark_short CloseBracket = omega arith
+mark_short OpenParen = omega arith
+mark_short CloseParen = omega arith
+mark_short Semicolon = omega arith
+mark_short Bar = omega arith
+mark_short Colon = omega arith
+mark_short Equals = omega arith
+mark_short Comma = omega arith
+mark_short Dollar = omega arith
+mark_short Tilde = omega arith
+mark_short And = omega arith
+mark_short Or = omega arith
+
+pub mark_class : (m : Mark) → class_of (slice_index (mark_text m) 0) ≡ Other
+mark_class OpenBrace = refl
+mark_class CloseBrace = refl
+mark_class OpenBracket = refl
+mark_class CloseBracket = refl
+mark_class OpenParen = refl
+mark_class CloseParen = refl
+mark_class Semicolon = refl
+mark_class Bar = refl
+mark_class Colon = refl
+mark_class Equals = refl
+mark_class Comma = refl
+mark_class Dollar = refl
+mark_class Tilde = refl
+mark_class And = refl
+mark_class Or = refl
+
+-- a mark is the one that begins with its first byte
+pub mark_from_text : (m : Mark) → mark_from (slice_index (mark_text m) 0) ≡ Some m
+unfolding mark_from
+mark_from_text OpenBrace = refl
+mark_from_text CloseBrace = refl
+mark_from_text OpenBracket = refl
+mark_from_text CloseBracket = refl
+mark_from_text OpenParen = refl
+mark_from_text CloseParen = refl
+mark_from_text Semicolon = refl
+mark_from_text Bar = refl
+mark_from_text Colon = refl
+mark_from_text Equals = refl
+mark_from_text Comma = refl
+mark_from_text Dollar = refl
+mark_from_text Tilde = refl
+mark_from_text And = refl
+mark_from_text Or = refl
+
+abbrev pub some_mark : Mark → Option Mark
+some_mark m = Some m
+
+pub some_mark_is : (m n : Mark) → some_mark m ≡ some_mark n → m ≡ n
+some_mark_is m n e = cc
+
+-- the texts of two marks that begin alike are of one mark
+pub one_mark : (m n : Mark) (xs ys : List ℕ) → mark_text m ++ xs ≡ mark_text n ++ ys → m ≡ n
+one_mark m n xs ys e =
+    let first : slice_index (mark_text m) 0 ≡ slice_index (mark_text n) 0 =
+    sym (first_of (mark_text m) xs (mark_some m)) ∙ ap (λ (text : List ℕ). slice_index text 0) e ∙ first_of (mark_text n) ys (mark_some n) in
+    some_mark_is m n (sym (mark_from_text m) ∙ ap mark_from first ∙ mark_from_text n)
+
+picked : (b c : ℕ) (k m : Mark) (o : Option Mark) → slice_index (mark_text k) 0 ≡ c → (o ≡ Some m → slice_index (mark_text m) 0 ≡ b) → cond (b == c) (Some k) o ≡ Some m → slice_index (mark_text m) 0 ≡ b
+picked b c k m o is others e =
+    elim (cases_Bool (b == c)) [
+      | inl y ↦
+          let same : b ≡ c = eqb-true b c y in
+          let this : some_mark k ≡ some_mark m = rw y at e in
+          ap (λ (n : Mark). slice_index (mark_text n) 0) (sym (some_mark_is k m this)) ∙ is ∙ sym same
+      | inr n ↦ others (rw n at e)
+    ]
+
+not_none : (m : Mark) (b : ℕ) → None ≡ some_mark m → slice_index (mark_text m) 0 ≡ b
+not_none m b e = absurd cc
+
+-- the mark that is found begins with the byte
+pub mark_from_is : (b : ℕ) (m : Mark) → mark_from b ≡ Some m → slice_index (mark_text m) 0 ≡ b
+unfolding mark_from
+mark_from_is b m e =
+    picked b 123 OpenBrace m _ refl (
+    picked b 125 CloseBrace m _ refl (
+    picked b 91 OpenBracket m _ refl (
+    picked b 93 CloseBracket m _ refl (
+    picked b 40 OpenParen m _ refl (
+    picked b 41 CloseParen m _ refl (
+    picked b 59 Semicolon m _ refl (
+    picked b 124 Bar m _ refl (
+    picked b 58 Colon m _ refl (
+    picked b 61 Equals m _ refl (
+    picked b 44 Comma m _ refl (
+    picked b 36 Dollar m _ refl (
+    picked b 126 Tilde m _ refl (
+    picked b 47 And m _ refl (
+    picked b 92 Or m _ refl (not_none m b))))))))))))))) e
+
+-- ---- what begins a text, by its first byte
+
+abbrev pub token_class : Tok → Class
+token_class (Word w) = Letter
+token_class (Number n) = Digit
+token_class (Sign m) = Other
+token_class (NoToken b) = Blank
+
+pub begins_class : (t : Tok) (text rest : List ℕ) → BeginsWith t text rest → class_of (slice_index text 0) ≡ token_class t
+begins_class (Word w) text rest h = letter_class (slice_index text 0) (ap (λ (x : List ℕ). is_letter (slice_index x 0)) h.0 ∙ ap is_letter (first_of w rest (word_some w h.1)) ∙ h.1.0)
+begins_class (Number n) text rest h = digit_class (slice_index text 0) (ap (λ (x : List ℕ). is_ascii_digit (slice_index x 0)) h.1 ∙ ap is_ascii_digit (first_of h.0 rest h.2.0) ∙ first_digit h.0 h.2)
+begins_class (Sign m) text rest h = ap (λ (x : List ℕ). class_of (slice_index x 0)) h ∙ ap class_of (first_of (mark_text m) rest (mark_some m)) ∙ mark_class m
+begins_class (NoToken b) text rest h = absurd h
+
+pub begins_some : (t : Tok) (text rest : List ℕ) → BeginsWith t text rest → length rest < length text
+begins_some (Word w) text rest h = omega (arith, ap length h.0, length-append w rest, word_some w h.1)
+begins_some (Number n) text rest h = omega (arith, ap length h.1, length-append h.0 rest, h.2.0)
+begins_some (Sign m) text rest h = omega (arith, ap length h, length-append (mark_text m) rest, mark_some m)
+begins_some (NoToken b) text rest h = absurd h
+
+abbrev pub bad_class : Bad → Class
+bad_class bad.Number = Digit
+bad_class bad.Minus = Minus
+bad_class bad.Unfinished = Other
+bad_class bad.Stray = Other
+
+pub bad_begins : (b : Bad) (text : List ℕ) → IsBad b text → class_of (slice_index text 0) ≡ bad_class b
+bad_begins bad.Number text h = digit_class (slice_index text 0) (ap (λ (x : List ℕ). is_ascii_digit (slice_index x 0)) h.2 ∙ ap is_ascii_digit (first_of h.0 h.1 h.3.0) ∙ first_digit h.0 h.3)
+bad_begins bad.Minus text h = minus_class (slice_index text 0) h
+bad_begins bad.Unfinished text h =
+    ap class_of (sym (first_of text h.1 h.3) ∙ ap (λ (x : List ℕ). slice_index x 0) (sym h.2)) ∙ mark_class h.0
+bad_begins bad.Stray text h = other_class (slice_index text 0) h.no_blank h.no_word h.no_minus
+
+-- nothing bad begins where the text stops
+pub bad_some : (b : Bad) → IsBad b [] → ⊥
+bad_some bad.Number h = omega (arith, ap length h.2, length-append h.0 h.1, h.3.0)
+bad_some bad.Minus h = absurd cc
+bad_some bad.Unfinished h = omega (arith, h.3)
+bad_some bad.Stray h = omega (arith, h.some)

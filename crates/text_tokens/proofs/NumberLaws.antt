@@ -1,0 +1,126 @@
+-- Decimal numbers and their digits.
+use Rattle.std.proofs.Common.{◌≡◌, ℕ, ◌<◌, ◌≤◌, ◌+◌, ◌*◌, ◌-◌, ◌==◌, ◌||◌, ◌^◌, Bool, true, false, List, length, get_or, take, Option, Some, None, refl, sym, ap, ◌∙◌, arith, rules, inl, inr, cond}
+use Rattle.std.specs.Prelude.{min, nat_le, not, IfSome}
+use Rattle.std.specs.List.{list_all}
+use Rattle.std.specs.Char.{is_ascii_digit, digit_value}
+use Rattle.std.specs.Fmt.{decimal}
+use Rattle.std.specs.Str.Parse.{digits_value}
+use Rattle.std.proofs.lemmas.Str.Parse.{IsNumeralModel, numerals_by_value}
+use Rattle.std.proofs.lemmas.Bool.{cases_lt, leb-true, le-leb, and_parts, and_from}
+use Rattle.std.proofs.lemmas.Option.{cond_some}
+use Rattle.std.proofs.lemmas.List.Sums.{AllPass-from_list_all}
+use Rattle.std.proofs.lemmas.List.Elements.{All-get_or}
+use Rattle.std.proofs.lemmas.Bool.Decides.{nat_tests}
+use Rattle.std.proofs.lemmas.Int.Digits.{digits_value_more}
+use Rattle.std.proofs.lemmas.Fmt.{digits_decimal, digits_value-decimal, decimal-digits_value, decimal_nonempty, first_decimal, decimal_digit}
+use Rattle.text_tokens.specs.Numbers.{is_plain, value_at, plain_number_at}
+
+pub own : IsNumeralModel (λ ds. list_all is_ascii_digit ds ≡ true) (digits_value 10)
+own = numerals_by_value _ (search rules)
+
+-- digits without leading zeros, by their parts
+record Plain (ds : List ℕ) : Type 0 where
+  digits : list_all is_ascii_digit ds ≡ true
+  some : 0 < length ds
+  first : get_or ds 0 0 ≡ 48 → length ds ≡ 1
+
+plain_parts : (ds : List ℕ) → is_plain ds ≡ true → Plain ds
+plain_parts ds e =
+    let a = and_parts _ _ e in
+    let b = and_parts _ _ a.0 in
+    record { digits = b.0; some = grind (arith, nat_tests); first = λ zero. grind (arith, nat_tests) }
+
+one_or_other : (ds : List ℕ) → (get_or ds 0 0 ≡ 48 → length ds ≡ 1) → (length ds == 1 || not (get_or ds 0 0 == 48)) ≡ true
+one_or_other ds h = grind (arith, nat_tests)
+
+plain_whole : (ds : List ℕ) → Plain ds → is_plain ds ≡ true
+plain_whole ds p =
+    and_from _ _ (and_from _ _ p.digits (grind (arith, nat_tests))) (one_or_other ds p.first)
+
+plain_decimal : (n : ℕ) → n < 2 ^ 64 → Plain (decimal n)
+plain_decimal n lt = record {
+  digits = digits_decimal own n lt;
+  some = decimal_nonempty n lt;
+  first = λ e. elim (cases_lt 0 n) [
+    | inl above ↦ omega (arith, first_decimal n above lt)
+    | inr zero ↦ ap length (decimal_digit n (omega arith))
+  ];
+}
+
+abbrev pub none_of : Option ℕ
+none_of = None
+
+by_test : (b : Bool) (o : Option ℕ) (n : ℕ) → cond b o None ≡ Some n → (b ≡ true) × (o ≡ Some n)
+by_test true o n e = (refl, e)
+by_test false o n e = absurd cc
+
+-- the number that is read is written so
+pub plain_number_takes : (limit n : ℕ) (ds : List ℕ) → limit < 2 ^ 64 → plain_number_at limit ds ≡ Some n → (ds ≡ decimal n) × (n ≤ limit)
+unfolding plain_number_at
+plain_number_takes limit n ds fits e =
+    let p = by_test (is_plain ds) (value_at limit ds) n e in
+    let v = cond_some (nat_le (digits_value 10 ds) limit) (digits_value 10 ds) n p.1 in
+    let parts = plain_parts ds p.0 in
+    let small : digits_value 10 ds ≤ limit = leb-true _ _ v.0 in
+    let same : decimal (digits_value 10 ds) ≡ ds = decimal-digits_value own ds parts.digits parts.some parts.first (omega arith) in
+    (sym (rw (← v.1) same), omega arith)
+
+-- what a number is written as is read as that number
+pub plain_number_again : (limit n : ℕ) → limit < 2 ^ 64 → n ≤ limit → plain_number_at limit (decimal n) ≡ Some n
+unfolding plain_number_at
+plain_number_again limit n fits le =
+    let plain : is_plain (decimal n) ≡ true = plain_whole (decimal n) (plain_decimal n (omega arith)) in
+    let value : digits_value 10 (decimal n) ≡ n = digits_value-decimal own n (omega arith) in
+    rw (plain, value, le-leb n limit le) refl
+
+as_digit : (c : ℕ) → is_ascii_digit c ≡ true → digit_value c ≡ c - 48
+as_digit c h = grind (arith, nat_tests)
+
+digit_at : (ds : List ℕ) (i : ℕ) → list_all is_ascii_digit ds ≡ true → i < length ds → digit_value (get_or ds i 0) ≡ get_or ds i 0 - 48
+digit_at ds i digits lt = as_digit (get_or ds i 0) (All-get_or (λ c. is_ascii_digit c ≡ true) ds i 0 lt (AllPass-from_list_all is_ascii_digit ds digits))
+
+-- one more digit
+pub value_more : (ds : List ℕ) (i limit v d : ℕ) → list_all is_ascii_digit ds ≡ true → i < length ds → v ≡ min (digits_value 10 (take i ds)) (limit + 1) → d ≡ get_or ds i 0 - 48
+    → min (v * 10 + d) (limit + 1) ≡ min (digits_value 10 (take (i + 1) ds)) (limit + 1)
+value_more ds i limit v d digits lt e is = omega (arith, digits_value_more 10 ds i lt, digit_at ds i digits lt)
+
+-- what a bounded value says of the digits' value
+pub value_found : (limit n : ℕ) (ds : List ℕ) → value_at limit ds ≡ Some n → (n ≡ digits_value 10 ds) × (n ≤ limit)
+value_found limit n ds e =
+    let v = cond_some (nat_le (digits_value 10 ds) limit) (digits_value 10 ds) n e in
+    let small : digits_value 10 ds ≤ limit = leb-true _ _ v.0 in
+    (sym v.1, omega arith)
+
+none_by_test : (b : Bool) (n : ℕ) → cond b (Some n) None ≡ None → b ≡ false
+none_by_test true n e = absurd cc
+none_by_test false n e = refl
+
+pub value_past : (limit : ℕ) (ds : List ℕ) → value_at limit ds ≡ None → limit < digits_value 10 ds
+value_past limit ds e =
+    let past : nat_le (digits_value 10 ds) limit ≡ false = none_by_test (nat_le (digits_value 10 ds) limit) (digits_value 10 ds) e in
+    grind (arith, nat_tests)
+
+-- ---- what `plain_number_up_to` answers
+
+plain_then : (limit : ℕ) (ds : List ℕ) → is_plain ds ≡ true → plain_number_at limit ds ≡ value_at limit ds
+unfolding plain_number_at
+plain_then limit ds e = rw e refl
+
+plain_else : (limit : ℕ) (ds : List ℕ) → is_plain ds ≡ false → plain_number_at limit ds ≡ None
+unfolding plain_number_at
+plain_else limit ds e = rw e refl
+
+found_one : (limit : ℕ) (ds : List ℕ) (o : Option ℕ) → limit < 2 ^ 64 → plain_number_at limit ds ≡ o → IfSome o (λ n. (n ≤ limit) × (ds ≡ decimal n))
+found_one limit ds (Some n) fits e = let t = plain_number_takes limit n ds fits e in (t.1, t.0)
+found_one limit ds None fits e = tt
+
+pub found_plain : (limit : ℕ) (ds : List ℕ) (o : Option ℕ) → limit < 2 ^ 64 → is_plain ds ≡ true → o ≡ value_at limit ds → IfSome o (λ n. (n ≤ limit) × (ds ≡ decimal n))
+found_plain limit ds o fits plain e = found_one limit ds o fits (plain_then limit ds plain ∙ sym e)
+
+pub only_plain : (limit n : ℕ) (ds : List ℕ) (o : Option ℕ) → limit < 2 ^ 64 → is_plain ds ≡ true → o ≡ value_at limit ds → n ≤ limit → ds ≡ decimal n → o ≡ Some n
+only_plain limit n ds o fits plain e le is =
+    e ∙ sym (plain_then limit ds plain) ∙ ap (plain_number_at limit) is ∙ plain_number_again limit n fits le
+
+pub never_plain : (limit n : ℕ) (ds : List ℕ) → limit < 2 ^ 64 → is_plain ds ≡ false → n ≤ limit → ds ≡ decimal n → none_of ≡ Some n
+never_plain limit n ds fits plain le is =
+    sym (plain_else limit ds plain) ∙ ap (plain_number_at limit) is ∙ plain_number_again limit n fits le

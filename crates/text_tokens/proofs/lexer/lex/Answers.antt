@@ -1,0 +1,40 @@
+use Rattle.std.proofs.Common.{arith, [], refl, inl, inr}
+use Rattle.std.proofs.lemmas.List.{nil_from_length, map_push}
+use Rattle.text_tokens.specs.Tokens.{toks}
+use Rattle.text_tokens.specs.Lexing.{none}
+use Rattle.text_tokens.specs.Front.{lexeme_tok}
+use Rattle.text_tokens.proofs.Steps.{whole_text, only_whole, only_stopped, not_whole, blank_more, token_more}
+use Rattle.text_tokens.proofs.lexer.lex.Goals as goal
+
+pub loop-rest-init : goal.loop-rest-init
+loop-rest-init c = rw c.new-tokens.ensures.items none
+
+pub loop-rest-preserved-in-Blank : goal.loop-rest-preserved-in-Blank
+loop-rest-preserved-in-Blank c =
+    let b = c.in-Blank.ensures in
+    blank_more (toks c.loop-rest.tokens.items) c.args.bytes.now c.loop-rest.rest.now c.in-Blank.after.now b.0 c.loop-rest.invariant b.1 b.2
+
+pub loop-rest-preserved : goal.loop-rest-preserved
+loop-rest-preserved c =
+    rw (c.in_ok-push-in-Token.ensures.items, map_push, c.in_ok-token_of-in-Token.ensures)
+    (token_more (toks c.loop-rest.tokens.items) (lexeme_tok c.in-Token.lexeme) c.args.bytes.now c.loop-rest.rest.now c.in-Token.after.now c.loop-rest.invariant c.in-Token.ensures)
+
+pub returns-in-Bad-clause-lexes : goal.returns-in-Bad-clause-lexes
+returns-in-Bad-clause-lexes c =
+    rw (c.in_ok-push-in-Bad.ensures.items, map_push) (inr (toks c.loop-rest.tokens.items, c.in-Bad.bad, c.loop-rest.rest.now, refl, c.loop-rest.invariant, c.in-Bad.ensures))
+
+pub returns-in-Bad-clause-only : goal.returns-in-Bad-clause-only
+returns-in-Bad-clause-only c =
+    rw (c.in_ok-push-in-Bad.ensures.items, map_push) (λ ts l. only_stopped (toks c.loop-rest.tokens.items) ts c.in-Bad.bad c.args.bytes.now c.loop-rest.rest.now c.loop-rest.invariant c.in-Bad.ensures l)
+
+pub returns-in-Bad-clause-found : goal.returns-in-Bad-clause-found
+returns-in-Bad-clause-found c = rw (c.in_ok-push-in-Bad.ensures.items, map_push) (λ whole. absurd (not_whole (toks c.loop-rest.tokens.items) [] c.in-Bad.bad whole))
+
+pub returns-clause-lexes : goal.returns-clause-lexes
+returns-clause-lexes c = inl (whole_text (toks c.loop-rest.tokens.items) c.args.bytes.now c.loop-rest.rest.now (nil_from_length _ (grind arith)) c.loop-rest.invariant)
+
+pub returns-clause-only : goal.returns-clause-only
+returns-clause-only c = λ ts l. only_whole (toks c.loop-rest.tokens.items) ts c.args.bytes.now (whole_text (toks c.loop-rest.tokens.items) c.args.bytes.now c.loop-rest.rest.now (nil_from_length _ (grind arith)) c.loop-rest.invariant) l
+
+pub returns-clause-found : goal.returns-clause-found
+returns-clause-found c = λ whole. whole_text (toks c.loop-rest.tokens.items) c.args.bytes.now c.loop-rest.rest.now (nil_from_length _ (grind arith)) c.loop-rest.invariant

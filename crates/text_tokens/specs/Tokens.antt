@@ -1,0 +1,31 @@
+-- Tokens, without where a word lies in memory.
+use Rattle.std.specs.Prelude.{ℕ, List, [], ◌∷◌, map}
+use Rattle.text_tokens.specs.declared.token.Mark.{Mark}
+use Rattle.text_tokens.specs.declared.token.Bad.{Bad}
+use Rattle.text_tokens.specs.declared.token.Token.{Token}
+use Rattle.text_tokens.specs.declared.token.Token.TheVariants as token
+
+-- a word, a number, a mark; or what is no token, and why
+pub data Tok : Type 0 where
+  Word : List ℕ → Tok
+  Number : ℕ → Tok
+  Sign : Mark → Tok
+  NoToken : Bad → Tok
+
+-- what a token of the code stands for
+abbrev pub tok : Token → Tok
+tok (token.Word w) = Word w.items
+tok (token.Number n) = Number n
+tok (token.Mark m) = Sign m
+tok (token.Bad b) = NoToken b
+
+abbrev pub toks : List Token → List Tok
+toks tokens = map tok tokens
+
+-- each is a token
+abbrev pub IsWhole : List Tok → Type 0
+IsWhole [] = Unit {0}
+IsWhole (Word w ∷ ts) = IsWhole ts
+IsWhole (Number n ∷ ts) = IsWhole ts
+IsWhole (Sign m ∷ ts) = IsWhole ts
+IsWhole (NoToken b ∷ ts) = ⊥

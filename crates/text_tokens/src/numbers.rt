@@ -1,0 +1,52 @@
+//! Decimal numbers.
+
+ghost use Rattle.std.specs.Prelude.{◌≡◌, ◌≤◌, ℕ, IsTrue, IfSome};
+ghost use Rattle.std.specs.List.{list_all};
+ghost use Rattle.std.specs.Char.{is_ascii_digit};
+ghost use Rattle.std.specs.Fmt.{decimal};
+ghost use Rattle.text_tokens.specs.Numbers.{is_plain, value_at, plain_number_at};
+
+/// Whether the bytes are digits alone.
+fn are_digits(bytes: &[u8]) -> bool
+    ensures { result ≡ list_all is_ascii_digit bytes.now }
+{
+    bytes.iter().all(|byte| byte.is_ascii_digit())
+}
+
+/// Whether the bytes are digits, at least one, without leading zeros.
+fn is_plain(bytes: &[u8]) -> bool
+    ensures { result ≡ is_plain bytes.now }
+{
+    are_digits(bytes) && bytes.len() > 0 && (bytes.len() == 1 || bytes[0] != b'0')
+}
+
+/// The value of digits, where it is at most the limit, however many they are. No digits are 0.
+pub fn value_up_to(limit: u32, digits: &[u8]) -> Option<u32>
+    requires { IsTrue (list_all is_ascii_digit digits.now) }
+    ensures { result ≡ value_at limit digits.now }
+{
+    let past = limit as u64 + 1;
+    let mut value: u64 = 0;
+    for digit in digits {
+        value = (value * 10 + u64::from(*digit - b'0')).min(past);
+    }
+    if value < past {
+        Some(value as u32)
+    } else {
+        None
+    }
+}
+
+/// The number up to the limit that is written so: in decimal digits, at least one, without leading zeros.
+#[tactic(auto, unfolding(crate::specs::Numbers::plain_number_at))]
+pub fn plain_number_up_to(limit: u32, bytes: &[u8]) -> Option<u32>
+    ensures value { result ≡ plain_number_at limit bytes.now }
+    ensures found { IfSome result (λ n. (n ≤ limit) × (bytes.now ≡ decimal n)) }
+    ensures only { (n : ℕ) → n ≤ limit → bytes.now ≡ decimal n → result ≡ Some n }
+{
+    if is_plain(bytes) {
+        value_up_to(limit, bytes)
+    } else {
+        None
+    }
+}

@@ -1,0 +1,44 @@
+-- The runs of the examples, computed.
+use Rattle.std.proofs.Common.{◌≡◌, ℕ, zero, suc, ◌≤◌, List, [], ◌∷◌, length, Option, Some, refl, ap, arith}
+use Rattle.tso_program.specs.declared.action.Action.TheVariants.{Stop}
+use Rattle.tso_program.specs.declared.listing.Listing.{Listing}
+use Rattle.tso_program.specs.Listings.{action}
+use Rattle.tso_machine.specs.declared.label.Label.{Label}
+use Rattle.tso_machine.specs.declared.label.Pending.{Pending}
+use Rattle.tso_machine.specs.Machine.{Mode, Sequential, Fenced, no_gaps, State, start, run, HasEnded, IsRun, outcome_at}
+use Rattle.tso_machine.specs.Examples.{StoreBufferingIsTold, store_buffering, waiting_stores, in_turn, RIsTold, r, r_run, N6IsTold, n6, n6_run, LockedExchangeIsTold, locked_exchange, locked_run, ends_with}
+use Rattle.tso_machine.proofs.Runs.{no_action, no_stores}
+use Rattle.tso_machine.proofs.Refused.{run_keeps}
+
+-- a thread's next action and its waiting stores, at the end
+abbrev IsDone : Listing → State → ℕ → Type 0
+IsDone p s t = (action p.threads t (s.locals t) ≡ Stop) × (s.buffers t ≡ [])
+
+-- of two threads, both are at their ends, and there is no other
+ended : (p : Listing) (labels : List Label) (last : State) → length p.threads ≡ 2 → run p (Fenced no_gaps) (start p) labels ≡ Some last → IsDone p last 0 → IsDone p last 1 → HasEnded p last
+ended p labels last two r first second zero = first
+ended p labels last two r first second (suc zero) = second
+ended p labels last two r first second (suc (suc t)) =
+    let out : length p.threads ≤ suc (suc t) = omega arith in
+    (no_action p (suc (suc t)) (last.locals (suc (suc t))) out, run_keeps p (suc (suc t)) out no_gaps labels (start p) last refl r)
+
+-- the same in the sequential machine, where no store waits
+ended_in_turn : (p : Listing) (labels : List Label) (last : State) → length p.threads ≡ 2 → run p Sequential (start p) labels ≡ Some last → action p.threads 0 (last.locals 0) ≡ Stop → action p.threads 1 (last.locals 1) ≡ Stop → HasEnded p last
+ended_in_turn p labels last two r first second t = (done t, ap (λ (f : ℕ → List Pending). f t) (no_stores p labels (start p) last r))
+  where
+    done : (t : ℕ) → action p.threads t (last.locals t) ≡ Stop
+    done zero = first
+    done (suc zero) = second
+    done (suc (suc t)) = no_action p (suc (suc t)) (last.locals (suc (suc t))) (omega arith)
+
+pub store_buffering_is_told : StoreBufferingIsTold
+store_buffering_is_told = ((_, refl, ended store_buffering waiting_stores _ refl refl (refl, refl) (refl, refl), refl), refl, refl, (_, refl, ended_in_turn store_buffering in_turn _ refl refl refl refl, refl))
+
+pub r_is_told : RIsTold
+r_is_told = ((_, refl, ended r r_run _ refl refl (refl, refl) (refl, refl), refl), refl, refl)
+
+pub n6_is_told : N6IsTold
+n6_is_told = ((_, refl, ended n6 n6_run _ refl refl (refl, refl) (refl, refl), refl), refl, refl, refl)
+
+pub locked_exchange_is_told : LockedExchangeIsTold
+locked_exchange_is_told = ((_, refl, ended locked_exchange locked_run _ refl refl (refl, refl) (refl, refl), refl), refl, refl, refl)

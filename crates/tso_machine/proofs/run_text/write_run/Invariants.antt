@@ -1,0 +1,11 @@
+use Rattle.std.proofs.Common.{◌≡◌, take, All}
+use Rattle.std.specs.Prelude.{string_bytes}
+use Rattle.tso_machine.specs.RunTexts.{run_text, IsLabel}
+use Rattle.tso_machine.proofs.run_text.write_run.Given as goal
+
+-- the text so far is that of the labels so far
+abbrev pub invariant-loop-i : goal.invariant-loop-i
+invariant-loop-i l = record {
+  text : string_bytes l.out ≡ run_text (take l.i l.labels);
+  fits : All IsLabel (take l.i l.labels);
+}

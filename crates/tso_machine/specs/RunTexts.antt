@@ -1,0 +1,45 @@
+-- The text of a run.
+use Rattle.std.specs.Prelude.{◌≡◌, ◌==◌, ℕ, ◌<◌, List, [], ◌∷◌, map, filter, length, nat_lt, Option, Some, None, option_map, Result, Ok, Err, if◌then◌else◌}
+use Rattle.std.specs.Fmt.{decimal}
+use Rattle.std.specs.List.{slice_split, join_with_byte}
+use Rattle.std.specs.Global.{Vec}
+use Rattle.text_tokens.specs.Bytes.{is_blank}
+use Rattle.text_tokens.specs.Numbers.{plain_number_at}
+use Rattle.tso_machine.specs.declared.label.Label.{Label}
+use Rattle.tso_machine.specs.declared.label.Label.TheVariants.{Exec, Flush}
+use Rattle.tso_machine.specs.declared.run_text.RunFault.{RunFault}
+use Rattle.tso_machine.specs.declared.run_text.RunFault.TheVariants.{Token, OutOfMemory}
+
+-- `e` or `f` and the thread's number, without leading zeros
+abbrev pub spelling : Label → List ℕ
+spelling (Exec t) = 101 ∷ decimal t
+spelling (Flush t) = 102 ∷ decimal t
+
+-- threads are numbered from 0 to 255
+abbrev pub IsLabel : Label → Type 0
+IsLabel (Exec t) = t < 256
+IsLabel (Flush t) = t < 256
+
+-- the words of a text: its parts between white space, without the empty ones
+abbrev pub words : List ℕ → List (List ℕ)
+words text = filter (λ w. nat_lt 0 (length w)) (slice_split is_blank text)
+
+-- the words of the text are the labels'
+abbrev pub IsRunText : List ℕ → List Label → Type 0
+IsRunText text labels = words text ≡ map spelling labels
+
+-- one space between two labels
+abbrev pub run_text : List Label → List ℕ
+run_text labels = join_with_byte 32 (map spelling labels)
+
+-- what was read is this, unless memory ran out
+abbrev pub Gives : Result (Vec Label) RunFault → List Label → Type 0
+Gives (Ok v) labels = v.items ≡ labels
+Gives (Err (Token index)) labels = ⊥
+Gives (Err OutOfMemory) labels = Unit {0}
+
+-- the label that a word spells
+unfoldable pub label_at : List ℕ → Option Label
+label_at [] = None
+label_at (b ∷ ds) =
+    if b == 101 then option_map Exec (plain_number_at 255 ds) else if b == 102 then option_map Flush (plain_number_at 255 ds) else None

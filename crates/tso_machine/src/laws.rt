@@ -1,0 +1,21 @@
+//! The laws of the machines: each function's contract is a theorem, and calling it does nothing.
+ghost use Rattle.tso_machine.specs.Laws.{RunsHaveNoFault, FencesAreAvoided};
+ghost use Rattle.tso_machine.specs.Examples.{StoreBufferingIsTold, RIsTold, N6IsTold, LockedExchangeIsTold};
+
+/// Labels that are a run have no fault but want of memory.
+pub fn runs_have_no_fault()
+    ensures { RunsHaveNoFault }
+{}
+
+/// A run with no gap fenced is a run with other gaps fenced exactly where it passes none of those.
+pub fn fences_are_avoided()
+    ensures { FencesAreAvoided }
+{}
+
+/// The definitions at four programs of the literature, whose runs end as they say there.
+pub fn examples_are_told()
+    ensures store_buffering { StoreBufferingIsTold }
+    ensures r { RIsTold }
+    ensures n6 { N6IsTold }
+    ensures locked_exchange { LockedExchangeIsTold }
+{}

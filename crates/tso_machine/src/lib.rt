@@ -1,0 +1,17 @@
+//! Runs of a program under sequential consistency and under x86-TSO.
+#![tactic(auto)]
+
+mod cores;
+mod ended;
+mod label;
+mod laws;
+mod run_text;
+mod state;
+
+pub use ended::{Ended, ReplayFault, replay};
+pub use label::{Cause, Label, Model, Pending};
+pub use laws::{examples_are_told, fences_are_avoided, runs_have_no_fault};
+pub use run_text::{RunFault, read_run, write_run};
+
+#[cfg(test)]
+mod tests;

@@ -1,0 +1,4 @@
+pub mod Found
+pub mod WithinLimits
+pub mod Gaps
+pub mod Located

@@ -1,0 +1,189 @@
+-- No refusal applies exactly within the limits.
+use Rattle.std.proofs.Common.{◌≡◌, ℕ, ◌+◌, ◌<◌, ◌≤◌, ◌==◌, Bool, true, false, ◌||◌, List, [], ◌∷◌, length, get_or, Option, Some, None, refl, sym, ap, ◌∙◌, arith}
+use Rattle.std.specs.Prelude.{nat_lt, nat_le, slice_get, is_some, unwrap_or, sum_by, if◌then◌else◌, All}
+use Rattle.std.specs.List.{list_any, enumerate_from}
+use Rattle.std.specs.Option.{option_map_or}
+use Rattle.std.proofs.lemmas.Bool.Decides.{nat_tests}
+use Rattle.std.proofs.lemmas.Option.{slice_get-get_or}
+use Rattle.tso_program.specs.declared.instruction.Instr.{Instr}
+use Rattle.tso_program.specs.declared.listing.Thread.{Thread}
+use Rattle.tso_program.specs.declared.limits.ProgramFault.{ProgramFault}
+use Rattle.tso_program.specs.declared.limits.ProgramFault.TheVariants.{NoThreads, TooManyThreads, TooLong, Locations, TooManyAccesses, BackwardJump, JumpPastEnd, TooManyGaps}
+use Rattle.tso_program.specs.Instructions.{location_of, target_of}
+use Rattle.tso_program.specs.Listings.{code_of, instr_at, accesses_of, gap_count}
+use Rattle.tso_program.specs.Limits.{IsWithinLimits, first_long, is_astray, some_astray, is_backward, is_past_end, first_backward_in, first_past_end_in, first_found, first_true, at_place, first_fault, LimitsAreTheRefusals}
+use Rattle.tso_program.proofs.Found.{instr_found, code_found, enumerated, enumerated_back, not_found, none_found, neither, not_any, none_any, found_nowhere, nowhere_found}
+
+-- what each test says
+
+few : (most n : ℕ) → nat_lt most n ≡ false → n ≤ most
+few most n h = grind (arith, nat_tests)
+
+not_more : (most n : ℕ) → n ≤ most → nat_lt most n ≡ false
+not_more most n h = grind (arith, nat_tests)
+
+some_of : (n : ℕ) → (n == 0) ≡ false → 0 < n
+some_of n h = grind (arith, nat_tests)
+
+not_none : (n : ℕ) → 0 < n → (n == 0) ≡ false
+not_none n h = grind (arith, nat_tests)
+
+above : (m n : ℕ) → nat_le m n ≡ false → n < m
+above m n h = grind (arith, nat_tests)
+
+not_below : (m n : ℕ) → n < m → nat_le m n ≡ false
+not_below m n h = grind (arith, nat_tests)
+
+-- a test of what an instruction names or jumps to, where it names or jumps to something
+tested : (p : ℕ → Bool) (o : Option ℕ) (n : ℕ) → option_map_or p o false ≡ false → o ≡ Some n → p n ≡ false
+tested p o n e is = ap (λ z. option_map_or p z false) (sym is) ∙ e
+
+untested : (p : ℕ → Bool) (o : Option ℕ) → ((n : ℕ) → o ≡ Some n → p n ≡ false) → option_map_or p o false ≡ false
+untested p None h = refl
+untested p (Some n) h = h n refl
+
+no_fault : {F : Type 0} (b : Bool) (f : F) (rest : Option F) → (if b then Some f else rest) ≡ None → (b ≡ false) × (rest ≡ None)
+no_fault true f rest e = absurd cc
+no_fault false f rest e = (refl, e)
+
+-- the tests from one on, up to the last
+abbrev after_jumps : List Thread → List (Bool × ProgramFault)
+after_jumps threads = (nat_lt 64 (gap_count threads), TooManyGaps) ∷ []
+
+abbrev after_accesses : List Thread → List (Bool × ProgramFault)
+after_accesses threads = at_place BackwardJump (first_found first_backward_in 0 threads) ∷ at_place JumpPastEnd (first_found first_past_end_in 0 threads) ∷ after_jumps threads
+
+abbrev after_long : List Thread → List ℕ → List (Bool × ProgramFault)
+after_long threads memory =
+    (nat_lt 8 (length memory) || some_astray (length memory) threads, Locations)
+    ∷ (nat_lt 24 (sum_by accesses_of threads), TooManyAccesses)
+    ∷ after_accesses threads
+
+abbrev after_many : List Thread → List ℕ → List (Bool × ProgramFault)
+after_many threads memory = (is_some (first_long threads), TooLong (unwrap_or (first_long threads) 0)) ∷ after_long threads memory
+
+-- every test fails
+record NoTest (threads : List Thread) (memory : List ℕ) : Type 0 where
+  none : (length threads == 0) ≡ false
+  many : nat_lt 8 (length threads) ≡ false
+  long : is_some (first_long threads) ≡ false
+  places : nat_lt 8 (length memory) ≡ false
+  astray : some_astray (length memory) threads ≡ false
+  accesses : nat_lt 24 (sum_by accesses_of threads) ≡ false
+  backward : is_some (first_found first_backward_in 0 threads) ≡ false
+  past_end : is_some (first_found first_past_end_in 0 threads) ≡ false
+  gaps : nat_lt 64 (gap_count threads) ≡ false
+
+next_test : (f : Bool × ProgramFault) (fs : List (Bool × ProgramFault)) → first_true (f ∷ fs) ≡ None → (f.0 ≡ false) × (first_true fs ≡ None)
+next_test f fs e = no_fault f.0 f.1 (first_true fs) e
+
+tests : (threads : List Thread) (memory : List ℕ) → first_fault threads memory ≡ None → NoTest threads memory
+tests threads memory e =
+    let one = next_test (length threads == 0, NoThreads) ((nat_lt 8 (length threads), TooManyThreads) ∷ after_many threads memory) e in
+    let two = next_test (nat_lt 8 (length threads), TooManyThreads) (after_many threads memory) one.1 in
+    let three = next_test (is_some (first_long threads), TooLong (unwrap_or (first_long threads) 0)) (after_long threads memory) two.1 in
+    let four = next_test (nat_lt 8 (length memory) || some_astray (length memory) threads, Locations) ((nat_lt 24 (sum_by accesses_of threads), TooManyAccesses) ∷ after_accesses threads) three.1 in
+    let five = next_test (nat_lt 24 (sum_by accesses_of threads), TooManyAccesses) (after_accesses threads) four.1 in
+    let six = next_test (at_place BackwardJump (first_found first_backward_in 0 threads)) (at_place JumpPastEnd (first_found first_past_end_in 0 threads) ∷ after_jumps threads) five.1 in
+    let seven = next_test (at_place JumpPastEnd (first_found first_past_end_in 0 threads)) (after_jumps threads) six.1 in
+    let eight = next_test (nat_lt 64 (gap_count threads), TooManyGaps) [] seven.1 in
+    let place = neither (nat_lt 8 (length memory)) (some_astray (length memory) threads) four.0 in
+    record { none = one.0; many = two.0; long = three.0; places = place.0; astray = place.1; accesses = five.0; backward = six.0; past_end = seven.0; gaps = eight.0 }
+
+no_tests : (threads : List Thread) (memory : List ℕ) → NoTest threads memory → first_fault threads memory ≡ None
+no_tests threads memory t = rw (t.none, t.many, t.long, t.places, t.astray, t.accesses, t.backward, t.past_end, t.gaps) refl
+
+-- from the tests to the facts
+
+short_code : (threads : List Thread) (t : ℕ) → is_some (first_long threads) ≡ false → length (code_of threads t) ≤ 64
+short_code threads t e = go (slice_get threads t) refl
+  where
+    go : (o : Option Thread) → slice_get threads t ≡ o → length (option_map_or (λ (x : Thread). x.code) o []) ≤ 64
+    go None is = omega arith
+    go (Some thread) is = few 64 (length thread.code) (not_found (λ (x : Thread). nat_lt 64 (length x.code)) threads e t thread is)
+
+pub all_short : (threads : List Thread) → is_some (first_long threads) ≡ false → All (λ t. length t.code ≤ 64) threads
+all_short threads e k d h = few 64 (length (get_or threads k d).code) (not_found (λ (x : Thread). nat_lt 64 (length x.code)) threads e k (get_or threads k d) (slice_get-get_or threads k d h))
+
+module _ (threads : List Thread) (t k : ℕ) (x : Instr) (there : instr_at threads t k ≡ Some x) where
+  astray_fact : (locations l : ℕ) → some_astray locations threads ≡ false → location_of x ≡ Some l → l < locations
+  astray_fact locations l e is =
+      let found = instr_found threads t k x there in
+      let here : list_any (is_astray locations) found.0.code ≡ false = not_any (λ (y : Thread). list_any (is_astray locations) y.code) threads e t found.0 found.1 in
+      above locations l (tested (λ m. nat_le locations m) (location_of x) l (not_any (is_astray locations) found.0.code here k x found.2) is)
+
+  forward_fact : (target : ℕ) → is_some (first_found first_backward_in 0 threads) ≡ false → target_of x ≡ Some target → k < target
+  forward_fact target e is =
+      let found = instr_found threads t k x there in
+      let none : is_some (first_backward_in found.0) ≡ false = found_nowhere first_backward_in 0 threads e t found.0 found.1 in
+      let here : is_backward (0 + k) x ≡ false = not_found (λ (i : ℕ × Instr). is_backward i.0 i.1) (enumerate_from 0 found.0.code) none k (0 + k, x) (enumerated 0 found.0.code k x found.2) in
+      let h : 0 + k < target = above target (0 + k) (tested (λ m. nat_le m (0 + k)) (target_of x) target here is) in
+      omega arith
+
+  inner_fact : (target : ℕ) → is_some (first_found first_past_end_in 0 threads) ≡ false → target_of x ≡ Some target → target ≤ length (code_of threads t)
+  inner_fact target e is =
+      let found = instr_found threads t k x there in
+      let none : is_some (first_past_end_in found.0) ≡ false = found_nowhere first_past_end_in 0 threads e t found.0 found.1 in
+      let here : is_past_end (length found.0.code) x ≡ false = not_found (is_past_end (length found.0.code)) found.0.code none k x found.2 in
+      rw (code_found threads t found.0 found.1) (few (length found.0.code) target (tested (λ m. nat_lt (length found.0.code) m) (target_of x) target here is))
+
+pub within : (threads : List Thread) (memory : List ℕ) → first_fault threads memory ≡ None → IsWithinLimits threads memory
+within threads memory e =
+    let t = tests threads memory e in
+    record {
+      some_thread = some_of (length threads) t.none;
+      few_threads = few 8 (length threads) t.many;
+      short_threads = λ u. short_code threads u t.long;
+      few_locations = few 8 (length memory) t.places;
+      located = λ u k l x there is. astray_fact threads u k x there (length memory) l t.astray is;
+      few_accesses = few 24 (sum_by accesses_of threads) t.accesses;
+      forward_jumps = λ u k target x there is. forward_fact threads u k x there target t.backward is;
+      inner_jumps = λ u k target x there is. inner_fact threads u k x there target t.past_end is;
+      few_gaps = few 64 (gap_count threads) t.gaps;
+    }
+
+-- from the facts to the tests
+
+module _ (threads : List Thread) (memory : List ℕ) (w : IsWithinLimits threads memory) where
+  instr_there : (t k : ℕ) (x : Instr) (thread : Thread) → slice_get threads t ≡ Some thread → slice_get thread.code k ≡ Some x → instr_at threads t k ≡ Some x
+  instr_there t k x thread e f = rw (code_found threads t thread e) f
+
+  no_long : is_some (first_long threads) ≡ false
+  no_long = none_found (λ (x : Thread). nat_lt 64 (length x.code)) threads (λ t thread e.
+      not_more 64 (length thread.code) (rw (code_found threads t thread e) at (w.short_threads t)))
+
+  no_astray : some_astray (length memory) threads ≡ false
+  no_astray = none_any (λ (x : Thread). list_any (is_astray (length memory)) x.code) threads (λ t thread e.
+      none_any (is_astray (length memory)) thread.code (λ k x f.
+      untested (λ l. nat_le (length memory) l) (location_of x) (λ l is. not_below (length memory) l (w.located t k l x (instr_there t k x thread e f) is))))
+
+  no_backward : is_some (first_found first_backward_in 0 threads) ≡ false
+  no_backward = nowhere_found first_backward_in 0 threads (λ t thread e.
+      none_found (λ (i : ℕ × Instr). is_backward i.0 i.1) (enumerate_from 0 thread.code) (λ k i f.
+      let back = enumerated_back 0 thread.code k i f in
+      let same : i.0 ≡ k = omega (arith, back.0) in
+      untested (λ target. nat_le target i.0) (target_of i.1) (λ target is.
+      let h : k < target = w.forward_jumps t k target i.1 (instr_there t k i.1 thread e back.1) is in
+      not_below target i.0 (omega arith))))
+
+  no_past_end : is_some (first_found first_past_end_in 0 threads) ≡ false
+  no_past_end = nowhere_found first_past_end_in 0 threads (λ t thread e.
+      none_found (is_past_end (length thread.code)) thread.code (λ k x f.
+      untested (λ target. nat_lt (length thread.code) target) (target_of x) (λ target is.
+      not_more (length thread.code) target (rw (code_found threads t thread e) at (w.inner_jumps t k target x (instr_there t k x thread e f) is)))))
+
+  pub refused_not : first_fault threads memory ≡ None
+  refused_not = no_tests threads memory (record {
+    none = not_none (length threads) w.some_thread;
+    many = not_more 8 (length threads) w.few_threads;
+    long = no_long;
+    places = not_more 8 (length memory) w.few_locations;
+    astray = no_astray;
+    accesses = not_more 24 (sum_by accesses_of threads) w.few_accesses;
+    backward = no_backward;
+    past_end = no_past_end;
+    gaps = not_more 64 (gap_count threads) w.few_gaps;
+  })
+
+pub limits_are_the_refusals : LimitsAreTheRefusals
+limits_are_the_refusals threads memory = (within threads memory, refused_not threads memory)

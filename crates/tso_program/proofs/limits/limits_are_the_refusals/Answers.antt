@@ -1,0 +1,5 @@
+use Rattle.tso_program.proofs.WithinLimits
+use Rattle.tso_program.proofs.limits.limits_are_the_refusals.Goals as goal
+
+pub returns : goal.returns
+returns c = WithinLimits.limits_are_the_refusals

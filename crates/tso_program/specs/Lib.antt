@@ -1,0 +1,5 @@
+pub mod Instructions
+pub mod Actions
+pub mod Listings
+pub mod Limits
+pub mod Fences

@@ -1,0 +1,79 @@
+-- The limits of a program, and the first that a listing breaks.
+use Rattle.std.specs.Prelude.{◌≡◌, ℕ, ◌+◌, ◌<◌, ◌≤◌, ◌==◌, ◌||◌, Bool, false, nat_lt, nat_le, List, [], ◌∷◌, length, Option, Some, None, is_some, unwrap_or, sum_by, position, if◌then◌else◌, ◌↔◌}
+use Rattle.std.specs.List.{list_any, enumerate_from}
+use Rattle.std.specs.Option.{option_map_or}
+use Rattle.tso_program.specs.declared.instruction.Instr.{Instr}
+use Rattle.tso_program.specs.declared.listing.Thread.{Thread}
+use Rattle.tso_program.specs.declared.limits.ProgramFault.{ProgramFault}
+use Rattle.tso_program.specs.declared.limits.ProgramFault.TheVariants.{NoThreads, TooManyThreads, TooLong, Locations, TooManyAccesses, BackwardJump, JumpPastEnd, TooManyGaps}
+use Rattle.tso_program.specs.Instructions.{location_of, target_of}
+use Rattle.tso_program.specs.Listings.{code_of, instr_at, accesses_of, gap_count}
+
+-- threads and initial values within the limits
+pub record IsWithinLimits (threads : List Thread) (memory : List ℕ) : Type 0 where
+  pub some_thread : 0 < length threads
+  pub few_threads : length threads ≤ 8
+  pub short_threads : (t : ℕ) → length (code_of threads t) ≤ 64
+  pub few_locations : length memory ≤ 8
+  pub located : (t k l : ℕ) (x : Instr) → instr_at threads t k ≡ Some x → location_of x ≡ Some l → l < length memory
+  pub few_accesses : sum_by accesses_of threads ≤ 24
+  pub forward_jumps : (t k target : ℕ) (x : Instr) → instr_at threads t k ≡ Some x → target_of x ≡ Some target → k < target
+  pub inner_jumps : (t k target : ℕ) (x : Instr) → instr_at threads t k ≡ Some x → target_of x ≡ Some target → target ≤ length (code_of threads t)
+  pub few_gaps : gap_count threads ≤ 64
+
+-- the first thread of more than 64 instructions
+abbrev pub first_long : List Thread → Option ℕ
+first_long threads = position (λ t. nat_lt 64 (length t.code)) threads
+
+-- an instruction that names none of so many locations
+abbrev pub is_astray : ℕ → Instr → Bool
+is_astray locations x = option_map_or (λ l. nat_le locations l) (location_of x) false
+
+abbrev pub some_astray : ℕ → List Thread → Bool
+some_astray locations threads = list_any (λ t. list_any (is_astray locations) t.code) threads
+
+-- instruction k jumps to itself or to an earlier one
+abbrev pub is_backward : ℕ → Instr → Bool
+is_backward k x = option_map_or (λ target. nat_le target k) (target_of x) false
+
+-- an instruction of a thread of this length jumps past its end
+abbrev pub is_past_end : ℕ → Instr → Bool
+is_past_end len x = option_map_or (λ target. nat_lt len target) (target_of x) false
+
+abbrev pub first_backward_in : Thread → Option ℕ
+first_backward_in thread = position (λ i. is_backward i.0 i.1) (enumerate_from 0 thread.code)
+
+abbrev pub first_past_end_in : Thread → Option ℕ
+first_past_end_in thread = position (is_past_end (length thread.code)) thread.code
+
+-- from thread t on, the first thread in which an instruction is found, and that instruction
+abbrev pub first_found : (Thread → Option ℕ) → ℕ → List Thread → Option (ℕ × ℕ)
+first_found find t [] = None
+first_found find t (thread ∷ threads) =
+    if is_some (find thread) then Some (t, unwrap_or (find thread) 0) else first_found find (t + 1) threads
+
+-- the first fault of a list whose test is true
+abbrev pub first_true : List (Bool × ProgramFault) → Option ProgramFault
+first_true [] = None
+first_true (f ∷ fs) = if f.0 then Some f.1 else first_true fs
+
+-- a fault at a place, where there is one
+abbrev pub at_place : (ℕ → ℕ → ProgramFault) → Option (ℕ × ℕ) → Bool × ProgramFault
+at_place fault found = (is_some found, fault (unwrap_or found (0, 0)).0 (unwrap_or found (0, 0)).1)
+
+-- the first refusal that applies, in this order
+abbrev pub first_fault : List Thread → List ℕ → Option ProgramFault
+first_fault threads memory = first_true (
+    (length threads == 0, NoThreads)
+    ∷ (nat_lt 8 (length threads), TooManyThreads)
+    ∷ (is_some (first_long threads), TooLong (unwrap_or (first_long threads) 0))
+    ∷ (nat_lt 8 (length memory) || some_astray (length memory) threads, Locations)
+    ∷ (nat_lt 24 (sum_by accesses_of threads), TooManyAccesses)
+    ∷ at_place BackwardJump (first_found first_backward_in 0 threads)
+    ∷ at_place JumpPastEnd (first_found first_past_end_in 0 threads)
+    ∷ (nat_lt 64 (gap_count threads), TooManyGaps)
+    ∷ [])
+
+-- no refusal applies exactly within the limits
+abbrev pub LimitsAreTheRefusals : Type 0
+LimitsAreTheRefusals = (threads : List Thread) (memory : List ℕ) → (first_fault threads memory ≡ None) ↔ IsWithinLimits threads memory

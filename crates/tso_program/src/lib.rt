@@ -1,0 +1,24 @@
+//! Programs of a few threads over a few locations, and what they leave.
+//!
+//! A program is a [`Listing`]: threads of numbered instructions, the initial registers of each, and
+//! an initial value for each location. A [`Program`] is a listing within the limits.
+#![tactic(auto)]
+
+mod action;
+mod instruction;
+mod items;
+mod limits;
+mod listing;
+mod outcome;
+mod program;
+
+pub use action::{Action, Local};
+pub use instruction::{Instr, Reg};
+pub use items::Items;
+pub use limits::{ProgramFault, limits_are_the_refusals};
+pub use listing::{Listing, Thread};
+pub use outcome::Outcome;
+pub use program::Program;
+
+#[cfg(test)]
+mod tests;

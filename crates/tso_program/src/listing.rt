@@ -1,0 +1,16 @@
+//! Programs as they are written down.
+use crate::{Instr, Items};
+
+/// A thread: its instructions, and what its registers hold at first.
+#[derive(PartialEq, Eq, Debug, Drop)]
+pub struct Thread {
+    pub code: Items<Instr>,
+    pub registers: [u32; 6],
+}
+
+/// Threads, and what the locations hold at first, without limits.
+#[derive(PartialEq, Eq, Debug, Drop)]
+pub struct Listing {
+    pub threads: Items<Thread>,
+    pub memory: Items<u32>,
+}
