@@ -7,11 +7,12 @@ use Rattle.conditions.specs.declared.fault.FormulaFault.TheVariants.{Refused, Ou
 use Rattle.conditions.specs.Tree.{Tree}
 use Rattle.conditions.specs.Grammar.{Sign}
 use Rattle.conditions.specs.Nodes.{nodes_of, tree_of, tree_again}
-use Rattle.conditions.specs.Stack.{tree_read}
+use Rattle.conditions.specs.Stack.{tree_read, StopsAt}
 use Rattle.conditions.specs.Layout.{IsTree}
 use Rattle.conditions.specs.Reads.{Reads, SpellsOnly}
 use Rattle.conditions.proofs.SpelledIsRead.{reads_only, reads_none}
 use Rattle.conditions.proofs.ReadIsSpelled.{is_spelled}
+use Rattle.conditions.proofs.Completed.{stops_first}
 
 -- the nodes of what is read give it back
 pub tree_found : (o : Option (Tree Atom)) (nodes : List Node) → IsTree o nodes → (o ≡ Some (tree_of nodes)) × (nodes_of (tree_of nodes) ≡ nodes)
@@ -24,7 +25,7 @@ tree_found (Some f) nodes h =
 pub reads_ok : {A : Type 0} (ss : List (Sign A)) (f : Tree A) → tree_read ss ≡ Some f → SpellsOnly ss f
 reads_ok ss f e = (is_spelled f ss e, reads_only f ss e)
 
--- where nothing is read, none is spelled
-pub reads_err : (ss : List (Sign Atom)) (fault : FormulaFault) → ((at : ℕ) → fault ≡ Refused at → tree_read ss ≡ None) → Reads ss (Err fault)
-reads_err ss (Refused at) h = reads_none ss (h at refl)
+-- where the reader stops, nothing is spelled
+pub reads_err : (ss : List (Sign Atom)) (fault : FormulaFault) → ((at : ℕ) → fault ≡ Refused at → StopsAt ss at) → Reads ss (Err fault)
+reads_err ss (Refused at) h = let stops = h at refl in (reads_none ss stops.3, stops_first ss at stops)
 reads_err ss OutOfMemory h = tt

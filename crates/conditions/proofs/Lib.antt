@@ -4,5 +4,9 @@ pub mod Joins
 pub mod SpelledIsRead
 pub mod ReadIsSpelled
 pub mod Answered
+pub mod Stops
+pub mod Completed
 pub mod Steps
 pub mod Mapped
+pub mod Unwound
+pub mod CanonicalSigns

@@ -41,7 +41,7 @@ sums (Ored g k) f ss rest a = let o = a.1.1 in (o.1, (o.0, o.2, disjunction o.3 
 sums (Inside k) f ss rest a = (tt, (a.1.0, a.1.1, term a.1.2))
 
 -- the signs lead to the state, where there is one
-abbrev AtNext : {A : Type 0} → Option (State A) → List (Sign A) → List (Sign A) → Type 0
+abbrev pub AtNext : {A : Type 0} → Option (State A) → List (Sign A) → List (Sign A) → Type 0
 AtNext None ss rest = Unit {0}
 AtNext (Some s) ss rest = At s ss rest
 
@@ -79,7 +79,7 @@ wholes (Ored h k, g) f ss r e = absurd cc
 wholes (Inside k, g) f ss r e = absurd cc
 
 -- what is read from a state on is spelled by all signs
-spelled_from : {A : Type 0} (o : Option (State A)) (f : Tree A) (ss rest : List (Sign A)) → AtNext o ss rest → reading o rest ≡ Some f → Spells Sum f ss []
+pub spelled_from : {A : Type 0} (o : Option (State A)) (f : Tree A) (ss rest : List (Sign A)) → AtNext o ss rest → reading o rest ≡ Some f → Spells Sum f ss []
 spelled_from None f ss [] a e = absurd cc
 spelled_from None f ss (t ∷ rest) a e = absurd cc
 spelled_from (Some (Wants k)) f ss [] a e = absurd cc

@@ -1,30 +1,58 @@
 -- One token of the reader.
-use Rattle.std.proofs.Common.{◌≡◌, Bool, true, false, List, ◌∷◌, Option, Some, None}
+use Rattle.std.proofs.Common.{◌≡◌, ℕ, ◌+◌, ◌<◌, Bool, true, false, List, [], ◌∷◌, ◌++◌, length, take, Option, Some, None, Err, ap, sym, ◌∙◌, subst}
 use Rattle.conditions.specs.declared.atom.Atom.{Atom}
+use Rattle.conditions.specs.declared.fault.FormulaFault.{FormulaFault}
+use Rattle.conditions.specs.declared.fault.FormulaFault.TheVariants.{Refused}
 use Rattle.conditions.specs.declared.node.Node.{Node}
 use Rattle.conditions.specs.declared.stack.Waiting.{Waiting}
 use Rattle.conditions.specs.Tree.{Tree}
 use Rattle.conditions.specs.Grammar.{Sign}
-use Rattle.conditions.specs.Stack.{Before, State, Wants, Has, next, reading}
-use Rattle.conditions.specs.Layout.{Lies, LiesAs, LiesBefore, LiesWith}
+use Rattle.conditions.specs.Stack.{Before, State, Wants, Has, Start, next, reading, reached, StopsAt}
+use Rattle.conditions.specs.Layout.{Lies, LiesAs, LiesBefore, LiesWith, Goes}
+use Rattle.conditions.proofs.Stops.{after_push, stops_inside}
 
--- the nodes and the stack lie as a state from which the rest gives what all signs give
-abbrev pub Left : Bool → List Node → List Waiting → List (Sign Atom) → Option (Tree Atom) → Type 0
-Left w nodes stack rest all = (s : State Atom) × Lies s w nodes stack × (reading (Some s) rest ≡ all)
+-- the nodes and the stack lie as the state that the signs read so far lead to, from which the rest gives what all signs give
+abbrev pub Left : Bool → List Node → List Waiting → List (Sign Atom) → List (Sign Atom) → Option (Tree Atom) → Type 0
+Left w nodes stack front rest all = (s : State Atom) × Lies s w nodes stack × (reading (Some s) rest ≡ all) × (reached front ≡ Some s)
 
-left_from : (o : Option (State Atom)) (w : Bool) (nodes : List Node) (stack : List Waiting) (rest : List (Sign Atom)) (all : Option (Tree Atom)) → LiesAs o w nodes stack → reading o rest ≡ all
-    → Left w nodes stack rest all
-left_from None w nodes stack rest all h e = absurd h
-left_from (Some s) w nodes stack rest all h e = (s, h, e)
+-- the state after one sign more
+left_from : (o : Option (State Atom)) (w : Bool) (nodes : List Node) (stack : List Waiting) (front rest : List (Sign Atom)) (all : Option (Tree Atom)) → LiesAs o w nodes stack → reading o rest ≡ all
+    → reached front ≡ o → Left w nodes stack front rest all
+left_from None w nodes stack front rest all h e r = absurd h
+left_from (Some s) w nodes stack front rest all h e r = (s, h, e, r)
 
 -- a sign where an operand is wanted
-pub wants_step : (s : State Atom) (t : Sign Atom) (w : Bool) (m nodes : List Node) (r stack : List Waiting) (rest : List (Sign Atom)) (all : Option (Tree Atom)) → Lies s true m r
-    → ((k : Before Atom) → LiesBefore k m r → LiesAs (next (Wants k) t) w nodes stack) → reading (Some s) (t ∷ rest) ≡ all → Left w nodes stack rest all
-wants_step (Wants k) t w m nodes r stack rest all h goes e = left_from (next (Wants k) t) w nodes stack rest all (goes k h.1) e
-wants_step (Has p) t w m nodes r stack rest all h goes e = let bad = h.0 in absurd cc
+pub wants_step : (s : State Atom) (t : Sign Atom) (w : Bool) (m nodes : List Node) (r stack : List Waiting) (front longer rest : List (Sign Atom)) (all : Option (Tree Atom)) → Lies s true m r
+    → ((k : Before Atom) → LiesBefore k m r → LiesAs (next (Wants k) t) w nodes stack) → reading (Some s) (t ∷ rest) ≡ all → reached front ≡ Some s → longer ≡ front ++ t ∷ []
+    → Left w nodes stack longer rest all
+wants_step (Wants k) t w m nodes r stack front longer rest all h goes e came more =
+    left_from (next (Wants k) t) w nodes stack longer rest all (goes k h.1) e (ap reached more ∙ after_push (Some (Wants Start)) front t (Wants k) came)
+wants_step (Has p) t w m nodes r stack front longer rest all h goes e came more = let bad = h.0 in absurd cc
 
 -- a sign after an operand
-pub has_step : (s : State Atom) (t : Sign Atom) (w : Bool) (m nodes : List Node) (r stack : List Waiting) (rest : List (Sign Atom)) (all : Option (Tree Atom)) → Lies s false m r
-    → ((k : Before Atom) (f : Tree Atom) → LiesWith (k, f) m r → LiesAs (next (Has (k, f)) t) w nodes stack) → reading (Some s) (t ∷ rest) ≡ all → Left w nodes stack rest all
-has_step (Wants k) t w m nodes r stack rest all h goes e = let bad = h.0 in absurd cc
-has_step (Has p) t w m nodes r stack rest all h goes e = left_from (next (Has p) t) w nodes stack rest all (goes p.0 p.1 h.1) e
+pub has_step : (s : State Atom) (t : Sign Atom) (w : Bool) (m nodes : List Node) (r stack : List Waiting) (front longer rest : List (Sign Atom)) (all : Option (Tree Atom)) → Lies s false m r
+    → ((k : Before Atom) (f : Tree Atom) → LiesWith (k, f) m r → LiesAs (next (Has (k, f)) t) w nodes stack) → reading (Some s) (t ∷ rest) ≡ all → reached front ≡ Some s → longer ≡ front ++ t ∷ []
+    → Left w nodes stack longer rest all
+has_step (Wants k) t w m nodes r stack front longer rest all h goes e came more = let bad = h.0 in absurd cc
+has_step (Has p) t w m nodes r stack front longer rest all h goes e came more =
+    left_from (next (Has p) t) w nodes stack longer rest all (goes p.0 p.1 h.1) e (ap reached more ∙ after_push (Some (Wants Start)) front t (Has p) came)
+
+-- where an operand is wanted and the sign leads nowhere, the reader stops
+pub wants_stop : (s : State Atom) (t : Sign Atom) (fault : FormulaFault) (m nodes : List Node) (r stack : List Waiting) (ss : List (Sign Atom)) (i place : ℕ) → Lies s true m r
+    → ((k : Before Atom) → LiesBefore k m r → Goes i (next (Wants k) t) (Err fault) nodes stack) → i < length ss → reached (take i ss) ≡ Some s → take (i + 1) ss ≡ take i ss ++ t ∷ []
+    → fault ≡ Refused place → StopsAt ss place
+wants_stop (Wants k) t fault m nodes r stack ss i place h goes lt came more is =
+    let refused : Goes i (next (Wants k) t) (Err (Refused place)) nodes stack = rw is at goes k h.1 in
+    let P : ℕ → Type 0 = λ n. StopsAt ss n in
+    subst P (sym refused.0) (stops_inside ss i (Wants k) t lt came more refused.1)
+wants_stop (Has p) t fault m nodes r stack ss i place h goes lt came more is = let bad = h.0 in absurd cc
+
+-- where an operand stands and the sign leads nowhere, the reader stops
+pub has_stop : (s : State Atom) (t : Sign Atom) (fault : FormulaFault) (m nodes : List Node) (r stack : List Waiting) (ss : List (Sign Atom)) (i place : ℕ) → Lies s false m r
+    → ((k : Before Atom) (f : Tree Atom) → LiesWith (k, f) m r → Goes i (next (Has (k, f)) t) (Err fault) nodes stack) → i < length ss → reached (take i ss) ≡ Some s → take (i + 1) ss ≡ take i ss ++ t ∷ []
+    → fault ≡ Refused place → StopsAt ss place
+has_stop (Wants k) t fault m nodes r stack ss i place h goes lt came more is = let bad = h.0 in absurd cc
+has_stop (Has p) t fault m nodes r stack ss i place h goes lt came more is =
+    let refused : Goes i (next (Has p) t) (Err (Refused place)) nodes stack = rw is at goes p.0 p.1 h.1 in
+    let P : ℕ → Type 0 = λ n. StopsAt ss n in
+    subst P (sym refused.0) (stops_inside ss i (Has p) t lt came more refused.1)

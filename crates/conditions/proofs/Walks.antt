@@ -3,7 +3,7 @@ use Rattle.std.proofs.Common.{◌≡◌, ℕ, suc, Bool, true, false, cond, List
 use Rattle.std.specs.Prelude.{◌&&◌, ◌||◌, nat_lt}
 use Rattle.std.proofs.lemmas.Bool.Decides.{nat_tests}
 use Rattle.std.proofs.lemmas.List.{append-nil}
-use Rattle.tso_program.specs.declared.program.Outcome.{Outcome}
+use Rattle.tso_program.specs.declared.outcome.Outcome.{Outcome}
 use Rattle.conditions.specs.declared.atom.Atom.{Atom}
 use Rattle.conditions.specs.declared.node.Node.{Node}
 use Rattle.conditions.specs.declared.node.Node.TheVariants as node

@@ -1,5 +1,5 @@
 -- How a reader's trees lie in its nodes and its stack.
-use Rattle.std.specs.Prelude.{◌≡◌, Bool, true, false, List, [], ◌∷◌, ◌++◌, Option, Some, None, Result, Ok, Err}
+use Rattle.std.specs.Prelude.{◌≡◌, ℕ, Bool, true, false, List, [], ◌∷◌, ◌++◌, Option, Some, None, Result, Ok, Err}
 use Rattle.conditions.specs.declared.atom.Atom.{Atom}
 use Rattle.conditions.specs.declared.fault.FormulaFault.{FormulaFault}
 use Rattle.conditions.specs.declared.fault.FormulaFault.TheVariants.{Refused, OutOfMemory}
@@ -45,11 +45,11 @@ abbrev pub LiesAs : Option (State Atom) → Bool → List Node → List Waiting 
 LiesAs None w nodes stack = ⊥
 LiesAs (Some s) w nodes stack = Lies s w nodes stack
 
--- what a function returned, whether an operand is wanted, is the state that comes next; it refuses where none comes
-abbrev pub Goes : Option (State Atom) → Result Bool FormulaFault → List Node → List Waiting → Type 0
-Goes next (Ok w) nodes stack = LiesAs next w nodes stack
-Goes next (Err (Refused at)) nodes stack = next ≡ None
-Goes next (Err OutOfMemory) nodes stack = Unit {0}
+-- what a function returned, whether an operand is wanted, is the state that comes next; it refuses this place where none comes
+abbrev pub Goes : ℕ → Option (State Atom) → Result Bool FormulaFault → List Node → List Waiting → Type 0
+Goes at next (Ok w) nodes stack = LiesAs next w nodes stack
+Goes at next (Err (Refused place)) nodes stack = (place ≡ at) × (next ≡ None)
+Goes at next (Err OutOfMemory) nodes stack = Unit {0}
 
 -- there is a formula, and these are its nodes
 abbrev pub IsTree : Option (Tree Atom) → List Node → Type 0

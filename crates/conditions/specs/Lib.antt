@@ -5,6 +5,8 @@ pub mod Tokens
 pub mod Nodes
 pub mod Reads
 pub mod Laws
+pub mod Canonical
+pub mod Unwind
 pub mod Walk
 pub mod Stack
 pub mod Layout

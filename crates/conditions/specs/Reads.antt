@@ -1,5 +1,5 @@
 -- What reading signs answers.
-use Rattle.std.specs.Prelude.{◌≡◌, List, [], Result, Ok, Err}
+use Rattle.std.specs.Prelude.{◌≡◌, ℕ, ◌+◌, ◌<◌, ◌≤◌, List, [], ◌++◌, length, take, Result, Ok, Err}
 use Rattle.conditions.specs.declared.atom.Atom.{Atom}
 use Rattle.conditions.specs.declared.fault.FormulaFault.{FormulaFault}
 use Rattle.conditions.specs.declared.fault.FormulaFault.TheVariants.{Refused, OutOfMemory}
@@ -14,8 +14,16 @@ SpellsOnly {A} signs f = Spells Sum f signs [] × ((g : Tree A) → Spells Sum g
 abbrev pub SpellsNone : {A : Type 0} → List (Sign A) → Type 0
 SpellsNone {A} signs = (g : Tree A) → Spells Sum g signs [] → ⊥
 
--- what the reader answers is the one formula that is spelled, and it refuses where none is
+-- some formula begins with the signs
+abbrev pub BeginFormula : {A : Type 0} → List (Sign A) → Type 0
+BeginFormula {A} signs = (more : List (Sign A)) × (f : Tree A) × Spells Sum f (signs ++ more) []
+
+-- the first sign with which no formula goes on has this place, or more signs are needed and it is their number
+abbrev pub IsFirstAstray : {A : Type 0} → List (Sign A) → ℕ → Type 0
+IsFirstAstray signs place = (place ≤ length signs) × BeginFormula (take place signs) × (place < length signs → ¬ BeginFormula (take (place + 1) signs))
+
+-- the reader answers the one formula that is spelled, and refuses where none is, at the first sign astray
 abbrev pub Reads : List (Sign Atom) → Result (Tree Atom) FormulaFault → Type 0
 Reads signs (Ok f) = SpellsOnly signs f
-Reads signs (Err (Refused at)) = SpellsNone signs
+Reads signs (Err (Refused place)) = SpellsNone signs × IsFirstAstray signs place
 Reads signs (Err OutOfMemory) = Unit {0}

@@ -1,5 +1,5 @@
 -- A reader with a stack: what it has read, as trees.
-use Rattle.std.specs.Prelude.{List, [], ◌∷◌, Option, Some, None}
+use Rattle.std.specs.Prelude.{◌≡◌, ℕ, ◌+◌, ◌<◌, ◌≤◌, List, [], ◌∷◌, length, take, Option, Some, None}
 use Rattle.conditions.specs.Tree.{Tree}
 use Rattle.conditions.specs.Tree as tree
 use Rattle.conditions.specs.Grammar.{Sign}
@@ -85,3 +85,17 @@ reading (Some s) (t ∷ ss) = reading (next s t) ss
 -- the formula of signs
 abbrev pub tree_read : {A : Type 0} → List (Sign A) → Option (Tree A)
 tree_read ss = reading (Some (Wants Start)) ss
+
+-- the state after signs
+abbrev pub after : {A : Type 0} → Option (State A) → List (Sign A) → Option (State A)
+after None ss = None
+after (Some s) [] = Some s
+after (Some s) (t ∷ ss) = after (next s t) ss
+
+-- the state that signs lead to from the start
+abbrev pub reached : {A : Type 0} → List (Sign A) → Option (State A)
+reached ss = after (Some (Wants Start)) ss
+
+-- the signs before this place lead to a state, the one there leads to none, and no formula is read
+abbrev pub StopsAt : {A : Type 0} → List (Sign A) → ℕ → Type 0
+StopsAt {A} ss at = (at ≤ length ss) × ((s : State A) × (reached (take at ss) ≡ Some s)) × (at < length ss → reached (take (at + 1) ss) ≡ None) × (tree_read ss ≡ None)

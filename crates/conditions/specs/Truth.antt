@@ -1,8 +1,8 @@
 -- When an atom, and a formula, is true at an outcome.
 use Rattle.std.specs.Prelude.{ℕ, Bool, false, ◌==◌, Option, Some, None, slice_get, option_and_then}
-use Rattle.tso_program.specs.declared.machine_words.Reg.{Reg}
-use Rattle.tso_program.specs.declared.program.Outcome.{Outcome}
-use Rattle.tso_program.specs.Words.{number}
+use Rattle.tso_program.specs.declared.instruction.Reg.{Reg}
+use Rattle.tso_program.specs.declared.outcome.Outcome.{Outcome}
+use Rattle.tso_program.specs.Instructions.{number}
 use Rattle.conditions.specs.declared.atom.Atom.{Atom}
 use Rattle.conditions.specs.declared.atom.Atom.TheVariants as atom
 use Rattle.conditions.specs.Tree.{Tree, truth_by}

@@ -1,6 +1,6 @@
 -- A walk over the nodes with one value and one count.
 use Rattle.std.specs.Prelude.{ℕ, ◌+◌, ◌-◌, Bool, not, cond, nat_lt, List, [], ◌∷◌}
-use Rattle.tso_program.specs.declared.program.Outcome.{Outcome}
+use Rattle.tso_program.specs.declared.outcome.Outcome.{Outcome}
 use Rattle.conditions.specs.declared.node.Node.{Node}
 use Rattle.conditions.specs.declared.node.Node.TheVariants as node
 use Rattle.conditions.specs.Truth.{is_true_at}

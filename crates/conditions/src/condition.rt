@@ -1,5 +1,5 @@
 //! A formula with its quantifier.
-ghost use Rattle.std.specs.Prelude.{◌≡◌, IfOk};
+ghost use Rattle.std.specs.Prelude.{◌≡◌, ◌↔◌, IfOk, IsTrue};
 ghost use Rattle.conditions.specs.Truth.{truth};
 
 use crate::formula::Formula;
@@ -31,6 +31,13 @@ impl Condition {
             quantifier: self.quantifier,
             formula,
         })
+    }
+
+    /// Whether the two are the same condition. Takes no memory.
+    pub fn same(&self, other: &Condition) -> bool
+        ensures { IsTrue result ↔ (self.now ≡ other.now) }
+    {
+        self.quantifier == other.quantifier && self.formula.same(&other.formula)
     }
 }
 

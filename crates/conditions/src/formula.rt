@@ -1,13 +1,14 @@
 //! Formulas, read from tokens.
-ghost use Rattle.std.specs.Prelude.{◌≡◌, IfOk, map};
+ghost use Rattle.std.specs.Prelude.{◌≡◌, ◌↔◌, IfOk, IsTrue, map};
 ghost use Rattle.conditions.specs.Tokens.{sign_of};
 ghost use Rattle.conditions.specs.Truth.{truth};
 ghost use Rattle.conditions.specs.Reads.{Reads};
+ghost use Rattle.conditions.specs.Canonical.{signs_of, enclosed_signs_of};
 
 use crate::fault::FormulaFault;
 use crate::node::Node;
 use crate::token::Token;
-use crate::{eval, reader};
+use crate::{eval, reader, writer};
 use std::alloc::{AllocError, Global};
 use std::marker::Model;
 use tso_program::Outcome;
@@ -35,7 +36,7 @@ impl Model for Formula {
 
 impl Formula {
     /// The formula that all the tokens spell. `Refused` has the index of the first token with which no formula goes on,
-    /// or the number of tokens where more are needed.
+    /// or the number of tokens where more are needed. `OutOfMemory` comes where the nodes or the stack can't grow.
     pub fn read(alloc: Global, tokens: &[Token]) -> Result<Formula, FormulaFault>
         ensures { Reads (map sign_of tokens.now) result }
     {
@@ -50,6 +51,28 @@ impl Formula {
         ensures { result ≡ truth outcome.now self.now }
     {
         eval::holds(&self.nodes, outcome)
+    }
+
+    /// Whether the two are the same formula. Takes no memory.
+    pub fn same(&self, other: &Formula) -> bool
+        ensures { IsTrue result ↔ (self.now ≡ other.now) }
+    {
+        self.nodes.as_slice() == other.nodes.as_slice()
+    }
+
+    /// The canonical tokens, which spell the formula: each conjunction and disjunction stands in parentheses.
+    pub fn tokens(&self, alloc: Global) -> Result<Vec<Token>, AllocError>
+        ensures { IfOk result (λ tokens. map sign_of tokens.items ≡ signs_of self.now) }
+    {
+        writer::tokens(alloc, &self.nodes)
+    }
+
+    /// The canonical tokens of a condition's formula. They are in parentheses, and a conjunction or a disjunction has
+    /// no second ones.
+    pub fn enclosed_tokens(&self, alloc: Global) -> Result<Vec<Token>, AllocError>
+        ensures { IfOk result (λ tokens. map sign_of tokens.items ≡ enclosed_signs_of self.now) }
+    {
+        writer::enclosed_tokens(alloc, &self.nodes)
     }
 
     /// A formula that is equal to this one.

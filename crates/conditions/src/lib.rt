@@ -8,15 +8,20 @@ mod condition;
 mod eval;
 mod fault;
 mod formula;
+mod later;
 mod node;
 mod reader;
 mod spelling;
 mod stack;
 mod token;
+mod writer;
 
 pub use atom::Atom;
 pub use condition::{Condition, Quantifier, holds};
 pub use fault::FormulaFault;
 pub use formula::Formula;
-pub use spelling::{spell_at_most_one, spell_the_same_with_other_atoms};
+pub use spelling::{
+    canonical_signs_spell, canonical_signs_with_other_atoms, spell_at_most_one,
+    spell_the_same_with_other_atoms,
+};
 pub use token::Token;

@@ -2,5 +2,6 @@ pub mod Prefixes
 pub mod NumberLaws
 pub mod FirstBytes
 pub mod Fronts
-pub mod Steps
+pub mod OneReading
 pub mod PartLaws
+pub mod PieceLaws

@@ -5,3 +5,4 @@ pub mod Tokens
 pub mod Lexing
 pub mod Front
 pub mod Parts
+pub mod Pieces

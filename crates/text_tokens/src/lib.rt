@@ -2,12 +2,16 @@
 #![tactic(auto)]
 
 mod bytes;
+mod laws;
 mod lexer;
 mod numbers;
 mod parts;
 mod token;
 
 pub use bytes::{is_blank, is_letter, is_word_byte};
+pub use laws::{
+    a_text_has_one_list_of_tokens, a_whole_text_has_no_bad_token, pieces_are_read_again,
+};
 pub use lexer::{Tokens, lex};
 pub use numbers::{plain_number_up_to, value_up_to};
 pub use parts::{begins, begins_number, mark, number, word};

@@ -55,6 +55,24 @@ fn is_refused(rt: &impl Abort, alloc: Global, tokens: &[Token], at: usize) {
     }
 }
 
+/// Asserts the canonical tokens of a formula, alone and as a condition's, and that these spell it again.
+fn is_written(
+    rt: &impl Abort,
+    alloc: Global,
+    tokens: &[Token],
+    alone: &[Token],
+    enclosed: &[Token],
+) -> Result<(), Fail> {
+    let formula = Formula::read(alloc, tokens)?;
+    let written = formula.tokens(alloc)?;
+    assert_eq!(rt; written.as_slice(), alone);
+    let whole = formula.enclosed_tokens(alloc)?;
+    assert_eq!(rt; whole.as_slice(), enclosed);
+    let again = Formula::read(alloc, &whole)?;
+    assert!(rt; formula.same(&again));
+    Ok(())
+}
+
 /// Puts the part at the end of the tokens this many times.
 fn repeat(tokens: &mut Vec<Token>, part: &[Token], count: usize) -> Result<(), Fail> {
     for _ in 0..count {
@@ -135,6 +153,8 @@ fn long_formulas_need_no_stack(rt: HostRuntime) -> Result<(), Fail> {
     repeat(&mut chain, &[EAX_IS_1, Token::And], 140_000)?;
     chain.push(Y_IS_2)?;
     is(&rt, alloc, &chain, true)?;
+    let written = Formula::read(alloc, &chain)?.tokens(alloc)?;
+    assert_eq!(rt; written.len(), 560_001);
 
     let mut nested = Vec::new(alloc);
     repeat(&mut nested, &[Token::Open], 400_000)?;
@@ -142,9 +162,73 @@ fn long_formulas_need_no_stack(rt: HostRuntime) -> Result<(), Fail> {
     nested.push(EAX_IS_1)?;
     repeat(&mut nested, &[Token::Close], 400_000)?;
     is(&rt, alloc, &nested, true)?;
+    let written = Formula::read(alloc, &nested)?.tokens(alloc)?;
+    assert_eq!(rt; written.len(), 1);
 
     let mut negated = Vec::new(alloc);
     repeat(&mut negated, &[Token::Not], 250_000)?;
     negated.push(EAX_IS_1)?;
-    is(&rt, alloc, &negated, true)
+    is(&rt, alloc, &negated, true)?;
+    let written = Formula::read(alloc, &negated)?.tokens(alloc)?;
+    assert_eq!(rt; written.len(), 250_001);
+    Ok(())
+}
+
+#[test]
+fn writes_canonical_tokens(rt: HostRuntime) -> Result<(), Fail> {
+    use Token::{And, Close, Not, Open, Or};
+    let alloc = rt.alloc();
+    let (a, b, c) = (EAX_IS_1, Y_IS_2, Token::Const(true));
+    is_written(&rt, alloc, &[a], &[a], &[Open, a, Close])?;
+    is_written(
+        &rt,
+        alloc,
+        &[Open, a, And, b, Close],
+        &[Open, a, And, b, Close],
+        &[Open, a, And, b, Close],
+    )?;
+    is_written(
+        &rt,
+        alloc,
+        &[Not, Open, Open, a, Close, Close],
+        &[Not, a],
+        &[Open, Not, a, Close],
+    )?;
+    is_written(
+        &rt,
+        alloc,
+        &[a, And, b, And, Not, c],
+        &[Open, Open, a, And, b, Close, And, Not, c, Close],
+        &[Open, Open, a, And, b, Close, And, Not, c, Close],
+    )?;
+    is_written(
+        &rt,
+        alloc,
+        &[a, Or, b, And, Not, Open, b, Or, c, Close],
+        &[
+            Open, a, Or, Open, b, And, Not, Open, b, Or, c, Close, Close, Close,
+        ],
+        &[
+            Open, a, Or, Open, b, And, Not, Open, b, Or, c, Close, Close, Close,
+        ],
+    )
+}
+
+#[test]
+fn other_formulas_are_not_the_same(rt: HostRuntime) -> Result<(), Fail> {
+    let alloc = rt.alloc();
+    let and = Formula::read(alloc, &[EAX_IS_1, Token::And, Y_IS_2])?;
+    let or = Formula::read(alloc, &[EAX_IS_1, Token::Or, Y_IS_2])?;
+    assert!(rt; !and.same(&or));
+    let exists = Condition {
+        quantifier: Quantifier::Exists,
+        formula: and.copy(alloc)?,
+    };
+    let not_exists = Condition {
+        quantifier: Quantifier::NotExists,
+        formula: and.copy(alloc)?,
+    };
+    assert!(rt; exists.same(&exists));
+    assert!(rt; !exists.same(&not_exists));
+    Ok(())
 }

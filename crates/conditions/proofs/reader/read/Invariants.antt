@@ -1,10 +1,9 @@
-use Rattle.std.proofs.Common.{◌≡◌, drop, map, Some}
-use Rattle.conditions.specs.declared.atom.Atom.{Atom}
+use Rattle.std.proofs.Common.{drop, map, take}
 use Rattle.conditions.specs.Tokens.{sign_of}
-use Rattle.conditions.specs.Stack.{State, reading, tree_read}
-use Rattle.conditions.specs.Layout.{Lies}
+use Rattle.conditions.specs.Stack.{tree_read}
+use Rattle.conditions.proofs.Steps.{Left}
 use Rattle.conditions.proofs.reader.read.Given as goal
 
--- there is a state, which lies in the nodes and the stack, from which the tokens that are left give what all give
+-- the tokens that are read and those that are left, as signs
 abbrev pub invariant-loop-at : goal.invariant-loop-at
-invariant-loop-at l = (s : State Atom) × Lies s l.wanted l.nodes.items l.stack.items × (reading (Some s) (map sign_of (drop l.at l.tokens)) ≡ tree_read (map sign_of l.tokens))
+invariant-loop-at l = Left l.wanted l.nodes.items l.stack.items (map sign_of (take l.at l.tokens)) (map sign_of (drop l.at l.tokens)) (tree_read (map sign_of l.tokens))

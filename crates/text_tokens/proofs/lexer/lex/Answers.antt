@@ -3,7 +3,7 @@ use Rattle.std.proofs.lemmas.List.{nil_from_length, map_push}
 use Rattle.text_tokens.specs.Tokens.{toks}
 use Rattle.text_tokens.specs.Lexing.{none}
 use Rattle.text_tokens.specs.Front.{lexeme_tok}
-use Rattle.text_tokens.proofs.Steps.{whole_text, only_whole, only_stopped, not_whole, blank_more, token_more}
+use Rattle.text_tokens.proofs.OneReading.{whole_text, only_whole, only_stopped, not_whole, blank_more, token_more}
 use Rattle.text_tokens.proofs.lexer.lex.Goals as goal
 
 pub loop-rest-init : goal.loop-rest-init

@@ -1,0 +1,148 @@
+-- What ties candidate executions to the machines, and what shows how their definitions are to be read.
+use Rattle.std.specs.Prelude.{◌≡◌, ◌≢◌, ◌↔◌, ◌⊎◌, ℕ, ◌<◌, List, Some, None, IsSome, Contains}
+use Rattle.tso_program.specs.declared.instruction.Instr.{Instr}
+use Rattle.tso_program.specs.declared.listing.Thread.{Thread}
+use Rattle.tso_program.specs.declared.listing.Listing.{Listing}
+use Rattle.tso_program.specs.declared.outcome.Outcome.{Outcome}
+use Rattle.tso_program.specs.Instructions.{target_of}
+use Rattle.tso_program.specs.Listings.{action, instr_at}
+use Rattle.tso_program.specs.Limits.{IsWithinLimits}
+use Rattle.tso_program.specs.Fences.{Gaps}
+use Rattle.tso_machine.specs.declared.label.Label.{Label}
+use Rattle.tso_machine.specs.Machine.{Mode, Fenced, IsRun, Allows}
+use Rattle.candidate_executions.specs.declared.access.Access.{Access}
+use Rattle.candidate_executions.specs.declared.event.Event.{Event}
+use Rattle.candidate_executions.specs.declared.event.Event.TheVariants.{Initial, Access as At}
+use Rattle.candidate_executions.specs.declared.event.Kind.{Kind}
+use Rattle.candidate_executions.specs.Candidates.{Candidate, access, access_by, IsCandidate, HasOutcome}
+use Rattle.candidate_executions.specs.Consistency.{IsKept, Edge, IsCycle, IsConsistent}
+use Rattle.candidate_executions.specs.Paths.{path_of, LiesBetween}
+use Rattle.candidate_executions.specs.Values.{IsValueOf}
+use Rattle.candidate_executions.specs.Sketches.{Sketch, empty_sketch, Completes, IsConsistentCompletion, IsSketch, IsSourceOf, IsPair, with_value, with_source, with_pair, next_read, IsWhole, MustEndAs, KnownEdge}
+
+-- each jump leads to a later instruction, or past the last one: one of the limits of a program
+abbrev pub JumpForward : List Thread → Type 0
+JumpForward threads = (t k target : ℕ) (x : Instr) → instr_at threads t k ≡ Some x → target_of x ≡ Some target → k < target
+
+-- programs are within the limits, so their jumps lead forward
+abbrev pub JumpsOfProgramsLeadForward : Type 0
+JumpsOfProgramsLeadForward = (threads : List Thread) (memory : List ℕ) → IsWithinLimits threads memory → JumpForward threads
+
+-- some consistent candidate has the outcome
+abbrev pub HasConsistentCandidate : Listing → Mode → Outcome → Type 0
+HasConsistentCandidate p mode o = (c : Candidate) × IsCandidate p mode c × IsConsistent p mode c × HasOutcome p mode c o
+
+-- every run of a mode's machine is a consistent candidate with the run's outcome
+abbrev pub EveryRunIsACandidate : Type 0
+EveryRunIsACandidate = (p : Listing) (mode : Mode) (labels : List Label) (o : Outcome) → JumpForward p.threads → IsRun p mode labels o →
+    HasConsistentCandidate p mode o
+
+-- every consistent candidate of a mode has the outcome of a run of its machine
+abbrev pub EveryCandidateIsARun : Type 0
+EveryCandidateIsARun = (p : Listing) (mode : Mode) (c : Candidate) (o : Outcome) → IsCandidate p mode c → IsConsistent p mode c →
+    HasOutcome p mode c o → Allows p mode o
+
+-- the candidate has these two accesses of thread t, the first before the second
+pub record AreInOrder (p : Listing) (gaps : Gaps) (c : Candidate) (t i j : ℕ) (x y : Access) : Type 0 where
+  pub first : access p (Fenced gaps) c (At t i) ≡ Some x
+  pub second : access p (Fenced gaps) c (At t j) ≡ Some y
+  pub in_order : i < j
+
+-- the sections of a plain store and of a later access of its thread differ exactly where a fence, a fenced gap or an exchange lies between them
+abbrev pub SectionsTellFences : Type 0
+SectionsTellFences = (p : Listing) (gaps : Gaps) (c : Candidate) (t i j : ℕ) (x y : Access) → AreInOrder p gaps c t i j x y → x.read ≡ None →
+    (x.section ≢ y.section) ↔ LiesBetween (action p.threads t) (gaps t) (path_of p c t) i j
+
+-- program order is kept but from a plain store to a plain load with no fence, no fenced gap and no exchange between them
+abbrev pub KeptOrderIsTold : Type 0
+KeptOrderIsTold = (p : Listing) (gaps : Gaps) (c : Candidate) (t i j : ℕ) (x y : Access) → AreInOrder p gaps c t i j x y →
+    IsKept x y ↔ (IsSome x.read ⊎ (IsSome y.written ⊎ LiesBetween (action p.threads t) (gaps t) (path_of p c t) i j))
+
+-- no edge of any union leads into an initial write
+abbrev pub NoEdgeLeadsIntoInitial : Type 0
+NoEdgeLeadsIntoInitial = (p : Listing) (mode : Mode) (c : Candidate) (kind : Kind) (d : Event) (l : ℕ) → IsCandidate p mode c →
+    Edge p mode c kind d (Initial l) → ⊥
+
+-- so every cycle is one of accesses alone
+abbrev pub CyclesAreOfAccesses : Type 0
+CyclesAreOfAccesses = (p : Listing) (mode : Mode) (c : Candidate) (kind : Kind) (es : List Event) (l : ℕ) → IsCandidate p mode c →
+    IsCycle (Edge p mode c kind) es → Contains es (Initial l) → ⊥
+
+-- a candidate has one outcome
+abbrev pub OutcomesAreOne : Type 0
+OutcomesAreOne = (p : Listing) (mode : Mode) (c : Candidate) (o q : Outcome) → IsCandidate p mode c → HasOutcome p mode c o →
+    HasOutcome p mode c q → o ≡ q
+
+-- the sketch in which nothing is chosen is one
+abbrev pub EmptyIsASketch : Type 0
+EmptyIsASketch = (p : Listing) (mode : Mode) → IsSketch p mode empty_sketch
+
+-- a value for a read that has none keeps a sketch
+abbrev pub AValueKeepsASketch : Type 0
+AValueKeepsASketch = (p : Listing) (mode : Mode) (k : Sketch) (t l v : ℕ) → JumpForward p.threads → IsSketch p mode k →
+    next_read p mode k t ≡ Some l → IsSketch p mode (with_value k t v)
+
+-- one of a read's sources keeps a sketch
+abbrev pub ASourceKeepsASketch : Type 0
+ASourceKeepsASketch = (p : Listing) (mode : Mode) (k : Sketch) (e s : Event) → IsSketch p mode k → IsSourceOf p mode k s e →
+    IsSketch p mode (with_source k e s)
+
+-- a pair of writes keeps a sketch
+abbrev pub APairKeepsASketch : Type 0
+APairKeepsASketch = (p : Listing) (mode : Mode) (k : Sketch) (d e : Event) → IsSketch p mode k → IsPair p mode k d e →
+    IsSketch p mode (with_pair k d e)
+
+-- every candidate completes the sketch in which nothing is chosen
+abbrev pub EveryCandidateCompletesEmpty : Type 0
+EveryCandidateCompletesEmpty = (c : Candidate) → Completes empty_sketch c
+
+-- so every run of the mode's machine is a consistent completion of it with the run's outcome
+abbrev pub EveryRunIsACompletion : Type 0
+EveryRunIsACompletion = (p : Listing) (mode : Mode) (labels : List Label) (o : Outcome) → JumpForward p.threads → IsRun p mode labels o →
+    (c : Candidate) × IsConsistentCompletion p mode empty_sketch c × HasOutcome p mode c o
+
+-- an edge that is known of a sketch is one of each completion
+abbrev pub AKnownEdgeIsAnEdge : Type 0
+AKnownEdgeIsAnEdge = (p : Listing) (mode : Mode) (k : Sketch) (c : Candidate) (kind : Kind) (d e : Event) → IsSketch p mode k →
+    IsCandidate p mode c → Completes k c → KnownEdge p mode k kind d e → Edge p mode c kind d e
+
+-- so a cycle of known edges is one of each completion
+abbrev pub AKnownCycleIsACycle : Type 0
+AKnownCycleIsACycle = (p : Listing) (mode : Mode) (k : Sketch) (c : Candidate) (kind : Kind) (es : List Event) → IsSketch p mode k →
+    IsCandidate p mode c → Completes k c → IsCycle (KnownEdge p mode k kind) es → IsCycle (Edge p mode c kind) es
+
+-- no known edge leads into an initial write
+abbrev pub NoKnownEdgeLeadsIntoInitial : Type 0
+NoKnownEdgeLeadsIntoInitial = (p : Listing) (mode : Mode) (k : Sketch) (kind : Kind) (d : Event) (l : ℕ) → IsSketch p mode k →
+    KnownEdge p mode k kind d (Initial l) → ⊥
+
+-- so every cycle of known edges is one of accesses alone
+abbrev pub KnownCyclesAreOfAccesses : Type 0
+KnownCyclesAreOfAccesses = (p : Listing) (mode : Mode) (k : Sketch) (kind : Kind) (es : List Event) (l : ℕ) → IsSketch p mode k →
+    IsCycle (KnownEdge p mode k kind) es → Contains es (Initial l) → ⊥
+
+-- each completion gives a read that has no value yet one of its location's values
+abbrev pub EachCompletionHasAValue : Type 0
+EachCompletionHasAValue = (p : Listing) (mode : Mode) (k : Sketch) (c : Candidate) (t l : ℕ) → JumpForward p.threads → IsSketch p mode k →
+    IsCandidate p mode c → Completes k c → next_read p mode k t ≡ Some l → (v : ℕ) × IsValueOf p l v × Completes (with_value k t v) c
+
+-- once each read has its value, each completion has these given values and no others
+abbrev pub EachCompletionHasTheValues : Type 0
+EachCompletionHasTheValues = (p : Listing) (mode : Mode) (k : Sketch) (c : Candidate) → JumpForward p.threads → IsSketch p mode k →
+    IsCandidate p mode c → Completes k c → IsWhole p mode k → (t : ℕ) → c.given t ≡ k.given t
+
+-- and each completion's source of a read is one of the read's sources
+abbrev pub EachCompletionHasASource : Type 0
+EachCompletionHasASource = (p : Listing) (mode : Mode) (k : Sketch) (c : Candidate) (e : Event) (x : Access) (v : ℕ) → JumpForward p.threads →
+    IsSketch p mode k → IsCandidate p mode c → Completes k c → IsWhole p mode k → access_by p mode k.given e ≡ Some x → x.read ≡ Some v →
+    IsSourceOf p mode k (c.source e) e × Completes (with_source k e (c.source e)) c
+
+-- each completion orders two writes to one location
+abbrev pub EachCompletionHasAnOrder : Type 0
+EachCompletionHasAnOrder = (p : Listing) (mode : Mode) (k : Sketch) (c : Candidate) (d e : Event) → IsSketch p mode k → IsCandidate p mode c →
+    Completes k c → IsPair p mode k d e → Completes (with_pair k d e) c ⊎ Completes (with_pair k e d) c
+
+-- where a sketch must end as an outcome, each completion has that outcome
+abbrev pub EachCompletionEndsSo : Type 0
+EachCompletionEndsSo = (p : Listing) (mode : Mode) (k : Sketch) (c : Candidate) (o : Outcome) → JumpForward p.threads → IsSketch p mode k →
+    IsCandidate p mode c → Completes k c → MustEndAs p mode k o → HasOutcome p mode c o

@@ -1,0 +1,69 @@
+//! The laws of candidate executions: each function's contract is a theorem, and calling it does
+//! nothing.
+ghost use Rattle.candidate_executions.specs.Laws.{JumpsOfProgramsLeadForward, EveryRunIsACandidate, EveryRunIsACompletion, EveryCandidateIsARun, SectionsTellFences, KeptOrderIsTold, NoEdgeLeadsIntoInitial, CyclesAreOfAccesses, EveryCandidateCompletesEmpty, EmptyIsASketch, AValueKeepsASketch, ASourceKeepsASketch, APairKeepsASketch, EachCompletionHasAValue, EachCompletionHasTheValues, EachCompletionHasASource, EachCompletionHasAnOrder, EachCompletionEndsSo, OutcomesAreOne, AKnownEdgeIsAnEdge, AKnownCycleIsACycle, NoKnownEdgeLeadsIntoInitial, KnownCyclesAreOfAccesses};
+ghost use Rattle.candidate_executions.specs.StoreBuffering.{StoreBufferingIsTold};
+
+/// Every run of a mode's machine is a consistent candidate execution with the run's outcome, and so a
+/// completion of the sketch with which a search begins. Jumps lead forward, as they do in every
+/// program.
+pub fn every_run_is_a_candidate()
+    ensures forward { JumpsOfProgramsLeadForward }
+    ensures candidate { EveryRunIsACandidate }
+    ensures completion { EveryRunIsACompletion }
+{}
+
+/// Every consistent candidate execution of a mode has the outcome of a run of its machine.
+pub fn every_candidate_is_a_run()
+    ensures { EveryCandidateIsARun }
+{}
+
+/// Sections and kept program order, in words of what lies between two accesses.
+pub fn kept_order_is_told()
+    ensures sections { SectionsTellFences }
+    ensures kept { KeptOrderIsTold }
+{}
+
+/// Nothing leads into an initial write, so the cycles of accesses are all cycles.
+pub fn cycles_are_of_accesses()
+    ensures edges { NoEdgeLeadsIntoInitial }
+    ensures cycles { CyclesAreOfAccesses }
+{}
+
+/// The definitions at store buffering: consistent with no fence, and not with both, nor
+/// sequentially.
+pub fn store_buffering_is_told()
+    ensures { StoreBufferingIsTold }
+{}
+
+/// A search begins with a sketch that every candidate completes, and each choice that it makes
+/// gives a sketch again.
+pub fn choices_keep_a_sketch()
+    ensures empty { EmptyIsASketch }
+    ensures completed { EveryCandidateCompletesEmpty }
+    ensures value { AValueKeepsASketch }
+    ensures source { ASourceKeepsASketch }
+    ensures pair { APairKeepsASketch }
+{}
+
+/// Whatever a sketch leaves open, each completion has chosen in one of the ways that a search goes
+/// through.
+pub fn each_completion_has_chosen()
+    ensures value { EachCompletionHasAValue }
+    ensures values { EachCompletionHasTheValues }
+    ensures source { EachCompletionHasASource }
+    ensures order { EachCompletionHasAnOrder }
+{}
+
+/// What is known of a sketch holds of each of its completions.
+pub fn a_known_edge_is_an_edge()
+    ensures edges { AKnownEdgeIsAnEdge }
+    ensures cycles { AKnownCycleIsACycle }
+    ensures initial { NoKnownEdgeLeadsIntoInitial }
+    ensures accesses { KnownCyclesAreOfAccesses }
+{}
+
+/// Where a sketch must end as an outcome, each of its completions has that outcome and no other.
+pub fn each_completion_ends_so()
+    ensures ends { EachCompletionEndsSo }
+    ensures one { OutcomesAreOne }
+{}

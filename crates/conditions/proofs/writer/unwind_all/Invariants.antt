@@ -1,0 +1,13 @@
+use Rattle.std.proofs.Common.{◌≡◌, ◌≤◌, [], length, take}
+use mathlib.Core.List.{reverse}
+use Rattle.conditions.specs.Unwind.{unwound}
+use Rattle.conditions.proofs.writer.unwind_all.Given as goal
+
+-- the nodes that are left give what all nodes give
+abbrev pub invariant-loop-left : goal.invariant-loop-left
+invariant-loop-left l =
+    (l.left ≤ length l.nodes)
+    × (unwound (reverse (take l.left l.nodes)) (reverse l.waiting.items) (reverse l.tokens.items) ≡ unwound (reverse l.nodes) [] (reverse l.initial.tokens.items))
+
+abbrev pub decreases-loop-left : goal.decreases-loop-left
+decreases-loop-left l = l.left

@@ -1,0 +1,43 @@
+-- Canonical tokens, found from the last node to the first.
+use Rattle.std.specs.Prelude.{List, [], ◌∷◌}
+use Rattle.conditions.specs.declared.atom.Atom.{Atom}
+use Rattle.conditions.specs.declared.node.Node.{Node}
+use Rattle.conditions.specs.declared.node.Node.TheVariants as node
+use Rattle.conditions.specs.declared.token.Token.{Token}
+use Rattle.conditions.specs.declared.token.Token.TheVariants as token
+use Rattle.conditions.specs.declared.later.Later.{Later}
+use Rattle.conditions.specs.declared.later.Later.TheVariants as later
+use Rattle.conditions.specs.Tree.{Tree}
+use Rattle.conditions.specs.Tree as tree
+
+-- the canonical tokens of a formula, and then more
+abbrev pub tokens_of : Tree Atom → List Token → List Token
+tokens_of (tree.Atom a) ts = token.Atom a ∷ ts
+tokens_of (tree.Const b) ts = token.Const b ∷ ts
+tokens_of (tree.Not f) ts = token.Not ∷ tokens_of f ts
+tokens_of (tree.And f g) ts = token.Open ∷ tokens_of f (token.And ∷ tokens_of g (token.Close ∷ ts))
+tokens_of (tree.Or f g) ts = token.Open ∷ tokens_of f (token.Or ∷ tokens_of g (token.Close ∷ ts))
+
+-- what stands before an operand, up to where the operand is a right one
+abbrev pub opened : List Later → List Token → List Token
+opened [] ts = ts
+opened (later.Stop ∷ ls) ts = ts
+opened (later.Not ∷ ls) ts = opened ls (token.Not ∷ ts)
+opened (later.Open ∷ ls) ts = opened ls (token.Open ∷ ts)
+
+-- what waits after that
+abbrev pub left : List Later → List Later
+left [] = []
+left (later.Stop ∷ ls) = ls
+left (later.Not ∷ ls) = left ls
+left (later.Open ∷ ls) = left ls
+
+-- the tokens of nodes, last node first
+abbrev pub unwound : List Node → List Later → List Token → List Token
+unwound [] ls ts = ts
+unwound (node.Atom a ∷ xs) ls ts = unwound xs (left ls) (opened ls (token.Atom a ∷ ts))
+unwound (node.Const b ∷ xs) ls ts = unwound xs (left ls) (opened ls (token.Const b ∷ ts))
+unwound (node.Not ∷ xs) ls ts = unwound xs (later.Not ∷ ls) ts
+unwound (node.And ∷ xs) ls ts = unwound xs ls (token.And ∷ ts)
+unwound (node.Or ∷ xs) ls ts = unwound xs ls (token.Or ∷ ts)
+unwound (node.End ∷ xs) ls ts = unwound xs (later.Stop ∷ (later.Open ∷ ls)) (token.Close ∷ ts)

@@ -1,0 +1,108 @@
+//! Canonical tokens of formulas.
+ghost use Rattle.std.specs.Prelude.{◌≡◌, List, ◌∷◌, [], IfOk, map};
+ghost use mathlib.Core.List.{reverse};
+ghost use Rattle.conditions.specs.declared.atom.Atom.{Atom as AtomValue};
+ghost use Rattle.conditions.specs.declared.node.Node.{Node as NodeValue};
+ghost use Rattle.conditions.specs.Tree.{Tree};
+ghost use Rattle.conditions.specs.Tokens.{sign_of};
+ghost use Rattle.conditions.specs.Nodes.{nodes_of};
+ghost use Rattle.conditions.specs.Canonical.{is_joined, signs_of, enclosed_signs_of};
+ghost use Rattle.conditions.specs.Unwind.{tokens_of, opened, left, unwound};
+
+use crate::later::Later;
+use crate::node::Node;
+use crate::token::Token;
+use std::alloc::{AllocError, Global};
+
+/// What waits before an operand is written, last first.
+fn begin(tokens: &mut Vec<Token>, waiting: &mut Vec<Later>) -> Result<(), AllocError>
+    ensures { IfOk result (λ _. (reverse tokens.new.items ≡ opened (reverse waiting.old.items) (reverse tokens.old.items))
+        × (reverse waiting.new.items ≡ left (reverse waiting.old.items))) }
+{
+    while let Some(next) = waiting.pop() {
+        match next {
+            Later::Not => tokens.push(Token::Not)?,
+            Later::Open => tokens.push(Token::Open)?,
+            Later::Stop => return Ok(()),
+        }
+    }
+    Ok(())
+}
+
+/// One node, where the nodes after it are written.
+fn unwind(tokens: &mut Vec<Token>, waiting: &mut Vec<Later>, node: Node) -> Result<(), AllocError>
+    ensures { IfOk result (λ _. (xs : List NodeValue)
+        → unwound (node ∷ xs) (reverse waiting.old.items) (reverse tokens.old.items) ≡ unwound xs (reverse waiting.new.items) (reverse tokens.new.items)) }
+{
+    match node {
+        Node::Atom(atom) => {
+            tokens.push(Token::Atom(atom))?;
+            begin(tokens, waiting)?;
+        }
+        Node::Const(constant) => {
+            tokens.push(Token::Const(constant))?;
+            begin(tokens, waiting)?;
+        }
+        Node::Not => {
+            waiting.push(Later::Not)?;
+        }
+        Node::And => {
+            tokens.push(Token::And)?;
+        }
+        Node::Or => {
+            tokens.push(Token::Or)?;
+        }
+        Node::End => {
+            tokens.push(Token::Close)?;
+            waiting.push(Later::Open)?;
+            waiting.push(Later::Stop)?;
+        }
+    }
+    Ok(())
+}
+
+/// Puts the tokens of a formula behind the others, last first.
+fn unwind_all(alloc: Global, nodes: &[Node], tokens: &mut Vec<Token>) -> Result<(), AllocError>
+    ensures { (f : Tree AtomValue) → nodes_of f ≡ nodes.now
+        → IfOk result (λ _. reverse tokens.new.items ≡ tokens_of f (reverse tokens.old.items)) }
+{
+    let mut waiting = Vec::new(alloc);
+    let mut left = nodes.len();
+    while left > 0 {
+        left -= 1;
+        unwind(tokens, &mut waiting, nodes[left])?;
+    }
+    Ok(())
+}
+
+/// Whether the nodes stand for a conjunction or a disjunction.
+fn is_joined(nodes: &[Node]) -> bool
+    ensures { (f : Tree AtomValue) → nodes_of f ≡ nodes.now → result ≡ is_joined f }
+{
+    matches!(nodes.last(), Some(Node::End))
+}
+
+/// The canonical tokens of the formula that these nodes stand for.
+pub fn tokens(alloc: Global, nodes: &[Node]) -> Result<Vec<Token>, AllocError>
+    ensures { (f : Tree AtomValue) → nodes_of f ≡ nodes.now → IfOk result (λ tokens. map sign_of tokens.items ≡ signs_of f) }
+{
+    let mut tokens = Vec::new(alloc);
+    unwind_all(alloc, nodes, &mut tokens)?;
+    tokens.reverse();
+    Ok(tokens)
+}
+
+/// The same in parentheses, and no second ones.
+pub fn enclosed_tokens(alloc: Global, nodes: &[Node]) -> Result<Vec<Token>, AllocError>
+    ensures { (f : Tree AtomValue) → nodes_of f ≡ nodes.now → IfOk result (λ tokens. map sign_of tokens.items ≡ enclosed_signs_of f) }
+{
+    if is_joined(nodes) {
+        return tokens(alloc, nodes);
+    }
+    let mut tokens = Vec::new(alloc);
+    tokens.push(Token::Close)?;
+    unwind_all(alloc, nodes, &mut tokens)?;
+    tokens.push(Token::Open)?;
+    tokens.reverse();
+    Ok(tokens)
+}

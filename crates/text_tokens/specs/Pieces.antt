@@ -1,0 +1,51 @@
+-- Texts in pieces: tokens, and the white space between them.
+use Rattle.std.specs.Prelude.{◌≡◌, ◌≤◌, ℕ, true, List, [], ◌∷◌, ◌++◌}
+use Rattle.std.specs.Fmt.{decimal}
+use Rattle.text_tokens.specs.Bytes.{is_blank}
+use Rattle.text_tokens.specs.Marks.{mark_text}
+use Rattle.text_tokens.specs.Tokens.{Tok, Word, Number, Sign, NoToken}
+use Rattle.text_tokens.specs.Lexing.{IsWord, NoWordGoesOn}
+
+-- a byte of white space, or a token
+pub data Piece : Type 0 where
+  Gap : ℕ → Piece
+  Part : Tok → Piece
+
+-- how a token is written, a number without leading zeros
+abbrev pub token_text : Tok → List ℕ
+token_text (Word w) = w
+token_text (Number n) = decimal n
+token_text (Sign m) = mark_text m
+token_text (NoToken b) = []
+
+abbrev pub piece_text : Piece → List ℕ
+piece_text (Gap b) = b ∷ []
+piece_text (Part t) = token_text t
+
+-- the text of the pieces, one behind the other
+abbrev pub text_of : List Piece → List ℕ
+text_of [] = []
+text_of (p ∷ ps) = piece_text p ++ text_of ps
+
+-- the tokens among the pieces
+abbrev pub tokens_of : List Piece → List Tok
+tokens_of [] = []
+tokens_of (Gap b ∷ ps) = tokens_of ps
+tokens_of (Part t ∷ ps) = t ∷ tokens_of ps
+
+-- the token can be written before this text: a word or a number does not run into it
+abbrev pub CanStand : Tok → List ℕ → Type 0
+CanStand (Word w) rest = IsWord w × NoWordGoesOn rest
+CanStand (Number n) rest = (n ≤ 4294967295) × NoWordGoesOn rest
+CanStand (Sign m) rest = Unit {0}
+CanStand (NoToken b) rest = ⊥
+
+-- the pieces can be written before this text, one behind the other
+abbrev pub AreApartBefore : List Piece → List ℕ → Type 0
+AreApartBefore [] rest = Unit {0}
+AreApartBefore (Gap b ∷ ps) rest = (is_blank b ≡ true) × AreApartBefore ps rest
+AreApartBefore (Part t ∷ ps) rest = CanStand t (text_of ps ++ rest) × AreApartBefore ps rest
+
+-- the pieces can be written one behind the other
+abbrev pub AreApart : List Piece → Type 0
+AreApart ps = AreApartBefore ps []
