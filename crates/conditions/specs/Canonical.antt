@@ -33,4 +33,7 @@ CanonicalSpell A = (f : Tree A) → Spells Sum f (signs_of f) [] × Spells Sum f
 
 -- a formula with other atoms has the canonical signs with other atoms
 abbrev pub CanonicalMapped : Type 0 → Type 0 → Type 0
-CanonicalMapped A B = (to : A → B) (f : Tree A) → (signs_of (tree_map to f) ≡ map (sign_map to) (signs_of f)) × (enclosed_signs_of (tree_map to f) ≡ map (sign_map to) (enclosed_signs_of f))
+CanonicalMapped A B =
+    (to : A → B) (f : Tree A)
+    → (signs_of (tree_map to f) ≡ map (sign_map to) (signs_of f))
+    × (enclosed_signs_of (tree_map to f) ≡ map (sign_map to) (enclosed_signs_of f))

@@ -18,9 +18,10 @@ SpellsNone {A} signs = (g : Tree A) → Spells Sum g signs [] → ⊥
 abbrev pub BeginFormula : {A : Type 0} → List (Sign A) → Type 0
 BeginFormula {A} signs = (more : List (Sign A)) × (f : Tree A) × Spells Sum f (signs ++ more) []
 
--- the first sign with which no formula goes on has this place, or more signs are needed and it is their number
+-- the signs before this place begin a formula, and with the one there none begins; or all begin one, and this is their number
 abbrev pub IsFirstAstray : {A : Type 0} → List (Sign A) → ℕ → Type 0
-IsFirstAstray signs place = (place ≤ length signs) × BeginFormula (take place signs) × (place < length signs → ¬ BeginFormula (take (place + 1) signs))
+IsFirstAstray signs place =
+    (place ≤ length signs) × BeginFormula (take place signs) × (place < length signs → ¬ BeginFormula (take (place + 1) signs))
 
 -- the reader answers the one formula that is spelled, and refuses where none is, at the first sign astray
 abbrev pub Reads : List (Sign Atom) → Result (Tree Atom) FormulaFault → Type 0

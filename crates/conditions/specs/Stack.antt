@@ -98,4 +98,6 @@ reached ss = after (Some (Wants Start)) ss
 
 -- the signs before this place lead to a state, the one there leads to none, and no formula is read
 abbrev pub StopsAt : {A : Type 0} → List (Sign A) → ℕ → Type 0
-StopsAt {A} ss at = (at ≤ length ss) × ((s : State A) × (reached (take at ss) ≡ Some s)) × (at < length ss → reached (take (at + 1) ss) ≡ None) × (tree_read ss ≡ None)
+StopsAt {A} ss at =
+    (at ≤ length ss) × ((s : State A) × (reached (take at ss) ≡ Some s))
+    × (at < length ss → reached (take (at + 1) ss) ≡ None) × (tree_read ss ≡ None)

@@ -9,7 +9,8 @@ use Rattle.conditions.specs.Tree.{Tree, truth_by}
 
 -- what a thread's register has at the end, none where there is no such thread
 abbrev pub register_at : Outcome → ℕ → Reg → Option ℕ
-register_at outcome thread register = option_and_then (λ registers. slice_get registers (number register)) (slice_get outcome.registers thread)
+register_at outcome thread register =
+    option_and_then (λ registers. slice_get registers (number register)) (slice_get outcome.registers thread)
 
 -- what a location has at the end, none where there is no such location
 abbrev pub location_at : Outcome → ℕ → Option ℕ

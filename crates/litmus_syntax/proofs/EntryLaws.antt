@@ -1,0 +1,175 @@
+-- What the reader of initial values reads is what the grammar says.
+use Rattle.std.proofs.Common.{◌≡◌, ◌∙◌, ◌||◌, ◌++◌, ap, map, not, Bool, ℕ, true, false, cond, List, [], ◌∷◌, refl, sym, subst, inl, inr, Some, None}
+use Rattle.std.specs.List.{list_any}
+use Rattle.std.proofs.lemmas.List.{map_push, map-append}
+use Rattle.std.proofs.lemmas.List.Folds.{list_any-append}
+use Rattle.text_tokens.specs.declared.token.Mark.TheVariants as the
+use Rattle.text_tokens.specs.Tokens.{Tok}
+use Rattle.text_tokens.specs.Parts.{mark_at, begins_with, rest_of}
+use Rattle.text_tokens.proofs.PartLaws.{mark_takes, mark_again, begins_takes, begins_again}
+use Rattle.litmus_syntax.specs.Views.{PlaceView, EntryView}
+use Rattle.litmus_syntax.specs.Phrases.{◌▸◌, ◌or◌, mark, number, Items, end, item}
+use Rattle.litmus_syntax.specs.Grammar.{IsEntryItem, before_brace, place_of, NoneTwice, IsInitial}
+use Rattle.litmus_syntax.specs.declared.seen.Seen.{Seen}
+use Rattle.litmus_syntax.specs.Places.{same_place, has}
+use Rattle.litmus_syntax.specs.Reading.{◌>>=◌, place_at, value_at, entry_value_at, entry_at}
+use Rattle.litmus_syntax.proofs.Options.{bind_some, chosen, some_is}
+use Rattle.litmus_syntax.proofs.ItemLaws.{IsRead, Only, SoFar, only_read, none_read, none_behind, one_more, refused, closed}
+use Rattle.litmus_syntax.proofs.SeenLaws.{fresh, twice}
+use Rattle.litmus_syntax.proofs.PlaceLaws.{place_takes, place_again, value_takes, value_again}
+
+-- `=`, a number, and what stands behind an entry
+abbrev EntryValue : ℕ → List Tok → List Tok → Type 0
+EntryValue n = (mark the.Equals ▸ number n) ▸ (mark the.Semicolon or before_brace)
+
+entry_value_takes : (ts : List Tok) (x : ℕ × List Tok) → entry_value_at ts ≡ Some x → EntryValue x.0 ts x.1
+unfolding entry_value_at
+entry_value_takes ts x e =
+    let a = bind_some (value_at ts) (λ n. cond (begins_with the.CloseBrace n.1) (Some n) (mark_at the.Semicolon n.1 >>= λ rest. Some (n.0, rest))) x e in
+    elim (chosen (begins_with the.CloseBrace a.0.1) (Some a.0) (mark_at the.Semicolon a.0.1 >>= λ rest. Some (a.0.0, rest)) (Some x) a.2) [
+      | inl h ↦
+          subst (λ (z : ℕ × List Tok). EntryValue z.0 ts z.1) (some_is a.0 x h.1)
+          (a.0.1, value_takes ts a.0 a.1, inr (refl, (rest_of a.0.1, begins_takes the.CloseBrace a.0.1 h.0)))
+      | inr h ↦
+          let b = bind_some (mark_at the.Semicolon a.0.1) (λ rest. Some (a.0.0, rest)) x h.1 in
+          subst (λ (z : ℕ × List Tok). EntryValue z.0 ts z.1) (some_is (a.0.0, b.0) x b.2) (a.0.1, value_takes ts a.0 a.1, inl (mark_takes the.Semicolon a.0.1 b.0 b.1))
+    ]
+
+entry_value_again : (n : ℕ) (ts rest : List Tok) → EntryValue n ts rest → entry_value_at ts ≡ Some (n, rest)
+unfolding entry_value_at
+entry_value_again n ts rest h =
+    elim h.2 [
+      | inl s ↦ rw (value_again n ts h.0 h.1, s) refl
+      | inr b ↦ rw (value_again n ts h.0 h.1, begins_again the.CloseBrace h.0 b.1.0 b.1.1, b.0) refl
+    ]
+
+item_takes : (ts : List Tok) (x : EntryView × List Tok) → entry_at ts ≡ Some x → IsEntryItem x.0 ts x.1
+unfolding entry_at
+item_takes ts x e =
+    let a = bind_some (place_at ts) (λ p. entry_value_at p.1 >>= λ n. Some (record { place = p.0; value = n.0 }, n.1)) x e in
+    let b = bind_some (entry_value_at a.0.1) (λ n. Some (record { place = a.0.0; value = n.0 }, n.1)) x a.2 in
+    let v = entry_value_takes a.0.1 b.0 b.1 in
+    let made : EntryView × List Tok = (record { place = a.0.0; value = b.0.0 }, b.0.1) in
+    subst (λ (z : EntryView × List Tok). IsEntryItem z.0 ts z.1) (some_is made x b.2) (v.0, (a.0.1, place_takes ts a.0 a.1, v.1), v.2)
+
+item_again : (e : EntryView) (ts rest : List Tok) → IsEntryItem e ts rest → entry_at ts ≡ Some (e, rest)
+unfolding entry_at
+item_again e ts rest h =
+    rw (place_again e.place ts h.1.0 h.1.1, entry_value_again e.value h.1.0 rest (h.0, h.1.2, h.2)) refl
+
+pub entries_are_read : IsRead IsEntryItem entry_at
+entries_are_read = record { takes = item_takes; again = item_again }
+
+-- an entry begins with its place
+pub begins_with_place : (e : EntryView) (ts rest : List Tok) → IsEntryItem e ts rest → (p : PlaceView × List Tok) → place_at ts ≡ Some p → e.place ≡ p.0
+begins_with_place e ts rest h p is = ap (λ (x : PlaceView × List Tok). x.0) (some_is (e.place, h.1.0) p (sym (place_again e.place ts h.1.0 h.1.1) ∙ is))
+
+-- no entry begins with `}`
+pub no_entry : (ts rest : List Tok) → mark the.CloseBrace ts rest → (e : EntryView) (other : List Tok) → IsEntryItem e ts other → ⊥
+unfolding entry_at place_at
+no_entry ts rest is e other h = let bad = sym (ap entry_at is) ∙ item_again e ts other h in absurd cc
+
+-- where no `}` comes next there is no end
+pub open_yet : (ts : List Tok) → begins_with the.CloseBrace ts ≡ false → (last : List Tok) → mark the.CloseBrace ts last → ⊥
+open_yet ts e last h = let bad = sym e ∙ begins_again the.CloseBrace ts last h in cc
+
+-- ---- entries
+
+abbrev Inside : List Tok → List EntryView → List Tok → Type 0
+Inside ts es last = (mark the.OpenBrace ▸ Items IsEntryItem (mark the.CloseBrace) es) ts last
+
+-- the entries so far, none of which stands twice, and the set of their places
+pub record EntriesSoFar (ts : List Tok) (es : List EntryView) (rest : List Tok) (seen : Seen) : Type 0 where
+  pub items : SoFar IsEntryItem (mark the.CloseBrace) (Inside ts) es rest
+  pub once : NoneTwice (map place_of es)
+  pub places : (p : PlaceView) → has seen p ≡ list_any (same_place p) (map place_of es)
+
+pub no_entry_yet : (ts rest : List Tok) (seen : Seen) → mark_at the.OpenBrace ts ≡ Some rest → ((p : PlaceView) → has seen p ≡ false) → EntriesSoFar ts [] rest seen
+no_entry_yet ts rest seen e empty =
+    let is = mark_takes the.OpenBrace ts rest e in
+    record {
+      items = none_behind IsEntryItem (mark the.CloseBrace) (mark the.OpenBrace) ts rest is (λ other h. ap rest_of (sym h ∙ is));
+      once = tt;
+      places = empty;
+    }
+
+pub no_brace : (ts : List Tok) → mark_at the.OpenBrace ts ≡ None → (es : List EntryView) (last : List Tok) → IsInitial es ts last → ⊥
+no_brace ts e es last h = let bad = sym e ∙ mark_again the.OpenBrace ts h.0.0 h.0.1 in cc
+
+-- a place and a value are an entry
+whole_entry : (ts after others : List Tok) (p : PlaceView) (n : ℕ) → place_at ts ≡ Some (p, after) → entry_value_at after ≡ Some (n, others) → entry_at ts ≡ Some (record { place = p; value = n }, others)
+unfolding entry_at
+whole_entry ts after others p n e f = rw (e, f) refl
+
+no_place : (ts : List Tok) → place_at ts ≡ None → entry_at ts ≡ None
+unfolding entry_at
+no_place ts e = rw e refl
+
+no_value : (ts after : List Tok) (p : PlaceView) → place_at ts ≡ Some (p, after) → entry_value_at after ≡ None → entry_at ts ≡ None
+unfolding entry_at
+no_value ts after p e f = rw (e, f) refl
+
+not_back : (b : Bool) → true ≡ not b → b ≡ false
+not_back true e = absurd cc
+not_back false e = refl
+
+not_true_back : (b : Bool) → false ≡ not b → b ≡ true
+not_true_back true e = refl
+not_true_back false e = absurd cc
+
+or_none : (a b : Bool) → (a || b) ≡ (a || (b || false))
+or_none a true = refl
+or_none a false = refl
+
+added_place : (es : List EntryView) (e : EntryView) (old new : Seen) → ((p : PlaceView) → has old p ≡ list_any (same_place p) (map place_of es)) → ((p : PlaceView) → has new p ≡ (has old p || same_place p e.place))
+    → (p : PlaceView) → has new p ≡ list_any (same_place p) (map place_of (es ++ e ∷ []))
+added_place es e old new s a p =
+    let ps = map place_of es in
+    a p ∙ ap (λ (b : Bool). b || same_place p e.place) (s p) ∙ or_none (list_any (same_place p) ps) (same_place p e.place) ∙ sym (list_any-append (same_place p) ps (e.place ∷ []))
+    ∙ ap (list_any (same_place p)) (sym (map_push place_of es e))
+
+pub one_more_entry : (ts : List Tok) (es : List EntryView) (rest : List Tok) (old new : Seen) (p : PlaceView) (n : ℕ) (after others : List Tok) → EntriesSoFar ts es rest old → begins_with the.CloseBrace rest ≡ false
+    → place_at rest ≡ Some (p, after) → true ≡ not (has old p) → ((q : PlaceView) → has new q ≡ (has old q || same_place q p)) → entry_value_at after ≡ Some (n, others)
+    → EntriesSoFar ts (es ++ record { place = p; value = n } ∷ []) others new
+one_more_entry ts es rest old new p n after others s apart is new_place added value =
+    let e : EntryView = record { place = p; value = n } in
+    let only = only_read IsEntryItem entry_at entries_are_read rest (e, others) (whole_entry rest after others p n is value) in
+    record {
+      items = one_more IsEntryItem (mark the.CloseBrace) (Inside ts) es rest e others s.items (open_yet rest apart) only;
+      once = rw (map_push place_of es e) (fresh (map place_of es) p s.once (sym (s.places p) ∙ not_back (has old p) new_place));
+      places = added_place es e old new s.places added;
+    }
+
+first_place : (ts : List Tok) (p : PlaceView) (after : List Tok) → begins_with the.CloseBrace ts ≡ false → place_at ts ≡ Some (p, after) → (es : List EntryView) (last : List Tok) → Items IsEntryItem (mark the.CloseBrace) es ts last
+    → (fs : List PlaceView) × (map place_of es ≡ p ∷ fs)
+first_place ts p after apart is es last (end e) = absurd (open_yet ts apart last e)
+first_place ts p after apart is es last (item {x = x} {xs = xs} {others = others} h l) =
+    (map place_of xs, ap (λ (z : PlaceView). z ∷ map place_of xs) (begins_with_place x ts others h (p, after) is))
+
+pub place_again_stands : (ts : List Tok) (es : List EntryView) (rest : List Tok) (seen : Seen) (p : PlaceView) (after : List Tok) → EntriesSoFar ts es rest seen → begins_with the.CloseBrace rest ≡ false
+    → place_at rest ≡ Some (p, after) → false ≡ not (has seen p) → (fs : List EntryView) (last : List Tok) → IsInitial fs ts last → ⊥
+place_again_stands ts es rest seen p after s apart is old fs last h =
+    let b = s.items.back fs last h.0 in
+    let first = first_place rest p after apart is b.0 last b.2 in
+    let parts : map place_of fs ≡ map place_of es ++ p ∷ first.0 = ap (map place_of) b.1 ∙ map-append place_of es b.0 ∙ ap (λ (z : List PlaceView). map place_of es ++ z) first.1 in
+    twice (map place_of es) first.0 p (sym (s.places p) ∙ not_true_back (has seen p) old) (subst NoneTwice parts h.1)
+
+entries_stop : (ts : List Tok) (es : List EntryView) (rest : List Tok) (seen : Seen) → EntriesSoFar ts es rest seen → begins_with the.CloseBrace rest ≡ false → entry_at rest ≡ None
+    → (fs : List EntryView) (last : List Tok) → IsInitial fs ts last → ⊥
+entries_stop ts es rest seen s apart none fs last h =
+    refused IsEntryItem (mark the.CloseBrace) (Inside ts) es rest s.items (open_yet rest apart) (none_read IsEntryItem entry_at entries_are_read rest none) fs last h.0
+
+pub no_place_stands : (ts : List Tok) (es : List EntryView) (rest : List Tok) (seen : Seen) → EntriesSoFar ts es rest seen → begins_with the.CloseBrace rest ≡ false → place_at rest ≡ None
+    → (fs : List EntryView) (last : List Tok) → IsInitial fs ts last → ⊥
+no_place_stands ts es rest seen s apart none = entries_stop ts es rest seen s apart (no_place rest none)
+
+pub no_value_stands : (ts : List Tok) (es : List EntryView) (rest : List Tok) (seen : Seen) (p : PlaceView) (after : List Tok) → EntriesSoFar ts es rest seen → begins_with the.CloseBrace rest ≡ false
+    → place_at rest ≡ Some (p, after) → entry_value_at after ≡ None → (fs : List EntryView) (last : List Tok) → IsInitial fs ts last → ⊥
+no_value_stands ts es rest seen p after s apart is none = entries_stop ts es rest seen s apart (no_value rest after p is none)
+
+-- the entries end
+pub entries_end : (ts : List Tok) (es : List EntryView) (rest last : List Tok) (seen : Seen) → EntriesSoFar ts es rest seen → mark_at the.CloseBrace rest ≡ Some last → Only IsInitial es ts last
+entries_end ts es rest last seen s e =
+    let is = mark_takes the.CloseBrace rest last e in
+    let d = closed IsEntryItem (mark the.CloseBrace) (Inside ts) es rest last s.items is (λ other h. ap rest_of (sym h ∙ is)) (no_entry rest last is) in
+    ((d.0, s.once), λ fs other h. d.1 fs other h.0)

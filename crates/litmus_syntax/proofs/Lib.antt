@@ -1,0 +1,11 @@
+pub mod Options
+pub mod ItemLaws
+pub mod PlaceLaws
+pub mod SeenLaws
+pub mod EntryLaws
+pub mod CodeLaws
+pub mod CellLaws
+pub mod HeaderLaws
+pub mod SignLaws
+pub mod BodyLaws
+pub mod Example

@@ -1,0 +1,118 @@
+-- Places that stand already.
+use Rattle.std.proofs.Common.{◌≡◌, ◌≢◌, ◌∙◌, ◌==◌, ◌||◌, ◌&&◌, ℕ, Bool, true, false, cond, List, [], ◌∷◌, ◌++◌, refl, sym, ap, subst, inl, inr, arith}
+use Rattle.std.specs.Prelude.{if◌then◌else◌}
+use Rattle.std.specs.List.{list_any}
+use Rattle.std.specs.Str.{bytes_eq}
+use Rattle.std.specs.Global.{Vec}
+use Rattle.std.proofs.lemmas.List.Folds.{list_any-append}
+use Rattle.litmus_syntax.specs.declared.seen.Seen.{Seen}
+use Rattle.std.proofs.lemmas.Bool.{or_cases, eqb-true}
+use Rattle.std.proofs.lemmas.Bool.Decides.{nat_tests}
+use Rattle.std.proofs.lemmas.Slice.Eq.{bytes_eq-Decides}
+use Rattle.tso_program.specs.declared.instruction.Reg.{Reg}
+use Rattle.tso_program.specs.declared.instruction.Reg.TheVariants.{Eax, Ebx, Ecx, Edx, Esi, Edi}
+use Rattle.tso_program.specs.Instructions as instructions
+use Rattle.litmus_syntax.specs.Views.{PlaceView, Location, Register}
+use Rattle.litmus_syntax.specs.Grammar.{IsNoneOf, NoneTwice}
+use Rattle.litmus_syntax.specs.Places.{same_place, has}
+
+-- ---- whether two places are one
+
+reg_back : ℕ → Reg
+reg_back n = if n == 0 then Eax else if n == 1 then Ebx else if n == 2 then Ecx else if n == 3 then Edx else if n == 4 then Esi else Edi
+
+reg_again : (r : Reg) → reg_back (instructions.number r) ≡ r
+unfolding reg_back
+reg_again Eax = refl
+reg_again Ebx = refl
+reg_again Ecx = refl
+reg_again Edx = refl
+reg_again Esi = refl
+reg_again Edi = refl
+
+both : (a b : Bool) → (a && b) ≡ true → (a ≡ true) × (b ≡ true)
+both true b e = (refl, e)
+both false b e = absurd cc
+
+pub same_place_is : (p q : PlaceView) → same_place p q ≡ true → p ≡ q
+same_place_is (Location x) (Location y) e = ap Location ((bytes_eq-Decides x y).0 e)
+same_place_is (Location x) (Register u s) e = absurd cc
+same_place_is (Register t r) (Location y) e = absurd cc
+same_place_is (Register t r) (Register u s) e =
+    let h = both (t == u) (instructions.number r == instructions.number s) e in
+    let thread : t ≡ u = eqb-true t u h.0 in
+    let reg : r ≡ s = sym (reg_again r) ∙ ap reg_back (eqb-true (instructions.number r) (instructions.number s) h.1) ∙ reg_again s in
+    ap (λ (n : ℕ). Register n r) thread ∙ ap (Register u) reg
+
+itself : (n : ℕ) → (n == n) ≡ true
+itself n = grind (arith, nat_tests)
+
+pub same_place_itself : (p : PlaceView) → same_place p p ≡ true
+same_place_itself (Location x) = (bytes_eq-Decides x x).1 refl
+same_place_itself (Register t r) = rw (itself t, itself (instructions.number r)) refl
+
+pub same_place_not : (p q : PlaceView) → same_place p q ≡ false → q ≢ p
+same_place_not p q e is = let bad = sym e ∙ ap (same_place p) is ∙ same_place_itself p in cc
+
+-- ---- lists of places
+
+neither : (a b : Bool) → (a || b) ≡ false → (a ≡ false) × (b ≡ false)
+neither true b e = absurd cc
+neither false b e = (refl, e)
+
+none_more : (q : PlaceView) (qs : List PlaceView) (p : PlaceView) → IsNoneOf q qs → q ≢ p → IsNoneOf q (qs ++ p ∷ [])
+none_more q [] p h other = (other, tt)
+none_more q (x ∷ qs) p h other = (h.0, none_more q qs p h.1 other)
+
+-- a place that does not stand yet may stand
+pub fresh : (ps : List PlaceView) (p : PlaceView) → NoneTwice ps → list_any (same_place p) ps ≡ false → NoneTwice (ps ++ p ∷ [])
+fresh [] p h e = (tt, tt)
+fresh (q ∷ qs) p h e =
+    let n = neither (same_place p q) (list_any (same_place p) qs) e in
+    (none_more q qs p h.0 (same_place_not p q n.0), fresh qs p h.1 n.1)
+
+among : (q : PlaceView) (qs zs : List PlaceView) → IsNoneOf q (qs ++ q ∷ zs) → ⊥
+among q [] zs h = h.0 refl
+among q (x ∷ qs) zs h = among q qs zs h.1
+
+-- a place that stands may not stand again
+pub twice : (ps zs : List PlaceView) (p : PlaceView) → list_any (same_place p) ps ≡ true → NoneTwice (ps ++ p ∷ zs) → ⊥
+twice [] zs p e h = cc
+twice (q ∷ qs) zs p e h =
+    elim (or_cases (same_place p q) (list_any (same_place p) qs) e) [
+      | inl f ↦ among p qs zs (subst (λ (x : PlaceView). IsNoneOf x (qs ++ p ∷ zs)) (sym (same_place_is p q f)) h.0)
+      | inr f ↦ twice qs zs p f h.1
+    ]
+
+-- ---- adding a place to the set
+
+absorbed : (a b : Bool) → (b ≡ true → a ≡ true) → a ≡ (a || b)
+absorbed true b h = refl
+absorbed false true h = absurd (let bad : false ≡ true = h refl in cc)
+absorbed false false h = refl
+
+or_none : (a b : Bool) → (a || (b || false)) ≡ (a || b)
+or_none a true = refl
+or_none a false = refl
+
+or_false : (a : Bool) → a ≡ (a || false)
+or_false true = refl
+or_false false = refl
+
+name_among : (keys new : List (Vec ℕ)) (own : Vec ℕ) (b : Bool) → list_any (λ q. bytes_eq own.items q.items) keys ≡ b → new ≡ cond b keys (keys ++ own ∷ []) → (y : List ℕ)
+    → list_any (λ k. bytes_eq y k.items) new ≡ (list_any (λ k. bytes_eq y k.items) keys || bytes_eq y own.items)
+name_among keys new own true e is y =
+    rw is (absorbed (list_any (λ k. bytes_eq y k.items) keys) (bytes_eq y own.items)
+    (λ s. let same : own.items ≡ y = sym ((bytes_eq-Decides y own.items).0 s) in subst (λ (z : List ℕ). list_any (λ k. bytes_eq z k.items) keys ≡ true) same e))
+name_among keys new own false e is y =
+    rw is (list_any-append (λ k. bytes_eq y k.items) keys (own ∷ []) ∙ or_none (list_any (λ k. bytes_eq y k.items) keys) (bytes_eq y own.items))
+
+pub name_added : (old new : Seen) (own : Vec ℕ) (name : List ℕ) → own.items ≡ name → new.registers.keys ≡ old.registers.keys
+    → new.names.keys ≡ cond (list_any (λ q. bytes_eq own.items q.items) old.names.keys) old.names.keys (old.names.keys ++ own ∷ []) → (p : PlaceView) → has new p ≡ (has old p || same_place p (Location name))
+name_added old new own name is kept keys (Location y) =
+    name_among old.names.keys new.names.keys own (list_any (λ q. bytes_eq own.items q.items) old.names.keys) refl keys y ∙ ap (λ (z : List ℕ). list_any (λ k. bytes_eq y k.items) old.names.keys || bytes_eq y z) is
+name_added old new own name is kept keys (Register t r) =
+    ap (list_any (λ k. t == k.0 && instructions.number r == k.1)) kept ∙ or_false (list_any (λ k. t == k.0 && instructions.number r == k.1) old.registers.keys)
+
+name_known : (keys : List (Vec ℕ)) (x y : List ℕ) → x ≡ y → list_any (λ k. bytes_eq x k.items) keys ≡ list_any (λ k. bytes_eq y k.items) keys
+name_known keys x y e = ap (λ (z : List ℕ). list_any (λ k. bytes_eq z k.items) keys) e

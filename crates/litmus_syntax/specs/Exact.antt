@@ -1,0 +1,24 @@
+-- Readers that are exact: they read what the grammar relates to the tokens, that alone, and refuse only where it relates nothing.
+use Rattle.std.specs.Prelude.{◌≡◌, ℕ, List, map, Result, Ok, Err, MatchOption}
+use Rattle.text_tokens.specs.Tokens.{Tok}
+use Rattle.litmus_syntax.specs.declared.fault.SyntaxFault.{SyntaxFault}
+use Rattle.litmus_syntax.specs.declared.fault.SyntaxFault.TheVariants.{Refused, OutOfMemory}
+use Rattle.litmus_syntax.specs.declared.formula.Signs.{Signs}
+use Rattle.litmus_syntax.specs.Views.{SignView, sign_at_view}
+use Rattle.litmus_syntax.specs.Grammar.{IsSigns}
+
+-- What was read begins the tokens, and nothing else does; nothing was read only if nothing begins them, or if memory ran out.
+abbrev pub ReadsNone : {Y : Type 0} → (Y → List Tok → List Tok → Type 0) → SyntaxFault → List Tok → Type 0
+ReadsNone R OutOfMemory ts = Unit {0}
+ReadsNone {Y} R (Refused r) ts = (y : Y) (rest : List Tok) → R y ts rest → ⊥
+
+abbrev pub Reads : {X Y : Type 0} → (Y → List Tok → List Tok → Type 0) → (X → Y) → (X → List Tok) → Result X SyntaxFault → List Tok → Type 0
+Reads {X} {Y} R view after (Ok x) ts = R (view x) ts (after x) × ((y : Y) (rest : List Tok) → R y ts rest → (y ≡ view x) × (rest ≡ after x))
+Reads R view after (Err e) ts = ReadsNone R e ts
+
+-- The signs read are those of the tokens, and no others; a refusal says that the tokens are none of signs.
+abbrev pub ReadsSigns : ℕ → Signs → List Tok → Type 0
+ReadsSigns threads signs ts =
+    MatchOption signs.refusal
+    (IsSigns threads (map sign_at_view signs.signs.items) ts × ((ss : List SignView) → IsSigns threads ss ts → ss ≡ map sign_at_view signs.signs.items))
+    (λ refusal. (ss : List SignView) → IsSigns threads ss ts → ⊥)

@@ -1,0 +1,7 @@
+pub mod Words
+pub mod Views
+pub mod Phrases
+pub mod Grammar
+pub mod Places
+pub mod Reading
+pub mod Exact

@@ -1,0 +1,84 @@
+-- What is read, without where its names lie in memory.
+use Rattle.std.specs.Prelude.{ℕ, List, map, Option, option_map}
+use Rattle.tso_program.specs.declared.instruction.Reg.{Reg}
+use Rattle.litmus_syntax.specs.declared.place.Place.{Place}
+use Rattle.litmus_syntax.specs.declared.place.Place.TheVariants as place
+use Rattle.litmus_syntax.specs.declared.entry.Entry.{Entry}
+use Rattle.litmus_syntax.specs.declared.code.Code.{Code}
+use Rattle.litmus_syntax.specs.declared.code.Code.TheVariants as code
+use Rattle.litmus_syntax.specs.declared.body.Body.{Body}
+use Rattle.litmus_syntax.specs.declared.formula.Sign.{Sign}
+use Rattle.litmus_syntax.specs.declared.formula.Sign.TheVariants as sign
+use Rattle.litmus_syntax.specs.declared.formula.SignAt.{SignAt}
+use Rattle.std.specs.Global.{Vec}
+
+-- a location by its name; or a thread's register
+pub data PlaceView : Type 0 where
+  Location : List ℕ → PlaceView
+  Register : ℕ → Reg → PlaceView
+
+-- an initial value
+pub record EntryView : Type 0 where
+  pub place : PlaceView
+  pub value : ℕ
+
+-- an instruction, whose location is a name
+pub data CodeView : Type 0 where
+  LoadImm : Reg → ℕ → CodeView
+  Copy : Reg → Reg → CodeView
+  Load : Reg → List ℕ → CodeView
+  StoreImm : List ℕ → ℕ → CodeView
+  Store : List ℕ → Reg → CodeView
+  Fence : CodeView
+
+-- a cell of the rows: nothing, or an instruction
+abbrev pub CellView : Type 0
+CellView = Option CodeView
+
+-- what stands before the condition
+pub record BodyView : Type 0 where
+  pub entries : List EntryView
+  pub threads : ℕ
+  pub rows : List (List CellView)
+
+-- a sign of a formula
+pub data SignView : Type 0 where
+  Atom : PlaceView → ℕ → SignView
+  True : SignView
+  And : SignView
+  Open : SignView
+  Close : SignView
+
+abbrev pub place_view : Place → PlaceView
+place_view (place.Location x) = Location x.now
+place_view (place.Register t r) = Register t r
+
+abbrev pub entry_view : Entry → EntryView
+entry_view e = record { place = place_view e.place; value = e.value }
+
+abbrev pub code_view : Code → CodeView
+code_view (code.LoadImm r n) = LoadImm r n
+code_view (code.Copy r s) = Copy r s
+code_view (code.Load r x) = Load r x.now
+code_view (code.StoreImm x n) = StoreImm x.now n
+code_view (code.Store x r) = Store x.now r
+code_view code.Fence = Fence
+
+abbrev pub cell_view : Option Code → CellView
+cell_view cell = option_map code_view cell
+
+abbrev pub row_view : Vec (Option Code) → List CellView
+row_view row = map cell_view row.items
+
+abbrev pub body_view : Body → BodyView
+body_view b = record { entries = map entry_view b.entries.items; threads = b.threads; rows = map row_view b.rows.items }
+
+abbrev pub sign_view : Sign → SignView
+sign_view (sign.Atom p n) = Atom (place_view p) n
+sign_view sign.True = True
+sign_view sign.And = And
+sign_view sign.Open = Open
+sign_view sign.Close = Close
+
+abbrev pub sign_at_view : SignAt → SignView
+sign_at_view s = sign_view s.sign

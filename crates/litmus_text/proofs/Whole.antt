@@ -1,0 +1,152 @@
+-- Tokens that the grammar relates to something are tokens each.
+use Rattle.std.proofs.Common.{◌≡◌, ℕ, ◌+◌, List, [], ◌∷◌, ◌⊎◌, inl, inr, Some, None, refl, sym, subst}
+use Rattle.text_tokens.specs.declared.token.Mark.{Mark}
+use Rattle.text_tokens.specs.declared.token.Mark.TheVariants as the
+use Rattle.text_tokens.specs.Tokens.{Tok, Word, Number, Sign, IsWhole}
+use Rattle.tso_program.specs.declared.instruction.Reg.{Reg}
+use Rattle.conditions.specs.declared.atom.Atom.{Atom as Atoms}
+use Rattle.conditions.specs.Tree.{Tree}
+use Rattle.litmus_text.specs.Texts.{AreParts}
+use Rattle.litmus_syntax.specs.Views.{PlaceView, Location, Register, EntryView, CodeView, LoadImm, Copy, Load, StoreImm, Store, Fence, CellView, BodyView, SignView, Atom, True, And, Open, Close}
+use Rattle.litmus_syntax.specs.Words.{column_name}
+use Rattle.std.specs.Prelude.{codes}
+use Rattle.litmus_syntax.specs.Phrases.{Phrase, ◌▸◌, ◌or◌, mark, word, number, Items, end, item}
+use Rattle.litmus_syntax.specs.Grammar.{register, name, memory, IsPlace, IsEntry, before_brace, IsEntryItem, IsInitial, MoreColumns, last, column, IsHeader, immediate, mov, mfence, IsCode, IsCell, IsNextCell, IsCells, IsRow, before_condition, IsRows, IsBody, IsSign, the_end, IsSigns}
+
+-- where each token behind a phrase is one, each token of the phrase is one too
+abbrev KeepsWhole : Phrase → Type 0
+KeepsWhole p = (ts rest : List Tok) → p ts rest → IsWhole rest → IsWhole ts
+
+whole_word : (w : List ℕ) (ts rest : List Tok) → ts ≡ Word w ∷ rest → IsWhole rest → IsWhole ts
+whole_word w ts rest e h = subst IsWhole (sym e) h
+
+whole_number : (n : ℕ) (ts rest : List Tok) → ts ≡ Number n ∷ rest → IsWhole rest → IsWhole ts
+whole_number n ts rest e h = subst IsWhole (sym e) h
+
+whole_mark : (m : Mark) (ts rest : List Tok) → ts ≡ Sign m ∷ rest → IsWhole rest → IsWhole ts
+whole_mark m ts rest e h = subst IsWhole (sym e) h
+
+then : (p q : Phrase) → KeepsWhole p → KeepsWhole q → KeepsWhole (p ▸ q)
+then p q keeps_p keeps_q ts rest h whole = keeps_p ts h.0 h.1 (keeps_q h.0 rest h.2 whole)
+
+either : (p q : Phrase) → KeepsWhole p → KeepsWhole q → KeepsWhole (p or q)
+either p q keeps_p keeps_q ts rest (inl h) whole = keeps_p ts rest h whole
+either p q keeps_p keeps_q ts rest (inr h) whole = keeps_q ts rest h whole
+
+items : {X : Type 0} (p : X → Phrase) (q : Phrase) → ((x : X) → KeepsWhole (p x)) → KeepsWhole q → (xs : List X) → KeepsWhole (Items p q xs)
+items p q keeps_p keeps_q [] ts rest (end h) whole = keeps_q ts rest h whole
+items p q keeps_p keeps_q (x ∷ xs) ts rest (item {others = us} h more) whole = keeps_p x ts us h (items p q keeps_p keeps_q xs us rest more whole)
+
+-- ---- phrases of one token
+
+a_word : (w : List ℕ) → KeepsWhole (word w)
+a_word w ts rest e whole = whole_word w ts rest e whole
+
+a_number : (n : ℕ) → KeepsWhole (number n)
+a_number n ts rest e whole = whole_number n ts rest e whole
+
+a_mark : (m : Mark) → KeepsWhole (mark m)
+a_mark m ts rest e whole = whole_mark m ts rest e whole
+
+a_register : (r : Reg) → KeepsWhole (register r)
+a_register r ts rest h whole = whole_word h.0 ts rest h.2 whole
+
+a_name : (x : List ℕ) → KeepsWhole (name x)
+a_name x ts rest h whole = whole_word x ts rest h.1 whole
+
+a_mov : KeepsWhole mov
+a_mov ts rest h whole = whole_word h.0 ts rest h.2 whole
+
+a_mfence : KeepsWhole mfence
+a_mfence ts rest h whole = whole_word h.0 ts rest h.2 whole
+
+nothing : (ts rest : List Tok) → ts ≡ rest → IsWhole rest → IsWhole ts
+nothing ts rest e whole = subst IsWhole (sym e) whole
+
+-- ---- the grammar's phrases
+
+a_memory : (x : List ℕ) → KeepsWhole (memory x)
+a_memory x = then (mark the.OpenBracket) (name x ▸ mark the.CloseBracket) (a_mark the.OpenBracket) (then (name x) (mark the.CloseBracket) (a_name x) (a_mark the.CloseBracket))
+
+a_place : (p : PlaceView) → KeepsWhole (IsPlace p)
+a_place (Location x) = either (name x) (memory x) (a_name x) (a_memory x)
+a_place (Register t r) = then (number t) (mark the.Colon ▸ register r) (a_number t) (then (mark the.Colon) (register r) (a_mark the.Colon) (a_register r))
+
+valued : (p : PlaceView) (n : ℕ) → KeepsWhole (IsPlace p ▸ mark the.Equals ▸ number n)
+valued p n = then (IsPlace p) (mark the.Equals ▸ number n) (a_place p) (then (mark the.Equals) (number n) (a_mark the.Equals) (a_number n))
+
+a_brace : KeepsWhole before_brace
+a_brace ts rest h whole = nothing ts rest h.0 whole
+
+an_entry : (e : EntryView) → KeepsWhole (IsEntryItem e)
+an_entry e = then (IsEntry e) (mark the.Semicolon or before_brace) (valued e.place e.value) (either (mark the.Semicolon) before_brace (a_mark the.Semicolon) a_brace)
+
+initial : (es : List EntryView) → KeepsWhole (IsInitial es)
+initial es ts rest h whole =
+    then (mark the.OpenBrace) (Items IsEntryItem (mark the.CloseBrace) es) (a_mark the.OpenBrace) (items IsEntryItem (mark the.CloseBrace) an_entry (a_mark the.CloseBrace) es) ts rest h.0 whole
+
+columns : (k threads : ℕ) → KeepsWhole (MoreColumns k threads)
+columns k threads ts rest (last e h) whole = a_mark the.Semicolon ts rest h whole
+columns k threads ts rest (column {others = us} h more) whole =
+    then (mark the.Bar) (word (column_name k)) (a_mark the.Bar) (a_word (column_name k)) ts us h (columns (k + 1) threads us rest more whole)
+
+a_header : (threads : ℕ) → KeepsWhole (IsHeader threads)
+a_header threads = then (word (column_name 0)) (MoreColumns 1 threads) (a_word (column_name 0)) (columns 1 threads)
+
+an_immediate : (n : ℕ) → KeepsWhole (immediate n)
+an_immediate n = either (mark the.Dollar ▸ number n) (number n) (then (mark the.Dollar) (number n) (a_mark the.Dollar) (a_number n)) (a_number n)
+
+operands : (p q : Phrase) → KeepsWhole p → KeepsWhole q → KeepsWhole (mov ▸ p ▸ mark the.Comma ▸ q)
+operands p q keeps_p keeps_q = then mov (p ▸ mark the.Comma ▸ q) a_mov (then p (mark the.Comma ▸ q) keeps_p (then (mark the.Comma) q (a_mark the.Comma) keeps_q))
+
+an_instruction : (c : CodeView) → KeepsWhole (IsCode c)
+an_instruction (LoadImm r n) = operands (register r) (immediate n) (a_register r) (an_immediate n)
+an_instruction (Copy r s) = operands (register r) (register s) (a_register r) (a_register s)
+an_instruction (Load r x) = operands (register r) (memory x) (a_register r) (a_memory x)
+an_instruction (StoreImm x n) = operands (memory x) (immediate n) (a_memory x) (an_immediate n)
+an_instruction (Store x r) = operands (memory x) (register r) (a_memory x) (a_register r)
+an_instruction Fence = a_mfence
+
+a_cell : (c : CellView) → KeepsWhole (IsCell c)
+a_cell None ts rest h whole = nothing ts rest h.0 whole
+a_cell (Some c) ts rest h whole = an_instruction c ts rest h.0 whole
+
+a_next_cell : (c : CellView) → KeepsWhole (IsNextCell c)
+a_next_cell c = then (mark the.Bar) (IsCell c) (a_mark the.Bar) (a_cell c)
+
+cells : (cs : List CellView) → KeepsWhole (IsCells cs)
+cells [] ts rest h whole = absurd h
+cells (c ∷ cs) ts rest h whole =
+    then (IsCell c) (Items IsNextCell (mark the.Semicolon) cs) (a_cell c) (items IsNextCell (mark the.Semicolon) a_next_cell (a_mark the.Semicolon) cs) ts rest h whole
+
+a_row : (threads : ℕ) (cs : List CellView) → KeepsWhole (IsRow threads cs)
+a_row threads cs ts rest h whole = cells cs ts rest h.1 whole
+
+a_condition : KeepsWhole before_condition
+a_condition ts rest h whole = nothing ts rest h.0 whole
+
+rows : (threads : ℕ) (rs : List (List CellView)) → KeepsWhole (IsRows threads rs)
+rows threads rs = items (IsRow threads) before_condition (a_row threads) a_condition rs
+
+body_whole : (b : BodyView) → KeepsWhole (IsBody b)
+body_whole b ts rest h whole =
+    then (IsInitial b.entries) (IsHeader b.threads ▸ IsRows b.threads b.rows) (initial b.entries)
+    (then (IsHeader b.threads) (IsRows b.threads b.rows) (a_header b.threads) (rows b.threads b.rows)) ts rest h.0 whole
+
+a_sign : (threads : ℕ) (s : SignView) → KeepsWhole (IsSign threads s)
+a_sign threads (Atom p n) ts rest h whole = valued p n ts rest h.1 whole
+a_sign threads True ts rest h whole = a_word (codes "true") ts rest h whole
+a_sign threads And ts rest h whole = a_mark the.And ts rest h whole
+a_sign threads Open ts rest h whole = a_mark the.OpenParen ts rest h whole
+a_sign threads Close ts rest h whole = a_mark the.CloseParen ts rest h whole
+
+an_end : KeepsWhole the_end
+an_end ts rest h whole = subst IsWhole (sym h.0) tt
+
+signs_whole : (threads : ℕ) (ss : List SignView) (ts : List Tok) → IsSigns threads ss ts → IsWhole ts
+signs_whole threads ss ts h =
+    then (word (codes "exists")) (Items (IsSign threads) the_end ss) (a_word (codes "exists")) (items (IsSign threads) the_end (a_sign threads) an_end ss) ts [] h tt
+
+-- tokens with all their parts are tokens each
+pub parts_whole : (tokens : List Tok) (body : BodyView) (signs : List SignView) (f : Tree Atoms) → AreParts tokens body signs f → IsWhole tokens
+parts_whole tokens body signs f parts = body_whole body tokens parts.others parts.begins (signs_whole body.threads signs parts.others parts.ends)

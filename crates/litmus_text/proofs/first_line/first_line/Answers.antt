@@ -1,0 +1,24 @@
+use Rattle.std.proofs.Common.{◌≡◌, ℕ, List, Some, None, sym, ap, ◌∙◌}
+use Rattle.litmus_text.specs.FirstLineReading.{heading_name, line_at}
+use Rattle.litmus_text.proofs.FirstLineLaws.{first_takes, first_again, none_or, same_parts, same_line}
+use Rattle.litmus_text.proofs.first_line.first_line.Goals as goal
+
+pub returns-in_default-clause-only : goal.returns-in_default-clause-only
+returns-in_default-clause-only c name rest h =
+    let a = first_again c.args.bytes.now name rest h in none_or (line_at c.args.bytes.now) (a.0, rest) c.in_default.ensures a.1
+
+pub returns-in-Some-heading_name-clause-found : goal.returns-in-Some-heading_name-clause-found
+returns-in-Some-heading_name-clause-found c =
+    first_takes c.args.bytes.now c.in-Some.line.now c.in-Some.rest.now c.in-Some-heading_name.name.now (sym c.in-Some.ensures) (sym c.in-Some-heading_name.ensures)
+
+pub returns-in-Some-heading_name-clause-only : goal.returns-in-Some-heading_name-clause-only
+returns-in-Some-heading_name-clause-only c name rest h =
+    let a = first_again c.args.bytes.now name rest h in
+    let p = same_line (line_at c.args.bytes.now) c.in-Some.line.now a.0 c.in-Some.rest.now rest (sym c.in-Some.ensures) a.1 in
+    (same_parts c.in-Some.line.now a.0 c.in-Some-heading_name.name.now name p.0 (sym c.in-Some-heading_name.ensures) a.2, p.1)
+
+pub returns-in-None-clause-only : goal.returns-in-None-clause-only
+returns-in-None-clause-only c name rest h =
+    let a = first_again c.args.bytes.now name rest h in
+    let p = same_line (line_at c.args.bytes.now) c.in-Some.line.now a.0 c.in-Some.rest.now rest (sym c.in-Some.ensures) a.1 in
+    none_or (heading_name c.in-Some.line.now) name c.in-None.ensures (ap heading_name p.0 ∙ a.2)

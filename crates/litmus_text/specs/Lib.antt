@@ -1,0 +1,9 @@
+pub mod Names
+pub mod Places
+pub mod FirstLine
+pub mod FirstLineReading
+pub mod Meaning
+pub mod Outcomes
+pub mod Faults
+pub mod Texts
+pub mod Reading

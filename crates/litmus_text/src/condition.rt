@@ -1,0 +1,78 @@
+//! The condition of a text.
+ghost use Rattle.std.specs.Prelude.{◌≡◌, map, IfOk};
+ghost use Rattle.conditions.specs.Tokens.{sign_of as token_sign};
+ghost use Rattle.litmus_syntax.specs.Views.{sign_view, sign_at_view};
+ghost use Rattle.litmus_text.specs.Meaning.{sign_of};
+ghost use Rattle.litmus_text.specs.Reading.{ReadsFormula};
+
+use crate::fault::ReadFault;
+use crate::lines::fault_at;
+use crate::names::NameTable;
+use crate::program::atom;
+use conditions::{Formula, FormulaFault, Token};
+use litmus_syntax::{Part, Refusal, Sign, SignAt, Signs};
+use std::alloc::{AllocError, Global};
+use text_tokens::Tokens;
+
+/// A sign of the condition, with its location's number.
+fn token(names: &NameTable, sign: Sign<'_>) -> Token
+    ensures { token_sign result ≡ sign_of names.now.locations (sign_view sign.entry) }
+{
+    match sign {
+        Sign::Atom(place, value) => Token::Atom(atom(names, place, value)),
+        Sign::True => Token::Const(true),
+        Sign::And => Token::And,
+        Sign::Open => Token::Open,
+        Sign::Close => Token::Close,
+    }
+}
+
+/// The signs of the condition, with their locations' numbers.
+fn numbered(
+    alloc: Global,
+    names: &NameTable,
+    signs: &[SignAt<'_>],
+) -> Result<Vec<Token>, AllocError>
+    ensures { IfOk result (λ tokens. map token_sign tokens.items ≡ map (sign_of names.now.locations) (map sign_at_view signs.now)) }
+{
+    let mut tokens = Vec::new(alloc);
+    for sign in signs {
+        tokens.push(token(names, sign.sign))?;
+    }
+    Ok(tokens)
+}
+
+/// The refusal of the sign with this index, or of what follows the signs.
+fn refusal_at(signs: &Signs<'_>, index: usize) -> Refusal {
+    let end = Refusal {
+        part: Part::Ended,
+        left: 0,
+    };
+    match signs.signs.as_slice().get(index) {
+        Some(sign) => Refusal {
+            part: Part::Condition,
+            left: sign.left,
+        },
+        None => signs.refusal.unwrap_or(end),
+    }
+}
+
+/// The formula that the signs spell. Where they spell none, the first token that cannot stand where it does is refused.
+pub(crate) fn read_formula(
+    alloc: Global,
+    tokens: &Tokens,
+    names: &NameTable,
+    signs: &Signs<'_>,
+) -> Result<Formula, ReadFault>
+    ensures { ReadsFormula signs.now.refusal (map (sign_of names.now.locations) (map sign_at_view signs.now.signs.items)) result }
+{
+    let numbered = numbered(alloc, names, signs.signs.as_slice())?;
+    match Formula::read(alloc, numbered.as_slice()) {
+        Ok(formula) => match signs.refusal {
+            None => Ok(formula),
+            Some(refusal) => Err(fault_at(tokens, refusal)),
+        },
+        Err(FormulaFault::Refused(index)) => Err(fault_at(tokens, refusal_at(signs, index))),
+        Err(FormulaFault::OutOfMemory) => Err(ReadFault::OutOfMemory),
+    }
+}

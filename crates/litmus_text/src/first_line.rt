@@ -1,0 +1,103 @@
+//! The first line of a text.
+ghost use Rattle.std.specs.Prelude.{◌≡◌, ◌≤◌, ℕ, List, ⊤, length, option_map, IfOk, IfErr, IsOkAnd};
+ghost use Rattle.std.specs.List.{prefix_len, list_all};
+ghost use Rattle.litmus_text.specs.FirstLine.{is_gap, is_visible, is_trailing, IsFirstLine};
+ghost use Rattle.litmus_text.specs.Faults.{IsOfAToken};
+ghost use Rattle.litmus_text.specs.FirstLineReading.{is_inside, heading_name, line_at};
+
+use crate::fault::ReadFault;
+
+fn is_gap(byte: u8) -> bool
+    ensures { result ≡ is_gap byte }
+{
+    byte == b' ' || byte == b'\t'
+}
+
+fn is_visible(byte: u8) -> bool
+    ensures { result ≡ is_visible byte }
+{
+    b'!' <= byte && byte <= b'~'
+}
+
+fn is_trailing(byte: u8) -> bool
+    ensures { result ≡ is_trailing byte }
+{
+    is_gap(byte) || byte == b'\r'
+}
+
+/// How many bytes from the front on are spaces or tabs.
+fn gap_len(bytes: &[u8]) -> usize
+    ensures value { result ≡ prefix_len is_gap bytes.now }
+    ensures within { result ≤ length bytes.now }
+{
+    bytes.iter().take_while(|byte| is_gap(**byte)).count()
+}
+
+/// How many bytes from the front on are visible characters.
+fn visible_len(bytes: &[u8]) -> usize
+    ensures value { result ≡ prefix_len is_visible bytes.now }
+    ensures within { result ≤ length bytes.now }
+{
+    bytes.iter().take_while(|byte| is_visible(**byte)).count()
+}
+
+fn are_trailing(bytes: &[u8]) -> bool
+    ensures { result ≡ list_all is_trailing bytes.now }
+{
+    bytes.iter().all(|byte| is_trailing(*byte))
+}
+
+/// The name that a first line gives, which is given without its LF.
+#[tactic(auto, unfolding(crate::specs::FirstLineReading::heading_name))]
+fn heading_name(line: &[u8]) -> Option<&[u8]>
+    ensures { option_map (λ name. name.now) result ≡ heading_name line.now }
+{
+    let rest = line.strip_prefix(b"X86")?;
+    let (gap, rest) = rest.split_at(gap_len(rest));
+    let (name, trailing) = rest.split_at(visible_len(rest));
+    if gap.is_empty() || name.is_empty() || !are_trailing(trailing) {
+        None
+    } else {
+        Some(name)
+    }
+}
+
+/// How many bytes from the front on are no LF.
+fn line_len(bytes: &[u8]) -> usize
+    ensures value { result ≡ prefix_len is_inside bytes.now }
+    ensures within { result ≤ length bytes.now }
+{
+    bytes.iter().take_while(|byte| **byte != b'\n').count()
+}
+
+/// The bytes before the first LF and those behind it.
+#[tactic(auto, unfolding(crate::specs::FirstLineReading::line_at))]
+fn split_line(bytes: &[u8]) -> Option<(&[u8], &[u8])>
+    ensures { option_map (λ x. (x.0.now, x.1.now)) result ≡ line_at bytes.now }
+{
+    let end = line_len(bytes);
+    if end < bytes.len() {
+        let (line, rest) = bytes.split_at(end);
+        Some((line, rest.split_at(1).1))
+    } else {
+        None
+    }
+}
+
+/// The name in the first line, and the text behind that line's LF.
+///
+/// `Ended` where the text has no LF, and `Header` for any other first line that is none.
+pub(crate) fn first_line(bytes: &[u8]) -> Result<(&[u8], &[u8]), ReadFault>
+    ensures found { IfOk result (λ p. IsFirstLine bytes.now p.0.now p.1.now) }
+    ensures only { (name rest : List ℕ) → IsFirstLine bytes.now name rest
+        → IsOkAnd result (λ p. (p.0.now ≡ name) × (p.1.now ≡ rest)) }
+    ensures refused { IfErr result (λ fault. IsOfAToken fault) }
+{
+    let Some((line, rest)) = split_line(bytes) else {
+        return Err(ReadFault::Ended(1));
+    };
+    match heading_name(line) {
+        Some(name) => Ok((name, rest)),
+        None => Err(ReadFault::Header(1)),
+    }
+}

@@ -1,0 +1,22 @@
+//! Litmus texts: which program and which condition a text stands for.
+#![tactic(auto)]
+
+mod condition;
+mod fault;
+mod first_line;
+mod lines;
+mod litmus;
+mod mentions;
+mod names;
+mod outcome;
+mod program;
+mod reader;
+
+pub use fault::ReadFault;
+pub use litmus::Litmus;
+pub use names::NameTable;
+pub use outcome::write_outcome;
+pub use reader::read_litmus;
+
+#[cfg(test)]
+mod tests;

@@ -1,0 +1,130 @@
+//! Which names a text has.
+ghost use Rattle.std.specs.Prelude.{◌≡◌, OnOk, IfOk, map, fold};
+ghost use Rattle.std.specs.List.{flat_map};
+ghost use Rattle.litmus_syntax.specs.Views.{entry_view, code_view, cell_view, row_view, body_view, sign_view, sign_at_view};
+ghost use Rattle.litmus_text.specs.Places.{noted, names_of, entry_place, code_places, cell_places, row_places, sign_places};
+
+use crate::names::NameTable;
+use litmus_syntax::{Body, Code, Entry, Place, Sign, SignAt};
+use std::alloc::{AllocError, Global};
+
+fn note_entries(
+    alloc: Global,
+    names: &mut NameTable,
+    entries: &[Entry<'_>],
+) -> Result<(), AllocError>
+    ensures { OnOk result (names.new ≡ fold noted names.old (map entry_place (map entry_view entries.now))) }
+{
+    for entry in entries {
+        names.note(alloc, entry.place)?;
+    }
+    Ok(())
+}
+
+/// What an instruction of a thread names.
+fn note_code(
+    alloc: Global,
+    names: &mut NameTable,
+    thread: usize,
+    code: Code<'_>,
+) -> Result<(), AllocError>
+    ensures { OnOk result (names.new ≡ fold noted names.old (code_places thread (code_view code.entry))) }
+{
+    match code {
+        Code::LoadImm(register, _) => names.note_register(thread, register),
+        Code::Copy(register, from) => {
+            names.note_register(thread, register);
+            names.note_register(thread, from);
+        }
+        Code::Load(register, name) => {
+            names.note_register(thread, register);
+            names.note_location(alloc, name)?;
+        }
+        Code::StoreImm(name, _) => names.note_location(alloc, name)?,
+        Code::Store(name, register) => {
+            names.note_location(alloc, name)?;
+            names.note_register(thread, register);
+        }
+        Code::Fence => {}
+    }
+    Ok(())
+}
+
+fn note_cell(
+    alloc: Global,
+    names: &mut NameTable,
+    thread: usize,
+    cell: Option<Code<'_>>,
+) -> Result<(), AllocError>
+    ensures { OnOk result (names.new ≡ fold noted names.old (cell_places thread (cell_view cell.entry))) }
+{
+    match cell {
+        Some(code) => note_code(alloc, names, thread, code),
+        None => Ok(()),
+    }
+}
+
+/// What the cells of a row name.
+fn note_row(
+    alloc: Global,
+    names: &mut NameTable,
+    row: &[Option<Code<'_>>],
+) -> Result<(), AllocError>
+    ensures { OnOk result (names.new ≡ fold noted names.old (row_places (map cell_view row.now))) }
+{
+    for (thread, cell) in row.iter().enumerate() {
+        note_cell(alloc, names, thread, *cell)?;
+    }
+    Ok(())
+}
+
+fn note_rows(
+    alloc: Global,
+    names: &mut NameTable,
+    rows: &[Vec<Option<Code<'_>>>],
+) -> Result<(), AllocError>
+    ensures { OnOk result (names.new ≡ fold noted names.old (flat_map row_places (map row_view rows.now))) }
+{
+    for row in rows {
+        note_row(alloc, names, row.as_slice())?;
+    }
+    Ok(())
+}
+
+/// What a sign of the condition names.
+fn note_sign(alloc: Global, names: &mut NameTable, sign: Sign<'_>) -> Result<(), AllocError>
+    ensures { OnOk result (names.new ≡ fold noted names.old (sign_places (sign_view sign.entry))) }
+{
+    match sign {
+        Sign::Atom(place, _) => names.note(alloc, place),
+        _ => Ok(()),
+    }
+}
+
+fn note_signs(
+    alloc: Global,
+    names: &mut NameTable,
+    signs: &[SignAt<'_>],
+) -> Result<(), AllocError>
+    ensures { OnOk result (names.new ≡ fold noted names.old (flat_map sign_places (map sign_at_view signs.now))) }
+{
+    for sign in signs {
+        note_sign(alloc, names, sign.sign)?;
+    }
+    Ok(())
+}
+
+/// The names of a text: of its initial values, of its rows, of its condition.
+pub(crate) fn names_of(
+    alloc: Global,
+    body: &Body<'_>,
+    signs: &[SignAt<'_>],
+) -> Result<NameTable, AllocError>
+    ensures { IfOk result (λ names. names ≡ names_of (body_view body.now) (map sign_at_view signs.now)) }
+{
+    let mut names = NameTable::new(alloc, body.threads)?;
+    note_entries(alloc, &mut names, body.entries.as_slice())?;
+    note_rows(alloc, &mut names, body.rows.as_slice())?;
+    note_signs(alloc, &mut names, signs)?;
+    Ok(names)
+}

@@ -1,0 +1,190 @@
+//! The program that a text stands for.
+ghost use Rattle.std.specs.Prelude.{◌≡◌, ◌≤◌, List, ℕ, IfOk, map, fold, length, replicate, option_map, option_and_then, slice_get, slice_index_or};
+ghost use Rattle.std.specs.List.{range_with_len};
+ghost use Rattle.litmus_syntax.specs.Views.{place_view, entry_view, code_view, cell_view, row_view, body_view};
+ghost use Rattle.litmus_text.specs.Meaning.{atom_of, entry_atom, stored, loaded, instruction_of, instruction_in, code_of, thread_in, listed, listing_of};
+ghost use Rattle.litmus_text.specs.Reading.{MakesProgram};
+
+use crate::fault::ReadFault;
+use crate::names::NameTable;
+use conditions::Atom;
+use litmus_syntax::{Body, Code, Entry, Place};
+use std::alloc::{AllocError, Global};
+use tso_program::{Instr, Items, Program, ProgramFault, Thread};
+
+/// That a place has a value, with the location's number.
+pub(crate) fn atom(names: &NameTable, place: Place<'_>, value: u32) -> Atom
+    ensures { result ≡ atom_of names.now.locations (place_view place.entry) value }
+{
+    match place {
+        Place::Location(name) => Atom::Location {
+            location: u32::from(names.number(name)),
+            value,
+        },
+        Place::Register(thread, register) => Atom::Register {
+            thread,
+            register,
+            value,
+        },
+    }
+}
+
+/// An instruction, with its location's number.
+fn instruction(names: &NameTable, code: Code<'_>) -> Instr
+    ensures { result ≡ instruction_of names.now.locations (code_view code.entry) }
+{
+    match code {
+        Code::LoadImm(register, value) => Instr::LoadImm(register, value),
+        Code::Copy(register, from) => Instr::Copy(register, from),
+        Code::Load(register, name) => Instr::Load(register, names.number(name)),
+        Code::StoreImm(name, value) => Instr::StoreImm(names.number(name), value),
+        Code::Store(name, register) => Instr::Store(names.number(name), register),
+        Code::Fence => Instr::Fence,
+    }
+}
+
+/// The instruction of a thread in a row, if there is one.
+fn instruction_in(names: &NameTable, thread: usize, row: &[Option<Code<'_>>]) -> Option<Instr>
+    ensures { result ≡ instruction_in names.now.locations thread (map cell_view row.now) }
+{
+    match row.get(thread) {
+        Some(Some(code)) => Some(instruction(names, *code)),
+        _ => None,
+    }
+}
+
+/// The instructions of a thread, from top to bottom.
+fn code_of(
+    alloc: Global,
+    names: &NameTable,
+    rows: &[Vec<Option<Code<'_>>>],
+    thread: usize,
+) -> Result<Vec<Instr>, AllocError>
+    ensures { IfOk result (λ code. code.items ≡ code_of names.now.locations (map row_view rows.now) thread) }
+{
+    let mut instructions = Vec::new(alloc);
+    for row in rows {
+        if let Some(found) = instruction_in(names, thread, row.as_slice()) {
+            instructions.push(found)?;
+        }
+    }
+    Ok(instructions)
+}
+
+/// What the initial values say, with the locations' numbers.
+fn entry_atoms(
+    alloc: Global,
+    names: &NameTable,
+    entries: &[Entry<'_>],
+) -> Result<Vec<Atom>, AllocError>
+    ensures { IfOk result (λ atoms. atoms.items ≡ map (entry_atom names.now.locations) (map entry_view entries.now)) }
+{
+    let mut atoms = Vec::new(alloc);
+    for entry in entries {
+        atoms.push(atom(names, entry.place, entry.value))?;
+    }
+    Ok(atoms)
+}
+
+/// What an initial value changes in memory.
+fn store(memory: &mut [u32], atom: Atom)
+    ensures { memory.new ≡ stored memory.old atom }
+{
+    if let Atom::Location { location, value } = atom {
+        let location = location as usize;
+        if location < memory.len() {
+            memory[location] = value;
+        }
+    }
+}
+
+/// What an initial value changes in the registers.
+fn load(registers: &mut [[u32; 6]], atom: Atom)
+    ensures { registers.new ≡ loaded registers.old atom }
+{
+    if let Atom::Register {
+        thread,
+        register,
+        value,
+    } = atom
+    {
+        let thread = thread as usize;
+        if thread < registers.len() {
+            registers[thread][register.index()] = value;
+        }
+    }
+}
+
+/// What so many locations hold at first.
+fn memory_of(alloc: Global, locations: usize, atoms: &[Atom]) -> Result<Vec<u32>, AllocError>
+    ensures { IfOk result (λ memory. memory.items ≡ fold stored (replicate locations 0) atoms.now) }
+{
+    let mut memory = vec![in alloc; 0u32; locations]?;
+    for atom in atoms {
+        store(&mut memory, *atom);
+    }
+    Ok(memory)
+}
+
+/// What the registers of so many threads hold at first.
+fn registers_of(alloc: Global, threads: usize, atoms: &[Atom]) -> Result<Vec<[u32; 6]>, AllocError>
+    ensures { IfOk result (λ registers. registers.items ≡ fold loaded (replicate threads (replicate 6 0)) atoms.now) }
+{
+    let mut registers = vec![in alloc; [0u32; 6]; threads]?;
+    for atom in atoms {
+        load(&mut registers, *atom);
+    }
+    Ok(registers)
+}
+
+/// The threads, with what their registers hold at first.
+fn threads_of(
+    alloc: Global,
+    names: &NameTable,
+    body: &Body<'_>,
+    registers: &[[u32; 6]],
+) -> Result<Vec<Thread>, AllocError>
+    ensures { IfOk result (λ threads. threads.items ≡ map (thread_in names.now.locations (map row_view body.now.rows.items) registers.now) (range_with_len 0 body.now.threads)) }
+{
+    let mut threads = Vec::new(alloc);
+    for thread in 0..body.threads {
+        let code = code_of(alloc, names, body.rows.as_slice(), thread)?;
+        threads.push(Thread {
+            code: Items::of(code),
+            registers: registers.get(thread).copied().unwrap_or([0; 6]),
+        })?;
+    }
+    Ok(threads)
+}
+
+/// The threads and the initial values of the locations that a text stands for.
+fn listing_of(
+    alloc: Global,
+    names: &NameTable,
+    body: &Body<'_>,
+) -> Result<(Vec<Thread>, Vec<u32>), AllocError>
+    ensures { IfOk result (λ p. listed p.0.items p.1.items ≡ listing_of names.now.locations (body_view body.now)) }
+{
+    let atoms = entry_atoms(alloc, names, body.entries.as_slice())?;
+    let memory = memory_of(alloc, names.locations(), atoms.as_slice())?;
+    let registers = registers_of(alloc, body.threads, atoms.as_slice())?;
+    let threads = threads_of(alloc, names, body, registers.as_slice())?;
+    Ok((threads, memory))
+}
+
+/// The program that a text stands for, whose header row stands on the given line.
+pub(crate) fn program_of(
+    alloc: Global,
+    names: &NameTable,
+    body: &Body<'_>,
+    line: u32,
+) -> Result<Program, ReadFault>
+    ensures { MakesProgram (listing_of names.now.locations (body_view body.now)) result }
+{
+    let (threads, memory) = listing_of(alloc, names, body)?;
+    match Program::new(alloc, threads, memory) {
+        Ok(program) => Ok(program),
+        Err(ProgramFault::OutOfMemory) => Err(ReadFault::OutOfMemory),
+        Err(fault) => Err(ReadFault::Program(line, fault)),
+    }
+}
