@@ -1,0 +1,31 @@
+-- With every gap fenced a run passes none, so its outcome is sequential.
+use Rattle.std.proofs.Common.{◌≡◌, true, false, List, Some, sym, ap, ◌∙◌}
+use Rattle.std.specs.Option.{option_map_or}
+use Rattle.std.specs.FinSet as set
+use Rattle.gap_sets.specs.Gaps.{SetOfGaps}
+use Rattle.tso_program.specs.declared.listing.Listing.{Listing}
+use Rattle.tso_program.specs.declared.outcome.Outcome.{Outcome}
+use Rattle.tso_program.specs.Fences.{gaps_in}
+use Rattle.tso_program.proofs.Gaps.{gap_below}
+use Rattle.tso_machine.specs.declared.label.Label.{Label}
+use Rattle.tso_machine.specs.Machine.{Fenced, State, start, run}
+use Rattle.tso_machine.specs.Outcomes.{IsStoreBufferOutcome, IsSequentialOutcome}
+use Rattle.tso_machine.proofs.Avoided.{run_avoids}
+use Rattle.fence_laws.specs.Laws.{JumpForward, PassesNoGap, HasEveryGapOf, AllGapsServe}
+use Rattle.fence_laws.proofs.SequentialIsBuffered.{sequential_is_allowed}
+use Rattle.fence_laws.proofs.NothingPassed.{nothing_passed}
+use Rattle.fence_laws.proofs.Unfenced.{unfenced}
+
+none_is_passed : (p : Listing) (gaps : SetOfGaps) (labels : List Label) (last : State) → HasEveryGapOf p gaps → run p (Fenced (gaps_in p gaps)) (start p) labels ≡ Some last →
+    PassesNoGap p labels
+none_is_passed p gaps labels last every r gap (t, k, number, passed) =
+    let there : gaps_in p gaps t k ≡ true = ap (λ o. option_map_or (set.contains gaps) o false) number ∙ every gap (gap_below p.threads t k gap number) in
+    let no : true ≡ false = sym passed ∙ run_avoids p (gaps_in p gaps) labels (start p) last r t k there in
+    cc
+
+only_sequential : (p : Listing) (gaps : SetOfGaps) (o : Outcome) → JumpForward p.threads → HasEveryGapOf p gaps → IsStoreBufferOutcome p (gaps_in p gaps) o → IsSequentialOutcome p o
+only_sequential p gaps o forward every (labels, (last, r, ended, e)) =
+    nothing_passed p labels o forward (last, unfenced p (gaps_in p gaps) labels (start p) last r, ended, e) (none_is_passed p gaps labels last every r)
+
+pub all_serve : AllGapsServe
+all_serve p gaps forward every o = (only_sequential p gaps o forward every, sequential_is_allowed p (gaps_in p gaps) o)

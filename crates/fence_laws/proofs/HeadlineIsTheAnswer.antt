@@ -1,0 +1,25 @@
+-- The fenced program has the source's sequential outcomes exactly where the set serves.
+use Rattle.std.proofs.Common.{ℕ, List}
+use Rattle.gap_sets.specs.Gaps.{SetOfGaps}
+use Rattle.tso_program.specs.declared.listing.Listing.{Listing}
+use Rattle.tso_program.specs.Fences.{gaps_in}
+use Rattle.tso_machine.specs.Outcomes.{IsTheAnswer, Headline}
+use Rattle.fence_laws.specs.Laws.{TheHeadlineIsTheAnswer}
+use Rattle.fence_laws.proofs.FencingIsTheMachine.{fencing_is_the_machine}
+
+answer_of : (p : Listing) (costs : List ℕ) (gaps : SetOfGaps) → Headline p costs gaps → IsTheAnswer p costs gaps
+answer_of p costs gaps h = record {
+  of_program = h.of_program;
+  serves = λ o. let same = fencing_is_the_machine p (gaps_in p gaps) o in ((λ allowed. (h.fenced o).0 (same.1 allowed)), (λ sequential. same.0 ((h.fenced o).1 sequential)));
+  least = h.least;
+}
+
+headline_of : (p : Listing) (costs : List ℕ) (gaps : SetOfGaps) → IsTheAnswer p costs gaps → Headline p costs gaps
+headline_of p costs gaps a = record {
+  of_program = a.of_program;
+  fenced = λ o. let same = fencing_is_the_machine p (gaps_in p gaps) o in ((λ allowed. (a.serves o).0 (same.0 allowed)), (λ sequential. same.1 ((a.serves o).1 sequential)));
+  least = a.least;
+}
+
+pub headline_is_the_answer : TheHeadlineIsTheAnswer
+headline_is_the_answer p costs gaps = (answer_of p costs gaps, headline_of p costs gaps)

@@ -1,0 +1,26 @@
+-- A run that passes no gap waits at each place, and so has a sequential outcome.
+use Rattle.std.proofs.Common.{◌≡◌, ℕ, ◌+◌, ◌-◌, Bool, true, false, List, Some, refl, take}
+use Rattle.tso_program.specs.declared.listing.Listing.{Listing}
+use Rattle.tso_program.specs.Listings.{gap_count}
+use Rattle.tso_program.proofs.Gaps.{gap_is}
+use Rattle.tso_machine.specs.declared.label.Label.{Label}
+use Rattle.tso_machine.specs.Machine.{no_gaps, Fenced, State, run, start, passes}
+use Rattle.tso_machine.proofs.Avoided.{run_fenced}
+use Rattle.fence_laws.specs.Laws.{JumpForward, PassesNoGap, ARunThatPassesNothingIsSequential}
+use Rattle.fence_laws.proofs.WaitingEverywhere.{all, to_sequential}
+use Rattle.fence_laws.proofs.PassedPlaces.{passed_inside}
+
+no_place_passed : (p : Listing) (labels : List Label) (last : State) (t k : ℕ) → JumpForward p.threads → run p (Fenced no_gaps) (start p) labels ≡ Some last → PassesNoGap p labels →
+    passes p (Fenced no_gaps) (start p) labels t k ≡ false
+no_place_passed p labels last t k forward r none = by_test (passes p (Fenced no_gaps) (start p) labels t k) refl
+  where
+    by_test : (b : Bool) → passes p (Fenced no_gaps) (start p) labels t k ≡ b → b ≡ false
+    by_test false e = refl
+    by_test true e =
+        let inside = passed_inside p forward labels (start p) last t k r (λ u h. refl) e in
+        let gap = gap_count (take t p.threads) + (k - 1) in
+        absurd (none gap (t, k, gap_is p.threads t k gap inside.past_first inside.before_end refl, e))
+
+pub nothing_passed : ARunThatPassesNothingIsSequential
+nothing_passed p labels o forward (last, r, ended, e) none =
+    to_sequential p labels o (last, run_fenced p all labels (start p) last r (λ t k fenced. no_place_passed p labels last t k forward r none), ended, e)

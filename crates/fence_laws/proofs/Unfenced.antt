@@ -1,0 +1,25 @@
+-- A run with gaps fenced is a run with none fenced.
+use Rattle.std.proofs.Common.{◌≡◌, Bool, true, false, List, [], ◌∷◌, Option, Some, option_and_then, ap, ◌∙◌}
+use Rattle.std.proofs.lemmas.Option.{option_and_then_some}
+use Rattle.tso_program.specs.declared.listing.Listing.{Listing}
+use Rattle.tso_program.specs.Fences.{Gaps}
+use Rattle.tso_program.specs.Listings.{action}
+use Rattle.tso_machine.specs.declared.label.Label.{Label}
+use Rattle.tso_machine.specs.declared.label.Label.TheVariants.{Exec, Flush}
+use Rattle.tso_machine.specs.declared.label.Pending.{Pending}
+use Rattle.tso_machine.specs.Machine.{no_gaps, Fenced, State, past_gap, buffered, step, run}
+
+module _ (p : Listing) (gaps : Gaps) where
+  let_by : (b : Bool) (ws : List Pending) (s z : State) (f : State → Option State) → option_and_then f (past_gap b ws s) ≡ Some z → f s ≡ Some z
+  let_by true [] s z f e = e
+  let_by true (w ∷ ws) s z f e = absurd cc
+  let_by false ws s z f e = e
+
+  unfenced_step : (s z : State) (l : Label) → step p (Fenced gaps) s l ≡ Some z → step p (Fenced no_gaps) s l ≡ Some z
+  unfenced_step s z (Flush t) e = e
+  unfenced_step s z (Exec t) e = let_by (gaps t (s.locals t).place) (s.buffers t) s z (λ s'. buffered s' t (action p.threads t (s.locals t))) e
+
+  pub unfenced : (ls : List Label) (s last : State) → run p (Fenced gaps) s ls ≡ Some last → run p (Fenced no_gaps) s ls ≡ Some last
+  unfenced [] s last r = r
+  unfenced (l ∷ ls) s last r = option_and_then_some (λ next. run p (Fenced gaps) next ls) (step p (Fenced gaps) s l) last r
+      (λ z e rest. ap (option_and_then (λ next. run p (Fenced no_gaps) next ls)) (unfenced_step s z l e) ∙ unfenced ls z last rest)

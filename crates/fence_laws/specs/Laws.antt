@@ -1,0 +1,60 @@
+-- What holds of every program, its runs and its fences.
+use Rattle.std.specs.Prelude.{◌≡◌, ◌↔◌, ℕ, ◌<◌, true, List, Some}
+use Rattle.std.specs.FinSet as set
+use Rattle.gap_sets.specs.Gaps.{SetOfGaps}
+use Rattle.tso_program.specs.declared.instruction.Instr.{Instr}
+use Rattle.tso_program.specs.declared.listing.Thread.{Thread}
+use Rattle.tso_program.specs.declared.listing.Listing.{Listing}
+use Rattle.tso_program.specs.declared.outcome.Outcome.{Outcome}
+use Rattle.tso_program.specs.Instructions.{target_of}
+use Rattle.tso_program.specs.Listings.{instr_at, gap_count}
+use Rattle.tso_program.specs.Limits.{IsWithinLimits}
+use Rattle.tso_program.specs.Fences.{Gaps, fence}
+use Rattle.tso_machine.specs.declared.label.Label.{Label}
+use Rattle.tso_machine.specs.Machine.{Fenced, no_gaps, start, IsRun}
+use Rattle.tso_machine.specs.Modes.{Passes}
+use Rattle.tso_machine.specs.Outcomes.{IsSequentialOutcome, IsStoreBufferOutcome, Serves, IsTheAnswer, Headline}
+
+-- each jump leads forward, as in every program within the limits
+abbrev pub JumpForward : List Thread → Type 0
+JumpForward threads = (t k target : ℕ) (x : Instr) → instr_at threads t k ≡ Some x → target_of x ≡ Some target → k < target
+
+-- the labels pass no gap of the program, where none is fenced
+abbrev pub PassesNoGap : Listing → List Label → Type 0
+PassesNoGap p labels = (gap : ℕ) → ¬ Passes p (Fenced no_gaps) (start p) labels gap
+
+-- the set has every gap of the program
+abbrev pub HasEveryGapOf : Listing → SetOfGaps → Type 0
+HasEveryGapOf p gaps = (gap : ℕ) → gap < gap_count p.threads → set.contains gaps gap ≡ true
+
+-- each sequential outcome is a store buffer outcome, whatever gaps are fenced
+abbrev pub SequentialRunsAreAllowed : Type 0
+SequentialRunsAreAllowed = (p : Listing) (gaps : Gaps) (o : Outcome) → IsSequentialOutcome p o → IsStoreBufferOutcome p gaps o
+
+-- a run that passes no gap has a sequential outcome
+abbrev pub ARunThatPassesNothingIsSequential : Type 0
+ARunThatPassesNothingIsSequential = (p : Listing) (labels : List Label) (o : Outcome) →
+    JumpForward p.threads → IsRun p (Fenced no_gaps) labels o → PassesNoGap p labels → IsSequentialOutcome p o
+
+-- a set that has every gap of the program serves
+abbrev pub AllGapsServe : Type 0
+AllGapsServe = (p : Listing) (gaps : SetOfGaps) → JumpForward p.threads → HasEveryGapOf p gaps → Serves p gaps
+
+-- the store buffer outcomes of the program with an MFENCE in each gap of the set are those of the program with the set fenced
+abbrev pub FencingIsTheMachineWithGaps : Type 0
+FencingIsTheMachineWithGaps = (p : Listing) (gaps : Gaps) (o : Outcome) →
+    IsStoreBufferOutcome (fence gaps p) no_gaps o ↔ IsStoreBufferOutcome p gaps o
+
+-- its sequential outcomes are those of the program
+abbrev pub FencingKeepsSequentialOutcomes : Type 0
+FencingKeepsSequentialOutcomes = (p : Listing) (gaps : Gaps) (o : Outcome) →
+    IsSequentialOutcome (fence gaps p) o ↔ IsSequentialOutcome p o
+
+-- the headline, of the program fenced at the set, says that the set is the answer
+abbrev pub TheHeadlineIsTheAnswer : Type 0
+TheHeadlineIsTheAnswer = (p : Listing) (costs : List ℕ) (gaps : SetOfGaps) → Headline p costs gaps ↔ IsTheAnswer p costs gaps
+
+-- two sets that are both the answer are the same set
+abbrev pub TheAnswerIsTheOnlyOne : Type 0
+TheAnswerIsTheOnlyOne = (p : Listing) (costs : List ℕ) (one other : SetOfGaps) →
+    IsWithinLimits p.threads p.memory → IsTheAnswer p costs one → IsTheAnswer p costs other → one ≡ other

@@ -1,0 +1,33 @@
+//! The laws: each function's contract is a theorem, and calling it does nothing.
+ghost use Rattle.fence_laws.specs.Laws.{SequentialRunsAreAllowed, ARunThatPassesNothingIsSequential, AllGapsServe, FencingIsTheMachineWithGaps, FencingKeepsSequentialOutcomes, TheAnswerIsTheOnlyOne, TheHeadlineIsTheAnswer};
+
+/// Each sequential outcome is a store buffer outcome, whatever gaps are fenced.
+pub fn sequential_runs_are_allowed()
+    ensures { SequentialRunsAreAllowed }
+{}
+
+/// A run of the store buffer machine that passes no gap ends as some sequential run does.
+pub fn a_run_that_passes_nothing_is_sequential()
+    ensures { ARunThatPassesNothingIsSequential }
+{}
+
+/// A set that has every gap of the program serves.
+pub fn all_gaps_serve()
+    ensures { AllGapsServe }
+{}
+
+/// Fences in a program's text and gaps fenced in its machine leave the same outcomes.
+pub fn fencing_is_the_machine_with_gaps()
+    ensures buffered { FencingIsTheMachineWithGaps }
+    ensures sequential { FencingKeepsSequentialOutcomes }
+{}
+
+/// No two sets of gaps are both the answer for a program and its costs.
+pub fn the_answer_is_the_only_one()
+    ensures { TheAnswerIsTheOnlyOne }
+{}
+
+/// What is said of the fenced program's text is said of the set of gaps, and the other way round.
+pub fn the_headline_is_the_answer()
+    ensures { TheHeadlineIsTheAnswer }
+{}
