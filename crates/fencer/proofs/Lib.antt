@@ -1,0 +1,4 @@
+pub mod GapPlaces
+pub mod StreamLaws
+pub mod Rules
+pub mod Served

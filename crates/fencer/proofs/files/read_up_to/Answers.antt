@@ -1,0 +1,14 @@
+use Rattle.std.proofs.Common.{◌≡◌, ◌+◌, ◌++◌, List, ℕ, arith, length, take, length-append}
+use Rattle.std.proofs.lemmas.List.{length-take}
+use Rattle.fencer.proofs.StreamLaws.{reads_more}
+use Rattle.fencer.proofs.files.read_up_to.Goals as goal
+
+pub returns-then-room-count-clause-too_long : goal.returns-then-room-count-clause-too_long
+returns-then-room-count-clause-too_long g c = λ _.
+    let bytes = c.in-Ok.ensures.bytes in
+    let bound = c.in-Ok.ensures.bound in
+    let part : List ℕ = take c.in-Ok.count c.read.new.buf in (
+      c.loop.bytes.items ++ part,
+      reads_more _ _ _ c.loop.bytes.items part c.loop.invariant.known bytes.0,
+      simp length-append (omega (arith, bound.0, bound.1, c.loop.bytes.ok.0, length-take c.min-part.result c.loop.buffer)),
+    )

@@ -1,0 +1,24 @@
+-- Where the gaps of a program lie.
+use Rattle.std.specs.Prelude.{ℕ, ◌+◌, List, [], ◌∷◌, ◌++◌, map, slice_get, Option}
+use Rattle.std.specs.Option.{option_map_or}
+use Rattle.std.specs.List.{range_with_len}
+use Rattle.std.specs.Fmt.{decimal}
+use Rattle.tso_program.specs.declared.listing.Thread.{Thread}
+use Rattle.tso_program.specs.Listings.{gaps_of_thread}
+
+-- the gaps of the threads from thread t on, each by its thread and the instruction that it lies before
+abbrev pub places_from : ℕ → List Thread → List (ℕ × ℕ)
+places_from t [] = []
+places_from t (thread ∷ threads) = map (λ k. (t, k)) (range_with_len 1 (gaps_of_thread thread)) ++ places_from (t + 1) threads
+
+-- the gap of this number
+abbrev pub gap_place : List Thread → ℕ → Option (ℕ × ℕ)
+gap_place threads gap = slice_get (places_from 0 threads) gap
+
+-- a place as it is printed: ` t:k`
+abbrev pub place_text : ℕ × ℕ → List ℕ
+place_text place = 32 ∷ decimal place.0 ++ 58 ∷ decimal place.1
+
+-- the gap of this number as it is printed
+abbrev pub gap_text : List Thread → ℕ → List ℕ
+gap_text threads gap = option_map_or place_text (gap_place threads gap) []
