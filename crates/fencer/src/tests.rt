@@ -5,6 +5,8 @@ use crate::words::{Job, line_words, read_words};
 use litmus_text::ReadFault;
 use std::io;
 use std::io::{Read, Write};
+use std::process::Abort;
+use std::rt::Files;
 use std::test::Fail;
 use tso_machine::{Model, ReplayFault, RunFault};
 use tso_program::ProgramFault;
@@ -17,6 +19,7 @@ const WORDS: &str = "replay - e0 e1 e0 e1 f0 f1";
 const LINES: &str = "outcome: 0:EAX=0; 1:EAX=0; x=1; y=1;\npassed 0:1 1:1\n";
 
 /// A reader of a text that fails at its call of a number, counted from 0.
+#[derive(Drop)]
 struct FailingReader<'a> {
     rest: &'a [u8],
     calls: usize,
@@ -35,6 +38,7 @@ impl Read for FailingReader<'_> {
 }
 
 /// A writer that takes few bytes a call, and fails, or takes none, at its call of a number.
+#[derive(Drop)]
 struct FailingWriter {
     taken: Vec<u8>,
     calls: usize,
@@ -63,12 +67,12 @@ impl Write for FailingWriter {
 }
 
 /// The words of a line.
-fn words_of(rt: &HostRuntime, line: &str) -> Result<Vec<String>, Fail> {
+fn words_of(rt: &impl AllocGlobal, line: &str) -> Result<Vec<String>, Fail> {
     Ok(line_words(rt.alloc(), line.as_bytes())?)
 }
 
 /// A text below a line of words.
-fn input_of(rt: &HostRuntime, line: &str) -> Result<String, Fail> {
+fn input_of(rt: &impl AllocGlobal, line: &str) -> Result<String, Fail> {
     Ok(format!(in rt.alloc(); "{line}\n{TEXT}")?)
 }
 
@@ -101,8 +105,8 @@ fn a_reader_fails(rt: HostRuntime) -> Result<(), Fail> {
 }
 
 /// Runs the program over a writer that fails at each call in turn, until it meets no failure.
-fn writer_fails(
-    rt: &HostRuntime,
+fn writer_fails<R: Files + AllocGlobal + Abort>(
+    rt: &R,
     line: &str,
     takes_none: bool,
     lines: Option<&str>,

@@ -1,4 +1,4 @@
-use Rattle.std.proofs.Common.{◌≡◌, ◌+◌, ◌++◌, List, ℕ, arith, length, take, length-append}
+use Rattle.std.proofs.Common.{◌++◌, List, ℕ, arith, take, length-append}
 use Rattle.std.proofs.lemmas.List.{length-take}
 use Rattle.fencer.proofs.StreamLaws.{reads_more}
 use Rattle.fencer.proofs.files.read_up_to.Goals as goal
