@@ -11,9 +11,6 @@ use Rattle.litmus_text.specs.Names.{texts}
 pub flat_more : {X A : Type 0} (f : X → List A) (bs : List A) (xs : List X) (i : ℕ) (d : X) → i < length xs → (bs ++ flat_map f (take i xs)) ++ f (get_or xs i d) ≡ bs ++ flat_map f (take (i + 1) xs)
 flat_more f bs xs i d lt = rw (take_more xs i d lt) (flat_map_more f bs (take i xs) (get_or xs i d))
 
-
-
-
 -- one more number
 pub flat_range_more : {A : Type 0} (f : ℕ → List A) (bs : List A) (n : ℕ) → (bs ++ flat_map f (range_with_len 0 n)) ++ f n ≡ bs ++ flat_map f (range_with_len 0 (n + 1))
 flat_range_more {A} f bs n =

@@ -45,7 +45,7 @@ parts_are : (tokens : List Tok) (body b : BodyView) (refusal : Option Refusal) (
 parts_are tokens body b refusal signs s f found parts =
     let e = found.begins_only b parts.others parts.begins in
     let others : IsSigns body.threads s found.others =
-        subst (λ (o : List Tok). IsSigns body.threads s o) e.1 (subst (λ (x : BodyView). IsSigns x.threads s parts.others) e.0 parts.ends) in
+    subst (λ (o : List Tok). IsSigns body.threads s o) e.1 (subst (λ (x : BodyView). IsSigns x.threads s parts.others) e.0 parts.ends) in
     let d = signs_are refusal body.threads signs s found.others found.ends others in
     (e.0, d.0, d.1, subst (λ (x : List SignView). Spells Sum f (map (sign_of (names_of body x).locations) x) []) d.0 (subst (λ (x : BodyView). Spells Sum f (map (sign_of (names_of x s).locations) s) []) e.0 parts.spells))
 
@@ -114,15 +114,15 @@ pub found_of : (tokens ts others : List Tok) (body : BodyView) (refusal : Option
     → Found tokens body refusal signs
 found_of tokens ts others body refusal signs e begins ends =
     let at : IsBody body tokens others × ((b : BodyView) (rest : List Tok) → IsBody b tokens rest → (b ≡ body) × (rest ≡ others)) =
-        subst (λ (x : List Tok). IsBody body x others × ((b : BodyView) (rest : List Tok) → IsBody b x rest → (b ≡ body) × (rest ≡ others))) e begins in
+    subst (λ (x : List Tok). IsBody body x others × ((b : BodyView) (rest : List Tok) → IsBody b x rest → (b ≡ body) × (rest ≡ others))) e begins in
     record { others = others; begins = at.0; begins_only = at.1; ends = ends }
 
 -- what a refused token says
 pub refused_body : (tokens ts : List Tok) (refusal : Refusal) (fault : ReadFault) → ts ≡ tokens → ReadsNone IsBody (Refused refusal) ts → MatchFault fault ⊥ (λ _. ⊥) ⊥ ⊤
     → MatchFault fault ⊥ (BreaksLimits tokens) ⊤ ⊤ × ((other : Litmus Listing) → Means tokens other → fault ≡ OutOfMemory)
 refused_body tokens ts refusal fault e none is = (
-    match_map fault ⊥ ⊥ (λ _. ⊥) (BreaksLimits tokens) ⊥ ⊤ ⊤ ⊤ (λ h. h) (λ _ h. absurd h) (λ h. absurd h) (λ h. h) is,
-    λ other m. absurd (none m.body m.parts.others (subst (λ (x : List Tok). IsBody m.body x m.parts.others) (sym e) m.parts.begins)),
+  match_map fault ⊥ ⊥ (λ _. ⊥) (BreaksLimits tokens) ⊥ ⊤ ⊤ ⊤ (λ h. h) (λ _ h. absurd h) (λ h. absurd h) (λ h. h) is,
+  λ other m. absurd (none m.body m.parts.others (subst (λ (x : List Tok). IsBody m.body x m.parts.others) (sym e) m.parts.begins)),
 )
 
 -- what a refused formula says
@@ -149,7 +149,7 @@ refused_program tokens body refusal signs names f fault found e spelled is =
     let h : MatchFault fault ⊥ (Breaks own.locations body) ⊤ ⊥ = subst (λ (n : Names). MatchFault fault ⊥ (Breaks n.locations body) ⊤ ⊥) e is in
     let spells : Spells Sum f (map (sign_of own.locations) signs) [] = subst (λ (n : Names). Spells Sum f (map (sign_of n.locations) signs) []) e spelled.1.0 in
     let breaks : (limit : ProgramFault) → Breaks own.locations body limit → BreaksLimits tokens limit =
-        λ limit first. record { body = body; signs = signs; formula = f; parts = found_parts tokens body refusal signs f found spelled.0 spells; first = first } in (
+    λ limit first. record { body = body; signs = signs; formula = f; parts = found_parts tokens body refusal signs f found spelled.0 spells; first = first } in (
       match_map fault ⊥ ⊥ (Breaks own.locations body) (BreaksLimits tokens) ⊤ ⊤ ⊥ ⊤ (λ x. x) breaks (λ x. x) (λ _. tt) h,
       λ other m. match_memory fault ⊥ (Breaks own.locations body) ⊤ ⊥ (λ x. x) (λ limit first. no_program tokens body refusal signs other limit found first m) (λ x. x) h,
     )
@@ -161,7 +161,7 @@ pub meaning : (tokens : List Tok) (body : BodyView) (refusal : Option Refusal) (
     → Means tokens litmus × ((other : Litmus Listing) → other.name ≡ litmus.name → Means tokens other → other ≡ litmus)
 meaning tokens body refusal signs litmus found names spelled quantifier program =
     let only : SpellsOnly (map (sign_of (names_of body signs).locations) signs) litmus.condition.formula =
-        subst (λ (n : Names). SpellsOnly (map (sign_of n.locations) signs) litmus.condition.formula) names spelled.1 in
+    subst (λ (n : Names). SpellsOnly (map (sign_of n.locations) signs) litmus.condition.formula) names spelled.1 in
     let listing : litmus.program ≡ listing_of (names_of body signs).locations body = program.0 ∙ ap (λ (n : Names). listing_of n.locations body) names in
     let within : Listing → Type 0 = λ l. IsWithinLimits l.threads l.memory in (
       record {

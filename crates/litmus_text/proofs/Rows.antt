@@ -35,5 +35,5 @@ noted_more names cells i d lt =
     let before = map cell_view (take i cells) in
     let len : 0 + length before ≡ i = omega (arith, length-map (take i cells) cell_view, length-take i cells) in
     let pushed : row_places (map cell_view (take (i + 1) cells)) ≡ row_places before ++ cell_places i (cell_view (get_or cells i d)) =
-        ap row_places (map_more cell_view cells i d lt) ∙ cells_push 0 before (cell_view (get_or cells i d)) ∙ ap (λ (n : ℕ). row_places before ++ cell_places n (cell_view (get_or cells i d))) len in
+    ap row_places (map_more cell_view cells i d lt) ∙ cells_push 0 before (cell_view (get_or cells i d)) ∙ ap (λ (n : ℕ). row_places before ++ cell_places n (cell_view (get_or cells i d))) len in
     ap (fold noted names) pushed ∙ fold-append noted names (row_places before) (cell_places i (cell_view (get_or cells i d)))

@@ -56,15 +56,15 @@ pub text_refused : (text name other lines : List ℕ) (tokens : List Tok) (r : R
 text_refused text name other lines tokens (Ok read) split h = tt
 text_refused text name other lines tokens (Err fault) split h =
     let breaks : (limit : ProgramFault) → BreaksLimits tokens limit → BreaksLimitsIn text limit =
-        λ limit b. record {
-          name = name;
-          lines = lines;
-          tokens = tokens;
-          utf8 = split.utf8;
-          first_line = split.first_line;
-          lexes = split.lexes (parts_whole tokens b.body b.signs b.formula b.parts);
-          breaks = b;
-        } in
+    λ limit b. record {
+      name = name;
+      lines = lines;
+      tokens = tokens;
+      utf8 = split.utf8;
+      first_line = split.first_line;
+      lexes = split.lexes (parts_whole tokens b.body b.signs b.formula b.parts);
+      breaks = b;
+    } in
     match_map fault ⊥ (IsUtf8 text → ⊥) (BreaksLimits tokens) (BreaksLimitsIn text) ⊤ ⊤ ⊤ ⊤ (λ x. absurd x) breaks (λ x. x) (λ x. x) h.0
 
 pub token_refused : (text : List ℕ) (fault : ReadFault) → IsOfAToken fault → Refuses text fault

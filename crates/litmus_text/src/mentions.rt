@@ -101,11 +101,7 @@ fn note_sign(alloc: Global, names: &mut NameTable, sign: Sign<'_>) -> Result<(),
     }
 }
 
-fn note_signs(
-    alloc: Global,
-    names: &mut NameTable,
-    signs: &[SignAt<'_>],
-) -> Result<(), AllocError>
+fn note_signs(alloc: Global, names: &mut NameTable, signs: &[SignAt<'_>]) -> Result<(), AllocError>
     ensures { OnOk result (names.new ≡ fold noted names.old (flat_map sign_places (map sign_at_view signs.now))) }
 {
     for sign in signs {

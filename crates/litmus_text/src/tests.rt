@@ -85,7 +85,8 @@ fn writes_named_registers_and_locations(rt: HostRuntime) -> Result<(), Fail> {
 #[test]
 fn reads_names_in_order(rt: HostRuntime) -> Result<(), Fail> {
     let alloc = rt.alloc();
-    let text = "X86 \t n6+2 \r\n{ 1:EDI=7; [z]=3 }\r\nP0|P1;\r\nmov [x],eax|mfence;\r\n |MOV EBX,EDI;\r\nexists (w=4294967295 /\\ true)";
+    let text =
+        "X86 \t n6+2 \r\n{ 1:EDI=7; [z]=3 }\r\nP0|P1;\r\nmov [x],eax|mfence;\r\n |MOV EBX,EDI;\r\nexists (w=4294967295 /\\ true)";
     let litmus = read_litmus(alloc, text.as_bytes())?;
     assert_eq!(rt; litmus.name.as_slice(), b"n6+2".as_slice());
     assert_eq!(rt; litmus.names.location(0), Some(b"z".as_slice()));
@@ -94,7 +95,10 @@ fn reads_names_in_order(rt: HostRuntime) -> Result<(), Fail> {
     assert_eq!(rt; litmus.program.memory(), [3, 0, 0].as_slice());
     let threads = litmus.program.threads();
     assert_eq!(rt; threads.len(), 2);
-    assert_eq!(rt; threads[0].code.as_slice(), [Instr::Store(1, Reg::Eax)].as_slice());
+    assert_eq!(rt;
+        threads[0].code.as_slice(),
+        [Instr::Store(1, Reg::Eax)].as_slice()
+    );
     assert_eq!(rt;
         threads[1].code.as_slice(),
         [Instr::Fence, Instr::Copy(Reg::Ebx, Reg::Edi)].as_slice()
@@ -109,7 +113,12 @@ fn reads_names_in_order(rt: HostRuntime) -> Result<(), Fail> {
 #[test]
 fn refuses_bytes_and_first_lines(rt: HostRuntime) -> Result<(), Fail> {
     let alloc = rt.alloc();
-    is_refused(&rt, alloc, b"X86 SB\n{ }\nP0 ;\n\xff", ReadFault::NotUtf8(4));
+    is_refused(
+        &rt,
+        alloc,
+        b"X86 SB\n{ }\nP0 ;\n\xff",
+        ReadFault::NotUtf8(4),
+    );
     is_refused(&rt, alloc, b"X86_64\n\xc3", ReadFault::NotUtf8(2));
     is_refused(&rt, alloc, b"", ReadFault::Ended(1));
     is_refused(&rt, alloc, b"no litmus text", ReadFault::Ended(1));
@@ -127,7 +136,13 @@ fn refuses_what_stands_before_the_rows(rt: HostRuntime) -> Result<(), Fail> {
     let alloc = rt.alloc();
     change_is_refused(&rt, alloc, "{ }", "{ int x=0; }", ReadFault::Initial(2))?;
     change_is_refused(&rt, alloc, "{ }", "{ x=0;\n[x]=1 }", ReadFault::Initial(3))?;
-    change_is_refused(&rt, alloc, "{ }", "{ 0:EAX=0;\n2:EAX=0 }", ReadFault::Initial(3))?;
+    change_is_refused(
+        &rt,
+        alloc,
+        "{ }",
+        "{ 0:EAX=0;\n2:EAX=0 }",
+        ReadFault::Initial(3),
+    )?;
     change_is_refused(&rt, alloc, "{ }", "{ x=-1 }", ReadFault::Number(2))?;
     change_is_refused(&rt, alloc, "{ }", "\"quoted\"\n{ }", ReadFault::Header(2))?;
     change_is_refused(&rt, alloc, "P0 | P1", "P0 | P2", ReadFault::Header(3))?;
@@ -137,29 +152,81 @@ fn refuses_what_stands_before_the_rows(rt: HostRuntime) -> Result<(), Fail> {
 #[test]
 fn refuses_rows(rt: HostRuntime) -> Result<(), Fail> {
     let alloc = rt.alloc();
-    change_is_refused(&rt, alloc, "MOV EAX,[y]", "INC EAX", ReadFault::Instruction(5))?;
+    change_is_refused(
+        &rt,
+        alloc,
+        "MOV EAX,[y]",
+        "INC EAX",
+        ReadFault::Instruction(5),
+    )?;
     change_is_refused(&rt, alloc, "MOV EAX,[y] |", "", ReadFault::Row(5))?;
-    change_is_refused(&rt, alloc, "MOV [x],$1", "MOV [x],[y]", ReadFault::Operand(4))?;
-    change_is_refused(&rt, alloc, "MOV [x],$1", "MOV [x],$4294967296", ReadFault::Number(4))?;
-    change_is_refused(&rt, alloc, "MOV [x],$1", "MOV [x],$1 MFENCE", ReadFault::Instruction(4))?;
-    is_refused(&rt, alloc, b"X86 SB\n{ }\nP0 | P1 ;\nMFENCE | ;\nMOV EAX,[", ReadFault::Ended(5));
-    is_refused(&rt, alloc, b"X86 SB\n{ }\nP0 ;\nMOV EA", ReadFault::Operand(4));
+    change_is_refused(
+        &rt,
+        alloc,
+        "MOV [x],$1",
+        "MOV [x],[y]",
+        ReadFault::Operand(4),
+    )?;
+    change_is_refused(
+        &rt,
+        alloc,
+        "MOV [x],$1",
+        "MOV [x],$4294967296",
+        ReadFault::Number(4),
+    )?;
+    change_is_refused(
+        &rt,
+        alloc,
+        "MOV [x],$1",
+        "MOV [x],$1 MFENCE",
+        ReadFault::Instruction(4),
+    )?;
+    is_refused(
+        &rt,
+        alloc,
+        b"X86 SB\n{ }\nP0 | P1 ;\nMFENCE | ;\nMOV EAX,[",
+        ReadFault::Ended(5),
+    );
+    is_refused(
+        &rt,
+        alloc,
+        b"X86 SB\n{ }\nP0 ;\nMOV EA",
+        ReadFault::Operand(4),
+    );
     Ok(())
 }
 
 #[test]
 fn refuses_conditions(rt: HostRuntime) -> Result<(), Fail> {
     let alloc = rt.alloc();
-    change_is_refused(&rt, alloc, "exists", "filter (x=1)\nexists", ReadFault::Condition(6))?;
+    change_is_refused(
+        &rt,
+        alloc,
+        "exists",
+        "filter (x=1)\nexists",
+        ReadFault::Condition(6),
+    )?;
     change_is_refused(&rt, alloc, "0:EAX", "2:EAX", ReadFault::Condition(6))?;
     change_is_refused(&rt, alloc, "(0", "\n0", ReadFault::Condition(7))?;
     change_is_refused(&rt, alloc, " /\\ 1:EAX=0)\n", "\n", ReadFault::Ended(7))?;
     change_is_refused(&rt, alloc, " /\\ 1:EAX=0)\n", " /", ReadFault::Ended(6))?;
-    change_is_refused(&rt, alloc, " /\\ 1:EAX=0)", " /\\ 1:EAX=-1)", ReadFault::Number(6))?;
+    change_is_refused(
+        &rt,
+        alloc,
+        " /\\ 1:EAX=0)",
+        " /\\ 1:EAX=-1)",
+        ReadFault::Number(6),
+    )?;
     change_is_refused(&rt, alloc, " /\\ 1:EAX=0)", " -1)", ReadFault::Condition(6))?;
     change_is_refused(&rt, alloc, " /\\", "\n x=1", ReadFault::Condition(7))?;
     change_is_refused(&rt, alloc, " /\\", "\n x", ReadFault::Condition(7))?;
-    change_is_refused(&rt, alloc, "1:EAX=0)", "1:EAX=0) true", ReadFault::Condition(6))?;
+    change_is_refused(
+        &rt,
+        alloc,
+        "1:EAX=0)",
+        "1:EAX=0) true",
+        ReadFault::Condition(6),
+    )?;
     Ok(())
 }
 
@@ -185,6 +252,11 @@ fn refuses_programs_past_the_limits(rt: HostRuntime) -> Result<(), Fail> {
     let long = ReadFault::Program(3, ProgramFault::TooLong(1));
     is_refused(&rt, alloc, fences(alloc, 2, 65)?.as_bytes(), long);
     let nine = b"X86 nine\n{ a=0; b=0; c=0; d=0; e=0; f=0; g=0; h=0; i=0; }\n\nP0 ;\nexists true";
-    is_refused(&rt, alloc, nine, ReadFault::Program(4, ProgramFault::Locations));
+    is_refused(
+        &rt,
+        alloc,
+        nine,
+        ReadFault::Program(4, ProgramFault::Locations),
+    );
     Ok(())
 }

@@ -13,8 +13,8 @@ loop-row-preserved c =
     let names = c.args.names.now.locations in
     let row = c.row-item.result in
     let seen : instruction_in names c.args.thread (row_view (get_or c.args.rows.now c.loop-row.row-index row)) ≡ instruction_in names c.args.thread (map cell_view c.as_slice.result.now) =
-        ap (λ (r : Vec (Option Code)). instruction_in names c.args.thread (row_view r)) (sym c.row-item.is)
-        ∙ ap (λ (cells : List (Option Code)). instruction_in names c.args.thread (map cell_view cells)) (sym c.as_slice.ensures.value) in
+    ap (λ (r : Vec (Option Code)). instruction_in names c.args.thread (row_view r)) (sym c.row-item.is)
+    ∙ ap (λ (cells : List (Option Code)). instruction_in names c.args.thread (map cell_view cells)) (sym c.as_slice.ensures.value) in
     elim c.match-instruction_in.branch [
       | in-Some+in_ok-push w ↦
           ap (λ (v : Vec Instr). v.items) w.instructions-is ∙ w.in_ok-push.ensures.items ∙ ap (λ (is : List Instr). is ++ w.in-Some.found ∷ []) c.loop-row.invariant

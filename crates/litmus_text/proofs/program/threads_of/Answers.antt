@@ -19,7 +19,7 @@ loop-thread-preserved c =
     let t = c.loop-thread.thread in
     let rows = map row_view c.args.body.now.rows.items in
     let code : c.of.result ≡ code_of names rows t =
-        c.of.ensures ∙ c.in_ok-code.ensures ∙ ap (λ (rs : List (Vec (Option Code))). code_of names (map row_view rs) t) c.as_slice.ensures.value in
+    c.of.ensures ∙ c.in_ok-code.ensures ∙ ap (λ (rs : List (Vec (Option Code))). code_of names (map row_view rs) t) c.as_slice.ensures.value in
     let registers = c.unwrap_or.ensures ∙ ap (λ (o : Option (List ℕ)). unwrap_or o (replicate 6 0)) c.copied.ensures ∙ c.get.ensures.lookup.4 (omega arith) (replicate 6 0) in
     c.in_ok-push.ensures.items
     ∙ ap (λ (ts : List Thread). ts ++ record { code = c.of.result; registers = c.unwrap_or.result } ∷ []) c.loop-thread.invariant

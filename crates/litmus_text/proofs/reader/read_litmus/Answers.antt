@@ -14,32 +14,32 @@ returns-in_err-name-clause-refused c =
 pub returns-clause-found : goal.returns-clause-found
 returns-clause-found c =
     let split : Split c.args.bytes.now c.in_ok-name.name.now c.in_ok-name.lines.now c.in_ok-tokens.tokens = record {
-          utf8 = c.in_ok-check_utf8.ensures.ok;
-          first_line = c.in_ok-name.ensures.found;
-          first_only = c.in_ok-name.ensures.only;
-          lexes = c.in_ok-tokens.ensures.found;
-          lexes_only = c.in_ok-tokens.ensures.only;
-        } in
+      utf8 = c.in_ok-check_utf8.ensures.ok;
+      first_line = c.in_ok-name.ensures.found;
+      first_only = c.in_ok-name.ensures.only;
+      lexes = c.in_ok-tokens.ensures.found;
+      lexes_only = c.in_ok-tokens.ensures.only;
+    } in
     text_found c.args.bytes.now c.in_ok-name.name.now c.of-name.result c.in_ok-name.lines.now c.in_ok-tokens.tokens c.read_tokens.result split (c.of-name.ensures ∙ c.in_ok-from_slice.ensures.items) c.read_tokens.ensures
 
 pub returns-clause-only : goal.returns-clause-only
 returns-clause-only c litmus is =
     let split : Split c.args.bytes.now c.in_ok-name.name.now c.in_ok-name.lines.now c.in_ok-tokens.tokens = record {
-          utf8 = c.in_ok-check_utf8.ensures.ok;
-          first_line = c.in_ok-name.ensures.found;
-          first_only = c.in_ok-name.ensures.only;
-          lexes = c.in_ok-tokens.ensures.found;
-          lexes_only = c.in_ok-tokens.ensures.only;
-        } in
+      utf8 = c.in_ok-check_utf8.ensures.ok;
+      first_line = c.in_ok-name.ensures.found;
+      first_only = c.in_ok-name.ensures.only;
+      lexes = c.in_ok-tokens.ensures.found;
+      lexes_only = c.in_ok-tokens.ensures.only;
+    } in
     text_only c.args.bytes.now c.in_ok-name.name.now c.of-name.result c.in_ok-name.lines.now c.in_ok-tokens.tokens c.read_tokens.result litmus split (c.of-name.ensures ∙ c.in_ok-from_slice.ensures.items) c.read_tokens.ensures is
 
 pub returns-clause-refused : goal.returns-clause-refused
 returns-clause-refused c =
     let split : Split c.args.bytes.now c.in_ok-name.name.now c.in_ok-name.lines.now c.in_ok-tokens.tokens = record {
-          utf8 = c.in_ok-check_utf8.ensures.ok;
-          first_line = c.in_ok-name.ensures.found;
-          first_only = c.in_ok-name.ensures.only;
-          lexes = c.in_ok-tokens.ensures.found;
-          lexes_only = c.in_ok-tokens.ensures.only;
-        } in
+      utf8 = c.in_ok-check_utf8.ensures.ok;
+      first_line = c.in_ok-name.ensures.found;
+      first_only = c.in_ok-name.ensures.only;
+      lexes = c.in_ok-tokens.ensures.found;
+      lexes_only = c.in_ok-tokens.ensures.only;
+    } in
     text_refused c.args.bytes.now c.in_ok-name.name.now c.of-name.result c.in_ok-name.lines.now c.in_ok-tokens.tokens c.read_tokens.result split c.read_tokens.ensures

@@ -16,7 +16,7 @@ returns-in_err-formula c =
     let signs = map sign_at_view c.in_ok-signs.signs.signs.items in
     let found = found_of c.args.tokens.now (toks c.as_slice.result.now) (toks c.in-Ok.parts.1.now) (body_view c.in-Ok.parts.0) c.in_ok-signs.signs.refusal signs c.as_slice.ensures c.in-Ok.ensures c.in_ok-signs.ensures in
     let names : c.in_ok-names.names ≡ names_of (body_view c.in-Ok.parts.0) signs =
-        c.in_ok-names.ensures ∙ ap (λ (s : List SignAt). names_of (body_view c.in-Ok.parts.0) (map sign_at_view s)) c.as_slice-2.ensures.value in
+    c.in_ok-names.ensures ∙ ap (λ (s : List SignAt). names_of (body_view c.in-Ok.parts.0) (map sign_at_view s)) c.as_slice-2.ensures.value in
     let p = err_from_is_err_and c.from_residual-in_err-formula.result c.from_residual-in_err-formula.ensures.1 in
     rw (p.1, p.2) (refused_formula c.args.tokens.now (body_view c.in-Ok.parts.0) c.in_ok-signs.signs.refusal signs c.in_ok-names.names c.in_err-formula.field-0.0 found names c.in_err-formula.ensures)
 
@@ -25,7 +25,7 @@ returns-in_err-program c =
     let signs = map sign_at_view c.in_ok-signs.signs.signs.items in
     let found = found_of c.args.tokens.now (toks c.as_slice.result.now) (toks c.in-Ok.parts.1.now) (body_view c.in-Ok.parts.0) c.in_ok-signs.signs.refusal signs c.as_slice.ensures c.in-Ok.ensures c.in_ok-signs.ensures in
     let names : c.in_ok-names.names ≡ names_of (body_view c.in-Ok.parts.0) signs =
-        c.in_ok-names.ensures ∙ ap (λ (s : List SignAt). names_of (body_view c.in-Ok.parts.0) (map sign_at_view s)) c.as_slice-2.ensures.value in
+    c.in_ok-names.ensures ∙ ap (λ (s : List SignAt). names_of (body_view c.in-Ok.parts.0) (map sign_at_view s)) c.as_slice-2.ensures.value in
     let p = err_from_is_err_and c.from_residual-in_err-program.result c.from_residual-in_err-program.ensures.1 in
     rw (p.1, p.2)
     (refused_program c.args.tokens.now (body_view c.in-Ok.parts.0) c.in_ok-signs.signs.refusal signs c.in_ok-names.names c.in_ok-formula.formula c.in_err-program.field-0.0 found names c.in_ok-formula.ensures c.in_err-program.ensures)
@@ -35,6 +35,6 @@ returns c =
     let signs = map sign_at_view c.in_ok-signs.signs.signs.items in
     let found = found_of c.args.tokens.now (toks c.as_slice.result.now) (toks c.in-Ok.parts.1.now) (body_view c.in-Ok.parts.0) c.in_ok-signs.signs.refusal signs c.as_slice.ensures c.in-Ok.ensures c.in_ok-signs.ensures in
     let names : c.in_ok-names.names ≡ names_of (body_view c.in-Ok.parts.0) signs =
-        c.in_ok-names.ensures ∙ ap (λ (s : List SignAt). names_of (body_view c.in-Ok.parts.0) (map sign_at_view s)) c.as_slice-2.ensures.value in
+    c.in_ok-names.ensures ∙ ap (λ (s : List SignAt). names_of (body_view c.in-Ok.parts.0) (map sign_at_view s)) c.as_slice-2.ensures.value in
     let m = meaning c.args.tokens.now (body_view c.in-Ok.parts.0) c.in_ok-signs.signs.refusal signs _ found names c.in_ok-formula.ensures refl c.in_ok-program.ensures in
     (refl, m.0, m.1)
