@@ -16,7 +16,7 @@ use Rattle.tso_machine.specs.declared.label.Label.TheVariants.{Exec, Flush}
 use Rattle.tso_machine.specs.declared.label.Pending.{Pending}
 use Rattle.tso_machine.specs.Machine.{no_gaps, State, put, when_empty, step, run}
 use Rattle.fence_laws.proofs.ChangedAt.{put_same, put_other}
-use Rattle.fence_laws.proofs.FencedPlaces.{first_of, instr_at_place, instr_after_fence}
+use Rattle.tso_program.proofs.FencedPlaces.{first_of, instr_at_place, instr_after_fence}
 use Rattle.fence_laws.proofs.FencedActions.{placed}
 use Rattle.fence_laws.proofs.EitherMachine.{mode_with, effect, NothingWaits, made, makes, others_keep, stands_at, stored, flush_made, flush_makes}
 use Rattle.fence_laws.proofs.FencedSteps.{with_locals, follow, fence_step, instruction_step}

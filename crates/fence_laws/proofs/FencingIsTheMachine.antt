@@ -12,7 +12,7 @@ use Rattle.tso_program.specs.Listings.{action, instr_at, start_of}
 use Rattle.tso_program.specs.Fences.{Gaps, place_of, moved, fence}
 use Rattle.tso_machine.specs.Machine.{no_gaps, State, start, outcome_at, HasEnded, Allows}
 use Rattle.fence_laws.specs.Laws.{FencingIsTheMachineWithGaps, FencingKeepsSequentialOutcomes}
-use Rattle.fence_laws.proofs.FencedPlaces.{first_of, same_registers, same_count, instr_at_place, instr_after_fence}
+use Rattle.tso_program.proofs.FencedPlaces.{first_of, same_registers, same_count, instr_at_place, instr_after_fence}
 use Rattle.fence_laws.proofs.FencedActions.{placed, stops_at_none}
 use Rattle.fence_laws.proofs.EitherMachine.{mode_with}
 use Rattle.fence_laws.proofs.FencedSteps.{with_locals}

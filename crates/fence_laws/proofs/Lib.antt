@@ -9,7 +9,6 @@ pub mod NothingPassed
 pub mod Unfenced
 pub mod AllGapsFenced
 -- fenced programs
-pub mod FencedPlaces
 pub mod FencedActions
 pub mod EitherMachine
 pub mod FencedSteps

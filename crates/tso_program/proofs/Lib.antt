@@ -2,3 +2,5 @@ pub mod Found
 pub mod WithinLimits
 pub mod Gaps
 pub mod Located
+pub mod FencedPlaces
+pub mod FencedLimits

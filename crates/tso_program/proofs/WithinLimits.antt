@@ -1,5 +1,5 @@
 -- No refusal applies exactly within the limits.
-use Rattle.std.proofs.Common.{◌≡◌, ℕ, ◌+◌, ◌<◌, ◌≤◌, ◌==◌, Bool, true, false, ◌||◌, List, [], ◌∷◌, length, get_or, Option, Some, None, refl, sym, ap, ◌∙◌, arith}
+use Rattle.std.proofs.Common.{◌≡◌, ℕ, ◌+◌, ◌<◌, ◌≤◌, ◌==◌, Bool, true, false, ◌||◌, List, [], ◌∷◌, ◌++◌, length, get_or, Option, Some, None, refl, sym, ap, ◌∙◌, arith}
 use Rattle.std.specs.Prelude.{nat_lt, nat_le, slice_get, is_some, unwrap_or, sum_by, if◌then◌else◌, All}
 use Rattle.std.specs.List.{list_any, enumerate_from}
 use Rattle.std.specs.Option.{option_map_or}
@@ -11,7 +11,7 @@ use Rattle.tso_program.specs.declared.limits.ProgramFault.{ProgramFault}
 use Rattle.tso_program.specs.declared.limits.ProgramFault.TheVariants.{NoThreads, TooManyThreads, TooLong, Locations, TooManyAccesses, BackwardJump, JumpPastEnd, TooManyGaps}
 use Rattle.tso_program.specs.Instructions.{location_of, target_of}
 use Rattle.tso_program.specs.Listings.{code_of, instr_at, accesses_of, gap_count}
-use Rattle.tso_program.specs.Limits.{IsWithinLimits, first_long, is_astray, some_astray, is_backward, is_past_end, first_backward_in, first_past_end_in, first_found, first_true, at_place, first_fault, LimitsAreTheRefusals}
+use Rattle.tso_program.specs.Limits.{IsWithinSharedLimits, IsWithinLimits, IsWithinFencedLimits, first_long, is_astray, some_astray, is_backward, is_past_end, first_backward_in, first_past_end_in, first_found, first_true, at_place, shared_refusals, first_fault, first_fenced_fault, LimitsAreTheRefusals, FencedLimitsAreTheRefusals}
 use Rattle.tso_program.proofs.Found.{instr_found, code_found, enumerated, enumerated_back, not_found, none_found, neither, not_any, none_any, found_nowhere, nowhere_found}
 
 -- what each test says
@@ -46,12 +46,30 @@ no_fault : {F : Type 0} (b : Bool) (f : F) (rest : Option F) → (if b then Some
 no_fault true f rest e = absurd cc
 no_fault false f rest e = (refl, e)
 
--- the tests from one on, up to the last
-abbrev after_jumps : List Thread → List (Bool × ProgramFault)
-after_jumps threads = (nat_lt 64 (gap_count threads), TooManyGaps) ∷ []
+-- where nothing of a list and another applies, nothing of either does; and the other way round
+no_fault_of_both : (fs gs : List (Bool × ProgramFault)) → first_true (fs ++ gs) ≡ None → (first_true fs ≡ None) × (first_true gs ≡ None)
+no_fault_of_both [] gs e = (refl, e)
+no_fault_of_both (f ∷ fs) gs e =
+    let here = no_fault f.0 f.1 (first_true (fs ++ gs)) e in
+    let rest = no_fault_of_both fs gs here.1 in
+    (rw here.0 rest.0, rest.1)
 
+pub no_fault_then : (fs gs : List (Bool × ProgramFault)) → first_true fs ≡ None → first_true (fs ++ gs) ≡ first_true gs
+no_fault_then [] gs e = refl
+no_fault_then (f ∷ fs) gs e = let here = no_fault f.0 f.1 (first_true fs) e in rw here.0 (no_fault_then fs gs here.1)
+
+-- what applies first of a list does so of a longer one
+first_of : {F : Type 0} (b : Bool) (f fault : F) (short long : Option F) → (short ≡ Some fault → long ≡ Some fault) → (if b then Some f else short) ≡ Some fault → (if b then Some f else long) ≡ Some fault
+first_of true f fault short long h e = e
+first_of false f fault short long h e = h e
+
+pub fault_first : (fs gs : List (Bool × ProgramFault)) (fault : ProgramFault) → first_true fs ≡ Some fault → first_true (fs ++ gs) ≡ Some fault
+fault_first [] gs fault e = absurd cc
+fault_first (f ∷ fs) gs fault e = first_of f.0 f.1 fault (first_true fs) (first_true (fs ++ gs)) (fault_first fs gs fault) e
+
+-- the shared refusals from one on, up to the last
 abbrev after_accesses : List Thread → List (Bool × ProgramFault)
-after_accesses threads = at_place BackwardJump (first_found first_backward_in 0 threads) ∷ at_place JumpPastEnd (first_found first_past_end_in 0 threads) ∷ after_jumps threads
+after_accesses threads = at_place BackwardJump (first_found first_backward_in 0 threads) ∷ at_place JumpPastEnd (first_found first_past_end_in 0 threads) ∷ []
 
 abbrev after_long : List Thread → List ℕ → List (Bool × ProgramFault)
 after_long threads memory =
@@ -59,51 +77,58 @@ after_long threads memory =
     ∷ (nat_lt 24 (sum_by accesses_of threads), TooManyAccesses)
     ∷ after_accesses threads
 
-abbrev after_many : List Thread → List ℕ → List (Bool × ProgramFault)
-after_many threads memory = (is_some (first_long threads), TooLong (unwrap_or (first_long threads) 0)) ∷ after_long threads memory
+abbrev after_many : ℕ → List Thread → List ℕ → List (Bool × ProgramFault)
+after_many longest threads memory = (is_some (first_long longest threads), TooLong (unwrap_or (first_long longest threads) 0)) ∷ after_long threads memory
 
--- every test fails
-record NoTest (threads : List Thread) (memory : List ℕ) : Type 0 where
+-- every shared test fails
+record NoTest (longest : ℕ) (threads : List Thread) (memory : List ℕ) : Type 0 where
   none : (length threads == 0) ≡ false
   many : nat_lt 8 (length threads) ≡ false
-  long : is_some (first_long threads) ≡ false
+  long : is_some (first_long longest threads) ≡ false
   places : nat_lt 8 (length memory) ≡ false
   astray : some_astray (length memory) threads ≡ false
   accesses : nat_lt 24 (sum_by accesses_of threads) ≡ false
   backward : is_some (first_found first_backward_in 0 threads) ≡ false
   past_end : is_some (first_found first_past_end_in 0 threads) ≡ false
-  gaps : nat_lt 64 (gap_count threads) ≡ false
 
 next_test : (f : Bool × ProgramFault) (fs : List (Bool × ProgramFault)) → first_true (f ∷ fs) ≡ None → (f.0 ≡ false) × (first_true fs ≡ None)
 next_test f fs e = no_fault f.0 f.1 (first_true fs) e
 
-tests : (threads : List Thread) (memory : List ℕ) → first_fault threads memory ≡ None → NoTest threads memory
-tests threads memory e =
-    let one = next_test (length threads == 0, NoThreads) ((nat_lt 8 (length threads), TooManyThreads) ∷ after_many threads memory) e in
-    let two = next_test (nat_lt 8 (length threads), TooManyThreads) (after_many threads memory) one.1 in
-    let three = next_test (is_some (first_long threads), TooLong (unwrap_or (first_long threads) 0)) (after_long threads memory) two.1 in
+tests : (longest : ℕ) (threads : List Thread) (memory : List ℕ) → first_true (shared_refusals longest threads memory) ≡ None → NoTest longest threads memory
+tests longest threads memory e =
+    let one = next_test (length threads == 0, NoThreads) ((nat_lt 8 (length threads), TooManyThreads) ∷ after_many longest threads memory) e in
+    let two = next_test (nat_lt 8 (length threads), TooManyThreads) (after_many longest threads memory) one.1 in
+    let three = next_test (is_some (first_long longest threads), TooLong (unwrap_or (first_long longest threads) 0)) (after_long threads memory) two.1 in
     let four = next_test (nat_lt 8 (length memory) || some_astray (length memory) threads, Locations) ((nat_lt 24 (sum_by accesses_of threads), TooManyAccesses) ∷ after_accesses threads) three.1 in
     let five = next_test (nat_lt 24 (sum_by accesses_of threads), TooManyAccesses) (after_accesses threads) four.1 in
-    let six = next_test (at_place BackwardJump (first_found first_backward_in 0 threads)) (at_place JumpPastEnd (first_found first_past_end_in 0 threads) ∷ after_jumps threads) five.1 in
-    let seven = next_test (at_place JumpPastEnd (first_found first_past_end_in 0 threads)) (after_jumps threads) six.1 in
-    let eight = next_test (nat_lt 64 (gap_count threads), TooManyGaps) [] seven.1 in
+    let six = next_test (at_place BackwardJump (first_found first_backward_in 0 threads)) (at_place JumpPastEnd (first_found first_past_end_in 0 threads) ∷ []) five.1 in
+    let seven = next_test (at_place JumpPastEnd (first_found first_past_end_in 0 threads)) [] six.1 in
     let place = neither (nat_lt 8 (length memory)) (some_astray (length memory) threads) four.0 in
-    record { none = one.0; many = two.0; long = three.0; places = place.0; astray = place.1; accesses = five.0; backward = six.0; past_end = seven.0; gaps = eight.0 }
+    record { none = one.0; many = two.0; long = three.0; places = place.0; astray = place.1; accesses = five.0; backward = six.0; past_end = seven.0 }
 
-no_tests : (threads : List Thread) (memory : List ℕ) → NoTest threads memory → first_fault threads memory ≡ None
-no_tests threads memory t = rw (t.none, t.many, t.long, t.places, t.astray, t.accesses, t.backward, t.past_end, t.gaps) refl
+no_tests : (longest : ℕ) (threads : List Thread) (memory : List ℕ) → NoTest longest threads memory → first_true (shared_refusals longest threads memory) ≡ None
+no_tests longest threads memory t = rw (t.none, t.many, t.long, t.places, t.astray, t.accesses, t.backward, t.past_end) refl
 
 -- from the tests to the facts
 
-short_code : (threads : List Thread) (t : ℕ) → is_some (first_long threads) ≡ false → length (code_of threads t) ≤ 64
-short_code threads t e = go (slice_get threads t) refl
+short_code : (longest : ℕ) (threads : List Thread) (t : ℕ) → is_some (first_long longest threads) ≡ false → length (code_of threads t) ≤ longest
+short_code longest threads t e = go (slice_get threads t) refl
   where
-    go : (o : Option Thread) → slice_get threads t ≡ o → length (option_map_or (λ (x : Thread). x.code) o []) ≤ 64
+    go : (o : Option Thread) → slice_get threads t ≡ o → length (option_map_or (λ (x : Thread). x.code) o []) ≤ longest
     go None is = omega arith
-    go (Some thread) is = few 64 (length thread.code) (not_found (λ (x : Thread). nat_lt 64 (length x.code)) threads e t thread is)
+    go (Some thread) is = few longest (length thread.code) (not_found (λ (x : Thread). nat_lt longest (length x.code)) threads e t thread is)
 
-pub all_short : (threads : List Thread) → is_some (first_long threads) ≡ false → All (λ t. length t.code ≤ 64) threads
-all_short threads e k d h = few 64 (length (get_or threads k d).code) (not_found (λ (x : Thread). nat_lt 64 (length x.code)) threads e k (get_or threads k d) (slice_get-get_or threads k d h))
+pub all_short : (longest most : ℕ) (threads : List Thread) → longest ≤ most → is_some (first_long longest threads) ≡ false → All (λ t. length t.code ≤ most) threads
+all_short longest most threads small e k d h =
+    let here = few longest (length (get_or threads k d).code) (not_found (λ (x : Thread). nat_lt longest (length x.code)) threads e k (get_or threads k d) (slice_get-get_or threads k d h)) in
+    omega arith
+
+-- where no shared refusal applies, each thread is short
+pub short_where_none : (threads : List Thread) (memory : List ℕ) → first_true (shared_refusals 64 threads memory) ≡ None → All (λ t. length t.code ≤ 64) threads
+short_where_none threads memory e = all_short 64 64 threads (omega arith) (tests 64 threads memory e).long
+
+pub few_where_none : (threads : List Thread) (memory : List ℕ) → first_true (shared_refusals 64 threads memory) ≡ None → length threads ≤ 8
+few_where_none threads memory e = few 8 (length threads) (tests 64 threads memory e).many
 
 module _ (threads : List Thread) (t k : ℕ) (x : Instr) (there : instr_at threads t k ≡ Some x) where
   astray_fact : (locations l : ℕ) → some_astray locations threads ≡ false → location_of x ≡ Some l → l < locations
@@ -127,30 +152,40 @@ module _ (threads : List Thread) (t k : ℕ) (x : Instr) (there : instr_at threa
       let here : is_past_end (length found.0.code) x ≡ false = not_found (is_past_end (length found.0.code)) found.0.code none k x found.2 in
       rw (code_found threads t found.0 found.1) (few (length found.0.code) target (tested (λ m. nat_lt (length found.0.code) m) (target_of x) target here is))
 
-pub within : (threads : List Thread) (memory : List ℕ) → first_fault threads memory ≡ None → IsWithinLimits threads memory
-within threads memory e =
-    let t = tests threads memory e in
+shared_within : (longest : ℕ) (threads : List Thread) (memory : List ℕ) → first_true (shared_refusals longest threads memory) ≡ None → IsWithinSharedLimits longest threads memory
+shared_within longest threads memory e =
+    let t = tests longest threads memory e in
     record {
       some_thread = some_of (length threads) t.none;
       few_threads = few 8 (length threads) t.many;
-      short_threads = λ u. short_code threads u t.long;
+      short_threads = λ u. short_code longest threads u t.long;
       few_locations = few 8 (length memory) t.places;
       located = λ u k l x there is. astray_fact threads u k x there (length memory) l t.astray is;
       few_accesses = few 24 (sum_by accesses_of threads) t.accesses;
       forward_jumps = λ u k target x there is. forward_fact threads u k x there target t.backward is;
       inner_jumps = λ u k target x there is. inner_fact threads u k x there target t.past_end is;
-      few_gaps = few 64 (gap_count threads) t.gaps;
     }
+
+pub within : (threads : List Thread) (memory : List ℕ) → first_fault threads memory ≡ None → IsWithinLimits threads memory
+within threads memory e =
+    let both = no_fault_of_both (shared_refusals 64 threads memory) ((nat_lt 64 (gap_count threads), TooManyGaps) ∷ []) e in
+    record {
+      shared = shared_within 64 threads memory both.0;
+      few_gaps = few 64 (gap_count threads) (next_test (nat_lt 64 (gap_count threads), TooManyGaps) [] both.1).0;
+    }
+
+pub within_fenced : (threads : List Thread) (memory : List ℕ) → first_fenced_fault threads memory ≡ None → IsWithinFencedLimits threads memory
+within_fenced threads memory e = shared_within 127 threads memory e
 
 -- from the facts to the tests
 
-module _ (threads : List Thread) (memory : List ℕ) (w : IsWithinLimits threads memory) where
+module _ (longest : ℕ) (threads : List Thread) (memory : List ℕ) (w : IsWithinSharedLimits longest threads memory) where
   instr_there : (t k : ℕ) (x : Instr) (thread : Thread) → slice_get threads t ≡ Some thread → slice_get thread.code k ≡ Some x → instr_at threads t k ≡ Some x
   instr_there t k x thread e f = rw (code_found threads t thread e) f
 
-  no_long : is_some (first_long threads) ≡ false
-  no_long = none_found (λ (x : Thread). nat_lt 64 (length x.code)) threads (λ t thread e.
-      not_more 64 (length thread.code) (rw (code_found threads t thread e) at (w.short_threads t)))
+  no_long : is_some (first_long longest threads) ≡ false
+  no_long = none_found (λ (x : Thread). nat_lt longest (length x.code)) threads (λ t thread e.
+      not_more longest (length thread.code) (rw (code_found threads t thread e) at (w.short_threads t)))
 
   no_astray : some_astray (length memory) threads ≡ false
   no_astray = none_any (λ (x : Thread). list_any (is_astray (length memory)) x.code) threads (λ t thread e.
@@ -172,8 +207,8 @@ module _ (threads : List Thread) (memory : List ℕ) (w : IsWithinLimits threads
       untested (λ target. nat_lt (length thread.code) target) (target_of x) (λ target is.
       not_more (length thread.code) target (rw (code_found threads t thread e) at (w.inner_jumps t k target x (instr_there t k x thread e f) is)))))
 
-  pub refused_not : first_fault threads memory ≡ None
-  refused_not = no_tests threads memory (record {
+  shared_refused_not : first_true (shared_refusals longest threads memory) ≡ None
+  shared_refused_not = no_tests longest threads memory (record {
     none = not_none (length threads) w.some_thread;
     many = not_more 8 (length threads) w.few_threads;
     long = no_long;
@@ -182,8 +217,15 @@ module _ (threads : List Thread) (memory : List ℕ) (w : IsWithinLimits threads
     accesses = not_more 24 (sum_by accesses_of threads) w.few_accesses;
     backward = no_backward;
     past_end = no_past_end;
-    gaps = not_more 64 (gap_count threads) w.few_gaps;
   })
+
+refused_not : (threads : List Thread) (memory : List ℕ) → IsWithinLimits threads memory → first_fault threads memory ≡ None
+refused_not threads memory w =
+    no_fault_then (shared_refusals 64 threads memory) ((nat_lt 64 (gap_count threads), TooManyGaps) ∷ []) (shared_refused_not 64 threads memory w.shared)
+    ∙ rw (not_more 64 (gap_count threads) w.few_gaps) refl
 
 pub limits_are_the_refusals : LimitsAreTheRefusals
 limits_are_the_refusals threads memory = (within threads memory, refused_not threads memory)
+
+pub fenced_limits_are_the_refusals : FencedLimitsAreTheRefusals
+fenced_limits_are_the_refusals threads memory = (within_fenced threads memory, shared_refused_not 127 threads memory)

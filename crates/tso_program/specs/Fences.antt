@@ -1,13 +1,15 @@
 -- Programs with fences put into their gaps.
-use Rattle.std.specs.Prelude.{ℕ, zero, suc, ◌+◌, Bool, false, List, [], ◌∷◌, ◌++◌, if◌then◌else◌}
+use Rattle.std.specs.Prelude.{ℕ, zero, suc, ◌+◌, Bool, false, nat_le, List, [], ◌∷◌, ◌++◌, Option, if◌then◌else◌}
+use Rattle.std.specs.List.{find}
 use Rattle.std.specs.Option.{option_map_or}
 use Rattle.std.specs.FinSet as set
-use Rattle.gap_sets.specs.Gaps.{SetOfGaps}
+use Rattle.gap_sets.specs.Gaps.{SetOfGaps, gaps_in as ascending}
 use Rattle.tso_program.specs.declared.instruction.Instr.{Instr}
 use Rattle.tso_program.specs.declared.instruction.Instr.TheVariants.{LoadImm, Copy, Load, StoreImm, Store, Xchg, Fence, CmpImm, CmpReg, Je, Jne, Jmp}
 use Rattle.tso_program.specs.declared.listing.Thread.{Thread}
 use Rattle.tso_program.specs.declared.listing.Listing.{Listing}
-use Rattle.tso_program.specs.Listings.{gap_number}
+use Rattle.tso_program.specs.Listings.{gap_count, gap_number}
+use Rattle.tso_program.specs.Limits.{IsWithinLimits, IsWithinFencedLimits}
 
 -- a set of gaps: whether the gap before instruction k of thread t is in it
 abbrev pub Gaps : Type 0
@@ -51,3 +53,12 @@ fenced_threads gaps t (thread ∷ threads) =
 -- the program with an MFENCE in each gap of the set
 abbrev pub fence : Gaps → Listing → Listing
 fence gaps p = record { threads = fenced_threads gaps 0 p.threads; memory = p.memory }
+
+-- the least gap of the set that the program has not
+abbrev pub first_missing : Listing → SetOfGaps → Option ℕ
+first_missing p gaps = find (λ gap. nat_le (gap_count p.threads) gap) (ascending gaps)
+
+-- a program within its limits is, with its fences, within those of a fenced program
+abbrev pub FencingStaysWithinLimits : Type 0
+FencingStaysWithinLimits = (p : Listing) (gaps : SetOfGaps) → IsWithinLimits p.threads p.memory →
+    IsWithinFencedLimits (fence (gaps_in p gaps) p).threads (fence (gaps_in p gaps) p).memory

@@ -1,5 +1,5 @@
 -- The limits of a program, and the first that a listing breaks.
-use Rattle.std.specs.Prelude.{◌≡◌, ℕ, ◌+◌, ◌<◌, ◌≤◌, ◌==◌, ◌||◌, Bool, false, nat_lt, nat_le, List, [], ◌∷◌, length, Option, Some, None, is_some, unwrap_or, sum_by, position, if◌then◌else◌, ◌↔◌}
+use Rattle.std.specs.Prelude.{◌≡◌, ℕ, ◌+◌, ◌<◌, ◌≤◌, ◌==◌, ◌||◌, Bool, false, nat_lt, nat_le, List, [], ◌∷◌, ◌++◌, length, Option, Some, None, is_some, unwrap_or, sum_by, position, if◌then◌else◌, ◌↔◌}
 use Rattle.std.specs.List.{list_any, enumerate_from}
 use Rattle.std.specs.Option.{option_map_or}
 use Rattle.tso_program.specs.declared.instruction.Instr.{Instr}
@@ -9,21 +9,29 @@ use Rattle.tso_program.specs.declared.limits.ProgramFault.TheVariants.{NoThreads
 use Rattle.tso_program.specs.Instructions.{location_of, target_of}
 use Rattle.tso_program.specs.Listings.{code_of, instr_at, accesses_of, gap_count}
 
--- threads and initial values within the limits
-pub record IsWithinLimits (threads : List Thread) (memory : List ℕ) : Type 0 where
+-- threads and initial values within the limits that programs and fenced programs share; a thread has at most so many instructions
+pub record IsWithinSharedLimits (longest : ℕ) (threads : List Thread) (memory : List ℕ) : Type 0 where
   pub some_thread : 0 < length threads
   pub few_threads : length threads ≤ 8
-  pub short_threads : (t : ℕ) → length (code_of threads t) ≤ 64
+  pub short_threads : (t : ℕ) → length (code_of threads t) ≤ longest
   pub few_locations : length memory ≤ 8
   pub located : (t k l : ℕ) (x : Instr) → instr_at threads t k ≡ Some x → location_of x ≡ Some l → l < length memory
   pub few_accesses : sum_by accesses_of threads ≤ 24
   pub forward_jumps : (t k target : ℕ) (x : Instr) → instr_at threads t k ≡ Some x → target_of x ≡ Some target → k < target
   pub inner_jumps : (t k target : ℕ) (x : Instr) → instr_at threads t k ≡ Some x → target_of x ≡ Some target → target ≤ length (code_of threads t)
+
+-- a program within the limits
+pub record IsWithinLimits (threads : List Thread) (memory : List ℕ) : Type 0 where
+  pub shared : IsWithinSharedLimits 64 threads memory
   pub few_gaps : gap_count threads ≤ 64
 
--- the first thread of more than 64 instructions
-abbrev pub first_long : List Thread → Option ℕ
-first_long threads = position (λ t. nat_lt 64 (length t.code)) threads
+-- a fenced program within its limits: a thread of 64 instructions has 63 gaps; any number of gaps is left
+abbrev pub IsWithinFencedLimits : List Thread → List ℕ → Type 0
+IsWithinFencedLimits threads memory = IsWithinSharedLimits 127 threads memory
+
+-- the first thread of more instructions than that
+abbrev pub first_long : ℕ → List Thread → Option ℕ
+first_long longest threads = position (λ t. nat_lt longest (length t.code)) threads
 
 -- an instruction that names none of so many locations
 abbrev pub is_astray : ℕ → Instr → Bool
@@ -61,19 +69,30 @@ first_true (f ∷ fs) = if f.0 then Some f.1 else first_true fs
 abbrev pub at_place : (ℕ → ℕ → ProgramFault) → Option (ℕ × ℕ) → Bool × ProgramFault
 at_place fault found = (is_some found, fault (unwrap_or found (0, 0)).0 (unwrap_or found (0, 0)).1)
 
--- the first refusal that applies, in this order
-abbrev pub first_fault : List Thread → List ℕ → Option ProgramFault
-first_fault threads memory = first_true (
+-- the refusals that programs and fenced programs share, in their order
+abbrev pub shared_refusals : ℕ → List Thread → List ℕ → List (Bool × ProgramFault)
+shared_refusals longest threads memory =
     (length threads == 0, NoThreads)
     ∷ (nat_lt 8 (length threads), TooManyThreads)
-    ∷ (is_some (first_long threads), TooLong (unwrap_or (first_long threads) 0))
+    ∷ (is_some (first_long longest threads), TooLong (unwrap_or (first_long longest threads) 0))
     ∷ (nat_lt 8 (length memory) || some_astray (length memory) threads, Locations)
     ∷ (nat_lt 24 (sum_by accesses_of threads), TooManyAccesses)
     ∷ at_place BackwardJump (first_found first_backward_in 0 threads)
     ∷ at_place JumpPastEnd (first_found first_past_end_in 0 threads)
-    ∷ (nat_lt 64 (gap_count threads), TooManyGaps)
-    ∷ [])
+    ∷ []
+
+-- the first refusal of a program that applies
+abbrev pub first_fault : List Thread → List ℕ → Option ProgramFault
+first_fault threads memory = first_true (shared_refusals 64 threads memory ++ (nat_lt 64 (gap_count threads), TooManyGaps) ∷ [])
+
+-- the first refusal of a fenced program that applies
+abbrev pub first_fenced_fault : List Thread → List ℕ → Option ProgramFault
+first_fenced_fault threads memory = first_true (shared_refusals 127 threads memory)
 
 -- no refusal applies exactly within the limits
 abbrev pub LimitsAreTheRefusals : Type 0
 LimitsAreTheRefusals = (threads : List Thread) (memory : List ℕ) → (first_fault threads memory ≡ None) ↔ IsWithinLimits threads memory
+
+-- the same of fenced programs
+abbrev pub FencedLimitsAreTheRefusals : Type 0
+FencedLimitsAreTheRefusals = (threads : List Thread) (memory : List ℕ) → (first_fenced_fault threads memory ≡ None) ↔ IsWithinFencedLimits threads memory

@@ -1,10 +1,12 @@
 //! Programs of a few threads over a few locations, and what they leave.
 //!
 //! A program is a [`Listing`]: threads of numbered instructions, the initial registers of each, and
-//! an initial value for each location. A [`Program`] is a listing within the limits.
+//! an initial value for each location. A [`Program`] is a listing within the limits, a
+//! [`FencedProgram`] one with fences in it, within limits of its own.
 #![tactic(auto)]
 
 mod action;
+mod fenced;
 mod instruction;
 mod items;
 mod limits;
@@ -13,6 +15,7 @@ mod outcome;
 mod program;
 
 pub use action::{Action, Local};
+pub use fenced::{FenceFault, FencedProgram, fencing_stays_within_limits};
 pub use instruction::{Instr, Reg};
 pub use items::Items;
 pub use limits::{ProgramFault, limits_are_the_refusals};

@@ -3,7 +3,7 @@ ghost use Rattle.std.specs.Prelude.{◌≡◌, ◌≤◌, ◌<◌, length, All, 
 ghost use Rattle.std.specs.List.{list_any};
 ghost use Rattle.tso_program.specs.Listings.{accesses_of, gaps_of_thread, gap_count};
 ghost use Rattle.tso_program.specs.declared.limits.ProgramFault.TheVariants.{OutOfMemory};
-ghost use Rattle.tso_program.specs.Limits.{first_fault, first_long, is_astray, some_astray, first_backward_in, first_past_end_in, first_found, LimitsAreTheRefusals};
+ghost use Rattle.tso_program.specs.Limits.{shared_refusals, first_true, first_fault, first_fenced_fault, first_long, is_astray, some_astray, first_backward_in, first_past_end_in, first_found, LimitsAreTheRefusals, FencedLimitsAreTheRefusals};
 
 use crate::Thread;
 use std::alloc::{AllocError, AllocFailed};
@@ -11,8 +11,10 @@ use thiserror::Error;
 
 /// The most threads of a program.
 pub const MAX_THREADS: usize = 8;
-/// The most instructions of a thread.
+/// The most instructions of a thread of a program.
 pub const MAX_INSTRUCTIONS: usize = 64;
+/// The most instructions of a thread of a fenced program: 64, and a fence in each of their 63 gaps.
+pub const MAX_FENCED_INSTRUCTIONS: usize = 127;
 /// The most locations of a program.
 pub const MAX_LOCATIONS: usize = 8;
 /// The most accesses of a program; an exchange is one.
@@ -27,7 +29,7 @@ pub enum ProgramFault {
     NoThreads,
     #[error("2 TooManyThreads")]
     TooManyThreads,
-    /// A thread of more than 64 instructions.
+    /// A thread of more than 64 instructions, or 127 in a fenced program.
     #[error("3 TooLong {0}")]
     TooLong(u8),
     /// More than 8 initial values, or an instruction that names a location without one.
@@ -41,6 +43,7 @@ pub enum ProgramFault {
     /// A thread, and its instruction whose jump leads past the thread's end.
     #[error("7 JumpPastEnd {0} {1}")]
     JumpPastEnd(u8, u8),
+    /// Never of a fenced program.
     #[error("8 TooManyGaps")]
     TooManyGaps,
     #[error("9 OutOfMemory")]
@@ -98,10 +101,10 @@ fn is_some_astray(threads: &[Thread], locations: usize) -> bool
     threads.iter().any(|t| is_thread_astray(t, locations))
 }
 
-fn first_long(threads: &[Thread]) -> Option<usize>
-    ensures { result ≡ first_long threads.now }
+fn first_long(threads: &[Thread], longest: usize) -> Option<usize>
+    ensures { result ≡ first_long longest threads.now }
 {
-    threads.iter().position(|t| t.code.len() > MAX_INSTRUCTIONS)
+    threads.iter().position(|t| t.code.len() > longest)
 }
 
 fn backward_in(thread: &Thread) -> Option<usize>
@@ -131,9 +134,9 @@ fn past_end_in(thread: &Thread) -> Option<usize>
 
 /// The first jump, by thread and instruction, that doesn't lead to a later place.
 fn first_backward(threads: &[Thread]) -> Option<(usize, usize)>
-    requires { All (λ t. length t.code ≤ 64) threads.now }
+    requires { All (λ t. length t.code ≤ 127) threads.now }
     ensures value { result ≡ first_found first_backward_in 0 threads.now }
-    ensures within { IfSome result (λ p. (p.0 < length threads.now) × (p.1 < 64)) }
+    ensures within { IfSome result (λ p. (p.0 < length threads.now) × (p.1 < 127)) }
 {
     for (t, thread) in threads.iter().enumerate() {
         if let Some(k) = backward_in(thread) {
@@ -145,9 +148,9 @@ fn first_backward(threads: &[Thread]) -> Option<(usize, usize)>
 
 /// The first jump, by thread and instruction, that leads past its thread's end.
 fn first_past_end(threads: &[Thread]) -> Option<(usize, usize)>
-    requires { All (λ t. length t.code ≤ 64) threads.now }
+    requires { All (λ t. length t.code ≤ 127) threads.now }
     ensures value { result ≡ first_found first_past_end_in 0 threads.now }
-    ensures within { IfSome result (λ p. (p.0 < length threads.now) × (p.1 < 64)) }
+    ensures within { IfSome result (λ p. (p.0 < length threads.now) × (p.1 < 127)) }
 {
     for (t, thread) in threads.iter().enumerate() {
         if let Some(k) = past_end_in(thread) {
@@ -159,7 +162,7 @@ fn first_past_end(threads: &[Thread]) -> Option<(usize, usize)>
 
 fn all_accesses(threads: &[Thread]) -> usize
     requires few { length threads.now ≤ 8 }
-    requires short { All (λ t. length t.code ≤ 64) threads.now }
+    requires short { All (λ t. length t.code ≤ 127) threads.now }
     ensures { result ≡ sum_by accesses_of threads.now }
 {
     let mut total = 0;
@@ -182,9 +185,15 @@ pub(crate) fn all_gaps(threads: &[Thread]) -> usize
     total
 }
 
-/// The first limit that threads and initial values break.
-pub(crate) fn broken_limit(threads: &[Thread], memory: &[u32]) -> Option<ProgramFault>
-    ensures { result ≡ first_fault threads.now memory.now }
+/// The first limit that threads and initial values break, of those that programs and fenced
+/// programs share.
+fn broken_shared_limit(
+    threads: &[Thread],
+    memory: &[u32],
+    longest: usize,
+) -> Option<ProgramFault>
+    requires { longest ≤ 127 }
+    ensures { result ≡ first_true (shared_refusals longest threads.now memory.now) }
 {
     if threads.is_empty() {
         return Some(ProgramFault::NoThreads);
@@ -192,7 +201,7 @@ pub(crate) fn broken_limit(threads: &[Thread], memory: &[u32]) -> Option<Program
     if threads.len() > MAX_THREADS {
         return Some(ProgramFault::TooManyThreads);
     }
-    if let Some(thread) = first_long(threads) {
+    if let Some(thread) = first_long(threads, longest) {
         return Some(ProgramFault::TooLong(thread as u8));
     }
     if memory.len() > MAX_LOCATIONS || is_some_astray(threads, memory.len()) {
@@ -207,13 +216,31 @@ pub(crate) fn broken_limit(threads: &[Thread], memory: &[u32]) -> Option<Program
     if let Some((thread, k)) = first_past_end(threads) {
         return Some(ProgramFault::JumpPastEnd(thread as u8, k as u8));
     }
+    None
+}
+
+/// The first limit of a program that threads and initial values break.
+pub(crate) fn broken_limit(threads: &[Thread], memory: &[u32]) -> Option<ProgramFault>
+    ensures { result ≡ first_fault threads.now memory.now }
+{
+    if let Some(fault) = broken_shared_limit(threads, memory, MAX_INSTRUCTIONS) {
+        return Some(fault);
+    }
     if all_gaps(threads) > MAX_GAPS {
         return Some(ProgramFault::TooManyGaps);
     }
     None
 }
 
+/// The first limit of a fenced program that threads and initial values break.
+pub(crate) fn broken_fenced_limit(threads: &[Thread], memory: &[u32]) -> Option<ProgramFault>
+    ensures { result ≡ first_fenced_fault threads.now memory.now }
+{
+    broken_shared_limit(threads, memory, MAX_FENCED_INSTRUCTIONS)
+}
+
 /// No refusal applies exactly where threads and initial values are within the limits.
 pub fn limits_are_the_refusals()
-    ensures { LimitsAreTheRefusals }
+    ensures program { LimitsAreTheRefusals }
+    ensures fenced { FencedLimitsAreTheRefusals }
 {}

@@ -1,4 +1,8 @@
-use crate::{Action, Instr, Items, Local, Outcome, Program, ProgramFault, Reg, Thread};
+use crate::{
+    Action, FenceFault, FencedProgram, Instr, Items, Local, Outcome, Program, ProgramFault, Reg,
+    Thread,
+};
+use gap_sets::GapSet;
 use std::alloc::{AllocError, Global};
 use std::test::Fail;
 
@@ -83,6 +87,60 @@ fn refusals(rt: HostRuntime) -> Result<(), Fail> {
         refused(single(alloc, &long)?),
         Some(ProgramFault::TooLong(0))
     );
+    Ok(())
+}
+
+#[test]
+fn fences_before_labels(rt: HostRuntime) -> Result<(), Fail> {
+    let alloc = rt.alloc();
+    let code = [
+        Instr::StoreImm(0, 1),
+        Instr::CmpImm(Reg::Eax, 0),
+        Instr::Jne(4),
+        Instr::Load(Reg::Eax, 1),
+    ];
+    let over = single(alloc, &code)??;
+    let last = over.fenced(alloc, &GapSet::empty().with(2))?;
+    let expected = [
+        Instr::StoreImm(0, 1),
+        Instr::CmpImm(Reg::Eax, 0),
+        Instr::Jne(5),
+        Instr::Fence,
+        Instr::Load(Reg::Eax, 1),
+    ];
+    assert_eq!(rt; last.threads()[0].code.as_slice(), expected.as_slice());
+    let onto = single(alloc, &[Instr::Je(1), Instr::Load(Reg::Eax, 1)])??;
+    let both = onto.fenced(alloc, &GapSet::empty().with(0))?;
+    let expected = [Instr::Je(1), Instr::Fence, Instr::Load(Reg::Eax, 1)];
+    assert_eq!(rt; both.threads()[0].code.as_slice(), expected.as_slice());
+    Ok(())
+}
+
+#[test]
+fn fenced_programs(rt: HostRuntime) -> Result<(), Fail> {
+    let alloc = rt.alloc();
+    let program = store_buffering(alloc)?;
+    let copy = program.fenced(alloc, &program.all_gaps())?.copy()?;
+    assert_eq!(rt; copy.memory(), [0, 0].as_slice());
+    let expected = [Instr::StoreImm(0, 1), Instr::Fence, Instr::Load(Reg::Eax, 1)];
+    assert_eq!(rt; copy.threads()[0].code.as_slice(), expected.as_slice());
+    assert_eq!(rt; copy.threads().len(), 2);
+    let missing = program.fenced(alloc, &GapSet::empty().with(2).with(0).with(5));
+    assert!(rt; matches!(missing, Err(FenceFault::NoSuchGap(2))));
+    Ok(())
+}
+
+#[test]
+fn long_fenced_programs(rt: HostRuntime) -> Result<(), Fail> {
+    let alloc = rt.alloc();
+    let longest = vec![in alloc; Instr::Fence; 127]?;
+    let threads = vec![in alloc; thread(alloc, &longest)?]?;
+    let program = FencedProgram::new(alloc, threads, Vec::new(alloc))?;
+    assert_eq!(rt; program.threads()[0].code.len(), 127);
+    let long = vec![in alloc; Instr::Fence; 128]?;
+    let threads = vec![in alloc; thread(alloc, &long)?]?;
+    let refused = FencedProgram::new(alloc, threads, Vec::new(alloc));
+    assert!(rt; matches!(refused, Err(ProgramFault::TooLong(0))));
     Ok(())
 }
 

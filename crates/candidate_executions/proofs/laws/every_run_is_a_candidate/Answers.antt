@@ -2,4 +2,4 @@ use Rattle.candidate_executions.proofs.RunsAreCandidates.{every_run, every_run_i
 use Rattle.candidate_executions.proofs.laws.every_run_is_a_candidate.Goals as goal
 
 pub returns : goal.returns
-returns c = record { forward = λ threads memory limits. limits.forward_jumps; candidate = every_run; completion = every_run_is_a_completion }
+returns c = record { forward = λ threads memory limits. limits.shared.forward_jumps; candidate = every_run; completion = every_run_is_a_completion }

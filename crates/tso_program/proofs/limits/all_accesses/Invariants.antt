@@ -3,6 +3,6 @@ use Rattle.std.specs.Prelude.{sum_by}
 use Rattle.tso_program.specs.Listings.{accesses_of}
 use Rattle.tso_program.proofs.limits.all_accesses.Given as goal
 
--- the total so far, at most 64 for each thread
+-- the total so far, at most 127 for each thread
 abbrev pub invariant-loop-thread : goal.invariant-loop-thread
-invariant-loop-thread l = record { sum_so_far : l.total ≡ sum_by accesses_of (take l.thread-index l.threads); small : l.total ≤ 64 * l.thread-index }
+invariant-loop-thread l = record { sum_so_far : l.total ≡ sum_by accesses_of (take l.thread-index l.threads); small : l.total ≤ 127 * l.thread-index }

@@ -1,16 +1,13 @@
-use Rattle.std.proofs.Common.{◌∙◌, sym, ap}
-use Rattle.std.specs.Prelude.{is_some}
-use Rattle.tso_program.proofs.WithinLimits.{all_short}
+use Rattle.std.proofs.Common.{◌≡◌, ◌∷◌, [], None, Some, ◌∙◌, sym}
+use Rattle.std.specs.Prelude.{nat_lt}
+use Rattle.tso_program.specs.declared.limits.ProgramFault.TheVariants.{TooManyGaps}
+use Rattle.tso_program.specs.Listings.{gap_count}
+use Rattle.tso_program.specs.Limits.{shared_refusals, first_true}
+use Rattle.tso_program.proofs.WithinLimits.{short_where_none, few_where_none, fault_first, no_fault_then}
 use Rattle.tso_program.proofs.limits.broken_limit.Goals as goal
 
-pub all_accesses-requires-clause-short : goal.all_accesses-requires-clause-short
-all_accesses-requires-clause-short c = all_short c.args.threads.now (ap is_some (sym c.first_long.ensures ∙ c.in_default.is))
-
-pub first_backward-requires : goal.first_backward-requires
-first_backward-requires c = all_short c.args.threads.now (ap is_some (sym c.first_long.ensures ∙ c.in_default.is))
-
-pub first_past_end-requires : goal.first_past_end-requires
-first_past_end-requires c = all_short c.args.threads.now (ap is_some (sym c.first_long.ensures ∙ c.in_default.is))
-
 pub all_gaps-requires-clause-short : goal.all_gaps-requires-clause-short
-all_gaps-requires-clause-short c = all_short c.args.threads.now (ap is_some (sym c.first_long.ensures ∙ c.in_default.is))
+all_gaps-requires-clause-short c = short_where_none c.args.threads.now c.args.memory.now (sym c.broken_shared_limit.ensures ∙ c.in_default.is)
+
+pub all_gaps-requires-clause-few : goal.all_gaps-requires-clause-few
+all_gaps-requires-clause-few c = few_where_none c.args.threads.now c.args.memory.now (sym c.broken_shared_limit.ensures ∙ c.in_default.is)
