@@ -1,17 +1,14 @@
 -- A program within its limits is, with its fences, within those of a fenced program.
-use Rattle.std.proofs.Common.{◌≡◌, ℕ, zero, suc, ◌+◌, ◌-◌, ◌*◌, ◌<◌, ◌≤◌, Bool, true, false, List, [], ◌∷◌, ◌++◌, ◌⊎◌, inl, inr, length, Option, Some, None, refl, sym, ap, ◌∙◌, arith, cond}
+use Rattle.std.proofs.Common.{◌≡◌, ℕ, zero, suc, ◌+◌, ◌-◌, ◌*◌, ◌<◌, ◌≤◌, Bool, true, false, List, [], ◌∷◌, ◌++◌, ◌⊎◌, inl, inr, length, Option, Some, refl, sym, ap, ◌∙◌, arith, cond}
 use Rattle.std.specs.Prelude.{slice_get, is_some, sum_by, count_by, if◌then◌else◌}
-use Rattle.std.specs.Option.{option_map_or}
-use Rattle.std.specs.FinSet as set
 use Rattle.std.proofs.lemmas.List.Sums.{sum_by-cons}
-use Rattle.gap_sets.specs.Gaps.{SetOfGaps}
 use Rattle.tso_program.specs.declared.instruction.Instr.{Instr}
 use Rattle.tso_program.specs.declared.instruction.Instr.TheVariants.{LoadImm, Copy, Load, StoreImm, Store, Xchg, Fence, CmpImm, CmpReg, Je, Jne, Jmp}
 use Rattle.tso_program.specs.declared.listing.Thread.{Thread}
 use Rattle.tso_program.specs.declared.listing.Listing.{Listing}
 use Rattle.tso_program.specs.Instructions.{location_of, target_of}
 use Rattle.tso_program.specs.Listings.{code_of, instr_at, accesses_of}
-use Rattle.tso_program.specs.Limits.{IsWithinSharedLimits, IsWithinLimits, IsWithinFencedLimits}
+use Rattle.tso_program.specs.Limits.{IsWithinLimits, IsWithinFencedLimits}
 use Rattle.tso_program.specs.Fences.{Gaps, gaps_in, place_of, moved, fenced_code, fenced_threads, fence, FencingStaysWithinLimits}
 use Rattle.tso_program.proofs.FencedPlaces.{fenced_code_of, same_count}
 
@@ -78,9 +75,9 @@ module _ (gap : ℕ → Bool) where
       (x ≡ Fence) ⊎ Stands (n + 1) ys q x → (x ≡ Fence) ⊎ Stands n (y ∷ ys) (width + q) x
   later n width q y ys x next (inl fence) = inl fence
   later n width q y ys x next (inr s) = inr (
-    let at_place = s.place in
-    let same : place_of gap (n + 1 + s.number + 1) ≡ place_of gap (n + suc s.number + 1) = ap (place_of gap) (let e : n + 1 + s.number + 1 ≡ n + suc s.number + 1 = omega arith in e) in
-    record { number = suc s.number; instr = s.instr; there = s.there; is = s.is; place = omega arith })
+      let at_place = s.place in
+      let same : place_of gap (n + 1 + s.number + 1) ≡ place_of gap (n + suc s.number + 1) = ap (place_of gap) (let e : n + 1 + s.number + 1 ≡ n + suc s.number + 1 = omega arith in e) in
+      record { number = suc s.number; instr = s.instr; there = s.there; is = s.is; place = omega arith })
 
   first : (n q width : ℕ) (y : Instr) (ys : List Instr) (x : Instr) → place_of gap (n + 1) ≡ place_of gap n + width → q + 1 ≡ width → ◌≡◌ {A = Option Instr} (Some (moved gap y)) (Some x) → Stands n (y ∷ ys) q x
   first n q width y ys x next wide e =
@@ -174,9 +171,9 @@ instead gaps threads t q x e = go (stands (gaps t) 0 (code_of threads t) q x (ap
     go : (x ≡ Fence) ⊎ Stands (gaps t) 0 (code_of threads t) q x → (x ≡ Fence) ⊎ Instead gaps threads t q x
     go (inl fence) = inl fence
     go (inr s) = inr (
-      let at_place = s.place in
-      let same : place_of (gaps t) (0 + s.number + 1) ≡ place_of (gaps t) (s.number + 1) = ap (place_of (gaps t)) (let z : 0 + s.number + 1 ≡ s.number + 1 = omega arith in z) in
-      record { number = s.number; instr = s.instr; there = s.there; is = s.is; place = omega arith })
+        let at_place = s.place in
+        let same : place_of (gaps t) (0 + s.number + 1) ≡ place_of (gaps t) (s.number + 1) = ap (place_of (gaps t)) (let z : 0 + s.number + 1 ≡ s.number + 1 = omega arith in z) in
+        record { number = s.number; instr = s.instr; there = s.there; is = s.is; place = omega arith })
 
 module _ (p : Listing) (gaps : Gaps) (w : IsWithinLimits p.threads p.memory) (before_first : (t : ℕ) → gaps t 0 ≡ false) where
   abbrev fenced : List Thread

@@ -18,10 +18,12 @@ module _ (gap : ℕ → Bool) where
   first_of fenced None = None
   first_of fenced (Some x) = if fenced then Some Fence else Some (moved gap x)
 
+  -- past one more instruction
   further : (b : Bool) (a j : ℕ) → a + (if b then suc (suc j) else suc j) ≡ (a + (if b then 2 else 1)) + j
   further true a j = omega arith
   further false a j = omega arith
 
+  -- places and offsets agree
   place_by_offset : (n k : ℕ) → place_of gap n + offset n k ≡ place_of gap (n + k)
   place_by_offset n zero = let e : n + 0 ≡ n = omega arith in rw e (omega arith)
   place_by_offset n (suc k) =
@@ -33,24 +35,29 @@ module _ (gap : ℕ → Bool) where
       ∙ place_by_offset (n + 1) k
       ∙ ap (place_of gap) sum
 
+  -- behind the first instruction stand the others
   past_one : (b : Bool) (x : Instr) (xs : List Instr) (j : ℕ) →
       slice_get ((if b then Fence ∷ [] else []) ++ x ∷ xs) (if b then suc (suc j) else suc j) ≡ slice_get xs j
   past_one true x xs j = refl
   past_one false x xs j = refl
 
+  -- and one further too
   past_one_more : (b : Bool) (x : Instr) (xs : List Instr) (j : ℕ) →
       slice_get ((if b then Fence ∷ [] else []) ++ x ∷ xs) (suc (if b then suc (suc j) else suc j)) ≡ slice_get xs (suc j)
   past_one_more true x xs j = refl
   past_one_more false x xs j = refl
 
+  -- the first instruction, or its fence
   at_first : (b : Bool) (x : Instr) (xs : List Instr) → slice_get ((if b then Fence ∷ [] else []) ++ moved gap x ∷ xs) 0 ≡ first_of b (Some x)
   at_first true x xs = refl
   at_first false x xs = refl
 
+  -- the first instruction behind its fence
   at_second : (b : Bool) (x : Instr) (xs : List Instr) → b ≡ true → slice_get ((if b then Fence ∷ [] else []) ++ x ∷ xs) 1 ≡ Some x
   at_second true x xs e = refl
   at_second false x xs e = absurd cc
 
+  -- the same by offset
   at_offset : (n k : ℕ) (xs : List Instr) → slice_get (fenced_code gap n xs) (offset n k) ≡ first_of (gap (n + k)) (slice_get xs k)
   at_offset n zero [] = refl
   at_offset n zero (x ∷ xs) = let e : n ≡ n + 0 = omega arith in at_first (gap n) x (fenced_code gap (n + 1) xs) ∙ ap (λ m. first_of (gap m) (Some x)) e
@@ -61,6 +68,7 @@ module _ (gap : ℕ → Bool) where
       ∙ at_offset (n + 1) k xs
       ∙ ap (λ m. first_of (gap m) (slice_get xs k)) e
 
+  -- behind the fence, by offset
   after_offset : (n k : ℕ) (xs : List Instr) (x : Instr) → gap (n + k) ≡ true → slice_get xs k ≡ Some x → slice_get (fenced_code gap n xs) (suc (offset n k)) ≡ Some (moved gap x)
   after_offset n zero [] x g e = absurd cc
   after_offset n zero (y ∷ ys) x g e =
@@ -72,6 +80,7 @@ module _ (gap : ℕ → Bool) where
       past_one_more (gap n) (moved gap y) (fenced_code gap (n + 1) ys) (offset (n + 1) k)
       ∙ after_offset (n + 1) k ys x (ap gap sum ∙ g) e
 
+  -- from the first instruction on
   place_is : (k : ℕ) → place_of gap k ≡ offset 0 k
   place_is k = let z = place_by_offset 0 k in let e : 0 + k ≡ k = omega arith in let f : place_of gap (0 + k) ≡ place_of gap k = ap (place_of gap) e in omega arith
 
@@ -89,6 +98,7 @@ module _ (gap : ℕ → Bool) where
       ap (slice_get (fenced_code gap 0 xs)) next ∙ after_offset 0 k xs x (ap gap same ∙ g) e
 
 module _ (gaps : Gaps) where
+  -- the code of a thread, counted from thread n
   code_from : (n t : ℕ) (threads : List Thread) → code_of (fenced_threads gaps n threads) t ≡ fenced_code (gaps (n + t)) 0 (code_of threads t)
   code_from n t [] = refl
   code_from n zero (thread ∷ threads) = let e : n ≡ n + 0 = omega arith in ap (λ m. fenced_code (gaps m) 0 thread.code) e

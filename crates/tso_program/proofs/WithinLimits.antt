@@ -58,15 +58,6 @@ pub no_fault_then : (fs gs : List (Bool × ProgramFault)) → first_true fs ≡ 
 no_fault_then [] gs e = refl
 no_fault_then (f ∷ fs) gs e = let here = no_fault f.0 f.1 (first_true fs) e in rw here.0 (no_fault_then fs gs here.1)
 
--- what applies first of a list does so of a longer one
-first_of : {F : Type 0} (b : Bool) (f fault : F) (short long : Option F) → (short ≡ Some fault → long ≡ Some fault) → (if b then Some f else short) ≡ Some fault → (if b then Some f else long) ≡ Some fault
-first_of true f fault short long h e = e
-first_of false f fault short long h e = h e
-
-pub fault_first : (fs gs : List (Bool × ProgramFault)) (fault : ProgramFault) → first_true fs ≡ Some fault → first_true (fs ++ gs) ≡ Some fault
-fault_first [] gs fault e = absurd cc
-fault_first (f ∷ fs) gs fault e = first_of f.0 f.1 fault (first_true fs) (first_true (fs ++ gs)) (fault_first fs gs fault) e
-
 -- the shared refusals from one on, up to the last
 abbrev after_accesses : List Thread → List (Bool × ProgramFault)
 after_accesses threads = at_place BackwardJump (first_found first_backward_in 0 threads) ∷ at_place JumpPastEnd (first_found first_past_end_in 0 threads) ∷ []

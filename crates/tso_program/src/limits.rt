@@ -187,11 +187,7 @@ pub(crate) fn all_gaps(threads: &[Thread]) -> usize
 
 /// The first limit that threads and initial values break, of those that programs and fenced
 /// programs share.
-fn broken_shared_limit(
-    threads: &[Thread],
-    memory: &[u32],
-    longest: usize,
-) -> Option<ProgramFault>
+fn broken_shared_limit(threads: &[Thread], memory: &[u32], longest: usize) -> Option<ProgramFault>
     requires { longest ≤ 127 }
     ensures { result ≡ first_true (shared_refusals longest threads.now memory.now) }
 {

@@ -122,7 +122,11 @@ fn fenced_programs(rt: HostRuntime) -> Result<(), Fail> {
     let program = store_buffering(alloc)?;
     let copy = program.fenced(alloc, &program.all_gaps())?.copy()?;
     assert_eq!(rt; copy.memory(), [0, 0].as_slice());
-    let expected = [Instr::StoreImm(0, 1), Instr::Fence, Instr::Load(Reg::Eax, 1)];
+    let expected = [
+        Instr::StoreImm(0, 1),
+        Instr::Fence,
+        Instr::Load(Reg::Eax, 1),
+    ];
     assert_eq!(rt; copy.threads()[0].code.as_slice(), expected.as_slice());
     assert_eq!(rt; copy.threads().len(), 2);
     let missing = program.fenced(alloc, &GapSet::empty().with(2).with(0).with(5));

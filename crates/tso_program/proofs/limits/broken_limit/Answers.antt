@@ -1,9 +1,5 @@
-use Rattle.std.proofs.Common.{◌≡◌, ◌∷◌, [], None, Some, ◌∙◌, sym}
-use Rattle.std.specs.Prelude.{nat_lt}
-use Rattle.tso_program.specs.declared.limits.ProgramFault.TheVariants.{TooManyGaps}
-use Rattle.tso_program.specs.Listings.{gap_count}
-use Rattle.tso_program.specs.Limits.{shared_refusals, first_true}
-use Rattle.tso_program.proofs.WithinLimits.{short_where_none, few_where_none, fault_first, no_fault_then}
+use Rattle.std.proofs.Common.{◌∙◌, sym}
+use Rattle.tso_program.proofs.WithinLimits.{short_where_none, few_where_none}
 use Rattle.tso_program.proofs.limits.broken_limit.Goals as goal
 
 pub all_gaps-requires-clause-short : goal.all_gaps-requires-clause-short
