@@ -10,22 +10,21 @@ use Rattle.tso_program.proofs.Gaps.{gap_below}
 use Rattle.tso_machine.specs.declared.label.Label.{Label}
 use Rattle.tso_machine.specs.Machine.{Fenced, State, start, run}
 use Rattle.tso_machine.specs.Outcomes.{IsStoreBufferOutcome, IsSequentialOutcome}
-use Rattle.tso_machine.proofs.Avoided.{run_avoids}
-use Rattle.fence_laws.specs.Laws.{JumpForward, PassesNoGap, HasEveryGapOf, AllGapsServe}
+use Rattle.fence_laws.specs.Laws.{JumpForward, PassesNoGap, PassesNoGapOf, HasEveryGapOf, AllGapsServe}
 use Rattle.fence_laws.proofs.SequentialIsBuffered.{sequential_is_allowed}
 use Rattle.fence_laws.proofs.NothingPassed.{nothing_passed}
 use Rattle.fence_laws.proofs.Unfenced.{unfenced}
+use Rattle.fence_laws.proofs.GapsAvoided.{fenced_run_passes_none}
 
-none_is_passed : (p : Listing) (gaps : SetOfGaps) (labels : List Label) (last : State) → HasEveryGapOf p gaps → run p (Fenced (gaps_in p gaps)) (start p) labels ≡ Some last →
-    PassesNoGap p labels
-none_is_passed p gaps labels last every r gap (t, k, number, passed) =
-    let there : gaps_in p gaps t k ≡ true = ap (λ o. option_map_or (set.contains gaps) o false) number ∙ every gap (gap_below p.threads t k gap number) in
-    let no : true ≡ false = sym passed ∙ run_avoids p (gaps_in p gaps) labels (start p) last r t k there in
-    cc
+-- every gap of the program is one of the set
+every_gap : (p : Listing) (gaps : SetOfGaps) (labels : List Label) → HasEveryGapOf p gaps → PassesNoGapOf p gaps labels → PassesNoGap p labels
+every_gap p gaps labels every none gap (t, k, number, passed) = none gap (every gap (gap_below p.threads t k gap number)) (t, k, number, passed)
 
+-- so the run is sequential with no gap fenced
 only_sequential : (p : Listing) (gaps : SetOfGaps) (o : Outcome) → JumpForward p.threads → HasEveryGapOf p gaps → IsStoreBufferOutcome p (gaps_in p gaps) o → IsSequentialOutcome p o
 only_sequential p gaps o forward every (labels, (last, r, ended, e)) =
-    nothing_passed p labels o forward (last, unfenced p (gaps_in p gaps) labels (start p) last r, ended, e) (none_is_passed p gaps labels last every r)
+    nothing_passed p labels o forward (last, unfenced p (gaps_in p gaps) labels (start p) last r, ended, e) (every_gap p gaps labels every (fenced_run_passes_none p gaps labels last r))
 
+-- both ways
 pub all_serve : AllGapsServe
 all_serve p gaps forward every o = (only_sequential p gaps o forward every, sequential_is_allowed p (gaps_in p gaps) o)

@@ -28,10 +28,12 @@ effect false = direct
 abbrev pub NothingWaits : Bool → List Pending → Type 0
 NothingWaits waits ws = waits ≡ true → ws ≡ []
 
+-- a gap lets through what has nothing waiting there
 past_if_empty : (b : Bool) (ws : List Pending) (s : State) (f : State → Option State) → (b ≡ true → ws ≡ []) → option_and_then f (past_gap b ws s) ≡ f s
 past_if_empty true ws s f h = ap (λ z. option_and_then f (past_gap true z s)) (h refl)
 past_if_empty false ws s f h = refl
 
+-- and nothing else
 empty_if_past : (b : Bool) (ws : List Pending) (s z : State) (f : State → Option State) → option_and_then f (past_gap b ws s) ≡ Some z → (b ≡ true → ws ≡ []) × (f s ≡ Some z)
 empty_if_past true [] s z f h = ((λ e. refl), h)
 empty_if_past true (w ∷ ws) s z f h = absurd cc
@@ -58,6 +60,7 @@ module _ (t u : ℕ) (other : u ≡ t → ⊥) where
     pub local : z.locals u ≡ s.locals u
     pub buffer : z.buffers u ≡ s.buffers u
 
+  -- a state in which thread t alone has gone on
   keeps : (s z : State) (next : Local) (buffers : ℕ → List Pending) (memory : ℕ → ℕ) → buffers u ≡ s.buffers u →
       ◌≡◌ {A = Option State} (Some (record { locals = put s.locals t next; buffers = buffers; memory = memory })) (Some z) → Keeps s z
   keeps s z next buffers memory same e =
@@ -67,10 +70,12 @@ module _ (t u : ℕ) (other : u ≡ t → ⊥) where
         buffer = ap (λ (x : State). x.buffers u) (sym q) ∙ same;
       }
 
+  -- what waited for an empty buffer was made
   some_when_empty : (ws : List Pending) (s z : State) → when_empty ws s ≡ Some z → ◌≡◌ {A = Option State} (Some s) (Some z)
   some_when_empty [] s z e = e
   some_when_empty (w ∷ ws) s z e = absurd cc
 
+  -- whatever the action of thread t
   pub others_keep : (waits : Bool) (s z : State) (a : Action) → effect waits s t a ≡ Some z → Keeps s z
   others_keep true s z Stop e = absurd cc
   others_keep true s z (Go next) e = keeps s z next s.buffers s.memory refl e
@@ -110,6 +115,7 @@ pub record Flushes (waits : Bool) (s z : State) (t : ℕ) : Type 0 where
   pub waiting : s.buffers t ≡ oldest ∷ others
   pub result : z ≡ stored s t oldest others
 
+-- a flush that was made
 pub flush_made : (p : Listing) (gaps : Gaps) (waits : Bool) (s z : State) (t : ℕ) → step p (mode_with waits gaps) s (Flush t) ≡ Some z → Flushes waits s z t
 flush_made p gaps false s z t e = absurd cc
 flush_made p gaps true s z t e = by_buffer (s.buffers t) refl e
@@ -118,6 +124,7 @@ flush_made p gaps true s z t e = by_buffer (s.buffers t) refl e
     by_buffer [] q e = absurd cc
     by_buffer (w ∷ ws) q e = record { buffered = refl; oldest = w; others = ws; waiting = q; result = sym (same_Some _ z e) }
 
+-- a flush that can be made
 pub flush_makes : (p : Listing) (gaps : Gaps) (waits : Bool) (s : State) (t : ℕ) (w : Pending) (ws : List Pending) → waits ≡ true → s.buffers t ≡ w ∷ ws →
     step p (mode_with waits gaps) s (Flush t) ≡ Some (stored s t w ws)
 flush_makes p gaps false s t w ws b e = absurd cc

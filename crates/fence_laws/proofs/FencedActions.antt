@@ -22,10 +22,12 @@ fenced_action gap (Write l v next) = Write l v (placed gap next)
 fenced_action gap (Swap l v to next) = Swap l v to (placed gap next)
 
 module _ (gap : ℕ → Bool) (s : Local) (q : ℕ) (e : q + 1 ≡ place_of gap (s.place + 1)) where
+  -- a jump, taken or not
   jump_moved : (taken : Bool) (k : ℕ) → jumped taken (place_of gap k) (record s { place = q }) ≡ placed gap (jumped taken k s)
   jump_moved true k = refl
   jump_moved false k = ap (λ (n : ℕ). record s { place = n }) e
 
+  -- from place q, the last before the next instruction
   pub act_moved : (x : Instr) → act (Some (moved gap x)) (record s { place = q }) ≡ fenced_action gap (act (Some x) s)
   act_moved (LoadImm r v) = ap (λ (n : ℕ). Go (loaded r v (record s { place = n }))) e
   act_moved (Copy r from) = ap (λ (n : ℕ). Go (loaded r (value_in s from) (record s { place = n }))) e

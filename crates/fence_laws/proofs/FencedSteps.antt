@@ -27,16 +27,19 @@ follow gap t locals z = with_locals z (put locals t (placed gap (z.locals t)))
 
 -- an action leads to the same buffers and memory from other threads' states
 module _ (gap : ℕ → Bool) (locals : ℕ → Local) (t : ℕ) where
+  -- a state in which thread t has gone on
   followed : (f : ℕ → Local) (next : Local) (buffers : ℕ → List Pending) (memory : ℕ → ℕ) →
       ◌≡◌ {A = Option State} (Some (record { locals = put locals t (placed gap next); buffers = buffers; memory = memory }))
       (Some (follow gap t locals (record { locals = put f t next; buffers = buffers; memory = memory })))
   followed f next buffers memory =
       ap (λ (x : Local). Some (record { locals = put locals t (placed gap x); buffers = buffers; memory = memory })) (sym (put_same f t next))
 
+  -- where the action waits for an empty buffer
   followed_when_empty : (ws : List Pending) (s z : State) → ◌≡◌ {A = Option State} (Some z) (Some (follow gap t locals s)) → when_empty ws z ≡ option_map (follow gap t locals) (when_empty ws s)
   followed_when_empty [] s z e = e
   followed_when_empty (w ∷ ws) s z e = refl
 
+  -- whatever the action
   pub effect_follows : (waits : Bool) (s : State) (a : Action) →
       effect waits (with_locals s locals) t (fenced_action gap a) ≡ option_map (follow gap t locals) (effect waits s t a)
   effect_follows true s Stop = refl

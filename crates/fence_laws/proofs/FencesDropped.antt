@@ -35,9 +35,11 @@ module _ (p : Listing) (gaps : Gaps) (waits : Bool) where
   abbrev pub Stands : ℕ → Local → List Pending → Local → Type 0
   Stands u local buffer other = (other ≡ placed (gaps u) local) ⊎ IsBetween u local buffer other
 
+  -- so does each thread
   abbrev pub AllStand : State → (ℕ → Local) → Type 0
   AllStand s locals = (u : ℕ) → Stands u (s.locals u) (s.buffers u) (locals u)
 
+  -- a thread that nothing has changed
   as_before : (u : ℕ) (local local' : Local) (buffer buffer' : List Pending) (other other' : Local) → local' ≡ local → buffer' ≡ buffer → other' ≡ other →
       Stands u local buffer other → Stands u local' buffer' other'
   as_before u local local' buffer buffer' other other' l b o h =
@@ -52,6 +54,7 @@ module _ (p : Listing) (gaps : Gaps) (waits : Bool) where
     same : z' ≡ with_locals z locals'
     stand : AllStand z locals'
 
+  -- a step of the program goes before further ones
   one_step : (s z : State) (l : Label) (ls : List Label) → step p (mode_with waits gaps) s l ≡ Some z → run p (mode_with waits gaps) s (l ∷ ls) ≡ run p (mode_with waits gaps) z ls
   one_step s z l ls e = ap (option_and_then (λ next. run p (mode_with waits gaps) next ls)) e
 
@@ -84,6 +87,7 @@ module _ (p : Listing) (gaps : Gaps) (waits : Bool) where
         stand = still_stand s z locals t stand r;
       }
 
+  -- what the fence waited for
   fence_waited : (b : Bool) (s z : State) (t : ℕ) (next : Local) → effect b s t (Wait next) ≡ Some z → NothingWaits b (s.buffers t) × (z ≡ record s { locals = put s.locals t next })
   fence_waited false s z t next e = ((λ b. absurd cc), sym (same_Some _ z e))
   fence_waited true s z t next e = by_buffer (s.buffers t) e
@@ -131,6 +135,7 @@ module _ (p : Listing) (gaps : Gaps) (waits : Bool) where
           (there ∙ ap (λ b. first_of (gaps t) b (instr_at p.threads t (s.locals t).place)) g ∙ ap (first_of (gaps t) false) here)
           (next_place (gaps t) (s.locals t).place false g) (λ h. absurd (let no : true ≡ false = sym h ∙ g in cc)) e
 
+  -- a step of either kind
   by_label : (s z' : State) (locals : ℕ → Local) (l : Label) → AllStand s locals → step (fence gaps p) (mode_with waits no_gaps) (with_locals s locals) l ≡ Some z' → Leads s z'
   by_label s z' locals (Exec t) stand e = elim (stand t) [
     | inl stands ↦ by_place s z' locals t stand stands e
@@ -165,6 +170,7 @@ module _ (p : Listing) (gaps : Gaps) (waits : Bool) where
     pub same : last ≡ with_locals end last_locals
     pub stand : AllStand end last_locals
 
+  -- by each step in turn
   pub dropped : (ls : List Label) (s last : State) (locals : ℕ → Local) → AllStand s locals → run (fence gaps p) (mode_with waits no_gaps) (with_locals s locals) ls ≡ Some last → Dropped s last
   dropped [] s last locals stand r = record { labels = []; end = s; last_locals = locals; is_run = refl; same = sym (same_Some _ last r); stand = stand }
   dropped (l ∷ ls) s last locals stand r =

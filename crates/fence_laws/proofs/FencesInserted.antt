@@ -42,6 +42,7 @@ module _ (p : Listing) (gaps : Gaps) (waits : Bool) where
     leads : (ls : List Label) → run (fence gaps p) (mode_with waits no_gaps) (with_locals s locals) (labels ++ ls) ≡ run (fence gaps p) (mode_with waits no_gaps) (with_locals z locals') ls
     follow' : Follow z locals'
 
+  -- a step of the fenced program goes before further ones
   run_step : (s z : State) (l : Label) (ls : List Label) → step (fence gaps p) (mode_with waits no_gaps) s l ≡ Some z →
       run (fence gaps p) (mode_with waits no_gaps) s (l ∷ ls) ≡ run (fence gaps p) (mode_with waits no_gaps) z ls
   run_step s z l ls e = ap (option_and_then (λ next. run (fence gaps p) (mode_with waits no_gaps) next ls)) e
@@ -55,10 +56,12 @@ module _ (p : Listing) (gaps : Gaps) (waits : Bool) where
         ∙ ap (placed (gaps u)) (sym (others_keep t u q waits s z (action p.threads t (s.locals t)) e).local)
   ]
 
+  -- a fence is executed where nothing waits
   fence_waits : (b : Bool) (s : State) (t : ℕ) (next : Local) → NothingWaits b (s.buffers t) → effect b s t (Wait next) ≡ Some (record s { locals = put s.locals t next })
   fence_waits true s t next h = ap (λ ws. when_empty ws (record s { locals = put s.locals t next })) (h refl)
   fence_waits false s t next h = refl
 
+  -- the step of an instruction, behind its fence where it has one
   by_exec : (s z : State) (locals : ℕ → Local) (t : ℕ) → Follow s locals → step p (mode_with waits gaps) s (Exec t) ≡ Some z → Leads s locals z
   by_exec s z locals t follows e =
       let (free, r) = made p gaps waits s z t e in
@@ -98,6 +101,7 @@ module _ (p : Listing) (gaps : Gaps) (waits : Bool) where
             follow' = still_follow s z locals between t follows (λ u q. put_other locals t (onward (locals t)) u q) r;
           }
 
+  -- a step of either kind
   by_label : (s z : State) (locals : ℕ → Local) (l : Label) → Follow s locals → step p (mode_with waits gaps) s l ≡ Some z → Leads s locals z
   by_label s z locals (Exec t) follows e = by_exec s z locals t follows e
   by_label s z locals (Flush t) follows e =
@@ -118,6 +122,7 @@ module _ (p : Listing) (gaps : Gaps) (waits : Bool) where
     pub is_run : run (fence gaps p) (mode_with waits no_gaps) (with_locals s locals) labels ≡ Some (with_locals last last_locals)
     pub follow : Follow last last_locals
 
+  -- by each step in turn
   pub inserted : (ls : List Label) (s last : State) (locals : ℕ → Local) → Follow s locals → run p (mode_with waits gaps) s ls ≡ Some last → Follows locals s last
   inserted [] s last locals follows r =
       let e : s ≡ last = cc in

@@ -19,15 +19,18 @@ use Rattle.fence_laws.proofs.FencedSteps.{with_locals}
 use Rattle.fence_laws.proofs.FencesInserted.{Follow, inserted}
 use Rattle.fence_laws.proofs.FencesDropped.{AllStand, dropped}
 
+-- where neither fence nor instruction stands there was no instruction
 nothing_first : (gap : ℕ → Bool) (b : Bool) (o : Option Instr) → first_of gap b o ≡ None → o ≡ None
 nothing_first gap b None e = refl
 nothing_first gap true (Some x) e = absurd cc
 nothing_first gap false (Some x) e = absurd cc
 
 module _ (p : Listing) (gaps : Gaps) where
+  -- the fenced program starts before the fences of the first instructions
   starts : (u : ℕ) → start_of (fence gaps p).threads u ≡ placed (gaps u) (start_of p.threads u)
   starts u = ap (λ (registers : List ℕ). record { place = 0; registers = registers; flag = false }) (same_registers gaps 0 u p.threads (record { code = []; registers = [] }))
 
+  -- registers and memory are the same
   same_outcome : (s : State) (locals : ℕ → Local) → ((u : ℕ) → locals u ≡ placed (gaps u) (s.locals u)) → outcome_at (fence gaps p) (with_locals s locals) ≡ outcome_at p s
   same_outcome s locals follows = λ i. record {
     registers = map ((let same : (λ u. (locals u).registers) ≡ (λ u. (s.locals u).registers) = fun_ext (λ u. ap (λ (l : Local). l.registers) (follows u)) in same) i)
@@ -35,11 +38,13 @@ module _ (p : Listing) (gaps : Gaps) where
     memory = map s.memory (range_with_len 0 (length p.memory));
   }
 
+  -- where a thread is at its end, so is the fenced thread
   stops_too : (u : ℕ) (local : Local) → action p.threads u local ≡ Stop → action (fence gaps p).threads u (placed (gaps u) local) ≡ Stop
   stops_too u local e =
       let none : instr_at p.threads u local.place ≡ None = stops_at_none (instr_at p.threads u local.place) local e in
       ap (λ o. act o (placed (gaps u) local)) (instr_at_place gaps p.threads u local.place ∙ ap (first_of (gaps u) (gaps u local.place)) none)
 
+  -- and the other way round
   stopped_too : (u : ℕ) (local : Local) → action (fence gaps p).threads u (placed (gaps u) local) ≡ Stop → action p.threads u local ≡ Stop
   stopped_too u local e =
       let none : instr_at (fence gaps p).threads u (place_of (gaps u) local.place) ≡ None = stops_at_none _ (placed (gaps u) local) e in
@@ -57,6 +62,7 @@ module _ (p : Listing) (gaps : Gaps) where
         absurd cc)
   ]
 
+  -- an outcome of the fenced program
   to_program : (waits : Bool) (o : Outcome) → Allows (fence gaps p) (mode_with waits no_gaps) o → Allows p (mode_with waits gaps) o
   to_program waits o (labels, (last, r, ended, e)) =
       let d = dropped p gaps waits labels (start p) last (start_of (fence gaps p).threads) (λ u. inl (starts u)) r in
@@ -71,6 +77,7 @@ module _ (p : Listing) (gaps : Gaps) where
         ),
       )
 
+  -- an outcome of the program with the gaps fenced
   to_fenced : (waits : Bool) (o : Outcome) → Allows p (mode_with waits gaps) o → Allows (fence gaps p) (mode_with waits no_gaps) o
   to_fenced waits o (labels, (last, r, ended, e)) =
       let d = inserted p gaps waits labels (start p) last (start_of (fence gaps p).threads) starts r in (
@@ -83,8 +90,10 @@ module _ (p : Listing) (gaps : Gaps) where
         ),
       )
 
+-- over store buffers
 pub fencing_is_the_machine : FencingIsTheMachineWithGaps
 fencing_is_the_machine p gaps o = (to_program p gaps true o, to_fenced p gaps true o)
 
+-- and sequentially
 pub fencing_keeps_sequential : FencingKeepsSequentialOutcomes
 fencing_keeps_sequential p gaps o = (to_program p gaps false o, to_fenced p gaps false o)

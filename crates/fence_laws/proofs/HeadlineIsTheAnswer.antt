@@ -7,6 +7,7 @@ use Rattle.tso_machine.specs.Outcomes.{IsTheAnswer, Headline}
 use Rattle.fence_laws.specs.Laws.{TheHeadlineIsTheAnswer}
 use Rattle.fence_laws.proofs.FencingIsTheMachine.{fencing_is_the_machine}
 
+-- the set of a fenced program
 answer_of : (p : Listing) (costs : List ℕ) (gaps : SetOfGaps) → Headline p costs gaps → IsTheAnswer p costs gaps
 answer_of p costs gaps h = record {
   of_program = h.of_program;
@@ -14,6 +15,7 @@ answer_of p costs gaps h = record {
   least = h.least;
 }
 
+-- the fenced program of a set
 headline_of : (p : Listing) (costs : List ℕ) (gaps : SetOfGaps) → IsTheAnswer p costs gaps → Headline p costs gaps
 headline_of p costs gaps a = record {
   of_program = a.of_program;
@@ -21,5 +23,6 @@ headline_of p costs gaps a = record {
   least = a.least;
 }
 
+-- both ways
 pub headline_is_the_answer : TheHeadlineIsTheAnswer
 headline_is_the_answer p costs gaps = (answer_of p costs gaps, headline_of p costs gaps)

@@ -7,6 +7,7 @@ pub mod WaitingEverywhere
 pub mod PassedPlaces
 pub mod NothingPassed
 pub mod Unfenced
+pub mod GapsAvoided
 pub mod AllGapsFenced
 -- fenced programs
 pub mod FencedActions

@@ -1,15 +1,18 @@
 -- A run that passes no gap waits at each place, and so has a sequential outcome.
-use Rattle.std.proofs.Common.{◌≡◌, ℕ, ◌+◌, ◌-◌, Bool, true, false, List, Some, refl, take}
+use Rattle.std.proofs.Common.{◌≡◌, ℕ, ◌+◌, ◌-◌, Bool, true, false, List, Some, refl, sym, ◌∙◌, take}
+use Rattle.std.specs.Ordering.{nat_cmp}
+use Rattle.std.specs.FinSet as set
 use Rattle.tso_program.specs.declared.listing.Listing.{Listing}
 use Rattle.tso_program.specs.Listings.{gap_count}
 use Rattle.tso_program.proofs.Gaps.{gap_is}
 use Rattle.tso_machine.specs.declared.label.Label.{Label}
 use Rattle.tso_machine.specs.Machine.{no_gaps, Fenced, State, run, start, passes}
 use Rattle.tso_machine.proofs.Avoided.{run_fenced}
-use Rattle.fence_laws.specs.Laws.{JumpForward, PassesNoGap, ARunThatPassesNothingIsSequential}
+use Rattle.fence_laws.specs.Laws.{JumpForward, PassesNoGap, ARunThatPassesNothingIsSequential, ARunWithNothingPassedIsSequential}
 use Rattle.fence_laws.proofs.WaitingEverywhere.{all, to_sequential}
 use Rattle.fence_laws.proofs.PassedPlaces.{passed_inside}
 
+-- a place that is passed would be a gap
 no_place_passed : (p : Listing) (labels : List Label) (last : State) (t k : ℕ) → JumpForward p.threads → run p (Fenced no_gaps) (start p) labels ≡ Some last → PassesNoGap p labels →
     passes p (Fenced no_gaps) (start p) labels t k ≡ false
 no_place_passed p labels last t k forward r none = by_test (passes p (Fenced no_gaps) (start p) labels t k) refl
@@ -21,6 +24,12 @@ no_place_passed p labels last t k forward r none = by_test (passes p (Fenced no_
         let gap = gap_count (take t p.threads) + (k - 1) in
         absurd (none gap (t, k, gap_is p.threads t k gap inside.past_first inside.before_end refl, e))
 
+-- so every place may be fenced
 pub nothing_passed : ARunThatPassesNothingIsSequential
 nothing_passed p labels o forward (last, r, ended, e) none =
     to_sequential p labels o (last, run_fenced p all labels (start p) last r (λ t k fenced. no_place_passed p labels last t k forward r none), ended, e)
+
+-- a run whose passed gaps are the empty set passes none
+pub empty_passed : ARunWithNothingPassedIsSequential
+empty_passed p labels o forward is_run are_passed =
+    nothing_passed p labels o forward is_run (λ gap passes. let no : false ≡ true = sym (set.contains-empty nat_cmp gap) ∙ (are_passed gap).1 passes in cc)

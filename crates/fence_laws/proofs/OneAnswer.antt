@@ -18,6 +18,7 @@ none_better p costs a b one other better =
     let left : LeavesOutcome p a = other.least a one.of_program better in
     left.foreign ((one.serves left.outcome).0 left.left)
 
+-- of two that differ one would be better
 pub one_answer : TheAnswerIsTheOnlyOne
 one_answer p costs a b within one other =
     elim (decided costs a b (small p a within.few_gaps one.of_program) (small p b within.few_gaps other.of_program)) [

@@ -29,10 +29,12 @@ LeadsOn (Read l to next) = 0 < next.place
 LeadsOn (Write l v next) = 0 < next.place
 LeadsOn (Swap l v to next) = 0 < next.place
 
+-- a jump forward, taken or not
 jump_on : (taken : Bool) (k : ℕ) (s : Local) → 0 < k → 0 < (jumped taken k s).place
 jump_on true k s h = h
 jump_on false k s h = omega arith
 
+-- an instruction whose jump leads forward
 instruction_on : (x : Instr) (s : Local) → ((target : ℕ) → target_of x ≡ Some target → 0 < target) → LeadsOn (act (Some x) s)
 instruction_on (LoadImm r v) s h = omega arith
 instruction_on (Copy r from) s h = omega arith
@@ -52,11 +54,13 @@ stands_at : (o : Option Instr) (s : Local) → (act o s ≡ Stop → ⊥) → (x
 stands_at None s h = absurd (h refl)
 stands_at (Some x) s h = (x, refl)
 
+-- one of two tests is true
 either : (a b : Bool) → (a || b) ≡ true → (a ≡ true) ⊎ (b ≡ true)
 either true b e = inl refl
 either false b e = inr e
 
 module _ (p : Listing) (forward : JumpForward p.threads) where
+  -- what a thread does leads on
   action_on : (t : ℕ) (s : Local) → LeadsOn (action p.threads t s)
   action_on t s = by_instruction (instr_at p.threads t s.place) refl
     where
@@ -64,6 +68,7 @@ module _ (p : Listing) (forward : JumpForward p.threads) where
       by_instruction None e = tt
       by_instruction (Some x) e = instruction_on x s (λ target h. let z : s.place < target = forward t s.place target x e h in omega arith)
 
+  -- the same of an action by name
   leads_on : (t : ℕ) (s : Local) (a : Action) → action p.threads t s ≡ a → LeadsOn a
   leads_on t s a e = subst LeadsOn e (action_on t s)
 
@@ -71,6 +76,7 @@ module _ (p : Listing) (forward : JumpForward p.threads) where
   abbrev NothingWaitsAtFirst : State → Type 0
   NothingWaitsAtFirst s = (t : ℕ) → (s.locals t).place ≡ 0 → s.buffers t ≡ []
 
+  -- a state in which thread t has gone on
   on : (s : State) (t : ℕ) (next : Local) (buffers : ℕ → List Pending) (memory : ℕ → ℕ) → NothingWaitsAtFirst s → 0 < next.place →
       ((u : ℕ) → (u ≡ t → ⊥) → buffers u ≡ s.buffers u) → NothingWaitsAtFirst (record { locals = put s.locals t next; buffers = buffers; memory = memory })
   on s t next buffers memory first away others u here = elim (cases_eq u t) [
@@ -78,6 +84,7 @@ module _ (p : Listing) (forward : JumpForward p.threads) where
     | inr q ↦ others u q ∙ first u (ap (λ (x : Local). x.place) (sym (put_other s.locals t next u q)) ∙ here)
   ]
 
+  -- every step keeps it so
   step_keeps : (s z : State) (l : Label) → step p (Fenced no_gaps) s l ≡ Some z → NothingWaitsAtFirst s → NothingWaitsAtFirst z
   step_keeps s z (Exec t) e first = exec_by z (λ next. Some next) p no_gaps s t (NothingWaitsAtFirst z) (ap (option_and_then (λ next. Some next)) e)
       (λ next a g r. subst NothingWaitsAtFirst (same_Some _ z r) (on s t next s.buffers s.memory first (leads_on t (s.locals t) _ a) (λ u q. refl)))
@@ -91,14 +98,17 @@ module _ (p : Listing) (forward : JumpForward p.threads) where
         | inr q ↦ put_other s.buffers t ws u q ∙ first u here
       ]))
 
+  -- the place of an instruction that is not the first
   pub record IsInside (t k : ℕ) : Type 0 where
     pub past_first : 1 ≤ k
     pub before_end : k < length (code_of p.threads t)
 
+  -- what the test of a passed place says
   parts : (u t place k : ℕ) (empty : Bool) → ((u == t) && ((place == k) && not empty)) ≡ true → (u ≡ t) × (place ≡ k) × (empty ≡ false)
   parts u t place k true e = absurd (grind (arith, nat_tests))
   parts u t place k false e = (grind (arith, nat_tests), grind (arith, nat_tests), refl)
 
+  -- what one step passes
   passed_now : (s z : State) (l : Label) (t k : ℕ) → step p (Fenced no_gaps) s l ≡ Some z → NothingWaitsAtFirst s → passes_at s l t k ≡ true → IsInside t k
   passed_now s z (Flush u) t k e first h = absurd cc
   passed_now s z (Exec u) t k e first h =

@@ -15,6 +15,7 @@ use Rattle.tso_machine.specs.declared.label.Pending.{Pending}
 use Rattle.fence_laws.proofs.ChangedAt.{put_same, put_back}
 
 module _ (p : Listing) (gaps : Gaps) where
+  -- a gap lets through what has nothing waiting
   passes : (b : Bool) (ws : List Pending) (s : State) (f : State → Option State) → ws ≡ [] → option_and_then f (past_gap b ws s) ≡ f s
   passes true ws s f e = rw e refl
   passes false ws s f e = refl
@@ -23,17 +24,21 @@ module _ (p : Listing) (gaps : Gaps) where
   abbrev Leads : State → State → Type 0
   Leads s s' = (js : List Label) × ((ls : List Label) → run p (Fenced gaps) s (js ++ ls) ≡ run p (Fenced gaps) s' ls)
 
+  -- an instruction is executed
   exec_step : (s s' : State) (t : ℕ) → s.buffers t ≡ [] → buffered s t (action p.threads t (s.locals t)) ≡ Some s' → (ls : List Label) →
       run p (Fenced gaps) s (Exec t ∷ ls) ≡ run p (Fenced gaps) s' ls
   exec_step s s' t empty e ls = ap (option_and_then (λ next. run p (Fenced gaps) next ls))
       (passes (gaps t (s.locals t).place) (s.buffers t) s (λ z. buffered z t (action p.threads t (s.locals t))) empty ∙ e)
 
+  -- one label leads on
   by_step : (s s' : State) (t : ℕ) → s.buffers t ≡ [] → buffered s t (action p.threads t (s.locals t)) ≡ Some s' → Leads s s'
   by_step s s' t empty e = (Exec t ∷ [], exec_step s s' t empty e)
 
+  -- the state with one more store waiting
   abbrev stored : State → ℕ → ℕ → ℕ → Local → State
   stored s t l v next = record s { locals = put s.locals t next; buffers = put s.buffers t (s.buffers t ++ record { location = l; value = v } ∷ []) }
 
+  -- where it is the only one, its flush leads to the sequential state
   stored_flushed : (s s' : State) (t l v : ℕ) (next : Local) → s.buffers t ≡ [] → direct s t (Write l v next) ≡ Some s' →
       flushed (stored s t l v next) t ((stored s t l v next).buffers t) ≡ Some s'
   stored_flushed s s' t l v next empty h =
@@ -42,6 +47,7 @@ module _ (p : Listing) (gaps : Gaps) where
       ap (flushed (stored s t l v next) t) e ∙
       (ap (λ (b : ℕ → List Pending). Some (record { locals = put s.locals t next; buffers = b; memory = put s.memory l v })) (put_back s.buffers t (s.buffers t ++ w ∷ []) [] empty) ∙ h)
 
+  -- a sequential step is one label, or two for a store
   one_step : (s s' : State) (t : ℕ) → s.buffers t ≡ [] → (a : Action) → action p.threads t (s.locals t) ≡ a → direct s t a ≡ Some s' → Leads s s'
   one_step s s' t empty Stop e h = absurd cc
   one_step s s' t empty (Go next) e h = by_step s s' t empty (rw e h)
@@ -54,6 +60,7 @@ module _ (p : Listing) (gaps : Gaps) where
   )
   one_step s s' t empty (Swap l v to next) e h = by_step s s' t empty (rw e (rw empty h))
 
+  -- a sequential step leaves the buffers
   same_buffers : (s s' : State) (t : ℕ) (a : Action) → direct s t a ≡ Some s' → s'.buffers ≡ s.buffers
   same_buffers s s' t Stop h = absurd cc
   same_buffers s s' t (Go next) h = sym (ap (λ (z : State). z.buffers) (same_Some _ s' h))
@@ -62,6 +69,7 @@ module _ (p : Listing) (gaps : Gaps) where
   same_buffers s s' t (Write l v next) h = sym (ap (λ (z : State). z.buffers) (same_Some _ s' h))
   same_buffers s s' t (Swap l v to next) h = sym (ap (λ (z : State). z.buffers) (same_Some _ s' h))
 
+  -- by each step in turn
   pub embed : (last : State) (ls : List Label) (s : State) → ((t : ℕ) → s.buffers t ≡ []) → run p Sequential s ls ≡ Some last →
       (js : List Label) × (run p (Fenced gaps) s js ≡ Some last)
   embed last [] s empty r = ([], r)

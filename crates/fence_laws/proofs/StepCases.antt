@@ -13,12 +13,14 @@ use Rattle.tso_machine.specs.declared.label.Label.TheVariants.{Exec, Flush}
 use Rattle.tso_machine.specs.declared.label.Pending.{Pending}
 
 module _ (last : State) (K : State → Option State) where
+  -- a gap was passed with nothing waiting, or was not fenced
   gap_cases : (b : Bool) (ws : List Pending) (s : State) (f : State → Option State) →
       option_and_then K (option_and_then f (past_gap b ws s)) ≡ Some last → (b ≡ true → ws ≡ []) × (option_and_then K (f s) ≡ Some last)
   gap_cases true [] s f h = ((λ e. refl), h)
   gap_cases true (w ∷ ws) s f h = absurd cc
   gap_cases false ws s f h = ((λ e. absurd cc), h)
 
+  -- nothing waited
   empty_cases : (ws : List Pending) (s : State) → option_and_then K (when_empty ws s) ≡ Some last → (ws ≡ []) × (K s ≡ Some last)
   empty_cases [] s h = (refl, h)
   empty_cases (w ∷ ws) s h = absurd cc
@@ -50,6 +52,7 @@ module _ (last : State) (K : State → Option State) where
             let (b, k) = empty_cases (s.buffers t) (record s { locals = put s.locals t (loaded to (s.memory l) next); memory = put s.memory l v }) r in
             swap l v to next e b k
 
+    -- what a flush did, and how the run goes on
     pub flush_by : option_and_then K (step p (Fenced gaps) s (Flush t)) ≡ Some last →
         ((w : Pending) (ws : List Pending) → s.buffers t ≡ w ∷ ws →
         K (record s { buffers = put s.buffers t ws; memory = put s.memory w.location w.value }) ≡ Some last → C) → C

@@ -10,15 +10,18 @@ use Rattle.tso_machine.specs.declared.label.Pending.{Pending}
 use Rattle.tso_machine.specs.Machine.{no_gaps, Fenced, State, past_gap, buffered, step, run}
 
 module _ (p : Listing) (gaps : Gaps) where
+  -- what a gap let through can be done
   let_by : (b : Bool) (ws : List Pending) (s z : State) (f : State → Option State) → option_and_then f (past_gap b ws s) ≡ Some z → f s ≡ Some z
   let_by true [] s z f e = e
   let_by true (w ∷ ws) s z f e = absurd cc
   let_by false ws s z f e = e
 
+  -- a step
   unfenced_step : (s z : State) (l : Label) → step p (Fenced gaps) s l ≡ Some z → step p (Fenced no_gaps) s l ≡ Some z
   unfenced_step s z (Flush t) e = e
   unfenced_step s z (Exec t) e = let_by (gaps t (s.locals t).place) (s.buffers t) s z (λ s'. buffered s' t (action p.threads t (s.locals t))) e
 
+  -- by each step in turn
   pub unfenced : (ls : List Label) (s last : State) → run p (Fenced gaps) s ls ≡ Some last → run p (Fenced no_gaps) s ls ≡ Some last
   unfenced [] s last r = r
   unfenced (l ∷ ls) s last r = option_and_then_some (λ next. run p (Fenced gaps) next ls) (step p (Fenced gaps) s l) last r

@@ -52,6 +52,7 @@ module _ (p : Listing) where
   abbrev After : State → State → Type 0
   After z last = (ls : List Label) × (end : State) × (run p Sequential z ls ≡ Some end) × Match last end
 
+  -- a sequential step goes before further ones
   then_exec : (z z' last : State) (t : ℕ) → direct z t (action p.threads t (z.locals t)) ≡ Some z' → After z' last → After z last
   then_exec z z' last t e a = (Exec t ∷ a.0, a.1, ap (option_and_then (λ x. run p Sequential x a.0)) e ∙ a.2, a.3)
 

@@ -9,19 +9,27 @@ use Rattle.tso_program.specs.declared.outcome.Outcome.{Outcome}
 use Rattle.tso_program.specs.Instructions.{target_of}
 use Rattle.tso_program.specs.Listings.{instr_at, gap_count}
 use Rattle.tso_program.specs.Limits.{IsWithinLimits}
-use Rattle.tso_program.specs.Fences.{Gaps, fence}
+use Rattle.tso_program.specs.Fences.{Gaps, gaps_in, fence}
 use Rattle.tso_machine.specs.declared.label.Label.{Label}
 use Rattle.tso_machine.specs.Machine.{Fenced, no_gaps, start, IsRun}
-use Rattle.tso_machine.specs.Modes.{Passes}
+use Rattle.tso_machine.specs.Modes.{Passes, ArePassed}
 use Rattle.tso_machine.specs.Outcomes.{IsSequentialOutcome, IsStoreBufferOutcome, Serves, IsTheAnswer, Headline}
 
--- each jump leads forward, as in every program within the limits
+-- each jump leads forward
 abbrev pub JumpForward : List Thread → Type 0
 JumpForward threads = (t k target : ℕ) (x : Instr) → instr_at threads t k ≡ Some x → target_of x ≡ Some target → k < target
+
+-- as each jump of a program within the limits does
+abbrev pub ProgramsJumpForward : Type 0
+ProgramsJumpForward = (p : Listing) → IsWithinLimits p.threads p.memory → JumpForward p.threads
 
 -- the labels pass no gap of the program, where none is fenced
 abbrev pub PassesNoGap : Listing → List Label → Type 0
 PassesNoGap p labels = (gap : ℕ) → ¬ Passes p (Fenced no_gaps) (start p) labels gap
+
+-- the labels pass no gap of the set, where none is fenced
+abbrev pub PassesNoGapOf : Listing → SetOfGaps → List Label → Type 0
+PassesNoGapOf p gaps labels = (gap : ℕ) → set.contains gaps gap ≡ true → ¬ Passes p (Fenced no_gaps) (start p) labels gap
 
 -- the set has every gap of the program
 abbrev pub HasEveryGapOf : Listing → SetOfGaps → Type 0
@@ -31,10 +39,30 @@ HasEveryGapOf p gaps = (gap : ℕ) → gap < gap_count p.threads → set.contain
 abbrev pub SequentialRunsAreAllowed : Type 0
 SequentialRunsAreAllowed = (p : Listing) (gaps : Gaps) (o : Outcome) → IsSequentialOutcome p o → IsStoreBufferOutcome p gaps o
 
+-- the runs with a set fenced are those with no gap fenced that pass no gap of the set, with the same outcomes
+abbrev pub FencedRunsPassNoGapOfTheSet : Type 0
+FencedRunsPassNoGapOfTheSet = (p : Listing) (gaps : SetOfGaps) (labels : List Label) (o : Outcome) →
+    IsRun p (Fenced (gaps_in p gaps)) labels o ↔ (IsRun p (Fenced no_gaps) labels o × PassesNoGapOf p gaps labels)
+
+-- so a run is a run with a set fenced exactly where no gap that it passes is in the set
+abbrev pub PassedGapsTellTheFencedRuns : Type 0
+PassedGapsTellTheFencedRuns = (p : Listing) (gaps passed : SetOfGaps) (labels : List Label) (o : Outcome) →
+    IsRun p (Fenced no_gaps) labels o → ArePassed p (Fenced no_gaps) labels passed →
+    IsRun p (Fenced (gaps_in p gaps)) labels o ↔ ((gap : ℕ) → set.contains passed gap ≡ true → ¬ (set.contains gaps gap ≡ true))
+
+-- with the empty set fenced no gap is
+abbrev pub TheEmptySetFencesNothing : Type 0
+TheEmptySetFencesNothing = (p : Listing) → gaps_in p set.empty ≡ no_gaps
+
 -- a run that passes no gap has a sequential outcome
 abbrev pub ARunThatPassesNothingIsSequential : Type 0
 ARunThatPassesNothingIsSequential = (p : Listing) (labels : List Label) (o : Outcome) →
     JumpForward p.threads → IsRun p (Fenced no_gaps) labels o → PassesNoGap p labels → IsSequentialOutcome p o
+
+-- the same of a run whose passed gaps are the empty set
+abbrev pub ARunWithNothingPassedIsSequential : Type 0
+ARunWithNothingPassedIsSequential = (p : Listing) (labels : List Label) (o : Outcome) →
+    JumpForward p.threads → IsRun p (Fenced no_gaps) labels o → ArePassed p (Fenced no_gaps) labels set.empty → IsSequentialOutcome p o
 
 -- a set that has every gap of the program serves
 abbrev pub AllGapsServe : Type 0

@@ -1,14 +1,28 @@
 //! The laws: each function's contract is a theorem, and calling it does nothing.
-ghost use Rattle.fence_laws.specs.Laws.{SequentialRunsAreAllowed, ARunThatPassesNothingIsSequential, AllGapsServe, FencingIsTheMachineWithGaps, FencingKeepsSequentialOutcomes, TheAnswerIsTheOnlyOne, TheHeadlineIsTheAnswer};
+ghost use Rattle.fence_laws.specs.Laws.{SequentialRunsAreAllowed, FencedRunsPassNoGapOfTheSet, PassedGapsTellTheFencedRuns, ProgramsJumpForward, TheEmptySetFencesNothing, ARunThatPassesNothingIsSequential, ARunWithNothingPassedIsSequential, AllGapsServe, FencingIsTheMachineWithGaps, FencingKeepsSequentialOutcomes, TheAnswerIsTheOnlyOne, TheHeadlineIsTheAnswer};
 
 /// Each sequential outcome is a store buffer outcome, whatever gaps are fenced.
 pub fn sequential_runs_are_allowed()
     ensures { SequentialRunsAreAllowed }
 {}
 
+/// The runs of the store buffer machine with a set of gaps fenced are its runs with none fenced that
+/// pass no gap of the set.
+pub fn fenced_runs_pass_no_gap_of_the_set()
+    ensures avoided { FencedRunsPassNoGapOfTheSet }
+    ensures passed { PassedGapsTellTheFencedRuns }
+    ensures empty { TheEmptySetFencesNothing }
+{}
+
+/// Jumps of a program within the limits lead forward, which the laws of runs that pass no gap ask for.
+pub fn programs_jump_forward()
+    ensures { ProgramsJumpForward }
+{}
+
 /// A run of the store buffer machine that passes no gap ends as some sequential run does.
 pub fn a_run_that_passes_nothing_is_sequential()
-    ensures { ARunThatPassesNothingIsSequential }
+    ensures no_gap { ARunThatPassesNothingIsSequential }
+    ensures empty_set { ARunWithNothingPassedIsSequential }
 {}
 
 /// A set that has every gap of the program serves.
