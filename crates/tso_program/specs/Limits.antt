@@ -25,7 +25,7 @@ pub record IsWithinLimits (threads : List Thread) (memory : List ℕ) : Type 0 w
   pub shared : IsWithinSharedLimits 64 threads memory
   pub few_gaps : gap_count threads ≤ 64
 
--- a fenced program within its limits: a thread of 64 instructions has 63 gaps; any number of gaps is left
+-- a fenced program within its limits: each thread has 64 instructions and a fence in each of their 63 gaps at most; it may have any number of gaps
 abbrev pub IsWithinFencedLimits : List Thread → List ℕ → Type 0
 IsWithinFencedLimits threads memory = IsWithinSharedLimits 127 threads memory
 
