@@ -1,5 +1,7 @@
 -- What is said of a fault, case by case.
-use Rattle.std.proofs.Common.{◌≡◌, refl}
+use Rattle.std.proofs.Common.{◌≡◌, ◌≢◌, ◌∙◌, Option, Some, None, refl, sym, ap}
+use Rattle.std.specs.Prelude.{⊤}
+use Rattle.tso_program.specs.declared.limits.ProgramFault.TheVariants.{OutOfMemory as NoMemory}
 use Rattle.tso_program.specs.declared.limits.ProgramFault.{ProgramFault}
 use Rattle.litmus_text.specs.declared.fault.ReadFault.{ReadFault}
 use Rattle.litmus_text.specs.declared.fault.ReadFault.TheVariants.{NotUtf8, Header, Initial, Row, Instruction, Operand, Label, Condition, Number, Ended, Program, OutOfMemory}
@@ -35,3 +37,13 @@ match_memory (Label line) U L M O u l o h = absurd (o h)
 match_memory (Condition line) U L M O u l o h = absurd (o h)
 match_memory (Number line) U L M O u l o h = absurd (o h)
 match_memory (Ended line) U L M O u l o h = absurd (o h)
+
+-- a program's fault is the first limit that is broken, want of memory aside
+pub first_refused : (first : Option ProgramFault) (fault : ProgramFault) (read : ReadFault) → (first ≡ None → fault ≡ NoMemory) → ((limit : ProgramFault) → first ≡ Some limit → limit ≡ fault)
+    → MatchFault read ⊥ (λ limit. (limit ≡ fault) × (fault ≢ NoMemory)) ⊤ ⊥ → MatchFault read ⊥ (λ limit. first ≡ Some limit) ⊤ ⊥
+first_refused first fault read none some h =
+    match_map read ⊥ ⊥ (λ limit. (limit ≡ fault) × (fault ≢ NoMemory)) (λ limit. first ≡ Some limit) ⊤ ⊤ ⊥ ⊥ (λ x. x) (known first refl) (λ x. x) (λ x. x) h
+  where
+    known : (o : Option ProgramFault) → first ≡ o → (limit : ProgramFault) → (limit ≡ fault) × (fault ≢ NoMemory) → first ≡ Some limit
+    known None e limit h = absurd (h.1 (none e))
+    known (Some f) e limit h = e ∙ ap Some (some f e ∙ sym h.0)

@@ -1,6 +1,6 @@
 -- The first line that is read is the one that stands there.
-use Rattle.std.proofs.Common.{◌≡◌, ℕ, suc, ◌+◌, ◌<◌, Bool, true, false, cond, List, [], ◌∷◌, ◌++◌, length, take, drop, Option, Some, None, refl, sym, ap, ◌∙◌, subst, arith, inl, inr, get_or, append_assoc}
-use Rattle.std.specs.Prelude.{◌==◌, ◌&&◌, codes, not, nat_lt, slice_index}
+use Rattle.std.proofs.Common.{◌≡◌, ℕ, suc, ◌+◌, ◌<◌, Bool, true, false, cond, List, [], ◌∷◌, ◌++◌, length, take, drop, Option, Some, None, refl, sym, ap, ◌∙◌, subst, arith, inl, inr}
+use Rattle.std.specs.Prelude.{◌&&◌, codes, nat_lt, slice_index}
 use Rattle.std.specs.List.{list_all, prefix_len}
 use Rattle.std.specs.Str.{bytes_eq}
 use Rattle.std.proofs.lemmas.Bool.{and_parts, and_from, cases_Bool, lt-ltb, ltb-true}
@@ -9,7 +9,7 @@ use Rattle.std.proofs.lemmas.List.{take_at, drop_at, take-append-drop, length-ap
 use Rattle.std.proofs.lemmas.List.Folds.{list_all-append}
 use Rattle.std.proofs.lemmas.Option.{cond_some}
 use Rattle.std.proofs.lemmas.Slice.Eq.{bytes_eq-Decides}
-use Rattle.text_tokens.proofs.Prefixes.{all_pass, next_fails}
+use Rattle.text_tokens.proofs.Prefixes.{all_pass}
 use Rattle.litmus_text.specs.FirstLine.{is_gap, is_visible, is_trailing, AreSome, IsHeading, IsFirstLine}
 use Rattle.litmus_text.specs.FirstLineReading.{is_inside, name_after, heading_name, line_at}
 

@@ -1,8 +1,14 @@
 pub mod NameLaws
 pub mod FirstLineLaws
 pub mod Rows
+pub mod Filled
+pub mod NamesOnce
+pub mod FirstValues
 pub mod Joined
 pub mod Faults
+pub mod Numbered
 pub mod Parts
 pub mod Whole
 pub mod WholeTexts
+pub mod Meant
+pub mod ExampleLaws

@@ -1,5 +1,5 @@
 -- Keys of a set as names.
-use Rattle.std.proofs.Common.{◌||◌, ◌≡◌, ℕ, ◌<◌, ◌≤◌, Bool, true, false, cond, List, [], ◌∷◌, ◌++◌, refl, sym, ap, ◌∙◌, Option, Some, None, arith}
+use Rattle.std.proofs.Common.{◌||◌, ◌≡◌, ℕ, ◌<◌, ◌≤◌, Bool, true, false, cond, List, [], ◌∷◌, ◌++◌, refl, sym, ap, ◌∙◌, arith}
 use Rattle.std.specs.Prelude.{not, ◌+◌, position, min, Result, Ok, Err}
 use Rattle.std.proofs.Common.{inl, inr}
 use Rattle.std.specs.Result.{OkIff, result_unwrap_or}
@@ -8,7 +8,8 @@ use Rattle.std.proofs.lemmas.Bool.{cases_lt}
 use Rattle.std.specs.Str.{bytes_eq}
 use Rattle.std.specs.Global.{Vec}
 use Rattle.std.proofs.lemmas.List.{map_push, length-map}
-use Rattle.litmus_text.specs.Names.{with_name, texts}
+use Rattle.litmus_text.specs.Names.{with_name}
+use Rattle.litmus_text.specs.Filling.{texts}
 
 any_text : (ks : List (Vec ℕ)) (name : List ℕ) → list_any (λ k. bytes_eq name k.items) ks ≡ list_any (bytes_eq name) (texts ks)
 any_text [] name = refl

@@ -5,9 +5,10 @@ use Rattle.std.proofs.Math.Nat.{add-zero}
 use Rattle.litmus_syntax.specs.declared.code.Code.{Code}
 use Rattle.litmus_syntax.specs.Views.{PlaceView, CellView, cell_view}
 use Rattle.litmus_text.specs.Names.{Names}
-use Rattle.litmus_text.specs.Places.{noted, cell_places, cells_places, row_places}
-use Rattle.std.specs.List.{filter_map, flat_map}
-use Rattle.std.proofs.lemmas.List.{map_more, flat_map_more, append-nil, length-map, length-take}
+use Rattle.litmus_text.specs.Filling.{noted}
+use Rattle.litmus_text.specs.Places.{cell_places, cells_places, row_places}
+use Rattle.std.specs.List.{filter_map}
+use Rattle.std.proofs.lemmas.List.{map_more, append-nil, length-map, length-take}
 use Rattle.std.proofs.lemmas.List.Sums.{fold-append}
 use Rattle.std.proofs.lemmas.List.Elements.{filter_map-append}
 

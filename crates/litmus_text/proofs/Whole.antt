@@ -1,10 +1,9 @@
 -- Tokens that the grammar relates to something are tokens each.
-use Rattle.std.proofs.Common.{◌≡◌, ℕ, ◌+◌, List, [], ◌∷◌, ◌⊎◌, inl, inr, Some, None, refl, sym, subst}
+use Rattle.std.proofs.Common.{◌≡◌, ℕ, ◌+◌, List, [], ◌∷◌, inl, inr, Some, None, sym, subst}
 use Rattle.text_tokens.specs.declared.token.Mark.{Mark}
 use Rattle.text_tokens.specs.declared.token.Mark.TheVariants as the
 use Rattle.text_tokens.specs.Tokens.{Tok, Word, Number, Sign, IsWhole}
 use Rattle.tso_program.specs.declared.instruction.Reg.{Reg}
-use Rattle.conditions.specs.declared.atom.Atom.{Atom as Atoms}
 use Rattle.conditions.specs.Tree.{Tree}
 use Rattle.litmus_text.specs.Texts.{AreParts}
 use Rattle.litmus_syntax.specs.Views.{PlaceView, Location, Register, EntryView, CodeView, LoadImm, Copy, Load, StoreImm, Store, Fence, CellView, BodyView, SignView, Atom, True, And, Open, Close}
@@ -148,5 +147,5 @@ signs_whole threads ss ts h =
     then (word (codes "exists")) (Items (IsSign threads) the_end ss) (a_word (codes "exists")) (items (IsSign threads) the_end (a_sign threads) an_end ss) ts [] h tt
 
 -- tokens with all their parts are tokens each
-pub parts_whole : (tokens : List Tok) (body : BodyView) (signs : List SignView) (f : Tree Atoms) → AreParts tokens body signs f → IsWhole tokens
+pub parts_whole : (tokens : List Tok) (body : BodyView) (signs : List SignView) (f : Tree (PlaceView × ℕ)) → AreParts tokens body signs f → IsWhole tokens
 parts_whole tokens body signs f parts = body_whole body tokens parts.others parts.begins (signs_whole body.threads signs parts.others parts.ends)

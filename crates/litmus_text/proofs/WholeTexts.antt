@@ -1,6 +1,6 @@
--- A text that is read is what it stands for, and stands for nothing else.
-use Rattle.std.proofs.Common.{◌≡◌, ℕ, List, Result, Ok, Err, refl, sym, ap, ◌∙◌, subst, inl}
-use Rattle.std.specs.Prelude.{⊤, IfOk, IfErr, MatchResult}
+-- What the first line and the tokens of a text say of the whole text.
+use Rattle.std.proofs.Common.{◌≡◌, ℕ, List, sym, ◌∙◌, subst, inl}
+use Rattle.std.specs.Prelude.{⊤}
 use Rattle.std.specs.Str.{IsUtf8}
 use Rattle.text_tokens.specs.Tokens.{Tok, IsWhole}
 use Rattle.text_tokens.specs.Lexing.{Lexes, LexesTo}
@@ -11,9 +11,9 @@ use Rattle.litmus_text.specs.declared.fault.ReadFault.{ReadFault}
 use Rattle.litmus_text.specs.declared.fault.ReadFault.TheVariants.{OutOfMemory}
 use Rattle.litmus_text.specs.Faults.{MatchFault, IsOfAToken}
 use Rattle.litmus_text.specs.FirstLine.{IsFirstLine}
-use Rattle.litmus_text.specs.Texts.{Means, BreaksLimits, BreaksLimitsIn, IsLitmus, Refuses}
-use Rattle.litmus_text.specs.Reading.{ReadsTokens}
-use Rattle.litmus_text.proofs.Faults.{match_map}
+use Rattle.litmus_text.specs.Texts.{Means, StandsFor}
+use Rattle.litmus_text.specs.Reading.{IsRead, IsReadOf, HasNoParts}
+use Rattle.litmus_text.proofs.Faults.{match_map, match_memory}
 use Rattle.litmus_text.proofs.Whole.{parts_whole}
 
 -- what first line and tokens were found
@@ -24,48 +24,51 @@ pub record Split (text name lines : List ℕ) (tokens : List Tok) : Type 0 where
   pub lexes : IsWhole tokens → Lexes lines tokens
   pub lexes_only : (ts : List Tok) → LexesTo lines ts → tokens ≡ ts
 
-pub text_found : (text name other lines : List ℕ) (tokens : List Tok) (r : Result (Litmus Listing) ReadFault) → Split text name lines tokens → other ≡ name → ReadsTokens other tokens r → IfOk r (λ litmus. IsLitmus text litmus)
-text_found text name other lines tokens (Ok litmus) split e h =
-    let m : Means tokens litmus = h.1 in
+pub text_read : (text name other lines : List ℕ) (tokens : List Tok) (litmus : Litmus Listing) → Split text name lines tokens → other ≡ name → (litmus.name ≡ other) × IsRead tokens litmus → IsReadOf text litmus
+text_read text name other lines tokens litmus split e h =
+    let own : litmus.name ≡ name = h.0 ∙ e in
     record {
       lines = lines;
       tokens = tokens;
       utf8 = split.utf8;
-      first_line = subst (λ (n : List ℕ). IsFirstLine text n lines) (sym (h.0 ∙ e)) split.first_line;
-      lexes = split.lexes (parts_whole tokens m.body m.signs litmus.condition.formula m.parts);
-      means = m;
+      first_line = subst (λ (n : List ℕ). IsFirstLine text n lines) (sym own) split.first_line;
+      first_only = λ n rest f. let p = split.first_only n rest f in (own ∙ p.0, p.1);
+      lexes = split.lexes (parts_whole tokens h.1.body h.1.signs h.1.formula h.1.parts);
+      lexes_only = λ ts l. split.lexes_only ts (inl l);
+      read = h.1;
     }
-text_found text name other lines tokens (Err fault) split e h = tt
 
-pub text_only : (text name other lines : List ℕ) (tokens : List Tok) (r : Result (Litmus Listing) ReadFault) (litmus : Litmus Listing) → Split text name lines tokens → other ≡ name → ReadsTokens other tokens r
-    → IsLitmus text litmus → MatchResult r (λ read. read ≡ litmus) (λ fault. fault ≡ OutOfMemory)
-text_only text name other lines tokens (Ok read) litmus split e h is =
-    let p = split.first_only litmus.name is.lines is.first_line in
-    let lexes : Lexes lines is.tokens = subst (λ (l : List ℕ). Lexes l is.tokens) (sym p.1) is.lexes in
-    let same = split.lexes_only is.tokens (inl lexes) in
-    let m : Means tokens litmus = subst (λ (ts : List Tok). Means ts litmus) (sym same) is.means in
-    sym (h.2 litmus (sym (e ∙ p.0)) m)
-text_only text name other lines tokens (Err fault) litmus split e h is =
-    let p = split.first_only litmus.name is.lines is.first_line in
-    let lexes : Lexes lines is.tokens = subst (λ (l : List ℕ). Lexes l is.tokens) (sym p.1) is.lexes in
-    let same = split.lexes_only is.tokens (inl lexes) in
-    let m : Means tokens litmus = subst (λ (ts : List Tok). Means ts litmus) (sym same) is.means in
-    h.1 litmus m
+-- the text stands for nothing
+abbrev pub StandsForNothing : List ℕ → Type 0
+StandsForNothing text = (litmus : Litmus Listing) → StandsFor text litmus → ⊥
 
-pub text_refused : (text name other lines : List ℕ) (tokens : List Tok) (r : Result (Litmus Listing) ReadFault) → Split text name lines tokens → ReadsTokens other tokens r → IfErr r (λ fault. Refuses text fault)
-text_refused text name other lines tokens (Ok read) split h = tt
-text_refused text name other lines tokens (Err fault) split h =
-    let breaks : (limit : ProgramFault) → BreaksLimits tokens limit → BreaksLimitsIn text limit =
-    λ limit b. record {
-      name = name;
-      lines = lines;
-      tokens = tokens;
-      utf8 = split.utf8;
-      first_line = split.first_line;
-      lexes = split.lexes (parts_whole tokens b.body b.signs b.formula b.parts);
-      breaks = b;
-    } in
-    match_map fault ⊥ (IsUtf8 text → ⊥) (BreaksLimits tokens) (BreaksLimitsIn text) ⊤ ⊤ ⊤ ⊤ (λ x. absurd x) breaks (λ x. x) (λ x. x) h.0
+no_parts : (text name lines : List ℕ) (tokens : List Tok) → Split text name lines tokens → HasNoParts tokens → StandsForNothing text
+no_parts text name lines tokens split none litmus st =
+    let p = split.first_only litmus.name st.lines st.first_line in
+    let lexes : Lexes lines st.tokens = subst (λ (l : List ℕ). Lexes l st.tokens) (sym p.1) st.lexes in
+    let m : Means tokens litmus = subst (λ (ts : List Tok). Means ts litmus) (sym (split.lexes_only st.tokens (inl lexes))) st.means in
+    none m.body m.signs m.formula m.parts
 
-pub token_refused : (text : List ℕ) (fault : ReadFault) → IsOfAToken fault → Refuses text fault
-token_refused text fault h = match_map fault ⊥ (IsUtf8 text → ⊥) (λ _. ⊥) (BreaksLimitsIn text) ⊥ ⊤ ⊤ ⊤ (λ x. absurd x) (λ _ x. absurd x) (λ x. absurd x) (λ x. x) h
+pub tokens_refused : (text name lines : List ℕ) (tokens : List Tok) (fault : ReadFault) → Split text name lines tokens → MatchFault fault ⊥ (λ _. ⊥) ⊤ (HasNoParts tokens)
+    → MatchFault fault (IsUtf8 text → ⊥) (λ _. ⊥) ⊤ (StandsForNothing text)
+tokens_refused text name lines tokens fault split h =
+    match_map fault ⊥ (IsUtf8 text → ⊥) (λ _. ⊥) (λ _. ⊥) ⊤ ⊤ (HasNoParts tokens) (StandsForNothing text) (λ x. absurd x) (λ _ x. x) (λ x. x) (no_parts text name lines tokens split) h
+
+pub first_line_refused : (text : List ℕ) (fault : ReadFault) → IsOfAToken fault → ((name rest : List ℕ) → IsFirstLine text name rest → ⊥)
+    → MatchFault fault (IsUtf8 text → ⊥) (λ _. ⊥) ⊤ (StandsForNothing text)
+first_line_refused text fault h none =
+    match_map fault ⊥ (IsUtf8 text → ⊥) (λ _. ⊥) (λ _. ⊥) ⊥ ⊤ ⊤ (StandsForNothing text) (λ x. absurd x) (λ _ x. x) (λ x. absurd x) (λ _ litmus st. none litmus.name st.lines st.first_line) h
+
+pub bytes_refused : (text : List ℕ) (fault : ReadFault) → MatchFault fault (IsUtf8 text → ⊥) (λ _. ⊥) ⊥ ⊥ → MatchFault fault (IsUtf8 text → ⊥) (λ _. ⊥) ⊤ (StandsForNothing text)
+bytes_refused text fault h =
+    match_map fault (IsUtf8 text → ⊥) (IsUtf8 text → ⊥) (λ _. ⊥) (λ _. ⊥) ⊥ ⊤ ⊥ (StandsForNothing text) (λ x. x) (λ _ x. x) (λ x. absurd x) (λ x. absurd x) h
+
+-- ---- a reader of texts within limits, where nothing is read
+
+pub nothing_only : (text : List ℕ) (fault : ReadFault) (other : Litmus Listing) → MatchFault fault (IsUtf8 text → ⊥) (λ _. ⊥) ⊤ (StandsForNothing text) → StandsFor text other → fault ≡ OutOfMemory
+nothing_only text fault other h st = match_memory fault (IsUtf8 text → ⊥) (λ _. ⊥) ⊤ (StandsForNothing text) (λ none. none st.utf8) (λ _ x. x) (λ none. none other st) h
+
+pub nothing_refused : (text : List ℕ) (fault : ReadFault) (Breaks : ProgramFault → Type 0) → MatchFault fault (IsUtf8 text → ⊥) (λ _. ⊥) ⊤ (StandsForNothing text)
+    → MatchFault fault (IsUtf8 text → ⊥) Breaks ⊤ ⊤
+nothing_refused text fault Breaks h =
+    match_map fault (IsUtf8 text → ⊥) (IsUtf8 text → ⊥) (λ _. ⊥) Breaks ⊤ ⊤ (StandsForNothing text) ⊤ (λ x. x) (λ _ x. absurd x) (λ x. x) (λ _. tt) h

@@ -1,5 +1,5 @@
 -- Cases on a fault.
-use Rattle.std.specs.Prelude.{ℕ, ⊤}
+use Rattle.std.specs.Prelude.{⊤}
 use Rattle.tso_program.specs.declared.limits.ProgramFault.{ProgramFault}
 use Rattle.litmus_text.specs.declared.fault.ReadFault.{ReadFault}
 use Rattle.litmus_text.specs.declared.fault.ReadFault.TheVariants.{NotUtf8, Header, Initial, Row, Instruction, Operand, Label, Condition, Number, Ended, Program, OutOfMemory}

@@ -1,5 +1,5 @@
 -- The first line of a litmus text.
-use Rattle.std.specs.Prelude.{◌≡◌, ◌==◌, ◌||◌, ◌&&◌, ◌<◌, ℕ, Bool, true, nat_le, List, [], ◌∷◌, ◌++◌, length, codes}
+use Rattle.std.specs.Prelude.{◌≡◌, ◌==◌, ◌||◌, ◌&&◌, ◌<◌, ℕ, Bool, true, nat_le, List, ◌∷◌, ◌++◌, length, codes}
 use Rattle.std.specs.List.{list_all}
 
 -- a space or a tab

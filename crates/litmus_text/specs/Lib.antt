@@ -1,9 +1,12 @@
 pub mod Names
 pub mod Places
 pub mod FirstLine
-pub mod FirstLineReading
 pub mod Meaning
-pub mod Outcomes
 pub mod Faults
 pub mod Texts
+pub mod Outcomes
+pub mod FirstLineReading
+pub mod Filling
 pub mod Reading
+pub mod Laws
+pub mod Example

@@ -1,13 +1,18 @@
 -- The names of a text: its locations by number, and the registers that it names.
-use Rattle.std.specs.Prelude.{ℕ, Bool, List, [], ◌∷◌, ◌++◌, map, fold, min, position, unwrap_or, if◌then◌else◌}
+use Rattle.std.specs.Prelude.{ℕ, Bool, List, [], ◌∷◌, ◌++◌, fold, position, unwrap_or, if◌then◌else◌}
 use Rattle.std.specs.List.{list_any}
 use Rattle.std.specs.Str.{bytes_eq}
-use Rattle.std.specs.Global.{Vec}
+use Rattle.tso_program.specs.declared.instruction.Reg.{Reg}
+use Rattle.tso_program.specs.declared.instruction.Reg.TheVariants.{Eax, Ebx, Ecx, Edx, Esi, Edi}
 
 -- a text's locations by number, and for each thread which of its six registers are named
 pub record Names : Type 0 where
   pub locations : List (List ℕ)
   pub registers : List (List Bool)
+
+-- the six registers, by number
+abbrev pub all_registers : List Reg
+all_registers = Eax ∷ Ebx ∷ Ecx ∷ Edx ∷ Esi ∷ Edi ∷ []
 
 -- the names with this one, at the end where it is new
 abbrev pub with_name : List (List ℕ) → List ℕ → List (List ℕ)
@@ -17,10 +22,6 @@ with_name names name = if list_any (bytes_eq name) names then names else names +
 abbrev pub in_order : List (List ℕ) → List (List ℕ)
 in_order names = fold with_name [] names
 
--- a name's number; a byte, so that it is 255 from the 256th name on
+-- a name's number: its place among the names
 abbrev pub number_in : List (List ℕ) → List ℕ → ℕ
-number_in names name = min 255 (unwrap_or (position (bytes_eq name) names) 0)
-
--- the bytes of each
-abbrev pub texts : List (Vec ℕ) → List (List ℕ)
-texts keys = map (λ key. key.items) keys
+number_in names name = unwrap_or (position (bytes_eq name) names) 0

@@ -1,16 +1,12 @@
 -- How an outcome is written.
-use Rattle.std.specs.Prelude.{ℕ, Bool, true, false, List, [], ◌∷◌, ◌++◌, length, map, codes, slice_index, slice_index_or, if◌then◌else◌}
+use Rattle.std.specs.Prelude.{ℕ, Bool, false, List, [], ◌∷◌, ◌++◌, length, map, codes, slice_index, slice_index_or, if◌then◌else◌}
 use Rattle.std.specs.List.{join_with_byte, flat_map, range_with_len}
 use Rattle.std.specs.Fmt.{decimal}
 use Rattle.tso_program.specs.declared.instruction.Reg.{Reg}
 use Rattle.tso_program.specs.declared.instruction.Reg.TheVariants.{Eax, Ebx, Ecx, Edx, Esi, Edi}
 use Rattle.tso_program.specs.declared.outcome.Outcome.{Outcome}
 use Rattle.tso_program.specs.Instructions.{number}
-use Rattle.litmus_text.specs.Names.{Names}
-
--- the six registers, by number
-abbrev pub all_registers : List Reg
-all_registers = Eax ∷ Ebx ∷ Ecx ∷ Edx ∷ Esi ∷ Edi ∷ []
+use Rattle.litmus_text.specs.Names.{Names, all_registers}
 
 -- a register's name, in capitals
 abbrev pub register_name : Reg → List ℕ

@@ -1,10 +1,10 @@
 -- What a text names, in the order in which it names it.
-use Rattle.std.specs.Prelude.{ℕ, ◌+◌, ◌==◌, ◌&&◌, Bool, true, false, List, [], ◌∷◌, ◌++◌, map, fold, replicate, Option, Some, None, slice_set, slice_index_or}
-use Rattle.std.specs.List.{flat_map}
+use Rattle.std.specs.Prelude.{ℕ, ◌+◌, Bool, List, [], ◌∷◌, ◌++◌, map, Option, Some, None}
+use Rattle.std.specs.List.{flat_map, filter_map, list_any, range_with_len}
 use Rattle.tso_program.specs.declared.instruction.Reg.{Reg}
-use Rattle.tso_program.specs.Instructions.{number}
 use Rattle.litmus_syntax.specs.Views.{PlaceView, Location, Register, EntryView, CodeView, LoadImm, Copy, Load, StoreImm, Store, Fence, CellView, BodyView, SignView, Atom, True, And, Open, Close}
-use Rattle.litmus_text.specs.Names.{Names, with_name}
+use Rattle.litmus_syntax.specs.Places.{same_place}
+use Rattle.litmus_text.specs.Names.{Names, all_registers, in_order}
 
 -- what an instruction of thread t names
 abbrev pub code_places : ℕ → CodeView → List PlaceView
@@ -42,19 +42,22 @@ entry_place e = e.place
 abbrev pub places : BodyView → List SignView → List PlaceView
 places body signs = map entry_place body.entries ++ (flat_map row_places body.rows ++ flat_map sign_places signs)
 
--- the names of a text that names nothing
-abbrev pub no_names : ℕ → Names
-no_names threads = record { locations = []; registers = replicate threads (replicate 6 false) }
+-- the name of a location
+abbrev pub location_name : PlaceView → Option (List ℕ)
+location_name (Location x) = Some x
+location_name (Register t r) = None
 
--- a table with one value changed
-abbrev pub put : {X : Type 0} → List (List X) → ℕ → ℕ → X → List (List X)
-put table t r x = slice_set table t (slice_set (slice_index_or table t []) r x)
+-- whether the place is register r of thread t
+abbrev pub is_register : ℕ → Reg → PlaceView → Bool
+is_register t r p = same_place p (Register t r)
 
--- the names with those of one more place
-abbrev pub noted : Names → PlaceView → Names
-noted names (Location x) = record names { locations = with_name names.locations x }
-noted names (Register t r) = record names { registers = put names.registers t (number r) true }
+-- the names that places give: the locations in the order of their first appearance, and of each thread the registers
+abbrev pub names_among : ℕ → List PlaceView → Names
+names_among threads ps = record {
+  locations = in_order (filter_map location_name ps);
+  registers = map (λ t. map (λ r. list_any (is_register t r) ps) all_registers) (range_with_len 0 threads);
+}
 
 -- the names of a text
 abbrev pub names_of : BodyView → List SignView → Names
-names_of body signs = fold noted (no_names body.threads) (places body signs)
+names_of body signs = names_among body.threads (places body signs)

@@ -1,44 +1,44 @@
 -- Litmus texts, whole: what a text stands for.
-use Rattle.std.specs.Prelude.{◌≡◌, ℕ, List, [], map, Some, ⊤}
+use Rattle.std.specs.Prelude.{◌≡◌, ℕ, List, [], map, Option, Some, ⊤}
 use Rattle.std.specs.Str.{IsUtf8}
+use Rattle.tso_program.specs.declared.listing.Thread.{Thread}
 use Rattle.tso_program.specs.declared.listing.Listing.{Listing}
 use Rattle.tso_program.specs.declared.limits.ProgramFault.{ProgramFault}
-use Rattle.tso_program.specs.Limits.{IsWithinLimits, first_fault}
+use Rattle.tso_program.specs.Limits.{IsWithinLimits, IsWithinFencedLimits, first_fault, first_fenced_fault}
 use Rattle.text_tokens.specs.Tokens.{Tok}
 use Rattle.text_tokens.specs.Lexing.{Lexes}
-use Rattle.conditions.specs.declared.atom.Atom.{Atom}
-use Rattle.conditions.specs.declared.condition.Quantifier.TheVariants.{Exists}
 use Rattle.conditions.specs.Tree.{Tree}
 use Rattle.conditions.specs.Grammar.{Spells, Sum}
-use Rattle.litmus_syntax.specs.Views.{BodyView, SignView}
+use Rattle.litmus_syntax.specs.Views.{PlaceView, BodyView, SignView}
 use Rattle.litmus_syntax.specs.Grammar.{IsBody, IsSigns}
 use Rattle.litmus_text.specs.declared.litmus.Litmus.{Litmus}
 use Rattle.litmus_text.specs.declared.fault.ReadFault.{ReadFault}
 use Rattle.litmus_text.specs.Faults.{MatchFault}
-use Rattle.litmus_text.specs.Names.{Names}
+use Rattle.litmus_text.specs.Names.{number_in}
 use Rattle.litmus_text.specs.Places.{names_of}
 use Rattle.litmus_text.specs.FirstLine.{IsFirstLine}
-use Rattle.litmus_text.specs.Meaning.{listing_of, sign_of}
+use Rattle.litmus_text.specs.Meaning.{listing_of, sign_of, condition_of}
 
--- The tokens behind the first line: initial values, header row and rows; then `exists` and the signs, which spell a formula.
-pub record AreParts (tokens : List Tok) (body : BodyView) (signs : List SignView) (formula : Tree Atom) : Type 0 where
+-- The tokens behind the first line: initial values, header row and rows; then `exists` and signs, which spell a formula.
+pub record AreParts (tokens : List Tok) (body : BodyView) (signs : List SignView) (formula : Tree (PlaceView × ℕ)) : Type 0 where
   pub others : List Tok
   pub begins : IsBody body tokens others
   pub ends : IsSigns body.threads signs others
-  pub spells : Spells Sum formula (map (sign_of (names_of body signs).locations) signs) []
+  pub spells : Spells Sum formula (map sign_of signs) []
 
--- What such tokens stand for: the names in the order of their first appearance, the program, the condition.
+-- What such tokens stand for: the names, the program and the condition.
 pub record Means (tokens : List Tok) (litmus : Litmus Listing) : Type 0 where
   pub body : BodyView
   pub signs : List SignView
-  pub parts : AreParts tokens body signs litmus.condition.formula
-  pub quantifier : litmus.condition.quantifier ≡ Exists
+  pub formula : Tree (PlaceView × ℕ)
+  pub parts : AreParts tokens body signs formula
   pub names : litmus.names ≡ names_of body signs
-  pub program : litmus.program ≡ listing_of (names_of body signs).locations body
-  pub within : IsWithinLimits litmus.program.threads litmus.program.memory
+  pub program : litmus.program ≡ listing_of litmus.names.locations body
+  pub condition : litmus.condition ≡ condition_of (number_in litmus.names.locations) formula
 
--- What a text stands for: it is UTF-8, its first line names the test, and the tokens of the other lines stand for the rest.
-pub record IsLitmus (text : List ℕ) (litmus : Litmus Listing) : Type 0 where
+-- What a text stands for, whatever the size of its program: it is UTF-8, its first line names the test, and the tokens of
+-- the other lines stand for the rest.
+pub record StandsFor (text : List ℕ) (litmus : Litmus Listing) : Type 0 where
   pub lines : List ℕ
   pub tokens : List Tok
   pub utf8 : IsUtf8 text
@@ -46,24 +46,25 @@ pub record IsLitmus (text : List ℕ) (litmus : Litmus Listing) : Type 0 where
   pub lexes : Lexes lines tokens
   pub means : Means tokens litmus
 
--- the fault is the first refusal of the program that the tokens stand for
-pub record BreaksLimits (tokens : List Tok) (fault : ProgramFault) : Type 0 where
-  pub body : BodyView
-  pub signs : List SignView
-  pub formula : Tree Atom
-  pub parts : AreParts tokens body signs formula
-  pub first : first_fault (listing_of (names_of body signs).locations body).threads (listing_of (names_of body signs).locations body).memory ≡ Some fault
+-- a text that stands for a program within the limits
+abbrev pub IsLitmus : List ℕ → Litmus Listing → Type 0
+IsLitmus text litmus = StandsFor text litmus × IsWithinLimits litmus.program.threads litmus.program.memory
 
--- the first line, and tokens of the other lines, which break a limit
-pub record BreaksLimitsIn (text : List ℕ) (fault : ProgramFault) : Type 0 where
-  pub name : List ℕ
-  pub lines : List ℕ
-  pub tokens : List Tok
-  pub utf8 : IsUtf8 text
-  pub first_line : IsFirstLine text name lines
-  pub lexes : Lexes lines tokens
-  pub breaks : BreaksLimits tokens fault
+-- a text that stands for a program within the limits of a fenced one
+abbrev pub IsFencedLitmus : List ℕ → Litmus Listing → Type 0
+IsFencedLitmus text litmus = StandsFor text litmus × IsWithinFencedLimits litmus.program.threads litmus.program.memory
 
--- What a fault says of a text: it is no UTF-8; or it has all its parts, and its program breaks that limit first.
+-- The text stands for a program, and the first limit that the program breaks is this one.
+abbrev pub BreaksFirst : (List Thread → List ℕ → Option ProgramFault) → List ℕ → ProgramFault → Type 0
+BreaksFirst first text limit = (litmus : Litmus Listing) × StandsFor text litmus × (first litmus.program.threads litmus.program.memory ≡ Some limit)
+
+-- What a fault says of a text: it is no UTF-8; or its program breaks that limit first.
+abbrev pub RefusesBy : (List Thread → List ℕ → Option ProgramFault) → List ℕ → ReadFault → Type 0
+RefusesBy first text fault = MatchFault fault (IsUtf8 text → ⊥) (BreaksFirst first text) ⊤ ⊤
+
 abbrev pub Refuses : List ℕ → ReadFault → Type 0
-Refuses text fault = MatchFault fault (IsUtf8 text → ⊥) (BreaksLimitsIn text) ⊤ ⊤
+Refuses text fault = RefusesBy first_fault text fault
+
+-- the same by the limits of a fenced program
+abbrev pub RefusesFenced : List ℕ → ReadFault → Type 0
+RefusesFenced text fault = RefusesBy first_fenced_fault text fault

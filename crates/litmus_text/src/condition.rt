@@ -2,8 +2,10 @@
 ghost use Rattle.std.specs.Prelude.{◌≡◌, map, IfOk};
 ghost use Rattle.conditions.specs.Tokens.{sign_of as token_sign};
 ghost use Rattle.litmus_syntax.specs.Views.{sign_view, sign_at_view};
-ghost use Rattle.litmus_text.specs.Meaning.{sign_of};
-ghost use Rattle.litmus_text.specs.Reading.{ReadsFormula};
+ghost use Rattle.conditions.specs.Grammar.{sign_map};
+ghost use Rattle.litmus_text.specs.Filling.{byte_in};
+ghost use Rattle.litmus_text.specs.Meaning.{sign_of, numbered_atom};
+ghost use Rattle.litmus_text.specs.Reading.{numbered_signs, ReadsFormula};
 
 use crate::fault::ReadFault;
 use crate::lines::fault_at;
@@ -16,7 +18,7 @@ use text_tokens::Tokens;
 
 /// A sign of the condition, with its location's number.
 fn token(names: &NameTable, sign: Sign<'_>) -> Token
-    ensures { token_sign result ≡ sign_of names.now.locations (sign_view sign.entry) }
+    ensures { token_sign result ≡ sign_map (numbered_atom (byte_in names.now.locations)) (sign_of (sign_view sign.entry)) }
 {
     match sign {
         Sign::Atom(place, value) => Token::Atom(atom(names, place, value)),
@@ -33,7 +35,7 @@ fn numbered(
     names: &NameTable,
     signs: &[SignAt<'_>],
 ) -> Result<Vec<Token>, AllocError>
-    ensures { IfOk result (λ tokens. map token_sign tokens.items ≡ map (sign_of names.now.locations) (map sign_at_view signs.now)) }
+    ensures { IfOk result (λ tokens. map token_sign tokens.items ≡ numbered_signs (byte_in names.now.locations) (map sign_at_view signs.now)) }
 {
     let mut tokens = Vec::new(alloc);
     for sign in signs {
@@ -64,7 +66,7 @@ pub(crate) fn read_formula(
     names: &NameTable,
     signs: &Signs<'_>,
 ) -> Result<Formula, ReadFault>
-    ensures { ReadsFormula signs.now.refusal (map (sign_of names.now.locations) (map sign_at_view signs.now.signs.items)) result }
+    ensures { ReadsFormula signs.now.refusal (numbered_signs (byte_in names.now.locations) (map sign_at_view signs.now.signs.items)) result }
 {
     let numbered = numbered(alloc, names, signs.signs.as_slice())?;
     match Formula::read(alloc, numbered.as_slice()) {

@@ -4,6 +4,7 @@
 mod condition;
 mod fault;
 mod first_line;
+mod laws;
 mod lines;
 mod litmus;
 mod mentions;
@@ -13,10 +14,11 @@ mod program;
 mod reader;
 
 pub use fault::ReadFault;
+pub use laws::{store_buffering_is_read, texts_name_few_locations};
 pub use litmus::Litmus;
 pub use names::NameTable;
 pub use outcome::write_outcome;
-pub use reader::read_litmus;
+pub use reader::{read_fenced, read_litmus};
 
 #[cfg(test)]
 mod tests;

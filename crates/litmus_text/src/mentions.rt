@@ -2,7 +2,8 @@
 ghost use Rattle.std.specs.Prelude.{◌≡◌, OnOk, IfOk, map, fold};
 ghost use Rattle.std.specs.List.{flat_map};
 ghost use Rattle.litmus_syntax.specs.Views.{entry_view, code_view, cell_view, row_view, body_view, sign_view, sign_at_view};
-ghost use Rattle.litmus_text.specs.Places.{noted, names_of, entry_place, code_places, cell_places, row_places, sign_places};
+ghost use Rattle.litmus_text.specs.Filling.{noted};
+ghost use Rattle.litmus_text.specs.Places.{names_of, entry_place, code_places, cell_places, row_places, sign_places};
 
 use crate::names::NameTable;
 use litmus_syntax::{Body, Code, Entry, Place, Sign, SignAt};

@@ -2,9 +2,9 @@
 ghost use Rattle.std.specs.Prelude.{◌≡◌, true, IfOk, OnOk, option_map, slice_get, length};
 ghost use Rattle.tso_program.specs.Instructions.{number};
 ghost use Rattle.litmus_syntax.specs.Views.{place_view};
-ghost use Rattle.litmus_text.specs.Names.{with_name, number_in};
+ghost use Rattle.litmus_text.specs.Names.{with_name};
 ghost use Rattle.litmus_text.specs.Outcomes.{is_named};
-ghost use Rattle.litmus_text.specs.Places.{no_names, noted, put};
+ghost use Rattle.litmus_text.specs.Filling.{no_names, noted, put, byte_in};
 
 use indexmap::IndexSet;
 use litmus_syntax::Place;
@@ -20,7 +20,8 @@ pub struct NameTable {
 }
 
 impl Model for NameTable {
-    ghost use Rattle.litmus_text.specs.Names.{Names, texts};
+    ghost use Rattle.litmus_text.specs.Names.{Names};
+    ghost use Rattle.litmus_text.specs.Filling.{texts};
 
     ghost Value = { Names };
 
@@ -73,7 +74,7 @@ impl NameTable {
 
     /// The number of a location that the text names; 255 from the 256th on.
     pub(crate) fn number(&self, name: &[u8]) -> u8
-        ensures { result ≡ number_in self.now.locations name.now }
+        ensures { result ≡ byte_in self.now.locations name.now }
     {
         let number = self.locations.get_index_of(name).unwrap_or(0);
         u8::try_from(number).unwrap_or(u8::MAX)

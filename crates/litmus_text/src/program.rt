@@ -1,20 +1,23 @@
 //! The program that a text stands for.
-ghost use Rattle.std.specs.Prelude.{◌≡◌, ◌≤◌, List, ℕ, IfOk, map, fold, length, replicate, option_map, option_and_then, slice_get, slice_index_or};
+ghost use Rattle.std.specs.Prelude.{◌≡◌, ◌≢◌, ⊤, IfOk, map, length};
+ghost use Rattle.tso_program.specs.declared.limits.ProgramFault.TheVariants.{OutOfMemory as NoMemory};
+ghost use Rattle.litmus_text.specs.Faults.{MatchFault};
 ghost use Rattle.std.specs.List.{range_with_len};
 ghost use Rattle.litmus_syntax.specs.Views.{place_view, entry_view, code_view, cell_view, row_view, body_view};
-ghost use Rattle.litmus_text.specs.Meaning.{atom_of, entry_atom, stored, loaded, instruction_of, instruction_in, code_of, thread_in, listed, listing_of};
-ghost use Rattle.litmus_text.specs.Reading.{MakesProgram};
+ghost use Rattle.litmus_text.specs.Filling.{byte_in, stored, loaded, entry_atoms, memory_from, registers_from, thread_in, listing_by};
+ghost use Rattle.litmus_text.specs.Meaning.{atom_of, instruction_of, instruction_in, code_of};
+ghost use Rattle.litmus_text.specs.Reading.{MakesProgram, MakesFencedProgram};
 
 use crate::fault::ReadFault;
 use crate::names::NameTable;
 use conditions::Atom;
 use litmus_syntax::{Body, Code, Entry, Place};
 use std::alloc::{AllocError, Global};
-use tso_program::{Instr, Items, Program, ProgramFault, Thread};
+use tso_program::{FencedProgram, Instr, Items, Listing, Program, ProgramFault, Thread};
 
 /// That a place has a value, with the location's number.
 pub(crate) fn atom(names: &NameTable, place: Place<'_>, value: u32) -> Atom
-    ensures { result ≡ atom_of names.now.locations (place_view place.entry) value }
+    ensures { result ≡ atom_of (byte_in names.now.locations) (place_view place.entry) value }
 {
     match place {
         Place::Location(name) => Atom::Location {
@@ -31,7 +34,7 @@ pub(crate) fn atom(names: &NameTable, place: Place<'_>, value: u32) -> Atom
 
 /// An instruction, with its location's number.
 fn instruction(names: &NameTable, code: Code<'_>) -> Instr
-    ensures { result ≡ instruction_of names.now.locations (code_view code.entry) }
+    ensures { result ≡ instruction_of (byte_in names.now.locations) (code_view code.entry) }
 {
     match code {
         Code::LoadImm(register, value) => Instr::LoadImm(register, value),
@@ -45,7 +48,7 @@ fn instruction(names: &NameTable, code: Code<'_>) -> Instr
 
 /// The instruction of a thread in a row, if there is one.
 fn instruction_in(names: &NameTable, thread: usize, row: &[Option<Code<'_>>]) -> Option<Instr>
-    ensures { result ≡ instruction_in names.now.locations thread (map cell_view row.now) }
+    ensures { result ≡ instruction_in (byte_in names.now.locations) thread (map cell_view row.now) }
 {
     match row.get(thread) {
         Some(Some(code)) => Some(instruction(names, *code)),
@@ -60,7 +63,7 @@ fn code_of(
     rows: &[Vec<Option<Code<'_>>>],
     thread: usize,
 ) -> Result<Vec<Instr>, AllocError>
-    ensures { IfOk result (λ code. code.items ≡ code_of names.now.locations (map row_view rows.now) thread) }
+    ensures { IfOk result (λ code. code.items ≡ code_of (byte_in names.now.locations) (map row_view rows.now) thread) }
 {
     let mut instructions = Vec::new(alloc);
     for row in rows {
@@ -77,7 +80,7 @@ fn entry_atoms(
     names: &NameTable,
     entries: &[Entry<'_>],
 ) -> Result<Vec<Atom>, AllocError>
-    ensures { IfOk result (λ atoms. atoms.items ≡ map (entry_atom names.now.locations) (map entry_view entries.now)) }
+    ensures { IfOk result (λ atoms. atoms.items ≡ entry_atoms (byte_in names.now.locations) (map entry_view entries.now)) }
 {
     let mut atoms = Vec::new(alloc);
     for entry in entries {
@@ -117,7 +120,7 @@ fn load(registers: &mut [[u32; 6]], atom: Atom)
 
 /// What so many locations hold at first.
 fn memory_of(alloc: Global, locations: usize, atoms: &[Atom]) -> Result<Vec<u32>, AllocError>
-    ensures { IfOk result (λ memory. memory.items ≡ fold stored (replicate locations 0) atoms.now) }
+    ensures { IfOk result (λ memory. memory.items ≡ memory_from locations atoms.now) }
 {
     let mut memory = vec![in alloc; 0u32; locations]?;
     for atom in atoms {
@@ -128,7 +131,7 @@ fn memory_of(alloc: Global, locations: usize, atoms: &[Atom]) -> Result<Vec<u32>
 
 /// What the registers of so many threads hold at first.
 fn registers_of(alloc: Global, threads: usize, atoms: &[Atom]) -> Result<Vec<[u32; 6]>, AllocError>
-    ensures { IfOk result (λ registers. registers.items ≡ fold loaded (replicate threads (replicate 6 0)) atoms.now) }
+    ensures { IfOk result (λ registers. registers.items ≡ map (registers_from atoms.now) (range_with_len 0 threads)) }
 {
     let mut registers = vec![in alloc; [0u32; 6]; threads]?;
     for atom in atoms {
@@ -144,7 +147,7 @@ fn threads_of(
     body: &Body<'_>,
     registers: &[[u32; 6]],
 ) -> Result<Vec<Thread>, AllocError>
-    ensures { IfOk result (λ threads. threads.items ≡ map (thread_in names.now.locations (map row_view body.now.rows.items) registers.now) (range_with_len 0 body.now.threads)) }
+    ensures { IfOk result (λ threads. threads.items ≡ map (thread_in (byte_in names.now.locations) (map row_view body.now.rows.items) registers.now) (range_with_len 0 body.now.threads)) }
 {
     let mut threads = Vec::new(alloc);
     for thread in 0..body.threads {
@@ -157,34 +160,54 @@ fn threads_of(
     Ok(threads)
 }
 
-/// The threads and the initial values of the locations that a text stands for.
-fn listing_of(
+/// The threads and the initial values that a text stands for.
+pub(crate) fn listing_of(
     alloc: Global,
     names: &NameTable,
     body: &Body<'_>,
-) -> Result<(Vec<Thread>, Vec<u32>), AllocError>
-    ensures { IfOk result (λ p. listed p.0.items p.1.items ≡ listing_of names.now.locations (body_view body.now)) }
+) -> Result<Listing, AllocError>
+    ensures { IfOk result (λ listing. listing ≡ listing_by (byte_in names.now.locations) (length names.now.locations) (body_view body.now)) }
 {
     let atoms = entry_atoms(alloc, names, body.entries.as_slice())?;
     let memory = memory_of(alloc, names.locations(), atoms.as_slice())?;
     let registers = registers_of(alloc, body.threads, atoms.as_slice())?;
     let threads = threads_of(alloc, names, body, registers.as_slice())?;
-    Ok((threads, memory))
+    Ok(Listing {
+        threads: Items::of(threads),
+        memory: Items::of(memory),
+    })
 }
 
-/// The program that a text stands for, whose header row stands on the given line.
-pub(crate) fn program_of(
-    alloc: Global,
-    names: &NameTable,
-    body: &Body<'_>,
-    line: u32,
-) -> Result<Program, ReadFault>
-    ensures { MakesProgram (listing_of names.now.locations (body_view body.now)) result }
+/// The fault of a text whose program is refused, and whose header row stands on the given line.
+fn refused(fault: ProgramFault, line: u32) -> ReadFault
+    ensures { MatchFault result ⊥ (λ limit. (limit ≡ fault) × (fault ≢ NoMemory)) ⊤ ⊥ }
 {
-    let (threads, memory) = listing_of(alloc, names, body)?;
-    match Program::new(alloc, threads, memory) {
+    match fault {
+        ProgramFault::OutOfMemory => ReadFault::OutOfMemory,
+        _ => ReadFault::Program(line, fault),
+    }
+}
+
+/// The program of a text whose header row stands on the given line.
+pub(crate) fn program_of(alloc: Global, listing: Listing, line: u32) -> Result<Program, ReadFault>
+    ensures { MakesProgram listing result }
+{
+    match Program::new(alloc, listing.threads.into_vec(), listing.memory.into_vec()) {
         Ok(program) => Ok(program),
-        Err(ProgramFault::OutOfMemory) => Err(ReadFault::OutOfMemory),
-        Err(fault) => Err(ReadFault::Program(line, fault)),
+        Err(fault) => Err(refused(fault, line)),
+    }
+}
+
+/// The fenced program of a text whose header row stands on the given line.
+pub(crate) fn fenced_program_of(
+    alloc: Global,
+    listing: Listing,
+    line: u32,
+) -> Result<FencedProgram, ReadFault>
+    ensures { MakesFencedProgram listing result }
+{
+    match FencedProgram::new(alloc, listing.threads.into_vec(), listing.memory.into_vec()) {
+        Ok(program) => Ok(program),
+        Err(fault) => Err(refused(fault, line)),
     }
 }

@@ -1,4 +1,4 @@
-use crate::{ReadFault, read_litmus, write_outcome};
+use crate::{ReadFault, read_fenced, read_litmus, write_outcome};
 use conditions::{Quantifier, holds};
 use std::alloc::{AllocError, Global};
 use std::process::Abort;
@@ -256,5 +256,91 @@ fn refuses_programs_past_the_limits(rt: HostRuntime) -> Result<(), Fail> {
         nine,
         ReadFault::Program(4, ProgramFault::Locations),
     );
+    Ok(())
+}
+
+#[test]
+fn deep_conditions_need_no_stack(rt: HostRuntime) -> Result<(), Fail> {
+    let alloc = rt.alloc();
+    let mut text = String::from_str(alloc, "X86 deep\n{ }\nP0 ;\nexists ")?;
+    for _ in 0..100_000 {
+        text.push('(')?;
+    }
+    text.push_str("true")?;
+    for _ in 0..100_000 {
+        text.push(')')?;
+    }
+    let litmus = read_litmus(alloc, text.as_bytes())?;
+    assert!(rt; holds(&litmus.condition, &outcome(alloc, 0, 0)?));
+    Ok(())
+}
+
+#[test]
+fn many_names_are_numbered_in_linear_time(rt: HostRuntime) -> Result<(), Fail> {
+    let alloc = rt.alloc();
+    let mut text = String::from_str(alloc, "X86 many\n{")?;
+    for number in 0..100_000 {
+        write!(text, "n{number}=0;")?;
+    }
+    text.push_str("}\nP0 ;\nexists true")?;
+    let locations = ReadFault::Program(3, ProgramFault::Locations);
+    is_refused(&rt, alloc, text.as_bytes(), locations);
+    Ok(())
+}
+
+#[test]
+fn reads_store_buffering_fenced(rt: HostRuntime) -> Result<(), Fail> {
+    let alloc = rt.alloc();
+    let text = "X86 SB
+{ x=0; y=0; 0:EAX=0; 1:EAX=0; }
+P0 | P1 ;
+MOV [x],$1 | MOV [y],$1 ;
+MFENCE | MFENCE ;
+MOV EAX,[y] | MOV EAX,[x] ;
+exists (0:EAX=0 /\\ 1:EAX=0)
+";
+    let litmus = read_fenced(alloc, text.as_bytes())?;
+    assert_eq!(rt; litmus.name.as_slice(), b"SB".as_slice());
+    let threads = litmus.program.threads();
+    assert_eq!(rt; threads.len(), 2);
+    assert_eq!(rt;
+        threads[0].code.as_slice(),
+        [
+            Instr::StoreImm(0, 1),
+            Instr::Fence,
+            Instr::Load(Reg::Eax, 1)
+        ]
+        .as_slice()
+    );
+    assert_eq!(rt;
+        threads[1].code.as_slice(),
+        [
+            Instr::StoreImm(1, 1),
+            Instr::Fence,
+            Instr::Load(Reg::Eax, 0)
+        ]
+        .as_slice()
+    );
+    assert_eq!(rt; litmus.program.memory(), [0, 0].as_slice());
+    assert_eq!(rt; litmus.names.locations(), 2);
+    assert!(rt; holds(&litmus.condition, &outcome(alloc, 0, 0)?));
+    Ok(())
+}
+
+#[test]
+fn fenced_programs_have_limits_of_their_own(rt: HostRuntime) -> Result<(), Fail> {
+    let alloc = rt.alloc();
+    let long = ReadFault::Program(3, ProgramFault::TooLong(0));
+    is_refused(&rt, alloc, fences(alloc, 65, 2)?.as_bytes(), long);
+    let litmus = read_fenced(alloc, fences(alloc, 127, 127)?.as_bytes())?;
+    let threads = litmus.program.threads();
+    assert_eq!(rt; threads.len(), 2);
+    assert_eq!(rt; threads[1].code.len(), 127);
+    let longer = fences(alloc, 128, 2)?;
+    is_refused(&rt, alloc, longer.as_bytes(), long);
+    match read_fenced(alloc, longer.as_bytes()) {
+        Ok(_) => assert!(rt; false, "read"),
+        Err(fault) => assert_eq!(rt; fault, long),
+    }
     Ok(())
 }

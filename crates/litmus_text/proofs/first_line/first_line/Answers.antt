@@ -1,4 +1,4 @@
-use Rattle.std.proofs.Common.{◌≡◌, ℕ, List, Some, None, sym, ap, ◌∙◌}
+use Rattle.std.proofs.Common.{sym, ap, ◌∙◌}
 use Rattle.litmus_text.specs.FirstLineReading.{heading_name, line_at}
 use Rattle.litmus_text.proofs.FirstLineLaws.{first_takes, first_again, none_or, same_parts, same_line}
 use Rattle.litmus_text.proofs.first_line.first_line.Goals as goal

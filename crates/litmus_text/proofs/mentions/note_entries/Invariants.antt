@@ -1,6 +1,7 @@
 use Rattle.std.proofs.Common.{◌≡◌, map, take, fold}
 use Rattle.litmus_syntax.specs.Views.{entry_view}
-use Rattle.litmus_text.specs.Places.{noted, entry_place}
+use Rattle.litmus_text.specs.Filling.{noted}
+use Rattle.litmus_text.specs.Places.{entry_place}
 use Rattle.litmus_text.proofs.mentions.note_entries.Given as goal
 
 -- the places of the entries so far are noted

@@ -1,7 +1,8 @@
 use Rattle.std.proofs.Common.{None, sym, ap, ◌∙◌, fold, get_or}
 use Rattle.litmus_syntax.specs.Views.{cell_view}
 use Rattle.litmus_text.specs.Names.{Names}
-use Rattle.litmus_text.specs.Places.{noted, cell_places}
+use Rattle.litmus_text.specs.Filling.{noted}
+use Rattle.litmus_text.specs.Places.{cell_places}
 use Rattle.litmus_text.proofs.Rows.{noted_more}
 use Rattle.litmus_text.proofs.mentions.note_row.Goals as goal
 

@@ -1,6 +1,7 @@
 use Rattle.std.proofs.Common.{◌≡◌, map, take, fold}
 use Rattle.litmus_syntax.specs.Views.{cell_view}
-use Rattle.litmus_text.specs.Places.{noted, row_places}
+use Rattle.litmus_text.specs.Filling.{noted}
+use Rattle.litmus_text.specs.Places.{row_places}
 use Rattle.litmus_text.proofs.mentions.note_row.Given as goal
 
 -- what the cells so far name is noted

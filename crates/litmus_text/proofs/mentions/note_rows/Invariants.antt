@@ -1,7 +1,8 @@
 use Rattle.std.proofs.Common.{◌≡◌, map, take, fold}
 use Rattle.std.specs.List.{flat_map}
 use Rattle.litmus_syntax.specs.Views.{row_view}
-use Rattle.litmus_text.specs.Places.{noted, row_places}
+use Rattle.litmus_text.specs.Filling.{noted}
+use Rattle.litmus_text.specs.Places.{row_places}
 use Rattle.litmus_text.proofs.mentions.note_rows.Given as goal
 
 -- what the rows so far name is noted

@@ -1,7 +1,8 @@
 use Rattle.std.proofs.Common.{◌≡◌, map, take, fold}
 use Rattle.std.specs.List.{flat_map}
 use Rattle.litmus_syntax.specs.Views.{sign_at_view}
-use Rattle.litmus_text.specs.Places.{noted, sign_places}
+use Rattle.litmus_text.specs.Filling.{noted}
+use Rattle.litmus_text.specs.Places.{sign_places}
 use Rattle.litmus_text.proofs.mentions.note_signs.Given as goal
 
 -- what the signs so far name is noted

@@ -1,6 +1,6 @@
 use Rattle.std.proofs.Common.{◌≡◌, take}
 use Rattle.std.specs.List.{join_with_byte}
-use Rattle.litmus_text.specs.Names.{texts}
+use Rattle.litmus_text.specs.Filling.{texts}
 use Rattle.litmus_text.proofs.outcome.join.Given as goal
 
 -- the items so far, joined

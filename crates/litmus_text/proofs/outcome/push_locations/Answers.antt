@@ -1,6 +1,5 @@
-use Rattle.std.proofs.Common.{ℕ, List, [], ◌++◌, ◌∷◌, get_or, ap, ◌∙◌}
-use Rattle.std.specs.Global.{Vec}
-use Rattle.litmus_text.specs.Names.{texts}
+use Rattle.std.proofs.Common.{ℕ, List, [], get_or, ap, ◌∙◌}
+use Rattle.litmus_text.specs.Filling.{texts}
 use Rattle.litmus_text.specs.Outcomes.{location_item}
 use Rattle.litmus_text.proofs.Joined.{texts_more}
 use Rattle.litmus_text.proofs.outcome.push_locations.Goals as goal

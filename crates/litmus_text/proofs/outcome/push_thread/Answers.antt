@@ -1,7 +1,8 @@
 use Rattle.std.proofs.Common.{List, ◌++◌, get_or, ap, ◌∙◌, ℕ}
 use Rattle.tso_program.specs.declared.instruction.Reg.TheVariants.{Eax}
-use Rattle.litmus_text.specs.Names.{texts}
-use Rattle.litmus_text.specs.Outcomes.{named_item, all_registers}
+use Rattle.litmus_text.specs.Filling.{texts}
+use Rattle.litmus_text.specs.Outcomes.{named_item}
+use Rattle.litmus_text.specs.Names.{all_registers}
 use Rattle.litmus_text.proofs.Joined.{flat_more}
 use Rattle.litmus_text.proofs.outcome.push_thread.Goals as goal
 

@@ -1,7 +1,8 @@
 use Rattle.std.proofs.Common.{◌≡◌, ◌++◌, take}
 use Rattle.std.specs.List.{flat_map}
-use Rattle.litmus_text.specs.Names.{texts}
-use Rattle.litmus_text.specs.Outcomes.{named_item, all_registers}
+use Rattle.litmus_text.specs.Filling.{texts}
+use Rattle.litmus_text.specs.Outcomes.{named_item}
+use Rattle.litmus_text.specs.Names.{all_registers}
 use Rattle.litmus_text.proofs.outcome.push_thread.Given as goal
 
 -- the items of the registers so far

@@ -1,5 +1,5 @@
 use Rattle.std.proofs.Common.{ℕ, List, [], ◌++◌, get_or, ap, ◌∙◌}
-use Rattle.litmus_text.specs.Names.{texts}
+use Rattle.litmus_text.specs.Filling.{texts}
 use Rattle.litmus_text.specs.Outcomes.{thread_items}
 use Rattle.litmus_text.proofs.Joined.{flat_range_more}
 use Rattle.litmus_text.proofs.outcome.push_threads.Goals as goal

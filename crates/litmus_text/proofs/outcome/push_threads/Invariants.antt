@@ -1,5 +1,5 @@
 use Rattle.std.proofs.Common.{◌≡◌, ◌++◌}
-use Rattle.litmus_text.specs.Names.{texts}
+use Rattle.litmus_text.specs.Filling.{texts}
 use Rattle.litmus_text.specs.Outcomes.{register_items}
 use Rattle.litmus_text.proofs.outcome.push_threads.Given as goal
 

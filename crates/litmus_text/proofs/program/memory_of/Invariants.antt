@@ -1,5 +1,5 @@
 use Rattle.std.proofs.Common.{◌≡◌, take, replicate, fold}
-use Rattle.litmus_text.specs.Meaning.{stored}
+use Rattle.litmus_text.specs.Filling.{stored}
 use Rattle.litmus_text.proofs.program.memory_of.Given as goal
 
 -- memory after the initial values so far

@@ -1,5 +1,5 @@
 use Rattle.std.proofs.Common.{◌≡◌, take, replicate, fold}
-use Rattle.litmus_text.specs.Meaning.{loaded}
+use Rattle.litmus_text.specs.Filling.{loaded}
 use Rattle.litmus_text.proofs.program.registers_of.Given as goal
 
 -- the registers after the initial values so far

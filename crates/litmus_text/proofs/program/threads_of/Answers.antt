@@ -7,7 +7,8 @@ use Rattle.tso_program.specs.declared.instruction.Instr.{Instr}
 use Rattle.tso_program.specs.declared.listing.Thread.{Thread}
 use Rattle.litmus_syntax.specs.declared.code.Code.{Code}
 use Rattle.litmus_syntax.specs.Views.{row_view}
-use Rattle.litmus_text.specs.Meaning.{code_of, thread_in}
+use Rattle.litmus_text.specs.Filling.{byte_in, thread_in}
+use Rattle.litmus_text.specs.Meaning.{code_of}
 use Rattle.litmus_text.proofs.program.threads_of.Goals as goal
 
 made : (c d : List Instr) (r s : List ℕ) → c ≡ d → r ≡ s → ◌≡◌ {A = Thread} (record { code = c; registers = r }) (record { code = d; registers = s })
@@ -15,13 +16,13 @@ made c d r s e f = λ i. record { code = e i; registers = f i }
 
 pub loop-thread-preserved : goal.loop-thread-preserved
 loop-thread-preserved c =
-    let names = c.args.names.now.locations in
+    let numbered = byte_in c.args.names.now.locations in
     let t = c.loop-thread.thread in
     let rows = map row_view c.args.body.now.rows.items in
-    let code : c.of.result ≡ code_of names rows t =
-    c.of.ensures ∙ c.in_ok-code.ensures ∙ ap (λ (rs : List (Vec (Option Code))). code_of names (map row_view rs) t) c.as_slice.ensures.value in
+    let code : c.of.result ≡ code_of numbered rows t =
+    c.of.ensures ∙ c.in_ok-code.ensures ∙ ap (λ (rs : List (Vec (Option Code))). code_of numbered (map row_view rs) t) c.as_slice.ensures.value in
     let registers = c.unwrap_or.ensures ∙ ap (λ (o : Option (List ℕ)). unwrap_or o (replicate 6 0)) c.copied.ensures ∙ c.get.ensures.lookup.4 (omega arith) (replicate 6 0) in
     c.in_ok-push.ensures.items
     ∙ ap (λ (ts : List Thread). ts ++ record { code = c.of.result; registers = c.unwrap_or.result } ∷ []) c.loop-thread.invariant
-    ∙ ap (λ (thread : Thread). map (thread_in names rows c.args.registers.now) (range_with_len 0 t) ++ thread ∷ []) (made _ _ _ _ code registers)
-    ∙ sym (map-range_with_len_more (thread_in names rows c.args.registers.now) 0 t t (omega arith))
+    ∙ ap (λ (thread : Thread). map (thread_in numbered rows c.args.registers.now) (range_with_len 0 t) ++ thread ∷ []) (made _ _ _ _ code registers)
+    ∙ sym (map-range_with_len_more (thread_in numbered rows c.args.registers.now) 0 t t (omega arith))

@@ -1,45 +1,32 @@
-use Rattle.std.proofs.Common.{◌∙◌}
+use Rattle.std.proofs.Common.{ℕ, List}
 use Rattle.std.proofs.lemmas.Result.{err_from_is_err_and}
-use Rattle.litmus_text.proofs.WholeTexts.{Split, text_found, text_only, text_refused, token_refused}
+use Rattle.tso_program.specs.declared.listing.Thread.{Thread}
+use Rattle.tso_program.specs.Limits.{IsWithinLimits, first_fault}
+use Rattle.litmus_text.proofs.Numbered.{program_limits}
+use Rattle.litmus_text.proofs.WholeTexts.{nothing_only}
+use Rattle.litmus_text.proofs.Meant.{found, found_only, broken, broken_only}
 use Rattle.litmus_text.proofs.reader.read_litmus.Goals as goal
 
-pub returns-in_err-name-clause-only : goal.returns-in_err-name-clause-only
-returns-in_err-name-clause-only c litmus is = absurd (c.in_err-name.ensures.only litmus.name is.lines is.first_line)
+abbrev Within : List Thread → List ℕ → Type 0
+Within threads memory = IsWithinLimits threads memory
 
-pub returns-in_err-name-clause-refused : goal.returns-in_err-name-clause-refused
-returns-in_err-name-clause-refused c =
-    let p = err_from_is_err_and c.from_residual-in_err-name.result c.from_residual-in_err-name.ensures.1 in
-    rw (p.1, p.2) (token_refused c.args.bytes.now c.in_err-name.field-0.0 c.in_err-name.ensures.refused)
+pub returns-in_err-read-clause-only : goal.returns-in_err-read-clause-only
+returns-in_err-read-clause-only c litmus is =
+    let p = err_from_is_err_and c.from_residual.result c.from_residual.ensures.1 in
+    rw (p.1, p.2) (nothing_only c.args.bytes.now c.in_err-read.field-0.0 litmus c.in_err-read.ensures is.0)
+
+pub returns-in_err-program_of-clause-only : goal.returns-in_err-program_of-clause-only
+returns-in_err-program_of-clause-only c litmus is =
+    let p = err_from_is_err_and c.from_residual-in_err-program_of.result c.from_residual-in_err-program_of.ensures.1 in
+    rw (p.1, p.2) (broken_only c.args.bytes.now c.in_ok-read.read c.in_ok-read.ensures Within first_fault program_limits c.in_err-program_of.field-0.0 litmus c.in_err-program_of.ensures is)
+
+pub returns-in_err-program_of-clause-refused : goal.returns-in_err-program_of-clause-refused
+returns-in_err-program_of-clause-refused c =
+    let p = err_from_is_err_and c.from_residual-in_err-program_of.result c.from_residual-in_err-program_of.ensures.1 in
+    rw (p.1, p.2) (broken c.args.bytes.now c.in_ok-read.read c.in_ok-read.ensures Within first_fault program_limits c.in_err-program_of.field-0.0 c.in_err-program_of.ensures)
 
 pub returns-clause-found : goal.returns-clause-found
-returns-clause-found c =
-    let split : Split c.args.bytes.now c.in_ok-name.name.now c.in_ok-name.lines.now c.in_ok-tokens.tokens = record {
-      utf8 = c.in_ok-check_utf8.ensures.ok;
-      first_line = c.in_ok-name.ensures.found;
-      first_only = c.in_ok-name.ensures.only;
-      lexes = c.in_ok-tokens.ensures.found;
-      lexes_only = c.in_ok-tokens.ensures.only;
-    } in
-    text_found c.args.bytes.now c.in_ok-name.name.now c.of-name.result c.in_ok-name.lines.now c.in_ok-tokens.tokens c.read_tokens.result split (c.of-name.ensures ∙ c.in_ok-from_slice.ensures.items) c.read_tokens.ensures
+returns-clause-found c = found c.args.bytes.now c.in_ok-read.read c.in_ok-read.ensures Within first_fault program_limits c.in_ok-program_of.field-0 c.in_ok-program_of.ensures
 
 pub returns-clause-only : goal.returns-clause-only
-returns-clause-only c litmus is =
-    let split : Split c.args.bytes.now c.in_ok-name.name.now c.in_ok-name.lines.now c.in_ok-tokens.tokens = record {
-      utf8 = c.in_ok-check_utf8.ensures.ok;
-      first_line = c.in_ok-name.ensures.found;
-      first_only = c.in_ok-name.ensures.only;
-      lexes = c.in_ok-tokens.ensures.found;
-      lexes_only = c.in_ok-tokens.ensures.only;
-    } in
-    text_only c.args.bytes.now c.in_ok-name.name.now c.of-name.result c.in_ok-name.lines.now c.in_ok-tokens.tokens c.read_tokens.result litmus split (c.of-name.ensures ∙ c.in_ok-from_slice.ensures.items) c.read_tokens.ensures is
-
-pub returns-clause-refused : goal.returns-clause-refused
-returns-clause-refused c =
-    let split : Split c.args.bytes.now c.in_ok-name.name.now c.in_ok-name.lines.now c.in_ok-tokens.tokens = record {
-      utf8 = c.in_ok-check_utf8.ensures.ok;
-      first_line = c.in_ok-name.ensures.found;
-      first_only = c.in_ok-name.ensures.only;
-      lexes = c.in_ok-tokens.ensures.found;
-      lexes_only = c.in_ok-tokens.ensures.only;
-    } in
-    text_refused c.args.bytes.now c.in_ok-name.name.now c.of-name.result c.in_ok-name.lines.now c.in_ok-tokens.tokens c.read_tokens.result split c.read_tokens.ensures
+returns-clause-only c litmus is = found_only c.args.bytes.now c.in_ok-read.read c.in_ok-read.ensures Within first_fault program_limits c.in_ok-program_of.field-0 litmus c.in_ok-program_of.ensures is.0

@@ -1,5 +1,6 @@
-use Rattle.std.proofs.Common.{◌≡◌, ℕ, List, refl, sym, ◌∙◌}
-use Rattle.litmus_text.specs.Names.{with_name, texts}
+use Rattle.std.proofs.Common.{◌≡◌, refl, sym, ◌∙◌}
+use Rattle.litmus_text.specs.Names.{with_name}
+use Rattle.litmus_text.specs.Filling.{texts}
 use Rattle.litmus_text.proofs.NameLaws.{texts_insert, with_known}
 use Rattle.litmus_text.proofs.names.NameTable.note_location.Goals as goal
 

@@ -1,6 +1,5 @@
-use Rattle.std.proofs.Common.{◌≡◌, ℕ, sym, ap, ◌∙◌}
+use Rattle.std.proofs.Common.{ℕ, sym, ap, ◌∙◌}
 use Rattle.std.specs.Prelude.{min, unwrap_or, Option}
-use Rattle.litmus_text.specs.Names.{number_in}
 use Rattle.litmus_text.proofs.NameLaws.{position_texts, byte_of}
 use Rattle.litmus_text.proofs.names.NameTable.number.Goals as goal
 

@@ -1,0 +1,119 @@
+-- From what was read of a text to what the text stands for.
+use Rattle.std.proofs.Common.{◌≡◌, ℕ, ◌≤◌, List, length, Option, Some, None, refl, sym, ap, ◌∙◌, subst, arith, inl, inr}
+use Rattle.std.specs.Prelude.{⊤}
+use Rattle.std.specs.List.{filter_map}
+use Rattle.std.specs.Str.{IsUtf8}
+use Rattle.std.proofs.lemmas.Bool.{cases_lt}
+use Rattle.tso_program.specs.declared.listing.Thread.{Thread}
+use Rattle.tso_program.specs.declared.listing.Listing.{Listing}
+use Rattle.tso_program.specs.declared.limits.ProgramFault.{ProgramFault}
+use Rattle.text_tokens.specs.Tokens.{Tok}
+use Rattle.text_tokens.specs.Lexing.{Lexes}
+use Rattle.litmus_text.specs.declared.litmus.Litmus.{Litmus}
+use Rattle.litmus_text.specs.declared.fault.ReadFault.{ReadFault}
+use Rattle.litmus_text.specs.declared.fault.ReadFault.TheVariants.{OutOfMemory}
+use Rattle.litmus_text.specs.Faults.{MatchFault}
+use Rattle.litmus_text.specs.Names.{Names, number_in}
+use Rattle.litmus_text.specs.Places.{location_name, places, names_of}
+use Rattle.litmus_text.specs.Meaning.{listing_of, condition_of}
+use Rattle.litmus_text.specs.Filling.{byte_in, listing_by}
+use Rattle.litmus_text.specs.Texts.{Means, StandsFor}
+use Rattle.litmus_text.specs.Reading.{IsReadOf}
+use Rattle.litmus_text.proofs.NamesOnce.{in_order_once, entries_stand}
+use Rattle.litmus_text.proofs.FirstValues.{listing_filled}
+use Rattle.litmus_text.proofs.Faults.{match_map, match_memory}
+use Rattle.litmus_text.proofs.Numbered.{AreLimits, byte_same, listing_same, memory_len, many_same}
+
+module _ (text : List ℕ) (read : Litmus Listing) (is : IsReadOf text read) where
+  -- what the text stands for: what was read, with the locations' own numbers
+  abbrev pub meant : Litmus Listing
+  meant = record {
+    name = read.name;
+    program = listing_of read.names.locations is.read.body;
+    names = read.names;
+    condition = condition_of (number_in read.names.locations) is.read.formula;
+  }
+
+  pub stands : StandsFor text meant
+  stands = record {
+    lines = is.lines;
+    tokens = is.tokens;
+    utf8 = is.utf8;
+    first_line = is.first_line;
+    lexes = is.lexes;
+    means = record { body = is.read.body; signs = is.read.signs; formula = is.read.formula; parts = is.read.parts; names = is.read.names; program = refl; condition = refl };
+  }
+
+  -- and it stands for nothing else
+  pub stands_only : (other : Litmus Listing) → StandsFor text other → other ≡ meant
+  stands_only other st =
+      let p = is.first_only other.name st.lines st.first_line in
+      let lexes : Lexes is.lines st.tokens = subst (λ (l : List ℕ). Lexes l st.tokens) (sym p.1) st.lexes in
+      let m : Means is.tokens other = subst (λ (ts : List Tok). Means ts other) (sym (is.lexes_only st.tokens lexes)) st.means in
+      let q = is.read.only m.body m.signs m.formula m.parts in
+      let names : other.names ≡ read.names = m.names ∙ (λ i. names_of (q.0 i) (q.1 i)) ∙ sym is.read.names in
+      let program : other.program ≡ meant.program = m.program ∙ (λ i. listing_of (names i).locations (q.0 i)) in
+      let condition : other.condition ≡ meant.condition = m.condition ∙ (λ i. condition_of (number_in (names i).locations) (q.2 i)) in
+      λ i. record { name = sym p.0 i; program = program i; names = names i; condition = condition i }
+
+  -- what is filled in is the program of the text
+  filled : listing_by (number_in read.names.locations) (length read.names.locations) is.read.body ≡ listing_of read.names.locations is.read.body
+  filled =
+      let body = is.read.body in
+      let of_text : Names → Type 0 = λ n. listing_by (number_in n.locations) (length n.locations) body ≡ listing_of n.locations body in
+      let names = names_of body is.read.signs in
+      subst of_text (sym is.read.names)
+      (listing_filled names.locations body (in_order_once (filter_map location_name (places body is.read.signs))) (entries_stand body is.read.signs) is.read.parts.begins.0.1.1)
+
+  -- of a text of few locations that is what was read
+  few_meant : length read.names.locations ≤ 8 → meant ≡ read
+  few_meant few =
+      let names = read.names.locations in
+      let program : meant.program ≡ read.program = sym (is.read.program ∙ listing_same names is.read.body few ∙ filled) in
+      let condition : meant.condition ≡ read.condition = sym (is.read.condition ∙ ap (λ (numbered : List ℕ → ℕ). condition_of numbered is.read.formula) (byte_same names few)) in
+      λ i. record { name = read.name; program = program i; names = read.names; condition = condition i }
+
+  module _ (Within : List Thread → List ℕ → Type 0) (first : List Thread → List ℕ → Option ProgramFault) (limits : AreLimits Within first) where
+    few_within : Within read.program.threads read.program.memory → length read.names.locations ≤ 8
+    few_within within =
+        let names = read.names.locations in
+        let e : length read.program.memory ≡ length names = ap (λ (l : Listing). length l.memory) is.read.program ∙ memory_len (byte_in names) (length names) is.read.body in
+        let le = limits.few_locations read.program.threads read.program.memory within in
+        omega arith
+
+    -- the first limit that is broken is the same
+    same_first : first read.program.threads read.program.memory ≡ first meant.program.threads meant.program.memory
+    same_first =
+        let names = read.names.locations in
+        let of : Listing → Option ProgramFault = λ l. first l.threads l.memory in
+        elim (cases_lt 8 (length names)) [
+          | inl many ↦ ap of is.read.program ∙ many_same Within first limits (byte_in names) (number_in names) (length names) is.read.body many ∙ ap of filled
+          | inr few ↦ ap (λ (l : Litmus Listing). of l.program) (sym (few_meant few))
+        ]
+
+    -- ---- the answers of a reader of texts within the limits
+
+    pub found : (program : Listing) → (program ≡ read.program) × Within read.program.threads read.program.memory
+        → StandsFor text (record read { program = program }) × Within program.threads program.memory
+    found program h =
+        let at_read : StandsFor text read = subst (λ (l : Litmus Listing). StandsFor text l) (few_meant (few_within h.1)) stands in
+        subst (λ (l : Listing). StandsFor text (record read { program = l }) × Within l.threads l.memory) (sym h.0) (at_read, h.1)
+
+    pub found_only : (program : Listing) (other : Litmus Listing) → (program ≡ read.program) × Within read.program.threads read.program.memory → StandsFor text other → record read { program = program } ≡ other
+    found_only program other h st = (λ i. record read { program = h.0 i }) ∙ sym (few_meant (few_within h.1)) ∙ sym (stands_only other st)
+
+    pub broken_only : (fault : ReadFault) (other : Litmus Listing) → MatchFault fault ⊥ (λ limit. first read.program.threads read.program.memory ≡ Some limit) ⊤ ⊥
+        → StandsFor text other × Within other.program.threads other.program.memory → fault ≡ OutOfMemory
+    broken_only fault other h st =
+        let same = stands_only other st.0 in
+        let none : first meant.program.threads meant.program.memory ≡ None =
+        ap (λ (l : Litmus Listing). first l.program.threads l.program.memory) (sym same) ∙ limits.none_broken other.program.threads other.program.memory st.1 in
+        let not_broken : (limit : ProgramFault) → first read.program.threads read.program.memory ≡ Some limit → ⊥ = λ limit e. let bad : None ≡ Some limit = sym none ∙ sym same_first ∙ e in cc in
+        match_memory fault ⊥ (λ limit. first read.program.threads read.program.memory ≡ Some limit) ⊤ ⊥ (λ x. x) not_broken (λ x. x) h
+
+    pub broken : (fault : ReadFault) → MatchFault fault ⊥ (λ limit. first read.program.threads read.program.memory ≡ Some limit) ⊤ ⊥
+        → MatchFault fault (IsUtf8 text → ⊥) (λ limit. (litmus : Litmus Listing) × StandsFor text litmus × (first litmus.program.threads litmus.program.memory ≡ Some limit)) ⊤ ⊤
+    broken fault h =
+        match_map fault ⊥ (IsUtf8 text → ⊥) (λ limit. first read.program.threads read.program.memory ≡ Some limit)
+        (λ limit. (litmus : Litmus Listing) × StandsFor text litmus × (first litmus.program.threads litmus.program.memory ≡ Some limit)) ⊤ ⊤ ⊥ ⊤
+        (λ x. absurd x) (λ limit e. (meant, stands, sym same_first ∙ e)) (λ x. x) (λ x. absurd x) h

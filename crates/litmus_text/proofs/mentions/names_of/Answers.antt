@@ -1,0 +1,16 @@
+use Rattle.std.proofs.Common.{List, map, ap}
+use Rattle.std.specs.List.{flat_map}
+use Rattle.std.specs.Global.{Vec}
+use Rattle.std.specs.Prelude.{Option}
+use Rattle.litmus_syntax.specs.declared.entry.Entry.{Entry}
+use Rattle.litmus_syntax.specs.declared.code.Code.{Code}
+use Rattle.litmus_syntax.specs.Views.{entry_view, row_view, sign_at_view}
+use Rattle.litmus_text.specs.Places.{entry_place, row_places, sign_places}
+use Rattle.litmus_text.proofs.Filled.{noted_parts}
+use Rattle.litmus_text.proofs.mentions.names_of.Goals as goal
+
+pub returns : goal.returns
+returns c =
+    noted_parts c.args.body.now.threads _ _ _ _ (flat_map sign_places (map sign_at_view c.args.signs.now)) c.in_ok-names.names c.note_entries.new.names c.note_rows.new.names c.note_signs.new.names
+    (ap (λ (entries : List Entry). map entry_place (map entry_view entries)) c.as_slice.ensures.value)
+    (ap (λ (rows : List (Vec (Option Code))). flat_map row_places (map row_view rows)) c.as_slice-2.ensures.value) c.in_ok-names.ensures c.in_ok-note_entries.ensures c.in_ok-note_rows.ensures c.in_ok-note_signs.ensures
