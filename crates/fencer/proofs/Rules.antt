@@ -47,18 +47,23 @@ label_rule_of new ranged done new_is ranged_is range_is done_is =
 pub neither : (a b c : Bool) → c ≡ (a || b) → a ≡ false → b ≡ false → c ≡ false
 neither a b c is no_a no_b = is ∙ ap₂ (λ (x y : Bool). x || y) no_a no_b
 
--- a command that takes no program's name and wants a subcommand
-pub fencer_shape : (new unnamed wanted : Command) → app_of new ≡ new_app (codes "fencer")
-    → out-Command unnamed ≡ record (out-Command new) { no_binary_name = true }
-    → out-Command wanted ≡ record (out-Command unnamed) { subcommand_required = true }
-    → app_of wanted ≡ on_top (λ s. record s { no_binary_name = true; subcommand_required = true }) (new_app (codes "fencer"))
-fencer_shape new unnamed wanted new_is unnamed_is wanted_is =
-    ap app_of_fields wanted_is
-    ∙ ap (on_top (λ s. record s { subcommand_required = true })) (ap app_of_fields unnamed_is ∙ ap (on_top (λ s. record s { no_binary_name = true })) new_is)
+-- a command that takes no program's name, wants a subcommand and has none for help
+pub record IsFencer (new unnamed wanted done : Command) : Type 0 where
+  pub unnamed_is : out-Command unnamed ≡ record (out-Command new) { no_binary_name = true }
+  pub wanted_is : out-Command wanted ≡ record (out-Command unnamed) { subcommand_required = true }
+  pub done_is : out-Command done ≡ record (out-Command wanted) { disable_help_subcommand = true }
 
-pub fencer_globals : (new unnamed wanted : Command) → (out-Command new).has_globals ≡ false
-    → out-Command unnamed ≡ record (out-Command new) { no_binary_name = true }
-    → out-Command wanted ≡ record (out-Command unnamed) { subcommand_required = true }
-    → (out-Command wanted).has_globals ≡ false
-fencer_globals new unnamed wanted none unnamed_is wanted_is =
-    ap (λ (f : Command-F Command). f.has_globals) wanted_is ∙ ap (λ (f : Command-F Command). f.has_globals) unnamed_is ∙ none
+pub fencer_shape : (new unnamed wanted done : Command) → IsFencer new unnamed wanted done → app_of new ≡ new_app (codes "fencer")
+    → app_of done ≡ on_top (λ s. record s { no_binary_name = true; subcommand_required = true; disable_help_subcommand = true }) (new_app (codes "fencer"))
+fencer_shape new unnamed wanted done f new_is =
+    ap app_of_fields f.done_is
+    ∙ ap (on_top (λ s. record s { disable_help_subcommand = true })) (ap app_of_fields f.wanted_is
+    ∙ ap (on_top (λ s. record s { subcommand_required = true })) (ap app_of_fields f.unnamed_is ∙ ap (on_top (λ s. record s { no_binary_name = true })) new_is))
+
+pub fencer_globals : (new unnamed wanted done : Command) → IsFencer new unnamed wanted done → (out-Command new).has_globals ≡ false
+    → (out-Command done).has_globals ≡ false
+fencer_globals new unnamed wanted done f none =
+    ap (λ (c : Command-F Command). c.has_globals) f.done_is
+    ∙ ap (λ (c : Command-F Command). c.has_globals) f.wanted_is
+    ∙ ap (λ (c : Command-F Command). c.has_globals) f.unnamed_is
+    ∙ none

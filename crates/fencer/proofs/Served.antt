@@ -1,24 +1,44 @@
--- Command lines that are served.
-use Rattle.std.proofs.Common.{◌≡◌, ◌==◌, ℕ, suc, true, false, List, [], ◌∷◌, length, Option, map, arith}
+-- What the program prints, with words and without.
+use Rattle.std.proofs.Common.{◌≡◌, ◌==◌, ℕ, ◌+◌, suc, true, false, List, [], ◌∷◌, ◌⊎◌, Option, length, map, arith, inl, inr, subst, sym}
+use Rattle.std.specs.Prelude.{codes}
 use Rattle.std.proofs.lemmas.Bool.Decides.{nat_tests}
-use Rattle.fencer.specs.CommandLines.{words_of}
-use Rattle.fencer.specs.Streams.{TakesLine}
-use Rattle.fencer.specs.Replays.{Fulfils, Serves}
+use Rattle.clap.specs.Words.{Text}
+use Rattle.fencer.specs.declared.lines.FileFault.{FileFault}
+use Rattle.fencer.specs.declared.lines.FileFault.TheVariants as file
+use Rattle.fencer.specs.declared.files.TheConstants.{LIMIT}
+use Rattle.fencer.specs.CommandLines.{IsNoCommand}
+use Rattle.fencer.specs.Lines.{IsUtf8Refusal}
+use Rattle.fencer.specs.Streams.{IsReadFault, TakesOfLine}
+use Rattle.fencer.specs.Replays.{HasTooLongLine, IsReply, IsReplyToInput, IsOutput, no_command}
 
-not_empty : (n : ℕ) → (suc n == 0) ≡ true → ⊥
-not_empty n e = grind (arith, nat_tests)
+not_zero : (n : ℕ) → (suc n == 0) ≡ true → ⊥
+not_zero n e = grind (arith, nat_tests)
 
-empty : (0 == 0) ≡ false → ⊥
-empty e = grind (arith, nat_tests)
+zero_is : (0 == 0) ≡ false → ⊥
+zero_is e = grind (arith, nat_tests)
 
-module _ {W : Type 0} (text : W → List ℕ) (known old new : Option (List ℕ)) where
+module _ {W : Type 0} (text : W → Text) (input : Option (List ℕ)) (status : ℕ) (out : List ℕ) where
   -- words that are given count
-  pub by_words : (words : List W) → (length words == 0) ≡ false → Fulfils (map text words) known old new → Serves (map text words) known old new
-  by_words [] some _ = absurd (empty some)
-  by_words (word ∷ words) some done = done
+  pub of_words : (words : List W) → (length words == 0) ≡ false → IsReply (map text words) input status out → IsOutput (map text words) input status out
+  of_words [] some reply = absurd (zero_is some)
+  of_words (word ∷ words) some reply = reply
 
-  -- with no words the first line counts
-  pub by_line : (words : List W) (line : List ℕ) (rest : Option (List ℕ)) → (length words == 0) ≡ true → TakesLine known rest line
-      → Fulfils (words_of line) rest old new → Serves (map text words) known old new
-  by_line [] line rest none taken done = (line, rest, taken, done)
-  by_line (word ∷ words) line rest none _ _ = absurd (not_empty (length words) none)
+  -- and with no words the input
+  pub of_input : (words : List W) → (length words == 0) ≡ true → IsReplyToInput input status out → IsOutput (map text words) input status out
+  of_input [] none reply = reply
+  of_input (word ∷ words) none reply = absurd (not_zero (length words) none)
+
+-- one of two, where the first is not
+pub other : {P Q : Type 0} → P ⊎ Q → (P → ⊥) → Q
+other (inl p) not_first = absurd (not_first p)
+other (inr q) not_first = q
+
+-- why a line isn't read, without what is left of the reader
+pub line_fault : (old new : Option (List ℕ)) (why : FileFault) → IsReadFault (TakesOfLine old new (LIMIT + 1)) why → IsReadFault (HasTooLongLine old) why
+line_fault old new file.Read is = tt
+line_fault old new file.Write is = absurd is
+line_fault old new file.TooLong is = (new, is)
+
+-- words that are not UTF-8 are told to be no command
+pub utf8_reply : (words : List Text) (input : Option (List ℕ)) (status : ℕ) (out : List ℕ) → IsNoCommand words → IsUtf8Refusal status out → IsReply words input status out
+utf8_reply words input status out refused is = subst (λ (s : ℕ). IsReply words input s out) (sym is.0) (no_command out refused (codes "error: the command line is not UTF-8", is.1))

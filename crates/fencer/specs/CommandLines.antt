@@ -1,11 +1,11 @@
 -- What command lines ask for. `clap` reads them: its `subcommand_of` gives the subcommand that words name, with the rows
 -- of its values.
-use Rattle.std.specs.Prelude.{◌≡◌, ◌==◌, ℕ, true, List, [], ◌∷◌, Option, Some, None, codes, filter, length, map, nat_lt, string_bytes, unwrap_or, if◌then◌else◌}
+use Rattle.std.specs.Prelude.{◌≡◌, ◌≢◌, ◌==◌, ℕ, true, List, [], ◌∷◌, Option, Some, None, Contains, codes, filter, length, map, nat_lt, string_bytes, unwrap_or, if◌then◌else◌}
 use Rattle.std.specs.List.{slice_split}
-use Rattle.std.specs.Str.{bytes_eq}
+use Rattle.std.specs.Str.{IsUtf8, bytes_eq}
 use Rattle.std.specs.Borrow.{Bor}
 use Rattle.clap.specs.Lexer.{usize_max}
-use Rattle.clap.specs.Words.{App, Row, Rule, Text, all_of, first_of, new_app, new_rule, subcommand_of, with_rule, with_subcommand}
+use Rattle.clap.specs.Words.{App, Row, Rule, Text, all_of, fault_of, first_of, new_app, new_rule, subcommand_of, with_rule, with_subcommand}
 use Rattle.clap.specs.Simple.{on_top}
 use Rattle.clap.specs.declared.builder.action.ArgAction.TheVariants.{Append}
 use Rattle.clap.specs.declared.builder.value_parser.ValueParser.{ValueParser}
@@ -52,7 +52,7 @@ replay_app models = with_rule (with_rule (with_rule (new_app (codes "replay")) (
 -- the program's whole command line, after its name
 abbrev pub fencer_app : ValueParser → App
 fencer_app models =
-    with_subcommand (on_top (λ s. record s { no_binary_name = true; subcommand_required = true }) (new_app (codes "fencer"))) (replay_app models).top
+    with_subcommand (on_top (λ s. record s { no_binary_name = true; subcommand_required = true; disable_help_subcommand = true }) (new_app (codes "fencer"))) (replay_app models).top
 
 -- the model of this name
 abbrev pub model_named : Option Text → Model
@@ -66,10 +66,16 @@ AreRowsOf (Replay model litmus labels) rows =
     × (string_bytes litmus ≡ unwrap_or (first_of (codes "litmus") rows) [])
     × (map string_bytes labels.items ≡ unwrap_or (all_of (codes "label") rows) [])
 
--- the words after the program's name ask for the job
+-- the words after the program's name ask for the job: `clap` finds no fault in them
 pub record AsksFor (words : List Text) (job : Job) : Type 0 where
   pub models : ValueParser
   pub are_names : IsModelParser models
   pub rows : List Row
+  pub no_fault : fault_of (fencer_app models) words ≡ []
   pub read : subcommand_of (fencer_app models) words ≡ Some (codes "replay", rows)
   pub asked : AreRowsOf job rows
+
+-- the words are no command: one of them is no UTF-8, or `clap` finds a fault in them, as which it takes a call for help
+pub data IsNoCommand (words : List Text) : Type 0 where
+  no_utf8 : (word : Text) → Contains words word → (IsUtf8 word → ⊥) → IsNoCommand words
+  faulty : (models : ValueParser) → IsModelParser models → fault_of (fencer_app models) words ≢ [] → IsNoCommand words

@@ -1,5 +1,5 @@
 -- The printed lines, byte for byte.
-use Rattle.std.specs.Prelude.{ℕ, List, [], ◌∷◌, ◌++◌, codes}
+use Rattle.std.specs.Prelude.{◌≡◌, ℕ, List, [], ◌∷◌, ◌++◌, codes}
 use Rattle.std.specs.List.{flat_map}
 use Rattle.std.specs.Fmt.{decimal}
 use Rattle.gap_sets.specs.Gaps.{SetOfGaps, gaps_in}
@@ -18,6 +18,10 @@ use Rattle.litmus_text.specs.Outcomes.{outcome_text}
 use Rattle.fencer.specs.declared.lines.FileFault.{FileFault}
 use Rattle.fencer.specs.declared.lines.FileFault.TheVariants as file
 use Rattle.fencer.specs.Places.{gap_text}
+
+-- the text ends with a line feed
+abbrev pub EndsLine : List ℕ → Type 0
+EndsLine text = (front : List ℕ) × (text ≡ front ++ 10 ∷ [])
 
 -- a text behind a space, or nothing where there is no text
 abbrev pub spaced : List ℕ → List ℕ
@@ -84,3 +88,11 @@ abbrev pub file_line : FileFault → List ℕ
 file_line file.Read = refused (codes "file 1 Read")
 file_line file.Write = refused (codes "file 2 Write")
 file_line file.TooLong = refused (codes "file 3 TooLong")
+
+-- what is told of a command line that is not UTF-8
+abbrev pub utf8_line : List ℕ
+utf8_line = codes "error: the command line is not UTF-8" ++ 10 ∷ []
+
+-- that line, with its status
+abbrev pub IsUtf8Refusal : ℕ → List ℕ → Type 0
+IsUtf8Refusal status text = (status ≡ 2) × (text ≡ utf8_line)

@@ -1,24 +1,34 @@
--- What the program prints for a command line.
-use Rattle.std.specs.Prelude.{◌≡◌, ℕ, List, [], ◌∷◌, ◌++◌, Option, codes, string_bytes}
-use Rattle.std.specs.List.{flat_map}
+-- What the program prints for a command line and an input, and with which status.
+use Rattle.std.specs.Prelude.{◌≡◌, ℕ, ◌+◌, ◌≤◌, List, [], ◌∷◌, ◌++◌, Option, codes, length, string_bytes}
+use Rattle.std.specs.List.{AllByRecursion, flat_map}
 use Rattle.std.specs.declared.string.String.{String}
 use Rattle.std.specs.FinSet as set
-use Rattle.std.specs.Io.KnownBytes.{Appends}
 use Rattle.gap_sets.specs.Gaps.{SetOfGaps}
 use Rattle.tso_program.specs.declared.listing.Listing.{Listing}
 use Rattle.tso_program.specs.declared.outcome.Outcome.{Outcome}
+use Rattle.clap.specs.Words.{Text}
 use Rattle.tso_machine.specs.declared.label.Label.{Label}
 use Rattle.tso_machine.specs.declared.label.Model.{Model}
 use Rattle.tso_machine.specs.Machine.{Mode, IsRun}
 use Rattle.tso_machine.specs.Modes.{mode_of, ArePassed}
-use Rattle.tso_machine.specs.RunTexts.{IsRunText}
+use Rattle.tso_machine.specs.Faults.{FaultIs}
+use Rattle.tso_machine.specs.RunTexts.{IsLabel, IsRunText}
+use Rattle.tso_machine.specs.declared.ended.ReplayFault.{ReplayFault}
+use Rattle.tso_machine.specs.declared.run_text.RunFault.{RunFault}
+use Rattle.tso_machine.specs.declared.run_text.RunFault.TheVariants as run_fault
 use Rattle.litmus_text.specs.declared.litmus.Litmus.{Litmus}
-use Rattle.litmus_text.specs.Texts.{IsLitmus}
+use Rattle.litmus_text.specs.declared.fault.ReadFault.{ReadFault}
+use Rattle.litmus_text.specs.declared.fault.ReadFault.TheVariants as read_fault
+use Rattle.litmus_text.specs.Texts.{IsLitmus, Refuses}
+use Rattle.fencer.specs.declared.answer.Refusal.{Refusal}
+use Rattle.fencer.specs.declared.answer.Refusal.TheVariants as refusal
+use Rattle.fencer.specs.declared.files.TheConstants.{LIMIT}
+use Rattle.fencer.specs.declared.lines.FileFault.{FileFault}
 use Rattle.fencer.specs.declared.words.Job.{Job}
 use Rattle.fencer.specs.declared.words.Job.TheVariants.{Replay}
-use Rattle.fencer.specs.Lines.{outcome_line, passed_line}
-use Rattle.fencer.specs.Streams.{Holds, TakesLine}
-use Rattle.fencer.specs.CommandLines.{words_of, AsksFor}
+use Rattle.fencer.specs.Lines.{EndsLine, file_line, litmus_line, outcome_line, passed_line, replay_line, run_line}
+use Rattle.fencer.specs.Streams.{Holds, IsReadFault, Takes, TakesLine, TakesOfLine}
+use Rattle.fencer.specs.CommandLines.{words_of, AsksFor, IsNoCommand}
 
 -- the machine of a model, with no gap fenced
 abbrev pub unfenced : Listing → Model → Mode
@@ -40,24 +50,73 @@ pub record PrintsRun (bytes : List ℕ) (model : Model) (labels : List ℕ) (lin
 abbrev pub run_text : {Z : Type 0} → List (String Z) → List ℕ
 run_text words = flat_map (λ word. 32 ∷ string_bytes word) words
 
--- the bytes of the file of this name, where `-` is what the reader has; nothing is known of any other file
-abbrev pub AreOfFile : List ℕ → Option (List ℕ) → List ℕ → Type 0
-AreOfFile path known bytes = path ≡ codes "-" → Holds known bytes
+-- why bytes are no litmus text: what the fault says of them, and that they are none, want of memory aside
+pub record IsNoLitmus (bytes : List ℕ) (fault : ReadFault) : Type 0 where
+  pub why : Refuses bytes fault
+  pub none : (litmus : Litmus Listing) → IsLitmus bytes litmus → fault ≡ read_fault.OutOfMemory
 
--- the lines are the job's answer
-abbrev pub Answers : Job → Option (List ℕ) → List ℕ → Type 0
-Answers (Replay model litmus labels) known lines =
-    (bytes : List ℕ) × AreOfFile (string_bytes litmus) known bytes × PrintsRun bytes model (run_text labels.items) lines
+-- the text spells no steps, want of memory aside
+abbrev pub IsNoRunText : List ℕ → RunFault → Type 0
+IsNoRunText labels fault = (steps : List Label) → AllByRecursion IsLabel steps → IsRunText labels steps → fault ≡ run_fault.OutOfMemory
 
--- the writer got the job's answer
-abbrev pub Does : Job → Option (List ℕ) → Option (List ℕ) → Option (List ℕ) → Type 0
-Does job known old new = (lines : List ℕ) × Answers job known lines × Appends old new lines
+-- why steps are no run of the unfenced program that the bytes spell
+pub record IsNoRun (bytes : List ℕ) (model : Model) (labels : List ℕ) (fault : ReplayFault) : Type 0 where
+  pub litmus : Litmus Listing
+  pub spelled : IsLitmus bytes litmus
+  pub steps : List Label
+  pub read : IsRunText labels steps
+  pub why : FaultIs litmus.program (unfenced litmus.program model) steps fault
 
--- the words ask for a job, and the writer got its answer
-abbrev pub Fulfils : List (List ℕ) → Option (List ℕ) → Option (List ℕ) → Option (List ℕ) → Type 0
-Fulfils words known old new = (job : Job) × AsksFor words job × Does job known old new
+-- why a text and labels have no replay: the text is judged before the labels, and these before the run
+abbrev pub IsRefused : List ℕ → Model → List ℕ → Refusal → Type 0
+IsRefused bytes model labels (refusal.Litmus fault) = IsNoLitmus bytes fault
+IsRefused bytes model labels (refusal.Run fault) = (litmus : Litmus Listing) × IsLitmus bytes litmus × IsNoRunText labels fault
+IsRefused bytes model labels (refusal.Replay fault) = IsNoRun bytes model labels fault
 
--- the same, where words that are not given stand in the reader's first line
-abbrev pub Serves : List (List ℕ) → Option (List ℕ) → Option (List ℕ) → Option (List ℕ) → Type 0
-Serves [] known old new = (line : List ℕ) × (rest : Option (List ℕ)) × TakesLine known rest line × Fulfils (words_of line) rest old new
-Serves (word ∷ words) known old new = Fulfils (word ∷ words) known old new
+-- the line of a refusal
+abbrev pub refusal_line : Refusal → List ℕ
+refusal_line (refusal.Litmus fault) = litmus_line fault
+refusal_line (refusal.Run fault) = run_line fault
+refusal_line (refusal.Replay fault) = replay_line fault
+
+-- the bytes of the file of this name, which are no more than the limit; `-` is the input, and nothing is known of other files
+pub record AreOfFile (path : List ℕ) (input : Option (List ℕ)) (bytes : List ℕ) : Type 0 where
+  pub within : length bytes ≤ LIMIT
+  pub known : path ≡ codes "-" → Holds input bytes
+
+-- the input has more bytes than the limit
+abbrev pub IsTooLong : Option (List ℕ) → Type 0
+IsTooLong input = (rest : Option (List ℕ)) × Takes input rest (LIMIT + 1)
+
+-- the same of its first line
+abbrev pub HasTooLongLine : Option (List ℕ) → Type 0
+HasTooLongLine input = (rest : Option (List ℕ)) × TakesOfLine input rest (LIMIT + 1)
+
+-- why that file isn't read
+abbrev pub IsFileFault : List ℕ → Option (List ℕ) → FileFault → Type 0
+IsFileFault path input fault = IsReadFault (path ≡ codes "-" → IsTooLong input) fault
+
+-- the answer to a replay, with its status: the lines of the run, or the line of a refusal
+pub data IsReplay (model : Model) (path labels : List ℕ) (input : Option (List ℕ)) : ℕ → List ℕ → Type 0 where
+  ran : (bytes lines : List ℕ) → AreOfFile path input bytes → PrintsRun bytes model labels lines → IsReplay model path labels input 0 lines
+  refused : (bytes : List ℕ) (why : Refusal) → AreOfFile path input bytes → IsRefused bytes model labels why → IsReplay model path labels input 1 (refusal_line why)
+  no_file : (why : FileFault) → IsFileFault path input why → IsReplay model path labels input 1 (file_line why)
+
+-- the answer to a job
+abbrev pub IsAnswer : Job → Option (List ℕ) → ℕ → List ℕ → Type 0
+IsAnswer (Replay model litmus labels) input = IsReplay model (string_bytes litmus) (run_text labels.items) input
+
+-- the reply to words: the answer to the job that they ask for; or, where they are no command, lines that tell so
+pub data IsReply (words : List Text) (input : Option (List ℕ)) : ℕ → List ℕ → Type 0 where
+  answer : (job : Job) (status : ℕ) (text : List ℕ) → AsksFor words job → IsAnswer job input status text → IsReply words input status text
+  no_command : (text : List ℕ) → IsNoCommand words → EndsLine text → IsReply words input 2 text
+
+-- the reply to an input alone: its first line has the words, and what is behind it is the input
+pub data IsReplyToInput (input : Option (List ℕ)) : ℕ → List ℕ → Type 0 where
+  by_line : (line : List ℕ) (rest : Option (List ℕ)) (status : ℕ) (text : List ℕ) → TakesLine input rest line → length line ≤ LIMIT → IsReply (words_of line) rest status text → IsReplyToInput input status text
+  no_line : (why : FileFault) → IsReadFault (HasTooLongLine input) why → IsReplyToInput input 1 (file_line why)
+
+-- what the program prints for the words after its name, with which status
+abbrev pub IsOutput : List Text → Option (List ℕ) → ℕ → List ℕ → Type 0
+IsOutput [] input = IsReplyToInput input
+IsOutput (word ∷ words) input = IsReply (word ∷ words) input

@@ -1,105 +1,21 @@
 //! A whole run of the program, over a reader and a writer.
 
-ghost use Rattle.std.specs.Prelude.{◌≡◌, ◌++◌, ◌<◌, IfOk, map, string_bytes};
-ghost use Rattle.tso_machine.specs.RunTexts.{IsRunText};
-ghost use Rattle.fencer.specs.Lines.{outcome_line, passed_line};
-ghost use Rattle.fencer.specs.Replays.{run_text, PrintsRun, AreOfFile, Does, Fulfils, Serves};
+ghost use Rattle.std.specs.Prelude.{◌≡◌, IfOk, IfErr, map, string_bytes};
+ghost use Rattle.fencer.specs.Lines.{EndsLine, IsUtf8Refusal};
+ghost use Rattle.fencer.specs.Streams.{IsMade, Prints};
+ghost use Rattle.fencer.specs.Replays.{run_text, AreOfFile, IsFileFault, IsReplay, IsAnswer, IsReply, IsOutput};
 
+use crate::answer::{refusal_line, replay_lines};
 use crate::files::{LIMIT, read_line_up_to, read_up_to, write_bytes};
-use crate::lines::{
-    FileFault, file_line, litmus_line, outcome_line, passed_line, replay_line, run_line,
-};
+use crate::lines::{FileFault, file_line, utf8_line};
 use crate::words::{Job, LineFault, line_words, read_words};
+use clap::Error;
 use clap::error::ErrorKind;
-use gap_sets::GapSet;
-use litmus_text::{Litmus, ReadFault, read_litmus};
 use std::alloc::{AllocError, Global};
 use std::fs::File;
 use std::io::{Read, Write};
 use std::rt::Files;
-use tso_machine::{Ended, Label, Model, ReplayFault, RunFault, read_run, replay};
-use tso_program::Program;
-
-/// Why a replay is refused.
-#[derive(Clone, Copy, PartialEq, Eq, Debug)]
-enum Refusal {
-    File(FileFault),
-    Litmus(ReadFault),
-    Run(RunFault),
-    Replay(ReplayFault),
-}
-
-fn refusal_line(alloc: Global, refusal: Refusal) -> Result<Vec<u8>, AllocError> {
-    match refusal {
-        Refusal::File(fault) => file_line(alloc, fault),
-        Refusal::Litmus(fault) => litmus_line(alloc, fault),
-        Refusal::Run(fault) => run_line(alloc, fault),
-        Refusal::Replay(fault) => replay_line(alloc, fault),
-    }
-}
-
-/// The label words, each behind a space.
-fn run_text(alloc: Global, words: &[String]) -> Result<Vec<u8>, AllocError>
-    ensures { IfOk result (λ text. text.items ≡ run_text words.now) }
-{
-    let mut text = Vec::new(alloc);
-    for word in words {
-        text.push(b' ')?;
-        text.extend_from_slice(word.as_bytes())?;
-    }
-    Ok(text)
-}
-
-/// The steps that label words spell.
-fn steps_of(alloc: Global, words: &[String]) -> Result<Vec<Label>, RunFault>
-    ensures { IfOk result (λ steps. IsRunText (run_text words.now) steps.items) }
-{
-    match run_text(alloc, words) {
-        Ok(text) => read_run(alloc, &text),
-        Err(_) => Err(RunFault::OutOfMemory),
-    }
-}
-
-/// The outcome line and the passed line.
-fn ended_lines(
-    alloc: Global,
-    litmus: &Litmus<Program>,
-    ended: &Ended,
-) -> Result<Vec<u8>, AllocError>
-    ensures { IfOk result (λ lines. lines.items ≡ outcome_line litmus.now.names ended.now.outcome ++ passed_line litmus.now.program ended.now.passed) }
-{
-    let mut lines = outcome_line(alloc, &litmus.names, &ended.outcome)?;
-    let passed = passed_line(alloc, &litmus.program, &ended.passed)?;
-    lines.extend_from_slice(&passed)?;
-    Ok(lines)
-}
-
-/// The lines of a run, or why there are none.
-fn replay_lines(
-    alloc: Global,
-    bytes: &[u8],
-    model: Model,
-    labels: &[String],
-) -> Result<Vec<u8>, Refusal>
-    ensures { IfOk result (λ lines. PrintsRun bytes.now model (run_text labels.now) lines.items) }
-{
-    let litmus = match read_litmus(alloc, bytes) {
-        Ok(litmus) => litmus,
-        Err(fault) => return Err(Refusal::Litmus(fault)),
-    };
-    let steps = match steps_of(alloc, labels) {
-        Ok(steps) => steps,
-        Err(fault) => return Err(Refusal::Run(fault)),
-    };
-    let ended = match replay(alloc, &litmus.program, &GapSet::empty(), model, &steps) {
-        Ok(ended) => ended,
-        Err(fault) => return Err(Refusal::Replay(fault)),
-    };
-    match ended_lines(alloc, &litmus, &ended) {
-        Ok(lines) => Ok(lines),
-        Err(_) => Err(Refusal::Replay(ReplayFault::OutOfMemory)),
-    }
-}
+use tso_machine::Model;
 
 /// The bytes of a file, or of the reader where the file is `-`.
 fn file_bytes<F: Files + AllocGlobal, R: Read>(
@@ -107,7 +23,8 @@ fn file_bytes<F: Files + AllocGlobal, R: Read>(
     path: &str,
     input: &mut R,
 ) -> Result<Vec<u8>, FileFault>
-    ensures { IfOk result (λ bytes. AreOfFile path.now (R.remaining input.old) bytes.items) }
+    ensures whole { IfOk result (λ bytes. AreOfFile path.now (R.remaining input.old) bytes.items) }
+    ensures err { IfErr result (IsFileFault path.now (R.remaining input.old)) }
 {
     if path == "-" {
         return read_up_to(rt.alloc(), input, LIMIT);
@@ -121,17 +38,48 @@ fn file_bytes<F: Files + AllocGlobal, R: Read>(
     }
 }
 
-/// Writes a line, and answers the status; nothing is written of a line that could not be made.
-fn say<W: Write>(output: &mut W, line: Result<Vec<u8>, AllocError>, status: u8) -> u8
-    requires { 0 < status }
-    ensures { 0 < result }
+/// Writes a text that could be made, and answers the status: the given one, and 1 where the writer fails. A text that
+/// could not be made is not told, and the status is 1.
+fn say<W: Write>(output: &mut W, text: Result<Vec<u8>, AllocError>, status: u8) -> u8
+    ensures { Prints (IsMade text status) (W.contents output.old) (W.contents output.new) result }
 {
-    match line {
-        Ok(line) => match write_bytes(output, &line) {
+    match text {
+        Ok(text) => match write_bytes(output, &text) {
             Ok(()) => status,
             Err(_) => 1,
         },
         Err(_) => 1,
+    }
+}
+
+/// What `clap` tells of words that are no command: why, or the help that they call for.
+fn error_text(alloc: Global, error: &Error) -> Result<Vec<u8>, AllocError>
+    ensures { IfOk result (λ text. EndsLine text.items) }
+{
+    let told = error.to_string(alloc)?;
+    let mut text = Vec::from_slice(alloc, told.trim_end().as_bytes())?;
+    text.push(b'\n')?;
+    Ok(text)
+}
+
+/// Replays label words on the program of a litmus file, tells the answer, and answers the status.
+fn run_replay<F: Files + AllocGlobal, R: Read, W: Write>(
+    rt: &F,
+    model: Model,
+    litmus: &str,
+    labels: &[String],
+    input: &mut R,
+    output: &mut W,
+) -> u8
+    ensures { Prints (IsReplay model litmus.now (run_text labels.now) (R.remaining input.old)) (W.contents output.old) (W.contents output.new) result }
+{
+    let bytes = match file_bytes(rt, litmus, input) {
+        Ok(bytes) => bytes,
+        Err(fault) => return say(output, file_line(rt.alloc(), fault), 1),
+    };
+    match replay_lines(rt.alloc(), &bytes, model, labels) {
+        Ok(lines) => say(output, Ok(lines), 0),
+        Err(refusal) => say(output, refusal_line(rt.alloc(), refusal), 1),
     }
 }
 
@@ -142,24 +90,21 @@ fn run_job<F: Files + AllocGlobal, R: Read, W: Write>(
     input: &mut R,
     output: &mut W,
 ) -> u8
-    ensures { result ≡ 0 → Does job.now (R.remaining input.old) (W.contents output.old) (W.contents output.new) }
+    ensures { Prints (IsAnswer job.now (R.remaining input.old)) (W.contents output.old) (W.contents output.new) result }
 {
-    let answer = match job {
+    match job {
         Job::Replay {
             model,
             litmus,
             labels,
-        } => match file_bytes(rt, litmus.as_str(), input) {
-            Ok(bytes) => replay_lines(rt.alloc(), &bytes, *model, labels.as_slice()),
-            Err(fault) => Err(Refusal::File(fault)),
-        },
-    };
-    match answer {
-        Ok(lines) => match write_bytes(output, &lines) {
-            Ok(()) => 0,
-            Err(_) => 1,
-        },
-        Err(refusal) => say(output, refusal_line(rt.alloc(), refusal), 1),
+        } => run_replay(
+            rt,
+            *model,
+            litmus.as_str(),
+            labels.as_slice(),
+            input,
+            output,
+        ),
     }
 }
 
@@ -170,21 +115,15 @@ fn run_words<F: Files + AllocGlobal, R: Read, W: Write>(
     input: &mut R,
     output: &mut W,
 ) -> u8
-    ensures { result ≡ 0 → Fulfils (map string_bytes words.now) (R.remaining input.old) (W.contents output.old) (W.contents output.new) }
+    ensures { Prints (IsReply (map string_bytes words.now) (R.remaining input.old)) (W.contents output.old) (W.contents output.new) result }
 {
     match read_words(rt.alloc(), words) {
         Ok(job) => run_job(rt, &job, input, output),
-        Err(error) => {
-            if error.kind() == ErrorKind::OutOfMemory {
-                return 1;
-            }
-            say(output, bytes_of(error.to_string(rt.alloc())), 2)
-        }
+        Err(error) => match error.kind() {
+            ErrorKind::OutOfMemory => 1,
+            _ => say(output, error_text(rt.alloc(), &error), 2),
+        },
     }
-}
-
-fn bytes_of(text: Result<String, AllocError>) -> Result<Vec<u8>, AllocError> {
-    Ok(text?.into_bytes())
 }
 
 /// The program: it does what the words after its name ask for, and answers its status. With no words
@@ -199,7 +138,7 @@ pub fn run_command<F: Files + AllocGlobal, R: Read, W: Write>(
     input: &mut R,
     output: &mut W,
 ) -> u8
-    ensures { result ≡ 0 → Serves (map string_bytes words.now) (R.remaining input.old) (W.contents output.old) (W.contents output.new) }
+    ensures { Prints (IsOutput (map string_bytes words.now) (R.remaining input.old)) (W.contents output.old) (W.contents output.new) result }
 {
     if !words.is_empty() {
         return run_words(rt, words, input, output);
@@ -217,8 +156,7 @@ pub fn run_command<F: Files + AllocGlobal, R: Read, W: Write>(
 
 /// Tells that the command line is not UTF-8, and answers the status.
 pub fn refuse_words<W: Write>(alloc: Global, output: &mut W) -> u8
-    ensures { 0 < result }
+    ensures { Prints IsUtf8Refusal (W.contents output.old) (W.contents output.new) result }
 {
-    let text = String::from_str(alloc, "error: the command line is not UTF-8\n");
-    say(output, bytes_of(text), 2)
+    say(output, utf8_line(alloc), 2)
 }

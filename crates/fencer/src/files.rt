@@ -1,9 +1,8 @@
 //! Whole inputs up to a limit, and whole outputs.
 
-ghost use Rattle.std.specs.Prelude.{◌≡◌, ◌+◌, ◌<◌, ◌≤◌, ◌^◌, ℕ, vec_len, length, IfOk, OnOk, IfErr, List};
+ghost use Rattle.std.specs.Prelude.{◌+◌, ◌<◌, ◌≤◌, ◌^◌, vec_len, IfOk, OnOk, OnErr, IfErr};
 ghost use Rattle.std.specs.Io.KnownBytes.{Appends};
-ghost use Rattle.fencer.specs.Streams.{Holds, Takes, TakesLine, AppendsFront};
-ghost use Rattle.fencer.specs.declared.lines.FileFault.TheVariants.{TooLong};
+ghost use Rattle.fencer.specs.Streams.{Holds, Takes, TakesLine, TakesOfLine, IsReadFault, AppendsFront};
 
 use crate::lines::FileFault;
 use std::alloc::Global;
@@ -18,7 +17,7 @@ pub fn read_up_to<R: Read>(alloc: Global, input: &mut R, limit: usize) -> Result
     requires { limit + 1 < 2 ^ 64 }
     ensures whole { IfOk result (λ bytes. Holds (R.remaining input.old) bytes.items) }
     ensures within { IfOk result (λ bytes. vec_len bytes ≤ limit) }
-    ensures too_long { IfErr result (λ fault. fault ≡ TooLong → Takes (R.remaining input.old) (R.remaining input.new) (limit + 1)) }
+    ensures err { IfErr result (IsReadFault (Takes (R.remaining input.old) (R.remaining input.new) (limit + 1))) }
 {
     let mut bytes = Vec::new(alloc);
     let mut buffer = [0u8; 4096];
@@ -52,7 +51,7 @@ pub fn read_line_up_to<R: Read>(
     requires { limit + 1 < 2 ^ 64 }
     ensures line { IfOk result (λ line. TakesLine (R.remaining input.old) (R.remaining input.new) line.items) }
     ensures within { IfOk result (λ line. vec_len line ≤ limit) }
-    ensures too_long { IfErr result (λ fault. fault ≡ TooLong → Takes (R.remaining input.old) (R.remaining input.new) (limit + 1)) }
+    ensures err { IfErr result (IsReadFault (TakesOfLine (R.remaining input.old) (R.remaining input.new) (limit + 1))) }
 {
     let mut line = Vec::new(alloc);
     let mut byte = [0u8; 1];
@@ -73,10 +72,10 @@ pub fn read_line_up_to<R: Read>(
     Err(FileFault::TooLong)
 }
 
-/// Writes all of the bytes, and at a failure a front of them. A writer that takes no byte fails.
+/// Writes all of the bytes, or a front of them where the writer fails. A writer that takes no byte fails.
 pub fn write_bytes<W: Write>(output: &mut W, bytes: &[u8]) -> Result<(), FileFault>
     ensures ok { OnOk result (Appends (W.contents output.old) (W.contents output.new) bytes.now) }
-    ensures front { AppendsFront (W.contents output.old) (W.contents output.new) bytes.now }
+    ensures err { OnErr result (AppendsFront (W.contents output.old) (W.contents output.new) bytes.now) }
 {
     let mut sent = 0;
     while sent < bytes.len() {

@@ -3,7 +3,7 @@
 ghost use Rattle.std.specs.Prelude.{◌≡◌, ◌∷◌, [], ◌++◌, IfOk, OnOk, string_bytes};
 ghost use Rattle.std.specs.Fmt.{decimal};
 ghost use Rattle.fencer.specs.Places.{gap_text, gap_place};
-ghost use Rattle.fencer.specs.Lines.{outcome_line, passed_line, litmus_line, run_line, replay_line, file_line, refused, refused_at, program_text, program_line};
+ghost use Rattle.fencer.specs.Lines.{outcome_line, passed_line, litmus_line, run_line, replay_line, file_line, utf8_line, refused, refused_at, program_text, program_line};
 
 use gap_sets::GapSet;
 use litmus_text::{NameTable, ReadFault, write_outcome};
@@ -155,6 +155,13 @@ pub fn file_line(alloc: Global, fault: FileFault) -> Result<Vec<u8>, AllocError>
         FileFault::Write => refused(alloc, "file 2 Write"),
         FileFault::TooLong => refused(alloc, "file 3 TooLong"),
     }
+}
+
+/// Why the words of a command line aren't read: they are not UTF-8.
+pub fn utf8_line(alloc: Global) -> Result<Vec<u8>, AllocError>
+    ensures { IfOk result (λ line. line.items ≡ utf8_line) }
+{
+    Vec::from_slice(alloc, b"error: the command line is not UTF-8\n")
 }
 
 /// The line of a refusal.

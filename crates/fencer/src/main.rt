@@ -1,6 +1,7 @@
 //! The program `fencer`.
 #![tactic(auto)]
 
+mod answer;
 mod command;
 mod files;
 pub mod lines;

@@ -1,11 +1,11 @@
 //! Command lines.
 
-ghost use Rattle.std.specs.Prelude.{◌≡◌, ◌==◌, false, [], IfOk, codes, map, option_map, string_bytes, unwrap_or};
+ghost use Rattle.std.specs.Prelude.{◌≡◌, ◌==◌, ◌⊎◌, false, [], IfOk, IfErr, IsUtf8, codes, map, option_map, string_bytes, unwrap_or};
 ghost use Rattle.std.specs.List.{slice_split};
-ghost use Rattle.clap.specs.Words.{all_of, first_of, found_of, rows_of, rule_of};
-ghost use Rattle.fencer.specs.CommandLines.{words_of, IsModelRule, litmus_rule, label_rule, model_named, AreRowsOf, AsksFor};
+ghost use Rattle.clap.specs.Words.{all_of, first_of, found_of, kind_of, rows_of, rule_of};
+ghost use Rattle.fencer.specs.CommandLines.{words_of, IsModelRule, litmus_rule, label_rule, model_named, AreRowsOf, AsksFor, IsNoCommand};
 ghost use Rattle.fencer.specs.Commands.{IsReplayCommand, IsFencerCommand};
-ghost use Rattle.fencer.specs.declared.words.LineFault.TheVariants.{OutOfMemory};
+ghost use Rattle.fencer.specs.declared.words.LineFault.TheVariants.{NotUtf8, OutOfMemory};
 
 use clap::error::ErrorKind;
 use clap::{Arg, ArgAction, ArgMatches, Command, Error};
@@ -92,6 +92,7 @@ fn command<'a>(alloc: Global) -> Result<Command<'a>, AllocError>
     Command::new(alloc, "fencer")
         .no_binary_name(true)
         .subcommand_required(true)
+        .disable_help_subcommand(true)
         .subcommand(replay_command(alloc)?)
 }
 
@@ -156,18 +157,20 @@ fn replay_job(alloc: Global, matches: &ArgMatches<'_>) -> Result<Job, AllocError
 
 /// The job that the words after the program's name ask for.
 pub fn read_words(alloc: Global, words: &[String]) -> Result<Job, Error>
-    ensures { IfOk result (AsksFor (map string_bytes words.now)) }
+    ensures job { IfOk result (AsksFor (map string_bytes words.now)) }
+    ensures refused { IfErr result (λ error. (kind_of error ≡ ErrorKind.OutOfMemory) ⊎ IsNoCommand (map string_bytes words.now)) }
 {
     let matches = command(alloc)?.try_get_matches_from(words)?;
-    match matches.subcommand() {
-        Some(("replay", inner)) => Ok(replay_job(alloc, inner)?),
-        _ => Err(command(alloc)?.error(ErrorKind::MissingSubcommand, "no command")?),
+    match matches.subcommand_matches("replay") {
+        Some(inner) => Ok(replay_job(alloc, inner)?),
+        None => Err(command(alloc)?.error(ErrorKind::MissingSubcommand, "no command")?),
     }
 }
 
 /// The words of a line, which spaces separate.
 pub fn line_words(alloc: Global, line: &[u8]) -> Result<Vec<String>, LineFault>
-    ensures { IfOk result (λ words. map string_bytes words.items ≡ words_of line.now) }
+    ensures words { IfOk result (λ words. map string_bytes words.items ≡ words_of line.now) }
+    ensures refused { IfErr result (λ fault. fault ≡ NotUtf8 → IsNoCommand (words_of line.now)) }
 {
     let parts = parts_of(alloc, line)?;
     let mut words = Vec::new(alloc);
@@ -187,7 +190,8 @@ fn parts_of(alloc: Global, line: &[u8]) -> Result<Vec<&[u8]>, AllocError>
 }
 
 fn word_of(alloc: Global, part: &[u8]) -> Result<String, LineFault>
-    ensures { IfOk result (λ word. string_bytes word ≡ part.now) }
+    ensures word { IfOk result (λ word. string_bytes word ≡ part.now) }
+    ensures refused { IfErr result (λ fault. fault ≡ NotUtf8 → IsUtf8 part.now → ⊥) }
 {
     match String::from_utf8(Vec::from_slice(alloc, part)?) {
         Ok(word) => Ok(word),

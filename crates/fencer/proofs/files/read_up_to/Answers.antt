@@ -3,8 +3,8 @@ use Rattle.std.proofs.lemmas.List.{length-take}
 use Rattle.fencer.proofs.StreamLaws.{reads_more}
 use Rattle.fencer.proofs.files.read_up_to.Goals as goal
 
-pub returns-then-room-count-clause-too_long : goal.returns-then-room-count-clause-too_long
-returns-then-room-count-clause-too_long g c = λ _.
+pub returns-then-room-count-clause-err : goal.returns-then-room-count-clause-err
+returns-then-room-count-clause-err g c =
     let bytes = c.in-Ok.ensures.bytes in
     let bound = c.in-Ok.ensures.bound in
     let part : List ℕ = take c.in-Ok.count c.read.new.buf in (

@@ -11,6 +11,6 @@ returns c =
       models = replay.models;
       are_names = replay.are_names;
       shape = h.shape replay.no_globals
-          ∙ ap₂ with_subcommand (fencer_shape _ _ _ c.new.ensures.app c.no_binary_name.ensures c.subcommand_required.ensures) (ap (λ (a : App). a.top) replay.shape);
-      no_globals = neither _ _ _ h.globals (fencer_globals _ _ _ c.new.ensures.local c.no_binary_name.ensures c.subcommand_required.ensures) replay.no_globals;
+          ∙ ap₂ with_subcommand (fencer_shape c.new.result c.no_binary_name.result c.subcommand_required.result c.disable_help_subcommand.result (record { unnamed_is = c.no_binary_name.ensures; wanted_is = c.subcommand_required.ensures; done_is = c.disable_help_subcommand.ensures }) c.new.ensures.app) (ap (λ (a : App). a.top) replay.shape);
+      no_globals = neither _ _ _ h.globals (fencer_globals c.new.result c.no_binary_name.result c.subcommand_required.result c.disable_help_subcommand.result (record { unnamed_is = c.no_binary_name.ensures; wanted_is = c.subcommand_required.ensures; done_is = c.disable_help_subcommand.ensures }) c.new.ensures.local) replay.no_globals;
     }) c.subcommand.ensures

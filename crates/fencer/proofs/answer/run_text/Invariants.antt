@@ -1,6 +1,6 @@
 use Rattle.std.proofs.Common.{◌≡◌, take}
 use Rattle.fencer.specs.Replays.{run_text}
-use Rattle.fencer.proofs.command.run_text.Given as goal
+use Rattle.fencer.proofs.answer.run_text.Given as goal
 
 -- the words so far are written
 abbrev pub invariant-loop-word : goal.invariant-loop-word
