@@ -1,0 +1,82 @@
+-- Printed texts are ASCII, so they are UTF-8.
+use Rattle.std.proofs.Common.{◌≡◌, ℕ, ◌≤◌, ◌<◌, ◌^◌, Bool, true, false, ◌&&◌, ◌||◌, List, [], ◌∷◌, ◌++◌, codes, refl, arith}
+use Rattle.std.specs.List.{list_all}
+use Rattle.std.specs.Char.{is_ascii_digit}
+use Rattle.std.specs.Str.{IsAscii}
+use Rattle.std.proofs.lemmas.Str.{IsAscii-append}
+use Rattle.std.proofs.lemmas.Str.Ascii.{IsAscii-nil, IsAscii-cons}
+use Rattle.std.proofs.lemmas.Fmt.{IsAscii-decimal}
+use Rattle.std.proofs.lemmas.Bool.Decides.{nat_tests}
+use Rattle.text_tokens.specs.declared.token.Mark.{Mark}
+use Rattle.text_tokens.specs.declared.token.Mark.TheVariants.{OpenBrace, CloseBrace, OpenBracket, CloseBracket, OpenParen, CloseParen, Semicolon, Bar, Colon, Equals, Comma, Dollar, Tilde, And, Or}
+use Rattle.text_tokens.specs.Bytes.{is_blank, is_word_byte}
+use Rattle.text_tokens.specs.Marks.{mark_text}
+use Rattle.text_tokens.specs.Tokens.{Tok, Word, Number, Sign, NoToken}
+use Rattle.text_tokens.specs.Lexing.{IsWord}
+use Rattle.text_tokens.specs.Pieces.{Piece, Gap, Part, token_text, text_of, CanStand, AreApartBefore}
+use Rattle.litmus_text.specs.FirstLine.{is_visible}
+use Rattle.canonical_text.specs.Spelling.{heading}
+
+small_word_byte : (b : ℕ) → is_word_byte b ≡ true → b < 128
+small_word_byte b h = grind (arith, nat_tests)
+
+small_blank : (b : ℕ) → is_blank b ≡ true → b < 128
+small_blank b h = grind (arith, nat_tests)
+
+small_visible : (b : ℕ) → is_visible b ≡ true → b < 128
+small_visible b h = grind (arith, nat_tests)
+
+first_of : (a b : Bool) → (a && b) ≡ true → a ≡ true
+first_of true b h = refl
+first_of false b h = cc
+
+second_of : (a b : Bool) → (a && b) ≡ true → b ≡ true
+second_of true b h = h
+second_of false b h = cc
+
+-- bytes that pass a test that only ASCII passes
+ascii_by : (test : ℕ → Bool) → ((b : ℕ) → test b ≡ true → b < 128) → (bs : List ℕ) → list_all test bs ≡ true → IsAscii bs
+ascii_by test small [] h = IsAscii-nil
+ascii_by test small (b ∷ bs) h =
+    IsAscii-cons b bs (small b (first_of (test b) (list_all test bs) h)) (ascii_by test small bs (second_of (test b) (list_all test bs) h))
+
+one : (b : ℕ) → b < 128 → IsAscii (b ∷ [])
+one b h = IsAscii-cons b [] h IsAscii-nil
+
+two : (b c : ℕ) → b < 128 → c < 128 → IsAscii (b ∷ c ∷ [])
+two b c h g = IsAscii-cons b (c ∷ []) h (one c g)
+
+ascii_mark : (m : Mark) → IsAscii (mark_text m)
+ascii_mark OpenBrace = one 123 (omega arith)
+ascii_mark CloseBrace = one 125 (omega arith)
+ascii_mark OpenBracket = one 91 (omega arith)
+ascii_mark CloseBracket = one 93 (omega arith)
+ascii_mark OpenParen = one 40 (omega arith)
+ascii_mark CloseParen = one 41 (omega arith)
+ascii_mark Semicolon = one 59 (omega arith)
+ascii_mark Bar = one 124 (omega arith)
+ascii_mark Colon = one 58 (omega arith)
+ascii_mark Equals = one 61 (omega arith)
+ascii_mark Comma = one 44 (omega arith)
+ascii_mark Dollar = one 36 (omega arith)
+ascii_mark Tilde = one 126 (omega arith)
+ascii_mark And = two 47 92 (omega arith) (omega arith)
+ascii_mark Or = two 92 47 (omega arith) (omega arith)
+
+ascii_token : (t : Tok) (rest : List ℕ) → CanStand t rest → IsAscii (token_text t)
+ascii_token (Word w) rest h = ascii_by is_word_byte small_word_byte w h.0.1
+ascii_token (Number n) rest h = let small : n < 2 ^ 64 = omega (arith, h.0) in IsAscii-decimal n small
+ascii_token (Sign m) rest h = ascii_mark m
+ascii_token (NoToken b) rest h = absurd h
+
+-- pieces that can be written one behind the other are ASCII
+pub ascii_pieces : (ps : List Piece) (rest : List ℕ) → AreApartBefore ps rest → IsAscii (text_of ps)
+ascii_pieces [] rest h = IsAscii-nil
+ascii_pieces (Gap b ∷ ps) rest h = IsAscii-cons b (text_of ps) (small_blank b h.0) (ascii_pieces ps rest h.1)
+ascii_pieces (Part t ∷ ps) rest h = IsAscii-append (token_text t) (text_of ps) (ascii_token t (text_of ps ++ rest) h.0) (ascii_pieces ps rest h.1)
+
+-- the first line is ASCII
+pub ascii_heading : (name : List ℕ) → list_all is_visible name ≡ true → IsAscii (heading name)
+ascii_heading name h =
+    let front : IsAscii (codes "X86 ") = IsAscii-cons 88 (56 ∷ 54 ∷ 32 ∷ []) (omega arith) (IsAscii-cons 56 (54 ∷ 32 ∷ []) (omega arith) (two 54 32 (omega arith) (omega arith))) in
+    IsAscii-append (codes "X86 ") (name ++ 10 ∷ []) front (IsAscii-append name (10 ∷ []) (ascii_by is_visible small_visible name h) (one 10 (omega arith)))

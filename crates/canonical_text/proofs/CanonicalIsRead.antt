@@ -1,0 +1,271 @@
+-- The canonical text of a program, fenced at any gaps, stands for that program.
+use Rattle.std.proofs.Common.{◌≡◌, ℕ, ◌+◌, ◌*◌, ◌<◌, ◌≤◌, Bool, true, false, List, [], ◌∷◌, ◌++◌, length, map, get_or, Option, Some, None, refl, sym, ap, ◌∙◌, subst, inl, inr, arith}
+use Rattle.std.specs.Prelude.{slice_get}
+use Rattle.std.specs.List.{AllByRecursion, IsDistinct, list_any, flat_map, filter_map, range_with_len}
+use Rattle.std.specs.Option.{option_map_or}
+use Rattle.std.specs.Str.{bytes_eq}
+use Rattle.std.proofs.lemmas.Bool.{cases_Bool}
+use Rattle.std.proofs.lemmas.Option.{slice_get-get_or}
+use Rattle.std.proofs.lemmas.List.FromFn.{fill_by_all, length-map-range_with_len}
+use Rattle.std.proofs.lemmas.Slice.Eq.{bytes_eq-Decides}
+use Rattle.gap_sets.specs.Gaps.{SetOfGaps}
+use Rattle.text_tokens.specs.Tokens.{Tok}
+use Rattle.tso_program.specs.declared.instruction.Reg.{Reg}
+use Rattle.tso_program.specs.declared.instruction.Instr.{Instr}
+use Rattle.tso_program.specs.declared.listing.Thread.{Thread}
+use Rattle.tso_program.specs.declared.listing.Listing.{Listing}
+use Rattle.tso_program.specs.Limits.{IsWithinLimits}
+use Rattle.tso_program.specs.Listings.{code_of}
+use Rattle.tso_program.specs.Fences.{Gaps, gaps_in, fence, fenced_threads}
+use Rattle.tso_program.proofs.FencedPlaces.{same_count}
+use Rattle.tso_program.proofs.FencedLimits.{fencing_stays_within_limits}
+use Rattle.conditions.specs.Tree.{Tree, tree_map}
+use Rattle.conditions.specs.Grammar.{Sign, Spells, Sum}
+use Rattle.conditions.specs.Canonical.{enclosed_signs_of}
+use Rattle.litmus_syntax.specs.Views.{PlaceView, Location, Register, EntryView, BodyView, SignView}
+use Rattle.litmus_syntax.specs.Grammar.{NoneTwice, place_of}
+use Rattle.litmus_syntax.specs.Places.{same_place}
+use Rattle.litmus_text.specs.declared.litmus.Litmus.{Litmus}
+use Rattle.litmus_text.specs.FirstLine.{is_visible, AreSome}
+use Rattle.litmus_text.specs.Names.{Names, all_registers, number_in}
+use Rattle.litmus_text.specs.Places.{entry_place, row_places, sign_places, places, location_name, is_register, names_of, names_among}
+use Rattle.litmus_text.specs.Outcomes.{is_named}
+use Rattle.litmus_text.specs.Meaning.{first_value, memory_of, registers_of, thread_of, listing_of, numbered_atom, condition_of}
+use Rattle.litmus_text.specs.Meaning as meaning
+use Rattle.litmus_text.specs.Texts.{AreParts, Means, StandsFor, IsLitmus, IsFencedLitmus}
+use Rattle.litmus_text.proofs.NamesOnce.{in_order_once}
+use Rattle.canonical_text.specs.Canonical.{entries_of, rows_of, body_of, signs_named, fenced_at, canonical_text}
+use Rattle.canonical_text.specs.Printable.{IsNumber, IsLocationName, IsPrintablePlace, IsPrintableEntry, IsPrintableRow, IsPrintable, IsPrintableSign, ArePrintable}
+use Rattle.canonical_text.specs.Laws.{HasParts, CanonicalTextIsRead}
+use Rattle.canonical_text.proofs.PrintedIsRead.{printed_is_read}
+use Rattle.canonical_text.proofs.Lists.{both_of_all, all_of_both, all_more_so, map_same, each_among}
+use Rattle.canonical_text.proofs.NamedPlaces.{Named, named_places, threads_places, entry_at, RegistersAre, entries_are, Rising, rising_wider, rising_threads, places_once, placed_entries, printable_places, held_among, held_nowhere, register_among, location_among}
+use Rattle.canonical_text.proofs.ToldCode.{IsKnown, AreTold, rows_printable, rows_known, code_again}
+use Rattle.canonical_text.proofs.ThreadsAgain.{fences_told, fences_registers, registers_at}
+use Rattle.canonical_text.proofs.NamedByText.{places_printable, names_good, named_is, places_known, held_small, unnamed_zero}
+use Rattle.canonical_text.proofs.NamesAgain.{locations_again, registers_again}
+use Rattle.canonical_text.proofs.SaidSigns.{Said, view_of, IsSaid, IsSayable, text_said, sayable, enclosed_said, signs_are, spelled_again, signs_printable, signs_known, enclosed_apart}
+use Rattle.canonical_text.proofs.GoodTokens.{AreGood, lexed_good, after_body, after_condition}
+
+-- a text's parts, which can be printed
+record IsGoodText (b : BodyView) (ss : List SignView) (f : Tree Said) : Type 0 where
+  some : 0 < b.threads
+  few : IsNumber b.threads
+  entries : AllByRecursion (IsPrintableEntry b.threads) b.entries
+  rows : AllByRecursion (IsPrintableRow b.threads) b.rows
+  signs : AllByRecursion (IsPrintableSign b.threads) ss
+  spells : Spells Sum f (map meaning.sign_of ss) []
+
+-- what a text of this name with these parts stands for
+abbrev source : List ℕ → BodyView → List SignView → Tree Said → Litmus Listing
+source name b ss f = record {
+  name = name;
+  program = listing_of (names_of b ss).locations b;
+  names = names_of b ss;
+  condition = condition_of (number_in (names_of b ss).locations) f;
+}
+
+module _ (b : BodyView) (ss : List SignView) (f : Tree Said) (good : IsGoodText b ss f) (gaps : Gaps) where
+  abbrev names : Names
+  names = names_of b ss
+
+  abbrev locations : List (List ℕ)
+  locations = names.locations
+
+  abbrev named : Named
+  named = is_named names
+
+  abbrev held : PlaceView → ℕ
+  held = first_value b.entries
+
+  abbrev program : Listing
+  program = fence gaps (listing_of locations b)
+
+  abbrev threads : List Thread
+  threads = fenced_threads gaps 0 (map (thread_of (number_in locations) b) (range_with_len 0 b.threads))
+
+  abbrev body : BodyView
+  body = body_of names program
+
+  abbrev named_ones : List PlaceView
+  named_ones = named_places locations named (length threads)
+
+  -- ---- what is known of the text
+
+  count : length threads ≡ b.threads
+  count =
+      same_count gaps 0 (map (thread_of (number_in locations) b) (range_with_len 0 b.threads)) ∙ length-map-range_with_len (thread_of (number_in locations) b) 0 b.threads
+
+  once : IsDistinct bytes_eq locations
+  once = in_order_once (filter_map location_name (places b ss))
+
+  printable : AllByRecursion (IsPrintablePlace b.threads) (places b ss)
+  printable = places_printable b ss good.entries good.rows good.signs
+
+  good_names : AllByRecursion IsLocationName locations
+  good_names = names_good b.threads [] (places b ss) tt printable
+
+  known_parts : AllByRecursion (IsKnown locations named) (flat_map row_places b.rows) × AllByRecursion (IsKnown locations named) (flat_map sign_places ss)
+  known_parts =
+      let known = both_of_all (IsKnown locations named) (map entry_place b.entries) (flat_map row_places b.rows ++ flat_map sign_places ss) (places_known b ss printable) in
+      both_of_all (IsKnown locations named) (flat_map row_places b.rows) (flat_map sign_places ss) known.1
+
+  told : AreTold locations named threads
+  told = fences_told locations named once gaps b good.rows known_parts.0
+
+  registers : RegistersAre held 0 threads
+  registers = fences_registers (number_in locations) gaps b
+
+  small : (p : PlaceView) → IsNumber (held p)
+  small = held_small b.threads b.entries good.entries
+
+  said : IsSayable locations named b.threads f
+  said = (sayable locations named b.threads good.spells (text_said locations named b.threads ss good.signs known_parts.1)).0
+
+  -- ---- the canonical parts
+
+  entries_told : entries_of names program ≡ map (entry_at held) named_ones
+  entries_told = entries_are held names (memory_of locations b.entries) threads refl registers
+
+  rising : Rising (6 * 0) (6 * length threads) (threads_places named 0 (length threads))
+  rising = rising_wider (6 * 0) (6 * 0) (6 * (0 + length threads)) (6 * length threads) (threads_places named 0 (length threads)) (omega arith) (omega arith) (rising_threads named 0 (length threads))
+
+  entries_placed : map entry_place (entries_of names program) ≡ named_ones
+  entries_placed = ap (map entry_place) entries_told ∙ placed_entries held named_ones
+
+  body_printable : IsPrintable body
+  body_printable = record {
+    some_thread = let some : 0 < length threads = omega (arith, good.some, count) in some;
+    few_threads = subst IsNumber (sym count) good.few;
+    entries = subst (AllByRecursion (IsPrintableEntry (length threads))) (sym entries_told)
+        (printable_places held (length threads) small locations (6 * 0) (threads_places named 0 (length threads)) good_names rising);
+    none_twice = subst NoneTwice (sym entries_placed) (places_once locations (6 * 0) (6 * length threads) (threads_places named 0 (length threads)) once rising);
+    rows = rows_printable locations named threads told;
+  }
+
+  abbrev signs : List SignView
+  signs = signs_named locations (tree_map (numbered_atom (number_in locations)) f)
+
+  signs_told : signs ≡ map view_of (enclosed_signs_of f)
+  signs_told = signs_are locations named b.threads once f said
+
+  said_signs : AllByRecursion (IsSaid locations named b.threads) (enclosed_signs_of f)
+  said_signs = enclosed_said locations named b.threads f said
+
+  condition_printable : ArePrintable (length threads) signs
+  condition_printable =
+      let each : AllByRecursion (IsPrintableSign b.threads) (map view_of (enclosed_signs_of f)) = signs_printable locations named b.threads (enclosed_signs_of f) said_signs in
+      let apart = enclosed_apart locations named b.threads f said in
+      subst (ArePrintable (length threads)) (sym signs_told) (subst (λ (n : ℕ). AllByRecursion (IsPrintableSign n) (map view_of (enclosed_signs_of f))) (sym count) each, apart)
+
+  -- ---- what they stand for
+
+  rest_known : AllByRecursion (IsKnown locations named) (flat_map row_places body.rows ++ flat_map sign_places signs)
+  rest_known =
+      all_of_both (IsKnown locations named) (flat_map row_places body.rows) (flat_map sign_places signs) (rows_known locations named threads told)
+      (subst (λ (vs : List SignView). AllByRecursion (IsKnown locations named) (flat_map sign_places vs)) (sym signs_told) (signs_known locations named b.threads (enclosed_signs_of f) said_signs))
+
+  same_names : names ≡ names_of body signs
+  same_names =
+      let rest : List PlaceView = flat_map row_places body.rows ++ flat_map sign_places signs in
+      let is : (t : ℕ) (r : Reg) → t < length threads → named t r ≡ list_any (is_register t r) (places b ss) = λ t r lt. named_is b ss t r (omega (arith, lt, count)) in
+      let tables : (names_among (length threads) (named_ones ++ rest)).registers ≡ names.registers =
+      registers_again locations named (length threads) rest (places b ss) rest_known is ∙ ap (λ (n : ℕ). (names_among n (places b ss)).registers) count in
+      let whole : names_among (length threads) (named_ones ++ rest) ≡ names =
+      λ i. record { locations = locations_again locations named (length threads) rest once rest_known i; registers = tables i } in
+      sym (ap (λ (ps : List PlaceView). names_among (length threads) (ps ++ rest)) entries_placed ∙ whole)
+
+  value_again : (p : PlaceView) → list_any (λ q. same_place q p) named_ones ≡ true → held p ≡ first_value body.entries p
+  value_again p h = sym (ap (λ (es : List EntryView). first_value es p) entries_told ∙ held_among held p named_ones h)
+
+  same_memory : program.memory ≡ memory_of locations body.entries
+  same_memory =
+      let alike : List ℕ → List ℕ → Bool = λ y x. bytes_eq x y in
+      let stand : AllByRecursion (λ x. list_any (bytes_eq x) locations ≡ true) locations = each_among alike (λ x. (bytes_eq-Decides x x).1 refl) locations in
+      map_same (λ x. held (Location x)) (λ x. first_value body.entries (Location x)) locations
+      (all_more_so (λ x. list_any (bytes_eq x) locations ≡ true) (λ x. held (Location x) ≡ first_value body.entries (Location x))
+      (λ x h. value_again (Location x) (location_among x locations (threads_places named 0 (length threads)) h)) locations stand)
+
+  register_value : (t : ℕ) (r : Reg) → t < length threads → held (Register t r) ≡ first_value body.entries (Register t r)
+  register_value t r lt =
+      let among : list_any (is_register t r) named_ones ≡ named t r = register_among locations named (length threads) t r lt in
+      elim (cases_Bool (named t r)) [
+        | inl there ↦ value_again (Register t r) (among ∙ there)
+        | inr other ↦
+            unnamed_zero b ss t r (omega (arith, lt, count)) other
+            ∙ sym (ap (λ (es : List EntryView). first_value es (Register t r)) entries_told ∙ held_nowhere held (Register t r) named_ones (among ∙ other))
+      ]
+
+  same_thread : (t : ℕ) (d : Thread) → t < length threads → get_or threads t d ≡ thread_of (number_in locations) body t
+  same_thread t d lt =
+      let code : (get_or threads t d).code ≡ meaning.code_of (number_in locations) body.rows t =
+      sym (ap (λ (o : Option Thread). option_map_or (λ (thread : Thread). thread.code) o []) (slice_get-get_or threads t d lt)) ∙ sym (code_again locations named threads told t lt) in
+      let values : (get_or threads t d).registers ≡ registers_of body.entries t = registers_at held t threads d lt registers ∙ (λ i. map (λ r. register_value t r lt i) all_registers) in
+      λ i. record { code = code i; registers = values i }
+
+  same_threads : threads ≡ map (thread_of (number_in locations) body) (range_with_len 0 (length threads))
+  same_threads =
+      let d : Thread = record { code = []; registers = [] } in
+      fill_by_all (thread_of (number_in locations) body) threads (length threads) d refl (λ t lt. same_thread t d lt)
+
+  same_program : program ≡ listing_of locations body
+  same_program = λ i. record { threads = same_threads i; memory = same_memory i }
+
+  -- the canonical text stands for the fenced program
+  stands : (name : List ℕ) → AreSome is_visible name → StandsFor (canonical_text (record (source name b ss f) { program = program })) (record (source name b ss f) { program = program })
+  stands name visible =
+      let h : HasParts (canonical_text (record (source name b ss f) { program = program })) name body signs = printed_is_read name body signs visible body_printable condition_printable in
+      let spells : Spells Sum f (map meaning.sign_of signs) [] = subst (λ (vs : List SignView). Spells Sum f (map meaning.sign_of vs) []) (sym signs_told) (spelled_again locations named b.threads f said) in
+      record {
+        lines = h.lines;
+        tokens = h.tokens;
+        utf8 = h.utf8;
+        first_line = h.first_line;
+        lexes = h.lexes;
+        means = record {
+          body = body;
+          signs = signs;
+          formula = f;
+          parts = record { others = h.others; begins = h.begins; ends = h.ends; spells = spells };
+          names = same_names;
+          program = same_program;
+          condition = refl;
+        };
+      }
+
+-- ---- of what a text stands for
+
+parts_good : (tokens : List Tok) (b : BodyView) (ss : List SignView) (f : Tree Said) → AreGood tokens → AreParts tokens b ss f → 0 < b.threads → IsNumber b.threads → IsGoodText b ss f
+parts_good tokens b ss f whole parts some few =
+    let before = after_body b tokens parts.others parts.begins whole in
+    record { some = some; few = few; entries = before.0.0; rows = before.0.1; signs = after_condition b.threads ss parts.others parts.ends before.1; spells = parts.spells }
+
+fenced_text : (name : List ℕ) (b : BodyView) (ss : List SignView) (f : Tree Said) (tokens : List Tok) (gaps : SetOfGaps) → AreSome is_visible name → AreGood tokens → AreParts tokens b ss f
+    → IsWithinLimits (source name b ss f).program.threads (source name b ss f).program.memory
+    → IsFencedLitmus (canonical_text (fenced_at gaps (source name b ss f))) (fenced_at gaps (source name b ss f))
+fenced_text name b ss f tokens gaps visible whole parts limits =
+    let threads : List Thread = (source name b ss f).program.threads in
+    let count : length threads ≡ b.threads = length-map-range_with_len (thread_of (number_in (names_of b ss).locations) b) 0 b.threads in
+    let some : 0 < b.threads = let h : 0 < length threads = limits.shared.some_thread in omega (arith, h, count) in
+    let few : IsNumber b.threads = let h : length threads ≤ 8 = limits.shared.few_threads in omega (arith, h, count) in (
+      stands b ss f (parts_good tokens b ss f whole parts some few) (gaps_in (source name b ss f).program gaps) name visible,
+      fencing_stays_within_limits (source name b ss f).program gaps limits,
+    )
+
+pub canonical_is_read : CanonicalTextIsRead
+canonical_is_read text litmus is gaps =
+    let stands_for : StandsFor text litmus = is.0 in
+    let means : Means stands_for.tokens litmus = stands_for.means in
+    let visible : AreSome is_visible litmus.name = stands_for.first_line.2.4 in
+    let own : Litmus Listing = source litmus.name means.body means.signs means.formula in
+    let same : litmus ≡ own =
+    λ i. record {
+      name = litmus.name;
+      program = (means.program ∙ ap (λ (n : Names). listing_of n.locations means.body) means.names) i;
+      names = means.names i;
+      condition = (means.condition ∙ ap (λ (n : Names). condition_of (number_in n.locations) means.formula) means.names) i;
+    } in
+    let limits : IsWithinLimits own.program.threads own.program.memory = subst (λ (l : Litmus Listing). IsWithinLimits l.program.threads l.program.memory) same is.1 in
+    let read : IsFencedLitmus (canonical_text (fenced_at gaps own)) (fenced_at gaps own) =
+    fenced_text litmus.name means.body means.signs means.formula stands_for.tokens gaps visible (lexed_good stands_for.tokens stands_for.lines [] stands_for.lexes) means.parts limits in
+    subst (λ (l : Litmus Listing). IsFencedLitmus (canonical_text (fenced_at gaps l)) (fenced_at gaps l)) (sym same) read

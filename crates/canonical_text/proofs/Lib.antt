@@ -1,0 +1,16 @@
+pub mod StoreBuffering
+pub mod WordsWritten
+pub mod PiecesApart
+pub mod PiecesRelated
+pub mod AsciiTexts
+pub mod PrintedIsRead
+pub mod TextsGrow
+pub mod Lists
+pub mod ToldCode
+pub mod SaidSigns
+pub mod NamedByText
+pub mod NamesAgain
+pub mod GoodTokens
+pub mod ThreadsAgain
+pub mod CanonicalIsRead
+pub mod NamedPlaces

@@ -1,0 +1,171 @@
+-- What a text names: each name can be printed, and each place that it names is named.
+use Rattle.std.proofs.Common.{◌≡◌, ℕ, ◌+◌, ◌<◌, ◌≤◌, zero, suc, Bool, true, false, cond, ◌||◌, List, [], ◌∷◌, ◌++◌, length, map, fold, get_or, Some, None, refl, sym, ap, ◌∙◌, subst, inl, inr, arith}
+use Rattle.std.specs.Prelude.{if◌then◌else◌, slice_index_or}
+use Rattle.std.specs.List.{AllByRecursion, IsDistinct, list_any, find, flat_map, filter_map, range_with_len}
+use Rattle.std.specs.Option.{option_map_or}
+use Rattle.std.specs.Str.{bytes_eq}
+use Rattle.std.proofs.lemmas.Bool.{cases_Bool}
+use Rattle.std.proofs.lemmas.Slice.Eq.{bytes_eq-Decides}
+use Rattle.std.proofs.lemmas.List.Folds.{list_any-append}
+use Rattle.std.proofs.lemmas.List.FromFn.{get_or-map-range_with_len}
+use Rattle.tso_program.specs.declared.instruction.Reg.{Reg}
+use Rattle.tso_program.specs.declared.instruction.Reg.TheVariants.{Eax, Ebx, Ecx, Edx, Esi, Edi}
+use Rattle.tso_program.specs.Instructions.{number}
+use Rattle.litmus_syntax.specs.Views.{PlaceView, Location, Register, EntryView, CodeView, LoadImm, Copy, Load, StoreImm, Store, Fence, CellView, BodyView, SignView, Atom, True, And, Open, Close}
+use Rattle.litmus_syntax.specs.Places.{same_place}
+use Rattle.litmus_syntax.proofs.SeenLaws.{same_place_is, same_place_itself}
+use Rattle.litmus_text.specs.Names.{Names, all_registers, with_name, in_order}
+use Rattle.litmus_text.specs.Places.{code_places, cell_places, cells_places, row_places, sign_places, entry_place, places, location_name, is_register, names_of}
+use Rattle.litmus_text.specs.Outcomes.{is_named}
+use Rattle.litmus_text.specs.Meaning.{first_value}
+use Rattle.litmus_text.proofs.NamesOnce.{Stands}
+use Rattle.canonical_text.specs.Printable.{IsNumber, IsLocationName, IsPrintablePlace, IsPrintableEntry, IsPrintableCode, IsPrintableCell, IsPrintableRow, IsPrintableSign}
+use Rattle.canonical_text.proofs.ToldCode.{IsKnown}
+use Rattle.canonical_text.proofs.Lists.{all_of_both, each_among}
+
+-- ---- the places of a text can be printed
+
+entries_places : (threads : ℕ) (es : List EntryView) → AllByRecursion (IsPrintableEntry threads) es → AllByRecursion (IsPrintablePlace threads) (map entry_place es)
+entries_places threads [] h = tt
+entries_places threads (e ∷ es) h = (h.0.0, entries_places threads es h.1)
+
+code_places_printable : (threads t : ℕ) (c : CodeView) → t < threads → IsPrintableCode c → AllByRecursion (IsPrintablePlace threads) (code_places t c)
+code_places_printable threads t (LoadImm r n) lt h = (lt, tt)
+code_places_printable threads t (Copy r s) lt h = (lt, (lt, tt))
+code_places_printable threads t (Load r x) lt h = (lt, (h, tt))
+code_places_printable threads t (StoreImm x n) lt h = (h.0, tt)
+code_places_printable threads t (Store x r) lt h = (h, (lt, tt))
+code_places_printable threads t Fence lt h = tt
+
+cell_places_printable : (threads t : ℕ) (cell : CellView) → t < threads → IsPrintableCell cell → AllByRecursion (IsPrintablePlace threads) (cell_places t cell)
+cell_places_printable threads t None lt h = tt
+cell_places_printable threads t (Some c) lt h = code_places_printable threads t c lt h
+
+cells_places_printable : (threads a : ℕ) (cells : List CellView) → a + length cells ≤ threads → AllByRecursion IsPrintableCell cells → AllByRecursion (IsPrintablePlace threads) (cells_places a cells)
+cells_places_printable threads a [] le h = tt
+cells_places_printable threads a (cell ∷ cells) le h =
+    all_of_both (IsPrintablePlace threads) (cell_places a cell) (cells_places (a + 1) cells)
+    (cell_places_printable threads a cell (omega (arith, le)) h.0) (cells_places_printable threads (a + 1) cells (omega (arith, le)) h.1)
+
+rows_places : (threads : ℕ) (rows : List (List CellView)) → AllByRecursion (IsPrintableRow threads) rows → AllByRecursion (IsPrintablePlace threads) (flat_map row_places rows)
+rows_places threads [] h = tt
+rows_places threads (row ∷ rows) h =
+    all_of_both (IsPrintablePlace threads) (row_places row) (flat_map row_places rows) (cells_places_printable threads 0 row (omega (arith, h.0.0)) h.0.1) (rows_places threads rows h.1)
+
+signs_places : (threads : ℕ) (ss : List SignView) → AllByRecursion (IsPrintableSign threads) ss → AllByRecursion (IsPrintablePlace threads) (flat_map sign_places ss)
+signs_places threads [] h = tt
+signs_places threads (Atom p n ∷ ss) h = (h.0.0, signs_places threads ss h.1)
+signs_places threads (True ∷ ss) h = signs_places threads ss h.1
+signs_places threads (And ∷ ss) h = signs_places threads ss h.1
+signs_places threads (Open ∷ ss) h = signs_places threads ss h.1
+signs_places threads (Close ∷ ss) h = signs_places threads ss h.1
+
+pub places_printable : (b : BodyView) (ss : List SignView) → AllByRecursion (IsPrintableEntry b.threads) b.entries → AllByRecursion (IsPrintableRow b.threads) b.rows → AllByRecursion (IsPrintableSign b.threads) ss
+    → AllByRecursion (IsPrintablePlace b.threads) (places b ss)
+places_printable b ss entries rows signs =
+    all_of_both (IsPrintablePlace b.threads) (map entry_place b.entries) (flat_map row_places b.rows ++ flat_map sign_places ss) (entries_places b.threads b.entries entries)
+    (all_of_both (IsPrintablePlace b.threads) (flat_map row_places b.rows) (flat_map sign_places ss) (rows_places b.threads b.rows rows) (signs_places b.threads ss signs))
+
+-- ---- so can the names
+
+added_good : (names : List (List ℕ)) (x : List ℕ) (b : Bool) → AllByRecursion IsLocationName names → IsLocationName x → AllByRecursion IsLocationName (if b then names else names ++ x ∷ [])
+added_good names x true h g = h
+added_good names x false h g = all_of_both IsLocationName names (x ∷ []) h (g, tt)
+
+pub names_good : (threads : ℕ) (names : List (List ℕ)) (ps : List PlaceView) → AllByRecursion IsLocationName names → AllByRecursion (IsPrintablePlace threads) ps
+    → AllByRecursion IsLocationName (fold with_name names (filter_map location_name ps))
+names_good threads names [] h g = h
+names_good threads names (Location x ∷ ps) h g = names_good threads (with_name names x) ps (added_good names x (list_any (bytes_eq x) names) h g.0) g.1
+names_good threads names (Register t r ∷ ps) h g = names_good threads names ps h g.1
+
+-- ---- which registers are named
+
+at_register : (f : Reg → Bool) (r : Reg) → get_or (map f all_registers) (number r) false ≡ f r
+at_register f Eax = refl
+at_register f Ebx = refl
+at_register f Ecx = refl
+at_register f Edx = refl
+at_register f Esi = refl
+at_register f Edi = refl
+
+-- those that stand among the places
+pub named_is : (b : BodyView) (ss : List SignView) (t : ℕ) (r : Reg) → t < b.threads → is_named (names_of b ss) t r ≡ list_any (is_register t r) (places b ss)
+named_is b ss t r lt =
+    let flags : ℕ → List Bool = λ u. map (λ s. list_any (is_register u s) (places b ss)) all_registers in
+    ap (λ (bs : List Bool). slice_index_or bs (number r) false) (get_or-map-range_with_len flags 0 b.threads t t [] lt (omega arith))
+    ∙ at_register (λ s. list_any (is_register t s) (places b ss)) r
+
+or_true : (a : Bool) → (a || (true || false)) ≡ true
+or_true true = refl
+or_true false = refl
+
+-- a name that stands there already
+stays_there : (f : List ℕ → Bool) (names : List (List ℕ)) (x : List ℕ) (b : Bool) → list_any f names ≡ true → list_any f (if b then names else names ++ x ∷ []) ≡ true
+stays_there f names x true h = h
+stays_there f names x false h = list_any-append f names (x ∷ []) ∙ ap (λ (b : Bool). b || list_any f (x ∷ [])) h
+
+stays : (f : List ℕ → Bool) (names xs : List (List ℕ)) → list_any f names ≡ true → list_any f (fold with_name names xs) ≡ true
+stays f names [] h = h
+stays f names (x ∷ xs) h = stays f (with_name names x) xs (stays_there f names x (list_any (bytes_eq x) names) h)
+
+-- a name that comes
+comes : (names : List (List ℕ)) (x : List ℕ) (b : Bool) → list_any (bytes_eq x) names ≡ b → list_any (bytes_eq x) (if b then names else names ++ x ∷ []) ≡ true
+comes names x true h = h
+comes names x false h =
+    let itself : bytes_eq x x ≡ true = (bytes_eq-Decides x x).1 refl in
+    list_any-append (bytes_eq x) names (x ∷ []) ∙ ap (λ (b : Bool). list_any (bytes_eq x) names || (b || false)) itself ∙ or_true (list_any (bytes_eq x) names)
+
+-- each location stands among the names
+all_stand : (names : List (List ℕ)) (ps : List PlaceView) → AllByRecursion (Stands (fold with_name names (filter_map location_name ps))) ps
+all_stand names [] = tt
+all_stand names (Location x ∷ ps) =
+    (stays (bytes_eq x) (with_name names x) (filter_map location_name ps) (comes names x (list_any (bytes_eq x) names) refl), all_stand (with_name names x) ps)
+all_stand names (Register t r ∷ ps) = (tt, all_stand names ps)
+
+known_of : (b : BodyView) (ss : List SignView) (qs : List PlaceView) → AllByRecursion (IsPrintablePlace b.threads) qs → AllByRecursion (Stands (names_of b ss).locations) qs
+    → AllByRecursion (λ p. list_any (λ q. same_place q p) (places b ss) ≡ true) qs → AllByRecursion (IsKnown (names_of b ss).locations (is_named (names_of b ss))) qs
+known_of b ss [] printable stand among = tt
+known_of b ss (Location x ∷ qs) printable stand among = (stand.0, known_of b ss qs printable.1 stand.1 among.1)
+known_of b ss (Register t r ∷ qs) printable stand among = (named_is b ss t r printable.0 ∙ among.0, known_of b ss qs printable.1 stand.1 among.1)
+
+-- each place of a text is named
+pub places_known : (b : BodyView) (ss : List SignView) → AllByRecursion (IsPrintablePlace b.threads) (places b ss) → AllByRecursion (IsKnown (names_of b ss).locations (is_named (names_of b ss))) (places b ss)
+places_known b ss printable =
+    let ps : List PlaceView = places b ss in
+    known_of b ss ps printable (all_stand [] ps) (each_among same_place same_place_itself ps)
+
+-- ---- what the places hold
+
+found_small : (threads : ℕ) (p : PlaceView) (es : List EntryView) → AllByRecursion (IsPrintableEntry threads) es → IsNumber (first_value es p)
+found_small threads p [] h = omega arith
+found_small threads p (e ∷ es) h =
+    let value : Bool → ℕ = λ b. option_map_or (λ (x : EntryView). x.value) (cond b (Some e) (find (λ x. same_place x.place p) es)) 0 in
+    elim (cases_Bool (same_place e.place p)) [
+      | inl t ↦ subst IsNumber (sym (ap value t)) h.0.1
+      | inr f ↦ subst IsNumber (sym (ap value f)) (found_small threads p es h.1)
+    ]
+
+pub held_small : (threads : ℕ) (es : List EntryView) → AllByRecursion (IsPrintableEntry threads) es → (p : PlaceView) → IsNumber (first_value es p)
+held_small threads es h p = found_small threads p es h
+
+nothing_held : (p : PlaceView) (es : List EntryView) → list_any (λ q. same_place q p) (map entry_place es) ≡ false → first_value es p ≡ 0
+nothing_held p [] h = refl
+nothing_held p (e ∷ es) h =
+    let value : Bool → ℕ = λ b. option_map_or (λ (x : EntryView). x.value) (cond b (Some e) (find (λ x. same_place x.place p) es)) 0 in
+    let rest : Bool → Bool = λ b. b || list_any (λ q. same_place q p) (map entry_place es) in
+    elim (cases_Bool (same_place e.place p)) [
+      | inl t ↦ let clash : true ≡ false = sym (ap rest t) ∙ h in cc
+      | inr f ↦ ap value f ∙ nothing_held p es (sym (ap rest f) ∙ h)
+    ]
+
+neither : (a b : Bool) → (a || b) ≡ false → a ≡ false
+neither true b h = cc
+neither false b h = refl
+
+-- a register that is not named holds 0
+pub unnamed_zero : (b : BodyView) (ss : List SignView) (t : ℕ) (r : Reg) → t < b.threads → is_named (names_of b ss) t r ≡ false → first_value b.entries (Register t r) ≡ 0
+unnamed_zero b ss t r lt h =
+    let f : PlaceView → Bool = is_register t r in
+    let more : List PlaceView = flat_map row_places b.rows ++ flat_map sign_places ss in
+    let none : (list_any f (map entry_place b.entries) || list_any f more) ≡ false = sym (list_any-append f (map entry_place b.entries) more) ∙ sym (named_is b ss t r lt) ∙ h in
+    nothing_held (Register t r) b.entries (neither (list_any f (map entry_place b.entries)) (list_any f more) none)

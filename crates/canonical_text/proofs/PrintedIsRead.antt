@@ -1,0 +1,37 @@
+-- Parts that can be printed are the parts of their canonical text.
+use Rattle.std.proofs.Common.{◌≡◌, ℕ, List, [], ◌∷◌, ◌++◌, codes, refl, ap, append_assoc, lit<}
+use Rattle.std.specs.Str.{IsUtf8}
+use Rattle.std.proofs.lemmas.Str.{IsUtf8-from_ascii, IsAscii-append}
+use Rattle.std.proofs.lemmas.List.{append-nil}
+use Rattle.text_tokens.specs.Pieces.{text_of, tokens_of, AreApart}
+use Rattle.text_tokens.proofs.PieceLaws.{pieces_lex}
+use Rattle.conditions.specs.declared.condition.Quantifier.TheVariants.{Exists}
+use Rattle.litmus_syntax.specs.Views.{BodyView, SignView}
+use Rattle.litmus_text.specs.FirstLine.{is_visible, AreSome, IsHeading, IsFirstLine}
+use Rattle.canonical_text.specs.Spelling.{lines_pieces, condition_pieces, heading, text_with}
+use Rattle.canonical_text.specs.Printable.{IsPrintable, ArePrintable}
+use Rattle.canonical_text.specs.Laws.{HasParts, PrintedPartsAreRead}
+use Rattle.canonical_text.proofs.PiecesApart.{lines_apart}
+use Rattle.canonical_text.proofs.PiecesRelated.{body_related, condition_related}
+use Rattle.canonical_text.proofs.AsciiTexts.{ascii_pieces, ascii_heading}
+
+-- the first line gives the name
+heading_read : (name rest : List ℕ) → AreSome is_visible name → IsFirstLine (heading name ++ rest) name rest
+heading_read name rest h =
+    let same : codes "X86 " ++ name ≡ codes "X86" ++ ((32 ∷ []) ++ (name ++ [])) = simp append-nil in
+    let whole : heading name ++ rest ≡ (codes "X86 " ++ name) ++ 10 ∷ rest = ap (λ (bs : List ℕ). codes "X86 " ++ bs) (append_assoc name (10 ∷ []) rest) in
+    (codes "X86 " ++ name, whole, (32 ∷ [], [], same, (lit< tt, refl), h, refl))
+
+pub printed_is_read : PrintedPartsAreRead
+printed_is_read name body signs named h g =
+    let apart : AreApart (lines_pieces body Exists signs) = lines_apart body signs h g in
+    record {
+      lines = text_of (lines_pieces body Exists signs);
+      tokens = tokens_of (lines_pieces body Exists signs);
+      others = tokens_of (condition_pieces Exists signs);
+      utf8 = IsUtf8-from_ascii _ (IsAscii-append (heading name) (text_of (lines_pieces body Exists signs)) (ascii_heading name named.1) (ascii_pieces (lines_pieces body Exists signs) [] apart));
+      first_line = heading_read name (text_of (lines_pieces body Exists signs)) named;
+      lexes = pieces_lex (lines_pieces body Exists signs) apart;
+      begins = body_related body signs h;
+      ends = condition_related body.threads signs g;
+    }

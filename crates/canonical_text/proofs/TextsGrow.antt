@@ -1,0 +1,144 @@
+-- The text of pieces, one more part behind the others.
+use Rattle.std.proofs.Common.{◌≡◌, ℕ, ◌+◌, ◌<◌, zero, suc, List, [], ◌∷◌, ◌++◌, length, map, take, drop, get_or, codes, Option, Some, None, refl, sym, ap, ◌∙◌, arith, append_assoc}
+use Rattle.std.specs.Prelude.{nat_lt, if◌then◌else◌}
+use Rattle.std.specs.List.{flat_map, filter_map, cons_option, range_with_len}
+use Rattle.std.specs.Option.{option_to_list}
+use Rattle.std.proofs.lemmas.List.{append-nil, take_more, map_push, drop_more, length-map}
+use Rattle.std.proofs.lemmas.List.Elements.{filter_map-append}
+use Rattle.std.proofs.lemmas.List.FromFn.{map-range_with_len_more, length-range_with_len}
+use Rattle.std.proofs.lemmas.Grind.{flat_map-append}
+use Rattle.std.proofs.lemmas.Bool.{lt-ltb}
+use Rattle.text_tokens.specs.declared.token.Mark.TheVariants as the
+use Rattle.text_tokens.specs.Pieces.{Piece, text_of}
+use Rattle.conditions.specs.declared.condition.Quantifier.{Quantifier}
+use Rattle.litmus_syntax.specs.Views.{EntryView, SignView}
+use Rattle.text_tokens.proofs.PieceLaws.{text_of-append}
+use Rattle.tso_program.specs.declared.listing.Thread.{Thread}
+use Rattle.litmus_text.specs.Names.{Names}
+use Rattle.canonical_text.specs.Spelling.{space, line_end, sign, entry_pieces, initial_pieces, next_column, joined, sign_pieces, quantifier_pieces, condition_pieces}
+use Rattle.canonical_text.specs.Canonical.{thread_entries, register_entries}
+
+-- the texts of two lists of parts
+pub text_of_all : {X : Type 0} (g : X → List Piece) (xs ys : List X) → text_of (flat_map g (xs ++ ys)) ≡ text_of (flat_map g xs) ++ text_of (flat_map g ys)
+text_of_all g xs ys = ap text_of (flat_map-append g xs ys) ∙ text_of-append (flat_map g xs) (flat_map g ys)
+
+-- behind a text, the texts of two lists of parts
+pub all_more : {X : Type 0} (g : X → List Piece) (bs : List ℕ) (xs ys : List X) → (bs ++ text_of (flat_map g xs)) ++ text_of (flat_map g ys) ≡ bs ++ text_of (flat_map g (xs ++ ys))
+all_more g bs xs ys = append_assoc bs (text_of (flat_map g xs)) (text_of (flat_map g ys)) ∙ ap (λ (cs : List ℕ). bs ++ cs) (sym (text_of_all g xs ys))
+
+-- one part more
+pub one_more : {X : Type 0} (g : X → List Piece) (bs : List ℕ) (xs : List X) (x : X) → (bs ++ text_of (flat_map g xs)) ++ text_of (g x) ≡ bs ++ text_of (flat_map g (xs ++ x ∷ []))
+one_more g bs xs x =
+    ap (λ (ps : List Piece). (bs ++ text_of (flat_map g xs)) ++ text_of ps) (sym (append-nil (g x))) ∙ all_more g bs xs (x ∷ [])
+
+-- the part of one more number
+pub number_more : {X : Type 0} (g : X → List Piece) (f : ℕ → X) (bs : List ℕ) (n : ℕ)
+    → (bs ++ text_of (flat_map g (map f (range_with_len 0 n)))) ++ text_of (g (f n)) ≡ bs ++ text_of (flat_map g (map f (range_with_len 0 (n + 1))))
+number_more {X} g f bs n =
+    one_more g bs (map f (range_with_len 0 n)) (f n) ∙ ap (λ (xs : List X). bs ++ text_of (flat_map g xs)) (sym (map-range_with_len_more f 0 n n (omega arith)))
+
+-- the parts that one more element gives
+pub element_more : {X Y : Type 0} (g : X → List Piece) (f : Y → List X) (bs : List ℕ) (ys : List Y) (i : ℕ) (d : Y) → i < length ys
+    → (bs ++ text_of (flat_map g (flat_map f (take i ys)))) ++ text_of (flat_map g (f (get_or ys i d))) ≡ bs ++ text_of (flat_map g (flat_map f (take (i + 1) ys)))
+element_more {X} g f bs ys i d lt =
+    let front : List X = flat_map f (take i ys) in
+    let same : front ++ f (get_or ys i d) ≡ flat_map f (take (i + 1) ys) =
+    ap (λ (xs : List X). front ++ xs) (sym (append-nil (f (get_or ys i d)))) ∙ sym (flat_map-append f (take i ys) (get_or ys i d ∷ [])) ∙ ap (flat_map f) (sym (take_more ys i d lt)) in
+    all_more g bs front (f (get_or ys i d)) ∙ ap (λ (xs : List X). bs ++ text_of (flat_map g xs)) same
+
+given_alone : {Y : Type 0} (o : Option Y) → cons_option o [] ≡ option_to_list o
+given_alone (Some y) = refl
+given_alone None = refl
+
+-- the part that one more element may give
+pub given_more : {X Y Z : Type 0} (g : Y → List Piece) (h : X → Option Y) (view : Z → X) (bs : List ℕ) (zs : List Z) (i : ℕ) (d : Z) → i < length zs
+    → (bs ++ text_of (flat_map g (filter_map h (map view (take i zs))))) ++ text_of (flat_map g (option_to_list (h (view (get_or zs i d)))))
+    ≡ bs ++ text_of (flat_map g (filter_map h (map view (take (i + 1) zs))))
+given_more {X} {Y} {Z} g h view bs zs i d lt =
+    let x : X = view (get_or zs i d) in
+    let front : List Y = filter_map h (map view (take i zs)) in
+    let same : front ++ option_to_list (h x) ≡ filter_map h (map view (take (i + 1) zs)) =
+    ap (λ (ys : List Y). front ++ ys) (sym (given_alone (h x)))
+    ∙ sym (filter_map-append h (map view (take i zs)) (x ∷ []))
+    ∙ ap (filter_map h) (sym (map_push view (take i zs) (get_or zs i d)))
+    ∙ ap (λ (ws : List Z). filter_map h (map view ws)) (sym (take_more zs i d lt)) in
+    all_more g bs front (option_to_list (h x)) ∙ ap (λ (ys : List Y). bs ++ text_of (flat_map g ys)) same
+
+-- ---- columns
+
+-- ` | `, if a column stands before
+abbrev pub bar_at : ℕ → List ℕ
+bar_at n = if nat_lt 0 n then codes " | " else []
+
+bar_behind : (n : ℕ) → 0 < n → bar_at n ≡ codes " | "
+bar_behind n h = rw (lt-ltb 0 n h) refl
+
+joined_push : (columns : List (List Piece)) (ps : List Piece) → text_of (joined (columns ++ ps ∷ [])) ≡ (text_of (joined columns) ++ bar_at (length columns)) ++ text_of ps
+joined_push [] ps = ap text_of (append-nil ps)
+joined_push (qs ∷ columns) ps =
+    let more : List Piece = flat_map next_column columns in
+    let same : qs ++ flat_map next_column (columns ++ ps ∷ []) ≡ (qs ++ more) ++ next_column ps =
+    ap (λ (rs : List Piece). qs ++ rs) (flat_map-append next_column columns (ps ∷ []) ∙ ap (λ (rs : List Piece). more ++ rs) (append-nil (next_column ps)))
+    ∙ sym (append_assoc qs more (next_column ps)) in
+    ap text_of same ∙ text_of-append (qs ++ more) (next_column ps) ∙ sym (append_assoc (text_of (qs ++ more)) (codes " | ") (text_of ps))
+    ∙ ap (λ (bar : List ℕ). (text_of (qs ++ more) ++ bar) ++ text_of ps) (sym (bar_behind (suc (length columns)) (omega arith)))
+
+-- one column more
+pub column_more : (bs : List ℕ) (columns next : List (List Piece)) (ps : List Piece) (n : ℕ) → length columns ≡ n → next ≡ columns ++ ps ∷ []
+    → ((bs ++ text_of (joined columns)) ++ bar_at n) ++ text_of ps ≡ bs ++ text_of (joined next)
+column_more bs columns next ps n count same =
+    ap (λ (cs : List ℕ). cs ++ text_of ps) (append_assoc bs (text_of (joined columns)) (bar_at n))
+    ∙ append_assoc bs (text_of (joined columns) ++ bar_at n) (text_of ps)
+    ∙ ap (λ (m : ℕ). bs ++ ((text_of (joined columns) ++ bar_at m) ++ text_of ps)) (sym count)
+    ∙ ap (λ (cs : List ℕ). bs ++ cs) (sym (joined_push columns ps) ∙ ap (λ (cs : List (List Piece)). text_of (joined cs)) (sym same))
+
+-- one number's column more
+pub number_column_more : (g : ℕ → List Piece) (bs : List ℕ) (n : ℕ)
+    → ((bs ++ text_of (joined (map g (range_with_len 0 n)))) ++ bar_at n) ++ text_of (g n) ≡ bs ++ text_of (joined (map g (range_with_len 0 (n + 1))))
+number_column_more g bs n =
+    column_more bs (map g (range_with_len 0 n)) (map g (range_with_len 0 (n + 1))) (g n) n (length-map (range_with_len 0 n) g ∙ length-range_with_len 0 n) (map-range_with_len_more g 0 n n (omega arith))
+
+-- one item's column more
+pub item_column_more : {X : Type 0} (g : X → List Piece) (f : ℕ → X) (bs : List ℕ) (n : ℕ)
+    → ((bs ++ text_of (joined (map g (map f (range_with_len 0 n))))) ++ bar_at n) ++ text_of (g (f n)) ≡ bs ++ text_of (joined (map g (map f (range_with_len 0 (n + 1)))))
+item_column_more {X} g f bs n =
+    let xs : List X = map f (range_with_len 0 n) in
+    column_more bs (map g xs) (map g (map f (range_with_len 0 (n + 1)))) (g (f n)) n (length-map xs g ∙ length-map (range_with_len 0 n) f ∙ length-range_with_len 0 n)
+    (ap (map g) (map-range_with_len_more f 0 n n (omega arith)) ∙ map_push g xs (f n))
+
+-- ---- registers
+
+-- one thread more
+pub thread_more : (names : Names) (threads : List Thread) (t : ℕ) (d : Thread) → t < length threads
+    → text_of (flat_map entry_pieces (thread_entries names t (get_or threads t d).registers)) ++ text_of (flat_map entry_pieces (register_entries names (t + 1) (drop (t + 1) threads)))
+    ≡ text_of (flat_map entry_pieces (register_entries names t (drop t threads)))
+thread_more names threads t d lt =
+    sym (text_of_all entry_pieces (thread_entries names t (get_or threads t d).registers) (register_entries names (t + 1) (drop (t + 1) threads)))
+    ∙ ap (λ (ths : List Thread). text_of (flat_map entry_pieces (register_entries names t ths))) (sym (drop_more threads t d lt))
+
+-- ---- wholes
+
+-- pieces behind pieces, behind a text
+pub grown : (bs : List ℕ) (ps qs : List Piece) → (bs ++ text_of ps) ++ text_of qs ≡ bs ++ text_of (ps ++ qs)
+grown bs ps qs = append_assoc bs (text_of ps) (text_of qs) ∙ ap (λ (cs : List ℕ). bs ++ cs) (sym (text_of-append ps qs))
+
+-- initial values in their braces
+pub braces : (bs : List ℕ) (es fs : List EntryView)
+    → (((bs ++ 123 ∷ []) ++ text_of (flat_map entry_pieces es)) ++ text_of (flat_map entry_pieces fs)) ++ codes " }\n" ≡ bs ++ text_of (initial_pieces (es ++ fs))
+braces bs es fs =
+    ap (λ (cs : List ℕ). cs ++ codes " }\n") (all_more entry_pieces (bs ++ 123 ∷ []) es fs)
+    ∙ grown (bs ++ 123 ∷ []) (flat_map entry_pieces (es ++ fs)) (space ∷ sign the.CloseBrace ∷ line_end ∷ [])
+    ∙ append_assoc bs (123 ∷ []) (text_of (flat_map entry_pieces (es ++ fs) ++ space ∷ sign the.CloseBrace ∷ line_end ∷ []))
+
+-- initial values, header row and rows
+pub body_grown : (bs : List ℕ) (ps qs rs : List Piece) → ((bs ++ text_of ps) ++ text_of qs) ++ text_of rs ≡ bs ++ text_of (ps ++ (qs ++ rs))
+body_grown bs ps qs rs = grown (bs ++ text_of ps) qs rs ∙ grown bs ps (qs ++ rs)
+
+-- a quantifier and signs
+pub condition_grown : (bs : List ℕ) (q : Quantifier) (ss : List SignView)
+    → (((bs ++ text_of (quantifier_pieces q)) ++ 32 ∷ []) ++ text_of (flat_map sign_pieces ss)) ++ 10 ∷ [] ≡ bs ++ text_of (condition_pieces q ss)
+condition_grown bs q ss =
+    let front : List ℕ = bs ++ text_of (quantifier_pieces q) in
+    grown (front ++ 32 ∷ []) (flat_map sign_pieces ss) (line_end ∷ [])
+    ∙ append_assoc front (32 ∷ []) (text_of (flat_map sign_pieces ss ++ line_end ∷ []))
+    ∙ grown bs (quantifier_pieces q) (space ∷ (flat_map sign_pieces ss ++ line_end ∷ []))

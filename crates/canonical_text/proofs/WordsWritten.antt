@@ -1,0 +1,84 @@
+-- The words that are written are words, and are read as what they stand for.
+use Rattle.std.proofs.Common.{◌≡◌, ℕ, ◌≤◌, Bool, true, false, ◌||◌, ◌&&◌, List, [], ◌∷◌, codes, Some, refl, sym, ap, ◌∙◌, arith}
+use Rattle.std.specs.List.{list_all}
+use Rattle.std.specs.Char.{is_ascii_digit}
+use Rattle.std.specs.Fmt.{decimal}
+use Rattle.std.proofs.lemmas.Fmt.{digits_decimal}
+use Rattle.text_tokens.specs.Bytes.{is_letter, is_word_byte}
+use Rattle.text_tokens.specs.Lexing.{IsWord}
+use Rattle.text_tokens.proofs.NumberLaws.{own}
+use Rattle.tso_program.specs.declared.instruction.Reg.{Reg}
+use Rattle.tso_program.specs.declared.instruction.Reg.TheVariants.{Eax, Ebx, Ecx, Edx, Esi, Edi}
+use Rattle.litmus_syntax.specs.Words.{reg_of, opens_condition, is_mov, is_mfence, column_name}
+use Rattle.litmus_text.specs.Outcomes.{register_name}
+
+-- ---- words
+
+pub mov_word : IsWord (codes "MOV")
+mov_word = (refl, refl)
+
+pub mfence_word : IsWord (codes "MFENCE")
+mfence_word = (refl, refl)
+
+pub exists_word : IsWord (codes "exists")
+exists_word = (refl, refl)
+
+pub true_word : IsWord (codes "true")
+true_word = (refl, refl)
+
+pub register_word : (r : Reg) → IsWord (register_name r)
+register_word Eax = (refl, refl)
+register_word Ebx = (refl, refl)
+register_word Ecx = (refl, refl)
+register_word Edx = (refl, refl)
+register_word Esi = (refl, refl)
+register_word Edi = (refl, refl)
+
+or_true : (a b : Bool) → b ≡ true → (a || b) ≡ true
+or_true true b h = refl
+or_true false b h = h
+
+and_first : (a b : Bool) → (a && b) ≡ true → a ≡ true
+and_first true b h = refl
+and_first false b h = cc
+
+and_second : (a b : Bool) → (a && b) ≡ true → b ≡ true
+and_second true b h = h
+and_second false b h = cc
+
+both_true : (a b : Bool) → a ≡ true → b ≡ true → (a && b) ≡ true
+both_true true b h g = g
+both_true false b h g = h
+
+-- digits may stand in a word
+digits_in_word : (ds : List ℕ) → list_all is_ascii_digit ds ≡ true → list_all is_word_byte ds ≡ true
+digits_in_word [] h = refl
+digits_in_word (d ∷ ds) h =
+    both_true (is_word_byte d) (list_all is_word_byte ds) (or_true (is_letter d) (is_ascii_digit d) (and_first (is_ascii_digit d) (list_all is_ascii_digit ds) h))
+    (digits_in_word ds (and_second (is_ascii_digit d) (list_all is_ascii_digit ds) h))
+
+pub column_word : (t : ℕ) → t ≤ 4294967295 → IsWord (column_name t)
+column_word t h = (refl, digits_in_word (decimal t) (digits_decimal own t (omega (arith, h))))
+
+-- ---- what they stand for
+
+pub moves : is_mov (codes "MOV") ≡ true
+unfolding is_mov
+moves = refl
+
+pub fences : is_mfence (codes "MFENCE") ≡ true
+unfolding is_mfence
+fences = refl
+
+pub opens : opens_condition (codes "exists") ≡ true
+unfolding opens_condition
+opens = refl
+
+pub register_named : (r : Reg) → reg_of (register_name r) ≡ Some r
+unfolding reg_of
+register_named Eax = refl
+register_named Ebx = refl
+register_named Ecx = refl
+register_named Edx = refl
+register_named Esi = refl
+register_named Edi = refl

@@ -1,0 +1,17 @@
+use Rattle.std.proofs.Common.{ℕ, List, ◌++◌, ◌∷◌, [], codes, ap, ◌∙◌}
+use Rattle.std.specs.List.{flat_map}
+use Rattle.text_tokens.specs.Pieces.{text_of}
+use Rattle.canonical_text.specs.Spelling.{entry_pieces}
+use Rattle.canonical_text.specs.Canonical.{location_entries, register_entries}
+use Rattle.canonical_text.proofs.TextsGrow.{braces}
+use Rattle.canonical_text.proofs.entries.push_initial.Goals as goal
+
+pub returns : goal.returns
+returns c =
+    let locations = location_entries c.args.names.now.locations c.args.memory.now in
+    let registers = register_entries c.args.names.now 0 c.args.threads.now in
+    c.in_ok-extend_from_slice.ensures.items
+    ∙ ap (λ (bs : List ℕ). bs ++ codes " }\n") (c.in_ok-push_registers.ensures
+    ∙ ap (λ (bs : List ℕ). bs ++ text_of (flat_map entry_pieces registers)) (c.in_ok-push_locations.ensures
+    ∙ ap (λ (bs : List ℕ). bs ++ text_of (flat_map entry_pieces locations)) c.in_ok-push.ensures.items))
+    ∙ braces c.args.out.now.items locations registers

@@ -1,0 +1,10 @@
+use Rattle.std.proofs.Common.{◌≡◌, ◌++◌, map}
+use Rattle.std.specs.List.{flat_map, range_with_len}
+use Rattle.text_tokens.specs.Pieces.{text_of}
+use Rattle.canonical_text.specs.Spelling.{entry_pieces}
+use Rattle.canonical_text.specs.Canonical.{location_entry}
+use Rattle.canonical_text.proofs.entries.push_locations.Given as goal
+
+-- the locations so far
+abbrev pub invariant-loop-location : goal.invariant-loop-location
+invariant-loop-location l = l.out.items ≡ l.initial.out.items ++ text_of (flat_map entry_pieces (map (location_entry l.names.locations l.memory) (range_with_len 0 l.location)))

@@ -1,0 +1,21 @@
+use Rattle.std.proofs.Common.{ℕ, List, ◌++◌, ◌+◌, drop, get_or, ap, ◌∙◌, append_assoc}
+use Rattle.std.specs.List.{flat_map}
+use Rattle.text_tokens.specs.Pieces.{text_of}
+use Rattle.tso_program.specs.declared.listing.Thread.{Thread}
+use Rattle.canonical_text.specs.Spelling.{entry_pieces}
+use Rattle.canonical_text.specs.Canonical.{thread_entries, register_entries}
+use Rattle.canonical_text.proofs.TextsGrow.{thread_more}
+use Rattle.canonical_text.proofs.entries.push_registers.Goals as goal
+
+pub loop-t-preserved : goal.loop-t-preserved
+loop-t-preserved c =
+    let names = c.args.names.now in
+    let threads = c.args.threads.now in
+    let t = c.loop-t.t in
+    let d = c.index-threads-t.result in
+    let here : Thread → List ℕ = λ thread. text_of (flat_map entry_pieces (thread_entries names t thread.registers)) in
+    let rest : List ℕ = text_of (flat_map entry_pieces (register_entries names (t + 1) (drop (t + 1) threads))) in
+    ap (λ (bs : List ℕ). bs ++ rest) (c.in_ok-push_thread.ensures ∙ ap (λ (thread : Thread). c.loop-t.out.items ++ here thread) c.index-threads-t.is)
+    ∙ append_assoc c.loop-t.out.items (here (get_or threads t d)) rest
+    ∙ ap (λ (bs : List ℕ). c.loop-t.out.items ++ bs) (thread_more names threads t d c.loop-t-test.true)
+    ∙ c.loop-t.invariant

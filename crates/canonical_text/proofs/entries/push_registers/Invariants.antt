@@ -1,0 +1,12 @@
+use Rattle.std.proofs.Common.{◌≡◌, ◌++◌, drop}
+use Rattle.std.specs.List.{flat_map}
+use Rattle.text_tokens.specs.Pieces.{text_of}
+use Rattle.canonical_text.specs.Spelling.{entry_pieces}
+use Rattle.canonical_text.specs.Canonical.{register_entries}
+use Rattle.canonical_text.proofs.entries.push_registers.Given as goal
+
+-- what is written and what is left are the whole
+abbrev pub invariant-loop-t : goal.invariant-loop-t
+invariant-loop-t l =
+    l.out.items ++ text_of (flat_map entry_pieces (register_entries l.names l.t (drop l.t l.threads)))
+    ≡ l.initial.out.items ++ text_of (flat_map entry_pieces (register_entries l.names 0 l.threads))

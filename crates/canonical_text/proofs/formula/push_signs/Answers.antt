@@ -1,0 +1,22 @@
+use Rattle.std.proofs.Common.{ℕ, List, ◌++◌, get_or, ap, ◌∙◌}
+use Rattle.std.specs.List.{flat_map}
+use Rattle.std.specs.Option.{option_to_list}
+use Rattle.text_tokens.specs.Pieces.{text_of}
+use Rattle.tso_program.specs.declared.instruction.Reg.TheVariants.{Eax}
+use Rattle.conditions.specs.declared.atom.Atom.TheVariants as atom
+use Rattle.conditions.specs.declared.token.Token.{Token}
+use Rattle.conditions.specs.declared.token.Token.TheVariants as token
+use Rattle.conditions.specs.Tokens.{sign_of}
+use Rattle.canonical_text.specs.Spelling.{sign_pieces}
+use Rattle.canonical_text.specs.Canonical.{sign_named}
+use Rattle.canonical_text.proofs.TextsGrow.{given_more}
+use Rattle.canonical_text.proofs.formula.push_signs.Goals as goal
+
+pub loop-sign-preserved : goal.loop-sign-preserved
+loop-sign-preserved c =
+    let named = sign_named c.args.names.now.locations in
+    let first : Token = token.Atom (atom.Register 0 Eax 0) in
+    let i = c.loop-sign.sign-index in
+    c.in_ok-push_sign.ensures
+    ∙ ap (λ (bs : List ℕ). bs ++ text_of (flat_map sign_pieces (option_to_list (named (sign_of (get_or c.args.signs.now i first)))))) c.loop-sign.invariant
+    ∙ given_more sign_pieces named sign_of c.args.out.now.items c.args.signs.now i first c.loop-sign-test.true

@@ -1,0 +1,40 @@
+-- What is printed is read again.
+use Rattle.std.specs.Prelude.{ℕ, List}
+use Rattle.std.specs.Str.{IsUtf8}
+use Rattle.gap_sets.specs.Gaps.{SetOfGaps}
+use Rattle.text_tokens.specs.Tokens.{Tok}
+use Rattle.text_tokens.specs.Lexing.{Lexes}
+use Rattle.conditions.specs.declared.condition.Quantifier.TheVariants.{Exists}
+use Rattle.litmus_syntax.specs.Views.{BodyView, SignView}
+use Rattle.litmus_syntax.specs.Grammar.{IsBody, IsSigns}
+use Rattle.litmus_text.specs.FirstLine.{is_visible, AreSome, IsFirstLine}
+use Rattle.tso_program.specs.declared.listing.Listing.{Listing}
+use Rattle.litmus_text.specs.declared.litmus.Litmus.{Litmus}
+use Rattle.litmus_text.specs.Texts.{IsLitmus, IsFencedLitmus}
+use Rattle.canonical_text.specs.Canonical.{fenced_at, canonical_text}
+use Rattle.canonical_text.specs.Spelling.{text_with}
+use Rattle.canonical_text.specs.Printable.{IsPrintable, ArePrintable}
+
+-- The text is UTF-8, its first line gives this name, and its other lines are the tokens of this body and these signs.
+pub record HasParts (text name : List ℕ) (body : BodyView) (signs : List SignView) : Type 0 where
+  pub lines : List ℕ
+  pub tokens : List Tok
+  pub others : List Tok
+  pub utf8 : IsUtf8 text
+  pub first_line : IsFirstLine text name lines
+  pub lexes : Lexes lines tokens
+  pub begins : IsBody body tokens others
+  pub ends : IsSigns body.threads signs others
+
+-- Parts that can be printed are the parts of their canonical text.
+abbrev pub PrintedPartsAreRead : Type 0
+PrintedPartsAreRead =
+    (name : List ℕ) (body : BodyView) (signs : List SignView) → AreSome is_visible name → IsPrintable body → ArePrintable body.threads signs
+    → HasParts (text_with name body Exists signs) name body signs
+
+-- The canonical text of what a text stands for, fenced at a set of gaps, is the text of that fenced program: with the same
+-- name, names and condition.
+abbrev pub CanonicalTextIsRead : Type 0
+CanonicalTextIsRead =
+    (text : List ℕ) (litmus : Litmus Listing) → IsLitmus text litmus → (gaps : SetOfGaps)
+    → IsFencedLitmus (canonical_text (fenced_at gaps litmus)) (fenced_at gaps litmus)

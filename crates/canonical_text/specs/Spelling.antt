@@ -1,0 +1,147 @@
+-- How each part of a litmus text is written: its canonical text, in pieces.
+use Rattle.std.specs.Prelude.{ℕ, List, [], ◌∷◌, ◌++◌, map, codes, Some, None}
+use Rattle.std.specs.List.{flat_map, range_with_len}
+use Rattle.text_tokens.specs.declared.token.Mark.{Mark}
+use Rattle.text_tokens.specs.declared.token.Mark.TheVariants as the
+use Rattle.text_tokens.specs.Tokens.{Word, Number, Sign}
+use Rattle.text_tokens.specs.Pieces.{Piece, Gap, Part, text_of}
+use Rattle.tso_program.specs.declared.instruction.Reg.{Reg}
+use Rattle.conditions.specs.declared.condition.Quantifier.{Quantifier}
+use Rattle.conditions.specs.declared.condition.Quantifier.TheVariants.{Exists, NotExists, Forall}
+use Rattle.litmus_syntax.specs.Words.{column_name}
+use Rattle.litmus_syntax.specs.Views.{PlaceView, Location, Register, EntryView, CodeView, LoadImm, Copy, Load, StoreImm, Store, Fence, CellView, BodyView, SignView, Atom, True, And, Open, Close}
+use Rattle.litmus_text.specs.Outcomes.{register_name}
+
+-- ---- white space and single tokens
+
+abbrev pub space : Piece
+space = Gap 32
+
+abbrev pub line_end : Piece
+line_end = Gap 10
+
+abbrev pub word : List ℕ → Piece
+word w = Part (Word w)
+
+abbrev pub number : ℕ → Piece
+number n = Part (Number n)
+
+abbrev pub sign : Mark → Piece
+sign m = Part (Sign m)
+
+-- ---- places
+
+-- a register's name, in capitals
+abbrev pub register_pieces : Reg → List Piece
+register_pieces r = word (register_name r) ∷ []
+
+-- `[x]`
+abbrev pub memory_pieces : List ℕ → List Piece
+memory_pieces x = sign the.OpenBracket ∷ word x ∷ sign the.CloseBracket ∷ []
+
+-- `x`; `t:REG`
+abbrev pub place_pieces : PlaceView → List Piece
+place_pieces (Location x) = word x ∷ []
+place_pieces (Register t r) = number t ∷ sign the.Colon ∷ register_pieces r
+
+-- `x=n`; `t:REG=n`
+abbrev pub valued_pieces : PlaceView → ℕ → List Piece
+valued_pieces p n = place_pieces p ++ sign the.Equals ∷ number n ∷ []
+
+-- ---- initial values
+
+-- ` x=n;`; ` t:REG=n;`
+abbrev pub entry_pieces : EntryView → List Piece
+entry_pieces e = space ∷ (valued_pieces e.place e.value ++ sign the.Semicolon ∷ [])
+
+-- `{`, the entries, ` }`
+abbrev pub initial_pieces : List EntryView → List Piece
+initial_pieces es = sign the.OpenBrace ∷ (flat_map entry_pieces es ++ space ∷ sign the.CloseBrace ∷ line_end ∷ [])
+
+-- ---- lines of columns
+
+-- ` | ` and a column
+abbrev pub next_column : List Piece → List Piece
+next_column ps = space ∷ sign the.Bar ∷ space ∷ ps
+
+-- columns with ` | ` between them
+abbrev pub joined : List (List Piece) → List Piece
+joined [] = []
+joined (ps ∷ columns) = ps ++ flat_map next_column columns
+
+-- ` ;`, which ends a line of columns
+abbrev pub row_end : List Piece
+row_end = space ∷ sign the.Semicolon ∷ line_end ∷ []
+
+abbrev pub line_of : List (List Piece) → List Piece
+line_of columns = joined columns ++ row_end
+
+-- `P0 | P1 | .. ;`
+abbrev pub column_pieces : ℕ → List Piece
+column_pieces t = word (column_name t) ∷ []
+
+abbrev pub header_pieces : ℕ → List Piece
+header_pieces threads = line_of (map column_pieces (range_with_len 0 threads))
+
+-- ---- instructions
+
+-- `$n`
+abbrev pub immediate_pieces : ℕ → List Piece
+immediate_pieces n = sign the.Dollar ∷ number n ∷ []
+
+-- `MOV a,b`
+abbrev pub move_pieces : List Piece → List Piece → List Piece
+move_pieces to from = word (codes "MOV") ∷ space ∷ (to ++ sign the.Comma ∷ from)
+
+abbrev pub code_pieces : CodeView → List Piece
+code_pieces (LoadImm r n) = move_pieces (register_pieces r) (immediate_pieces n)
+code_pieces (Copy r s) = move_pieces (register_pieces r) (register_pieces s)
+code_pieces (Load r x) = move_pieces (register_pieces r) (memory_pieces x)
+code_pieces (StoreImm x n) = move_pieces (memory_pieces x) (immediate_pieces n)
+code_pieces (Store x r) = move_pieces (memory_pieces x) (register_pieces r)
+code_pieces Fence = word (codes "MFENCE") ∷ []
+
+-- nothing, or an instruction
+abbrev pub cell_pieces : CellView → List Piece
+cell_pieces None = []
+cell_pieces (Some c) = code_pieces c
+
+abbrev pub row_pieces : List CellView → List Piece
+row_pieces cells = line_of (map cell_pieces cells)
+
+-- initial values, header row, rows
+abbrev pub body_pieces : BodyView → List Piece
+body_pieces b = initial_pieces b.entries ++ (header_pieces b.threads ++ flat_map row_pieces b.rows)
+
+-- ---- the condition
+
+abbrev pub sign_pieces : SignView → List Piece
+sign_pieces (Atom p n) = valued_pieces p n
+sign_pieces True = word (codes "true") ∷ []
+sign_pieces And = space ∷ sign the.And ∷ space ∷ []
+sign_pieces Open = sign the.OpenParen ∷ []
+sign_pieces Close = sign the.CloseParen ∷ []
+
+-- `exists`, `~exists` or `forall`
+abbrev pub quantifier_pieces : Quantifier → List Piece
+quantifier_pieces Exists = word (codes "exists") ∷ []
+quantifier_pieces NotExists = sign the.Tilde ∷ word (codes "exists") ∷ []
+quantifier_pieces Forall = word (codes "forall") ∷ []
+
+-- the quantifier, and the signs of the formula
+abbrev pub condition_pieces : Quantifier → List SignView → List Piece
+condition_pieces q ss = quantifier_pieces q ++ space ∷ (flat_map sign_pieces ss ++ line_end ∷ [])
+
+-- ---- the whole
+
+-- the lines behind the first
+abbrev pub lines_pieces : BodyView → Quantifier → List SignView → List Piece
+lines_pieces b q ss = body_pieces b ++ condition_pieces q ss
+
+-- the first line: `X86 ` and the test's name
+abbrev pub heading : List ℕ → List ℕ
+heading name = codes "X86 " ++ (name ++ 10 ∷ [])
+
+-- a text of this name, with these parts
+abbrev pub text_with : List ℕ → BodyView → Quantifier → List SignView → List ℕ
+text_with name b q ss = heading name ++ text_of (lines_pieces b q ss)

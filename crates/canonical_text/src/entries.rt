@@ -1,0 +1,113 @@
+//! The initial values.
+ghost use Rattle.std.specs.Prelude.{◌≡◌, ◌<◌, ◌≤◌, ◌++◌, OnOk, length};
+ghost use Rattle.std.specs.List.{flat_map};
+ghost use Rattle.text_tokens.specs.Pieces.{text_of};
+ghost use Rattle.canonical_text.specs.Spelling.{entry_pieces, initial_pieces};
+ghost use Rattle.canonical_text.specs.Canonical.{location_entry, location_entries, named_entry, thread_entries, register_entries, entries_of};
+
+use crate::words::{name_at, push_location_value, push_register_value};
+use litmus_text::NameTable;
+use std::alloc::{AllocError, Global};
+use tso_program::{Reg, Thread};
+
+/// ` x=n;`
+fn push_location(
+    alloc: Global,
+    out: &mut Vec<u8>,
+    names: &NameTable,
+    memory: &[u32],
+    location: usize,
+) -> Result<(), AllocError>
+    requires { location < length memory.now }
+    ensures { OnOk result (out.new.items ≡ out.old.items ++ text_of (entry_pieces (location_entry names.now.locations memory.now location))) }
+{
+    out.push(b' ')?;
+    push_location_value(alloc, out, name_at(names, location), memory[location])?;
+    out.push(b';')?;
+    Ok(())
+}
+
+fn push_locations(
+    alloc: Global,
+    out: &mut Vec<u8>,
+    names: &NameTable,
+    memory: &[u32],
+) -> Result<(), AllocError>
+    ensures { OnOk result (out.new.items ≡ out.old.items ++ text_of (flat_map entry_pieces (location_entries names.now.locations memory.now))) }
+{
+    for location in 0..memory.len() {
+        push_location(alloc, out, names, memory, location)?;
+    }
+    Ok(())
+}
+
+/// ` t:REG=n;`, if the register is named.
+fn push_named(
+    alloc: Global,
+    out: &mut Vec<u8>,
+    names: &NameTable,
+    thread: usize,
+    values: [u32; 6],
+    register: Reg,
+) -> Result<(), AllocError>
+    requires { thread ≤ 255 }
+    ensures { OnOk result (out.new.items ≡ out.old.items ++ text_of (flat_map entry_pieces (named_entry names.now thread values register))) }
+{
+    if names.is_named(thread, register) {
+        let value = values[register.index()];
+        out.push(b' ')?;
+        push_register_value(alloc, out, thread as u32, register, value)?;
+        out.push(b';')?;
+    }
+    Ok(())
+}
+
+/// The named registers of a thread.
+fn push_thread(
+    alloc: Global,
+    out: &mut Vec<u8>,
+    names: &NameTable,
+    thread: usize,
+    values: [u32; 6],
+) -> Result<(), AllocError>
+    requires { thread ≤ 255 }
+    ensures { OnOk result (out.new.items ≡ out.old.items ++ text_of (flat_map entry_pieces (thread_entries names.now thread values))) }
+{
+    for register in Reg::ALL {
+        push_named(alloc, out, names, thread, values, register)?;
+    }
+    Ok(())
+}
+
+fn push_registers(
+    alloc: Global,
+    out: &mut Vec<u8>,
+    names: &NameTable,
+    threads: &[Thread],
+) -> Result<(), AllocError>
+    requires { length threads.now ≤ 255 }
+    ensures { OnOk result (out.new.items ≡ out.old.items ++ text_of (flat_map entry_pieces (register_entries names.now 0 threads.now))) }
+{
+    for (t, thread) in threads.iter().enumerate() {
+        push_thread(alloc, out, names, t, thread.registers)?;
+    }
+    Ok(())
+}
+
+/// The initial values of all locations, and of the registers that the text names.
+pub fn push_initial(
+    alloc: Global,
+    out: &mut Vec<u8>,
+    names: &NameTable,
+    threads: &[Thread],
+    memory: &[u32],
+) -> Result<(), AllocError>
+    requires { length threads.now ≤ 255 }
+    ensures { OnOk result (out.new.items ≡ out.old.items ++ text_of (initial_pieces (entries_of names.now (record { threads = threads.now; memory = memory.now })))) }
+{
+    out.push(b'{')?;
+    push_locations(alloc, out, names, memory)?;
+    push_registers(alloc, out, names, threads)?;
+    out.extend_from_slice(b" }\n")?;
+    Ok(())
+}

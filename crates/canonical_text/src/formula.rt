@@ -1,0 +1,94 @@
+//! The condition.
+ghost use Rattle.std.specs.Prelude.{◌≡◌, ◌++◌, OnOk, map};
+ghost use Rattle.std.specs.List.{flat_map, filter_map};
+ghost use Rattle.std.specs.Option.{option_to_list};
+ghost use Rattle.text_tokens.specs.Pieces.{text_of};
+ghost use Rattle.conditions.specs.Tokens.{sign_of};
+ghost use Rattle.canonical_text.specs.Spelling.{sign_pieces, quantifier_pieces, condition_pieces};
+ghost use Rattle.canonical_text.specs.Canonical.{atom_named, sign_named, signs_named};
+
+use crate::words::{name_at, push_location_value, push_register_value};
+use conditions::{Atom, Condition, Quantifier, Token};
+use litmus_text::NameTable;
+use std::alloc::{AllocError, Global};
+
+fn push_atom(
+    alloc: Global,
+    out: &mut Vec<u8>,
+    names: &NameTable,
+    atom: Atom,
+) -> Result<(), AllocError>
+    ensures { OnOk result (out.new.items ≡ out.old.items ++ text_of (sign_pieces (atom_named names.now.locations atom))) }
+{
+    match atom {
+        Atom::Register {
+            thread,
+            register,
+            value,
+        } => push_register_value(alloc, out, thread, register, value),
+        Atom::Location { location, value } => {
+            push_location_value(alloc, out, name_at(names, location as usize), value)
+        }
+    }
+}
+
+/// A sign; nothing for those that litmus texts have no words for.
+fn push_sign(
+    alloc: Global,
+    out: &mut Vec<u8>,
+    names: &NameTable,
+    sign: Token,
+) -> Result<(), AllocError>
+    ensures { OnOk result (out.new.items ≡ out.old.items ++ text_of (flat_map sign_pieces (option_to_list (sign_named names.now.locations (sign_of sign))))) }
+{
+    match sign {
+        Token::Atom(atom) => push_atom(alloc, out, names, atom),
+        Token::Const(true) => out.extend_from_slice(b"true"),
+        Token::And => out.extend_from_slice(b" /\\ "),
+        Token::Open => out.extend_from_slice(b"("),
+        Token::Close => out.extend_from_slice(b")"),
+        Token::Const(false) | Token::Not | Token::Or => Ok(()),
+    }
+}
+
+fn push_signs(
+    alloc: Global,
+    out: &mut Vec<u8>,
+    names: &NameTable,
+    signs: &[Token],
+) -> Result<(), AllocError>
+    ensures { OnOk result (out.new.items ≡ out.old.items ++ text_of (flat_map sign_pieces (filter_map (sign_named names.now.locations) (map sign_of signs.now)))) }
+{
+    for sign in signs {
+        push_sign(alloc, out, names, *sign)?;
+    }
+    Ok(())
+}
+
+fn push_quantifier(out: &mut Vec<u8>, quantifier: Quantifier) -> Result<(), AllocError>
+    ensures { OnOk result (out.new.items ≡ out.old.items ++ text_of (quantifier_pieces quantifier)) }
+{
+    match quantifier {
+        Quantifier::Exists => out.extend_from_slice(b"exists"),
+        Quantifier::NotExists => out.extend_from_slice(b"~exists"),
+        Quantifier::Forall => out.extend_from_slice(b"forall"),
+    }
+}
+
+/// The quantifier and the formula.
+pub fn push_condition(
+    alloc: Global,
+    out: &mut Vec<u8>,
+    names: &NameTable,
+    condition: &Condition,
+) -> Result<(), AllocError>
+    ensures { OnOk result (out.new.items ≡ out.old.items
+        ++ text_of (condition_pieces condition.now.quantifier (signs_named names.now.locations condition.now.formula))) }
+{
+    let signs = condition.formula.enclosed_tokens(alloc)?;
+    push_quantifier(out, condition.quantifier)?;
+    out.push(b' ')?;
+    push_signs(alloc, out, names, signs.as_slice())?;
+    out.push(b'\n')?;
+    Ok(())
+}

@@ -1,0 +1,15 @@
+//! The canonical text of a litmus test: one spelling for each, which reads back.
+#![tactic(auto)]
+
+mod entries;
+mod formula;
+mod laws;
+mod rows;
+mod words;
+mod writer;
+
+pub use laws::{canonical_text_is_read, printed_parts_are_read, store_buffering_is_written};
+pub use writer::write_litmus;
+
+#[cfg(test)]
+mod tests;

@@ -1,0 +1,80 @@
+//! Words and numbers at the end of a text.
+ghost use Rattle.std.specs.Prelude.{◌≡◌, ◌++◌, OnOk, slice_index_or};
+ghost use Rattle.text_tokens.specs.Pieces.{text_of};
+ghost use Rattle.litmus_text.specs.Outcomes.{register_name};
+ghost use Rattle.litmus_syntax.specs.Views.{Location, Register};
+ghost use Rattle.canonical_text.specs.Spelling.{register_pieces, valued_pieces};
+ghost use Rattle.canonical_text.specs.Canonical.{name_at};
+ghost use Rattle.std.specs.Fmt.{decimal};
+
+use litmus_text::NameTable;
+use std::alloc::{AllocError, Global};
+use tso_program::Reg;
+
+/// The register's name, in capitals.
+fn register_name(register: Reg) -> &'static [u8]
+    ensures { result.now ≡ register_name register }
+{
+    match register {
+        Reg::Eax => b"EAX",
+        Reg::Ebx => b"EBX",
+        Reg::Ecx => b"ECX",
+        Reg::Edx => b"EDX",
+        Reg::Esi => b"ESI",
+        Reg::Edi => b"EDI",
+    }
+}
+
+/// The name of the location with this number; none where the text has no such location.
+pub fn name_at(names: &NameTable, number: usize) -> &[u8]
+    ensures { result.now ≡ name_at names.now.locations number }
+{
+    match names.location(number) {
+        Some(name) => name,
+        None => b"",
+    }
+}
+
+pub fn push_number(alloc: Global, out: &mut Vec<u8>, number: u32) -> Result<(), AllocError>
+    ensures { OnOk result (out.new.items ≡ out.old.items ++ decimal number) }
+{
+    let text = format!(in alloc; "{number}")?;
+    out.extend_from_slice(text.as_bytes())
+}
+
+pub fn push_register(out: &mut Vec<u8>, register: Reg) -> Result<(), AllocError>
+    ensures { OnOk result (out.new.items ≡ out.old.items ++ text_of (register_pieces register)) }
+{
+    out.extend_from_slice(register_name(register))
+}
+
+/// `x=n`
+pub fn push_location_value(
+    alloc: Global,
+    out: &mut Vec<u8>,
+    name: &[u8],
+    value: u32,
+) -> Result<(), AllocError>
+    ensures { OnOk result (out.new.items ≡ out.old.items ++ text_of (valued_pieces (Location name.now) value)) }
+{
+    out.extend_from_slice(name)?;
+    out.push(b'=')?;
+    push_number(alloc, out, value)
+}
+
+/// `t:REG=n`
+pub fn push_register_value(
+    alloc: Global,
+    out: &mut Vec<u8>,
+    thread: u32,
+    register: Reg,
+    value: u32,
+) -> Result<(), AllocError>
+    ensures { OnOk result (out.new.items ≡ out.old.items ++ text_of (valued_pieces (Register thread register) value)) }
+{
+    push_number(alloc, out, thread)?;
+    out.push(b':')?;
+    push_register(out, register)?;
+    out.push(b'=')?;
+    push_number(alloc, out, value)
+}
