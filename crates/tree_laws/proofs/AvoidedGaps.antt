@@ -1,0 +1,39 @@
+-- A foreign run that passes no gap of a set leaves its outcome where the set is fenced.
+use Rattle.std.proofs.Common.{◌≡◌, ℕ, Bool, true, false, List, Option, Some, None, refl}
+use Rattle.std.specs.Option.{option_map_or}
+use Rattle.std.specs.FinSet as set
+use Rattle.gap_sets.specs.Gaps.{SetOfGaps}
+use Rattle.tso_program.specs.declared.listing.Listing.{Listing}
+use Rattle.tso_program.specs.declared.outcome.Outcome.{Outcome}
+use Rattle.tso_program.specs.Listings.{gap_number}
+use Rattle.tso_program.specs.Fences.{gaps_in}
+use Rattle.tso_machine.specs.declared.label.Label.{Label}
+use Rattle.tso_machine.specs.Machine.{Fenced, no_gaps, start, passes}
+use Rattle.tso_machine.specs.Outcomes.{IsForeignRun, LeavesOutcome}
+use Rattle.tso_machine.proofs.Avoided.{run_fenced}
+use Rattle.tree_laws.specs.GapTrees.{PassesGap}
+
+module _ (p : Listing) (gaps : SetOfGaps) (labels : List Label) where
+  -- the labels pass no gap of the set
+  abbrev pub Avoids : Type 0
+  Avoids = (gap : ℕ) → set.contains gaps gap ≡ true → ¬ PassesGap p labels gap
+
+  not_passed : Avoids → (t k : ℕ) → gaps_in p gaps t k ≡ true → passes p (Fenced no_gaps) (start p) labels t k ≡ false
+  not_passed avoids t k there = by_number (gap_number p.threads t k) refl there
+    where
+      by_test : (gap : ℕ) → gap_number p.threads t k ≡ Some gap → set.contains gaps gap ≡ true → (b : Bool) → passes p (Fenced no_gaps) (start p) labels t k ≡ b → b ≡ false
+      by_test gap e h false q = refl
+      by_test gap e h true q = absurd (avoids gap h (t, k, e, q))
+
+      by_number : (o : Option ℕ) → gap_number p.threads t k ≡ o → option_map_or (set.contains gaps) o false ≡ true → passes p (Fenced no_gaps) (start p) labels t k ≡ false
+      by_number None e h = absurd cc
+      by_number (Some gap) e h = by_test gap e h (passes p (Fenced no_gaps) (start p) labels t k) refl
+
+  pub leaves_outcome : (o : Outcome) → IsForeignRun p labels o → Avoids → LeavesOutcome p gaps
+  leaves_outcome o f avoids =
+      let (last, runs, ended, e) = f.is_run in
+      record {
+        outcome = o;
+        left = (labels, (last, run_fenced p (gaps_in p gaps) labels (start p) last runs (not_passed avoids), ended, e));
+        foreign = f.foreign;
+      }

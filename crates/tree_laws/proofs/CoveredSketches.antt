@@ -1,0 +1,99 @@
+-- A valid cover tree at a sketch covers it: each completion has made the choice of one of the children, or is closed by a cycle, or ends as told.
+use Rattle.std.proofs.Common.{ℕ, List, [], ◌∷◌, Contains, map, sym, subst, inl, inr}
+use Rattle.tso_program.specs.declared.listing.Listing.{Listing}
+use Rattle.tso_program.specs.declared.outcome.Outcome.{Outcome}
+use Rattle.tso_machine.specs.Machine.{Mode, Sequential, Fenced}
+use Rattle.candidate_executions.specs.declared.event.Event.{Event}
+use Rattle.candidate_executions.specs.declared.event.Kind.{Kind}
+use Rattle.candidate_executions.specs.declared.event.Kind.TheVariants as union
+use Rattle.candidate_executions.specs.Candidates.{Candidate}
+use Rattle.candidate_executions.specs.Consistency.{Edge, IsAcyclic, IsConsistent}
+use Rattle.candidate_executions.specs.Sketches.{Sketch, Completes, IsConsistentCompletion, IsSketch, IsPair, with_value, with_source, with_pair}
+use Rattle.candidate_executions.specs.Laws.{JumpForward}
+use Rattle.candidate_executions.proofs.Choices.{a_value_keeps_a_sketch, a_source_keeps_a_sketch, a_pair_keeps_a_sketch, each_has_a_value, each_has_a_source, each_has_an_order}
+use Rattle.candidate_executions.proofs.KnownEdges.{known_cycle_is_a_cycle}
+use Rattle.candidate_executions.proofs.MustEnd.{each_ends_so}
+use Rattle.tree_laws.specs.Trees.{Cover, Value, Source, Order, Cycle, Known, Covers, NoCover, MoreCovers}
+use Rattle.tree_laws.specs.CoverTrees.{event_of, IsOfMode, HasNextValues, HasSources, HasNoOrder, IsKnownCycle, MustEndAsNumber, IsValidCover, AreValidCovers, IsCovered}
+use Rattle.tree_laws.specs.Laws.{AValidCoverCovers}
+use Rattle.tree_laws.proofs.Lists.{none_here, first_or_later, mapped, found_is_here, value_of}
+
+-- a consistent candidate has no cycle of a union of its mode
+no_cycle : (p : Listing) (mode : Mode) (c : Candidate) (kind : Kind) → IsOfMode mode kind → IsConsistent p mode c → IsAcyclic (Edge p mode c kind)
+no_cycle p Sequential c union.Sequential of_mode consistent = consistent
+no_cycle p Sequential c union.Location of_mode consistent = absurd of_mode
+no_cycle p Sequential c union.Global of_mode consistent = absurd of_mode
+no_cycle p (Fenced gaps) c union.Sequential of_mode consistent = absurd of_mode
+no_cycle p (Fenced gaps) c union.Location of_mode consistent = consistent.0
+no_cycle p (Fenced gaps) c union.Global of_mode consistent = consistent.1
+
+-- a completion of one sketch that completes another
+of_other : (p : Listing) (mode : Mode) (k j : Sketch) (c : Candidate) → IsConsistentCompletion p mode k c → Completes j c → IsConsistentCompletion p mode j c
+of_other p mode k j c is completes = record { is_candidate = is.is_candidate; consistent = is.consistent; completes = completes }
+
+turned : (p : Listing) (mode : Mode) (k : Sketch) (d e : Event) → IsPair p mode k d e → IsPair p mode k e d
+turned p mode k d e (differ, (l, v, w, first, second, not_first, not_second)) = ((λ q. differ (sym q)), (l, w, v, second, first, not_second, not_first))
+
+module _ (p : Listing) (mode : Mode) (outcomes : List Outcome) (forward : JumpForward p.threads) where
+  abbrev Covered : Sketch → Type 0
+  Covered k = IsSketch p mode k → IsCovered p mode outcomes k
+
+  -- each of the sketches is
+  abbrev EachCovered : List Sketch → Type 0
+  EachCovered ks = (k : Sketch) → Contains ks k → Covered k
+
+  by_values : (k : Sketch) (t : ℕ) (values : List ℕ) → HasNextValues p mode k t values → EachCovered (map (with_value k t) values) → Covered k
+  by_values k t values has each fits c is =
+      let (v, is_value, completes) = each_has_a_value p mode k c t has.location forward fits is.is_candidate is.completes has.next in
+      each (with_value k t v) (mapped (with_value k t) values v ((has.exact v).1 is_value))
+      (a_value_keeps_a_sketch p mode k t has.location v forward fits has.next) c (of_other p mode k (with_value k t v) c is completes)
+
+  by_sources : (k : Sketch) (e : Event) (sources : List Event) → HasSources p mode k e sources → EachCovered (map (with_source k e) sources) → Covered k
+  by_sources k e sources has each fits c is =
+      let (v, reads) = value_of has.access.read has.is_read in
+      let (is_source, completes) = each_has_a_source p mode k c e has.access v forward fits is.is_candidate is.completes has.whole has.is_access reads in
+      each (with_source k e (c.source e)) (mapped (with_source k e) sources (c.source e) ((has.exact (c.source e)).1 is_source))
+      (a_source_keeps_a_sketch p mode k e (c.source e) fits is_source) c (of_other p mode k (with_source k e (c.source e)) c is completes)
+
+  by_order : (k : Sketch) (d e : Event) → HasNoOrder p mode k d e → Covered (with_pair k d e) → Covered (with_pair k e d) → Covered k
+  by_order k d e has first second fits c is =
+      elim (each_has_an_order p mode k c d e fits is.is_candidate is.completes has.is_pair) [
+        | inl before ↦ first (a_pair_keeps_a_sketch p mode k d e fits has.is_pair) c (of_other p mode k (with_pair k d e) c is before)
+        | inr after ↦ second (a_pair_keeps_a_sketch p mode k e d fits (turned p mode k d e has.is_pair)) c (of_other p mode k (with_pair k e d) c is after)
+      ]
+
+  by_cycle : (k : Sketch) (kind : Kind) (es : List Event) → IsKnownCycle p mode k kind es → Covered k
+  by_cycle k kind es known fits c is =
+      absurd (no_cycle p mode c kind known.of_mode is.consistent es (known_cycle_is_a_cycle p mode k c kind es fits is.is_candidate is.completes known.cycle))
+
+  by_outcome : (k : Sketch) (number : ℕ) → MustEndAsNumber p mode outcomes k number → Covered k
+  by_outcome k number must fits c is = (
+    must.outcome,
+    found_is_here outcomes number must.outcome must.is_outcome,
+    each_ends_so p mode k c must.outcome forward fits is.is_candidate is.completes must.must_end,
+  )
+
+  -- the first of the sketches is covered, and each of the others
+  one_more : (k : Sketch) (ks : List Sketch) → Covered k → EachCovered ks → EachCovered (k ∷ ks)
+  one_more k ks first later j here = elim (first_or_later k ks j here) [ inl e ↦ subst Covered e first | inr there ↦ later j there ]
+
+  mutual
+    covered : (tree : Cover) (k : Sketch) → IsValidCover p mode outcomes tree k → Covered k
+    covered (Value t children) k (values, has, valid) = by_values k t values has (each_covered children (map (with_value k t) values) valid)
+    covered (Source read children) k (sources, has, valid) =
+        by_sources k (event_of read) sources has (each_covered children (map (with_source k (event_of read)) sources) valid)
+    covered (Order first second first_before second_before) k (has, before, after) =
+        by_order k (event_of first) (event_of second) has
+        (covered first_before (with_pair k (event_of first) (event_of second)) before)
+        (covered second_before (with_pair k (event_of second) (event_of first)) after)
+    covered (Cycle kind events) k known = by_cycle k kind (map event_of events) known
+    covered (Known number) k must = by_outcome k number must
+
+    each_covered : (trees : Covers) (ks : List Sketch) → AreValidCovers p mode outcomes trees ks → EachCovered ks
+    each_covered NoCover [] valid = λ j here. absurd (none_here j here)
+    each_covered NoCover (k ∷ ks) valid = absurd valid
+    each_covered (MoreCovers tree trees) [] valid = absurd valid
+    each_covered (MoreCovers tree trees) (k ∷ ks) (now, later) = one_more k ks (covered tree k now) (each_covered trees ks later)
+
+pub valid_covers : AValidCoverCovers
+valid_covers p mode outcomes tree k forward fits valid = covered p mode outcomes forward tree k valid fits

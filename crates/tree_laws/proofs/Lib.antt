@@ -1,0 +1,20 @@
+pub mod Lists
+pub mod OneList
+pub mod InOrder
+-- cover trees
+pub mod CoveredSketches
+pub mod ListedOutcomes
+-- gap trees
+pub mod AvoidedGaps
+pub mod BetterSets
+pub mod Regions
+pub mod NoBetterLeft
+-- certificates
+pub mod CertificateIsProof
+-- the example
+pub mod StoreBufferingValues
+pub mod StoreBufferingCovered
+pub mod StoreBufferingCycles
+pub mod StoreBufferingRuns
+pub mod StoreBufferingGaps
+pub mod StoreBufferingCertified

@@ -1,0 +1,62 @@
+-- The regions of a node's children: a set of the node's region is in that of the child for the first of the gaps that it has.
+use Rattle.std.proofs.Common.{◌≡◌, ◌⊎◌, ◌||◌, ℕ, Bool, true, false, List, [], ◌∷◌, refl, sym, ◌∙◌, subst, inl, inr, arith}
+use Rattle.std.specs.Ordering.{nat_cmp, eq_by_cmp}
+use Rattle.std.specs.Cmp.{nat_cmp_total}
+use Rattle.std.specs.FinSet as set
+use Rattle.std.proofs.lemmas.Bool.Decides.{nat_tests}
+use Rattle.gap_sets.specs.Gaps.{SetOfGaps}
+use Rattle.tree_laws.specs.GapTrees.{Node, root, IsInRegion, children_of, HasNoneOf}
+use Rattle.tree_laws.specs.Laws.{ASplitLosesNoSet}
+use Rattle.tree_laws.proofs.Lists.{none_here, first_or_later, first_is_here, later_is_here}
+
+tied : (q g : ℕ) (b : Bool) → (eq_by_cmp nat_cmp q g || b) ≡ true → (g ≡ q) ⊎ (b ≡ true)
+tied q g true h = inr refl
+tied q g false h = inl (grind (arith, nat_tests))
+
+-- a gap of a set with one more is that one or one of the others
+pub new_or_old : (s : SetOfGaps) (gap q : ℕ) → set.contains (set.insert s gap) q ≡ true → (gap ≡ q) ⊎ (set.contains s q ≡ true)
+new_or_old s gap q h = tied q gap (set.contains s q) (sym (set.contains-insert nat_cmp_total s gap q) ∙ h)
+
+module _ (n : Node) (other : SetOfGaps) (inside : IsInRegion n other) (gap : ℕ) where
+  with_it : set.contains other gap ≡ true → IsInRegion (record n { must = set.insert n.must gap }) other
+  with_it there = record {
+    holds = λ q h. elim (new_or_old n.must gap q h) [ inl e ↦ subst (λ (g : ℕ). set.contains other g ≡ true) e there | inr old ↦ inside.holds q old ];
+    avoids = inside.avoids;
+  }
+
+  without_it : set.contains other gap ≡ false → IsInRegion (record n { never = set.insert n.never gap }) other
+  without_it missing = record {
+    holds = inside.holds;
+    avoids = λ q h. elim (new_or_old n.never gap q h) [ inl e ↦ subst (λ (g : ℕ). set.contains other g ≡ false) e missing | inr old ↦ inside.avoids q old ];
+  }
+
+pub true_or_false : (b : Bool) → (b ≡ true) ⊎ (b ≡ false)
+true_or_false true = inl refl
+true_or_false false = inr refl
+
+none_of : (gap : ℕ) (gaps : List ℕ) (other : SetOfGaps) → set.contains other gap ≡ false → HasNoneOf other gaps → HasNoneOf other (gap ∷ gaps)
+none_of gap gaps other missing none q here = elim (first_or_later gap gaps q here) [
+  | inl e ↦ subst (λ (g : ℕ). set.contains other g ≡ false) e missing
+  | inr later ↦ none q later
+]
+
+-- the first of the gaps that the set has picks the child
+pub split_loses_no_set : ASplitLosesNoSet
+split_loses_no_set n [] other inside = inr (λ gap here. absurd (none_here gap here))
+split_loses_no_set n (gap ∷ gaps) other inside =
+    let first : Node = record n { must = set.insert n.must gap } in
+    let rest : Node = record n { never = set.insert n.never gap } in
+    elim (true_or_false (set.contains other gap)) [
+      | inl there ↦ inl (first, first_is_here first (children_of rest gaps), with_it n other inside gap there)
+      | inr missing ↦ elim (split_loses_no_set rest gaps other (without_it n other inside gap missing)) [
+        | inl (child, here, in_child) ↦ inl (child, later_is_here first (children_of rest gaps) child here, in_child)
+        | inr none ↦ inr (none_of gap gaps other missing none)
+      ]
+    ]
+
+-- every set is in the root's region
+pub in_root : (other : SetOfGaps) → IsInRegion root other
+in_root other = record {
+  holds = λ q h. (let no : true ≡ false = sym h ∙ set.contains-empty nat_cmp q in absurd cc);
+  avoids = λ q h. (let no : true ≡ false = sym h ∙ set.contains-empty nat_cmp q in absurd cc);
+}

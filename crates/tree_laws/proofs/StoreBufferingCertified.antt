@@ -1,0 +1,47 @@
+-- Store buffering: its certificate is valid, so both gaps are the answer.
+use Rattle.std.proofs.Common.{◌≤◌, [], ◌∷◌, All, refl, sym, inl, inr, arith}
+use Rattle.std.proofs.lemmas.List.Elements.{All-nil, All-cons}
+use Rattle.std.specs.FinSet as set
+use Rattle.gap_sets.proofs.Examples.{total-these}
+use Rattle.tso_program.specs.Limits.{IsWithinLimits}
+use Rattle.tso_program.proofs.WithinLimits.{limits_are_the_refusals}
+use Rattle.tso_machine.specs.Machine.{Sequential}
+use Rattle.tso_machine.specs.Outcomes.{AreGapsOf}
+use Rattle.tso_machine.specs.Examples.{store_buffering}
+use Rattle.candidate_executions.specs.declared.event.Kind.TheVariants as union
+use Rattle.tree_laws.specs.Certificates.{IsValidCertificate}
+use Rattle.tree_laws.specs.StoreBuffering.{costs, certificate, StoreBufferingIsCertified}
+use Rattle.tree_laws.proofs.Regions.{new_or_old}
+use Rattle.tree_laws.proofs.CertificateIsProof.{certificate_proves}
+use Rattle.tree_laws.proofs.StoreBufferingCovered.{outcomes, cover_is_valid}
+use Rattle.tree_laws.proofs.StoreBufferingCycles.{both_fenced, sequential_cycle, fenced_cycle}
+use Rattle.tree_laws.proofs.StoreBufferingRuns.{replayed, all_outside}
+use Rattle.tree_laws.proofs.StoreBufferingGaps.{both_gaps, not_empty, gap_tree_is_valid}
+
+two_gaps : AreGapsOf store_buffering both_gaps
+two_gaps gap there = elim (new_or_old (set.insert set.empty 1) 0 gap there) [
+  | inl e ↦ omega arith
+  | inr later ↦ elim (new_or_old set.empty 1 gap later) [ inl e ↦ omega arith | inr none ↦ absurd (not_empty gap none) ]
+]
+
+valid : IsValidCertificate store_buffering costs certificate
+valid = record {
+  of_program = two_gaps;
+  one_cost_each = refl;
+  cost = sym (total-these costs (0 ∷ 1 ∷ []));
+  outcomes = outcomes;
+  replayed = replayed;
+  sequential = cover_is_valid Sequential union.Sequential sequential_cycle;
+  foreign = all_outside;
+  fenced = cover_is_valid both_fenced union.Global fenced_cycle;
+  least = gap_tree_is_valid;
+}
+
+within : IsWithinLimits store_buffering.threads store_buffering.memory
+within = (limits_are_the_refusals store_buffering.threads store_buffering.memory).0 refl
+
+each_costs : All (λ cost. 1 ≤ cost) costs
+each_costs = All-cons (λ cost. 1 ≤ cost) 1 (1 ∷ []) (omega arith) (All-cons (λ cost. 1 ≤ cost) 1 [] (omega arith) (All-nil (λ cost. 1 ≤ cost)))
+
+pub store_buffering_is_certified : StoreBufferingIsCertified
+store_buffering_is_certified = record { valid = valid; proved = certificate_proves store_buffering costs certificate within each_costs valid }

@@ -1,0 +1,58 @@
+-- Store buffering: where both loads give 0 the accesses are a cycle, sequentially and with both gaps fenced.
+use Rattle.std.proofs.Common.{◌≡◌, ◌≢◌, ℕ, Bool, true, false, [], ◌∷◌, map, refl, inl, inr, arith, lit<}
+use Rattle.std.specs.FinSet as set
+use Rattle.gap_sets.specs.Laws.{these}
+use Rattle.tso_program.specs.Fences.{gaps_in}
+use Rattle.tso_machine.specs.Machine.{Mode, Sequential, Fenced}
+use Rattle.tso_machine.specs.Examples.{store_buffering}
+use Rattle.candidate_executions.specs.declared.event.Event.TheVariants.{Initial}
+use Rattle.candidate_executions.specs.declared.event.Kind.TheVariants as union
+use Rattle.candidate_executions.specs.Traces.{entered}
+use Rattle.tree_laws.specs.CoverTrees.{event_of, IsKnownCycle}
+use Rattle.tree_laws.specs.StoreBuffering.{around}
+use Rattle.tree_laws.proofs.StoreBufferingCovered.{read_twice}
+
+-- the gaps 0:1 and 1:1
+abbrev pub both_fenced : Mode
+both_fenced = Fenced (gaps_in store_buffering (these (0 ∷ 1 ∷ [])))
+
+-- a fenced gap ends a section
+new_section : (b : Bool) (n m : ℕ) → b ≡ true → m ≡ n → m ≢ entered b n
+new_section true n m e q h = omega arith
+new_section false n m e q h = cc
+
+first_fenced : set.contains (these (0 ∷ 1 ∷ [])) 0 ≡ true
+first_fenced = set.contains-from_list_nat (0 ∷ 1 ∷ []) 0
+
+second_fenced : set.contains (these (0 ∷ 1 ∷ [])) 1 ≡ true
+second_fenced = set.contains-from_list_nat (0 ∷ 1 ∷ []) 1
+
+pub sequential_cycle : IsKnownCycle store_buffering Sequential (read_twice Sequential) union.Sequential (map event_of around)
+sequential_cycle = record {
+  of_mode = tt;
+  cycle = (
+    (_, _, refl, refl, inl (refl, lit< tt)),
+    (
+      (_, _, refl, refl, inr (inr (inr (Initial 1, (0, lit< tt, refl), inr (refl, (λ q. cc), refl), (λ q. cc))))),
+      (
+        (_, _, refl, refl, inl (refl, lit< tt)),
+        (_, _, refl, refl, inr (inr (inr (Initial 0, (1, lit< tt, refl), inr (refl, (λ q. cc), refl), (λ q. cc))))),
+      ),
+    ),
+  );
+}
+
+pub fenced_cycle : IsKnownCycle store_buffering both_fenced (read_twice both_fenced) union.Global (map event_of around)
+fenced_cycle = record {
+  of_mode = tt;
+  cycle = (
+    (_, _, refl, refl, inl ((refl, lit< tt), inr (inr (new_section (set.contains (these (0 ∷ 1 ∷ [])) 0) 0 0 first_fenced refl)))),
+    (
+      (_, _, refl, refl, inr (inr (inr (Initial 1, (0, lit< tt, refl), inr (refl, (λ q. cc), refl), (λ q. cc))))),
+      (
+        (_, _, refl, refl, inl ((refl, lit< tt), inr (inr (new_section (set.contains (these (0 ∷ 1 ∷ [])) 1) 0 0 second_fenced refl)))),
+        (_, _, refl, refl, inr (inr (inr (Initial 0, (1, lit< tt, refl), inr (refl, (λ q. cc), refl), (λ q. cc))))),
+      ),
+    ),
+  );
+}

@@ -1,0 +1,6 @@
+pub mod Trees
+pub mod CoverTrees
+pub mod GapTrees
+pub mod Certificates
+pub mod Laws
+pub mod StoreBuffering

@@ -1,0 +1,58 @@
+//! The laws: each function's contract is a theorem, and calling it does nothing.
+ghost use Rattle.tree_laws.specs.Laws.{AValidCoverCovers, ACoveredListHasEachOutcome, AValidTreeMakesTheSequentialList, AValidFencedTreeServes, ASplitLosesNoSet, AValidGapTreeLeavesNoBetter, SoNoServingSetIsBetter, TheRootHasEverySet, AValidCertificateProves, CoversAreJudgedInOrder, GapsAreJudgedInOrder, TheValuesAreOneList, TheSourcesAreOneList, TheGapsAreOneList};
+ghost use Rattle.tree_laws.specs.StoreBuffering.{StoreBufferingIsCertified};
+
+/// Where a cover tree is valid at a sketch, each consistent completion of the sketch has an outcome of
+/// the list.
+pub fn a_valid_cover_tree_covers()
+    ensures { AValidCoverCovers }
+{}
+
+/// Where a cover tree is valid at the sketch with no choice, the list has every outcome of the machine;
+/// and where the list is that of sequential runs, it has the sequential outcomes and no others.
+pub fn a_valid_tree_lists_every_outcome()
+    ensures each { ACoveredListHasEachOutcome }
+    ensures sequential { AValidTreeMakesTheSequentialList }
+{}
+
+/// A set of gaps with a valid cover tree over the sequential outcomes serves.
+pub fn a_valid_fenced_tree_serves()
+    ensures { AValidFencedTreeServes }
+{}
+
+/// The children of a node stand for every set of its region that has one of the gaps.
+pub fn a_split_loses_no_set()
+    ensures { ASplitLosesNoSet }
+{}
+
+/// A valid gap tree over foreign runs says of each better set of its node's region which outcome it
+/// leaves, so that none of them serves. At the root that is every set of the program's gaps.
+pub fn a_valid_gap_tree_leaves_no_better()
+    ensures leaves { AValidGapTreeLeavesNoBetter }
+    ensures serving { SoNoServingSetIsBetter }
+    ensures root { TheRootHasEverySet }
+{}
+
+/// Children are judged in their order, each at its own sketch or node.
+pub fn children_are_judged_in_order()
+    ensures covers { CoversAreJudgedInOrder }
+    ensures gaps { GapsAreJudgedInOrder }
+{}
+
+/// What the children of a node are for is determined: a tree with another number of children is not
+/// valid.
+pub fn the_children_are_determined()
+    ensures values { TheValuesAreOneList }
+    ensures sources { TheSourcesAreOneList }
+    ensures gaps { TheGapsAreOneList }
+{}
+
+/// The headline holds of the set of a valid certificate, which is then the answer.
+pub fn a_valid_certificate_proves_the_headline()
+    ensures { AValidCertificateProves }
+{}
+
+/// The definitions at store buffering: its certificate is valid, and both gaps are the answer.
+pub fn store_buffering_is_certified()
+    ensures { StoreBufferingIsCertified }
+{}
