@@ -1,7 +1,6 @@
 -- Printed texts are ASCII, so they are UTF-8.
-use Rattle.std.proofs.Common.{◌≡◌, ℕ, ◌≤◌, ◌<◌, ◌^◌, Bool, true, false, ◌&&◌, ◌||◌, List, [], ◌∷◌, ◌++◌, codes, refl, arith}
+use Rattle.std.proofs.Common.{◌≡◌, ℕ, ◌<◌, ◌^◌, Bool, true, List, [], ◌∷◌, ◌++◌, codes, refl, arith}
 use Rattle.std.specs.List.{list_all}
-use Rattle.std.specs.Char.{is_ascii_digit}
 use Rattle.std.specs.Str.{IsAscii}
 use Rattle.std.proofs.lemmas.Str.{IsAscii-append}
 use Rattle.std.proofs.lemmas.Str.Ascii.{IsAscii-nil, IsAscii-cons}
@@ -12,10 +11,10 @@ use Rattle.text_tokens.specs.declared.token.Mark.TheVariants.{OpenBrace, CloseBr
 use Rattle.text_tokens.specs.Bytes.{is_blank, is_word_byte}
 use Rattle.text_tokens.specs.Marks.{mark_text}
 use Rattle.text_tokens.specs.Tokens.{Tok, Word, Number, Sign, NoToken}
-use Rattle.text_tokens.specs.Lexing.{IsWord}
 use Rattle.text_tokens.specs.Pieces.{Piece, Gap, Part, token_text, text_of, CanStand, AreApartBefore}
 use Rattle.litmus_text.specs.FirstLine.{is_visible}
 use Rattle.canonical_text.specs.Spelling.{heading}
+use Rattle.canonical_text.proofs.WordsWritten.{and_first, and_second}
 
 small_word_byte : (b : ℕ) → is_word_byte b ≡ true → b < 128
 small_word_byte b h = grind (arith, nat_tests)
@@ -26,19 +25,11 @@ small_blank b h = grind (arith, nat_tests)
 small_visible : (b : ℕ) → is_visible b ≡ true → b < 128
 small_visible b h = grind (arith, nat_tests)
 
-first_of : (a b : Bool) → (a && b) ≡ true → a ≡ true
-first_of true b h = refl
-first_of false b h = cc
-
-second_of : (a b : Bool) → (a && b) ≡ true → b ≡ true
-second_of true b h = h
-second_of false b h = cc
-
 -- bytes that pass a test that only ASCII passes
 ascii_by : (test : ℕ → Bool) → ((b : ℕ) → test b ≡ true → b < 128) → (bs : List ℕ) → list_all test bs ≡ true → IsAscii bs
 ascii_by test small [] h = IsAscii-nil
 ascii_by test small (b ∷ bs) h =
-    IsAscii-cons b bs (small b (first_of (test b) (list_all test bs) h)) (ascii_by test small bs (second_of (test b) (list_all test bs) h))
+    IsAscii-cons b bs (small b (and_first (test b) (list_all test bs) h)) (ascii_by test small bs (and_second (test b) (list_all test bs) h))
 
 one : (b : ℕ) → b < 128 → IsAscii (b ∷ [])
 one b h = IsAscii-cons b [] h IsAscii-nil

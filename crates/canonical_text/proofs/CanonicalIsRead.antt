@@ -1,6 +1,5 @@
 -- The canonical text of a program, fenced at any gaps, stands for that program.
-use Rattle.std.proofs.Common.{◌≡◌, ℕ, ◌+◌, ◌*◌, ◌<◌, ◌≤◌, Bool, true, false, List, [], ◌∷◌, ◌++◌, length, map, get_or, Option, Some, None, refl, sym, ap, ◌∙◌, subst, inl, inr, arith}
-use Rattle.std.specs.Prelude.{slice_get}
+use Rattle.std.proofs.Common.{◌≡◌, ℕ, ◌+◌, ◌*◌, ◌<◌, ◌≤◌, Bool, true, List, [], ◌++◌, length, map, get_or, Option, refl, sym, ap, ◌∙◌, subst, inl, inr, arith}
 use Rattle.std.specs.List.{AllByRecursion, IsDistinct, list_any, flat_map, filter_map, range_with_len}
 use Rattle.std.specs.Option.{option_map_or}
 use Rattle.std.specs.Str.{bytes_eq}
@@ -11,19 +10,17 @@ use Rattle.std.proofs.lemmas.Slice.Eq.{bytes_eq-Decides}
 use Rattle.gap_sets.specs.Gaps.{SetOfGaps}
 use Rattle.text_tokens.specs.Tokens.{Tok}
 use Rattle.tso_program.specs.declared.instruction.Reg.{Reg}
-use Rattle.tso_program.specs.declared.instruction.Instr.{Instr}
 use Rattle.tso_program.specs.declared.listing.Thread.{Thread}
 use Rattle.tso_program.specs.declared.listing.Listing.{Listing}
 use Rattle.tso_program.specs.Limits.{IsWithinLimits}
-use Rattle.tso_program.specs.Listings.{code_of}
 use Rattle.tso_program.specs.Fences.{Gaps, gaps_in, fence, fenced_threads}
 use Rattle.tso_program.proofs.FencedPlaces.{same_count}
 use Rattle.tso_program.proofs.FencedLimits.{fencing_stays_within_limits}
 use Rattle.conditions.specs.Tree.{Tree, tree_map}
-use Rattle.conditions.specs.Grammar.{Sign, Spells, Sum}
+use Rattle.conditions.specs.Grammar.{Spells, Sum}
 use Rattle.conditions.specs.Canonical.{enclosed_signs_of}
 use Rattle.litmus_syntax.specs.Views.{PlaceView, Location, Register, EntryView, BodyView, SignView}
-use Rattle.litmus_syntax.specs.Grammar.{NoneTwice, place_of}
+use Rattle.litmus_syntax.specs.Grammar.{NoneTwice}
 use Rattle.litmus_syntax.specs.Places.{same_place}
 use Rattle.litmus_text.specs.declared.litmus.Litmus.{Litmus}
 use Rattle.litmus_text.specs.FirstLine.{is_visible, AreSome}
@@ -32,9 +29,9 @@ use Rattle.litmus_text.specs.Places.{entry_place, row_places, sign_places, place
 use Rattle.litmus_text.specs.Outcomes.{is_named}
 use Rattle.litmus_text.specs.Meaning.{first_value, memory_of, registers_of, thread_of, listing_of, numbered_atom, condition_of}
 use Rattle.litmus_text.specs.Meaning as meaning
-use Rattle.litmus_text.specs.Texts.{AreParts, Means, StandsFor, IsLitmus, IsFencedLitmus}
+use Rattle.litmus_text.specs.Texts.{AreParts, Means, StandsFor, IsFencedLitmus}
 use Rattle.litmus_text.proofs.NamesOnce.{in_order_once}
-use Rattle.canonical_text.specs.Canonical.{entries_of, rows_of, body_of, signs_named, fenced_at, canonical_text}
+use Rattle.canonical_text.specs.Canonical.{entries_of, body_of, signs_named, fenced_at, canonical_text}
 use Rattle.canonical_text.specs.Printable.{IsNumber, IsLocationName, IsPrintablePlace, IsPrintableEntry, IsPrintableRow, IsPrintable, IsPrintableSign, ArePrintable}
 use Rattle.canonical_text.specs.Laws.{HasParts, CanonicalTextIsRead}
 use Rattle.canonical_text.proofs.PrintedIsRead.{printed_is_read}

@@ -1,16 +1,16 @@
 -- What the tokens of a text say can be printed.
-use Rattle.std.proofs.Common.{◌≡◌, ℕ, ◌+◌, ◌<◌, ◌≤◌, List, [], ◌∷◌, map, Some, None, inl, inr, refl, subst}
-use Rattle.std.specs.List.{All, AllByRecursion}
+use Rattle.std.proofs.Common.{◌≡◌, ℕ, ◌+◌, List, [], ◌∷◌, map, Some, None, inl, inr, subst}
+use Rattle.std.specs.List.{AllByRecursion}
 use Rattle.std.proofs.lemmas.List.Elements.{recursion_from_All}
 use Rattle.text_tokens.specs.declared.token.Mark.{Mark}
 use Rattle.text_tokens.specs.declared.token.Mark.TheVariants as the
 use Rattle.text_tokens.specs.Tokens.{Tok, Word, Number, Sign, NoToken}
-use Rattle.text_tokens.specs.Lexing.{IsWord, BeginsWith, BeginsWithAll, none, blank, token, Lexes}
+use Rattle.text_tokens.specs.Lexing.{IsWord, BeginsWith, BeginsWithAll, none, blank, token}
 use Rattle.tso_program.specs.declared.instruction.Reg.{Reg}
 use Rattle.litmus_syntax.specs.Words.{column_name}
 use Rattle.litmus_syntax.specs.Views.{PlaceView, Location, Register, EntryView, CodeView, LoadImm, Copy, Load, StoreImm, Store, Fence, CellView, BodyView, SignView, Atom, True, And, Open, Close}
-use Rattle.litmus_syntax.specs.Phrases.{Phrase, ◌▸◌, mark, number, Items, end, item}
-use Rattle.litmus_syntax.specs.Grammar.{register, name, memory, IsPlace, IsEntry, IsEntryItem, place_of, IsInitial, HasThread, MoreColumns, last, column, IsHeader, immediate, IsCode, IsCell, IsNextCell, IsCells, IsRow, before_condition, IsRows, IsBody, IsSign, the_end, IsSigns}
+use Rattle.litmus_syntax.specs.Phrases.{◌▸◌, mark, number, Items, end, item}
+use Rattle.litmus_syntax.specs.Grammar.{register, name, memory, IsPlace, IsEntryItem, place_of, HasThread, MoreColumns, last, column, IsHeader, immediate, IsCode, IsCell, IsNextCell, IsRow, IsRows, IsBody, IsSign, the_end, IsSigns}
 use Rattle.canonical_text.specs.Printable.{IsNumber, IsLocationName, IsPrintablePlace, IsPrintableEntry, IsPrintableCode, IsPrintableCell, IsPrintableRow, IsPrintableSign}
 
 -- a token as texts have them

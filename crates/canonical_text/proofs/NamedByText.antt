@@ -1,7 +1,7 @@
 -- What a text names: each name can be printed, and each place that it names is named.
-use Rattle.std.proofs.Common.{◌≡◌, ℕ, ◌+◌, ◌<◌, ◌≤◌, zero, suc, Bool, true, false, cond, ◌||◌, List, [], ◌∷◌, ◌++◌, length, map, fold, get_or, Some, None, refl, sym, ap, ◌∙◌, subst, inl, inr, arith}
+use Rattle.std.proofs.Common.{◌≡◌, ℕ, ◌+◌, ◌<◌, ◌≤◌, Bool, true, false, cond, ◌||◌, List, [], ◌∷◌, ◌++◌, length, map, fold, get_or, Some, None, refl, sym, ap, ◌∙◌, subst, inl, inr, arith}
 use Rattle.std.specs.Prelude.{if◌then◌else◌, slice_index_or}
-use Rattle.std.specs.List.{AllByRecursion, IsDistinct, list_any, find, flat_map, filter_map, range_with_len}
+use Rattle.std.specs.List.{AllByRecursion, list_any, find, flat_map, filter_map}
 use Rattle.std.specs.Option.{option_map_or}
 use Rattle.std.specs.Str.{bytes_eq}
 use Rattle.std.proofs.lemmas.Bool.{cases_Bool}
@@ -13,8 +13,8 @@ use Rattle.tso_program.specs.declared.instruction.Reg.TheVariants.{Eax, Ebx, Ecx
 use Rattle.tso_program.specs.Instructions.{number}
 use Rattle.litmus_syntax.specs.Views.{PlaceView, Location, Register, EntryView, CodeView, LoadImm, Copy, Load, StoreImm, Store, Fence, CellView, BodyView, SignView, Atom, True, And, Open, Close}
 use Rattle.litmus_syntax.specs.Places.{same_place}
-use Rattle.litmus_syntax.proofs.SeenLaws.{same_place_is, same_place_itself}
-use Rattle.litmus_text.specs.Names.{Names, all_registers, with_name, in_order}
+use Rattle.litmus_syntax.proofs.SeenLaws.{same_place_itself}
+use Rattle.litmus_text.specs.Names.{all_registers, with_name}
 use Rattle.litmus_text.specs.Places.{code_places, cell_places, cells_places, row_places, sign_places, entry_place, places, location_name, is_register, names_of}
 use Rattle.litmus_text.specs.Outcomes.{is_named}
 use Rattle.litmus_text.specs.Meaning.{first_value}

@@ -1,7 +1,7 @@
 -- The entries of the canonical text: the places that they name stand once, in order, and hold what they held.
-use Rattle.std.proofs.Common.{◌≡◌, ◌≢◌, ℕ, ◌+◌, ◌*◌, ◌<◌, ◌≤◌, ◌==◌, zero, suc, Bool, true, false, cond, ◌&&◌, ◌||◌, List, [], ◌∷◌, ◌++◌, length, map, get_or, Some, None, refl, sym, ap, ◌∙◌, subst, inl, inr, arith}
+use Rattle.std.proofs.Common.{◌≡◌, ◌≢◌, ℕ, ◌+◌, ◌*◌, ◌<◌, ◌≤◌, ◌==◌, zero, suc, Bool, true, false, cond, ◌&&◌, ◌||◌, List, [], ◌∷◌, ◌++◌, length, map, get_or, Some, refl, sym, ap, ◌∙◌, inl, inr, arith}
 use Rattle.std.specs.Prelude.{if◌then◌else◌, slice_index}
-use Rattle.std.specs.List.{AllByRecursion, IsDistinct, flat_map, filter_map, find, list_any, range_with_len}
+use Rattle.std.specs.List.{AllByRecursion, IsDistinct, flat_map, filter_map, find, list_any}
 use Rattle.std.specs.Option.{option_map_or}
 use Rattle.std.specs.Str.{bytes_eq}
 use Rattle.std.proofs.lemmas.Bool.{cases_Bool}
@@ -22,8 +22,8 @@ use Rattle.litmus_text.specs.Names.{Names, all_registers}
 use Rattle.litmus_text.specs.Places.{location_name, is_register}
 use Rattle.litmus_text.specs.Outcomes.{is_named}
 use Rattle.litmus_text.specs.Meaning.{first_value}
-use Rattle.canonical_text.specs.Canonical.{name_at, location_entry, location_entries, named_entry, thread_entries, register_entries}
-use Rattle.canonical_text.specs.Printable.{IsNumber, IsLocationName, IsPrintablePlace, IsPrintableEntry}
+use Rattle.canonical_text.specs.Canonical.{name_at, location_entry, location_entries, named_entry, register_entries}
+use Rattle.canonical_text.specs.Printable.{IsNumber, IsLocationName, IsPrintableEntry}
 
 -- ---- the places
 
@@ -164,16 +164,16 @@ key_of : PlaceView → ℕ
 key_of (Location x) = 0
 key_of (Register t r) = 6 * t + number r
 
-unfoldable_key : (t : ℕ) (r : Reg) → key_of (Register t r) ≡ 6 * t + number r
+key_is : (t : ℕ) (r : Reg) → key_of (Register t r) ≡ 6 * t + number r
 unfolding key_of
-unfoldable_key t r = refl
+key_is t r = refl
 
 none_later : (t : ℕ) (r : Reg) (k m : ℕ) (ps : List PlaceView) → 6 * t + number r < k → Rising k m ps → IsNoneOf (Register t r) ps
 none_later t r k m [] lt h = tt
 none_later t r k m (Location x ∷ ps) lt h = absurd h
 none_later t r k m (Register u s ∷ ps) lt h = (
   λ e.
-      let keys : 6 * t + number r ≡ 6 * u + number s = sym (unfoldable_key t r) ∙ ap key_of e ∙ unfoldable_key u s in
+      let keys : 6 * t + number r ≡ 6 * u + number s = sym (key_is t r) ∙ ap key_of e ∙ key_is u s in
       omega (arith, keys, h.0),
   none_later t r (6 * u + number s + 1) m ps (omega (arith, h.0)) h.1,
 )
@@ -326,7 +326,7 @@ among_later t r k m (Location x ∷ ps) lt h = absurd h
 among_later t r k m (Register u s ∷ ps) lt h =
     elim (cases_Bool (same_place (Register u s) (Register t r))) [
       | inl same_one ↦
-          let keys : 6 * u + number s ≡ 6 * t + number r = sym (unfoldable_key u s) ∙ ap key_of (same_place_is (Register u s) (Register t r) same_one) ∙ unfoldable_key t r in
+          let keys : 6 * u + number s ≡ 6 * t + number r = sym (key_is u s) ∙ ap key_of (same_place_is (Register u s) (Register t r) same_one) ∙ key_is t r in
           absurd (omega (arith, keys, h.0))
       | inr other_one ↦ ap (λ (b : Bool). b || list_any (is_register t r) ps) other_one ∙ among_later t r (6 * u + number s + 1) m ps (omega (arith, h.0)) h.1
     ]
@@ -348,7 +348,7 @@ among_earlier t r k m (Register u s ∷ ps) le h =
       omega (arith, rest.0, h.0),
       elim (cases_Bool (same_place (Register u s) (Register t r))) [
         | inl same_one ↦
-            let keys : 6 * u + number s ≡ 6 * t + number r = sym (unfoldable_key u s) ∙ ap key_of (same_place_is (Register u s) (Register t r) same_one) ∙ unfoldable_key t r in
+            let keys : 6 * u + number s ≡ 6 * t + number r = sym (key_is u s) ∙ ap key_of (same_place_is (Register u s) (Register t r) same_one) ∙ key_is t r in
             absurd (omega (arith, keys, rest.0))
         | inr other_one ↦ ap (λ (b : Bool). b || list_any (is_register t r) ps) other_one ∙ rest.1
       ],

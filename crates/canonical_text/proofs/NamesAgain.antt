@@ -1,7 +1,7 @@
 -- The names of the canonical text are those of the text.
-use Rattle.std.proofs.Common.{◌≡◌, ℕ, ◌+◌, ◌*◌, ◌<◌, ◌≤◌, Bool, true, false, ◌||◌, List, [], ◌∷◌, ◌++◌, map, fold, Some, None, refl, sym, ap, ◌∙◌, subst, inl, inr, arith, append_assoc}
+use Rattle.std.proofs.Common.{◌≡◌, ℕ, ◌+◌, ◌*◌, ◌<◌, Bool, true, false, ◌||◌, List, [], ◌∷◌, ◌++◌, map, fold, refl, sym, ap, ◌∙◌, subst, inl, inr, arith, append_assoc}
 use Rattle.std.specs.Prelude.{if◌then◌else◌}
-use Rattle.std.specs.List.{AllByRecursion, IsDistinct, list_any, filter_map, range_with_len}
+use Rattle.std.specs.List.{AllByRecursion, IsDistinct, list_any, filter_map}
 use Rattle.std.specs.Str.{bytes_eq}
 use Rattle.std.proofs.lemmas.Bool.{cases_Bool}
 use Rattle.std.proofs.lemmas.Cmp.{nat_list_eq_equiv}
@@ -12,7 +12,7 @@ use Rattle.tso_program.specs.declared.instruction.Reg.{Reg}
 use Rattle.litmus_syntax.specs.Views.{PlaceView, Location, Register}
 use Rattle.litmus_syntax.specs.Places.{same_place}
 use Rattle.litmus_syntax.proofs.SeenLaws.{same_place_is}
-use Rattle.litmus_text.specs.Names.{Names, all_registers, with_name, in_order}
+use Rattle.litmus_text.specs.Names.{all_registers, with_name, in_order}
 use Rattle.litmus_text.specs.Places.{location_name, is_register, names_among}
 use Rattle.canonical_text.proofs.NamedPlaces.{Named, named_places, threads_places, rising_threads, named_locations, register_among}
 use Rattle.canonical_text.proofs.ToldCode.{IsKnown}

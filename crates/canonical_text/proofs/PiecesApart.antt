@@ -1,5 +1,5 @@
 -- The pieces of parts that can be printed can be written one behind the other.
-use Rattle.std.proofs.Common.{◌≡◌, ℕ, ◌+◌, ◌≤◌, ◌<◌, zero, suc, true, false, List, [], ◌∷◌, ◌++◌, map, Some, None, refl, arith}
+use Rattle.std.proofs.Common.{◌≡◌, ℕ, ◌+◌, ◌≤◌, zero, suc, false, List, [], ◌∷◌, ◌++◌, map, Some, None, refl, arith}
 use Rattle.std.specs.List.{flat_map, range_with_len, AllByRecursion}
 use Rattle.text_tokens.specs.Lexing.{NoWordGoesOn}
 use Rattle.text_tokens.specs.Pieces.{Piece, text_of, AreApartBefore, AreApart}

@@ -1,18 +1,17 @@
 -- The tokens of printed parts are related to those parts by the grammar.
-use Rattle.std.proofs.Common.{◌≡◌, ℕ, ◌+◌, ◌≤◌, ◌<◌, zero, suc, true, List, [], ◌∷◌, ◌++◌, map, codes, length, Some, None, inl, refl, sym, ap, ◌∙◌, subst, arith, append_assoc}
-use Rattle.std.specs.List.{All, AllByRecursion, flat_map, range_with_len}
+use Rattle.std.proofs.Common.{◌≡◌, ℕ, ◌+◌, ◌<◌, zero, suc, true, List, [], ◌∷◌, ◌++◌, map, codes, Some, None, inl, refl, sym, ap, ◌∙◌, subst, arith, append_assoc}
+use Rattle.std.specs.List.{AllByRecursion, flat_map, range_with_len}
 use Rattle.std.proofs.lemmas.List.Elements.{All-from_recursion}
 use Rattle.text_tokens.specs.declared.token.Mark.TheVariants as the
-use Rattle.text_tokens.specs.Tokens.{Tok, Word, Number, Sign}
+use Rattle.text_tokens.specs.Tokens.{Tok, Sign}
 use Rattle.text_tokens.specs.Pieces.{Piece, tokens_of}
-use Rattle.tso_program.specs.declared.instruction.Reg.{Reg}
 use Rattle.conditions.specs.declared.condition.Quantifier.TheVariants.{Exists}
 use Rattle.litmus_syntax.specs.Views.{PlaceView, Location, Register, EntryView, CodeView, LoadImm, Copy, Load, StoreImm, Store, Fence, CellView, BodyView, SignView, Atom, True, And, Open, Close}
 use Rattle.litmus_syntax.specs.Phrases.{Phrase, ◌▸◌, mark, number, Items, end, item}
-use Rattle.litmus_syntax.specs.Grammar.{IsPlace, IsEntry, IsEntryItem, NoneTwice, place_of, IsInitial, HasThread, MoreColumns, last, column, IsHeader, IsCode, ends_cell, IsCell, IsNextCell, IsCells, IsRow, before_condition, IsRows, IsBody, IsSign, the_end, IsSigns}
+use Rattle.litmus_syntax.specs.Grammar.{IsPlace, IsEntryItem, NoneTwice, place_of, IsInitial, HasThread, MoreColumns, last, column, IsHeader, IsCode, ends_cell, IsCell, IsNextCell, IsRow, before_condition, IsRows, IsBody, IsSign, the_end, IsSigns}
 use Rattle.litmus_text.specs.Outcomes.{register_name}
-use Rattle.canonical_text.specs.Spelling.{space, line_end, sign, valued_pieces, entry_pieces, initial_pieces, next_column, row_end, line_of, column_pieces, header_pieces, code_pieces, cell_pieces, row_pieces, body_pieces, sign_pieces, condition_pieces, lines_pieces}
-use Rattle.canonical_text.specs.Printable.{IsNumber, IsPrintablePlace, IsPrintableEntry, IsPrintableCode, IsPrintableCell, IsPrintableRow, IsPrintable, IsPrintableSign, ArePrintable}
+use Rattle.canonical_text.specs.Spelling.{space, line_end, sign, valued_pieces, entry_pieces, initial_pieces, next_column, row_end, column_pieces, header_pieces, code_pieces, cell_pieces, row_pieces, sign_pieces, condition_pieces, lines_pieces}
+use Rattle.canonical_text.specs.Printable.{IsPrintablePlace, IsPrintableEntry, IsPrintableCode, IsPrintableCell, IsPrintableRow, IsPrintable, IsPrintableSign, ArePrintable}
 use Rattle.canonical_text.proofs.WordsWritten.{moves, fences, opens, register_named}
 
 -- items one after another

@@ -1,16 +1,13 @@
 -- Parts that can be printed are the parts of their canonical text.
 use Rattle.std.proofs.Common.{◌≡◌, ℕ, List, [], ◌∷◌, ◌++◌, codes, refl, ap, append_assoc, lit<}
-use Rattle.std.specs.Str.{IsUtf8}
 use Rattle.std.proofs.lemmas.Str.{IsUtf8-from_ascii, IsAscii-append}
 use Rattle.std.proofs.lemmas.List.{append-nil}
 use Rattle.text_tokens.specs.Pieces.{text_of, tokens_of, AreApart}
 use Rattle.text_tokens.proofs.PieceLaws.{pieces_lex}
 use Rattle.conditions.specs.declared.condition.Quantifier.TheVariants.{Exists}
-use Rattle.litmus_syntax.specs.Views.{BodyView, SignView}
-use Rattle.litmus_text.specs.FirstLine.{is_visible, AreSome, IsHeading, IsFirstLine}
-use Rattle.canonical_text.specs.Spelling.{lines_pieces, condition_pieces, heading, text_with}
-use Rattle.canonical_text.specs.Printable.{IsPrintable, ArePrintable}
-use Rattle.canonical_text.specs.Laws.{HasParts, PrintedPartsAreRead}
+use Rattle.litmus_text.specs.FirstLine.{is_visible, AreSome, IsFirstLine}
+use Rattle.canonical_text.specs.Spelling.{lines_pieces, condition_pieces, heading}
+use Rattle.canonical_text.specs.Laws.{PrintedPartsAreRead}
 use Rattle.canonical_text.proofs.PiecesApart.{lines_apart}
 use Rattle.canonical_text.proofs.PiecesRelated.{body_related, condition_related}
 use Rattle.canonical_text.proofs.AsciiTexts.{ascii_pieces, ascii_heading}

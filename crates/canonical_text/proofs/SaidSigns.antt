@@ -1,9 +1,8 @@
 -- The condition: its canonical signs, named again, spell the same formula.
-use Rattle.std.proofs.Common.{◌≡◌, ℕ, Bool, true, false, List, [], ◌∷◌, ◌++◌, map, Option, Some, None, refl, sym, ap, ◌∙◌, subst, append_assoc}
+use Rattle.std.proofs.Common.{◌≡◌, ℕ, Bool, true, false, List, [], ◌∷◌, ◌++◌, map, Option, Some, refl, sym, ap, ◌∙◌, subst, append_assoc}
 use Rattle.std.specs.List.{AllByRecursion, IsDistinct, flat_map, filter_map, cons_option}
 use Rattle.std.specs.Str.{bytes_eq}
 use Rattle.std.proofs.lemmas.List.{append-nil}
-use Rattle.conditions.specs.declared.atom.Atom.{Atom}
 use Rattle.conditions.specs.Tree.{Tree, tree_map}
 use Rattle.conditions.specs.Tree as tree
 use Rattle.conditions.specs.Grammar.{Sign, sign_map, Class, Sum, Spells, atom, const, negation, parens, operand, conjunction, term, disjunction}

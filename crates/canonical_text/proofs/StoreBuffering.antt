@@ -1,5 +1,5 @@
 -- Store buffering with an MFENCE in each of its gaps, computed.
-use Rattle.std.proofs.Common.{◌≡◌, refl, lit<}
+use Rattle.std.proofs.Common.{refl, lit<}
 use Rattle.std.proofs.lemmas.Fmt.{decimal_digit}
 use Rattle.canonical_text.specs.Example.{StoreBufferingIsWritten}
 

@@ -1,6 +1,5 @@
 -- The threads of the fenced program, told by the canonical text.
-use Rattle.std.proofs.Common.{◌≡◌, ℕ, ◌+◌, ◌<◌, ◌≤◌, zero, suc, Bool, true, false, List, [], ◌∷◌, length, map, get_or, Option, Some, None, refl, sym, ap, ◌∙◌, subst, inl, inr, arith}
-use Rattle.std.specs.Prelude.{slice_get}
+use Rattle.std.proofs.Common.{◌≡◌, ℕ, ◌+◌, ◌<◌, ◌≤◌, zero, suc, List, [], ◌∷◌, length, map, get_or, Option, refl, sym, ap, ◌∙◌, subst, inl, inr, arith}
 use Rattle.std.specs.List.{AllByRecursion, IsDistinct, flat_map, range_with_len}
 use Rattle.std.specs.Option.{option_map_or}
 use Rattle.std.specs.Str.{bytes_eq}
@@ -11,9 +10,9 @@ use Rattle.std.proofs.lemmas.List.FromFn.{length-map-range_with_len}
 use Rattle.tso_program.specs.declared.instruction.Instr.{Instr}
 use Rattle.tso_program.specs.declared.listing.Thread.{Thread}
 use Rattle.tso_program.specs.Listings.{code_of}
-use Rattle.tso_program.specs.Fences.{Gaps, fenced_code, fenced_threads}
+use Rattle.tso_program.specs.Fences.{Gaps, fenced_threads}
 use Rattle.tso_program.proofs.FencedPlaces.{fenced_code_of}
-use Rattle.litmus_syntax.specs.Views.{PlaceView, Register, EntryView, BodyView, CellView}
+use Rattle.litmus_syntax.specs.Views.{PlaceView, Register, BodyView}
 use Rattle.litmus_text.specs.Names.{all_registers, number_in}
 use Rattle.litmus_text.specs.Places.{row_places}
 use Rattle.litmus_text.specs.Meaning.{first_value, thread_of}

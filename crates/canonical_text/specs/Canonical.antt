@@ -1,7 +1,6 @@
 -- The canonical text of what a litmus text stands for.
 use Rattle.std.specs.Prelude.{ℕ, true, false, List, [], ◌∷◌, ◌++◌, ◌+◌, map, max, length, Option, Some, None, option_and_then, slice_index, slice_index_or, if◌then◌else◌}
 use Rattle.std.specs.List.{flat_map, filter_map, range_with_len}
-use Rattle.std.specs.Option.{option_map_or}
 use Rattle.gap_sets.specs.Gaps.{SetOfGaps}
 use Rattle.tso_program.specs.declared.instruction.Reg.{Reg}
 use Rattle.tso_program.specs.declared.instruction.Instr.{Instr}
@@ -92,11 +91,12 @@ body_of names p = record { entries = entries_of names p; threads = length p.thre
 
 -- ---- the condition
 
--- a sign with its location's name; none for those that litmus texts have no words for
+-- that a place has a value, with the location's name
 abbrev pub atom_named : List (List ℕ) → Atom → SignView
 atom_named names (atom.Location l n) = view.Atom (Location (name_at names l)) n
 atom_named names (atom.Register t r n) = view.Atom (Register t r) n
 
+-- a sign with its location's name; none for those that litmus texts have no words for
 abbrev pub sign_named : List (List ℕ) → Sign Atom → Option SignView
 sign_named names (sign.Atom a) = Some (atom_named names a)
 sign_named names (sign.Const true) = Some view.True

@@ -2,7 +2,7 @@ use crate::{
     canonical_text_is_read, printed_parts_are_read, store_buffering_is_written, write_litmus,
 };
 use gap_sets::GapSet;
-use litmus_text::read_litmus;
+use litmus_text::{read_fenced, read_litmus};
 use std::alloc::{AllocError, Global};
 use std::process::Abort;
 use std::test::Fail;
@@ -25,11 +25,14 @@ MOV EAX,[y] | MOV EAX,[x] ;
 exists (0:EAX=0 /\\ 1:EAX=0)
 ";
 
-/// Asserts the canonical text of a text fenced at a set of gaps.
+/// Asserts the canonical text of a text fenced at a set of gaps, and that it is read.
 fn is_written(rt: &impl Abort, alloc: Global, text: &str, gaps: &GapSet, expected: &str) {
     match read_litmus(alloc, text.as_bytes()) {
         Ok(litmus) => match write_litmus(alloc, &litmus, gaps) {
-            Ok(written) => assert_eq!(rt; written.as_slice(), expected.as_bytes()),
+            Ok(written) => {
+                assert_eq!(rt; written.as_slice(), expected.as_bytes());
+                assert!(rt; read_fenced(alloc, &written).is_ok());
+            }
             Err(_) => assert!(rt; false, "refused"),
         },
         Err(_) => assert!(rt; false, "not read"),

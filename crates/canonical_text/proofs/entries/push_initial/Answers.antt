@@ -1,4 +1,4 @@
-use Rattle.std.proofs.Common.{ℕ, List, ◌++◌, ◌∷◌, [], codes, ap, ◌∙◌}
+use Rattle.std.proofs.Common.{ℕ, List, ◌++◌, codes, ap, ◌∙◌}
 use Rattle.std.specs.List.{flat_map}
 use Rattle.text_tokens.specs.Pieces.{text_of}
 use Rattle.canonical_text.specs.Spelling.{entry_pieces}
