@@ -1,14 +1,12 @@
 -- With every gap fenced a run passes none, so its outcome is sequential.
-use Rattle.std.proofs.Common.{◌≡◌, true, false, List, Some, sym, ap, ◌∙◌}
-use Rattle.std.specs.Option.{option_map_or}
-use Rattle.std.specs.FinSet as set
+use Rattle.std.proofs.Common.{List}
 use Rattle.gap_sets.specs.Gaps.{SetOfGaps}
 use Rattle.tso_program.specs.declared.listing.Listing.{Listing}
 use Rattle.tso_program.specs.declared.outcome.Outcome.{Outcome}
 use Rattle.tso_program.specs.Fences.{gaps_in}
 use Rattle.tso_program.proofs.Gaps.{gap_below}
 use Rattle.tso_machine.specs.declared.label.Label.{Label}
-use Rattle.tso_machine.specs.Machine.{Fenced, State, start, run}
+use Rattle.tso_machine.specs.Machine.{start}
 use Rattle.tso_machine.specs.Outcomes.{IsStoreBufferOutcome, IsSequentialOutcome}
 use Rattle.fence_laws.specs.Laws.{JumpForward, PassesNoGap, PassesNoGapOf, HasEveryGapOf, AllGapsServe}
 use Rattle.fence_laws.proofs.SequentialIsBuffered.{sequential_is_allowed}

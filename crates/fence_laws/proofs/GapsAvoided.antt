@@ -6,11 +6,10 @@ use Rattle.std.specs.Ordering.{nat_cmp}
 use Rattle.std.specs.FinSet as set
 use Rattle.gap_sets.specs.Gaps.{SetOfGaps}
 use Rattle.tso_program.specs.declared.listing.Listing.{Listing}
-use Rattle.tso_program.specs.declared.outcome.Outcome.{Outcome}
 use Rattle.tso_program.specs.Listings.{gap_number}
 use Rattle.tso_program.specs.Fences.{gaps_in}
 use Rattle.tso_machine.specs.declared.label.Label.{Label}
-use Rattle.tso_machine.specs.Machine.{Fenced, no_gaps, State, start, run, IsRun, passes}
+use Rattle.tso_machine.specs.Machine.{Fenced, no_gaps, State, start, run, passes}
 use Rattle.tso_machine.proofs.Avoided.{run_fenced, run_avoids}
 use Rattle.fence_laws.specs.Laws.{PassesNoGapOf, FencedRunsPassNoGapOfTheSet, PassedGapsTellTheFencedRuns, TheEmptySetFencesNothing}
 use Rattle.fence_laws.proofs.Unfenced.{unfenced}
