@@ -16,14 +16,18 @@ use Rattle.exec_axioms.specs.Known.{IsKindOf, IsKnownEdge, IsKnownCycle, IsAcces
 use Rattle.exec_axioms.specs.Search.{HoldsCycles, IsEnd, EachGoesOn}
 use Rattle.exec_axioms.proofs.Cycles.{next_in_cycle}
 
--- every cycle lies among the accesses
-pub held_by_accesses : (s : Parts) (kind : Kind) (nodes : List Event) → IsLawful s → ((e : Event) → IsAccess s e → Contains nodes e) → HoldsCycles (IsKnownEdge s kind) nodes
-held_by_accesses s kind nodes lawful all es cycle e has = all e (stands e has (next_in_cycle (IsKnownEdge s kind) es cycle e has))
+-- every cycle is one of accesses
+pub cycle_of_accesses : (s : Parts) (kind : Kind) (es : List Event) → IsLawful s → IsKnownCycle s kind es → (e : Event) → Contains es e → IsAccess s e
+cycle_of_accesses s kind es lawful cycle e has = stands e has (next_in_cycle (IsKnownEdge s kind) es cycle e has)
   where
     stands : (e : Event) → Contains es e → ((f : Event) × Contains es f × IsKnownEdge s kind e f) → IsAccess s e
     stands (Initial l) has (f, g, r) = absurd (not_in_cycle (IsKnownEdge s kind) (Initial l)
         (λ d q. no_known_edge_into_initial s.program (mode_in s) (sketch_of s) kind d l lawful.is_sketch q.1) es cycle has)
     stands (At t i) has (f, g, r) = slice_get_within _ i r.1.0 r.1.2
+
+-- so it lies among them
+pub held_by_accesses : (s : Parts) (kind : Kind) (nodes : List Event) → IsLawful s → ((e : Event) → IsAccess s e → Contains nodes e) → HoldsCycles (IsKnownEdge s kind) nodes
+held_by_accesses s kind nodes lawful all es cycle e has = all e (cycle_of_accesses s kind es lawful cycle e has)
 
 -- so there is none where nothing is left
 pub none_held : (R : Event → Event → Type 0) → HoldsCycles R [] → (es : List Event) → IsCycle R es → ⊥

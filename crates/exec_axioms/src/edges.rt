@@ -1,10 +1,10 @@
 //! Known edges, and their cycles.
-ghost use Rattle.std.specs.Prelude.{◌≡◌, ◌≢◌, ◌↔◌, IsTrue, IsSome};
+ghost use Rattle.std.specs.Prelude.{◌≡◌, ◌≢◌, ◌↔◌, IsTrue, IsSome, Contains};
 ghost use Rattle.candidate_executions.specs.declared.event.Event.{Event};
 ghost use Rattle.candidate_executions.specs.Consistency.{IsKept, Leads};
 ghost use Rattle.candidate_executions.specs.Sketches.{IsBefore, KnownFromReads, KnownRelates};
 ghost use Rattle.exec_axioms.specs.Parts.{sketch_of};
-ghost use Rattle.exec_axioms.specs.Known.{IsKindOf, IsKnownEdge, IsKnownCycle, OrderPart, SourcePart};
+ghost use Rattle.exec_axioms.specs.Known.{IsKindOf, IsKnownEdge, IsKnownCycle, IsAccess, OrderPart, SourcePart};
 ghost use Rattle.exec_axioms.specs.Completions.{IsEdgeOfEach, IsRefuted};
 
 use crate::events::{has_pair, is_one_thread, is_same, precedes};
@@ -37,9 +37,11 @@ impl Sketch {
         self.relates(kind, from, x, to, y)
     }
 
-    /// Whether each event has a known edge of the union to the next, and the last to the first.
+    /// Whether each event has a known edge of the union to the next, and the last to the first. A cycle
+    /// is one of accesses that the sketch has, and leaves no consistent completion.
     pub fn is_cycle(&self, kind: Kind, events: &[Event]) -> bool
         ensures cycle { IsTrue result ↔ IsKnownCycle self.now kind events.now }
+        ensures accesses { IsTrue result → (e : Event) → Contains events.now e → IsAccess self.now e }
         ensures refuted { IsTrue result → IsRefuted self.now }
     {
         let _ = &self.program;
