@@ -32,8 +32,9 @@ fn gap_of(program: &Program, word: &[u8]) -> Option<u8> {
 pub fn gaps_of(program: &Program, line: &[u8]) -> GapSet {
     let mut gaps = GapSet::empty();
     for word in line.split(|byte| *byte == b' ') {
-        if let Some(gap) = gap_of(program, word) {
-            gaps = gaps.with(gap);
+        match gap_of(program, word) {
+            Some(gap) if gap < 64 => gaps = gaps.with(gap),
+            _ => {}
         }
     }
     gaps
