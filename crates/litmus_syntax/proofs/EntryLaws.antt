@@ -1,47 +1,39 @@
 -- What the reader of initial values reads is what the grammar says.
-use Rattle.std.proofs.Common.{◌≡◌, ◌∙◌, ◌||◌, ◌++◌, ap, map, not, Bool, ℕ, true, false, cond, List, [], ◌∷◌, refl, sym, subst, inl, inr, Some, None}
+use Rattle.std.proofs.Common.{◌≡◌, ◌∙◌, ◌||◌, ◌++◌, ap, map, not, Bool, ℕ, true, false, List, [], ◌∷◌, refl, sym, subst, Some, None}
 use Rattle.std.specs.List.{list_any}
 use Rattle.std.proofs.lemmas.List.{map_push, map-append}
 use Rattle.std.proofs.lemmas.List.Folds.{list_any-append}
 use Rattle.text_tokens.specs.declared.token.Mark.TheVariants as the
 use Rattle.text_tokens.specs.Tokens.{Tok}
 use Rattle.text_tokens.specs.Parts.{mark_at, begins_with, rest_of}
-use Rattle.text_tokens.proofs.PartLaws.{mark_takes, mark_again, begins_takes, begins_again}
+use Rattle.text_tokens.proofs.PartLaws.{mark_takes, mark_again, begins_again}
 use Rattle.litmus_syntax.specs.Views.{PlaceView, EntryView}
-use Rattle.litmus_syntax.specs.Phrases.{◌▸◌, ◌or◌, mark, number, Items, end, item}
-use Rattle.litmus_syntax.specs.Grammar.{IsEntryItem, before_brace, place_of, NoneTwice, IsInitial}
+use Rattle.litmus_syntax.specs.Phrases.{◌▸◌, mark, number, Items, end, item}
+use Rattle.litmus_syntax.specs.Grammar.{IsEntryItem, separator, place_of, NoneTwice, IsInitial}
 use Rattle.litmus_syntax.specs.declared.seen.Seen.{Seen}
 use Rattle.litmus_syntax.specs.Places.{same_place, has}
-use Rattle.litmus_syntax.specs.Reading.{◌>>=◌, place_at, value_at, entry_value_at, entry_at}
-use Rattle.litmus_syntax.proofs.Options.{bind_some, chosen, some_is}
+use Rattle.litmus_syntax.specs.Reading.{◌>>=◌, separator_at, place_at, value_at, entry_value_at, entry_at}
+use Rattle.litmus_syntax.proofs.Options.{bind_some, some_is}
 use Rattle.litmus_syntax.proofs.ItemLaws.{IsRead, Only, SoFar, only_read, none_read, none_behind, one_more, refused, closed}
-use Rattle.litmus_syntax.proofs.SeenLaws.{fresh, twice}
+use Rattle.litmus_syntax.proofs.Repetitions.{fresh, twice}
+use Rattle.litmus_syntax.proofs.SeenLaws.{same_place_is, same_place_itself}
+use Rattle.litmus_syntax.proofs.WordLaws.{separator_takes, separator_again}
 use Rattle.litmus_syntax.proofs.PlaceLaws.{place_takes, place_again, value_takes, value_again}
 
 -- `=`, a number, and what stands behind an entry
 abbrev EntryValue : ℕ → List Tok → List Tok → Type 0
-EntryValue n = (mark the.Equals ▸ number n) ▸ (mark the.Semicolon or before_brace)
+EntryValue n = (mark the.Equals ▸ number n) ▸ separator the.CloseBrace
 
 entry_value_takes : (ts : List Tok) (x : ℕ × List Tok) → entry_value_at ts ≡ Some x → EntryValue x.0 ts x.1
 unfolding entry_value_at
 entry_value_takes ts x e =
-    let a = bind_some (value_at ts) (λ n. cond (begins_with the.CloseBrace n.1) (Some n) (mark_at the.Semicolon n.1 >>= λ rest. Some (n.0, rest))) x e in
-    elim (chosen (begins_with the.CloseBrace a.0.1) (Some a.0) (mark_at the.Semicolon a.0.1 >>= λ rest. Some (a.0.0, rest)) (Some x) a.2) [
-      | inl h ↦
-          subst (λ (z : ℕ × List Tok). EntryValue z.0 ts z.1) (some_is a.0 x h.1)
-          (a.0.1, value_takes ts a.0 a.1, inr (refl, (rest_of a.0.1, begins_takes the.CloseBrace a.0.1 h.0)))
-      | inr h ↦
-          let b = bind_some (mark_at the.Semicolon a.0.1) (λ rest. Some (a.0.0, rest)) x h.1 in
-          subst (λ (z : ℕ × List Tok). EntryValue z.0 ts z.1) (some_is (a.0.0, b.0) x b.2) (a.0.1, value_takes ts a.0 a.1, inl (mark_takes the.Semicolon a.0.1 b.0 b.1))
-    ]
+    let a = bind_some (value_at ts) (λ n. separator_at the.CloseBrace n.1 >>= λ rest. Some (n.0, rest)) x e in
+    let b = bind_some (separator_at the.CloseBrace a.0.1) (λ rest. Some (a.0.0, rest)) x a.2 in
+    subst (λ (z : ℕ × List Tok). EntryValue z.0 ts z.1) (some_is (a.0.0, b.0) x b.2) (a.0.1, value_takes ts a.0 a.1, separator_takes the.CloseBrace a.0.1 b.0 b.1)
 
 entry_value_again : (n : ℕ) (ts rest : List Tok) → EntryValue n ts rest → entry_value_at ts ≡ Some (n, rest)
 unfolding entry_value_at
-entry_value_again n ts rest h =
-    elim h.2 [
-      | inl s ↦ rw (value_again n ts h.0 h.1, s) refl
-      | inr b ↦ rw (value_again n ts h.0 h.1, begins_again the.CloseBrace h.0 b.1.0 b.1.1, b.0) refl
-    ]
+entry_value_again n ts rest h = rw (value_again n ts h.0 h.1, separator_again the.CloseBrace h.0 rest (λ e. cc) h.2) refl
 
 item_takes : (ts : List Tok) (x : EntryView × List Tok) → entry_at ts ≡ Some x → IsEntryItem x.0 ts x.1
 unfolding entry_at
@@ -136,7 +128,7 @@ one_more_entry ts es rest old new p n after others s apart is new_place added va
     let only = only_read IsEntryItem entry_at entries_are_read rest (e, others) (whole_entry rest after others p n is value) in
     record {
       items = one_more IsEntryItem (mark the.CloseBrace) (Inside ts) es rest e others s.items (open_yet rest apart) only;
-      once = rw (map_push place_of es e) (fresh (map place_of es) p s.once (sym (s.places p) ∙ not_back (has old p) new_place));
+      once = rw (map_push place_of es e) (fresh same_place same_place_is same_place_itself (map place_of es) p s.once (sym (s.places p) ∙ not_back (has old p) new_place));
       places = added_place es e old new s.places added;
     }
 
@@ -152,7 +144,7 @@ place_again_stands ts es rest seen p after s apart is old fs last h =
     let b = s.items.back fs last h.0 in
     let first = first_place rest p after apart is b.0 last b.2 in
     let parts : map place_of fs ≡ map place_of es ++ p ∷ first.0 = ap (map place_of) b.1 ∙ map-append place_of es b.0 ∙ ap (λ (z : List PlaceView). map place_of es ++ z) first.1 in
-    twice (map place_of es) first.0 p (sym (s.places p) ∙ not_true_back (has seen p) old) (subst NoneTwice parts h.1)
+    twice same_place same_place_is same_place_itself (map place_of es) first.0 p (sym (s.places p) ∙ not_true_back (has seen p) old) (subst NoneTwice parts h.1)
 
 entries_stop : (ts : List Tok) (es : List EntryView) (rest : List Tok) (seen : Seen) → EntriesSoFar ts es rest seen → begins_with the.CloseBrace rest ≡ false → entry_at rest ≡ None
     → (fs : List EntryView) (last : List Tok) → IsInitial fs ts last → ⊥

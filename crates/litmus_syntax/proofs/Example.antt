@@ -1,20 +1,34 @@
--- The grammar at a small text, store buffering: its tokens are related to what they say.
-use Rattle.std.proofs.Common.{◌≡◌, ℕ, true, List, [], ◌∷◌, ◌++◌, codes, refl, sym, ap, inl, inr, Some, lit<}
+-- The grammar at a small text with labels, jumps and all kinds of operands: its tokens are related to what they say.
+use Rattle.std.proofs.Common.{◌≡◌, ℕ, true, List, [], ◌∷◌, ◌++◌, codes, refl, sym, ap, inl, inr, Some, None, lit<}
 use Rattle.std.proofs.lemmas.Fmt.{decimal_digit}
 use Rattle.std.proofs.lemmas.List.Elements.{All-cons, All-nil}
 use Rattle.text_tokens.specs.declared.token.Mark.TheVariants as the
 use Rattle.text_tokens.specs.Tokens.{Tok, Word, Number, Sign}
 use Rattle.tso_program.specs.declared.instruction.Reg.TheVariants.{Eax, Ebx}
-use Rattle.litmus_syntax.specs.Words.{reg_of, opens_condition, joins_formula, is_name, is_mov, column_name}
-use Rattle.litmus_syntax.specs.Views.{Location, Register, EntryView, StoreImm, Load, CellView, BodyView, SignView, Atom, And, Open, Close}
+use Rattle.litmus_syntax.specs.declared.mnemonic.Mnemonic.TheVariants as op
+use Rattle.litmus_syntax.specs.declared.ending.Quantifier.TheVariants.{NotExists}
+use Rattle.litmus_syntax.specs.Words.{reg_of, opens_condition, joins_formula, is_label, is_name, mnemonic_of, column_name}
+use Rattle.litmus_syntax.specs.Views.{Location, Register, EntryView, CodeView, StoreImm, Load, Xchg, CmpImm, Jne, CellView, BodyView, SignView, Atom, Const, Not, And, Or, Open, Close, EndingView}
 use Rattle.litmus_syntax.specs.Phrases.{end, item}
-use Rattle.litmus_syntax.specs.Grammar.{IsCode, HasThread, last, column, IsHeader, IsInitial, IsRow, IsBody, IsSigns}
+use Rattle.litmus_syntax.specs.Grammar.{IsCode, HasThread, last, column, IsHeader, IsInitial, IsRow, IsBody, IsEnding}
 
 -- ---- words
 
-moves : is_mov (codes "MOV") ≡ true
-unfolding is_mov
+moves : mnemonic_of (codes "MOV") ≡ Some op.Mov
+unfolding mnemonic_of
 moves = refl
+
+small_exchange : mnemonic_of (codes "xchg") ≡ Some op.Xchg
+unfolding mnemonic_of
+small_exchange = refl
+
+compares : mnemonic_of (codes "CMP") ≡ Some op.Cmp
+unfolding mnemonic_of
+compares = refl
+
+jumps : mnemonic_of (codes "JNE") ≡ Some op.Jne
+unfolding mnemonic_of
+jumps = refl
 
 eax : reg_of (codes "EAX") ≡ Some Eax
 unfolding reg_of
@@ -32,46 +46,22 @@ y_is_name : is_name (codes "y") ≡ true
 unfolding is_name opens_condition joins_formula reg_of
 y_is_name = refl
 
--- ---- `{ x=0; 1:ebx=7 } P0 | P1 ; MOV [x],$1 | MOV [y],$1 ; MOV EAX,[y] | MOV EAX,[x] ;`
+-- a mnemonic may be a label
+end_is_label : is_label (codes "JE") ≡ true
+unfolding is_label opens_condition joins_formula
+end_is_label = refl
 
-abbrev bracketed : List ℕ → List Tok → List Tok
-bracketed x rest = Sign the.OpenBracket ∷ Word x ∷ Sign the.CloseBracket ∷ rest
-
--- `MOV [x],$1`
-abbrev store_of : List ℕ → List Tok → List Tok
-store_of x rest = Word (codes "MOV") ∷ bracketed x (Sign the.Comma ∷ Sign the.Dollar ∷ Number 1 ∷ rest)
-
--- `MOV EAX,[x]`
-abbrev load_of : List ℕ → List Tok → List Tok
-load_of x rest = Word (codes "MOV") ∷ Word (codes "EAX") ∷ Sign the.Comma ∷ bracketed x rest
-
-abbrev stores : List Tok → List Tok
-stores rest = store_of (codes "x") (Sign the.Bar ∷ store_of (codes "y") (Sign the.Semicolon ∷ rest))
-
-abbrev loads : List Tok → List Tok
-loads rest = load_of (codes "y") (Sign the.Bar ∷ load_of (codes "x") (Sign the.Semicolon ∷ rest))
-
-abbrev header : List Tok → List Tok
-header rest = Word (codes "P0") ∷ Sign the.Bar ∷ Word (codes "P1") ∷ Sign the.Semicolon ∷ rest
+-- ---- `{ x=0; 1:ebx=7 } P0 | P1 ;`
 
 abbrev initial : List Tok → List Tok
 initial rest =
     Sign the.OpenBrace ∷ Word (codes "x") ∷ Sign the.Equals ∷ Number 0 ∷ Sign the.Semicolon ∷ Number 1 ∷ Sign the.Colon ∷ Word (codes "ebx") ∷ Sign the.Equals ∷ Number 7 ∷ Sign the.CloseBrace ∷ rest
 
-abbrev x_zero : EntryView
-x_zero = record { place = Location (codes "x"); value = 0 }
-
-abbrev ebx_seven : EntryView
-ebx_seven = record { place = Register 1 Ebx; value = 7 }
+abbrev header : List Tok → List Tok
+header rest = Word (codes "P0") ∷ Sign the.Bar ∷ Word (codes "P1") ∷ Sign the.Semicolon ∷ rest
 
 abbrev entries : List EntryView
-entries = x_zero ∷ ebx_seven ∷ []
-
-abbrev store_row : List CellView
-store_row = Some (StoreImm (codes "x") 1) ∷ Some (StoreImm (codes "y") 1) ∷ []
-
-abbrev load_row : List CellView
-load_row = Some (Load Eax (codes "y")) ∷ Some (Load Eax (codes "x")) ∷ []
+entries = record { place = Location (codes "x"); value = 0 } ∷ record { place = Register 1 Ebx; value = 7 } ∷ []
 
 initial_read : (rest : List Tok) → IsInitial entries (initial rest) rest
 initial_read rest = (
@@ -93,43 +83,110 @@ header_read rest =
       column (Word (codes "P1") ∷ others, refl, ap (λ (name : List ℕ). Word name ∷ others) second_name) (last refl refl),
     )
 
+-- ---- instructions
+
+abbrev bracketed : List ℕ → List Tok → List Tok
+bracketed x rest = Sign the.OpenBracket ∷ Word x ∷ Sign the.CloseBracket ∷ rest
+
+-- `MOV [x],$1`
+abbrev store_of : List ℕ → List Tok → List Tok
+store_of x rest = Word (codes "MOV") ∷ bracketed x (Sign the.Comma ∷ Sign the.Dollar ∷ Number 1 ∷ rest)
+
+-- `MOV EAX,[x]`
+abbrev load_of : List ℕ → List Tok → List Tok
+load_of x rest = Word (codes "MOV") ∷ Word (codes "EAX") ∷ Sign the.Comma ∷ bracketed x rest
+
+-- `xchg EAX,[x]`
+abbrev exchange_of : List ℕ → List Tok → List Tok
+exchange_of x rest = Word (codes "xchg") ∷ Word (codes "EAX") ∷ Sign the.Comma ∷ bracketed x rest
+
+-- `CMP EAX,1`
+abbrev compare_of : List Tok → List Tok
+compare_of rest = Word (codes "CMP") ∷ Word (codes "EAX") ∷ Sign the.Comma ∷ Number 1 ∷ rest
+
+-- `JNE JE`
+abbrev jump_of : List Tok → List Tok
+jump_of rest = Word (codes "JNE") ∷ Word (codes "JE") ∷ rest
+
 store_read : (x : List ℕ) → is_name x ≡ true → (rest : List Tok) → IsCode (StoreImm x 1) (store_of x rest) rest
 store_read x h rest = (_, (codes "MOV", moves, refl), (_, (_, refl, (_, (h, refl), refl)), (_, refl, inl (_, refl, refl))))
 
 load_read : (x : List ℕ) → is_name x ≡ true → (rest : List Tok) → IsCode (Load Eax x) (load_of x rest) rest
 load_read x h rest = (_, (codes "MOV", moves, refl), (_, (codes "EAX", eax, refl), (_, refl, (_, refl, (_, (h, refl), refl)))))
 
-stores_read : (rest : List Tok) → IsRow 2 store_row (stores rest) rest
-stores_read rest = (refl, (_, (store_read (codes "x") x_is_name _, refl), item (_, refl, (store_read (codes "y") y_is_name _, refl)) (end refl)))
+exchange_read : (x : List ℕ) → is_name x ≡ true → (rest : List Tok) → IsCode (Xchg x Eax) (exchange_of x rest) rest
+exchange_read x h rest = (_, (codes "xchg", small_exchange, refl), inr (_, (codes "EAX", eax, refl), (_, refl, (_, refl, (_, (h, refl), refl)))))
 
-loads_read : (rest : List Tok) → IsRow 2 load_row (loads rest) rest
-loads_read rest = (refl, (_, (load_read (codes "y") y_is_name _, refl), item (_, refl, (load_read (codes "x") x_is_name _, refl)) (end refl)))
+compare_read : (rest : List Tok) → IsCode (CmpImm Eax 1) (compare_of rest) rest
+compare_read rest = (_, (codes "CMP", compares, refl), (_, (codes "EAX", eax, refl), (_, refl, inr refl)))
 
--- `exists (0:EAX=0 /\ 1:EAX=0)`
-abbrev condition : List Tok
-condition =
-    Word (codes "exists") ∷ Sign the.OpenParen ∷ Number 0 ∷ Sign the.Colon ∷ Word (codes "EAX") ∷ Sign the.Equals ∷ Number 0 ∷ Sign the.And ∷ Number 1 ∷ Sign the.Colon ∷ Word (codes "EAX") ∷ Sign the.Equals ∷ Number 0 ∷ Sign the.CloseParen ∷ []
+jump_read : (rest : List Tok) → IsCode (Jne (codes "JE")) (jump_of rest) rest
+jump_read rest = (_, (codes "JNE", jumps, refl), refl)
+
+-- ---- rows: `MOV [x],$1 | xchg EAX,[y] ; JNE JE | CMP EAX,1 ; JE: | ;`
+
+abbrev unlabelled : CodeView → CellView
+unlabelled c = record { labels = []; code = Some c }
+
+abbrev first_row : List CellView
+first_row = unlabelled (StoreImm (codes "x") 1) ∷ unlabelled (Xchg (codes "y") Eax) ∷ []
+
+abbrev second_row : List CellView
+second_row = unlabelled (Jne (codes "JE")) ∷ unlabelled (CmpImm Eax 1) ∷ []
+
+abbrev third_row : List CellView
+third_row = record { labels = codes "JE" ∷ []; code = None } ∷ record { labels = []; code = None } ∷ []
+
+abbrev first_tokens : List Tok → List Tok
+first_tokens rest = store_of (codes "x") (Sign the.Bar ∷ exchange_of (codes "y") (Sign the.Semicolon ∷ rest))
+
+abbrev second_tokens : List Tok → List Tok
+second_tokens rest = jump_of (Sign the.Bar ∷ compare_of (Sign the.Semicolon ∷ rest))
+
+abbrev third_tokens : List Tok → List Tok
+third_tokens rest = Word (codes "JE") ∷ Sign the.Colon ∷ Sign the.Bar ∷ Sign the.Semicolon ∷ rest
+
+first_read : (rest : List Tok) → IsRow 2 first_row (first_tokens rest) rest
+first_read rest = (refl, (_, end (store_read (codes "x") x_is_name _, refl), item (_, refl, end (exchange_read (codes "y") y_is_name _, refl)) (end refl)))
+
+second_read : (rest : List Tok) → IsRow 2 second_row (second_tokens rest) rest
+second_read rest = (refl, (_, end (jump_read _, refl), item (_, refl, end (compare_read _, refl)) (end refl)))
+
+third_read : (rest : List Tok) → IsRow 2 third_row (third_tokens rest) rest
+third_read rest = (refl, (_, item (end_is_label, (_, refl, refl)) (end (refl, refl)), item (_, refl, end (refl, refl)) (end refl)))
+
+-- ---- `locations [x; [y]; 0:EAX] ~exists not (0:EAX=1 \/ x=0) /\ true`
+
+abbrev ending : List Tok
+ending =
+    Word (codes "locations") ∷ Sign the.OpenBracket ∷ Word (codes "x") ∷ Sign the.Semicolon ∷ bracketed (codes "y") (Sign the.Semicolon ∷ Number 0 ∷ Sign the.Colon ∷ Word (codes "EAX") ∷ Sign the.CloseBracket ∷ Sign the.Tilde ∷ Word (codes "exists") ∷ Word (codes "not") ∷ Sign the.OpenParen ∷ Number 0 ∷ Sign the.Colon ∷ Word (codes "EAX") ∷ Sign the.Equals ∷ Number 1 ∷ Sign the.Or ∷ Word (codes "x") ∷ Sign the.Equals ∷ Number 0 ∷ Sign the.CloseParen ∷ Sign the.And ∷ Word (codes "true") ∷ [])
 
 abbrev body : BodyView
-body = record { entries = entries; threads = 2; rows = store_row ∷ load_row ∷ [] }
+body = record { entries = entries; threads = 2; rows = first_row ∷ second_row ∷ third_row ∷ [] }
 
-before_exists : opens_condition (codes "exists") ≡ true
+before_locations : opens_condition (codes "locations") ≡ true
 unfolding opens_condition
-before_exists = refl
+before_locations = refl
 
-pub store_buffering : IsBody body (initial (header (stores (loads condition)))) condition
-store_buffering = (
-  (_, initial_read _, (_, header_read _, item (stores_read _) (item (loads_read _) (end (refl, before_exists))))),
+pub body_is_told : IsBody body (initial (header (first_tokens (second_tokens (third_tokens ending))))) ending
+body_is_told = (
+  (_, initial_read _, (_, header_read _, (item (first_read _) (item (second_read _) (item (third_read _) (end (refl, before_locations)))), (tt, tt)))),
   All-cons (HasThread 2) (Location (codes "x")) (Register 1 Ebx ∷ []) tt (All-cons (HasThread 2) (Register 1 Ebx) [] (lit< tt) (All-nil (HasThread 2))),
 )
 
 abbrev signs : List SignView
-signs = Open ∷ Atom (Register 0 Eax) 0 ∷ And ∷ Atom (Register 1 Eax) 0 ∷ Close ∷ []
+signs = Not ∷ Open ∷ Atom (Register 0 Eax) 1 ∷ Or ∷ Atom (Location (codes "x")) 0 ∷ Close ∷ And ∷ Const true ∷ []
 
-pub store_buffering_signs : IsSigns 2 signs condition
-store_buffering_signs = (
+abbrev told : EndingView
+told = record { observed = Location (codes "x") ∷ Location (codes "y") ∷ Register 0 Eax ∷ []; quantifier = NotExists; signs = signs }
+
+pub ending_is_told : IsEnding 2 told ending
+ending_is_told = (
   _,
-  refl,
-  item refl (item (lit< tt, (_, (_, refl, (_, refl, (codes "EAX", eax, refl))), (_, refl, refl)))
-      (item refl (item (lit< tt, (_, (_, refl, (_, refl, (codes "EAX", eax, refl))), (_, refl, refl))) (item refl (end (refl, refl)))))),
+  inl (_, refl, (_, refl, item (tt, (_, inl (x_is_name, refl), inl refl)) (item (tt, (_, inr (_, refl, (_, (y_is_name, refl), refl)), inl refl)) (item (lit< tt, (_, (_, refl, (_, refl, (codes "EAX", eax, refl))), inr (refl, (_, refl)))) (end refl))))),
+  (
+    _,
+    (_, refl, refl),
+    item (inl refl) (item refl (item (lit< tt, (_, (_, refl, (_, refl, (codes "EAX", eax, refl))), (_, refl, refl))) (item refl (item (tt, (_, inl (x_is_name, refl), (_, refl, refl))) (item refl (item refl (item refl (end (refl, refl))))))))),
+  ),
 )

@@ -16,7 +16,8 @@ pub chosen : {A : Type 0} (b : Bool) (x y z : Option A) → cond b x y ≡ z →
 chosen true x y z e = inl (refl, e)
 chosen false x y z e = inr (refl, e)
 
-abbrev given : {A : Type 0} → A → Option A
+-- what is there
+abbrev pub given : {A : Type 0} → A → Option A
 given x = Some x
 
 pub some_is : {A : Type 0} (x y : A) → given x ≡ Some y → x ≡ y

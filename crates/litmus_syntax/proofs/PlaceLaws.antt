@@ -1,6 +1,7 @@
 -- What the readers of names, places and values read is what the grammar says.
-use Rattle.std.proofs.Common.{◌≡◌, ℕ, cond, List, refl, subst, inl, inr, Some, None}
-use Rattle.std.specs.Prelude.{is_some}
+use Rattle.std.proofs.Common.{◌≡◌, ◌∙◌, ◌<◌, ℕ, false, cond, not, List, refl, sym, ap, subst, inl, inr, arith, Option, Some, None}
+use Rattle.std.specs.Prelude.{is_some, nat_lt}
+use Rattle.std.proofs.lemmas.Bool.Decides.{nat_tests}
 use Rattle.std.proofs.lemmas.Option.{cond_some}
 use Rattle.text_tokens.specs.declared.token.Mark.TheVariants as the
 use Rattle.text_tokens.specs.Tokens.{Tok}
@@ -10,8 +11,8 @@ use Rattle.tso_program.specs.declared.instruction.Reg.{Reg}
 use Rattle.litmus_syntax.specs.Words.{reg_of, is_name}
 use Rattle.litmus_syntax.specs.Views.{PlaceView, Location, Register}
 use Rattle.litmus_syntax.specs.Phrases.{◌▸◌, mark, number}
-use Rattle.litmus_syntax.specs.Grammar.{register, name, memory, IsPlace}
-use Rattle.litmus_syntax.specs.Reading.{◌>>=◌, name_at, register_at, memory_at, thread_register_at, as_location, place_at, value_at}
+use Rattle.litmus_syntax.specs.Grammar.{register, name, memory, IsPlace, HasThread}
+use Rattle.litmus_syntax.specs.Reading.{◌>>=◌, name_at, register_at, memory_at, thread_register_at, as_location, place_at, names_missing, place_among_at, value_at}
 use Rattle.litmus_syntax.proofs.Options.{bind_some, chosen, some_is}
 
 -- ---- names
@@ -92,6 +93,34 @@ register_place_again t r ts rest h = rw (thread_register_again t r ts rest h, h.
 pub place_again : (p : PlaceView) (ts rest : List Tok) → IsPlace p ts rest → place_at ts ≡ Some (p, rest)
 place_again (Location x) ts rest h = elim h [ inl n ↦ named_again x ts rest n | inr m ↦ bracketed_again x ts rest m ]
 place_again (Register t r) ts rest h = register_place_again t r ts rest h
+
+-- ---- places of some threads
+
+below : (t n : ℕ) → not (nat_lt t n) ≡ false → t < n
+below t n e = grind (arith, nat_tests)
+
+not_missing : (t n : ℕ) → t < n → not (nat_lt t n) ≡ false
+not_missing t n h = grind (arith, nat_tests)
+
+there : (threads : ℕ) (p : PlaceView) (ts rest : List Tok) → IsPlace p ts rest → names_missing threads ts ≡ false → HasThread threads p
+there threads (Location x) ts rest h e = tt
+there threads (Register t r) ts rest h e = below t threads (sym (ap (names_missing threads) h.1) ∙ e)
+
+named : (threads : ℕ) (p : PlaceView) (ts rest : List Tok) → IsPlace p ts rest → HasThread threads p → names_missing threads ts ≡ false
+named threads (Location x) ts rest h e = elim h [ inl n ↦ ap (names_missing threads) n.1 | inr m ↦ ap (names_missing threads) m.1 ]
+named threads (Register t r) ts rest h e = ap (names_missing threads) h.1 ∙ not_missing t threads e
+
+pub place_among_takes : (threads : ℕ) (ts : List Tok) (x : PlaceView × List Tok) → place_among_at threads ts ≡ Some x → HasThread threads x.0 × IsPlace x.0 ts x.1
+unfolding place_among_at
+place_among_takes threads ts x e =
+    elim (chosen (names_missing threads ts) None (place_at ts) (Some x) e) [
+      | inl h ↦ let none : Option (PlaceView × List Tok) = None in let bad : none ≡ Some x = h.1 in absurd cc
+      | inr h ↦ let p = place_takes ts x h.1 in (there threads x.0 ts x.1 p h.0, p)
+    ]
+
+pub place_among_again : (threads : ℕ) (p : PlaceView) (ts rest : List Tok) → HasThread threads p → IsPlace p ts rest → place_among_at threads ts ≡ Some (p, rest)
+unfolding place_among_at
+place_among_again threads p ts rest h is = rw (named threads p ts rest is h) (place_again p ts rest is)
 
 -- ---- values
 

@@ -1,19 +1,18 @@
 -- Places that stand already.
-use Rattle.std.proofs.Common.{◌≡◌, ◌≢◌, ◌∙◌, ◌==◌, ◌||◌, ◌&&◌, ℕ, Bool, true, false, cond, List, [], ◌∷◌, ◌++◌, refl, sym, ap, subst, inl, inr, arith}
+use Rattle.std.proofs.Common.{◌≡◌, ◌∙◌, ◌==◌, ◌||◌, ◌&&◌, ℕ, Bool, true, false, cond, List, [], ◌∷◌, ◌++◌, refl, sym, ap, subst, arith}
 use Rattle.std.specs.Prelude.{if◌then◌else◌}
 use Rattle.std.specs.List.{list_any}
 use Rattle.std.specs.Str.{bytes_eq}
 use Rattle.std.specs.Global.{Vec}
 use Rattle.std.proofs.lemmas.List.Folds.{list_any-append}
 use Rattle.litmus_syntax.specs.declared.seen.Seen.{Seen}
-use Rattle.std.proofs.lemmas.Bool.{or_cases, eqb-true}
+use Rattle.std.proofs.lemmas.Bool.{eqb-true}
 use Rattle.std.proofs.lemmas.Bool.Decides.{nat_tests}
 use Rattle.std.proofs.lemmas.Slice.Eq.{bytes_eq-Decides}
 use Rattle.tso_program.specs.declared.instruction.Reg.{Reg}
 use Rattle.tso_program.specs.declared.instruction.Reg.TheVariants.{Eax, Ebx, Ecx, Edx, Esi, Edi}
 use Rattle.tso_program.specs.Instructions as instructions
 use Rattle.litmus_syntax.specs.Views.{PlaceView, Location, Register}
-use Rattle.litmus_syntax.specs.Grammar.{IsNoneOf, NoneTwice}
 use Rattle.litmus_syntax.specs.Places.{same_place, has}
 
 -- ---- whether two places are one
@@ -50,39 +49,6 @@ itself n = grind (arith, nat_tests)
 pub same_place_itself : (p : PlaceView) → same_place p p ≡ true
 same_place_itself (Location x) = (bytes_eq-Decides x x).1 refl
 same_place_itself (Register t r) = rw (itself t, itself (instructions.number r)) refl
-
-pub same_place_not : (p q : PlaceView) → same_place p q ≡ false → q ≢ p
-same_place_not p q e is = let bad = sym e ∙ ap (same_place p) is ∙ same_place_itself p in cc
-
--- ---- lists of places
-
-neither : (a b : Bool) → (a || b) ≡ false → (a ≡ false) × (b ≡ false)
-neither true b e = absurd cc
-neither false b e = (refl, e)
-
-none_more : (q : PlaceView) (qs : List PlaceView) (p : PlaceView) → IsNoneOf q qs → q ≢ p → IsNoneOf q (qs ++ p ∷ [])
-none_more q [] p h other = (other, tt)
-none_more q (x ∷ qs) p h other = (h.0, none_more q qs p h.1 other)
-
--- a place that does not stand yet may stand
-pub fresh : (ps : List PlaceView) (p : PlaceView) → NoneTwice ps → list_any (same_place p) ps ≡ false → NoneTwice (ps ++ p ∷ [])
-fresh [] p h e = (tt, tt)
-fresh (q ∷ qs) p h e =
-    let n = neither (same_place p q) (list_any (same_place p) qs) e in
-    (none_more q qs p h.0 (same_place_not p q n.0), fresh qs p h.1 n.1)
-
-among : (q : PlaceView) (qs zs : List PlaceView) → IsNoneOf q (qs ++ q ∷ zs) → ⊥
-among q [] zs h = h.0 refl
-among q (x ∷ qs) zs h = among q qs zs h.1
-
--- a place that stands may not stand again
-pub twice : (ps zs : List PlaceView) (p : PlaceView) → list_any (same_place p) ps ≡ true → NoneTwice (ps ++ p ∷ zs) → ⊥
-twice [] zs p e h = cc
-twice (q ∷ qs) zs p e h =
-    elim (or_cases (same_place p q) (list_any (same_place p) qs) e) [
-      | inl f ↦ among p qs zs (subst (λ (x : PlaceView). IsNoneOf x (qs ++ p ∷ zs)) (sym (same_place_is p q f)) h.0)
-      | inr f ↦ twice qs zs p f h.1
-    ]
 
 -- ---- adding a place to the set
 

@@ -1,15 +1,21 @@
 -- What each function of the reader gives.
-use Rattle.std.specs.Prelude.{◌≡◌, ℕ, Bool, false, List, [], ◌∷◌, codes, nat_lt, not, Option, Some, None, Result, Ok, Err, option_and_then, is_some, if◌then◌else◌}
+use Rattle.std.specs.Prelude.{◌≡◌, ℕ, Bool, true, false, List, [], ◌∷◌, codes, nat_lt, not, Option, Some, None, Result, Ok, Err, option_and_then, is_some, if◌then◌else◌}
 use Rattle.std.specs.Str.{bytes_eq}
+use Rattle.text_tokens.specs.declared.token.Mark.{Mark}
 use Rattle.text_tokens.specs.declared.token.Mark.TheVariants as the
 use Rattle.text_tokens.specs.Tokens.{Tok, Word, Number, Sign, NoToken}
-use Rattle.text_tokens.specs.Parts.{word_at, number_at, mark_at, begins_with}
+use Rattle.text_tokens.specs.Parts.{word_at, number_at, mark_at, begins_with, rest_of}
 use Rattle.tso_program.specs.declared.instruction.Reg.{Reg}
 use Rattle.litmus_syntax.specs.declared.fault.Refusal.{Refusal}
 use Rattle.litmus_syntax.specs.declared.fault.SyntaxFault.{SyntaxFault}
 use Rattle.litmus_syntax.specs.declared.fault.SyntaxFault.TheVariants.{Refused, OutOfMemory}
-use Rattle.litmus_syntax.specs.Words.{reg_of, is_name, is_mov, is_mfence, column_name}
-use Rattle.litmus_syntax.specs.Views.{PlaceView, Location, Register, EntryView, CodeView, LoadImm, Copy, Load, StoreImm, Store, Fence, CellView, SignView, Atom, True, And, Open, Close}
+use Rattle.litmus_syntax.specs.declared.mnemonic.Mnemonic.{Mnemonic}
+use Rattle.litmus_syntax.specs.declared.mnemonic.Mnemonic.TheVariants as op
+use Rattle.litmus_syntax.specs.declared.ending.Quantifier.{Quantifier}
+use Rattle.litmus_syntax.specs.declared.ending.Quantifier.TheVariants.{Exists, NotExists, Forall}
+use Rattle.litmus_syntax.specs.Words.{reg_of, is_label, is_name, mnemonic_of, column_name}
+use Rattle.litmus_syntax.specs.Views.{PlaceView, Location, Register, EntryView, CodeView, LoadImm, Copy, Load, StoreImm, Store, Xchg, Fence, CmpImm, CmpReg, Je, Jne, Jmp, SignView, Atom, Const, Not, And, Or, Open, Close}
+use Rattle.litmus_syntax.specs.Phrases.{begins_with_word}
 use Rattle.litmus_syntax.specs.Grammar.{ends_cell}
 
 infixl 10 ◌>>=◌
@@ -67,6 +73,28 @@ place_at ts =
     if begins_with the.OpenBracket ts then (memory_at ts >>= λ x. Some (as_location x)) else
     if is_some (number_at ts) then thread_register_at ts else (name_at ts >>= λ x. Some (as_location x))
 
+-- whether a thread's register comes first, and there is no such thread
+abbrev pub names_missing : ℕ → List Tok → Bool
+names_missing threads [] = false
+names_missing threads (Word w ∷ ts) = false
+names_missing threads (Number t ∷ ts) = not (nat_lt t threads)
+names_missing threads (Sign m ∷ ts) = false
+names_missing threads (NoToken b ∷ ts) = false
+
+-- a place of so many threads
+unfoldable pub place_among_at : ℕ → List Tok → Option (PlaceView × List Tok)
+place_among_at threads ts = if names_missing threads ts then None else place_at ts
+
+-- ---- words and marks between them
+
+-- the tokens after this word, if it comes first
+abbrev pub keyword_at : List ℕ → List Tok → Option (List Tok)
+keyword_at w ts = if begins_with_word w ts then Some (rest_of ts) else None
+
+-- the tokens after `;`, or those before the closing mark
+abbrev pub separator_at : Mark → List Tok → Option (List Tok)
+separator_at close ts = if begins_with close ts then Some ts else mark_at the.Semicolon ts
+
 -- ---- initial values
 
 -- `=` and a number
@@ -79,7 +107,8 @@ value_at ts = do
 unfoldable pub entry_value_at : List Tok → Option (ℕ × List Tok)
 entry_value_at ts = do
   n ← value_at ts
-  if begins_with the.CloseBrace n.1 then Some n else (mark_at the.Semicolon n.1 >>= λ rest. Some (n.0, rest))
+  rest ← separator_at the.CloseBrace n.1
+  Some (n.0, rest)
 
 unfoldable pub entry_at : List Tok → Option (EntryView × List Tok)
 entry_at ts = do
@@ -126,54 +155,138 @@ location_move_at ts = do
 unfoldable pub move_at : List Tok → Option (CodeView × List Tok)
 move_at ts = if begins_with the.OpenBracket ts then location_move_at ts else register_move_at ts
 
+abbrev pub location_exchange_at : List Tok → Option (CodeView × List Tok)
+location_exchange_at ts = do
+  x ← memory_at ts
+  rest ← mark_at the.Comma x.1
+  r ← register_at rest
+  Some (Xchg x.0 r.0, r.1)
+
+abbrev pub register_exchange_at : List Tok → Option (CodeView × List Tok)
+register_exchange_at ts = do
+  r ← register_at ts
+  rest ← mark_at the.Comma r.1
+  x ← memory_at rest
+  Some (Xchg x.0 r.0, x.1)
+
+-- the operands of XCHG
+unfoldable pub exchange_at : List Tok → Option (CodeView × List Tok)
+exchange_at ts = if begins_with the.OpenBracket ts then location_exchange_at ts else register_exchange_at ts
+
+-- what a register is compared with
+unfoldable pub compared_with_at : Reg → List Tok → Option (CodeView × List Tok)
+compared_with_at r ts =
+    if is_some (word_at ts) then (register_at ts >>= λ s. Some (CmpReg r s.0, s.1)) else (immediate_at ts >>= λ n. Some (CmpImm r n.0, n.1))
+
+-- the operands of CMP
+unfoldable pub compare_at : List Tok → Option (CodeView × List Tok)
+compare_at ts = do
+  r ← register_at ts
+  rest ← mark_at the.Comma r.1
+  compared_with_at r.0 rest
+
+abbrev pub operands_at : Mnemonic → List Tok → Option (CodeView × List Tok)
+operands_at op.Mov ts = move_at ts
+operands_at op.Xchg ts = exchange_at ts
+operands_at op.Mfence ts = Some (Fence, ts)
+operands_at op.Cmp ts = compare_at ts
+operands_at op.Je ts = word_at ts >>= λ l. Some (Je l.0, l.1)
+operands_at op.Jne ts = word_at ts >>= λ l. Some (Jne l.0, l.1)
+operands_at op.Jmp ts = word_at ts >>= λ l. Some (Jmp l.0, l.1)
+
 unfoldable pub code_at : List Tok → Option (CodeView × List Tok)
 code_at ts = do
   w ← word_at ts
-  if is_mov w.0 then move_at w.1 else if is_mfence w.0 then Some (Fence, w.1) else None
+  m ← mnemonic_of w.0
+  operands_at m w.1
 
--- ---- rows
+-- ---- cells
 
-unfoldable pub cell_at : List Tok → Option (CellView × List Tok)
-cell_at ts =
+-- whether a word and `:` come first
+abbrev pub begins_label : List Tok → Bool
+begins_label [] = false
+begins_label (Word w ∷ ts) = begins_with the.Colon ts
+begins_label (Number n ∷ ts) = false
+begins_label (Sign m ∷ ts) = false
+begins_label (NoToken b ∷ ts) = false
+
+unfoldable pub label_at : List Tok → Option (List ℕ × List Tok)
+label_at ts = do
+  w ← word_at ts
+  if is_label w.0 then (mark_at the.Colon w.1 >>= λ rest. Some (w.0, rest)) else None
+
+unfoldable pub content_at : List Tok → Option (Option CodeView × List Tok)
+content_at ts =
     if ends_cell ts then Some (None, ts) else
     (code_at ts >>= λ c. if ends_cell c.1 then Some (Some c.0, c.1) else None)
 
--- `|` and a cell
-unfoldable pub next_cell_at : List Tok → Option (CellView × List Tok)
-next_cell_at ts = do
-  rest ← mark_at the.Bar ts
-  cell_at rest
+-- ---- what is observed
+
+-- `locations [`
+unfoldable pub observed_begin_at : List Tok → Option (List Tok)
+observed_begin_at ts = do
+  rest ← keyword_at (codes "locations") ts
+  mark_at the.OpenBracket rest
+
+-- a place and `;`; without `;`, before `]`
+unfoldable pub observed_item_at : ℕ → List Tok → Option (PlaceView × List Tok)
+observed_item_at threads ts = do
+  p ← place_among_at threads ts
+  rest ← separator_at the.CloseBracket p.1
+  Some (p.0, rest)
 
 -- ---- the condition
 
--- whether a thread's register comes first, and there is no such thread
-abbrev pub names_missing : ℕ → List Tok → Bool
-names_missing threads [] = false
-names_missing threads (Word w ∷ ts) = false
-names_missing threads (Number t ∷ ts) = not (nat_lt t threads)
-names_missing threads (Sign m ∷ ts) = false
-names_missing threads (NoToken b ∷ ts) = false
+abbrev pub not_exists_at : List Tok → Option (Quantifier × List Tok)
+not_exists_at ts = do
+  rest ← mark_at the.Tilde ts
+  others ← keyword_at (codes "exists") rest
+  Some (NotExists, others)
+
+abbrev pub forall_at : List Tok → Option (Quantifier × List Tok)
+forall_at ts = do
+  rest ← keyword_at (codes "forall") ts
+  Some (Forall, rest)
+
+abbrev pub exists_at : List Tok → Option (Quantifier × List Tok)
+exists_at ts = do
+  rest ← keyword_at (codes "exists") ts
+  Some (Exists, rest)
+
+unfoldable pub quantifier_at : List Tok → Option (Quantifier × List Tok)
+quantifier_at ts =
+    if begins_with the.Tilde ts then not_exists_at ts else
+    if begins_with_word (codes "forall") ts then forall_at ts else exists_at ts
+
+-- the sign that is this word
+unfoldable pub word_sign : List ℕ → Option SignView
+word_sign w =
+    if bytes_eq w (codes "true") then Some (Const true) else
+    if bytes_eq w (codes "false") then Some (Const false) else
+    if bytes_eq w (codes "not") then Some Not else None
+
+-- the sign that is this mark
+abbrev pub mark_sign : Mark → Option SignView
+mark_sign the.Tilde = Some Not
+mark_sign the.And = Some And
+mark_sign the.Or = Some Or
+mark_sign the.OpenParen = Some Open
+mark_sign the.CloseParen = Some Close
+mark_sign _ = None
+
+-- a sign that is one token
+abbrev pub short_sign_at : List Tok → Option (SignView × List Tok)
+short_sign_at [] = None
+short_sign_at (Word w ∷ ts) = word_sign w >>= λ s. Some (s, ts)
+short_sign_at (Number n ∷ ts) = None
+short_sign_at (Sign m ∷ ts) = mark_sign m >>= λ s. Some (s, ts)
+short_sign_at (NoToken b ∷ ts) = None
 
 unfoldable pub atom_at : ℕ → List Tok → Option (SignView × List Tok)
-atom_at threads ts =
-    if names_missing threads ts then None else
-    (place_at ts >>= λ p. value_at p.1 >>= λ n. Some (Atom p.0 n.0, n.1))
-
--- whether this word comes first
-abbrev pub begins_with_word : List ℕ → List Tok → Bool
-begins_with_word word [] = false
-begins_with_word word (Word w ∷ ts) = bytes_eq w word
-begins_with_word word (Number n ∷ ts) = false
-begins_with_word word (Sign m ∷ ts) = false
-begins_with_word word (NoToken b ∷ ts) = false
+atom_at threads ts = do
+  p ← place_among_at threads ts
+  n ← value_at p.1
+  Some (Atom p.0 n.0, n.1)
 
 unfoldable pub sign_at : ℕ → List Tok → Option (SignView × List Tok)
-sign_at threads ts =
-    if begins_with_word (codes "true") ts then (word_at ts >>= λ w. Some (True, w.1)) else
-    if begins_with the.And ts then (mark_at the.And ts >>= λ rest. Some (And, rest)) else
-    if begins_with the.OpenParen ts then (mark_at the.OpenParen ts >>= λ rest. Some (Open, rest)) else
-    if begins_with the.CloseParen ts then (mark_at the.CloseParen ts >>= λ rest. Some (Close, rest)) else atom_at threads ts
-
--- `exists`
-unfoldable pub exists_at : List Tok → Option (List Tok)
-exists_at ts = if begins_with_word (codes "exists") ts then (word_at ts >>= λ w. Some w.1) else None
+sign_at threads ts = if is_some (short_sign_at ts) then short_sign_at ts else atom_at threads ts

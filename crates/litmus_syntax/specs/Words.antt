@@ -4,6 +4,8 @@ use Rattle.std.specs.Str.{bytes_eq}
 use Rattle.std.specs.Fmt.{decimal}
 use Rattle.tso_program.specs.declared.instruction.Reg.{Reg}
 use Rattle.tso_program.specs.declared.instruction.Reg.TheVariants.{Eax, Ebx, Ecx, Edx, Esi, Edi}
+use Rattle.litmus_syntax.specs.declared.mnemonic.Mnemonic.{Mnemonic}
+use Rattle.litmus_syntax.specs.declared.mnemonic.Mnemonic.TheVariants.{Mov, Xchg, Mfence, Cmp, Je, Jne, Jmp}
 
 -- the register of this name, in capitals or small letters
 unfoldable pub reg_of : List ℕ → Option Reg
@@ -23,16 +25,24 @@ opens_condition w = bytes_eq w (codes "locations") || bytes_eq w (codes "exists"
 unfoldable pub joins_formula : List ℕ → Bool
 joins_formula w = bytes_eq w (codes "not") || bytes_eq w (codes "true") || bytes_eq w (codes "false")
 
+-- whether a label may have this name: no word of conditions
+unfoldable pub is_label : List ℕ → Bool
+is_label w = not (opens_condition w) && not (joins_formula w)
+
 -- whether a location may have this name: neither a register nor a word of conditions
 unfoldable pub is_name : List ℕ → Bool
 is_name w = not (is_some (reg_of w)) && not (opens_condition w) && not (joins_formula w)
 
--- the mnemonics, in capitals or small letters
-unfoldable pub is_mov : List ℕ → Bool
-is_mov w = bytes_eq w (codes "MOV") || bytes_eq w (codes "mov")
-
-unfoldable pub is_mfence : List ℕ → Bool
-is_mfence w = bytes_eq w (codes "MFENCE") || bytes_eq w (codes "mfence")
+-- the mnemonic that is written so, in capitals or small letters
+unfoldable pub mnemonic_of : List ℕ → Option Mnemonic
+mnemonic_of w =
+    if bytes_eq w (codes "MOV") || bytes_eq w (codes "mov") then Some Mov else
+    if bytes_eq w (codes "XCHG") || bytes_eq w (codes "xchg") then Some Xchg else
+    if bytes_eq w (codes "MFENCE") || bytes_eq w (codes "mfence") then Some Mfence else
+    if bytes_eq w (codes "CMP") || bytes_eq w (codes "cmp") then Some Cmp else
+    if bytes_eq w (codes "JE") || bytes_eq w (codes "je") then Some Je else
+    if bytes_eq w (codes "JNE") || bytes_eq w (codes "jne") then Some Jne else
+    if bytes_eq w (codes "JMP") || bytes_eq w (codes "jmp") then Some Jmp else None
 
 -- the name of a thread's column
 abbrev pub column_name : ℕ → List ℕ

@@ -7,7 +7,7 @@ ghost use Rattle.litmus_syntax.specs.Grammar.{IsBody, HasThread, place_of};
 ghost use Rattle.litmus_syntax.specs.Views.{place_view, entry_view, body_view};
 ghost use Rattle.litmus_syntax.specs.Exact.{Reads};
 
-use crate::code::Code;
+use crate::cell::Cell;
 use crate::entry::{Entry, read_initial_values};
 use crate::fault::{Part, Refusal, SyntaxFault};
 use crate::header::read_header;
@@ -22,7 +22,7 @@ pub struct Body<'t> {
     pub entries: Vec<Entry<'t>>,
     pub threads: usize,
     /// The rows from top to bottom, each with a cell for each thread.
-    pub rows: Vec<Vec<Option<Code<'t>>>>,
+    pub rows: Vec<Vec<Cell<'t>>>,
 }
 
 /// Whether the place's thread is one of the first so many; a location has none.

@@ -1,18 +1,18 @@
 //! Instructions.
 
-ghost use Rattle.std.specs.Prelude.{◌<◌, ◌≡◌, length, IfOk};
+ghost use Rattle.std.specs.Prelude.{◌<◌, ◌≤◌, ◌≡◌, length, IfOk};
 ghost use Rattle.text_tokens.specs.Tokens.{toks};
-ghost use Rattle.litmus_syntax.specs.Words.{is_mov, is_mfence};
 ghost use Rattle.litmus_syntax.specs.Views.{code_view};
-ghost use Rattle.litmus_syntax.specs.Reading.{Gives, immediate_at, into_register_at, into_location_at, move_at, code_at};
+ghost use Rattle.litmus_syntax.specs.Reading.{Gives, immediate_at, into_register_at, into_location_at, move_at, exchange_at, compared_with_at, compare_at, operands_at, code_at};
 
 use crate::fault::{Part, Refusal};
+use crate::mnemonic::{Mnemonic, mnemonic_of};
 use crate::parts::{begins_any_word, mark, number, refused, word};
 use crate::place::{read_memory, read_register};
 use text_tokens::{Mark, Token, begins};
 use tso_program::Reg;
 
-/// An instruction, whose location is named.
+/// An instruction, whose location or label is named.
 #[derive(Clone, Copy, Debug)]
 pub enum Code<'t> {
     /// Puts a number into a register.
@@ -25,22 +25,20 @@ pub enum Code<'t> {
     StoreImm(&'t [u8], u32),
     /// Stores a register to a location.
     Store(&'t [u8], Reg),
+    /// XCHG: exchanges a location and a register.
+    Xchg(&'t [u8], Reg),
     /// MFENCE
     Fence,
-}
-
-#[tactic(auto, unfolding(crate::specs::Words::is_mov))]
-fn is_mov(word: &[u8]) -> bool
-    ensures { result ≡ is_mov word.now }
-{
-    word == b"MOV".as_slice() || word == b"mov".as_slice()
-}
-
-#[tactic(auto, unfolding(crate::specs::Words::is_mfence))]
-fn is_mfence(word: &[u8]) -> bool
-    ensures { result ≡ is_mfence word.now }
-{
-    word == b"MFENCE".as_slice() || word == b"mfence".as_slice()
+    /// Compares a register with a number.
+    CmpImm(Reg, u32),
+    /// Compares two registers.
+    CmpReg(Reg, Reg),
+    /// Jumps to a label where the last comparison found equals.
+    Je(&'t [u8]),
+    /// Jumps to a label where it did not.
+    Jne(&'t [u8]),
+    /// Jumps to a label.
+    Jmp(&'t [u8]),
 }
 
 /// `$n` or `n`
@@ -91,9 +89,9 @@ fn read_into_location<'t>(
     Ok((Code::StoreImm(name, value), rest))
 }
 
-/// The operands of MOV. A `:` in their place makes the mnemonic a label.
+/// The operands of MOV.
 #[tactic(auto, unfolding(crate::specs::Reading::move_at))]
-fn read_operands<'t>(tokens: &'t [Token]) -> Result<(Code<'t>, &'t [Token]), Refusal>
+fn read_move<'t>(tokens: &'t [Token]) -> Result<(Code<'t>, &'t [Token]), Refusal>
     ensures gives { Gives (λ x. (code_view x.0, toks x.1.now)) result (move_at (toks tokens.now)) }
     ensures shorter { IfOk result (λ x. length x.1.now < length tokens.now) }
 {
@@ -102,20 +100,87 @@ fn read_operands<'t>(tokens: &'t [Token]) -> Result<(Code<'t>, &'t [Token]), Ref
         let rest = mark(rest, Mark::Comma, Part::Operand)?;
         return read_into_location(name, rest);
     }
-    let part = if begins(tokens, Mark::Colon) {
-        Part::Instruction
-    } else {
-        Part::Operand
-    };
-    let (reg, rest) = read_register(tokens, part)?;
+    let (reg, rest) = read_register(tokens, Part::Operand)?;
     let rest = mark(rest, Mark::Comma, Part::Operand)?;
     read_into_register(reg, rest)
 }
 
-/// The refusal of a word with which no instruction begins. At the very end it may still become a label.
+/// The operands of XCHG, in either order.
+#[tactic(auto, unfolding(crate::specs::Reading::exchange_at))]
+fn read_exchange<'t>(tokens: &'t [Token]) -> Result<(Code<'t>, &'t [Token]), Refusal>
+    ensures gives { Gives (λ x. (code_view x.0, toks x.1.now)) result (exchange_at (toks tokens.now)) }
+    ensures shorter { IfOk result (λ x. length x.1.now < length tokens.now) }
+{
+    if begins(tokens, Mark::OpenBracket) {
+        let (name, rest) = read_memory(tokens, Part::Operand)?;
+        let rest = mark(rest, Mark::Comma, Part::Operand)?;
+        let (reg, rest) = read_register(rest, Part::Operand)?;
+        return Ok((Code::Xchg(name, reg), rest));
+    }
+    let (reg, rest) = read_register(tokens, Part::Operand)?;
+    let rest = mark(rest, Mark::Comma, Part::Operand)?;
+    let (name, rest) = read_memory(rest, Part::Operand)?;
+    Ok((Code::Xchg(name, reg), rest))
+}
+
+/// What a register is compared with.
+#[tactic(auto, unfolding(crate::specs::Reading::compared_with_at))]
+fn read_compared_with<'t>(reg: Reg, tokens: &'t [Token]) -> Result<(Code<'t>, &'t [Token]), Refusal>
+    ensures gives { Gives (λ x. (code_view x.0, toks x.1.now)) result (compared_with_at reg (toks tokens.now)) }
+    ensures shorter { IfOk result (λ x. length x.1.now < length tokens.now) }
+{
+    if begins_any_word(tokens) {
+        let (other, rest) = read_register(tokens, Part::Operand)?;
+        return Ok((Code::CmpReg(reg, other), rest));
+    }
+    let (value, rest) = read_immediate(tokens)?;
+    Ok((Code::CmpImm(reg, value), rest))
+}
+
+/// The operands of CMP.
+#[tactic(auto, unfolding(crate::specs::Reading::compare_at))]
+fn read_compare<'t>(tokens: &'t [Token]) -> Result<(Code<'t>, &'t [Token]), Refusal>
+    ensures gives { Gives (λ x. (code_view x.0, toks x.1.now)) result (compare_at (toks tokens.now)) }
+    ensures shorter { IfOk result (λ x. length x.1.now < length tokens.now) }
+{
+    let (reg, rest) = read_register(tokens, Part::Operand)?;
+    let rest = mark(rest, Mark::Comma, Part::Operand)?;
+    read_compared_with(reg, rest)
+}
+
+/// The operands of an instruction with this mnemonic.
+fn read_operands<'t>(
+    mnemonic: Mnemonic,
+    tokens: &'t [Token],
+) -> Result<(Code<'t>, &'t [Token]), Refusal>
+    ensures gives { Gives (λ x. (code_view x.0, toks x.1.now)) result (operands_at mnemonic (toks tokens.now)) }
+    ensures no_longer { IfOk result (λ x. length x.1.now ≤ length tokens.now) }
+{
+    match mnemonic {
+        Mnemonic::Mov => read_move(tokens),
+        Mnemonic::Xchg => read_exchange(tokens),
+        Mnemonic::Mfence => Ok((Code::Fence, tokens)),
+        Mnemonic::Cmp => read_compare(tokens),
+        Mnemonic::Je => {
+            let (label, rest) = word(tokens, Part::Operand)?;
+            Ok((Code::Je(label), rest))
+        }
+        Mnemonic::Jne => {
+            let (label, rest) = word(tokens, Part::Operand)?;
+            Ok((Code::Jne(label), rest))
+        }
+        Mnemonic::Jmp => {
+            let (label, rest) = word(tokens, Part::Operand)?;
+            Ok((Code::Jmp(label), rest))
+        }
+    }
+}
+
+/// The refusal of a word with which no instruction begins. Where the text ends it may still become a label.
 fn no_mnemonic(tokens: &[Token], rest: &[Token]) -> Refusal {
-    if rest.is_empty() {
-        refused(rest, Part::Instruction)
+    let behind = refused(rest, Part::Instruction);
+    if behind.part == Part::Ended {
+        behind
     } else {
         refused(tokens, Part::Instruction)
     }
@@ -127,12 +192,9 @@ pub fn read_code<'t>(tokens: &'t [Token]) -> Result<(Code<'t>, &'t [Token]), Ref
     ensures gives { Gives (λ x. (code_view x.0, toks x.1.now)) result (code_at (toks tokens.now)) }
     ensures shorter { IfOk result (λ x. length x.1.now < length tokens.now) }
 {
-    let (mnemonic, rest) = word(tokens, Part::Instruction)?;
-    if is_mov(mnemonic) {
-        return read_operands(rest);
+    let (first, rest) = word(tokens, Part::Instruction)?;
+    match mnemonic_of(first) {
+        Some(mnemonic) => read_operands(mnemonic, rest),
+        None => Err(no_mnemonic(tokens, rest)),
     }
-    if is_mfence(mnemonic) {
-        return Ok((Code::Fence, rest));
-    }
-    Err(no_mnemonic(tokens, rest))
 }

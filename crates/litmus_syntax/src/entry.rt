@@ -8,7 +8,7 @@ ghost use Rattle.litmus_syntax.specs.Exact.{Reads};
 ghost use Rattle.litmus_syntax.specs.Reading.{Gives, entry_value_at};
 
 use crate::fault::{Part, Refusal, SyntaxFault};
-use crate::parts::{mark, refused};
+use crate::parts::{mark, refused, separator};
 use crate::place::{Place, read_place, read_value};
 use crate::seen::Seen;
 use std::alloc::Global;
@@ -30,10 +30,7 @@ fn read_entry_value<'t>(tokens: &'t [Token]) -> Result<(u32, &'t [Token]), Refus
     ensures shorter { IfOk result (λ x. length x.1.now < length tokens.now) }
 {
     let (value, rest) = read_value(tokens, Part::Initial)?;
-    if begins(rest, Mark::CloseBrace) {
-        return Ok((value, rest));
-    }
-    let rest = mark(rest, Mark::Semicolon, Part::Initial)?;
+    let rest = separator(rest, Mark::CloseBrace, Part::Initial)?;
     Ok((value, rest))
 }
 

@@ -1,27 +1,30 @@
 //! The signs of a condition.
 
-ghost use Rattle.std.specs.Prelude.{◌<◌, ◌≡◌, length, IfOk, map, codes, MatchOption};
+ghost use Rattle.std.specs.Prelude.{◌<◌, ◌≡◌, length, IfOk, IfSome, map, option_map};
 ghost use Rattle.text_tokens.specs.Tokens.{toks};
-ghost use Rattle.litmus_syntax.specs.Grammar.{IsSigns};
-ghost use Rattle.litmus_syntax.specs.Views.{SignView, sign_view, sign_at_view};
+ghost use Rattle.litmus_syntax.specs.Views.{sign_view, sign_at_view};
 ghost use Rattle.litmus_syntax.specs.Exact.{ReadsSigns};
-ghost use Rattle.litmus_syntax.specs.Reading.{Gives, names_missing, exists_at, atom_at, sign_at};
+ghost use Rattle.litmus_syntax.specs.Reading.{Gives, word_sign, mark_sign, short_sign_at, atom_at, sign_at};
 
 use crate::fault::{Part, Refusal};
-use crate::parts::{begins_word, mark, refused, word};
-use crate::place::{Place, read_place, read_value};
+use crate::parts::refused;
+use crate::place::{Place, read_place_among, read_value};
 use std::alloc::{AllocError, Global};
-use text_tokens::{Mark, Token, begins};
+use text_tokens::{Mark, Token};
 
 /// A sign of a formula.
 #[derive(Clone, Copy, Debug)]
 pub enum Sign<'t> {
     /// `t:REG=n`, `x=n` or `[x]=n`
     Atom(Place<'t>, u32),
-    /// `true`
-    True,
+    /// `true` or `false`
+    Const(bool),
+    /// `not` or `~`
+    Not,
     /// `/\`
     And,
+    /// `\/`
+    Or,
     /// `(`
     Open,
     /// `)`
@@ -44,13 +47,51 @@ pub struct Signs<'t> {
     pub refusal: Option<Refusal>,
 }
 
-/// Whether a thread's register comes first, and there is no such thread.
-fn names_missing(tokens: &[Token], threads: usize) -> bool
-    ensures { result ≡ names_missing threads (toks tokens.now) }
+/// The sign that is this word.
+#[tactic(auto, unfolding(crate::specs::Reading::word_sign))]
+fn word_sign<'t>(word: &[u8]) -> Option<Sign<'t>>
+    ensures { option_map sign_view result ≡ word_sign word.now }
 {
-    match tokens.first() {
-        Some(Token::Number(thread)) => *thread as usize >= threads,
-        _ => false,
+    if word == b"true".as_slice() {
+        Some(Sign::Const(true))
+    } else if word == b"false".as_slice() {
+        Some(Sign::Const(false))
+    } else if word == b"not".as_slice() {
+        Some(Sign::Not)
+    } else {
+        None
+    }
+}
+
+/// The sign that is this mark.
+fn mark_sign<'t>(mark: Mark) -> Option<Sign<'t>>
+    ensures { option_map sign_view result ≡ mark_sign mark }
+{
+    match mark {
+        Mark::Tilde => Some(Sign::Not),
+        Mark::And => Some(Sign::And),
+        Mark::Or => Some(Sign::Or),
+        Mark::OpenParen => Some(Sign::Open),
+        Mark::CloseParen => Some(Sign::Close),
+        _ => None,
+    }
+}
+
+/// A sign that is one token.
+fn read_short_sign<'t>(tokens: &'t [Token]) -> Option<(Sign<'t>, &'t [Token])>
+    ensures gives { option_map (λ x. (sign_view x.0, toks x.1.now)) result ≡ short_sign_at (toks tokens.now) }
+    ensures shorter { IfSome result (λ x. length x.1.now < length tokens.now) }
+{
+    match tokens.split_first() {
+        Some((Token::Word(word), rest)) => match word_sign(word.as_slice()) {
+            Some(sign) => Some((sign, rest)),
+            None => None,
+        },
+        Some((Token::Mark(mark), rest)) => match mark_sign(*mark) {
+            Some(sign) => Some((sign, rest)),
+            None => None,
+        },
+        _ => None,
     }
 }
 
@@ -60,10 +101,7 @@ fn read_atom<'t>(tokens: &'t [Token], threads: usize) -> Result<(Sign<'t>, &'t [
     ensures gives { Gives (λ x. (sign_view x.0, toks x.1.now)) result (atom_at threads (toks tokens.now)) }
     ensures shorter { IfOk result (λ x. length x.1.now < length tokens.now) }
 {
-    if names_missing(tokens, threads) {
-        return Err(refused(tokens, Part::Condition));
-    }
-    let (place, rest) = read_place(tokens, Part::Condition)?;
+    let (place, rest) = read_place_among(tokens, threads)?;
     let (value, rest) = read_value(rest, Part::Condition)?;
     Ok((Sign::Atom(place, value), rest))
 }
@@ -74,30 +112,17 @@ fn read_sign<'t>(tokens: &'t [Token], threads: usize) -> Result<(Sign<'t>, &'t [
     ensures gives { Gives (λ x. (sign_view x.0, toks x.1.now)) result (sign_at threads (toks tokens.now)) }
     ensures shorter { IfOk result (λ x. length x.1.now < length tokens.now) }
 {
-    if begins_word(tokens, b"true") {
-        let (_, rest) = word(tokens, Part::Condition)?;
-        return Ok((Sign::True, rest));
+    match read_short_sign(tokens) {
+        Some(read) => Ok(read),
+        None => read_atom(tokens, threads),
     }
-    if begins(tokens, Mark::And) {
-        let rest = mark(tokens, Mark::And, Part::Condition)?;
-        return Ok((Sign::And, rest));
-    }
-    if begins(tokens, Mark::OpenParen) {
-        let rest = mark(tokens, Mark::OpenParen, Part::Condition)?;
-        return Ok((Sign::Open, rest));
-    }
-    if begins(tokens, Mark::CloseParen) {
-        let rest = mark(tokens, Mark::CloseParen, Part::Condition)?;
-        return Ok((Sign::Close, rest));
-    }
-    read_atom(tokens, threads)
 }
 
-/// Whether a place or `true` must come next: at the beginning, and after `/\` or `(`.
+/// Whether an operand or a `not` must come next: at the beginning, and after a connective, a `not` or `(`.
 fn wants_operand(signs: &[SignAt<'_>]) -> bool {
     match signs.last() {
         None => true,
-        Some(last) => matches!(last.sign, Sign::And | Sign::Open),
+        Some(last) => matches!(last.sign, Sign::Not | Sign::And | Sign::Or | Sign::Open),
     }
 }
 
@@ -110,23 +135,11 @@ fn sign_refusal(signs: &[SignAt<'_>], tokens: &[Token], refusal: Refusal) -> Ref
     }
 }
 
-/// The tokens after `exists`, which comes first.
-#[tactic(auto, unfolding(crate::specs::Reading::exists_at))]
-fn behind_exists(tokens: &[Token]) -> Result<&[Token], Refusal>
-    ensures { Gives (λ rest. toks rest.now) result (exists_at (toks tokens.now)) }
-{
-    if begins_word(tokens, b"exists") {
-        let (_, rest) = word(tokens, Part::Condition)?;
-        return Ok(rest);
-    }
-    Err(refused(tokens, Part::Condition))
-}
-
-/// Reads `exists` and the signs behind it, up to the end of the tokens. Their order is not judged here.
+/// Reads signs up to the end of the tokens. Their order is not judged here.
 ///
 /// A refusal names the first token that cannot stand where it does, if the order of the signs before it
 /// is that of a formula. A thread past the given number is refused at its number.
-pub fn read_signs<'t>(
+pub(crate) fn read_signs<'t>(
     alloc: Global,
     tokens: &'t [Token],
     threads: usize,
@@ -134,13 +147,7 @@ pub fn read_signs<'t>(
     ensures { IfOk result (λ signs. ReadsSigns threads signs (toks tokens.now)) }
 {
     let mut signs = Vec::new(alloc);
-    let mut rest = match behind_exists(tokens) {
-        Ok(rest) => rest,
-        Err(refusal) => {
-            let refusal = Some(refusal);
-            return Ok(Signs { signs, refusal });
-        }
-    };
+    let mut rest = tokens;
     while !rest.is_empty() {
         match read_sign(rest, threads) {
             Ok((sign, after)) => {

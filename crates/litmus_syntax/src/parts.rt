@@ -1,12 +1,13 @@
 //! Single tokens at the front of a list, and what is refused there.
 
-ghost use Rattle.std.specs.Prelude.{◌<◌, ◌≡◌, length, IfOk, is_some};
+ghost use Rattle.std.specs.Prelude.{◌<◌, ◌≤◌, ◌≡◌, length, IfOk, is_some};
 ghost use Rattle.text_tokens.specs.Tokens.{toks};
 ghost use Rattle.text_tokens.specs.Parts.{word_at, number_at, mark_at};
-ghost use Rattle.litmus_syntax.specs.Reading.{Gives, begins_with_word};
+ghost use Rattle.litmus_syntax.specs.Phrases.{begins_with_word};
+ghost use Rattle.litmus_syntax.specs.Reading.{Gives, keyword_at, separator_at};
 
 use crate::fault::{Part, Refusal};
-use text_tokens::{Bad, Mark, Token};
+use text_tokens::{Bad, Mark, Token, begins};
 
 /// The refusal of the first of these tokens in this part of the text, where no number may stand.
 pub fn refused(tokens: &[Token], part: Part) -> Refusal {
@@ -75,5 +76,28 @@ pub fn begins_word(tokens: &[Token], word: &[u8]) -> bool
     match tokens.first() {
         Some(Token::Word(first)) => first.as_slice() == word,
         _ => false,
+    }
+}
+
+/// The tokens after this word, which comes first.
+pub fn keyword<'t>(tokens: &'t [Token], word: &[u8], part: Part) -> Result<&'t [Token], Refusal>
+    ensures gives { Gives (λ rest. toks rest.now) result (keyword_at word.now (toks tokens.now)) }
+    ensures shorter { IfOk result (λ rest. length rest.now < length tokens.now) }
+{
+    match tokens.split_first() {
+        Some((Token::Word(first), rest)) if first.as_slice() == word => Ok(rest),
+        _ => Err(refused(tokens, part)),
+    }
+}
+
+/// The tokens after `;`, which may be missing before the closing mark.
+pub fn separator<'t>(tokens: &'t [Token], close: Mark, part: Part) -> Result<&'t [Token], Refusal>
+    ensures gives { Gives (λ rest. toks rest.now) result (separator_at close (toks tokens.now)) }
+    ensures no_longer { IfOk result (λ rest. length rest.now ≤ length tokens.now) }
+{
+    if begins(tokens, close) {
+        Ok(tokens)
+    } else {
+        mark(tokens, Mark::Semicolon, part)
     }
 }

@@ -4,7 +4,7 @@ ghost use Rattle.std.specs.Prelude.{◌<◌, ◌≡◌, length, IfOk};
 ghost use Rattle.text_tokens.specs.Tokens.{toks};
 ghost use Rattle.litmus_syntax.specs.Words.{reg_of, opens_condition, joins_formula, is_name};
 ghost use Rattle.litmus_syntax.specs.Views.{place_view};
-ghost use Rattle.litmus_syntax.specs.Reading.{Gives, register_at, name_at, memory_at, thread_register_at, place_at, value_at};
+ghost use Rattle.litmus_syntax.specs.Reading.{Gives, register_at, name_at, memory_at, thread_register_at, place_at, names_missing, place_among_at, value_at};
 
 use crate::fault::{Part, Refusal};
 use crate::parts::{mark, number, refused, refused_number, word};
@@ -53,7 +53,7 @@ pub fn opens_condition(word: &[u8]) -> bool
 
 /// Whether this is one of the words inside a formula.
 #[tactic(auto, unfolding(crate::specs::Words::joins_formula))]
-fn joins_formula(word: &[u8]) -> bool
+pub fn joins_formula(word: &[u8]) -> bool
     ensures { result ≡ joins_formula word.now }
 {
     word == b"not".as_slice() || word == b"true".as_slice() || word == b"false".as_slice()
@@ -145,6 +145,31 @@ pub fn read_place<'t>(tokens: &'t [Token], part: Part) -> Result<(Place<'t>, &'t
     }
     let (name, rest) = read_plain_name(tokens, part)?;
     Ok((Place::Location(name), rest))
+}
+
+/// Whether a thread's register comes first, and there is no such thread.
+fn names_missing(tokens: &[Token], threads: usize) -> bool
+    ensures { result ≡ names_missing threads (toks tokens.now) }
+{
+    match tokens.first() {
+        Some(Token::Number(thread)) => *thread as usize >= threads,
+        _ => false,
+    }
+}
+
+/// `x`, `[x]` or `t:REG` behind the rows, where a thread that is not there is refused at its number.
+#[tactic(auto, unfolding(crate::specs::Reading::place_among_at))]
+pub fn read_place_among<'t>(
+    tokens: &'t [Token],
+    threads: usize,
+) -> Result<(Place<'t>, &'t [Token]), Refusal>
+    ensures gives { Gives (λ x. (place_view x.0, toks x.1.now)) result (place_among_at threads (toks tokens.now)) }
+    ensures shorter { IfOk result (λ x. length x.1.now < length tokens.now) }
+{
+    if names_missing(tokens, threads) {
+        return Err(refused(tokens, Part::Condition));
+    }
+    read_place(tokens, Part::Condition)
 }
 
 /// `=` and a number.

@@ -1,4 +1,4 @@
-use crate::{Part, Refusal, SyntaxFault, read_body, read_signs};
+use crate::{Part, Refusal, SyntaxFault, read_body, read_ending};
 use std::alloc::Global;
 use text_tokens::{Token, Tokens, lex};
 
@@ -6,8 +6,8 @@ use text_tokens::{Token, Tokens, lex};
 fn first_refusal(alloc: Global, tokens: &[Token]) -> Result<Option<Refusal>, SyntaxFault> {
     let (body, rest) = read_body(alloc, tokens)?;
     let threads = body.threads;
-    let signs = read_signs(alloc, rest, threads)?;
-    match &signs.refusal {
+    let ending = read_ending(alloc, rest, threads)?;
+    match &ending.signs.refusal {
         Some(refusal) => Ok(Some(*refusal)),
         None => Ok(None),
     }
@@ -31,23 +31,39 @@ fn line(tokens: &Tokens, left: usize) -> u32 {
 }
 
 #[test]
-fn reads_a_text(rt: HostRuntime) -> Result<(), SyntaxFault> {
+fn reads_a_body(rt: HostRuntime) -> Result<(), SyntaxFault> {
     let alloc = rt.alloc();
-    let tokens = lex(alloc, b"{ 0:ebx=7; x=1 } P0 ; MFENCE ; exists true", 1)?;
+    let text = b"{ 0:ebx=7; x=1 } P0 ; A: B: XCHG [x],EAX ; exists true";
+    let tokens = lex(alloc, text, 1)?;
     let (body, rest) = read_body(alloc, tokens.as_slice())?;
-    let signs = read_signs(alloc, rest, body.threads)?;
     let entries = format!(in alloc; "{:?}", body.entries)?;
     assert_eq!(rt;
         entries.as_str(),
-        "[Entry { place: Register(0, Ebx), value: 7, left: 16 }, Entry { place: Location([120]), value: 1, left: 10 }]"
+        "[Entry { place: Register(0, Ebx), value: 7, left: 25 }, Entry { place: Location([120]), value: 1, left: 19 }]"
     );
     assert_eq!(rt; body.threads, 1);
     let rows = format!(in alloc; "{:?}", body.rows)?;
-    assert_eq!(rt; rows.as_str(), "[[Some(Fence)]]");
-    let signs = format!(in alloc; "{:?}", signs)?;
+    assert_eq!(rt;
+        rows.as_str(),
+        "[[Cell { labels: [[65], [66]], code: Some(Xchg([120], Eax)), left: 9 }]]"
+    );
+    assert_eq!(rt; rest.len(), 2);
+    Ok(())
+}
+
+#[test]
+fn reads_an_ending(rt: HostRuntime) -> Result<(), SyntaxFault> {
+    let alloc = rt.alloc();
+    let tokens = lex(alloc, b"locations [ x; 0:EAX ] ~exists not true", 1)?;
+    let ending = read_ending(alloc, tokens.as_slice(), 1)?;
+    let observed = format!(in alloc; "{:?}", ending.observed)?;
+    assert_eq!(rt; observed.as_str(), "[Location([120]), Register(0, Eax)]");
+    let quantifier = format!(in alloc; "{:?}", ending.quantifier)?;
+    assert_eq!(rt; quantifier.as_str(), "NotExists");
+    let signs = format!(in alloc; "{:?}", ending.signs)?;
     assert_eq!(rt;
         signs.as_str(),
-        "Signs { signs: [SignAt { sign: True, left: 1 }], refusal: None }"
+        "Signs { signs: [SignAt { sign: Not, left: 2 }, SignAt { sign: Const(true), left: 1 }], refusal: None }"
     );
     Ok(())
 }
@@ -89,7 +105,9 @@ fn refuses_initial_values(rt: HostRuntime) -> Result<(), SyntaxFault> {
         ("{ x=1, y=1 }", Part::Initial, 1),
         ("{ x=1 -", Part::Initial, 1),
         ("{ x=1 5x", Part::Initial, 1),
-        ("{ x=1 (* *) }", Part::Initial, 1),
+        ("{ x=1 (* *) ( }", Part::Initial, 1),
+        ("{ x=1 (* }", Part::Ended, 1),
+        ("{ x=1; (*\n(* *)\n", Part::Ended, 3),
         ("{ x=-1 }", Part::Number, 1),
         ("{ x=4294967296 }", Part::Number, 1),
         ("{ x=1x }", Part::Number, 1),
@@ -153,8 +171,22 @@ fn refuses_header_rows(rt: HostRuntime) -> Result<(), SyntaxFault> {
     Ok(())
 }
 
+/// The first of these rows that is not refused as it says: each follows a header row of two threads, and begins on line 2.
+fn first_wrong<'a>(
+    alloc: Global,
+    cases: &[(&'a str, Part, u32)],
+) -> Result<Option<&'a str>, SyntaxFault> {
+    for (rows, part, line) in cases {
+        let text = format!(in alloc; "{{ }} P0 | P1 ;\n{rows}")?;
+        if refusal(alloc, text.as_str())? != Some((*part, *line)) {
+            return Ok(Some(*rows));
+        }
+    }
+    Ok(None)
+}
+
 #[test]
-fn refuses_cells(rt: HostRuntime) -> Result<(), SyntaxFault> {
+fn refuses_instructions(rt: HostRuntime) -> Result<(), SyntaxFault> {
     let cases = [
         ("", Part::Ended, 2),
         ("\n", Part::Ended, 3),
@@ -164,15 +196,14 @@ fn refuses_cells(rt: HostRuntime) -> Result<(), SyntaxFault> {
         ("exists0", Part::Ended, 2),
         ("MOV [x],$1 | exists", Part::Ended, 2),
         ("MOV [x],$1 | INC\n", Part::Ended, 3),
+        ("INC (* ", Part::Ended, 2),
         ("INC EAX | ;", Part::Instruction, 2),
-        ("xchg [x],EAX | ;", Part::Instruction, 2),
-        ("CMP EAX,$1 | ;", Part::Instruction, 2),
-        ("JMP L | ;", Part::Instruction, 2),
+        ("INC EAX (*", Part::Instruction, 2),
         ("Mov EAX,$1 | ;", Part::Instruction, 2),
-        ("L: | ;", Part::Instruction, 2),
-        ("MOV: | ;", Part::Instruction, 2),
-        ("MFENCE\n: | ;", Part::Instruction, 3),
-        ("EAX: | ;", Part::Instruction, 2),
+        ("Jmp L | ;", Part::Instruction, 2),
+        ("jNE L | ;", Part::Instruction, 2),
+        ("JZ L | ;", Part::Instruction, 2),
+        ("MFENCE\n: | ;", Part::Ended, 3),
         ("MFENCE | exists ;", Part::Instruction, 2),
         ("MFENCE | forall ;", Part::Instruction, 2),
         ("MFENCE | ~exists ;", Part::Instruction, 2),
@@ -183,8 +214,9 @@ fn refuses_cells(rt: HostRuntime) -> Result<(), SyntaxFault> {
         ("1x ;", Part::Instruction, 2),
         ("$ ;", Part::Instruction, 2),
         ("[x] ;", Part::Instruction, 2),
+        (": ;", Part::Instruction, 2),
         ("{", Part::Instruction, 2),
-        ("(* *)", Part::Instruction, 2),
+        ("(", Part::Instruction, 2),
         ("/", Part::Ended, 2),
         ("/ ", Part::Instruction, 2),
         ("MFENCE EAX ;", Part::Instruction, 2),
@@ -193,6 +225,16 @@ fn refuses_cells(rt: HostRuntime) -> Result<(), SyntaxFault> {
         ("MFENCE\nMFENCE ;", Part::Instruction, 3),
         ("MOV EAX,$1 L: ;", Part::Instruction, 2),
         ("MOV EAX,[x] 1 ;", Part::Instruction, 2),
+        ("JMP L\nM: ;", Part::Instruction, 3),
+        ("CMP EAX,EBX\n: ;", Part::Instruction, 3),
+    ];
+    assert_eq!(rt; first_wrong(rt.alloc(), &cases)?, None);
+    Ok(())
+}
+
+#[test]
+fn refuses_operands(rt: HostRuntime) -> Result<(), SyntaxFault> {
+    let cases = [
         ("MOV EAX,1x ;", Part::Number, 2),
         ("MOV EAX,$1x ;", Part::Number, 2),
         ("MOV EAX,-1 ;", Part::Number, 2),
@@ -233,43 +275,111 @@ fn refuses_cells(rt: HostRuntime) -> Result<(), SyntaxFault> {
         ("MOV [not],$1 ;", Part::Operand, 2),
         ("MOV [eax],$1 ;", Part::Operand, 2),
         ("MOV EAX,( ;", Part::Operand, 2),
+        ("XCHG EAX,EBX ;", Part::Operand, 2),
+        ("XCHG [x],[y] ;", Part::Operand, 2),
+        ("XCHG [x],$1 ;", Part::Operand, 2),
+        ("XCHG [x],-1 ;", Part::Operand, 2),
+        ("XCHG EAX,$1 ;", Part::Operand, 2),
+        ("XCHG 1,EAX ;", Part::Operand, 2),
+        ("xchg [x]", Part::Ended, 2),
+        ("CMP [x],$1 ;", Part::Operand, 2),
+        ("CMP EAX,[x] ;", Part::Operand, 2),
+        ("CMP $1,EAX ;", Part::Operand, 2),
+        ("CMP EAX,y ;", Part::Operand, 2),
+        ("CMP EAX,-1 ;", Part::Number, 2),
+        ("CMP EAX,$1_ ;", Part::Number, 2),
+        ("cmp EAX,", Part::Ended, 2),
+        ("JE ;", Part::Operand, 2),
+        ("JE 1 ;", Part::Operand, 2),
+        ("JNE -1 ;", Part::Operand, 2),
+        ("JMP 1L ;", Part::Operand, 2),
+        ("JMP [x] ;", Part::Operand, 2),
+        ("jmp", Part::Ended, 2),
+        ("jmp L", Part::Ended, 2),
+        ("JMP\n| ;", Part::Operand, 3),
+    ];
+    assert_eq!(rt; first_wrong(rt.alloc(), &cases)?, None);
+    Ok(())
+}
+
+#[test]
+fn refuses_labels_and_rows(rt: HostRuntime) -> Result<(), SyntaxFault> {
+    let cases = [
+        ("not: | ;", Part::Label, 2),
+        ("L: true: | ;", Part::Label, 2),
+        ("MFENCE | exists: ;", Part::Label, 2),
+        ("MFENCE |\nlocations: MFENCE ;", Part::Label, 3),
+        ("| filter: INC ;", Part::Label, 2),
+        ("exists: | ;", Part::Condition, 2),
+        ("L:\nL: | ;", Part::Label, 3),
+        ("L: | L: ;\nM: MFENCE | M: ;\n| N: N: ;", Part::Label, 4),
+        ("L: |\n;\nM: MFENCE | L: ;\nL: | INC EAX ;", Part::Label, 5),
+        ("L: | ;\n| INC EAX ;\nL: | ;", Part::Instruction, 3),
+        ("L:\nL: INC EAX ;", Part::Label, 3),
+        ("L:\nL: not: ;", Part::Label, 3),
+        ("L: |\n| L:", Part::Ended, 3),
+        ("L: |\n;\nL:", Part::Label, 4),
+        ("L: MOV EAX,\nL", Part::Operand, 3),
         ("MOV EAX,EBX ;", Part::Row, 2),
         ("MOV EAX,EBX\n;", Part::Row, 3),
         (";", Part::Row, 2),
         ("| | ;", Part::Row, 2),
         ("| | INC ;", Part::Instruction, 2),
+        ("| | L: ;", Part::Row, 2),
+        ("L: | | L: L: ;", Part::Label, 2),
         ("| ;\n| ;\n| | |\n;", Part::Row, 5),
         ("| ;\n\n", Part::Ended, 4),
         ("| ;\n| ", Part::Ended, 3),
+        ("| ; (* \n", Part::Ended, 3),
     ];
-    for (cells, part, line) in cases {
-        let text = format!(in rt.alloc(); "{{ }} P0 | P1 ;\n{cells}")?;
-        assert_eq!(rt;
-            refusal(rt.alloc(), text.as_str())?,
-            Some((part, line)),
-            "at {cells}"
-        );
-    }
+    assert_eq!(rt; first_wrong(rt.alloc(), &cases)?, None);
     Ok(())
 }
 
 #[test]
-fn refuses_signs(rt: HostRuntime) -> Result<(), SyntaxFault> {
+fn refuses_observed_places(rt: HostRuntime) -> Result<(), SyntaxFault> {
     let cases = [
-        ("locations [x;]", Part::Condition, 2),
-        ("forall (true)", Part::Condition, 2),
+        ("locations", Part::Ended, 2),
+        ("locations x;", Part::Condition, 2),
+        ("locations\n-", Part::Condition, 3),
+        ("locations [", Part::Ended, 2),
+        ("locations [x", Part::Ended, 2),
+        ("locations [x;", Part::Ended, 2),
+        ("locations [;]", Part::Condition, 2),
+        ("locations [x;;]", Part::Condition, 2),
+        ("locations [x y]", Part::Condition, 2),
+        ("locations [x\n1]", Part::Condition, 3),
+        ("locations [x\n-]", Part::Condition, 3),
+        ("locations [x=1]", Part::Condition, 2),
+        ("locations [EAX]", Part::Condition, 2),
+        ("locations [exists]", Part::Condition, 2),
+        ("locations [-1:EAX]", Part::Number, 2),
+        ("locations [x;\n4294967296:EAX]", Part::Number, 3),
+        ("locations [0x:EAX]", Part::Number, 2),
+        ("locations [0:\nx]", Part::Condition, 3),
+        ("locations [\n2\n:x]", Part::Condition, 3),
+        ("locations []", Part::Ended, 2),
+        ("locations [] locations [] exists true", Part::Condition, 2),
+        ("locations [x];\nexists true", Part::Condition, 2),
+        ("locations []\nfilter true", Part::Condition, 3),
+    ];
+    assert_eq!(rt; first_wrong(rt.alloc(), &cases)?, None);
+    Ok(())
+}
+
+#[test]
+fn refuses_conditions(rt: HostRuntime) -> Result<(), SyntaxFault> {
+    let cases = [
         ("filter (true)", Part::Condition, 2),
-        ("~exists (true)", Part::Condition, 2),
-        ("~", Part::Condition, 2),
-        ("exists (\nnot true)", Part::Condition, 3),
-        ("exists false", Part::Condition, 2),
-        ("exists ~ x=1", Part::Condition, 2),
-        ("exists x=1 \\/ y=1", Part::Condition, 2),
+        ("~", Part::Ended, 2),
+        ("~\nforall true", Part::Condition, 3),
+        ("~ ~ exists true", Part::Condition, 2),
         ("exists x=1 \\", Part::Ended, 2),
         ("exists x=1 /", Part::Ended, 2),
         ("exists x=1 /\n", Part::Condition, 2),
         ("exists EAX=1", Part::Condition, 2),
         ("exists exists", Part::Condition, 2),
+        ("exists Not true", Part::Condition, 2),
         ("exists x", Part::Ended, 2),
         ("exists x 1", Part::Condition, 2),
         ("exists x=\n", Part::Ended, 3),
@@ -278,10 +388,14 @@ fn refuses_signs(rt: HostRuntime) -> Result<(), SyntaxFault> {
         ("exists x=-1", Part::Number, 2),
         ("exists x=1x", Part::Number, 2),
         ("exists -1:EAX=1", Part::Number, 2),
+        ("exists not -1", Part::Number, 2),
+        ("exists ~ 1x", Part::Number, 2),
+        ("forall x=1 \\/\n-", Part::Number, 3),
         ("exists 4294967296:EAX=1", Part::Number, 2),
         ("exists (\n-", Part::Number, 3),
         ("exists x=1 /\\\n1x", Part::Number, 3),
         ("exists x=1\n-1", Part::Condition, 3),
+        ("exists false\n-1", Part::Condition, 3),
         ("exists x=1\ny=-1", Part::Condition, 3),
         ("exists x=1 )\n4294967296", Part::Condition, 3),
         ("exists true\n-", Part::Condition, 3),
@@ -296,16 +410,9 @@ fn refuses_signs(rt: HostRuntime) -> Result<(), SyntaxFault> {
         ("exists [2]=1", Part::Condition, 2),
         ("exists true\nx", Part::Condition, 3),
         ("exists true /\\\nx", Part::Ended, 3),
-        ("exists (* *) true", Part::Condition, 2),
+        ("exists true (*", Part::Ended, 2),
     ];
-    for (condition, part, line) in cases {
-        let text = format!(in rt.alloc(); "{{ }} P0 | P1 ;\n{condition}")?;
-        assert_eq!(rt;
-            refusal(rt.alloc(), text.as_str())?,
-            Some((part, line)),
-            "at {condition}"
-        );
-    }
+    assert_eq!(rt; first_wrong(rt.alloc(), &cases)?, None);
     Ok(())
 }
 
@@ -318,6 +425,13 @@ fn accepts_what_the_grammar_has(rt: HostRuntime) -> Result<(), SyntaxFault> {
         "{ MOV=1; Eax=2; P0=3; xchg=4; _=5 } P0 ; exists MOV=1",
         "{ } P0 ; ; MOV esi , edi ; mov EAX,$ 5; mfence; MOV [MFENCE],7; exists ((x=1 /\\ [y]=2) /\\ true) ) (",
         "{ } P0 | P1 ; | ; MFENCE | ; | MFENCE ; exists 1:edx=4294967295",
+        "{ } P0 ; XCHG [x],EAX; xchg edi,[Eax]; CMP EAX,$ 5; cmp esi,EDI; CMP EAX,0; exists",
+        "{ } P0 | P1 ; L : M: MFENCE | L: ; jmp L | JE MOV; N: jne exists | JNE EAX ; MOV: EAX: X86: | L0:JMP L1; forall",
+        "{ } P0 ; MFENCE: ; JMP: JE: MFENCE; ~exists",
+        "{ (* x *) } P0 (*;*) ; (* (* *) *) MFENCE (*) *) ; exists x=1(**)",
+        "{ } P0 ; locations [] exists",
+        "{ } P0 ; locations [x; [x]; 0:EAX; x] ~ exists not true",
+        "{ } P0 ; locations [x;] forall ~ not (false \\/ x=1) ~ /\\",
     ];
     for text in texts {
         assert_eq!(rt; refusal(rt.alloc(), text)?, None, "at {text}");
@@ -355,10 +469,10 @@ fn reads_a_large_text(rt: HostRuntime) -> Result<(), SyntaxFault> {
     let text = large_text(alloc, 20_000)?;
     let tokens = lex(alloc, text.as_slice(), 1)?;
     let (body, rest) = read_body(alloc, tokens.as_slice())?;
-    let signs = read_signs(alloc, rest, body.threads)?;
+    let ending = read_ending(alloc, rest, body.threads)?;
     assert_eq!(rt; body.entries.len(), 40_000);
     assert_eq!(rt; body.threads, 20_000);
     assert_eq!(rt; body.rows.len(), 1);
-    assert_eq!(rt; signs.signs.len(), 20_000);
+    assert_eq!(rt; ending.signs.signs.len(), 20_000);
     Ok(())
 }

@@ -1,6 +1,7 @@
 -- The reader's tables hold what they should after each entry.
-use Rattle.std.proofs.Common.{◌≡◌, ℕ, ◌<◌, Bool, true, false, List, [], ◌∷◌, ◌++◌, get_or, set, map, replicate, fold, refl, sym, ap, ◌∙◌, arith, inl, inr}
-use Rattle.std.specs.Prelude.{◌==◌, ◌&&◌, ◌||◌, if◌then◌else◌}
+use Rattle.std.proofs.Common.{◌≡◌, ℕ, ◌<◌, Bool, true, false, List, [], ◌∷◌, ◌++◌, length, get_or, set, map, replicate, fold, refl, sym, ap, ◌∙◌, arith, inl, inr}
+use Rattle.std.specs.Prelude.{◌==◌, ◌&&◌, ◌||◌, min, if◌then◌else◌}
+use Rattle.std.specs.Option.{option_map_or}
 use Rattle.std.specs.List.{range_with_len, filter_map, list_any}
 use Rattle.std.proofs.lemmas.Bool.{cases_Bool, eqb-true, eqb-false}
 use Rattle.std.proofs.lemmas.List.{length-replicate, get_or-replicate, length-set, get_or-set_same, get_or-set_other}
@@ -15,14 +16,16 @@ use Rattle.litmus_syntax.specs.Views.{PlaceView, Location, Register, BodyView}
 use Rattle.litmus_text.specs.Names.{Names, all_registers, with_name}
 use Rattle.litmus_text.specs.Places.{location_name, is_register, names_among}
 use Rattle.litmus_text.specs.Meaning.{code_of}
-use Rattle.litmus_text.specs.Filling.{put, no_names, noted, stored, loaded, value_of, is_of_location, is_of_register, entry_atoms, memory_from, registers_from, thread_in, thread_by}
+use Rattle.litmus_text.specs.declared.label.Label.{Label}
+use Rattle.litmus_text.specs.Labels.{thread_labels, all_labels}
+use Rattle.litmus_text.specs.Filling.{byte_at, FindsAs, FindAllAs, put, no_names, noted, stored, loaded, value_of, is_of_location, is_of_register, entry_atoms, memory_from, registers_from, thread_in, thread_by}
 
 -- ---- lists of numbers' values
 
 same_map : {X Y : Type 0} (f g : X → Y) (xs : List X) → ((x : X) → f x ≡ g x) → map f xs ≡ map g xs
 same_map f g xs h = λ i. map (λ x. h x i) xs
 
-range_same : {X : Type 0} (f g : ℕ → X) (n : ℕ) → ((k : ℕ) → k < n → f k ≡ g k) → map f (range_with_len 0 n) ≡ map g (range_with_len 0 n)
+pub range_same : {X : Type 0} (f g : ℕ → X) (n : ℕ) → ((k : ℕ) → k < n → f k ≡ g k) → map f (range_with_len 0 n) ≡ map g (range_with_len 0 n)
 range_same f g n h =
     fill_by_all g (map f (range_with_len 0 n)) n (f 0) (length-map-range_with_len f 0 n) (λ k lt. get_or-map-range_with_len f 0 n k k (f 0) lt (omega arith) ∙ h k lt)
 
@@ -68,25 +71,25 @@ changed f t r x u s = if t == u && number r == number s then x else f u s
 row_changed : {X : Type 0} (f : ℕ → Reg → X) (t : ℕ) (r : Reg) (x : X) (u n : ℕ) → u < n
     → (if t == u then set (get_or (grid f n) t []) (number r) x else map (f u) all_registers) ≡ map (changed f t r x u) all_registers
 row_changed {X} f t r x u n lt =
-    let of_thread : ℕ → List X = λ v. map (f v) all_registers in
+    let row : ℕ → List X = λ v. map (f v) all_registers in
     elim (cases_Bool (t == u)) [
       | inl e ↦
           let same : t ≡ u = eqb-true t u e in
-          let here : get_or (grid f n) t [] ≡ of_thread u = ap (λ (v : ℕ). get_or (grid f n) v []) same ∙ get_or-map-range_with_len of_thread 0 n u u [] lt (omega arith) in
-          ap (λ (b : Bool). if b then set (get_or (grid f n) t []) (number r) x else of_thread u) e
+          let here : get_or (grid f n) t [] ≡ row u = ap (λ (v : ℕ). get_or (grid f n) v []) same ∙ get_or-map-range_with_len row 0 n u u [] lt (omega arith) in
+          ap (λ (b : Bool). if b then set (get_or (grid f n) t []) (number r) x else row u) e
           ∙ ap (λ (old : List X). set old (number r) x) here
           ∙ row_set (f u) r x
           ∙ sym (ap (λ (b : Bool). map (λ s. if b && number r == number s then x else f u s) all_registers) e)
       | inr e ↦
-          ap (λ (b : Bool). if b then set (get_or (grid f n) t []) (number r) x else of_thread u) e
+          ap (λ (b : Bool). if b then set (get_or (grid f n) t []) (number r) x else row u) e
           ∙ sym (ap (λ (b : Bool). map (λ s. if b && number r == number s then x else f u s) all_registers) e)
     ]
 
 put_grid : {X : Type 0} (f : ℕ → Reg → X) (n t : ℕ) (r : Reg) (x : X) → put (grid f n) t (number r) x ≡ grid (changed f t r x) n
 put_grid {X} f n t r x =
-    let of_thread : ℕ → List X = λ u. map (f u) all_registers in
+    let row : ℕ → List X = λ u. map (f u) all_registers in
     let new : List X = set (get_or (grid f n) t []) (number r) x in
-    set_range of_thread n t new ∙ range_same (λ u. if t == u then new else of_thread u) (λ u. map (changed f t r x u) all_registers) n (λ u lt. row_changed f t r x u n lt)
+    set_range row n t new ∙ range_same (λ u. if t == u then new else row u) (λ u. map (changed f t r x u) all_registers) n (λ u lt. row_changed f t r x u n lt)
 
 same_grid : {X : Type 0} (f g : ℕ → Reg → X) (n : ℕ) → ((t : ℕ) (r : Reg) → f t r ≡ g t r) → grid f n ≡ grid g n
 same_grid f g n h = λ i. grid (λ t r. h t r i) n
@@ -118,16 +121,22 @@ loaded_from f n (a ∷ atoms) = ap (λ (table : List (List ℕ)). fold loaded ta
 pub loaded_all : (n : ℕ) (atoms : List Atom) → fold loaded (replicate n (replicate 6 0)) atoms ≡ map (registers_from atoms) (range_with_len 0 n)
 loaded_all n atoms = ap (λ (table : List (List ℕ)). fold loaded table atoms) (all_same n (replicate 6 0)) ∙ loaded_from (λ _ _. 0) n atoms
 
--- threads with their registers from the table
-pub threads_filled : (numbered : List ℕ → ℕ) (body : BodyView) (registers : List (List ℕ)) (atoms : List Atom) → atoms ≡ entry_atoms numbered body.entries
-    → registers ≡ map (registers_from atoms) (range_with_len 0 body.threads)
-    → map (thread_in numbered body.rows registers) (range_with_len 0 body.threads) ≡ map (thread_by numbered body) (range_with_len 0 body.threads)
-threads_filled numbered body registers atoms said table =
+-- labels that are found alike have the same positions
+same_positions : (found labels : List Label) → FindsAs found labels → byte_at found ≡ byte_at labels
+same_positions found labels h = λ i name. min 255 (option_map_or (λ l. l.position) (h name i) 0)
+
+-- threads with their registers and labels from tables
+pub threads_filled : (numbered : List ℕ → ℕ) (body : BodyView) (registers : List (List ℕ)) (found : List (List Label)) (atoms : List Atom) → atoms ≡ entry_atoms numbered body.entries
+    → registers ≡ map (registers_from atoms) (range_with_len 0 body.threads) → FindAllAs found (all_labels body)
+    → map (thread_in numbered body.rows registers found) (range_with_len 0 (length found)) ≡ map (thread_by numbered byte_at body) (range_with_len 0 body.threads)
+threads_filled numbered body registers found atoms said table known =
     let own = entry_atoms numbered body.entries in
     let same : registers ≡ map (registers_from own) (range_with_len 0 body.threads) = table ∙ ap (λ (said_ : List Atom). map (registers_from said_) (range_with_len 0 body.threads)) said in
-    range_same (thread_in numbered body.rows registers) (thread_by numbered body) body.threads
+    let count : length found ≡ body.threads = known.0 ∙ length-map-range_with_len (thread_labels body.rows) 0 body.threads in
+    ap (λ (n : ℕ). map (thread_in numbered body.rows registers found) (range_with_len 0 n)) count
+    ∙ range_same (thread_in numbered body.rows registers found) (thread_by numbered byte_at body) body.threads
     (λ t lt i. record {
-      code = code_of numbered body.rows t;
+      code = code_of numbered ((same_positions (get_or found t []) (get_or (all_labels body) t []) (known.1 t) ∙ ap byte_at (get_or-map-range_with_len (thread_labels body.rows) 0 body.threads t t [] lt (omega arith))) i) body.rows t;
       registers = (ap (λ (rs : List (List ℕ)). get_or rs t (replicate 6 0)) same ∙ get_or-map-range_with_len (registers_from own) 0 body.threads t t (replicate 6 0) lt (omega arith)) i;
     })
 
@@ -168,15 +177,18 @@ noted_all n ps =
     ap (λ (table : List (List Bool)). fold noted (record { locations = []; registers = table }) ps) (all_same n (replicate 6 false)) ∙ noted_from n [] (λ _ _. false) ps
 
 -- noting what each part of a text names
-pub noted_parts : (n : ℕ) (es es' rs rs' ss : List PlaceView) (first second third last : Names) → es' ≡ es → rs' ≡ rs → first ≡ no_names n → second ≡ fold noted first es' → third ≡ fold noted second rs'
-    → last ≡ fold noted third ss → last ≡ names_among n (es ++ (rs ++ ss))
-noted_parts n es es' rs rs' ss first second third last same_es same_rs e f g h =
-    h
-    ∙ ap (λ (names : Names). fold noted names ss) g
-    ∙ ap (λ (names : Names). fold noted (fold noted names rs') ss) f
-    ∙ ap (λ (names : Names). fold noted (fold noted (fold noted names es') rs') ss) e
-    ∙ ap (λ (ps : List PlaceView). fold noted (fold noted (fold noted (no_names n) ps) rs') ss) same_es
-    ∙ ap (λ (ps : List PlaceView). fold noted (fold noted (fold noted (no_names n) es) ps) ss) same_rs
-    ∙ sym (fold-append noted (fold noted (no_names n) es) rs ss)
-    ∙ sym (fold-append noted (no_names n) es (rs ++ ss))
-    ∙ noted_all n (es ++ (rs ++ ss))
+pub noted_parts : (n : ℕ) (es es' rs rs' os os' ss : List PlaceView) (first second third fourth last : Names) → es' ≡ es → rs' ≡ rs → os' ≡ os → first ≡ no_names n → second ≡ fold noted first es' → third ≡ fold noted second rs'
+    → fourth ≡ fold noted third os' → last ≡ fold noted fourth ss → last ≡ names_among n (es ++ (rs ++ (os ++ ss)))
+noted_parts n es es' rs rs' os os' ss first second third fourth last same_es same_rs same_os e f g h k =
+    k
+    ∙ ap (λ (names : Names). fold noted names ss) h
+    ∙ ap (λ (names : Names). fold noted (fold noted names os') ss) g
+    ∙ ap (λ (names : Names). fold noted (fold noted (fold noted names rs') os') ss) f
+    ∙ ap (λ (names : Names). fold noted (fold noted (fold noted (fold noted names es') rs') os') ss) e
+    ∙ ap (λ (ps : List PlaceView). fold noted (fold noted (fold noted (fold noted (no_names n) ps) rs') os') ss) same_es
+    ∙ ap (λ (ps : List PlaceView). fold noted (fold noted (fold noted (fold noted (no_names n) es) ps) os') ss) same_rs
+    ∙ ap (λ (ps : List PlaceView). fold noted (fold noted (fold noted (fold noted (no_names n) es) rs) ps) ss) same_os
+    ∙ sym (fold-append noted (fold noted (fold noted (no_names n) es) rs) os ss)
+    ∙ sym (fold-append noted (fold noted (no_names n) es) rs (os ++ ss))
+    ∙ sym (fold-append noted (no_names n) es (rs ++ (os ++ ss)))
+    ∙ noted_all n (es ++ (rs ++ (os ++ ss)))

@@ -15,6 +15,7 @@ use Rattle.litmus_syntax.specs.Places.{same_place}
 use Rattle.litmus_syntax.proofs.SeenLaws.{same_place_is}
 use Rattle.litmus_text.specs.Names.{all_registers, number_in}
 use Rattle.litmus_text.specs.Meaning.{atom_of, first_value, memory_of, registers_of, code_of, listing_of}
+use Rattle.litmus_text.specs.Labels.{thread_labels, position_in}
 use Rattle.litmus_text.specs.Filling.{value_of, is_of_location, is_of_register, entry_atoms, last_said, memory_from, registers_from, listing_by}
 use Rattle.litmus_text.proofs.NamesOnce.{Stands, same_number}
 
@@ -99,9 +100,9 @@ registers_filled numbered entries t once =
 -- ---- the program
 
 pub listing_filled : (names : List (List ℕ)) (body : BodyView) → IsDistinct bytes_eq names → AllByRecursion (Stands names) (map place_of body.entries) → NoneTwice (map place_of body.entries)
-    → listing_by (number_in names) (length names) body ≡ listing_of names body
+    → listing_by (number_in names) position_in (length names) body ≡ listing_of names body
 listing_filled names body distinct stand once =
     λ i. record {
-      threads = map (λ t. record { code = code_of (number_in names) body.rows t; registers = registers_filled (number_in names) body.entries t once i }) (range_with_len 0 body.threads);
+      threads = map (λ t. record { code = code_of (number_in names) (position_in (thread_labels body.rows t)) body.rows t; registers = registers_filled (number_in names) body.entries t once i }) (range_with_len 0 body.threads);
       memory = memory_filled names body.entries distinct stand once i;
     }

@@ -6,6 +6,9 @@ pub mod NamesOnce
 pub mod FirstValues
 pub mod Joined
 pub mod Faults
+pub mod Positions
+pub mod Targets
+pub mod LabelRows
 pub mod Numbered
 pub mod Parts
 pub mod Whole

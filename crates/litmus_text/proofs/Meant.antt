@@ -1,9 +1,9 @@
 -- From what was read of a text to what the text stands for.
-use Rattle.std.proofs.Common.{◌≡◌, ℕ, ◌≤◌, List, length, Option, Some, None, refl, sym, ap, ◌∙◌, subst, arith, inl, inr}
-use Rattle.std.specs.Prelude.{⊤}
+use Rattle.std.proofs.Common.{◌≡◌, ℕ, ◌≤◌, false, List, length, Option, Some, None, refl, sym, ap, ◌∙◌, subst, arith, inl, inr}
+use Rattle.std.specs.Prelude.{⊤, is_some, map}
 use Rattle.std.specs.List.{filter_map}
 use Rattle.std.specs.Str.{IsUtf8}
-use Rattle.std.proofs.lemmas.Bool.{cases_lt}
+use Rattle.std.proofs.lemmas.Bool.{cases_lt, cases_Bool}
 use Rattle.tso_program.specs.declared.listing.Thread.{Thread}
 use Rattle.tso_program.specs.declared.listing.Listing.{Listing}
 use Rattle.tso_program.specs.declared.limits.ProgramFault.{ProgramFault}
@@ -15,14 +15,16 @@ use Rattle.litmus_text.specs.declared.fault.ReadFault.TheVariants.{OutOfMemory}
 use Rattle.litmus_text.specs.Faults.{MatchFault}
 use Rattle.litmus_text.specs.Names.{Names, number_in}
 use Rattle.litmus_text.specs.Places.{location_name, places, names_of}
-use Rattle.litmus_text.specs.Meaning.{listing_of, condition_of}
-use Rattle.litmus_text.specs.Filling.{byte_in, listing_by}
+use Rattle.litmus_text.specs.Meaning.{listing_of, condition_of, observed_of}
+use Rattle.litmus_text.specs.Filling.{byte_in, byte_at, listing_by}
+use Rattle.litmus_text.specs.Labels.{position_in, all_labels}
+use Rattle.tso_program.specs.Limits.{first_long}
 use Rattle.litmus_text.specs.Texts.{Means, StandsFor}
 use Rattle.litmus_text.specs.Reading.{IsReadOf}
 use Rattle.litmus_text.proofs.NamesOnce.{in_order_once, entries_stand}
 use Rattle.litmus_text.proofs.FirstValues.{listing_filled}
 use Rattle.litmus_text.proofs.Faults.{match_map, match_memory}
-use Rattle.litmus_text.proofs.Numbered.{AreLimits, byte_same, listing_same, memory_len, many_same}
+use Rattle.litmus_text.proofs.Numbered.{AreLimits, IsOver, byte_same, listing_same, memory_len, over_same, none_long}
 
 module _ (text : List ℕ) (read : Litmus Listing) (is : IsReadOf text read) where
   -- what the text stands for: what was read, with the locations' own numbers
@@ -31,7 +33,9 @@ module _ (text : List ℕ) (read : Litmus Listing) (is : IsReadOf text read) whe
     name = read.name;
     program = listing_of read.names.locations is.read.body;
     names = read.names;
-    condition = condition_of (number_in read.names.locations) is.read.formula;
+    condition = condition_of (number_in read.names.locations) is.read.ending.quantifier is.read.formula;
+    observed = map (observed_of (number_in read.names.locations)) is.read.ending.observed;
+    labels = read.labels;
   }
 
   pub stands : StandsFor text meant
@@ -41,7 +45,7 @@ module _ (text : List ℕ) (read : Litmus Listing) (is : IsReadOf text read) whe
     utf8 = is.utf8;
     first_line = is.first_line;
     lexes = is.lexes;
-    means = record { body = is.read.body; signs = is.read.signs; formula = is.read.formula; parts = is.read.parts; names = is.read.names; program = refl; condition = refl };
+    means = record { body = is.read.body; ending = is.read.ending; formula = is.read.formula; parts = is.read.parts; names = is.read.names; program = refl; condition = refl; observed = refl; labels = is.read.labels };
   }
 
   -- and it stands for nothing else
@@ -50,36 +54,51 @@ module _ (text : List ℕ) (read : Litmus Listing) (is : IsReadOf text read) whe
       let p = is.first_only other.name st.lines st.first_line in
       let lexes : Lexes is.lines st.tokens = subst (λ (l : List ℕ). Lexes l st.tokens) (sym p.1) st.lexes in
       let m : Means is.tokens other = subst (λ (ts : List Tok). Means ts other) (sym (is.lexes_only st.tokens lexes)) st.means in
-      let q = is.read.only m.body m.signs m.formula m.parts in
+      let q = is.read.only m.body m.ending m.formula m.parts in
       let names : other.names ≡ read.names = m.names ∙ (λ i. names_of (q.0 i) (q.1 i)) ∙ sym is.read.names in
       let program : other.program ≡ meant.program = m.program ∙ (λ i. listing_of (names i).locations (q.0 i)) in
-      let condition : other.condition ≡ meant.condition = m.condition ∙ (λ i. condition_of (number_in (names i).locations) (q.2 i)) in
-      λ i. record { name = sym p.0 i; program = program i; names = names i; condition = condition i }
+      let condition : other.condition ≡ meant.condition = m.condition ∙ (λ i. condition_of (number_in (names i).locations) (q.1 i).quantifier (q.2 i)) in
+      let observed : other.observed ≡ meant.observed = m.observed ∙ (λ i. map (observed_of (number_in (names i).locations)) (q.1 i).observed) in
+      let labels : other.labels ≡ meant.labels = m.labels ∙ (λ i. all_labels (q.0 i)) ∙ sym is.read.labels in
+      λ i. record { name = sym p.0 i; program = program i; names = names i; condition = condition i; observed = observed i; labels = labels i }
 
   -- what is filled in is the program of the text
-  filled : listing_by (number_in read.names.locations) (length read.names.locations) is.read.body ≡ listing_of read.names.locations is.read.body
+  filled : listing_by (number_in read.names.locations) position_in (length read.names.locations) is.read.body ≡ listing_of read.names.locations is.read.body
   filled =
       let body = is.read.body in
-      let of_text : Names → Type 0 = λ n. listing_by (number_in n.locations) (length n.locations) body ≡ listing_of n.locations body in
-      let names = names_of body is.read.signs in
+      let of_text : Names → Type 0 = λ n. listing_by (number_in n.locations) position_in (length n.locations) body ≡ listing_of n.locations body in
+      let names = names_of body is.read.ending in
       subst of_text (sym is.read.names)
-      (listing_filled names.locations body (in_order_once (filter_map location_name (places body is.read.signs))) (entries_stand body is.read.signs) is.read.parts.begins.0.1.1)
+      (listing_filled names.locations body (in_order_once (filter_map location_name (places body is.read.ending))) (entries_stand body is.read.ending) is.read.parts.begins.0.1.1)
 
-  -- of a text of few locations that is what was read
-  few_meant : length read.names.locations ≤ 8 → meant ≡ read
-  few_meant few =
+  -- of a text of few locations and short threads that is what was read
+  few_meant : (longest : ℕ) → longest ≤ 255 → length read.names.locations ≤ 8 → is_some (first_long longest read.program.threads) ≡ false → meant ≡ read
+  few_meant longest small few none =
       let names = read.names.locations in
-      let program : meant.program ≡ read.program = sym (is.read.program ∙ listing_same names is.read.body few ∙ filled) in
-      let condition : meant.condition ≡ read.condition = sym (is.read.condition ∙ ap (λ (numbered : List ℕ → ℕ). condition_of numbered is.read.formula) (byte_same names few)) in
-      λ i. record { name = read.name; program = program i; names = read.names; condition = condition i }
+      let short = ap (λ (l : Listing). is_some (first_long longest l.threads)) (sym is.read.program) ∙ none in
+      let program : meant.program ≡ read.program = sym (is.read.program ∙ listing_same longest names is.read.body small few short ∙ filled) in
+      let condition : meant.condition ≡ read.condition = sym (is.read.condition ∙ ap (λ (numbered : List ℕ → ℕ). condition_of numbered is.read.ending.quantifier is.read.formula) (byte_same names few)) in
+      let observed : meant.observed ≡ read.observed = sym (is.read.observed ∙ ap (λ (numbered : List ℕ → ℕ). map (observed_of numbered) is.read.ending.observed) (byte_same names few)) in
+      λ i. record { name = read.name; program = program i; names = read.names; condition = condition i; observed = observed i; labels = read.labels }
 
   module _ (Within : List Thread → List ℕ → Type 0) (first : List Thread → List ℕ → Option ProgramFault) (limits : AreLimits Within first) where
     few_within : Within read.program.threads read.program.memory → length read.names.locations ≤ 8
     few_within within =
         let names = read.names.locations in
-        let e : length read.program.memory ≡ length names = ap (λ (l : Listing). length l.memory) is.read.program ∙ memory_len (byte_in names) (length names) is.read.body in
+        let e : length read.program.memory ≡ length names = ap (λ (l : Listing). length l.memory) is.read.program ∙ memory_len (byte_in names) byte_at (length names) is.read.body in
         let le = limits.few_locations read.program.threads read.program.memory within in
         omega arith
+
+    within_meant : Within read.program.threads read.program.memory → meant ≡ read
+    within_meant within = few_meant limits.longest limits.small (few_within within) (none_long Within first limits read.program.threads read.program.memory within)
+
+    -- past the limits on locations and code the first limit that is broken is the same
+    over_first : IsOver limits.longest (byte_in read.names.locations) byte_at (length read.names.locations) is.read.body
+        → first read.program.threads read.program.memory ≡ first meant.program.threads meant.program.memory
+    over_first over =
+        let names = read.names.locations in
+        let of : Listing → Option ProgramFault = λ l. first l.threads l.memory in
+        ap of is.read.program ∙ over_same Within first limits (byte_in names) (number_in names) byte_at position_in (length names) is.read.body over ∙ ap of filled
 
     -- the first limit that is broken is the same
     same_first : first read.program.threads read.program.memory ≡ first meant.program.threads meant.program.memory
@@ -87,8 +106,11 @@ module _ (text : List ℕ) (read : Litmus Listing) (is : IsReadOf text read) whe
         let names = read.names.locations in
         let of : Listing → Option ProgramFault = λ l. first l.threads l.memory in
         elim (cases_lt 8 (length names)) [
-          | inl many ↦ ap of is.read.program ∙ many_same Within first limits (byte_in names) (number_in names) (length names) is.read.body many ∙ ap of filled
-          | inr few ↦ ap (λ (l : Litmus Listing). of l.program) (sym (few_meant few))
+          | inl many ↦ over_first (inl many)
+          | inr few ↦ elim (cases_Bool (is_some (first_long limits.longest read.program.threads))) [
+            | inl long ↦ over_first (inr (ap (λ (l : Listing). is_some (first_long limits.longest l.threads)) (sym is.read.program) ∙ long))
+            | inr none ↦ ap (λ (l : Litmus Listing). of l.program) (sym (few_meant limits.longest limits.small few none))
+          ]
         ]
 
     -- ---- the answers of a reader of texts within the limits
@@ -96,11 +118,11 @@ module _ (text : List ℕ) (read : Litmus Listing) (is : IsReadOf text read) whe
     pub found : (program : Listing) → (program ≡ read.program) × Within read.program.threads read.program.memory
         → StandsFor text (record read { program = program }) × Within program.threads program.memory
     found program h =
-        let at_read : StandsFor text read = subst (λ (l : Litmus Listing). StandsFor text l) (few_meant (few_within h.1)) stands in
+        let at_read : StandsFor text read = subst (λ (l : Litmus Listing). StandsFor text l) (within_meant h.1) stands in
         subst (λ (l : Listing). StandsFor text (record read { program = l }) × Within l.threads l.memory) (sym h.0) (at_read, h.1)
 
     pub found_only : (program : Listing) (other : Litmus Listing) → (program ≡ read.program) × Within read.program.threads read.program.memory → StandsFor text other → record read { program = program } ≡ other
-    found_only program other h st = (λ i. record read { program = h.0 i }) ∙ sym (few_meant (few_within h.1)) ∙ sym (stands_only other st)
+    found_only program other h st = (λ i. record read { program = h.0 i }) ∙ sym (within_meant h.1) ∙ sym (stands_only other st)
 
     pub broken_only : (fault : ReadFault) (other : Litmus Listing) → MatchFault fault ⊥ (λ limit. first read.program.threads read.program.memory ≡ Some limit) ⊤ ⊥
         → StandsFor text other × Within other.program.threads other.program.memory → fault ≡ OutOfMemory

@@ -12,7 +12,7 @@ use Rattle.std.proofs.lemmas.List.Folds.{list_any-append, Any-from_list_any}
 use Rattle.std.proofs.lemmas.List.Sums.{position_or_len_is}
 use Rattle.std.proofs.lemmas.Map.Keys.{IsDistinct-push, apart_from_distinct}
 use Rattle.std.proofs.lemmas.Slice.Eq.{bytes_eq-Decides}
-use Rattle.litmus_syntax.specs.Views.{PlaceView, Location, Register, BodyView, SignView}
+use Rattle.litmus_syntax.specs.Views.{PlaceView, Location, Register, BodyView, EndingView}
 use Rattle.litmus_text.specs.Names.{with_name, in_order, number_in}
 use Rattle.litmus_text.specs.Places.{location_name, entry_place, row_places, sign_places, names_of}
 use Rattle.std.specs.List.{flat_map}
@@ -99,5 +99,5 @@ stand_from names (Location x ∷ ps) more = (
 )
 stand_from names (Register t r ∷ ps) more = (tt, stand_from names ps more)
 
-pub entries_stand : (body : BodyView) (signs : List SignView) → AllByRecursion (Stands (names_of body signs).locations) (map entry_place body.entries)
-entries_stand body signs = stand_from [] (map entry_place body.entries) (flat_map row_places body.rows ++ flat_map sign_places signs)
+pub entries_stand : (body : BodyView) (ending : EndingView) → AllByRecursion (Stands (names_of body ending).locations) (map entry_place body.entries)
+entries_stand body ending = stand_from [] (map entry_place body.entries) (flat_map row_places body.rows ++ (ending.observed ++ flat_map sign_places ending.signs))

@@ -1,8 +1,7 @@
 -- Locations' numbers as bytes serve as well: they are the numbers where there are few, and with many the same limit is broken.
-use Rattle.std.proofs.Common.{◌≡◌, ℕ, ◌+◌, ◌<◌, ◌≤◌, Bool, true, false, cond, List, [], ◌∷◌, length, map, Option, Some, None, refl, sym, ap, ◌∙◌, arith}
-use Rattle.std.proofs.Common.{suc}
-use Rattle.std.specs.Prelude.{◌==◌, min, nat_lt, not, is_some, unwrap_or, option_map, option_and_then, slice_get, if◌then◌else◌}
-use Rattle.std.specs.List.{range_with_len, prefix_len, cons_option}
+use Rattle.std.proofs.Common.{◌≡◌, ℕ, ◌+◌, ◌<◌, ◌≤◌, Bool, true, false, cond, List, [], ◌∷◌, length, map, Option, Some, None, refl, sym, ap, ◌∙◌, arith, get_or, inl, inr, ◌⊎◌}
+use Rattle.std.specs.Prelude.{◌==◌, min, nat_lt, not, is_some, unwrap_or, if◌then◌else◌}
+use Rattle.std.specs.List.{range_with_len, prefix_len}
 use Rattle.std.specs.Str.{bytes_eq}
 use Rattle.std.proofs.lemmas.Bool.{lt-ltb}
 use Rattle.std.proofs.lemmas.List.Sums.{prefix_len-le-length}
@@ -14,8 +13,16 @@ use Rattle.tso_program.specs.Limits.{IsWithinLimits, IsWithinFencedLimits, first
 use Rattle.tso_program.proofs.WithinLimits.{limits_are_the_refusals, fenced_limits_are_the_refusals}
 use Rattle.litmus_syntax.specs.Views.{BodyView, CellView}
 use Rattle.litmus_text.specs.Names.{number_in}
-use Rattle.litmus_text.specs.Meaning.{instruction_of, code_of}
-use Rattle.litmus_text.specs.Filling.{byte_in, is_of_location, entry_atoms, last_said, thread_by, listing_by}
+use Rattle.std.proofs.lemmas.Bool.{cases_Bool}
+use Rattle.std.proofs.lemmas.Bool.Decides.{nat_tests}
+use Rattle.std.proofs.lemmas.List.Sums.{prefix_len_passes}
+use Rattle.std.proofs.lemmas.List.FromFn.{get_or-map-range_with_len}
+use Rattle.litmus_text.specs.declared.label.Label.{Label}
+use Rattle.litmus_text.specs.Labels.{thread_labels, position_in}
+use Rattle.litmus_text.specs.Meaning.{code_of}
+use Rattle.litmus_text.specs.Filling.{byte_in, byte_at, is_of_location, entry_atoms, last_said, registers_from, memory_from, thread_by, listing_by}
+use Rattle.litmus_text.proofs.Filled.{range_same}
+use Rattle.litmus_text.proofs.Positions.{code_count, position_same}
 
 -- ---- few names
 
@@ -35,9 +42,6 @@ byte_is n le = omega arith
 pub byte_same : (names : List (List ℕ)) → length names ≤ 8 → byte_in names ≡ number_in names
 byte_same names few = λ i name. byte_is (number_in names name) (let le = number_le names name in omega arith) i
 
-pub listing_same : (names : List (List ℕ)) (body : BodyView) → length names ≤ 8 → listing_by (byte_in names) (length names) body ≡ listing_by (number_in names) (length names) body
-listing_same names body few = ap (λ (numbered : List ℕ → ℕ). listing_by numbered (length names) body) (byte_same names few)
-
 -- ---- limits
 
 -- the first refusal where there are too many locations
@@ -45,40 +49,47 @@ abbrev pub past_fault : ℕ → Option ℕ → Option ProgramFault
 past_fault threads long =
     if threads == 0 then Some NoThreads else if nat_lt 8 threads then Some TooManyThreads else if is_some long then Some (TooLong (unwrap_or long 0)) else Some Locations
 
--- Limits and their refusals, as far as a reader rests on them: at most 8 locations, which are refused before what they are used for.
+past_some : (a b c : Bool) (x y z w : ProgramFault) → (if a then Some x else if b then Some y else if c then Some z else Some w) ≡ None → ⊥
+past_some true b c x y z w e = cc
+past_some false true c x y z w e = cc
+past_some false false true x y z w e = cc
+past_some false false false x y z w e = cc
+
+-- Limits and their refusals, as far as a reader rests on them: at most 8 locations and 255 instructions a thread, which are refused
+-- before what they are used for.
 pub record AreLimits (Within : List Thread → List ℕ → Type 0) (first : List Thread → List ℕ → Option ProgramFault) : Type 0 where
   pub longest : ℕ
+  pub small : longest ≤ 255
   pub few_locations : (threads : List Thread) (memory : List ℕ) → Within threads memory → length memory ≤ 8
   pub none_broken : (threads : List Thread) (memory : List ℕ) → Within threads memory → first threads memory ≡ None
   pub past : (threads : List Thread) (memory : List ℕ) → nat_lt 8 (length memory) ≡ true → first threads memory ≡ past_fault (length threads) (first_long longest threads)
+  pub long : (threads : List Thread) (memory : List ℕ) → is_some (first_long longest threads) ≡ true → first threads memory ≡ past_fault (length threads) (first_long longest threads)
 
 pub program_limits : AreLimits (λ threads memory. IsWithinLimits threads memory) first_fault
 program_limits = record {
   longest = 64;
+  small = omega arith;
   few_locations = λ threads memory within. within.shared.few_locations;
   none_broken = λ threads memory within. (limits_are_the_refusals threads memory).1 within;
   past = λ threads memory e. rw e refl;
+  long = λ threads memory e. rw e refl;
 }
 
 pub fenced_program_limits : AreLimits (λ threads memory. IsWithinFencedLimits threads memory) first_fenced_fault
 fenced_program_limits = record {
   longest = 127;
+  small = omega arith;
   few_locations = λ threads memory within. within.few_locations;
   none_broken = λ threads memory within. (fenced_limits_are_the_refusals threads memory).1 within;
   past = λ threads memory e. rw e refl;
+  long = λ threads memory e. rw e refl;
 }
 
 -- ---- many names
 
-one_more : {A B : Type 0} (f g : A → B) (o : Option A) (xs ys : List B) → length xs ≡ length ys → length (cons_option (option_map f o) xs) ≡ length (cons_option (option_map g o) ys)
-one_more f g None xs ys e = e
-one_more f g (Some a) xs ys e = ap suc e
-
--- code has as many instructions, however locations are numbered
-code_len : (a b : List ℕ → ℕ) (rows : List (List CellView)) (t : ℕ) → length (code_of a rows t) ≡ length (code_of b rows t)
-code_len a b [] t = refl
-code_len a b (row ∷ rows) t =
-    one_more (instruction_of a) (instruction_of b) (option_and_then (λ cell. cell) (slice_get row t)) (code_of a rows t) (code_of b rows t) (code_len a b rows t)
+-- code has as many instructions, however locations and positions are numbered
+code_len : (a b p q : List ℕ → ℕ) (rows : List (List CellView)) (t : ℕ) → length (code_of a p rows t) ≡ length (code_of b q rows t)
+code_len a b p q rows t = code_count a p rows t ∙ sym (code_count b q rows t)
 
 prefix_same : (longest : ℕ) (f g : ℕ → Thread) (ts : List ℕ) → ((t : ℕ) → length (f t).code ≡ length (g t).code)
     → prefix_len (λ (thread : Thread). not (nat_lt longest (length thread.code))) (map f ts) ≡ prefix_len (λ (thread : Thread). not (nat_lt longest (length thread.code))) (map g ts)
@@ -93,22 +104,77 @@ long_same longest f g n h =
     λ i. cond (nat_lt (e i) (l i)) (Some (e i)) None
 
 -- as many locations as names
-pub memory_len : (numbered : List ℕ → ℕ) (locations : ℕ) (body : BodyView) → length (listing_by numbered locations body).memory ≡ locations
-memory_len numbered locations body = length-map-range_with_len (λ l. last_said (is_of_location l) (entry_atoms numbered body.entries)) 0 locations
+pub memory_len : (numbered : List ℕ → ℕ) (positioned : List Label → List ℕ → ℕ) (locations : ℕ) (body : BodyView) → length (listing_by numbered positioned locations body).memory ≡ locations
+memory_len numbered positioned locations body = length-map-range_with_len (λ l. last_said (is_of_location l) (entry_atoms numbered body.entries)) 0 locations
+
+-- many locations, or a long thread
+abbrev pub IsOver : ℕ → (List ℕ → ℕ) → (List Label → List ℕ → ℕ) → ℕ → BodyView → Type 0
+IsOver longest numbered positioned locations body = (8 < locations) ⊎ (is_some (first_long longest (listing_by numbered positioned locations body).threads) ≡ true)
+
+long_len : (longest : ℕ) (a b : List ℕ → ℕ) (p q : List Label → List ℕ → ℕ) (locations : ℕ) (body : BodyView)
+    → first_long longest (listing_by a p locations body).threads ≡ first_long longest (listing_by b q locations body).threads
+long_len longest a b p q locations body =
+    long_same longest (thread_by a p body) (thread_by b q body) body.threads (λ t. code_len a b (p (thread_labels body.rows t)) (q (thread_labels body.rows t)) body.rows t)
 
 module _ (Within : List Thread → List ℕ → Type 0) (first : List Thread → List ℕ → Option ProgramFault) (limits : AreLimits Within first) where
-  past_of : (numbered : List ℕ → ℕ) (locations : ℕ) (body : BodyView) → 8 < locations
-      → first (listing_by numbered locations body).threads (listing_by numbered locations body).memory ≡ past_fault body.threads (first_long limits.longest (listing_by numbered locations body).threads)
-  past_of numbered locations body many =
-      let listing = listing_by numbered locations body in
-      let e : nat_lt 8 (length listing.memory) ≡ true = ap (nat_lt 8) (memory_len numbered locations body) ∙ lt-ltb 8 locations many in
-      limits.past listing.threads listing.memory e
-      ∙ ap (λ (n : ℕ). past_fault n (first_long limits.longest listing.threads)) (length-map-range_with_len (thread_by numbered body) 0 body.threads)
+  past_of : (numbered : List ℕ → ℕ) (positioned : List Label → List ℕ → ℕ) (locations : ℕ) (body : BodyView) → IsOver limits.longest numbered positioned locations body
+      → first (listing_by numbered positioned locations body).threads (listing_by numbered positioned locations body).memory
+      ≡ past_fault body.threads (first_long limits.longest (listing_by numbered positioned locations body).threads)
+  past_of numbered positioned locations body over =
+      let listing = listing_by numbered positioned locations body in
+      let threads = ap (λ (n : ℕ). past_fault n (first_long limits.longest listing.threads)) (length-map-range_with_len (thread_by numbered positioned body) 0 body.threads) in
+      elim over [
+        | inl many ↦ limits.past listing.threads listing.memory (ap (nat_lt 8) (memory_len numbered positioned locations body) ∙ lt-ltb 8 locations many) ∙ threads
+        | inr long ↦ limits.long listing.threads listing.memory long ∙ threads
+      ]
 
-  -- with many names the first limit that is broken is the same, however they are numbered
-  pub many_same : (a b : List ℕ → ℕ) (locations : ℕ) (body : BodyView) → 8 < locations
-      → first (listing_by a locations body).threads (listing_by a locations body).memory ≡ first (listing_by b locations body).threads (listing_by b locations body).memory
-  many_same a b locations body many =
-      past_of a locations body many
-      ∙ ap (past_fault body.threads) (long_same limits.longest (thread_by a body) (thread_by b body) body.threads (λ t. code_len a b body.rows t))
-      ∙ sym (past_of b locations body many)
+  -- with many names or a long thread the first limit that is broken is the same, however they are numbered
+  pub over_same : (a b : List ℕ → ℕ) (p q : List Label → List ℕ → ℕ) (locations : ℕ) (body : BodyView) → IsOver limits.longest a p locations body
+      → first (listing_by a p locations body).threads (listing_by a p locations body).memory ≡ first (listing_by b q locations body).threads (listing_by b q locations body).memory
+  over_same a b p q locations body over =
+      let len = long_len limits.longest a b p q locations body in
+      let other : IsOver limits.longest b q locations body = elim over [ inl many ↦ inl many | inr long ↦ inr (ap is_some (sym len) ∙ long) ] in
+      past_of a p locations body over ∙ ap (past_fault body.threads) len ∙ sym (past_of b q locations body other)
+
+  -- a program within its limits has no long thread
+  pub none_long : (threads : List Thread) (memory : List ℕ) → Within threads memory → is_some (first_long limits.longest threads) ≡ false
+  none_long threads memory within =
+      let long = first_long limits.longest threads in
+      elim (cases_Bool (is_some long)) [
+        | inl e ↦ absurd (past_some (length threads == 0) (nat_lt 8 (length threads)) (is_some long) NoThreads TooManyThreads (TooLong (unwrap_or long 0)) Locations (sym (limits.long threads memory e) ∙ limits.none_broken threads memory within))
+        | inr e ↦ e
+      ]
+
+-- ---- few names and short threads
+
+none_there : (b : Bool) (n : ℕ) → is_some (if b then Some n else None) ≡ false → b ≡ false
+none_there true n e = absurd cc
+none_there false n e = refl
+
+at_least : (a b : ℕ) → nat_lt a b ≡ false → b ≤ a
+at_least a b e = grind (arith, nat_tests)
+
+not_past : (a b : ℕ) → not (nat_lt a b) ≡ true → b ≤ a
+not_past a b e = grind (arith, nat_tests)
+
+-- each thread is short
+short : (longest : ℕ) (f : ℕ → Thread) (n : ℕ) → is_some (first_long longest (map f (range_with_len 0 n))) ≡ false → (t : ℕ) → t < n → length (f t).code ≤ longest
+short longest f n none t lt =
+    let xs = map f (range_with_len 0 n) in
+    let passes : Thread → Bool = λ thread. not (nat_lt longest (length thread.code)) in
+    let all : length xs ≤ prefix_len passes xs = at_least (prefix_len passes xs) (length xs) (none_there (nat_lt (prefix_len passes xs) (length xs)) (prefix_len passes xs) none) in
+    let at : passes (get_or xs t (f t)) ≡ true = prefix_len_passes passes xs t (f t) (omega (arith, lt, all, length-map-range_with_len f 0 n)) in
+    not_past longest (length (f t).code) (ap passes (sym (get_or-map-range_with_len f 0 n t t (f t) lt (omega arith))) ∙ at)
+
+-- of few locations and short threads all numbers are bytes
+pub listing_same : (longest : ℕ) (names : List (List ℕ)) (body : BodyView) → longest ≤ 255 → length names ≤ 8
+    → is_some (first_long longest (listing_by (byte_in names) byte_at (length names) body).threads) ≡ false
+    → listing_by (byte_in names) byte_at (length names) body ≡ listing_by (number_in names) position_in (length names) body
+listing_same longest names body small few none =
+    let numbered = byte_same names few in
+    let positioned : (t : ℕ) → t < body.threads → byte_at (thread_labels body.rows t) ≡ position_in (thread_labels body.rows t) =
+    λ t lt. position_same (byte_in names) (byte_at (thread_labels body.rows t)) body.rows t (omega (arith, small, short longest (thread_by (byte_in names) byte_at body) body.threads none t lt)) in
+    let threads : (listing_by (byte_in names) byte_at (length names) body).threads ≡ (listing_by (number_in names) position_in (length names) body).threads =
+    range_same (thread_by (byte_in names) byte_at body) (thread_by (number_in names) position_in body) body.threads
+    (λ t lt i. record { code = code_of (numbered i) (positioned t lt i) body.rows t; registers = registers_from (entry_atoms (numbered i) body.entries) t }) in
+    λ i. record { threads = threads i; memory = memory_from (length names) (entry_atoms (numbered i) body.entries) }

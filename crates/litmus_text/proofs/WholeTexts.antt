@@ -33,7 +33,7 @@ text_read text name other lines tokens litmus split e h =
       utf8 = split.utf8;
       first_line = subst (λ (n : List ℕ). IsFirstLine text n lines) (sym own) split.first_line;
       first_only = λ n rest f. let p = split.first_only n rest f in (own ∙ p.0, p.1);
-      lexes = split.lexes (parts_whole tokens h.1.body h.1.signs h.1.formula h.1.parts);
+      lexes = split.lexes (parts_whole tokens h.1.body h.1.ending h.1.formula h.1.parts);
       lexes_only = λ ts l. split.lexes_only ts (inl l);
       read = h.1;
     }
@@ -47,7 +47,7 @@ no_parts text name lines tokens split none litmus st =
     let p = split.first_only litmus.name st.lines st.first_line in
     let lexes : Lexes lines st.tokens = subst (λ (l : List ℕ). Lexes l st.tokens) (sym p.1) st.lexes in
     let m : Means tokens litmus = subst (λ (ts : List Tok). Means ts litmus) (sym (split.lexes_only st.tokens (inl lexes))) st.means in
-    none m.body m.signs m.formula m.parts
+    none m.body m.ending m.formula m.parts
 
 pub tokens_refused : (text name lines : List ℕ) (tokens : List Tok) (fault : ReadFault) → Split text name lines tokens → MatchFault fault ⊥ (λ _. ⊥) ⊤ (HasNoParts tokens)
     → MatchFault fault (IsUtf8 text → ⊥) (λ _. ⊥) ⊤ (StandsForNothing text)

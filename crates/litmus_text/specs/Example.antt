@@ -57,6 +57,8 @@ litmus = record {
   program = program;
   names = names;
   condition = record { quantifier = Exists; formula = tree.And (tree.Atom (atom.Register 0 Eax 0)) (tree.Atom (atom.Register 1 Eax 0)) };
+  observed = [];
+  labels = [] ∷ [] ∷ [];
 }
 
 -- the tokens of store buffering stand for that program

@@ -1,5 +1,5 @@
 -- How the reader's tables are filled, one entry after another.
-use Rattle.std.specs.Prelude.{ℕ, ◌==◌, ◌&&◌, Bool, true, false, List, [], map, fold, min, replicate, slice_set, slice_index_or, if◌then◌else◌}
+use Rattle.std.specs.Prelude.{◌≡◌, ℕ, ◌==◌, ◌&&◌, Bool, true, false, List, [], ◌∷◌, ◌++◌, length, map, fold, min, replicate, is_some, slice_set, slice_index_or, if◌then◌else◌}
 use Rattle.std.specs.List.{range_with_len}
 use Rattle.std.specs.Global.{Vec}
 use Rattle.tso_program.specs.declared.instruction.Reg.{Reg}
@@ -10,6 +10,8 @@ use Rattle.conditions.specs.declared.atom.Atom.{Atom}
 use Rattle.conditions.specs.declared.atom.Atom.TheVariants as atom
 use Rattle.litmus_syntax.specs.Views.{PlaceView, Location, Register, EntryView, CellView, BodyView}
 use Rattle.litmus_text.specs.Names.{Names, all_registers, with_name, number_in}
+use Rattle.litmus_text.specs.declared.label.Label.{Label}
+use Rattle.litmus_text.specs.Labels.{thread_labels, label_in, position_in}
 use Rattle.litmus_text.specs.Meaning.{atom_of, code_of}
 
 -- the bytes of each
@@ -19,6 +21,26 @@ texts keys = map (λ key. key.items) keys
 -- a name's number as a byte: 255 from the 256th name on
 abbrev pub byte_in : List (List ℕ) → List ℕ → ℕ
 byte_in names name = min 255 (number_in names name)
+
+-- a label's position as a byte: 255 past it
+abbrev pub byte_at : List Label → List ℕ → ℕ
+byte_at labels name = min 255 (position_in labels name)
+
+-- the labels of a table of positions by name
+abbrev pub labels_in : List (Vec ℕ × ℕ) → List Label
+labels_in entries = map (λ e. record { name = e.0.items; position = e.1 }) entries
+
+-- the labels with this one, at the end where its name is new
+abbrev pub with_label : List Label → Label → List Label
+with_label labels label = if is_some (label_in labels label.name) then labels else labels ++ label ∷ []
+
+-- by each name these labels give what those give
+abbrev pub FindsAs : List Label → List Label → Type 0
+FindsAs found labels = (name : List ℕ) → label_in found name ≡ label_in labels name
+
+-- the same of each thread's labels
+abbrev pub FindAllAs : List (List Label) → List (List Label) → Type 0
+FindAllAs found labels = (length found ≡ length labels) × ((t : ℕ) → FindsAs (slice_index_or found t []) (slice_index_or labels t []))
 
 -- a table with one value changed
 abbrev pub put : {X : Type 0} → List (List X) → ℕ → ℕ → X → List (List X)
@@ -78,18 +100,18 @@ registers_from atoms t = map (λ r. last_said (is_of_register t r) atoms) all_re
 
 -- ---- the program
 
--- thread t, with its registers from a table
-abbrev pub thread_in : (List ℕ → ℕ) → List (List CellView) → List (List ℕ) → ℕ → Thread
-thread_in numbered rows registers t = record { code = code_of numbered rows t; registers = slice_index_or registers t (replicate 6 0) }
+-- thread t, with its registers and labels from tables
+abbrev pub thread_in : (List ℕ → ℕ) → List (List CellView) → List (List ℕ) → List (List Label) → ℕ → Thread
+thread_in numbered rows registers labels t = record { code = code_of numbered (byte_at (slice_index_or labels t [])) rows t; registers = slice_index_or registers t (replicate 6 0) }
 
 abbrev pub listed : List Thread → List ℕ → Listing
 listed threads memory = record { threads = threads; memory = memory }
 
--- thread t, with its registers after all initial values
-abbrev pub thread_by : (List ℕ → ℕ) → BodyView → ℕ → Thread
-thread_by numbered body t = record { code = code_of numbered body.rows t; registers = registers_from (entry_atoms numbered body.entries) t }
+-- thread t, with its registers after all initial values, and positions as given
+abbrev pub thread_by : (List ℕ → ℕ) → (List Label → List ℕ → ℕ) → BodyView → ℕ → Thread
+thread_by numbered positioned body t = record { code = code_of numbered (positioned (thread_labels body.rows t)) body.rows t; registers = registers_from (entry_atoms numbered body.entries) t }
 
 -- the program of so many locations
-abbrev pub listing_by : (List ℕ → ℕ) → ℕ → BodyView → Listing
-listing_by numbered locations body =
-    listed (map (thread_by numbered body) (range_with_len 0 body.threads)) (memory_from locations (entry_atoms numbered body.entries))
+abbrev pub listing_by : (List ℕ → ℕ) → (List Label → List ℕ → ℕ) → ℕ → BodyView → Listing
+listing_by numbered positioned locations body =
+    listed (map (thread_by numbered positioned body) (range_with_len 0 body.threads)) (memory_from locations (entry_atoms numbered body.entries))

@@ -1,5 +1,5 @@
 -- What a litmus text means, once its locations are numbered.
-use Rattle.std.specs.Prelude.{ℕ, true, List, map, Option, option_map, option_and_then, slice_get}
+use Rattle.std.specs.Prelude.{ℕ, List, map, Option, option_map, option_and_then, slice_get}
 use Rattle.std.specs.List.{filter_map, find, range_with_len}
 use Rattle.std.specs.Option.{option_map_or}
 use Rattle.tso_program.specs.declared.instruction.Instr.{Instr}
@@ -9,14 +9,20 @@ use Rattle.tso_program.specs.declared.listing.Listing.{Listing}
 use Rattle.conditions.specs.declared.atom.Atom.{Atom}
 use Rattle.conditions.specs.declared.atom.Atom.TheVariants as atom
 use Rattle.conditions.specs.declared.condition.Condition.{Condition}
-use Rattle.conditions.specs.declared.condition.Quantifier.TheVariants.{Exists}
+use Rattle.conditions.specs.declared.condition.Quantifier.{Quantifier}
+use Rattle.conditions.specs.declared.condition.Quantifier.TheVariants.{Exists, NotExists, Forall}
 use Rattle.conditions.specs.Tree.{Tree, tree_map}
 use Rattle.conditions.specs.Grammar.{Sign}
 use Rattle.conditions.specs.Grammar as sign
 use Rattle.litmus_syntax.specs.Views.{PlaceView, Location, Register, EntryView, CodeView, CellView, BodyView, SignView}
 use Rattle.litmus_syntax.specs.Views as view
 use Rattle.litmus_syntax.specs.Places.{same_place}
+use Rattle.litmus_syntax.specs.declared.ending.Quantifier.{Quantifier as Word}
+use Rattle.litmus_syntax.specs.declared.ending.Quantifier.TheVariants as word
+use Rattle.litmus_text.specs.declared.observed.Observed.{Observed}
+use Rattle.litmus_text.specs.declared.observed.Observed.TheVariants as observed
 use Rattle.litmus_text.specs.Names.{all_registers, number_in}
+use Rattle.litmus_text.specs.Labels.{thread_labels, position_in}
 
 -- ---- the start
 
@@ -34,25 +40,31 @@ registers_of entries t = map (λ r. first_value entries (Register t r)) all_regi
 
 -- ---- the program
 
--- an instruction, with its location's number
-abbrev pub instruction_of : (List ℕ → ℕ) → CodeView → Instr
-instruction_of numbered (view.LoadImm r n) = instr.LoadImm r n
-instruction_of numbered (view.Copy r s) = instr.Copy r s
-instruction_of numbered (view.Load r x) = instr.Load r (numbered x)
-instruction_of numbered (view.StoreImm x n) = instr.StoreImm (numbered x) n
-instruction_of numbered (view.Store x r) = instr.Store (numbered x) r
-instruction_of numbered view.Fence = instr.Fence
+-- an instruction, with its location's number, or the position of the label to which it jumps
+abbrev pub instruction_of : (List ℕ → ℕ) → (List ℕ → ℕ) → CodeView → Instr
+instruction_of numbered positioned (view.LoadImm r n) = instr.LoadImm r n
+instruction_of numbered positioned (view.Copy r s) = instr.Copy r s
+instruction_of numbered positioned (view.Load r x) = instr.Load r (numbered x)
+instruction_of numbered positioned (view.StoreImm x n) = instr.StoreImm (numbered x) n
+instruction_of numbered positioned (view.Store x r) = instr.Store (numbered x) r
+instruction_of numbered positioned (view.Xchg x r) = instr.Xchg (numbered x) r
+instruction_of numbered positioned view.Fence = instr.Fence
+instruction_of numbered positioned (view.CmpImm r n) = instr.CmpImm r n
+instruction_of numbered positioned (view.CmpReg r s) = instr.CmpReg r s
+instruction_of numbered positioned (view.Je l) = instr.Je (positioned l)
+instruction_of numbered positioned (view.Jne l) = instr.Jne (positioned l)
+instruction_of numbered positioned (view.Jmp l) = instr.Jmp (positioned l)
 
 -- the instruction of thread t in a row, if there is one
-abbrev pub instruction_in : (List ℕ → ℕ) → ℕ → List CellView → Option Instr
-instruction_in numbered t row = option_map (instruction_of numbered) (option_and_then (λ cell. cell) (slice_get row t))
+abbrev pub instruction_in : (List ℕ → ℕ) → (List ℕ → ℕ) → ℕ → List CellView → Option Instr
+instruction_in numbered positioned t row = option_map (instruction_of numbered positioned) (option_and_then (λ cell. cell.code) (slice_get row t))
 
 -- thread t's code: its instructions from top to bottom
-abbrev pub code_of : (List ℕ → ℕ) → List (List CellView) → ℕ → List Instr
-code_of numbered rows t = filter_map (instruction_in numbered t) rows
+abbrev pub code_of : (List ℕ → ℕ) → (List ℕ → ℕ) → List (List CellView) → ℕ → List Instr
+code_of numbered positioned rows t = filter_map (instruction_in numbered positioned t) rows
 
 abbrev pub thread_of : (List ℕ → ℕ) → BodyView → ℕ → Thread
-thread_of numbered body t = record { code = code_of numbered body.rows t; registers = registers_of body.entries t }
+thread_of numbered body t = record { code = code_of numbered (position_in (thread_labels body.rows t)) body.rows t; registers = registers_of body.entries t }
 
 -- the program of a text with these locations, without limits
 abbrev pub listing_of : List (List ℕ) → BodyView → Listing
@@ -61,13 +73,22 @@ listing_of names body = record {
   memory = memory_of names body.entries;
 }
 
+-- ---- what is observed
+
+-- a place, with the location's number
+abbrev pub observed_of : (List ℕ → ℕ) → PlaceView → Observed
+observed_of numbered (Location x) = observed.Location (numbered x)
+observed_of numbered (Register t r) = observed.Register t r
+
 -- ---- the condition
 
 -- a sign of the condition, whose atoms say that a place has a value
 abbrev pub sign_of : SignView → Sign (PlaceView × ℕ)
 sign_of (view.Atom p n) = sign.Atom (p, n)
-sign_of view.True = sign.Const true
+sign_of (view.Const b) = sign.Const b
+sign_of view.Not = sign.Not
 sign_of view.And = sign.And
+sign_of view.Or = sign.Or
 sign_of view.Open = sign.Open
 sign_of view.Close = sign.Close
 
@@ -80,6 +101,11 @@ atom_of numbered (Register t r) n = atom.Register t r n
 abbrev pub numbered_atom : (List ℕ → ℕ) → PlaceView × ℕ → Atom
 numbered_atom numbered said = atom_of numbered said.0 said.1
 
--- the condition: that there is an outcome of which the formula is true
-abbrev pub condition_of : (List ℕ → ℕ) → Tree (PlaceView × ℕ) → Condition
-condition_of numbered formula = record { quantifier = Exists; formula = tree_map (numbered_atom numbered) formula }
+abbrev pub quantifier_of : Word → Quantifier
+quantifier_of word.Exists = Exists
+quantifier_of word.NotExists = NotExists
+quantifier_of word.Forall = Forall
+
+-- the condition: over which outcomes it speaks, and what it says of them
+abbrev pub condition_of : (List ℕ → ℕ) → Word → Tree (PlaceView × ℕ) → Condition
+condition_of numbered quantifier formula = record { quantifier = quantifier_of quantifier; formula = tree_map (numbered_atom numbered) formula }

@@ -10,14 +10,17 @@ use Rattle.conditions.specs.Tree.{Tree}
 use Rattle.conditions.specs.Grammar.{Sign, sign_map}
 use Rattle.conditions.specs.Reads.{SpellsOnly, SpellsNone}
 use Rattle.litmus_syntax.specs.declared.fault.Refusal.{Refusal}
-use Rattle.litmus_syntax.specs.Views.{PlaceView, BodyView, SignView}
+use Rattle.litmus_syntax.specs.declared.fault.SyntaxFault.{SyntaxFault}
+use Rattle.litmus_syntax.specs.declared.fault.SyntaxFault.TheVariants.{Refused, OutOfMemory as NoMemory}
+use Rattle.litmus_syntax.specs.Views.{PlaceView, BodyView, SignView, EndingView}
 use Rattle.litmus_text.specs.declared.litmus.Litmus.{Litmus}
 use Rattle.litmus_text.specs.declared.fault.ReadFault.{ReadFault}
 use Rattle.litmus_text.specs.Faults.{MatchFault}
 use Rattle.litmus_text.specs.FirstLine.{IsFirstLine}
 use Rattle.litmus_text.specs.Places.{names_of}
-use Rattle.litmus_text.specs.Meaning.{sign_of, numbered_atom, condition_of}
-use Rattle.litmus_text.specs.Filling.{byte_in, listing_by}
+use Rattle.litmus_text.specs.Labels.{all_labels}
+use Rattle.litmus_text.specs.Meaning.{sign_of, numbered_atom, condition_of, observed_of}
+use Rattle.litmus_text.specs.Filling.{byte_in, byte_at, listing_by}
 use Rattle.litmus_text.specs.Texts.{AreParts, StandsFor}
 
 -- ---- the condition
@@ -33,20 +36,26 @@ ReadsFormula refusal signs (Err fault) = MatchFault fault ⊥ (λ _. ⊥) ⊤ (r
 
 -- ---- the tokens
 
--- What was read of tokens: their parts, which are the only ones, with the locations' numbers as bytes.
+-- What was read of tokens: their parts, which are the only ones, with the numbers of locations and the positions of labels as bytes.
 pub record IsRead (tokens : List Tok) (litmus : Litmus Listing) : Type 0 where
   pub body : BodyView
-  pub signs : List SignView
+  pub ending : EndingView
   pub formula : Tree (PlaceView × ℕ)
-  pub parts : AreParts tokens body signs formula
-  pub only : (b : BodyView) (ss : List SignView) (f : Tree (PlaceView × ℕ)) → AreParts tokens b ss f → (b ≡ body) × (ss ≡ signs) × (f ≡ formula)
-  pub names : litmus.names ≡ names_of body signs
-  pub program : litmus.program ≡ listing_by (byte_in litmus.names.locations) (length litmus.names.locations) body
-  pub condition : litmus.condition ≡ condition_of (byte_in litmus.names.locations) formula
+  pub parts : AreParts tokens body ending formula
+  pub only : (b : BodyView) (e : EndingView) (f : Tree (PlaceView × ℕ)) → AreParts tokens b e f → (b ≡ body) × (e ≡ ending) × (f ≡ formula)
+  pub names : litmus.names ≡ names_of body ending
+  pub program : litmus.program ≡ listing_by (byte_in litmus.names.locations) byte_at (length litmus.names.locations) body
+  pub condition : litmus.condition ≡ condition_of (byte_in litmus.names.locations) ending.quantifier formula
+  pub observed : litmus.observed ≡ map (observed_of (byte_in litmus.names.locations)) ending.observed
+  pub labels : litmus.labels ≡ all_labels body
 
--- a part is missing, or a token cannot stand where it does
+-- the fault of tokens that were refused, or for whose parts memory ran out
+abbrev pub IsSyntaxFault : SyntaxFault → ReadFault → Type 0
+IsSyntaxFault refused fault = MatchFault fault ⊥ (λ _. ⊥) (refused ≡ NoMemory) ((refusal : Refusal) × (refused ≡ Refused refusal))
+
+-- a part is missing, a token cannot stand where it does, or a jump is to no label
 abbrev pub HasNoParts : List Tok → Type 0
-HasNoParts tokens = (body : BodyView) (signs : List SignView) (formula : Tree (PlaceView × ℕ)) → AreParts tokens body signs formula → ⊥
+HasNoParts tokens = (body : BodyView) (ending : EndingView) (formula : Tree (PlaceView × ℕ)) → AreParts tokens body ending formula → ⊥
 
 abbrev pub ReadsTokens : List ℕ → List Tok → Result (Litmus Listing) ReadFault → Type 0
 ReadsTokens name tokens (Ok litmus) = (litmus.name ≡ name) × IsRead tokens litmus

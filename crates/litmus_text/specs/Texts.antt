@@ -9,32 +9,37 @@ use Rattle.text_tokens.specs.Tokens.{Tok}
 use Rattle.text_tokens.specs.Lexing.{Lexes}
 use Rattle.conditions.specs.Tree.{Tree}
 use Rattle.conditions.specs.Grammar.{Spells, Sum}
-use Rattle.litmus_syntax.specs.Views.{PlaceView, BodyView, SignView}
-use Rattle.litmus_syntax.specs.Grammar.{IsBody, IsSigns}
+use Rattle.litmus_syntax.specs.Views.{PlaceView, BodyView, EndingView}
+use Rattle.litmus_syntax.specs.Grammar.{IsBody, IsEnding}
 use Rattle.litmus_text.specs.declared.litmus.Litmus.{Litmus}
 use Rattle.litmus_text.specs.declared.fault.ReadFault.{ReadFault}
 use Rattle.litmus_text.specs.Faults.{MatchFault}
 use Rattle.litmus_text.specs.Names.{number_in}
 use Rattle.litmus_text.specs.Places.{names_of}
 use Rattle.litmus_text.specs.FirstLine.{IsFirstLine}
-use Rattle.litmus_text.specs.Meaning.{listing_of, sign_of, condition_of}
+use Rattle.litmus_text.specs.Labels.{all_labels, JumpsAreFound}
+use Rattle.litmus_text.specs.Meaning.{listing_of, sign_of, condition_of, observed_of}
 
--- The tokens behind the first line: initial values, header row and rows; then `exists` and signs, which spell a formula.
-pub record AreParts (tokens : List Tok) (body : BodyView) (signs : List SignView) (formula : Tree (PlaceView × ℕ)) : Type 0 where
+-- The tokens from `{` on: initial values, header row and rows; then what is observed, a quantifier and signs, which spell a
+-- formula. Each jump is to a label of its thread.
+pub record AreParts (tokens : List Tok) (body : BodyView) (ending : EndingView) (formula : Tree (PlaceView × ℕ)) : Type 0 where
   pub others : List Tok
   pub begins : IsBody body tokens others
-  pub ends : IsSigns body.threads signs others
-  pub spells : Spells Sum formula (map sign_of signs) []
+  pub ends : IsEnding body.threads ending others
+  pub spells : Spells Sum formula (map sign_of ending.signs) []
+  pub jumps : JumpsAreFound body
 
--- What such tokens stand for: the names, the program and the condition.
+-- What such tokens stand for: the names, the program, the condition, what is observed, and the labels.
 pub record Means (tokens : List Tok) (litmus : Litmus Listing) : Type 0 where
   pub body : BodyView
-  pub signs : List SignView
+  pub ending : EndingView
   pub formula : Tree (PlaceView × ℕ)
-  pub parts : AreParts tokens body signs formula
-  pub names : litmus.names ≡ names_of body signs
+  pub parts : AreParts tokens body ending formula
+  pub names : litmus.names ≡ names_of body ending
   pub program : litmus.program ≡ listing_of litmus.names.locations body
-  pub condition : litmus.condition ≡ condition_of (number_in litmus.names.locations) formula
+  pub condition : litmus.condition ≡ condition_of (number_in litmus.names.locations) ending.quantifier formula
+  pub observed : litmus.observed ≡ map (observed_of (number_in litmus.names.locations)) ending.observed
+  pub labels : litmus.labels ≡ all_labels body
 
 -- What a text stands for, whatever the size of its program: it is UTF-8, its first line names the test, and the tokens of
 -- the other lines stand for the rest.

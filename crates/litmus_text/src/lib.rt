@@ -4,19 +4,24 @@
 mod condition;
 mod fault;
 mod first_line;
+mod jumps;
+mod label;
 mod laws;
 mod lines;
 mod litmus;
 mod mentions;
 mod names;
+mod observed;
 mod outcome;
 mod program;
 mod reader;
 
 pub use fault::ReadFault;
+pub use label::Label;
 pub use laws::{store_buffering_is_read, texts_name_few_locations};
 pub use litmus::Litmus;
 pub use names::NameTable;
+pub use observed::Observed;
 pub use outcome::write_outcome;
 pub use reader::{read_fenced, read_litmus};
 

@@ -1,5 +1,7 @@
 //! What a litmus text stands for.
+use crate::label::Label;
 use crate::names::NameTable;
+use crate::observed::Observed;
 use conditions::Condition;
 use tso_program::Items;
 
@@ -11,4 +13,8 @@ pub struct Litmus<P> {
     pub program: P,
     pub names: NameTable,
     pub condition: Condition,
+    /// The places behind `locations`, in order.
+    pub observed: Items<Observed>,
+    /// Each thread's labels, in text order.
+    pub labels: Items<Items<Label>>,
 }

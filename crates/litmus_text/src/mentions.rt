@@ -1,12 +1,12 @@
 //! Which names a text has.
 ghost use Rattle.std.specs.Prelude.{◌≡◌, OnOk, IfOk, map, fold};
 ghost use Rattle.std.specs.List.{flat_map};
-ghost use Rattle.litmus_syntax.specs.Views.{entry_view, code_view, cell_view, row_view, body_view, sign_view, sign_at_view};
+ghost use Rattle.litmus_syntax.specs.Views.{place_view, ending_view, entry_view, code_view, cell_view, row_view, body_view, sign_view, sign_at_view};
 ghost use Rattle.litmus_text.specs.Filling.{noted};
 ghost use Rattle.litmus_text.specs.Places.{names_of, entry_place, code_places, cell_places, row_places, sign_places};
 
 use crate::names::NameTable;
-use litmus_syntax::{Body, Code, Entry, Place, Sign, SignAt};
+use litmus_syntax::{Body, Cell, Code, Ending, Entry, Place, Sign, SignAt};
 use std::alloc::{AllocError, Global};
 
 fn note_entries(
@@ -42,11 +42,16 @@ fn note_code(
             names.note_location(alloc, name)?;
         }
         Code::StoreImm(name, _) => names.note_location(alloc, name)?,
-        Code::Store(name, register) => {
+        Code::Store(name, register) | Code::Xchg(name, register) => {
             names.note_location(alloc, name)?;
             names.note_register(thread, register);
         }
-        Code::Fence => {}
+        Code::CmpImm(register, _) => names.note_register(thread, register),
+        Code::CmpReg(register, other) => {
+            names.note_register(thread, register);
+            names.note_register(thread, other);
+        }
+        Code::Fence | Code::Je(_) | Code::Jne(_) | Code::Jmp(_) => {}
     }
     Ok(())
 }
@@ -55,35 +60,27 @@ fn note_cell(
     alloc: Global,
     names: &mut NameTable,
     thread: usize,
-    cell: Option<Code<'_>>,
+    cell: &Cell<'_>,
 ) -> Result<(), AllocError>
-    ensures { OnOk result (names.new ≡ fold noted names.old (cell_places thread (cell_view cell.entry))) }
+    ensures { OnOk result (names.new ≡ fold noted names.old (cell_places thread (cell_view cell.now))) }
 {
-    match cell {
+    match cell.code {
         Some(code) => note_code(alloc, names, thread, code),
         None => Ok(()),
     }
 }
 
 /// What the cells of a row name.
-fn note_row(
-    alloc: Global,
-    names: &mut NameTable,
-    row: &[Option<Code<'_>>],
-) -> Result<(), AllocError>
+fn note_row(alloc: Global, names: &mut NameTable, row: &[Cell<'_>]) -> Result<(), AllocError>
     ensures { OnOk result (names.new ≡ fold noted names.old (row_places (map cell_view row.now))) }
 {
     for (thread, cell) in row.iter().enumerate() {
-        note_cell(alloc, names, thread, *cell)?;
+        note_cell(alloc, names, thread, cell)?;
     }
     Ok(())
 }
 
-fn note_rows(
-    alloc: Global,
-    names: &mut NameTable,
-    rows: &[Vec<Option<Code<'_>>>],
-) -> Result<(), AllocError>
+fn note_rows(alloc: Global, names: &mut NameTable, rows: &[Vec<Cell<'_>>]) -> Result<(), AllocError>
     ensures { OnOk result (names.new ≡ fold noted names.old (flat_map row_places (map row_view rows.now))) }
 {
     for row in rows {
@@ -111,17 +108,28 @@ fn note_signs(alloc: Global, names: &mut NameTable, signs: &[SignAt<'_>]) -> Res
     Ok(())
 }
 
-/// The names of a text: of its initial values, of its rows, of its condition.
+/// The places that are to be shown.
+fn note_places(alloc: Global, names: &mut NameTable, places: &[Place<'_>]) -> Result<(), AllocError>
+    ensures { OnOk result (names.new ≡ fold noted names.old (map place_view places.now)) }
+{
+    for place in places {
+        names.note(alloc, *place)?;
+    }
+    Ok(())
+}
+
+/// The names of a text: of its initial values, of its rows, behind `locations`, of its condition.
 pub(crate) fn names_of(
     alloc: Global,
     body: &Body<'_>,
-    signs: &[SignAt<'_>],
+    ending: &Ending<'_>,
 ) -> Result<NameTable, AllocError>
-    ensures { IfOk result (λ names. names ≡ names_of (body_view body.now) (map sign_at_view signs.now)) }
+    ensures { IfOk result (λ names. names ≡ names_of (body_view body.now) (ending_view ending.now)) }
 {
     let mut names = NameTable::new(alloc, body.threads)?;
     note_entries(alloc, &mut names, body.entries.as_slice())?;
     note_rows(alloc, &mut names, body.rows.as_slice())?;
-    note_signs(alloc, &mut names, signs)?;
+    note_places(alloc, &mut names, ending.observed.as_slice())?;
+    note_signs(alloc, &mut names, ending.signs.signs.as_slice())?;
     Ok(names)
 }

@@ -4,14 +4,17 @@ ghost use Rattle.tso_program.specs.declared.limits.ProgramFault.TheVariants.{Out
 ghost use Rattle.litmus_text.specs.Faults.{MatchFault};
 ghost use Rattle.std.specs.List.{range_with_len};
 ghost use Rattle.litmus_syntax.specs.Views.{place_view, entry_view, code_view, cell_view, row_view, body_view};
-ghost use Rattle.litmus_text.specs.Filling.{byte_in, stored, loaded, entry_atoms, memory_from, registers_from, thread_in, listing_by};
+ghost use Rattle.litmus_text.specs.Labels.{all_labels};
+ghost use Rattle.litmus_text.specs.Filling.{byte_in, byte_at, FindAllAs, stored, loaded, entry_atoms, memory_from, registers_from, thread_in, listing_by};
 ghost use Rattle.litmus_text.specs.Meaning.{atom_of, instruction_of, instruction_in, code_of};
 ghost use Rattle.litmus_text.specs.Reading.{MakesProgram, MakesFencedProgram};
 
 use crate::fault::ReadFault;
+use crate::jumps::Targets;
+use crate::label::cell_at;
 use crate::names::NameTable;
 use conditions::Atom;
-use litmus_syntax::{Body, Code, Entry, Place};
+use litmus_syntax::{Body, Cell, Code, Entry, Place};
 use std::alloc::{AllocError, Global};
 use tso_program::{FencedProgram, Instr, Items, Listing, Program, ProgramFault, Thread};
 
@@ -32,9 +35,9 @@ pub(crate) fn atom(names: &NameTable, place: Place<'_>, value: u32) -> Atom
     }
 }
 
-/// An instruction, with its location's number.
-fn instruction(names: &NameTable, code: Code<'_>) -> Instr
-    ensures { result ≡ instruction_of (byte_in names.now.locations) (code_view code.entry) }
+/// An instruction, with its location's number, or the position of the label to which it jumps.
+fn instruction(names: &NameTable, targets: &Targets, code: Code<'_>) -> Instr
+    ensures { result ≡ instruction_of (byte_in names.now.locations) (byte_at targets.now) (code_view code.entry) }
 {
     match code {
         Code::LoadImm(register, value) => Instr::LoadImm(register, value),
@@ -42,17 +45,31 @@ fn instruction(names: &NameTable, code: Code<'_>) -> Instr
         Code::Load(register, name) => Instr::Load(register, names.number(name)),
         Code::StoreImm(name, value) => Instr::StoreImm(names.number(name), value),
         Code::Store(name, register) => Instr::Store(names.number(name), register),
+        Code::Xchg(name, register) => Instr::Xchg(names.number(name), register),
         Code::Fence => Instr::Fence,
+        Code::CmpImm(register, value) => Instr::CmpImm(register, value),
+        Code::CmpReg(register, other) => Instr::CmpReg(register, other),
+        Code::Je(label) => Instr::Je(targets.position(label)),
+        Code::Jne(label) => Instr::Jne(targets.position(label)),
+        Code::Jmp(label) => Instr::Jmp(targets.position(label)),
     }
 }
 
 /// The instruction of a thread in a row, if there is one.
-fn instruction_in(names: &NameTable, thread: usize, row: &[Option<Code<'_>>]) -> Option<Instr>
-    ensures { result ≡ instruction_in (byte_in names.now.locations) thread (map cell_view row.now) }
+fn instruction_in(
+    names: &NameTable,
+    targets: &Targets,
+    thread: usize,
+    row: &[Cell<'_>],
+) -> Option<Instr>
+    ensures { result ≡ instruction_in (byte_in names.now.locations) (byte_at targets.now) thread (map cell_view row.now) }
 {
-    match row.get(thread) {
-        Some(Some(code)) => Some(instruction(names, *code)),
-        _ => None,
+    match cell_at(row, thread) {
+        Some(cell) => match cell.code {
+            Some(code) => Some(instruction(names, targets, code)),
+            None => None,
+        },
+        None => None,
     }
 }
 
@@ -60,14 +77,15 @@ fn instruction_in(names: &NameTable, thread: usize, row: &[Option<Code<'_>>]) ->
 fn code_of(
     alloc: Global,
     names: &NameTable,
-    rows: &[Vec<Option<Code<'_>>>],
+    targets: &Targets,
+    rows: &[Vec<Cell<'_>>],
     thread: usize,
 ) -> Result<Vec<Instr>, AllocError>
-    ensures { IfOk result (λ code. code.items ≡ code_of (byte_in names.now.locations) (map row_view rows.now) thread) }
+    ensures { IfOk result (λ code. code.items ≡ code_of (byte_in names.now.locations) (byte_at targets.now) (map row_view rows.now) thread) }
 {
     let mut instructions = Vec::new(alloc);
     for row in rows {
-        if let Some(found) = instruction_in(names, thread, row.as_slice()) {
+        if let Some(found) = instruction_in(names, targets, thread, row.as_slice()) {
             instructions.push(found)?;
         }
     }
@@ -144,14 +162,16 @@ fn registers_of(alloc: Global, threads: usize, atoms: &[Atom]) -> Result<Vec<[u3
 fn threads_of(
     alloc: Global,
     names: &NameTable,
+    targets: &[Targets],
     body: &Body<'_>,
     registers: &[[u32; 6]],
 ) -> Result<Vec<Thread>, AllocError>
-    ensures { IfOk result (λ threads. threads.items ≡ map (thread_in (byte_in names.now.locations) (map row_view body.now.rows.items) registers.now) (range_with_len 0 body.now.threads)) }
+    ensures { IfOk result (λ threads. threads.items
+        ≡ map (thread_in (byte_in names.now.locations) (body_view body.now).rows registers.now targets.now) (range_with_len 0 (length targets.now))) }
 {
     let mut threads = Vec::new(alloc);
-    for thread in 0..body.threads {
-        let code = code_of(alloc, names, body.rows.as_slice(), thread)?;
+    for (thread, own) in targets.iter().enumerate() {
+        let code = code_of(alloc, names, own, body.rows.as_slice(), thread)?;
         threads.push(Thread {
             code: Items::of(code),
             registers: registers.get(thread).copied().unwrap_or([0; 6]),
@@ -160,18 +180,20 @@ fn threads_of(
     Ok(threads)
 }
 
-/// The threads and the initial values that a text stands for.
+/// The threads and the initial values that a text stands for, by the labels of each thread.
 pub(crate) fn listing_of(
     alloc: Global,
     names: &NameTable,
+    targets: &[Targets],
     body: &Body<'_>,
 ) -> Result<Listing, AllocError>
-    ensures { IfOk result (λ listing. listing ≡ listing_by (byte_in names.now.locations) (length names.now.locations) (body_view body.now)) }
+    requires { FindAllAs targets.now (all_labels (body_view body.now)) }
+    ensures { IfOk result (λ listing. listing ≡ listing_by (byte_in names.now.locations) byte_at (length names.now.locations) (body_view body.now)) }
 {
     let atoms = entry_atoms(alloc, names, body.entries.as_slice())?;
     let memory = memory_of(alloc, names.locations(), atoms.as_slice())?;
     let registers = registers_of(alloc, body.threads, atoms.as_slice())?;
-    let threads = threads_of(alloc, names, body, registers.as_slice())?;
+    let threads = threads_of(alloc, names, targets, body, registers.as_slice())?;
     Ok(Listing {
         threads: Items::of(threads),
         memory: Items::of(memory),

@@ -1,22 +1,29 @@
 //! Reading a litmus text.
-ghost use Rattle.std.specs.Prelude.{◌≡◌, ◌≤◌, ℕ, List, IfOk, IfErr, OnOk, OnErr, MatchResult};
+ghost use Rattle.std.specs.Prelude.{◌≡◌, ◌≤◌, ⊤, ℕ, List, length, IfOk, IfErr, OnOk, OnErr, MatchResult};
 ghost use Rattle.std.specs.Str.{IsUtf8};
 ghost use Rattle.tso_program.specs.declared.listing.Listing.{Listing};
 ghost use Rattle.litmus_text.specs.declared.litmus.Litmus.{Litmus as LitmusValue};
 ghost use Rattle.litmus_text.specs.declared.fault.ReadFault.TheVariants.{OutOfMemory};
+ghost use Rattle.litmus_syntax.specs.Views.{body_view};
 ghost use Rattle.litmus_text.specs.Faults.{MatchFault};
+ghost use Rattle.litmus_text.specs.Labels.{all_labels, JumpsAreFound};
+ghost use Rattle.litmus_text.specs.Filling.{byte_in, byte_at, listing_by};
 ghost use Rattle.litmus_text.specs.Texts.{IsLitmus, IsFencedLitmus, Refuses, RefusesFenced};
-ghost use Rattle.litmus_text.specs.Reading.{ReadsTokens, ReadsText};
+ghost use Rattle.litmus_text.specs.Reading.{IsSyntaxFault, ReadsTokens, ReadsText};
 
-use crate::condition::read_formula;
+use crate::condition::{quantifier, read_formula};
 use crate::fault::ReadFault;
 use crate::first_line::first_line;
+use crate::jumps::{lost_jump, targets_of};
+use crate::label::{Label, all_labels};
 use crate::lines::{fault_at, header_line, line_at};
 use crate::litmus::Litmus;
 use crate::mentions::names_of;
+use crate::names::NameTable;
+use crate::observed::all_observed;
 use crate::program::{fenced_program_of, listing_of, program_of};
-use conditions::{Condition, Quantifier};
-use litmus_syntax::{SyntaxFault, read_body, read_signs};
+use conditions::Condition;
+use litmus_syntax::{Body, Part, Refusal, SyntaxFault, read_body, read_ending};
 use std::alloc::Global;
 use std::str;
 use text_tokens::{Tokens, lex};
@@ -33,8 +40,40 @@ fn check_utf8(bytes: &[u8]) -> Result<(), ReadFault>
     }
 }
 
-/// What the tokens behind the first line stand for, in a text of the given name, whatever limits the program breaks. From
-/// the 256th on, locations have the number 255.
+/// The fault of tokens that could not be read.
+fn syntax_fault(tokens: &Tokens, fault: SyntaxFault) -> ReadFault
+    ensures { IsSyntaxFault fault result }
+{
+    match fault {
+        SyntaxFault::Refused(refusal) => fault_at(tokens, refusal),
+        SyntaxFault::OutOfMemory => ReadFault::OutOfMemory,
+    }
+}
+
+/// The program of a text with these labels. A jump to a name that is no label of its thread is refused, the first in text
+/// order.
+fn jumping(
+    alloc: Global,
+    tokens: &Tokens,
+    names: &NameTable,
+    body: &Body<'_>,
+    labels: &[Items<Label>],
+) -> Result<Listing, ReadFault>
+    requires { labels.now ≡ all_labels (body_view body.now) }
+    ensures made { IfOk result (λ listing. listing ≡ listing_by (byte_in names.now.locations) byte_at (length names.now.locations) (body_view body.now)) }
+    ensures found { OnOk result (JumpsAreFound (body_view body.now)) }
+    ensures lost { IfErr result (λ fault. MatchFault fault ⊥ (λ _. ⊥) ⊤ (JumpsAreFound (body_view body.now) → ⊥)) }
+{
+    let targets = targets_of(alloc, labels)?;
+    if let Some(left) = lost_jump(targets.as_slice(), body.rows.as_slice()) {
+        let part = Part::Label;
+        return Err(fault_at(tokens, Refusal { part, left }));
+    }
+    Ok(listing_of(alloc, names, targets.as_slice(), body)?)
+}
+
+/// What the tokens from `{` on stand for, in a text of the given name, whatever limits the program breaks. Locations have
+/// the number 255 from the 256th on, and so have positions of labels.
 fn read_tokens(
     alloc: Global,
     name: Items<u8>,
@@ -44,21 +83,27 @@ fn read_tokens(
 {
     let (body, rest) = match read_body(alloc, tokens.as_slice()) {
         Ok(parts) => parts,
-        Err(SyntaxFault::Refused(refusal)) => return Err(fault_at(tokens, refusal)),
-        Err(SyntaxFault::OutOfMemory) => return Err(ReadFault::OutOfMemory),
+        Err(fault) => return Err(syntax_fault(tokens, fault)),
     };
-    let signs = read_signs(alloc, rest, body.threads)?;
-    let names = names_of(alloc, &body, signs.signs.as_slice())?;
-    let formula = read_formula(alloc, tokens, &names, &signs)?;
-    let program = listing_of(alloc, &names, &body)?;
+    let ending = match read_ending(alloc, rest, body.threads) {
+        Ok(ending) => ending,
+        Err(fault) => return Err(syntax_fault(tokens, fault)),
+    };
+    let names = names_of(alloc, &body, &ending)?;
+    let formula = read_formula(alloc, tokens, &names, &ending.signs)?;
+    let labels = all_labels(alloc, &body)?;
+    let program = jumping(alloc, tokens, &names, &body, labels.as_slice())?;
+    let observed = all_observed(alloc, &names, ending.observed.as_slice())?;
     Ok(Litmus {
         name,
         program,
         names,
         condition: Condition {
-            quantifier: Quantifier::Exists,
+            quantifier: quantifier(ending.quantifier),
             formula,
         },
+        observed: Items::of(observed),
+        labels: Items::of(labels),
     })
 }
 
@@ -92,6 +137,8 @@ pub fn read_litmus(alloc: Global, bytes: &[u8]) -> Result<Litmus<Program>, ReadF
         program: program_of(alloc, read.program, line)?,
         names: read.names,
         condition: read.condition,
+        observed: read.observed,
+        labels: read.labels,
     })
 }
 
@@ -109,5 +156,7 @@ pub fn read_fenced(alloc: Global, bytes: &[u8]) -> Result<Litmus<FencedProgram>,
         program: fenced_program_of(alloc, read.program, line)?,
         names: read.names,
         condition: read.condition,
+        observed: read.observed,
+        labels: read.labels,
     })
 }

@@ -1,4 +1,4 @@
-use crate::{ReadFault, read_fenced, read_litmus, write_outcome};
+use crate::{Observed, ReadFault, read_fenced, read_litmus, write_outcome};
 use conditions::{Quantifier, holds};
 use std::alloc::{AllocError, Global};
 use std::process::Abort;
@@ -333,14 +333,69 @@ fn fenced_programs_have_limits_of_their_own(rt: HostRuntime) -> Result<(), Fail>
     let long = ReadFault::Program(3, ProgramFault::TooLong(0));
     is_refused(&rt, alloc, fences(alloc, 65, 2)?.as_bytes(), long);
     let litmus = read_fenced(alloc, fences(alloc, 127, 127)?.as_bytes())?;
-    let threads = litmus.program.threads();
-    assert_eq!(rt; threads.len(), 2);
-    assert_eq!(rt; threads[1].code.len(), 127);
+    assert_eq!(rt; litmus.program.threads()[1].code.len(), 127);
     let longer = fences(alloc, 128, 2)?;
     is_refused(&rt, alloc, longer.as_bytes(), long);
     match read_fenced(alloc, longer.as_bytes()) {
         Ok(_) => assert!(rt; false, "read"),
         Err(fault) => assert_eq!(rt; fault, long),
     }
+    Ok(())
+}
+
+#[test]
+fn reads_labels_and_jumps(rt: HostRuntime) -> Result<(), Fail> {
+    let alloc = rt.alloc();
+    let text = "X86 message
+{ 0:ebx=2 }
+P0 | P1 ;
+MOV EAX,[x] | MOV [x],1 ;
+CMP EAX,1 | (* (* *) *) ;
+jne done | sent: last: ;
+xchg [y],ebx | ;
+done: | ;
+locations [x; 0:EAX; x]
+~exists (0:EAX=1 /\\ y=0)
+";
+    let litmus = read_litmus(alloc, text.as_bytes())?;
+    assert_eq!(rt; litmus.condition.quantifier, Quantifier::NotExists);
+    let threads = litmus.program.threads();
+    assert_eq!(rt; threads.len(), 2);
+    assert_eq!(rt;
+        threads[0].code.as_slice(),
+        [
+            Instr::Load(Reg::Eax, 0),
+            Instr::CmpImm(Reg::Eax, 1),
+            Instr::Jne(4),
+            Instr::Xchg(1, Reg::Ebx)
+        ]
+        .as_slice()
+    );
+    let labels = litmus.labels.as_slice();
+    assert_eq!(rt; labels.len(), 2);
+    let own = labels[1].as_slice();
+    assert_eq!(rt; own.len(), 2);
+    assert_eq!(rt; own[1].name.as_slice(), b"last".as_slice());
+    assert_eq!(rt; own[1].position, 1);
+    assert_eq!(rt;
+        litmus.observed.as_slice(),
+        [
+            Observed::Location(0),
+            Observed::Register(0, Reg::Eax),
+            Observed::Location(0)
+        ]
+        .as_slice()
+    );
+    Ok(())
+}
+
+#[test]
+fn a_lost_jump_is_told_behind_the_condition(rt: HostRuntime) -> Result<(), Fail> {
+    let alloc = rt.alloc();
+    let old = "MOV EAX,[y] | MOV EAX,[x] ;";
+    let lost = "end: | JMP end ;";
+    change_is_refused(&rt, alloc, old, lost, ReadFault::Label(5))?;
+    let unread = "JMP end | JMP end ;\nMOV EAX,[z] | MOV";
+    change_is_refused(&rt, alloc, old, unread, ReadFault::Operand(7))?;
     Ok(())
 }

@@ -1,5 +1,5 @@
 -- What the first byte of a text tells.
-use Rattle.std.proofs.Common.{◌≡◌, ◌≢◌, ℕ, ◌<◌, ◌≤◌, ◌==◌, Bool, true, false, List, [], ◌∷◌, ◌++◌, length, Option, Some, None, cond, refl, sym, ap, ◌∙◌, arith, inl, inr}
+use Rattle.std.proofs.Common.{◌≡◌, ◌≢◌, ℕ, ◌<◌, ◌≤◌, ◌==◌, Bool, true, false, List, [], ◌∷◌, ◌++◌, length, drop, Option, Some, None, cond, refl, sym, ap, ◌∙◌, arith, inl, inr}
 use Rattle.std.specs.Prelude.{slice_index, if◌then◌else◌}
 use Rattle.std.specs.List.{list_all}
 use Rattle.std.specs.Char.{is_ascii_digit}
@@ -12,6 +12,7 @@ use Rattle.text_tokens.specs.declared.token.Bad.{Bad}
 use Rattle.text_tokens.specs.declared.token.Bad.TheVariants as bad
 use Rattle.text_tokens.specs.Bytes.{is_blank, is_letter, is_word_byte}
 use Rattle.text_tokens.specs.Marks.{mark_text, mark_from}
+use Rattle.text_tokens.specs.Comments.{opens}
 use Rattle.text_tokens.specs.Tokens.{Tok, Word, Number, Sign, NoToken}
 use Rattle.text_tokens.specs.Lexing.{BeginsWith, IsWord, AreDigits, IsBad}
 
@@ -219,6 +220,18 @@ mark_from_is b m e =
     picked b 47 And m _ refl (
     picked b 92 Or m _ refl (not_none m b))))))))))))))) e
 
+-- ---- comments
+
+-- a comment begins with the mark `(`
+pub opens_paren : (text : List ℕ) → opens text ≡ true → text ≡ mark_text OpenParen ++ drop 1 text
+opens_paren [] h = absurd cc
+opens_paren (x ∷ text) h =
+    let first : x ≡ 40 = eqb-true x 40 (and_parts (x == 40) (slice_index text 0 == 42) h).0 in
+    ap (λ (y : ℕ). y ∷ text) first
+
+pub opens_class : (text : List ℕ) → opens text ≡ true → class_of (slice_index text 0) ≡ Other
+opens_class text h = ap (λ (x : List ℕ). class_of (slice_index x 0)) (opens_paren text h)
+
 -- ---- what begins a text, by its first byte
 
 abbrev pub token_class : Tok → Class
@@ -230,13 +243,13 @@ token_class (NoToken b) = Blank
 pub begins_class : (t : Tok) (text rest : List ℕ) → BeginsWith t text rest → class_of (slice_index text 0) ≡ token_class t
 begins_class (Word w) text rest h = letter_class (slice_index text 0) (ap (λ (x : List ℕ). is_letter (slice_index x 0)) h.0 ∙ ap is_letter (first_of w rest (word_some w h.1)) ∙ h.1.0)
 begins_class (Number n) text rest h = digit_class (slice_index text 0) (ap (λ (x : List ℕ). is_ascii_digit (slice_index x 0)) h.1 ∙ ap is_ascii_digit (first_of h.0 rest h.2.0) ∙ first_digit h.0 h.2)
-begins_class (Sign m) text rest h = ap (λ (x : List ℕ). class_of (slice_index x 0)) h ∙ ap class_of (first_of (mark_text m) rest (mark_some m)) ∙ mark_class m
+begins_class (Sign m) text rest h = ap (λ (x : List ℕ). class_of (slice_index x 0)) h.0 ∙ ap class_of (first_of (mark_text m) rest (mark_some m)) ∙ mark_class m
 begins_class (NoToken b) text rest h = absurd h
 
 pub begins_some : (t : Tok) (text rest : List ℕ) → BeginsWith t text rest → length rest < length text
 begins_some (Word w) text rest h = omega (arith, ap length h.0, length-append w rest, word_some w h.1)
 begins_some (Number n) text rest h = omega (arith, ap length h.1, length-append h.0 rest, h.2.0)
-begins_some (Sign m) text rest h = omega (arith, ap length h, length-append (mark_text m) rest, mark_some m)
+begins_some (Sign m) text rest h = omega (arith, ap length h.0, length-append (mark_text m) rest, mark_some m)
 begins_some (NoToken b) text rest h = absurd h
 
 abbrev pub bad_class : Bad → Class
@@ -249,12 +262,15 @@ pub bad_begins : (b : Bad) (text : List ℕ) → IsBad b text → class_of (slic
 bad_begins bad.Number text h = digit_class (slice_index text 0) (ap (λ (x : List ℕ). is_ascii_digit (slice_index x 0)) h.2 ∙ ap is_ascii_digit (first_of h.0 h.1 h.3.0) ∙ first_digit h.0 h.3)
 bad_begins bad.Minus text h = minus_class (slice_index text 0) h
 bad_begins bad.Unfinished text h =
-    ap class_of (sym (first_of text h.1 h.3) ∙ ap (λ (x : List ℕ). slice_index x 0) (sym h.2)) ∙ mark_class h.0
+    elim h [
+      | inl half ↦ ap class_of (sym (first_of text half.1 half.3) ∙ ap (λ (x : List ℕ). slice_index x 0) (sym half.2)) ∙ mark_class half.0
+      | inr open_one ↦ opens_class text open_one.0
+    ]
 bad_begins bad.Stray text h = other_class (slice_index text 0) h.no_blank h.no_word h.no_minus
 
 -- nothing bad begins where the text stops
 pub bad_some : (b : Bad) → IsBad b [] → ⊥
 bad_some bad.Number h = omega (arith, ap length h.2, length-append h.0 h.1, h.3.0)
 bad_some bad.Minus h = absurd cc
-bad_some bad.Unfinished h = omega (arith, h.3)
+bad_some bad.Unfinished h = elim h [ inl half ↦ omega (arith, half.3) | inr open_one ↦ let e : false ≡ true = open_one.0 in cc ]
 bad_some bad.Stray h = omega (arith, h.some)

@@ -12,7 +12,7 @@ use Rattle.text_tokens.specs.Bytes.{is_blank, is_letter, is_word_byte}
 use Rattle.text_tokens.specs.Numbers.{value_at}
 use Rattle.text_tokens.specs.Marks.{mark_text, mark_from}
 use Rattle.text_tokens.specs.Tokens.{Word, Number}
-use Rattle.text_tokens.specs.Lexing.{BeginsWith, AreDigits, IsBadNumber, IsUnfinished, IsStray}
+use Rattle.text_tokens.specs.Lexing.{BeginsWith, AreDigits, IsBadNumber, IsHalf, IsStray}
 use Rattle.text_tokens.proofs.NumberLaws.{value_found, value_past}
 use Rattle.text_tokens.proofs.Prefixes.{all_pass, next_fails, some_pass}
 use Rattle.text_tokens.proofs.FirstBytes.{first_of, letter_goes_on, no_word_byte, mark_some, mark_from_text, mark_from_is, mark_short, some_mark, some_mark_is, class_of, mark_class, other_parts}
@@ -61,7 +61,7 @@ part_of : (xs : List ℕ) (x : ℕ) → slice_index xs 0 ≡ x → 1 < length xs
 part_of [] x e long = absurd (omega arith)
 part_of (y ∷ more) x e long = (more, ap (λ (z : ℕ). z ∷ more) e, omega arith)
 
-pub unfinished : (text : List ℕ) (m : Mark) → 0 < length text → mark_from (slice_index text 0) ≡ Some m → length text < length (mark_text m) → IsUnfinished text
+pub unfinished : (text : List ℕ) (m : Mark) → 0 < length text → mark_from (slice_index text 0) ≡ Some m → length text < length (mark_text m) → IsHalf text
 unfinished [] m some found short = absurd (omega arith)
 unfinished (x ∷ []) m some found short =
     let part = part_of (mark_text m) x (mark_from_is x m found) short in

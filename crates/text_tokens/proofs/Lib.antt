@@ -1,5 +1,6 @@
 pub mod Prefixes
 pub mod NumberLaws
+pub mod CommentLaws
 pub mod FirstBytes
 pub mod Fronts
 pub mod OneReading

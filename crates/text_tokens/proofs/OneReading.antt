@@ -1,5 +1,5 @@
 -- A text has its tokens in one way.
-use Rattle.std.proofs.Common.{◌≡◌, ℕ, true, false, List, [], ◌∷◌, ◌++◌, length, drop, refl, sym, ap, ◌∙◌, arith, inl, inr, append_assoc}
+use Rattle.std.proofs.Common.{◌≡◌, ◌<◌, ℕ, true, false, List, [], ◌∷◌, ◌++◌, length, drop, refl, sym, ap, ◌∙◌, arith, inl, inr, append_assoc}
 use Rattle.std.specs.Prelude.{slice_index}
 use Rattle.std.specs.Char.{is_ascii_digit}
 use Rattle.std.specs.Str.Parse.{digits_value}
@@ -8,11 +8,14 @@ use Rattle.text_tokens.specs.declared.token.Mark.{Mark}
 use Rattle.text_tokens.specs.declared.token.Bad.{Bad}
 use Rattle.text_tokens.specs.declared.token.Bad.TheVariants as bad
 use Rattle.text_tokens.specs.Bytes.{is_blank, is_letter, is_word_byte}
+use Rattle.text_tokens.specs.declared.token.Mark.TheVariants.{OpenParen}
 use Rattle.text_tokens.specs.Marks.{mark_text}
+use Rattle.text_tokens.specs.Comments.{opens, IsComment}
+use Rattle.text_tokens.proofs.CommentLaws.{short_opens, Inside-one}
 use Rattle.text_tokens.specs.Tokens.{Tok, Word, Number, Sign, NoToken, IsWhole}
-use Rattle.text_tokens.specs.Lexing.{BeginsWith, BeginsWithAll, none, blank, token, Lexes, IsBad, IsBadNumber, IsUnfinished, LexesTo}
+use Rattle.text_tokens.specs.Lexing.{BeginsWith, BeginsWithAll, none, blank, comment, token, Lexes, IsBad, IsBadNumber, IsHalf, IsStray, LexesTo}
 use Rattle.text_tokens.proofs.Prefixes.{same_prefix}
-use Rattle.text_tokens.proofs.FirstBytes.{Blank, Letter, Digit, Minus, Other, blank_class, no_digit, no_letter, token_class, begins_class, begins_some, bad_class, bad_begins, bad_some, one_mark}
+use Rattle.text_tokens.proofs.FirstBytes.{Blank, Letter, Digit, Minus, Other, blank_class, no_digit, no_letter, token_class, begins_class, begins_some, bad_class, bad_begins, bad_some, one_mark, mark_short, opens_paren, opens_class}
 
 -- ---- one token
 
@@ -37,8 +40,8 @@ same_token (Number n) (NoToken b) text rest others h g = absurd g
 same_token (Sign m) (Word v) text rest others h g = absurd (let e : Other ≡ Letter = alike (Sign m) (Word v) text rest others h g in cc)
 same_token (Sign m) (Number k) text rest others h g = absurd (let e : Other ≡ Digit = alike (Sign m) (Number k) text rest others h g in cc)
 same_token (Sign m) (Sign n) text rest others h g =
-    let same : m ≡ n = one_mark m n rest others (sym h ∙ g) in
-    (ap Sign same, after_mark m n rest others same (sym h ∙ g))
+    let same : m ≡ n = one_mark m n rest others (sym h.0 ∙ g.0) in
+    (ap Sign same, after_mark m n rest others same (sym h.0 ∙ g.0))
   where
     after_mark : (m n : Mark) (rest others : List ℕ) → m ≡ n → mark_text m ++ rest ≡ mark_text n ++ others → rest ≡ others
     after_mark m n rest others same e =
@@ -80,9 +83,9 @@ no_number n text rest h g =
           absurd cc
     ]
 
-no_mark : (m : Mark) (text rest : List ℕ) → IsUnfinished text → BeginsWith (Sign m) text rest → ⊥
+no_mark : (m : Mark) (text rest : List ℕ) → IsHalf text → BeginsWith (Sign m) text rest → ⊥
 no_mark m text rest h g =
-    let whole : mark_text h.0 ≡ mark_text m ++ (rest ++ h.1) = h.2 ∙ ap (λ (x : List ℕ). x ++ h.1) g ∙ append_assoc (mark_text m) rest h.1 in
+    let whole : mark_text h.0 ≡ mark_text m ++ (rest ++ h.1) = h.2 ∙ ap (λ (x : List ℕ). x ++ h.1) g.0 ∙ append_assoc (mark_text m) rest h.1 in
     let same : h.0 ≡ m = one_mark h.0 m [] (rest ++ h.1) (append-nil (mark_text h.0) ∙ whole) in
     omega (arith, ap length whole, ap (λ (k : Mark). length (mark_text k)) same, length-append (mark_text m) (rest ++ h.1), length-append rest h.1, h.4)
 
@@ -97,12 +100,56 @@ bad_not_token bad.Minus (Sign m) text rest h g = let e : Minus ≡ Other = bad_a
 bad_not_token bad.Minus (NoToken b) text rest h g = g
 bad_not_token bad.Unfinished (Word w) text rest h g = let e : Other ≡ Letter = bad_alike bad.Unfinished (Word w) text rest h g in cc
 bad_not_token bad.Unfinished (Number n) text rest h g = let e : Other ≡ Digit = bad_alike bad.Unfinished (Number n) text rest h g in cc
-bad_not_token bad.Unfinished (Sign m) text rest h g = no_mark m text rest h g
+bad_not_token bad.Unfinished (Sign m) text rest h g =
+    elim h [
+      | inl half ↦ no_mark m text rest half g
+      | inr open_one ↦ let e : true ≡ false = sym open_one.0 ∙ g.1 in cc
+    ]
 bad_not_token bad.Unfinished (NoToken b) text rest h g = g
 bad_not_token bad.Stray (Word w) text rest h g = let e : Other ≡ Letter = bad_alike bad.Stray (Word w) text rest h g in cc
 bad_not_token bad.Stray (Number n) text rest h g = let e : Other ≡ Digit = bad_alike bad.Stray (Number n) text rest h g in cc
-bad_not_token bad.Stray (Sign m) text rest h g = h.no_mark m rest g
+bad_not_token bad.Stray (Sign m) text rest h g = h.no_mark m rest g.0
 bad_not_token bad.Stray (NoToken b) text rest h g = g
+
+stray_not_opens : (text : List ℕ) → IsStray text → opens text ≡ true → ⊥
+stray_not_opens text h k = h.no_mark OpenParen (drop 1 text) (opens_paren text k)
+
+half_not_stray : (text : List ℕ) → IsBad bad.Unfinished text → IsStray text → ⊥
+half_not_stray text h g =
+    elim h [
+      | inl half ↦ g.no_part half.0 half.1 half.2
+      | inr open_one ↦ stray_not_opens text g open_one.0
+    ]
+
+-- ---- comments
+
+half_not_opens : (text : List ℕ) → IsHalf text → opens text ≡ true → ⊥
+half_not_opens text h k =
+    let short : length text < 2 = omega (arith, mark_short h.0, ap length h.2, length-append text h.1, h.4) in
+    let e : true ≡ false = sym k ∙ short_opens text short in
+    cc
+
+-- nothing bad is a comment
+bad_not_comment : (b : Bad) (text rest : List ℕ) → IsBad b text → IsComment text rest → ⊥
+bad_not_comment bad.Number text rest h k = let e : Digit ≡ Other = sym (bad_begins bad.Number text h) ∙ opens_class text k.0 in cc
+bad_not_comment bad.Minus text rest h k = let e : Minus ≡ Other = sym (bad_begins bad.Minus text h) ∙ opens_class text k.0 in cc
+bad_not_comment bad.Unfinished text rest h k =
+    elim h [
+      | inl half ↦ half_not_opens text half k.0
+      | inr open_one ↦ open_one.1 rest k
+    ]
+bad_not_comment bad.Stray text rest h k = stray_not_opens text h k.0
+
+-- no comment is white space
+comment_not_blank : (b : ℕ) (text rest : List ℕ) → is_blank b ≡ true → IsComment (b ∷ text) rest → ⊥
+comment_not_blank b text rest h k = let e : Blank ≡ Other = sym (blank_class b h) ∙ opens_class (b ∷ text) k.0 in cc
+
+-- no comment is a token
+comment_not_token : (t : Tok) (text rest others : List ℕ) → IsComment text rest → BeginsWith t text others → ⊥
+comment_not_token (Word w) text rest others k h = let e : Other ≡ Letter = sym (opens_class text k.0) ∙ begins_class (Word w) text others h in cc
+comment_not_token (Number n) text rest others k h = let e : Other ≡ Digit = sym (opens_class text k.0) ∙ begins_class (Number n) text others h in cc
+comment_not_token (Sign m) text rest others k h = let e : true ≡ false = sym k.0 ∙ h.1 in cc
+comment_not_token (NoToken b) text rest others k h = h
 
 -- why no token stands somewhere has one answer
 same_bad : (b c : Bad) (text : List ℕ) → IsBad b text → IsBad c text → b ≡ c
@@ -117,52 +164,67 @@ same_bad bad.Minus bad.Stray text h g = absurd (let e : Minus ≡ Other = bads_a
 same_bad bad.Unfinished bad.Number text h g = absurd (let e : Other ≡ Digit = bads_alike bad.Unfinished bad.Number text h g in cc)
 same_bad bad.Unfinished bad.Minus text h g = absurd (let e : Other ≡ Minus = bads_alike bad.Unfinished bad.Minus text h g in cc)
 same_bad bad.Unfinished bad.Unfinished text h g = refl
-same_bad bad.Unfinished bad.Stray text h g = absurd (g.no_part h.0 h.1 h.2)
+same_bad bad.Unfinished bad.Stray text h g = absurd (half_not_stray text h g)
 same_bad bad.Stray bad.Number text h g = absurd (let e : Other ≡ Digit = bads_alike bad.Stray bad.Number text h g in cc)
 same_bad bad.Stray bad.Minus text h g = absurd (let e : Other ≡ Minus = bads_alike bad.Stray bad.Minus text h g in cc)
-same_bad bad.Stray bad.Unfinished text h g = absurd (h.no_part g.0 g.1 g.2)
+same_bad bad.Stray bad.Unfinished text h g = absurd (half_not_stray text g h)
 same_bad bad.Stray bad.Stray text h g = refl
 
 -- ---- where tokens end
 
--- neither white space nor a token stands here
+-- neither white space, a comment nor a token stands here
 pub record IsEnd (rest : List ℕ) : Type 0 where
   pub no_blank : (b : ℕ) (text : List ℕ) → is_blank b ≡ true → rest ≡ b ∷ text → ⊥
+  pub no_comment : (others : List ℕ) → IsComment rest others → ⊥
   pub no_token : (t : Tok) (others : List ℕ) → BeginsWith t rest others → ⊥
 
 text_end : IsEnd []
 text_end = record {
   no_blank = λ b text h e. cc;
+  no_comment = λ others k. let e : false ≡ true = k.0 in cc;
   no_token = λ t others h. omega (arith, begins_some t [] others h);
 }
 
 bad_end : (b : Bad) (rest : List ℕ) → IsBad b rest → IsEnd rest
 bad_end b rest h = record {
   no_blank = λ x text k e. bad_not_blank b x text k (rw e at h);
+  no_comment = λ others k. bad_not_comment b rest others h k;
   no_token = λ t others k. bad_not_token b t rest others h k;
 }
 
 end_off : (ts : List Tok) (text rest : List ℕ) → IsEnd text → BeginsWithAll ts text rest → (ts ≡ []) × (text ≡ rest)
 end_off ts text rest end none = (refl, refl)
 end_off ts (b ∷ text) rest end (blank k l) = absurd (end.no_blank b text k refl)
+end_off ts text rest end (comment {others = others} k l) = absurd (end.no_comment others k)
 end_off ts text rest end (token {t = t} {others = others} k l) = absurd (end.no_token t others k)
 
 blank_off : (b : ℕ) (ts : List Tok) (text rest : List ℕ) → IsEnd rest → is_blank b ≡ true → BeginsWithAll ts (b ∷ text) rest → BeginsWithAll ts text rest
 blank_off b ts text rest end h none = absurd (end.no_blank b text h refl)
 blank_off b ts text rest end h (blank k l) = l
+blank_off b ts text rest end h (comment {others = others} k l) = absurd (comment_not_blank b text others h k)
 blank_off b ts text rest end h (token {t = t} {others = others} k l) = absurd (not_blank t b text others h k)
 
 token_off : (t : Tok) (ts : List Tok) (text others rest : List ℕ) → IsEnd rest → BeginsWith t text others → BeginsWithAll ts text rest → (us : List Tok) × (ts ≡ t ∷ us) × BeginsWithAll us others rest
 token_off t ts text others rest end h none = absurd (end.no_token t others h)
 token_off t ts (b ∷ text) others rest end h (blank k l) = absurd (not_blank t b text others k h)
+token_off t ts text others rest end h (comment {others = more} k l) = absurd (comment_not_token t text more others k h)
 token_off t ts text others rest end h (token {t = u} {ts = us} {others = more} k l) =
     let same = same_token t u text others more h k in
     (us, ap (λ (x : Tok). x ∷ us) (sym same.0), rw same.1 l)
+
+comment_off : (ts : List Tok) (text others rest : List ℕ) → IsEnd rest → IsComment text others → BeginsWithAll ts text rest → BeginsWithAll ts others rest
+comment_off ts text others rest end h none = absurd (end.no_comment others h)
+comment_off ts (b ∷ text) others rest end h (blank k l) = absurd (comment_not_blank b text others k h)
+comment_off ts text others rest end h (comment {others = more} k l) =
+    let same : more ≡ others = Inside-one (drop 2 text) more others k.1 h.1 in
+    rw (← same) l
+comment_off ts text others rest end h (token {t = t} {others = more} k l) = absurd (comment_not_token t text others more h k)
 
 -- the tokens up to an end, and that end, are the only ones
 one_way : (ts us : List Tok) (text rest others : List ℕ) → IsEnd rest → IsEnd others → BeginsWithAll ts text rest → BeginsWithAll us text others → (ts ≡ us) × (rest ≡ others)
 one_way ts us text rest others end other none m = let e = end_off us text others end m in (sym e.0, e.1)
 one_way ts us (b ∷ text) rest others end other (blank k l) m = one_way ts us text rest others end other l (blank_off b us text others other k m)
+one_way ts us text rest others end other (comment {others = middle} k l) m = one_way ts us middle rest others end other l (comment_off us text middle others other k m)
 one_way ts us text rest others end other (token {t = t} {ts = vs} {others = middle} k l) m =
     let first = token_off t us text middle others other k m in
     let more = one_way vs first.0 middle rest others end other l first.2 in
@@ -173,10 +235,14 @@ one_way ts us text rest others end other (token {t = t} {ts = vs} {others = midd
 then_all : (ts us : List Tok) (text middle rest : List ℕ) → BeginsWithAll ts text middle → BeginsWithAll us middle rest → BeginsWithAll (ts ++ us) text rest
 then_all ts us text middle rest none l = l
 then_all ts us (b ∷ text) middle rest (blank k m) l = blank k (then_all ts us text middle rest m l)
+then_all ts us text middle rest (comment {others = others} k m) l = comment k (then_all ts us others middle rest m l)
 then_all ts us text middle rest (token {t = t} {ts = vs} {others = others} k m) l = token k (then_all vs us others middle rest m l)
 
 pub blank_more : (ts : List Tok) (text rest after : List ℕ) (b : ℕ) → BeginsWithAll ts text rest → is_blank b ≡ true → rest ≡ b ∷ after → BeginsWithAll ts text after
 blank_more ts text rest after b l h is = rw append-nil at (then_all ts [] text rest after l (rw is (blank h none)))
+
+pub comment_more : (ts : List Tok) (text rest after : List ℕ) → BeginsWithAll ts text rest → IsComment rest after → BeginsWithAll ts text after
+comment_more ts text rest after l h = rw append-nil at (then_all ts [] text rest after l (comment h none))
 
 pub token_more : (ts : List Tok) (t : Tok) (text rest after : List ℕ) → BeginsWithAll ts text rest → BeginsWith t rest after → BeginsWithAll (ts ++ t ∷ []) text after
 token_more ts t text rest after l h = then_all ts (t ∷ []) text rest after l (token h none)
@@ -235,6 +301,7 @@ whole_one (NoToken b) ts text rest h i = absurd h
 all_whole : (ts : List Tok) (text rest : List ℕ) → BeginsWithAll ts text rest → IsWhole ts
 all_whole ts text rest none = tt
 all_whole ts (b ∷ text) rest (blank k l) = all_whole ts text rest l
+all_whole ts text rest (comment {others = others} k l) = all_whole ts others rest l
 all_whole ts text rest (token {t = t} {ts = us} {others = others} k l) = whole_one t us text others k (all_whole us others rest l)
 
 -- the tokens of a whole text are tokens

@@ -14,7 +14,7 @@ token_begins (Word w) rest h = (refl, h.0, h.1)
 token_begins (Number n) rest h =
     let small : n < 2 ^ 64 = omega (arith, h.0) in
     (decimal n, refl, (decimal_nonempty n small, digits_decimal own n small), sym (digits_value-decimal own n small), h.0, h.1)
-token_begins (Sign m) rest h = refl
+token_begins (Sign m) rest h = (refl, h)
 token_begins (NoToken b) rest h = absurd h
 
 -- the text of pieces before another text has their tokens before it

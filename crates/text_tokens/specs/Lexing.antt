@@ -8,6 +8,7 @@ use Rattle.text_tokens.specs.declared.token.Bad.{Bad}
 use Rattle.text_tokens.specs.declared.token.Bad.TheVariants as bad
 use Rattle.text_tokens.specs.Bytes.{is_blank, is_letter, is_word_byte}
 use Rattle.text_tokens.specs.Marks.{mark_text}
+use Rattle.text_tokens.specs.Comments.{opens, IsComment}
 use Rattle.text_tokens.specs.Tokens.{Tok, Word, Number, Sign, NoToken}
 
 -- a letter or `_`, then letters, digits and `_`
@@ -22,17 +23,18 @@ AreDigits ds = (0 < length ds) × (list_all is_ascii_digit ds ≡ true)
 abbrev pub NoWordGoesOn : List ℕ → Type 0
 NoWordGoesOn rest = is_word_byte (slice_index rest 0) ≡ false
 
--- The text is the token and then the rest. A word or a number goes as far as it can.
+-- The text is the token and then the rest. A word or a number goes as far as it can, and `(` does not begin a comment.
 abbrev pub BeginsWith : Tok → List ℕ → List ℕ → Type 0
 BeginsWith (Word w) text rest = (text ≡ w ++ rest) × IsWord w × NoWordGoesOn rest
 BeginsWith (Number n) text rest = (ds : List ℕ) × (text ≡ ds ++ rest) × AreDigits ds × (n ≡ digits_value 10 ds) × (n ≤ 4294967295) × NoWordGoesOn rest
-BeginsWith (Sign m) text rest = text ≡ mark_text m ++ rest
+BeginsWith (Sign m) text rest = (text ≡ mark_text m ++ rest) × (opens text ≡ false)
 BeginsWith (NoToken b) text rest = ⊥
 
--- The text is these tokens, with white space anywhere between them, and then the rest.
+-- The text is these tokens, with white space and comments anywhere between them, and then the rest.
 pub data BeginsWithAll : List Tok → List ℕ → List ℕ → Type 0 where
   none : {rest : List ℕ} → BeginsWithAll [] rest rest
   blank : {b : ℕ} {ts : List Tok} {text rest : List ℕ} → is_blank b ≡ true → BeginsWithAll ts text rest → BeginsWithAll ts (b ∷ text) rest
+  comment : {ts : List Tok} {text others rest : List ℕ} → IsComment text others → BeginsWithAll ts others rest → BeginsWithAll ts text rest
   token : {t : Tok} {ts : List Tok} {text others rest : List ℕ} → BeginsWith t text others → BeginsWithAll ts others rest → BeginsWithAll (t ∷ ts) text rest
 
 -- the whole text is these tokens
@@ -45,8 +47,12 @@ IsBadNumber text = (ds : List ℕ) × (rest : List ℕ) × (text ≡ ds ++ rest)
     × ((4294967295 < digits_value 10 ds) ⊎ (is_letter (slice_index rest 0) ≡ true))
 
 -- a mark without its last bytes, where the text stops
-abbrev pub IsUnfinished : List ℕ → Type 0
-IsUnfinished text = (m : Mark) × (more : List ℕ) × (mark_text m ≡ text ++ more) × (0 < length text) × (0 < length more)
+abbrev pub IsHalf : List ℕ → Type 0
+IsHalf text = (m : Mark) × (more : List ℕ) × (mark_text m ≡ text ++ more) × (0 < length text) × (0 < length more)
+
+-- a comment that does not end
+abbrev pub IsOpen : List ℕ → Type 0
+IsOpen text = (opens text ≡ true) × ((rest : List ℕ) → IsComment text rest → ⊥)
 
 -- a byte with which nothing else begins
 pub record IsStray (text : List ℕ) : Type 0 where
@@ -61,7 +67,7 @@ pub record IsStray (text : List ℕ) : Type 0 where
 abbrev pub IsBad : Bad → List ℕ → Type 0
 IsBad bad.Number text = IsBadNumber text
 IsBad bad.Minus text = slice_index text 0 ≡ 45
-IsBad bad.Unfinished text = IsUnfinished text
+IsBad bad.Unfinished text = IsHalf text ⊎ IsOpen text
 IsBad bad.Stray text = IsStray text
 
 -- the tokens up to a place where none can stand, and why none can

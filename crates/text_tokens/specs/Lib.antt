@@ -1,6 +1,7 @@
 pub mod Bytes
 pub mod Numbers
 pub mod Marks
+pub mod Comments
 pub mod Tokens
 pub mod Lexing
 pub mod Front

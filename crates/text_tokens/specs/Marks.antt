@@ -51,5 +51,6 @@ mark_code Tilde = 12
 mark_code And = 13
 mark_code Or = 14
 
+-- whether two marks are the same
 abbrev pub same_mark : Mark → Mark → Bool
 same_mark m n = mark_code m == mark_code n

@@ -28,6 +28,7 @@ begins_with mark (Number n ∷ ts) = false
 begins_with mark (Sign m ∷ ts) = same_mark m mark
 begins_with mark (NoToken b ∷ ts) = false
 
+-- the tokens after the first
 abbrev pub rest_of : List Tok → List Tok
 rest_of [] = []
 rest_of (t ∷ ts) = ts

@@ -1,8 +1,9 @@
 -- Texts in pieces: tokens, and the white space between them.
-use Rattle.std.specs.Prelude.{◌≡◌, ◌≤◌, ℕ, true, List, [], ◌∷◌, ◌++◌}
+use Rattle.std.specs.Prelude.{◌≡◌, ◌≤◌, ℕ, true, false, List, [], ◌∷◌, ◌++◌}
 use Rattle.std.specs.Fmt.{decimal}
 use Rattle.text_tokens.specs.Bytes.{is_blank}
 use Rattle.text_tokens.specs.Marks.{mark_text}
+use Rattle.text_tokens.specs.Comments.{opens}
 use Rattle.text_tokens.specs.Tokens.{Tok, Word, Number, Sign, NoToken}
 use Rattle.text_tokens.specs.Lexing.{IsWord, NoWordGoesOn}
 
@@ -18,6 +19,7 @@ token_text (Number n) = decimal n
 token_text (Sign m) = mark_text m
 token_text (NoToken b) = []
 
+-- how a piece is written
 abbrev pub piece_text : Piece → List ℕ
 piece_text (Gap b) = b ∷ []
 piece_text (Part t) = token_text t
@@ -33,11 +35,11 @@ tokens_of [] = []
 tokens_of (Gap b ∷ ps) = tokens_of ps
 tokens_of (Part t ∷ ps) = t ∷ tokens_of ps
 
--- the token can be written before this text: a word or a number does not run into it
+-- the token can be written before this text: a word or a number does not run into it, and `(` does not begin a comment with it
 abbrev pub CanStand : Tok → List ℕ → Type 0
 CanStand (Word w) rest = IsWord w × NoWordGoesOn rest
 CanStand (Number n) rest = (n ≤ 4294967295) × NoWordGoesOn rest
-CanStand (Sign m) rest = Unit {0}
+CanStand (Sign m) rest = opens (mark_text m ++ rest) ≡ false
 CanStand (NoToken b) rest = ⊥
 
 -- the pieces can be written before this text, one behind the other

@@ -19,6 +19,7 @@ tok (token.Number n) = Number n
 tok (token.Mark m) = Sign m
 tok (token.Bad b) = NoToken b
 
+-- what the tokens of the code stand for
 abbrev pub toks : List Token → List Tok
 toks tokens = map tok tokens
 

@@ -1,15 +1,17 @@
 //! Bytes to tokens.
 
-ghost use Rattle.std.specs.Prelude.{◌≡◌, ◌<◌, ◌≤◌, ℕ, List, length, map, slice_index, true, IfOk};
+ghost use Rattle.std.specs.Prelude.{◌≡◌, ◌<◌, ◌≤◌, ℕ, List, length, map, slice_index, true, false, IfOk};
 ghost use Rattle.std.specs.List.{prefix_len};
 ghost use Rattle.std.specs.Char.{is_ascii_digit};
 ghost use Rattle.text_tokens.specs.Bytes.{is_letter, is_word_byte};
 ghost use Rattle.text_tokens.specs.Marks.{mark_from};
+ghost use Rattle.text_tokens.specs.Comments.{opens};
 ghost use Rattle.text_tokens.specs.Tokens.{Tok, tok, toks, IsWhole};
 ghost use Rattle.text_tokens.specs.Lexing.{Lexes, LexesTo};
 ghost use Rattle.text_tokens.specs.Front.{IsFront, lexeme_tok};
 
 use crate::bytes::{is_blank, is_letter, is_word_byte};
+use crate::comment::{after_comment, opens, skip};
 use crate::numbers::value_up_to;
 use crate::token::{Bad, Mark, Token};
 use std::alloc::{AllocError, Global};
@@ -51,7 +53,7 @@ enum Lexeme<'a> {
     Mark(Mark),
 }
 
-/// What stands at the front of a text, and what follows it.
+/// What stands at the front of a text, and what follows it: white space or a comment, a token, or neither.
 #[derive(Clone, Copy, Debug)]
 enum Front<'a> {
     Blank(&'a [u8]),
@@ -141,9 +143,22 @@ fn number_front(bytes: &[u8]) -> Front<'_>
     }
 }
 
+/// A text that begins with `(*`.
+fn comment_front(bytes: &[u8]) -> Front<'_>
+    requires long { 2 ≤ length bytes.now }
+    requires opens { opens bytes.now ≡ true }
+    ensures { IsFront bytes.now result }
+{
+    match after_comment(skip(bytes, 2)) {
+        Some(rest) => Front::Blank(rest),
+        None => Front::Bad(Bad::Unfinished),
+    }
+}
+
 fn mark_front(bytes: &[u8], mark: Mark) -> Front<'_>
     requires some { 0 < length bytes.now }
     requires first { mark_from (slice_index bytes.now 0) ≡ Some mark }
+    requires no_comment { opens bytes.now ≡ false }
     ensures { IsFront bytes.now result }
 {
     let text = mark.text();
@@ -169,6 +184,8 @@ fn front_of(bytes: &[u8]) -> Front<'_>
         number_front(bytes)
     } else if first == b'-' {
         Front::Bad(Bad::Minus)
+    } else if opens(bytes) {
+        comment_front(bytes)
     } else {
         match mark_from(first) {
             Some(mark) => mark_front(bytes, mark),
@@ -188,6 +205,14 @@ fn line_after(bytes: &[u8], line: u32) -> u32 {
     line
 }
 
+/// The line to tell: where the text stops for what is unfinished, and otherwise where it begins.
+fn bad_line(bad: Bad, line: u32, end_line: u32) -> u32 {
+    match bad {
+        Bad::Unfinished => end_line,
+        Bad::Number | Bad::Minus | Bad::Stray => line,
+    }
+}
+
 /// The tokens of a text whose first byte stands on the given line. Where no token can stand, the last of them is `Bad`.
 pub fn lex(alloc: Global, bytes: &[u8], first_line: u32) -> Result<Tokens, AllocError>
     ensures lexes { IfOk result (λ tokens. LexesTo bytes.now tokens) }
@@ -202,7 +227,8 @@ pub fn lex(alloc: Global, bytes: &[u8], first_line: u32) -> Result<Tokens, Alloc
     while !rest.is_empty() {
         match front_of(rest) {
             Front::Blank(after) => {
-                line = line_after(rest.split_at(1).0, line);
+                let skipped = rest.len().saturating_sub(after.len());
+                line = line_after(rest.split_at(skipped).0, line);
                 rest = after;
             }
             Front::Token(lexeme, after) => {
@@ -212,7 +238,7 @@ pub fn lex(alloc: Global, bytes: &[u8], first_line: u32) -> Result<Tokens, Alloc
             }
             Front::Bad(bad) => {
                 tokens.push(Token::Bad(bad))?;
-                lines.push(line)?;
+                lines.push(bad_line(bad, line, end_line))?;
                 return Ok(Tokens {
                     tokens,
                     lines,

@@ -2,6 +2,7 @@
 #![tactic(auto)]
 
 mod bytes;
+mod comment;
 mod laws;
 mod lexer;
 mod numbers;

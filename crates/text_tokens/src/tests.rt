@@ -43,7 +43,16 @@ fn kinds_of_tokens(rt: HostRuntime) -> Result<(), Fail> {
         ("a / \\", "wS"),
         ("a \\\\", "wS"),
         ("a /b", "wS"),
-        ("(* a *)", "mS"),
+        ("(* a *)", ""),
+        ("a(* b (* c *) d *)e", "ww"),
+        ("a (**) b", "ww"),
+        ("a (***) b", "ww"),
+        ("( *", "mS"),
+        ("x (*)", "wU"),
+        ("x (* (* *)", "wU"),
+        ("x (* \u{e9} \" - *) (y", "wmw"),
+        ("*)", "S"),
+        ("(", "m"),
         ("x \" y", "wS"),
         ("caf\u{e9} x", "wS"),
     ] {
@@ -64,6 +73,9 @@ fn lines_of_tokens(rt: HostRuntime) -> Result<(), Fail> {
     assert_eq!(rt; stopped.as_slice().len(), 2);
     assert_eq!(rt; stopped.line(1), 2);
     assert_eq!(rt; stopped.line(2), 3);
+    let commented = lex(rt.alloc(), b"a (* \n (* \n *) *) b\n(* \n\n", 1)?;
+    assert_eq!(rt; commented.line(1), 3);
+    assert_eq!(rt; commented.line(2), 6);
     let empty = lex(rt.alloc(), b"", 7)?;
     assert_eq!(rt; empty.line(0), 7);
     Ok(())

@@ -57,7 +57,7 @@ pub enum Bad {
     Number,
     /// A `-`, with which no number begins.
     Minus,
-    /// The text stops inside a token: behind half of `/\` or `\/`.
+    /// The text stops inside a token or a comment: behind half of `/\` or `\/`, or before the `*)` of a `(*`.
     Unfinished,
     /// Any other byte.
     Stray,

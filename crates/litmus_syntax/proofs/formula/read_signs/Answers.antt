@@ -2,23 +2,20 @@ use Rattle.std.proofs.Common.{◌∙◌, sym, map}
 use Rattle.std.proofs.lemmas.List.{map_push}
 use Rattle.text_tokens.specs.Tokens.{toks}
 use Rattle.litmus_syntax.specs.Views.{sign_view, sign_at_view}
-use Rattle.litmus_syntax.proofs.SignLaws.{no_sign_yet, no_exists, next_sign, signs_end, signs_stop, some_left, none_left}
+use Rattle.litmus_syntax.proofs.SignLaws.{no_sign_yet, next_sign, signs_end, signs_stop, some_left, none_left}
 use Rattle.litmus_syntax.proofs.formula.read_signs.Goals as goal
 
-pub returns-in-Err : goal.returns-in-Err
-returns-in-Err c = no_exists c.args.threads (toks c.args.tokens.now) c.in-Err.ensures
-
 pub loop-rest-init : goal.loop-rest-init
-loop-rest-init c = rw c.new-signs.ensures.items (no_sign_yet c.args.threads (toks c.args.tokens.now) (toks c.in-Ok.rest.now) c.in-Ok.ensures)
+loop-rest-init c = rw c.new-signs.ensures.items (no_sign_yet c.args.threads (toks c.args.tokens.now))
 
 pub loop-rest-preserved : goal.loop-rest-preserved
-loop-rest-preserved c = rw (c.in_ok-push-in-Ok-read_sign.ensures.items, map_push)
-    (next_sign c.args.threads (toks c.args.tokens.now) (map sign_at_view c.loop-rest.signs.items) (toks c.loop-rest.rest.now) (sign_view c.in-Ok-read_sign.sign) (toks c.in-Ok-read_sign.after.now) c.loop-rest.invariant
-    (some_left c.loop-rest.rest.now (sym c.is_empty.ensures ∙ c.loop-rest-test.true)) c.in-Ok-read_sign.ensures.gives)
+loop-rest-preserved c = rw (c.in_ok-push-in-Ok.ensures.items, map_push)
+    (next_sign c.args.threads (toks c.args.tokens.now) (map sign_at_view c.loop-rest.signs.items) (toks c.loop-rest.rest.now) (sign_view c.in-Ok.sign) (toks c.in-Ok.after.now) c.loop-rest.invariant
+    (some_left c.loop-rest.rest.now (sym c.is_empty.ensures ∙ c.loop-rest-test.true)) c.in-Ok.ensures.gives)
 
-pub returns-in-Err-read_sign : goal.returns-in-Err-read_sign
-returns-in-Err-read_sign c =
-    signs_stop c.args.threads (toks c.args.tokens.now) (map sign_at_view c.loop-rest.signs.items) (toks c.loop-rest.rest.now) c.loop-rest.invariant (some_left c.loop-rest.rest.now (sym c.is_empty.ensures ∙ c.loop-rest-test.true)) c.in-Err-read_sign.ensures.gives
+pub returns-in-Err : goal.returns-in-Err
+returns-in-Err c =
+    signs_stop c.args.threads (toks c.args.tokens.now) (map sign_at_view c.loop-rest.signs.items) (toks c.loop-rest.rest.now) c.loop-rest.invariant (some_left c.loop-rest.rest.now (sym c.is_empty.ensures ∙ c.loop-rest-test.true)) c.in-Err.ensures.gives
 
 pub returns : goal.returns
 returns c = signs_end c.args.threads (toks c.args.tokens.now) (map sign_at_view c.loop-rest.signs.items) (toks c.loop-rest.rest.now) c.loop-rest.invariant (none_left c.loop-rest.rest.now (sym c.is_empty.ensures ∙ c.loop-rest-test.false))

@@ -15,6 +15,6 @@ returns c =
     c.in_ok-atoms.ensures ∙ ap (λ (entries : List Entry). entry_atoms numbered (map entry_view entries)) c.as_slice.ensures.value in
     let table : c.as_slice-4.result.now ≡ map (registers_from c.in_ok-atoms.atoms.items) (range_with_len 0 body.threads) =
     c.as_slice-4.ensures.value ∙ c.in_ok-registers.ensures ∙ ap (λ (atoms : List Atom). map (registers_from atoms) (range_with_len 0 body.threads)) c.as_slice-3.ensures.value in
-    let threads = c.of.ensures ∙ c.in_ok-threads.ensures ∙ threads_filled numbered body c.as_slice-4.result.now c.in_ok-atoms.atoms.items said table in
+    let threads = c.of.ensures ∙ c.in_ok-threads.ensures ∙ threads_filled numbered body c.as_slice-4.result.now c.args.targets.now c.in_ok-atoms.atoms.items said table c.requires in
     let memory = c.of-2.ensures ∙ c.in_ok-memory.ensures ∙ (λ i. memory_from (c.locations.ensures i) ((c.as_slice-2.ensures.value ∙ said) i)) in
     λ i. record { threads = threads i; memory = memory i }

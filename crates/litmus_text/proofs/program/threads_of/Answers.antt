@@ -1,13 +1,14 @@
-use Rattle.std.proofs.Common.{◌≡◌, ℕ, ◌∷◌, ◌++◌, [], List, map, replicate, sym, ap, ◌∙◌, arith}
+use Rattle.std.proofs.Common.{◌≡◌, ℕ, ◌∷◌, ◌++◌, [], List, map, get_or, replicate, sym, ap, ◌∙◌, arith}
 use Rattle.std.specs.Prelude.{Option, unwrap_or}
 use Rattle.std.specs.List.{range_with_len}
 use Rattle.std.specs.Global.{Vec}
+use Rattle.std.proofs.lemmas.List.{get_or_default}
 use Rattle.std.proofs.lemmas.List.FromFn.{map-range_with_len_more}
 use Rattle.tso_program.specs.declared.instruction.Instr.{Instr}
 use Rattle.tso_program.specs.declared.listing.Thread.{Thread}
-use Rattle.litmus_syntax.specs.declared.code.Code.{Code}
+use Rattle.litmus_syntax.specs.declared.cell.Cell.{Cell}
 use Rattle.litmus_syntax.specs.Views.{row_view}
-use Rattle.litmus_text.specs.Filling.{byte_in, thread_in}
+use Rattle.litmus_text.specs.Filling.{byte_in, byte_at, thread_in}
 use Rattle.litmus_text.specs.Meaning.{code_of}
 use Rattle.litmus_text.proofs.program.threads_of.Goals as goal
 
@@ -19,10 +20,12 @@ loop-thread-preserved c =
     let numbered = byte_in c.args.names.now.locations in
     let t = c.loop-thread.thread in
     let rows = map row_view c.args.body.now.rows.items in
-    let code : c.of.result ≡ code_of numbered rows t =
-    c.of.ensures ∙ c.in_ok-code.ensures ∙ ap (λ (rs : List (Vec (Option Code))). code_of numbered (map row_view rs) t) c.as_slice.ensures.value in
+    let targets = c.args.targets.now in
+    let own : c.index-targets-thread.result ≡ get_or targets t [] = c.index-targets-thread.is ∙ get_or_default targets t c.index-targets-thread.result [] c.loop-thread-test.true in
+    let code : c.of.result ≡ code_of numbered (byte_at (get_or targets t [])) rows t =
+    c.of.ensures ∙ c.in_ok-code.ensures ∙ (λ i. code_of numbered (byte_at (own i)) (map row_view (c.as_slice.ensures.value i)) t) in
     let registers = c.unwrap_or.ensures ∙ ap (λ (o : Option (List ℕ)). unwrap_or o (replicate 6 0)) c.copied.ensures ∙ c.get.ensures.lookup.4 (omega arith) (replicate 6 0) in
     c.in_ok-push.ensures.items
     ∙ ap (λ (ts : List Thread). ts ++ record { code = c.of.result; registers = c.unwrap_or.result } ∷ []) c.loop-thread.invariant
-    ∙ ap (λ (thread : Thread). map (thread_in numbered rows c.args.registers.now) (range_with_len 0 t) ++ thread ∷ []) (made _ _ _ _ code registers)
-    ∙ sym (map-range_with_len_more (thread_in numbered rows c.args.registers.now) 0 t t (omega arith))
+    ∙ ap (λ (thread : Thread). map (thread_in numbered rows c.args.registers.now targets) (range_with_len 0 t) ++ thread ∷ []) (made _ _ _ _ code registers)
+    ∙ sym (map-range_with_len_more (thread_in numbered rows c.args.registers.now targets) 0 t t (omega arith))

@@ -6,4 +6,4 @@ use Rattle.litmus_text.proofs.program.threads_of.Given as goal
 
 -- the threads so far
 abbrev pub invariant-loop-thread : goal.invariant-loop-thread
-invariant-loop-thread l = l.threads.items ≡ map (thread_in (byte_in l.names.locations) (map row_view l.body.rows.items) l.registers) (range_with_len 0 l.thread)
+invariant-loop-thread l = l.threads.items ≡ map (thread_in (byte_in l.names.locations) (map row_view l.body.rows.items) l.registers l.targets) (range_with_len 0 l.thread)

@@ -1,0 +1,26 @@
+use Rattle.std.proofs.Common.{map}
+use Rattle.std.proofs.lemmas.Result.{err_from_is_err_and}
+use Rattle.text_tokens.specs.Tokens.{toks}
+use Rattle.litmus_syntax.specs.Views.{place_view, sign_at_view}
+use Rattle.litmus_syntax.proofs.EndingLaws.{ending_is_read, no_observed, no_quantifier, no_signs, carried}
+use Rattle.litmus_syntax.proofs.ending.read_ending.Goals as goal
+
+pub returns-in_err-observed : goal.returns-in_err-observed
+returns-in_err-observed c =
+    let p = err_from_is_err_and c.from_residual.result c.from_residual.ensures.1 in
+    rw (p.1, p.2) (no_observed c.args.threads (toks c.args.tokens.now) c.in_err-observed.field-0.0 c.in_err-observed.ensures)
+
+pub returns-in_err-quantifier : goal.returns-in_err-quantifier
+returns-in_err-quantifier c =
+    let p = err_from_is_err_and c.from_residual-in_err-quantifier.result c.from_residual-in_err-quantifier.ensures.1 in
+    rw (p.1, p.2) (no_quantifier c.args.threads (toks c.args.tokens.now) (toks c.in_ok-observed.rest.now) (map place_view c.in_ok-observed.observed.items) c.in_ok-observed.ensures c.in_err-quantifier.ensures)
+
+pub returns : goal.returns
+returns c =
+    let ts = toks c.args.tokens.now in
+    let us = toks c.in_ok-observed.rest.now in
+    let vs = toks c.in_ok-quantifier.rest.now in
+    let ps = map place_view c.in_ok-observed.observed.items in
+    carried c.in_ok-signs.signs.refusal _ _ _ _
+    (ending_is_read c.args.threads ts us vs ps c.in_ok-quantifier.quantifier (map sign_at_view c.in_ok-signs.signs.signs.items) c.in_ok-observed.ensures c.in_ok-quantifier.ensures)
+    (λ r. no_signs c.args.threads ts us vs ps c.in_ok-quantifier.quantifier c.in_ok-observed.ensures c.in_ok-quantifier.ensures) c.in_ok-signs.ensures
