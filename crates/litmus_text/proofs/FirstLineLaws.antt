@@ -10,8 +10,8 @@ use Rattle.std.proofs.lemmas.List.Folds.{list_all-append}
 use Rattle.std.proofs.lemmas.Option.{cond_some}
 use Rattle.std.proofs.lemmas.Slice.Eq.{bytes_eq-Decides}
 use Rattle.text_tokens.proofs.Prefixes.{all_pass}
-use Rattle.litmus_text.specs.FirstLine.{is_gap, is_visible, is_trailing, AreSome, IsHeading, IsFirstLine}
-use Rattle.litmus_text.specs.FirstLineReading.{is_inside, name_after, heading_name, line_at}
+use Rattle.litmus_text.specs.FirstLine.{is_gap, is_inside, is_visible, is_trailing, AreSome, IsHeading, IsFirstLine}
+use Rattle.litmus_text.specs.FirstLineReading.{name_after, heading_name, line_at}
 
 prefix_is : (p : ℕ → Bool) (xs rest : List ℕ) → list_all p xs ≡ true → p (slice_index rest 0) ≡ false → prefix_len p (xs ++ rest) ≡ length xs
 prefix_is p [] [] all stop = refl
@@ -124,7 +124,7 @@ begins (b ∷ text) lt =
           rw (n, first) refl
     ]
 
-line_takes : (text line rest : List ℕ) → line_at text ≡ Some (line, rest) → text ≡ line ++ 10 ∷ rest
+pub line_takes : (text line rest : List ℕ) → line_at text ≡ Some (line, rest) → text ≡ line ++ 10 ∷ rest
 unfolding line_at
 line_takes text line rest e =
     let n = prefix_len is_inside text in
@@ -133,7 +133,16 @@ line_takes text line rest e =
     let back : drop 1 (drop n text) ≡ rest = ap (λ (p : List ℕ × List ℕ). p.1) a.1 in
     sym (take-append-drop n text) ∙ ap (λ (x : List ℕ). x ++ drop n text) front ∙ ap (λ (x : List ℕ). line ++ x) (begins text (ltb-true _ _ a.0) ∙ ap (λ (x : List ℕ). 10 ∷ x) back)
 
-line_again : (line rest : List ℕ) → list_all is_inside line ≡ true → line_at (line ++ 10 ∷ rest) ≡ Some (line, rest)
+-- no LF stands in a line
+pub line_inside : (text line rest : List ℕ) → line_at text ≡ Some (line, rest) → list_all is_inside line ≡ true
+unfolding line_at
+line_inside text line rest e =
+    let n = prefix_len is_inside text in
+    let a = cond_some (nat_lt n (length text)) (take n text, drop 1 (drop n text)) (line, rest) e in
+    let front : take n text ≡ line = ap (λ (p : List ℕ × List ℕ). p.0) a.1 in
+    subst (λ (l : List ℕ). list_all is_inside l ≡ true) front (all_pass is_inside text)
+
+pub line_again : (line rest : List ℕ) → list_all is_inside line ≡ true → line_at (line ++ 10 ∷ rest) ≡ Some (line, rest)
 unfolding line_at
 line_again line rest all =
     let n : prefix_len is_inside (line ++ 10 ∷ rest) ≡ length line = prefix_is is_inside line (10 ∷ rest) all refl in

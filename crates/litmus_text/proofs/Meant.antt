@@ -19,6 +19,7 @@ use Rattle.litmus_text.specs.Meaning.{listing_of, condition_of, observed_of}
 use Rattle.litmus_text.specs.Filling.{byte_in, byte_at, listing_by}
 use Rattle.litmus_text.specs.Labels.{position_in, all_labels}
 use Rattle.tso_program.specs.Limits.{first_long}
+use Rattle.litmus_text.specs.SkippedLines.{AreSkipped}
 use Rattle.litmus_text.specs.Texts.{Means, StandsFor}
 use Rattle.litmus_text.specs.Reading.{IsReadOf}
 use Rattle.litmus_text.proofs.NamesOnce.{in_order_once, entries_stand}
@@ -41,9 +42,11 @@ module _ (text : List ℕ) (read : Litmus Listing) (is : IsReadOf text read) whe
   pub stands : StandsFor text meant
   stands = record {
     lines = is.lines;
+    others = is.others;
     tokens = is.tokens;
     utf8 = is.utf8;
     first_line = is.first_line;
+    skipped = is.skipped;
     lexes = is.lexes;
     means = record { body = is.read.body; ending = is.read.ending; formula = is.read.formula; parts = is.read.parts; names = is.read.names; program = refl; condition = refl; observed = refl; labels = is.read.labels };
   }
@@ -52,7 +55,8 @@ module _ (text : List ℕ) (read : Litmus Listing) (is : IsReadOf text read) whe
   pub stands_only : (other : Litmus Listing) → StandsFor text other → other ≡ meant
   stands_only other st =
       let p = is.first_only other.name st.lines st.first_line in
-      let lexes : Lexes is.lines st.tokens = subst (λ (l : List ℕ). Lexes l st.tokens) (sym p.1) st.lexes in
+      let skipped : AreSkipped is.lines st.others = subst (λ (l : List ℕ). AreSkipped l st.others) (sym p.1) st.skipped in
+      let lexes : Lexes is.others st.tokens = subst (λ (l : List ℕ). Lexes l st.tokens) (sym (is.skipped_only st.others skipped)) st.lexes in
       let m : Means is.tokens other = subst (λ (ts : List Tok). Means ts other) (sym (is.lexes_only st.tokens lexes)) st.means in
       let q = is.read.only m.body m.ending m.formula m.parts in
       let names : other.names ≡ read.names = m.names ∙ (λ i. names_of (q.0 i) (q.1 i)) ∙ sym is.read.names in

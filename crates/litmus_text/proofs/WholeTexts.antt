@@ -1,4 +1,4 @@
--- What the first line and the tokens of a text say of the whole text.
+-- What the first line, the skipped lines and the tokens of a text say of the whole text.
 use Rattle.std.proofs.Common.{◌≡◌, ℕ, List, sym, ◌∙◌, subst, inl}
 use Rattle.std.specs.Prelude.{⊤}
 use Rattle.std.specs.Str.{IsUtf8}
@@ -11,28 +11,34 @@ use Rattle.litmus_text.specs.declared.fault.ReadFault.{ReadFault}
 use Rattle.litmus_text.specs.declared.fault.ReadFault.TheVariants.{OutOfMemory}
 use Rattle.litmus_text.specs.Faults.{MatchFault, IsOfAToken}
 use Rattle.litmus_text.specs.FirstLine.{IsFirstLine}
+use Rattle.litmus_text.specs.SkippedLines.{AreSkipped}
 use Rattle.litmus_text.specs.Texts.{Means, StandsFor}
 use Rattle.litmus_text.specs.Reading.{IsRead, IsReadOf, HasNoParts}
 use Rattle.litmus_text.proofs.Faults.{match_map, match_memory}
 use Rattle.litmus_text.proofs.Whole.{parts_whole}
 
--- what first line and tokens were found
-pub record Split (text name lines : List ℕ) (tokens : List Tok) : Type 0 where
+-- what first line, skipped lines and tokens were found
+pub record Split (text name lines others : List ℕ) (tokens : List Tok) : Type 0 where
   pub utf8 : IsUtf8 text
   pub first_line : IsFirstLine text name lines
   pub first_only : (n rest : List ℕ) → IsFirstLine text n rest → (name ≡ n) × (lines ≡ rest)
-  pub lexes : IsWhole tokens → Lexes lines tokens
-  pub lexes_only : (ts : List Tok) → LexesTo lines ts → tokens ≡ ts
+  pub skipped : AreSkipped lines others
+  pub skipped_only : (rest : List ℕ) → AreSkipped lines rest → others ≡ rest
+  pub lexes : IsWhole tokens → Lexes others tokens
+  pub lexes_only : (ts : List Tok) → LexesTo others ts → tokens ≡ ts
 
-pub text_read : (text name other lines : List ℕ) (tokens : List Tok) (litmus : Litmus Listing) → Split text name lines tokens → other ≡ name → (litmus.name ≡ other) × IsRead tokens litmus → IsReadOf text litmus
-text_read text name other lines tokens litmus split e h =
+pub text_read : (text name other lines others : List ℕ) (tokens : List Tok) (litmus : Litmus Listing) → Split text name lines others tokens → other ≡ name → (litmus.name ≡ other) × IsRead tokens litmus → IsReadOf text litmus
+text_read text name other lines others tokens litmus split e h =
     let own : litmus.name ≡ name = h.0 ∙ e in
     record {
       lines = lines;
+      others = others;
       tokens = tokens;
       utf8 = split.utf8;
       first_line = subst (λ (n : List ℕ). IsFirstLine text n lines) (sym own) split.first_line;
       first_only = λ n rest f. let p = split.first_only n rest f in (own ∙ p.0, p.1);
+      skipped = split.skipped;
+      skipped_only = split.skipped_only;
       lexes = split.lexes (parts_whole tokens h.1.body h.1.ending h.1.formula h.1.parts);
       lexes_only = λ ts l. split.lexes_only ts (inl l);
       read = h.1;
@@ -42,22 +48,30 @@ text_read text name other lines tokens litmus split e h =
 abbrev pub StandsForNothing : List ℕ → Type 0
 StandsForNothing text = (litmus : Litmus Listing) → StandsFor text litmus → ⊥
 
-no_parts : (text name lines : List ℕ) (tokens : List Tok) → Split text name lines tokens → HasNoParts tokens → StandsForNothing text
-no_parts text name lines tokens split none litmus st =
+no_parts : (text name lines others : List ℕ) (tokens : List Tok) → Split text name lines others tokens → HasNoParts tokens → StandsForNothing text
+no_parts text name lines others tokens split none litmus st =
     let p = split.first_only litmus.name st.lines st.first_line in
-    let lexes : Lexes lines st.tokens = subst (λ (l : List ℕ). Lexes l st.tokens) (sym p.1) st.lexes in
+    let skipped : AreSkipped lines st.others = subst (λ (l : List ℕ). AreSkipped l st.others) (sym p.1) st.skipped in
+    let same : others ≡ st.others = split.skipped_only st.others skipped in
+    let lexes : Lexes others st.tokens = subst (λ (l : List ℕ). Lexes l st.tokens) (sym same) st.lexes in
     let m : Means tokens litmus = subst (λ (ts : List Tok). Means ts litmus) (sym (split.lexes_only st.tokens (inl lexes))) st.means in
     none m.body m.ending m.formula m.parts
 
-pub tokens_refused : (text name lines : List ℕ) (tokens : List Tok) (fault : ReadFault) → Split text name lines tokens → MatchFault fault ⊥ (λ _. ⊥) ⊤ (HasNoParts tokens)
+pub tokens_refused : (text name lines others : List ℕ) (tokens : List Tok) (fault : ReadFault) → Split text name lines others tokens → MatchFault fault ⊥ (λ _. ⊥) ⊤ (HasNoParts tokens)
     → MatchFault fault (IsUtf8 text → ⊥) (λ _. ⊥) ⊤ (StandsForNothing text)
-tokens_refused text name lines tokens fault split h =
-    match_map fault ⊥ (IsUtf8 text → ⊥) (λ _. ⊥) (λ _. ⊥) ⊤ ⊤ (HasNoParts tokens) (StandsForNothing text) (λ x. absurd x) (λ _ x. x) (λ x. x) (no_parts text name lines tokens split) h
+tokens_refused text name lines others tokens fault split h =
+    match_map fault ⊥ (IsUtf8 text → ⊥) (λ _. ⊥) (λ _. ⊥) ⊤ ⊤ (HasNoParts tokens) (StandsForNothing text) (λ x. absurd x) (λ _ x. x) (λ x. x) (no_parts text name lines others tokens split) h
 
 pub first_line_refused : (text : List ℕ) (fault : ReadFault) → IsOfAToken fault → ((name rest : List ℕ) → IsFirstLine text name rest → ⊥)
     → MatchFault fault (IsUtf8 text → ⊥) (λ _. ⊥) ⊤ (StandsForNothing text)
 first_line_refused text fault h none =
     match_map fault ⊥ (IsUtf8 text → ⊥) (λ _. ⊥) (λ _. ⊥) ⊥ ⊤ ⊤ (StandsForNothing text) (λ x. absurd x) (λ _ x. x) (λ x. absurd x) (λ _ litmus st. none litmus.name st.lines st.first_line) h
+
+pub skipped_lines_refused : (text name lines : List ℕ) (fault : ReadFault) → ((n rest : List ℕ) → IsFirstLine text n rest → (name ≡ n) × (lines ≡ rest)) → IsOfAToken fault
+    → ((rest : List ℕ) → AreSkipped lines rest → ⊥) → MatchFault fault (IsUtf8 text → ⊥) (λ _. ⊥) ⊤ (StandsForNothing text)
+skipped_lines_refused text name lines fault first_only h none =
+    match_map fault ⊥ (IsUtf8 text → ⊥) (λ _. ⊥) (λ _. ⊥) ⊥ ⊤ ⊤ (StandsForNothing text) (λ x. absurd x) (λ _ x. x) (λ x. absurd x)
+    (λ _ litmus st. none st.others (subst (λ (l : List ℕ). AreSkipped l st.others) (sym (first_only litmus.name st.lines st.first_line).1) st.skipped)) h
 
 pub bytes_refused : (text : List ℕ) (fault : ReadFault) → MatchFault fault (IsUtf8 text → ⊥) (λ _. ⊥) ⊥ ⊥ → MatchFault fault (IsUtf8 text → ⊥) (λ _. ⊥) ⊤ (StandsForNothing text)
 bytes_refused text fault h =

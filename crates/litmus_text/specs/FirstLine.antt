@@ -1,10 +1,14 @@
 -- The first line of a litmus text.
-use Rattle.std.specs.Prelude.{◌≡◌, ◌==◌, ◌||◌, ◌&&◌, ◌<◌, ℕ, Bool, true, nat_le, List, ◌∷◌, ◌++◌, length, codes}
+use Rattle.std.specs.Prelude.{◌≡◌, ◌==◌, ◌||◌, ◌&&◌, ◌<◌, ℕ, Bool, true, nat_le, List, ◌∷◌, ◌++◌, length, codes, not}
 use Rattle.std.specs.List.{list_all}
 
 -- a space or a tab
 abbrev pub is_gap : ℕ → Bool
 is_gap b = b == 32 || b == 9
+
+-- a byte that is no LF
+abbrev pub is_inside : ℕ → Bool
+is_inside b = not (b == 10)
 
 -- a visible ASCII character: one of `!` to `~`
 abbrev pub is_visible : ℕ → Bool

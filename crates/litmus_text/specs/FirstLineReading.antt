@@ -1,8 +1,8 @@
 -- How the first line is read.
-use Rattle.std.specs.Prelude.{◌==◌, ◌&&◌, ℕ, Bool, List, length, take, drop, codes, not, nat_lt, Option, Some, None, if◌then◌else◌}
+use Rattle.std.specs.Prelude.{◌&&◌, ℕ, Bool, List, length, take, drop, codes, nat_lt, Option, Some, None, if◌then◌else◌}
 use Rattle.std.specs.List.{prefix_len, list_all}
 use Rattle.std.specs.Str.{bytes_eq}
-use Rattle.litmus_text.specs.FirstLine.{is_gap, is_visible, is_trailing}
+use Rattle.litmus_text.specs.FirstLine.{is_gap, is_inside, is_visible, is_trailing}
 
 -- the name behind a gap
 abbrev pub name_after : List ℕ → List ℕ → Option (List ℕ)
@@ -16,10 +16,6 @@ heading_name line =
     let rest = drop 3 line in
     let n = prefix_len is_gap rest in
     if bytes_eq (take 3 line) (codes "X86") then name_after (take n rest) (drop n rest) else None
-
--- a byte that is no LF
-abbrev pub is_inside : ℕ → Bool
-is_inside b = not (b == 10)
 
 -- the bytes before the first LF and those behind it
 unfoldable pub line_at : List ℕ → Option (List ℕ × List ℕ)

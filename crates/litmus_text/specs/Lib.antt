@@ -1,6 +1,7 @@
 pub mod Names
 pub mod Places
 pub mod FirstLine
+pub mod SkippedLines
 pub mod Labels
 pub mod Meaning
 pub mod Faults

@@ -17,6 +17,7 @@ use Rattle.litmus_text.specs.declared.litmus.Litmus.{Litmus}
 use Rattle.litmus_text.specs.declared.fault.ReadFault.{ReadFault}
 use Rattle.litmus_text.specs.Faults.{MatchFault}
 use Rattle.litmus_text.specs.FirstLine.{IsFirstLine}
+use Rattle.litmus_text.specs.SkippedLines.{AreSkipped}
 use Rattle.litmus_text.specs.Places.{names_of}
 use Rattle.litmus_text.specs.Labels.{all_labels}
 use Rattle.litmus_text.specs.Meaning.{sign_of, numbered_atom, condition_of, observed_of}
@@ -63,15 +64,18 @@ ReadsTokens name tokens (Err fault) = MatchFault fault ⊥ (λ _. ⊥) ⊤ (HasN
 
 -- ---- the text
 
--- What was read of a text: its first line, its tokens, which are the only ones, and what was read of them.
+-- What was read of a text: its first line, the text from `{` on, its tokens, which are the only ones, and what was read of them.
 pub record IsReadOf (text : List ℕ) (litmus : Litmus Listing) : Type 0 where
   pub lines : List ℕ
+  pub others : List ℕ
   pub tokens : List Tok
   pub utf8 : IsUtf8 text
   pub first_line : IsFirstLine text litmus.name lines
   pub first_only : (name rest : List ℕ) → IsFirstLine text name rest → (litmus.name ≡ name) × (lines ≡ rest)
-  pub lexes : Lexes lines tokens
-  pub lexes_only : (ts : List Tok) → Lexes lines ts → tokens ≡ ts
+  pub skipped : AreSkipped lines others
+  pub skipped_only : (rest : List ℕ) → AreSkipped lines rest → others ≡ rest
+  pub lexes : Lexes others tokens
+  pub lexes_only : (ts : List Tok) → Lexes others ts → tokens ≡ ts
   pub read : IsRead tokens litmus
 
 -- with the line of the header row; or the text stands for nothing

@@ -17,6 +17,7 @@ use Rattle.litmus_text.specs.Faults.{MatchFault}
 use Rattle.litmus_text.specs.Names.{number_in}
 use Rattle.litmus_text.specs.Places.{names_of}
 use Rattle.litmus_text.specs.FirstLine.{IsFirstLine}
+use Rattle.litmus_text.specs.SkippedLines.{AreSkipped}
 use Rattle.litmus_text.specs.Labels.{all_labels, JumpsAreFound}
 use Rattle.litmus_text.specs.Meaning.{listing_of, sign_of, condition_of, observed_of}
 
@@ -41,14 +42,16 @@ pub record Means (tokens : List Tok) (litmus : Litmus Listing) : Type 0 where
   pub observed : litmus.observed ≡ map (observed_of (number_in litmus.names.locations)) ending.observed
   pub labels : litmus.labels ≡ all_labels body
 
--- What a text stands for, whatever the size of its program: it is UTF-8, its first line names the test, and the tokens of
--- the other lines stand for the rest.
+-- What a text stands for, whatever the size of its program: it is UTF-8, its first line names the test, lines that are
+-- skipped follow, and the tokens from `{` on stand for the rest.
 pub record StandsFor (text : List ℕ) (litmus : Litmus Listing) : Type 0 where
   pub lines : List ℕ
+  pub others : List ℕ
   pub tokens : List Tok
   pub utf8 : IsUtf8 text
   pub first_line : IsFirstLine text litmus.name lines
-  pub lexes : Lexes lines tokens
+  pub skipped : AreSkipped lines others
+  pub lexes : Lexes others tokens
   pub means : Means tokens litmus
 
 -- a text that stands for a program within the limits

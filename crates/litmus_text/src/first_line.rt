@@ -3,9 +3,10 @@ ghost use Rattle.std.specs.Prelude.{◌≡◌, ◌≤◌, ℕ, List, ⊤, length
 ghost use Rattle.std.specs.List.{prefix_len, list_all};
 ghost use Rattle.litmus_text.specs.FirstLine.{is_gap, is_visible, is_trailing, IsFirstLine};
 ghost use Rattle.litmus_text.specs.Faults.{IsOfAToken};
-ghost use Rattle.litmus_text.specs.FirstLineReading.{is_inside, heading_name, line_at};
+ghost use Rattle.litmus_text.specs.FirstLineReading.{heading_name};
 
 use crate::fault::ReadFault;
+use crate::lines::split_line;
 
 fn is_gap(byte: u8) -> bool
     ensures { result ≡ is_gap byte }
@@ -59,28 +60,6 @@ fn heading_name(line: &[u8]) -> Option<&[u8]>
         None
     } else {
         Some(name)
-    }
-}
-
-/// How many bytes from the front on are no LF.
-fn line_len(bytes: &[u8]) -> usize
-    ensures value { result ≡ prefix_len is_inside bytes.now }
-    ensures within { result ≤ length bytes.now }
-{
-    bytes.iter().take_while(|byte| **byte != b'\n').count()
-}
-
-/// The bytes before the first LF and those behind it.
-#[tactic(auto, unfolding(crate::specs::FirstLineReading::line_at))]
-fn split_line(bytes: &[u8]) -> Option<(&[u8], &[u8])>
-    ensures { option_map (λ x. (x.0.now, x.1.now)) result ≡ line_at bytes.now }
-{
-    let end = line_len(bytes);
-    if end < bytes.len() {
-        let (line, rest) = bytes.split_at(end);
-        Some((line, rest.split_at(1).1))
-    } else {
-        None
     }
 }
 

@@ -69,10 +69,7 @@ impl Targets {
 }
 
 /// The labels of each thread, found by name.
-pub(crate) fn targets_of(
-    alloc: Global,
-    labels: &[Items<Label>],
-) -> Result<Vec<Targets>, AllocError>
+pub(crate) fn targets_of(alloc: Global, labels: &[Items<Label>]) -> Result<Vec<Targets>, AllocError>
     ensures { IfOk result (λ targets. FindAllAs targets.items labels.now) }
 {
     let mut targets = Vec::new(alloc);

@@ -15,6 +15,7 @@ mod observed;
 mod outcome;
 mod program;
 mod reader;
+mod skipped_lines;
 
 pub use fault::ReadFault;
 pub use label::Label;

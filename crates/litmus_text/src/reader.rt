@@ -22,6 +22,7 @@ use crate::mentions::names_of;
 use crate::names::NameTable;
 use crate::observed::all_observed;
 use crate::program::{fenced_program_of, listing_of, program_of};
+use crate::skipped_lines::skip_lines;
 use conditions::Condition;
 use litmus_syntax::{Body, Part, Refusal, SyntaxFault, read_body, read_ending};
 use std::alloc::Global;
@@ -113,7 +114,9 @@ fn read_text(alloc: Global, bytes: &[u8]) -> Result<(Litmus<Listing>, u32), Read
 {
     check_utf8(bytes)?;
     let (name, lines) = first_line(bytes)?;
-    let tokens = lex(alloc, lines, 2)?;
+    let others = skip_lines(bytes, lines)?;
+    let begin = line_at(bytes, bytes.len().saturating_sub(others.len()));
+    let tokens = lex(alloc, others, begin)?;
     let name = Items::of(Vec::from_slice(alloc, name)?);
     let litmus = read_tokens(alloc, name, &tokens)?;
     Ok((litmus, header_line(&tokens)))

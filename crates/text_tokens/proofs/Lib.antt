@@ -1,6 +1,7 @@
 pub mod Prefixes
 pub mod NumberLaws
 pub mod CommentLaws
+pub mod SpaceLaws
 pub mod FirstBytes
 pub mod Fronts
 pub mod OneReading

@@ -2,6 +2,7 @@ pub mod Bytes
 pub mod Numbers
 pub mod Marks
 pub mod Comments
+pub mod Space
 pub mod Tokens
 pub mod Lexing
 pub mod Front

@@ -7,6 +7,7 @@ mod laws;
 mod lexer;
 mod numbers;
 mod parts;
+mod space;
 mod token;
 
 pub use bytes::{is_blank, is_letter, is_word_byte};
@@ -16,6 +17,7 @@ pub use laws::{
 pub use lexer::{Tokens, lex};
 pub use numbers::{plain_number_up_to, value_up_to};
 pub use parts::{begins, begins_number, mark, number, word};
+pub use space::after_space;
 pub use token::{Bad, Mark, Token};
 
 #[cfg(test)]

@@ -37,6 +37,8 @@ returns c =
     let body = body_view c.in-Ok.parts.0 in
     let ending = c.in-Ok-read_ending.ending in
     let found = found_of c.args.tokens.now (toks c.as_slice.result.now) (toks c.in-Ok.parts.1.now) body ending.signs.refusal (ending_view ending) c.as_slice.ensures c.in-Ok.ensures c.in-Ok-read_ending.ensures in
-    let observed = c.of.ensures ∙ c.in_ok-observed.ensures ∙ ap (λ (places : List Place). map (observed_of (byte_in c.in_ok-names.names.locations)) (map place_view places)) c.as_slice-3.ensures.value in
-    (refl, parts_read c.args.tokens.now body ending.signs.refusal (ending_view ending) _ found c.in_ok-program.ensures.found c.in_ok-names.ensures c.quantifier.ensures c.in_ok-formula.ensures c.in_ok-program.ensures.made observed
-    (c.of-2.ensures ∙ c.in_ok-labels.ensures))
+    let observed = c.of.ensures ∙ c.in_ok-observed.ensures ∙ ap (λ (places : List Place). map (observed_of (byte_in c.in_ok-names.names.locations)) (map place_view places)) c.as_slice-3.ensures.value in (
+      refl,
+      parts_read c.args.tokens.now body ending.signs.refusal (ending_view ending) _ found c.in_ok-program.ensures.found c.in_ok-names.ensures c.quantifier.ensures c.in_ok-formula.ensures c.in_ok-program.ensures.made observed
+          (c.of-2.ensures ∙ c.in_ok-labels.ensures),
+    )

@@ -1,0 +1,13 @@
+use Rattle.std.proofs.Common.{ℕ, List, length}
+use Rattle.litmus_text.specs.SkippedLines.{AreSkipped}
+use Rattle.litmus_text.proofs.skipped_lines.skip_lines.Given as goal
+
+-- where the lines end behind the rest, they end behind the whole, and the other way round
+abbrev pub invariant-loop-rest : goal.invariant-loop-rest
+invariant-loop-rest l = record {
+  forth : (end : List ℕ) → AreSkipped l.rest end → AreSkipped l.lines end;
+  back : (end : List ℕ) → AreSkipped l.lines end → AreSkipped l.rest end;
+}
+
+abbrev pub decreases-loop-rest : goal.decreases-loop-rest
+decreases-loop-rest l = length l.rest
