@@ -21,19 +21,6 @@ fn is_refused(rt: &impl Abort, alloc: Global, text: &[u8], expected: ReadFault) 
     }
 }
 
-/// Asserts why store buffering cannot be read once one part of it is replaced by another.
-fn change_is_refused(
-    rt: &impl Abort,
-    alloc: Global,
-    old: &str,
-    new: &str,
-    expected: ReadFault,
-) -> Result<(), AllocError> {
-    let text = STORE_BUFFERING.replace(alloc, old, new)?;
-    is_refused(rt, alloc, text.as_bytes(), expected);
-    Ok(())
-}
-
 /// An outcome of store buffering, with the values of EAX.
 fn outcome(alloc: Global, first: u32, second: u32) -> Result<Outcome, AllocError> {
     let registers = vec![in alloc; [first, 0, 0, 0, 0, 0], [second, 0, 0, 0, 0, 0]]?;
@@ -108,126 +95,6 @@ fn reads_names_in_order(rt: HostRuntime) -> Result<(), Fail> {
     Ok(())
 }
 
-#[test]
-fn refuses_bytes_and_first_lines(rt: HostRuntime) -> Result<(), Fail> {
-    let alloc = rt.alloc();
-    is_refused(
-        &rt,
-        alloc,
-        b"X86 SB\n{ }\nP0 ;\n\xff",
-        ReadFault::NotUtf8(4),
-    );
-    is_refused(&rt, alloc, b"X86_64\n\xc3", ReadFault::NotUtf8(2));
-    is_refused(&rt, alloc, b"", ReadFault::Ended(1));
-    is_refused(&rt, alloc, b"no litmus text", ReadFault::Ended(1));
-    is_refused(&rt, alloc, b"X86 SB\n", ReadFault::Ended(2));
-    change_is_refused(&rt, alloc, "X86 SB", "X86_64 SB", ReadFault::Header(1))?;
-    change_is_refused(&rt, alloc, "X86 SB", "X86", ReadFault::Header(1))?;
-    change_is_refused(&rt, alloc, "X86 SB", " X86 SB", ReadFault::Header(1))?;
-    change_is_refused(&rt, alloc, "X86 SB", "X86 S B", ReadFault::Header(1))?;
-    change_is_refused(&rt, alloc, "X86 SB", "X86 S\u{e4}", ReadFault::Header(1))?;
-    Ok(())
-}
-
-#[test]
-fn refuses_what_stands_before_the_rows(rt: HostRuntime) -> Result<(), Fail> {
-    let alloc = rt.alloc();
-    change_is_refused(&rt, alloc, "{ }", "{ int x=0; }", ReadFault::Initial(2))?;
-    change_is_refused(&rt, alloc, "{ }", "{ x=0;\n[x]=1 }", ReadFault::Initial(3))?;
-    change_is_refused(
-        &rt,
-        alloc,
-        "{ }",
-        "{ 0:EAX=0;\n2:EAX=0 }",
-        ReadFault::Initial(3),
-    )?;
-    change_is_refused(&rt, alloc, "{ }", "{ x=-1 }", ReadFault::Number(2))?;
-    change_is_refused(&rt, alloc, "{ }", "\"quoted\"\n{ }", ReadFault::Header(2))?;
-    change_is_refused(&rt, alloc, "P0 | P1", "P0 | P2", ReadFault::Header(3))?;
-    Ok(())
-}
-
-#[test]
-fn refuses_rows(rt: HostRuntime) -> Result<(), Fail> {
-    let alloc = rt.alloc();
-    change_is_refused(
-        &rt,
-        alloc,
-        "MOV EAX,[y]",
-        "INC EAX",
-        ReadFault::Instruction(5),
-    )?;
-    change_is_refused(&rt, alloc, "MOV EAX,[y] |", "", ReadFault::Row(5))?;
-    change_is_refused(
-        &rt,
-        alloc,
-        "MOV [x],$1",
-        "MOV [x],[y]",
-        ReadFault::Operand(4),
-    )?;
-    change_is_refused(
-        &rt,
-        alloc,
-        "MOV [x],$1",
-        "MOV [x],$4294967296",
-        ReadFault::Number(4),
-    )?;
-    change_is_refused(
-        &rt,
-        alloc,
-        "MOV [x],$1",
-        "MOV [x],$1 MFENCE",
-        ReadFault::Instruction(4),
-    )?;
-    is_refused(
-        &rt,
-        alloc,
-        b"X86 SB\n{ }\nP0 | P1 ;\nMFENCE | ;\nMOV EAX,[",
-        ReadFault::Ended(5),
-    );
-    is_refused(
-        &rt,
-        alloc,
-        b"X86 SB\n{ }\nP0 ;\nMOV EA",
-        ReadFault::Operand(4),
-    );
-    Ok(())
-}
-
-#[test]
-fn refuses_conditions(rt: HostRuntime) -> Result<(), Fail> {
-    let alloc = rt.alloc();
-    change_is_refused(
-        &rt,
-        alloc,
-        "exists",
-        "filter (x=1)\nexists",
-        ReadFault::Condition(6),
-    )?;
-    change_is_refused(&rt, alloc, "0:EAX", "2:EAX", ReadFault::Condition(6))?;
-    change_is_refused(&rt, alloc, "(0", "\n0", ReadFault::Condition(7))?;
-    change_is_refused(&rt, alloc, " /\\ 1:EAX=0)\n", "\n", ReadFault::Ended(7))?;
-    change_is_refused(&rt, alloc, " /\\ 1:EAX=0)\n", " /", ReadFault::Ended(6))?;
-    change_is_refused(
-        &rt,
-        alloc,
-        " /\\ 1:EAX=0)",
-        " /\\ 1:EAX=-1)",
-        ReadFault::Number(6),
-    )?;
-    change_is_refused(&rt, alloc, " /\\ 1:EAX=0)", " -1)", ReadFault::Condition(6))?;
-    change_is_refused(&rt, alloc, " /\\", "\n x=1", ReadFault::Condition(7))?;
-    change_is_refused(&rt, alloc, " /\\", "\n x", ReadFault::Condition(7))?;
-    change_is_refused(
-        &rt,
-        alloc,
-        "1:EAX=0)",
-        "1:EAX=0) true",
-        ReadFault::Condition(6),
-    )?;
-    Ok(())
-}
-
 /// A text of two threads of the given numbers of MFENCE.
 fn fences(alloc: Global, first: usize, second: usize) -> Result<String, AllocError> {
     let mut text = String::from_str(alloc, "X86 fences\n{ }\nP0 | P1 ;\n")?;
@@ -238,25 +105,6 @@ fn fences(alloc: Global, first: usize, second: usize) -> Result<String, AllocErr
     }
     text.push_str("exists (true)")?;
     Ok(text)
-}
-
-#[test]
-fn refuses_programs_past_the_limits(rt: HostRuntime) -> Result<(), Fail> {
-    let alloc = rt.alloc();
-    let most = read_litmus(alloc, fences(alloc, 64, 2)?.as_bytes())?;
-    assert_eq!(rt; most.program.gaps(), 64);
-    let gaps = ReadFault::Program(3, ProgramFault::TooManyGaps);
-    is_refused(&rt, alloc, fences(alloc, 64, 3)?.as_bytes(), gaps);
-    let long = ReadFault::Program(3, ProgramFault::TooLong(1));
-    is_refused(&rt, alloc, fences(alloc, 2, 65)?.as_bytes(), long);
-    let nine = b"X86 nine\n{ a=0; b=0; c=0; d=0; e=0; f=0; g=0; h=0; i=0; }\n\nP0 ;\nexists true";
-    is_refused(
-        &rt,
-        alloc,
-        nine,
-        ReadFault::Program(4, ProgramFault::Locations),
-    );
-    Ok(())
 }
 
 #[test]
@@ -386,16 +234,5 @@ locations [x; 0:EAX; x]
         ]
         .as_slice()
     );
-    Ok(())
-}
-
-#[test]
-fn a_lost_jump_is_told_behind_the_condition(rt: HostRuntime) -> Result<(), Fail> {
-    let alloc = rt.alloc();
-    let old = "MOV EAX,[y] | MOV EAX,[x] ;";
-    let lost = "end: | JMP end ;";
-    change_is_refused(&rt, alloc, old, lost, ReadFault::Label(5))?;
-    let unread = "JMP end | JMP end ;\nMOV EAX,[z] | MOV";
-    change_is_refused(&rt, alloc, old, unread, ReadFault::Operand(7))?;
     Ok(())
 }
