@@ -1,17 +1,19 @@
 -- What the tokens of a text say can be printed.
-use Rattle.std.proofs.Common.{◌≡◌, ℕ, ◌+◌, List, [], ◌∷◌, map, Some, None, inl, inr, subst}
+use Rattle.std.proofs.Common.{◌≡◌, ℕ, ◌+◌, true, false, List, [], ◌∷◌, map, Option, Some, None, inl, inr, sym, subst}
 use Rattle.std.specs.List.{AllByRecursion}
 use Rattle.std.proofs.lemmas.List.Elements.{recursion_from_All}
 use Rattle.text_tokens.specs.declared.token.Mark.{Mark}
 use Rattle.text_tokens.specs.declared.token.Mark.TheVariants as the
 use Rattle.text_tokens.specs.Tokens.{Tok, Word, Number, Sign, NoToken}
-use Rattle.text_tokens.specs.Lexing.{IsWord, BeginsWith, BeginsWithAll, none, blank, token}
+use Rattle.text_tokens.specs.Lexing.{IsWord, BeginsWith, BeginsWithAll, none, blank, comment, token}
 use Rattle.tso_program.specs.declared.instruction.Reg.{Reg}
+use Rattle.litmus_syntax.specs.declared.ending.Quantifier.{Quantifier}
+use Rattle.litmus_syntax.specs.declared.ending.Quantifier.TheVariants.{Exists, NotExists, Forall}
 use Rattle.litmus_syntax.specs.Words.{column_name}
-use Rattle.litmus_syntax.specs.Views.{PlaceView, Location, Register, EntryView, CodeView, LoadImm, Copy, Load, StoreImm, Store, Fence, CellView, BodyView, SignView, Atom, True, And, Open, Close}
+use Rattle.litmus_syntax.specs.Views.{PlaceView, Location, Register, EntryView, CodeView, LoadImm, Copy, Load, StoreImm, Store, Xchg, Fence, CmpImm, CmpReg, Je, Jne, Jmp, CellView, BodyView, SignView, Atom, Const, Not, And, Or, Open, Close, EndingView}
 use Rattle.litmus_syntax.specs.Phrases.{◌▸◌, mark, number, Items, end, item}
-use Rattle.litmus_syntax.specs.Grammar.{register, name, memory, IsPlace, IsEntryItem, place_of, HasThread, MoreColumns, last, column, IsHeader, immediate, IsCode, IsCell, IsNextCell, IsRow, IsRows, IsBody, IsSign, the_end, IsSigns}
-use Rattle.canonical_text.specs.Printable.{IsNumber, IsLocationName, IsPrintablePlace, IsPrintableEntry, IsPrintableCode, IsPrintableCell, IsPrintableRow, IsPrintableSign}
+use Rattle.litmus_syntax.specs.Grammar.{register, name, memory, IsPlace, separator, IsEntryItem, NoneTwice, labels_of, place_of, HasThread, MoreColumns, last, column, IsHeader, immediate, IsCode, IsLabel, IsContent, IsCell, IsNextCell, IsRow, IsRowList, IsBody, IsObservedItem, IsObserved, IsQuantifier, IsSign, the_end, IsEnding}
+use Rattle.canonical_text.specs.Printable.{IsNumber, IsLocationName, IsLabelName, IsPrintablePlace, IsPrintableEntry, IsPrintableCode, IsPrintableContent, IsPrintableCell, IsPrintableRow, IsPrintableSign}
 
 -- a token as texts have them
 abbrev pub IsGood : Tok → Type 0
@@ -33,6 +35,7 @@ good_token (NoToken b) text rest h = h
 pub lexed_good : (ts : List Tok) (text rest : List ℕ) → BeginsWithAll ts text rest → AreGood ts
 lexed_good [] text rest none = tt
 lexed_good ts text rest (blank {text = more} h all) = lexed_good ts more rest all
+lexed_good ts text rest (comment {others = others} h all) = lexed_good ts others rest all
 lexed_good (t ∷ ts) text rest (token {others = others} h all) = (good_token t text others h, lexed_good ts others rest all)
 
 -- ---- one token
@@ -74,11 +77,13 @@ after_valued threads p n ts rest (us, place, (vs, equals, value)) there good =
 
 -- ---- initial values
 
+after_separator : (close : Mark) (ts rest : List Tok) → separator close ts rest → AreGood ts → AreGood rest
+after_separator close ts rest (inl semicolon) good = after_mark the.Semicolon ts rest semicolon good
+after_separator close ts rest (inr here) good = subst AreGood here.0 good
+
 after_entry : (threads : ℕ) (e : EntryView) (ts rest : List Tok) → IsEntryItem e ts rest → HasThread threads e.place → AreGood ts → IsPrintableEntry threads e × AreGood rest
-after_entry threads e ts rest (us, entry, inl semicolon) there good =
-    let first = after_valued threads e.place e.value ts us entry there good in (first.0, after_mark the.Semicolon us rest semicolon first.1)
-after_entry threads e ts rest (us, entry, inr brace) there good =
-    let first = after_valued threads e.place e.value ts us entry there good in (first.0, subst AreGood brace.0 first.1)
+after_entry threads e ts rest (us, entry, separates) there good =
+    let first = after_valued threads e.place e.value ts us entry there good in (first.0, after_separator the.CloseBrace us rest separates first.1)
 
 after_entries : (threads : ℕ) (es : List EntryView) (ts rest : List Tok) → Items IsEntryItem (mark the.CloseBrace) es ts rest → AllByRecursion (HasThread threads) (map place_of es) → AreGood ts
     → AllByRecursion (IsPrintableEntry threads) es × AreGood rest
@@ -104,6 +109,9 @@ after_immediate : (n : ℕ) (ts rest : List Tok) → immediate n ts rest → Are
 after_immediate n ts rest (inl (us, dollar, value)) good = after_number n us rest value (after_mark the.Dollar ts us dollar good)
 after_immediate n ts rest (inr value) good = after_number n ts rest value good
 
+after_jump : (w l : List ℕ) (ts us rest : List Tok) → ts ≡ Word w ∷ us → us ≡ Word l ∷ rest → AreGood ts → IsWord l × AreGood rest
+after_jump w l ts us rest h e good = after_word l us rest e (after_word w ts us h good).1
+
 after_code : (c : CodeView) (ts rest : List Tok) → IsCode c ts rest → AreGood ts → IsPrintableCode c × AreGood rest
 after_code (LoadImm r n) ts rest (us, mov, (vs, to, (ws, comma, from))) good =
     after_immediate n ws rest from (after_mark the.Comma vs ws comma (after_register r us vs to (after_word mov.0 ts us mov.2 good).1))
@@ -118,11 +126,37 @@ after_code (StoreImm x n) ts rest (us, mov, (vs, to, (ws, comma, from))) good =
 after_code (Store x r) ts rest (us, mov, (vs, to, (ws, comma, from))) good =
     let first = after_memory x us vs to (after_word mov.0 ts us mov.2 good).1 in
     (first.0, after_register r ws rest from (after_mark the.Comma vs ws comma first.1))
+after_code (Xchg x r) ts rest (us, xchg, inl (vs, to, (ws, comma, from))) good =
+    let first = after_memory x us vs to (after_word xchg.0 ts us xchg.2 good).1 in
+    (first.0, after_register r ws rest from (after_mark the.Comma vs ws comma first.1))
+after_code (Xchg x r) ts rest (us, xchg, inr (vs, to, (ws, comma, from))) good =
+    after_memory x ws rest from (after_mark the.Comma vs ws comma (after_register r us vs to (after_word xchg.0 ts us xchg.2 good).1))
 after_code Fence ts rest mfence good = (tt, (after_word mfence.0 ts rest mfence.2 good).1)
+after_code (CmpImm r n) ts rest (us, cmp, (vs, to, (ws, comma, from))) good =
+    after_immediate n ws rest from (after_mark the.Comma vs ws comma (after_register r us vs to (after_word cmp.0 ts us cmp.2 good).1))
+after_code (CmpReg r s) ts rest (us, cmp, (vs, to, (ws, comma, from))) good =
+    (tt, after_register s ws rest from (after_mark the.Comma vs ws comma (after_register r us vs to (after_word cmp.0 ts us cmp.2 good).1)))
+after_code (Je l) ts rest (us, je, label) good = after_jump je.0 l ts us rest je.2 label good
+after_code (Jne l) ts rest (us, jne, label) good = after_jump jne.0 l ts us rest jne.2 label good
+after_code (Jmp l) ts rest (us, jmp, label) good = after_jump jmp.0 l ts us rest jmp.2 label good
+
+after_content : (c : Option CodeView) (ts rest : List Tok) → IsContent c ts rest → AreGood ts → IsPrintableContent c × AreGood rest
+after_content None ts rest h good = (tt, subst AreGood h.0 good)
+after_content (Some c) ts rest h good = after_code c ts rest h.0 good
+
+after_label : (l : List ℕ) (ts rest : List Tok) → IsLabel l ts rest → AreGood ts → IsLabelName l × AreGood rest
+after_label l ts rest (may, (us, named, colon)) good =
+    let first = after_word l ts us named good in ((first.0, may), after_mark the.Colon us rest colon first.1)
+
+after_labels : (ls : List (List ℕ)) (c : Option CodeView) (ts rest : List Tok) → Items IsLabel (IsContent c) ls ts rest → AreGood ts → (AllByRecursion IsLabelName ls × IsPrintableContent c) × AreGood rest
+after_labels [] c ts rest (end h) good = let last' = after_content c ts rest h good in ((tt, last'.0), last'.1)
+after_labels (l ∷ ls) c ts rest (item {others = us} h more) good =
+    let first = after_label l ts us h good in
+    let second = after_labels ls c us rest more first.1 in
+    (((first.0, second.0.0), second.0.1), second.1)
 
 after_cell : (c : CellView) (ts rest : List Tok) → IsCell c ts rest → AreGood ts → IsPrintableCell c × AreGood rest
-after_cell None ts rest h good = (tt, subst AreGood h.0 good)
-after_cell (Some c) ts rest h good = after_code c ts rest h.0 good
+after_cell c ts rest h good = after_labels c.labels c.code ts rest h good
 
 after_cells : (cs : List CellView) (ts rest : List Tok) → Items IsNextCell (mark the.Semicolon) cs ts rest → AreGood ts → AllByRecursion IsPrintableCell cs × AreGood rest
 after_cells [] ts rest (end h) good = (tt, after_mark the.Semicolon ts rest h good)
@@ -138,7 +172,7 @@ after_row threads (c ∷ cs) ts rest (count, (us, cell, more)) good =
     let second = after_cells cs us rest more first.1 in
     ((count, (first.0, second.0)), second.1)
 
-after_rows : (threads : ℕ) (rows : List (List CellView)) (ts rest : List Tok) → IsRows threads rows ts rest → AreGood ts → AllByRecursion (IsPrintableRow threads) rows × AreGood rest
+after_rows : (threads : ℕ) (rows : List (List CellView)) (ts rest : List Tok) → IsRowList threads rows ts rest → AreGood ts → AllByRecursion (IsPrintableRow threads) rows × AreGood rest
 after_rows threads [] ts rest (end h) good = (tt, subst AreGood h.0 good)
 after_rows threads (row ∷ rows) ts rest (item {others = us} h more) good =
     let first = after_row threads row ts us h good in
@@ -147,19 +181,50 @@ after_rows threads (row ∷ rows) ts rest (item {others = us} h more) good =
 
 -- ---- the whole
 
--- what stands before the condition can be printed
+-- what stands before the ending can be printed, and no label stands twice in its thread
 pub after_body : (b : BodyView) (ts rest : List Tok) → IsBody b ts rest → AreGood ts
-    → (AllByRecursion (IsPrintableEntry b.threads) b.entries × AllByRecursion (IsPrintableRow b.threads) b.rows) × AreGood rest
+    → ((AllByRecursion (IsPrintableEntry b.threads) b.entries × AllByRecursion (IsPrintableRow b.threads) b.rows) × NoneTwice (labels_of b.rows)) × AreGood rest
 after_body b ts rest ((us, initial, (vs, header, rows)), there) good =
     let open' = initial.0 in
     let first = after_entries b.threads b.entries open'.0 us open'.2 (recursion_from_All (HasThread b.threads) (map place_of b.entries) there) (after_mark the.OpenBrace ts open'.0 open'.1 good) in
-    let second = after_rows b.threads b.rows vs rest rows (after_header b.threads us vs header first.1) in
+    let second = after_rows b.threads b.rows vs rest rows.0 (after_header b.threads us vs header first.1) in
+    (((first.0, second.0), rows.1), second.1)
+
+-- ---- the ending
+
+after_observed_item : (threads : ℕ) (p : PlaceView) (ts rest : List Tok) → IsObservedItem threads p ts rest → AreGood ts → IsPrintablePlace threads p × AreGood rest
+after_observed_item threads p ts rest (there, (us, place, separates)) good =
+    let first = after_place threads p ts us place there good in (first.0, after_separator the.CloseBracket us rest separates first.1)
+
+after_observed_items : (threads : ℕ) (ps : List PlaceView) (ts rest : List Tok) → Items (IsObservedItem threads) (mark the.CloseBracket) ps ts rest → AreGood ts
+    → AllByRecursion (IsPrintablePlace threads) ps × AreGood rest
+after_observed_items threads [] ts rest (end h) good = (tt, after_mark the.CloseBracket ts rest h good)
+after_observed_items threads (p ∷ ps) ts rest (item {others = us} h more) good =
+    let first = after_observed_item threads p ts us h good in
+    let second = after_observed_items threads ps us rest more first.1 in
     ((first.0, second.0), second.1)
+
+after_observed : (threads : ℕ) (ps : List PlaceView) (ts rest : List Tok) → IsObserved threads ps ts rest → AreGood ts → AllByRecursion (IsPrintablePlace threads) ps × AreGood rest
+after_observed threads ps ts rest (inl (us, locations, (vs, open', places))) good =
+    after_observed_items threads ps vs rest places (after_mark the.OpenBracket us vs open' (after_word _ ts us locations good).1)
+after_observed threads ps ts rest (inr (none', there)) good = (subst (λ (qs : List PlaceView). AllByRecursion (IsPrintablePlace threads) qs) (sym none') tt, subst AreGood there.0 good)
+
+after_quantifier : (q : Quantifier) (ts rest : List Tok) → IsQuantifier q ts rest → AreGood ts → AreGood rest
+after_quantifier Exists ts rest h good = (after_word _ ts rest h good).1
+after_quantifier NotExists ts rest (us, tilde, exists') good = (after_word _ us rest exists' (after_mark the.Tilde ts us tilde good)).1
+after_quantifier Forall ts rest h good = (after_word _ ts rest h good).1
+
+after_not : (ts rest : List Tok) → IsSign 0 Not ts rest → AreGood ts → AreGood rest
+after_not ts rest (inl h) good = (after_word _ ts rest h good).1
+after_not ts rest (inr h) good = after_mark the.Tilde ts rest h good
 
 after_sign : (threads : ℕ) (s : SignView) (ts rest : List Tok) → IsSign threads s ts rest → AreGood ts → IsPrintableSign threads s × AreGood rest
 after_sign threads (Atom p n) ts rest h good = after_valued threads p n ts rest h.1 h.0 good
-after_sign threads True ts rest h good = (tt, (after_word _ ts rest h good).1)
+after_sign threads (Const true) ts rest h good = (tt, (after_word _ ts rest h good).1)
+after_sign threads (Const false) ts rest h good = (tt, (after_word _ ts rest h good).1)
+after_sign threads Not ts rest h good = (tt, after_not ts rest h good)
 after_sign threads And ts rest h good = (tt, after_mark the.And ts rest h good)
+after_sign threads Or ts rest h good = (tt, after_mark the.Or ts rest h good)
 after_sign threads Open ts rest h good = (tt, after_mark the.OpenParen ts rest h good)
 after_sign threads Close ts rest h good = (tt, after_mark the.CloseParen ts rest h good)
 
@@ -168,6 +233,8 @@ after_signs threads [] ts rest (end h) good = tt
 after_signs threads (s ∷ ss) ts rest (item {others = us} h more) good =
     let first = after_sign threads s ts us h good in (first.0, after_signs threads ss us rest more first.1)
 
--- so can the signs of the condition
-pub after_condition : (threads : ℕ) (ss : List SignView) (ts : List Tok) → IsSigns threads ss ts → AreGood ts → AllByRecursion (IsPrintableSign threads) ss
-after_condition threads ss ts (us, exists', signs) good = after_signs threads ss us [] signs (after_word _ ts us exists' good).1
+-- so can what is observed, and the signs of the condition
+pub after_ending : (threads : ℕ) (e : EndingView) (ts : List Tok) → IsEnding threads e ts → AreGood ts → AllByRecursion (IsPrintablePlace threads) e.observed × AllByRecursion (IsPrintableSign threads) e.signs
+after_ending threads e ts (us, shown, (vs, quantifier, signs)) good =
+    let first = after_observed threads e.observed ts us shown good in
+    (first.0, after_signs threads e.signs vs [] signs (after_quantifier e.quantifier us vs quantifier first.1))

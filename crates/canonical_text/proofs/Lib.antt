@@ -1,3 +1,7 @@
+pub mod LabelPlaces
+pub mod LabelsNamed
+pub mod LabelsOnce
+pub mod LabelsAgain
 pub mod StoreBuffering
 pub mod WordsWritten
 pub mod PiecesApart

@@ -1,5 +1,5 @@
 -- What a text names: each name can be printed, and each place that it names is named.
-use Rattle.std.proofs.Common.{◌≡◌, ℕ, ◌+◌, ◌<◌, ◌≤◌, Bool, true, false, cond, ◌||◌, List, [], ◌∷◌, ◌++◌, length, map, fold, get_or, Some, None, refl, sym, ap, ◌∙◌, subst, inl, inr, arith}
+use Rattle.std.proofs.Common.{◌≡◌, ℕ, ◌+◌, ◌<◌, ◌≤◌, Bool, true, false, cond, ◌||◌, List, [], ◌∷◌, ◌++◌, length, map, fold, get_or, Option, Some, None, refl, sym, ap, ◌∙◌, subst, inl, inr, arith}
 use Rattle.std.specs.Prelude.{if◌then◌else◌, slice_index_or}
 use Rattle.std.specs.List.{AllByRecursion, list_any, find, flat_map, filter_map}
 use Rattle.std.specs.Option.{option_map_or}
@@ -11,15 +11,14 @@ use Rattle.std.proofs.lemmas.List.FromFn.{get_or-map-range_with_len}
 use Rattle.tso_program.specs.declared.instruction.Reg.{Reg}
 use Rattle.tso_program.specs.declared.instruction.Reg.TheVariants.{Eax, Ebx, Ecx, Edx, Esi, Edi}
 use Rattle.tso_program.specs.Instructions.{number}
-use Rattle.litmus_syntax.specs.Views.{PlaceView, Location, Register, EntryView, CodeView, LoadImm, Copy, Load, StoreImm, Store, Fence, CellView, BodyView, SignView, Atom, True, And, Open, Close}
+use Rattle.litmus_syntax.specs.Views.{PlaceView, Location, Register, EntryView, CodeView, LoadImm, Copy, Load, StoreImm, Store, Xchg, Fence, CmpImm, CmpReg, Je, Jne, Jmp, CellView, BodyView, SignView, Atom, Const, Not, And, Or, Open, Close, EndingView}
 use Rattle.litmus_syntax.specs.Places.{same_place}
 use Rattle.litmus_syntax.proofs.SeenLaws.{same_place_itself}
 use Rattle.litmus_text.specs.Names.{all_registers, with_name}
 use Rattle.litmus_text.specs.Places.{code_places, cell_places, cells_places, row_places, sign_places, entry_place, places, location_name, is_register, names_of}
 use Rattle.litmus_text.specs.Outcomes.{is_named}
 use Rattle.litmus_text.specs.Meaning.{first_value}
-use Rattle.litmus_text.proofs.NamesOnce.{Stands}
-use Rattle.canonical_text.specs.Printable.{IsNumber, IsLocationName, IsPrintablePlace, IsPrintableEntry, IsPrintableCode, IsPrintableCell, IsPrintableRow, IsPrintableSign}
+use Rattle.canonical_text.specs.Printable.{IsNumber, IsLocationName, IsPrintablePlace, IsPrintableEntry, IsPrintableCode, IsPrintableContent, IsPrintableCell, IsPrintableRow, IsPrintableSign}
 use Rattle.canonical_text.proofs.ToldCode.{IsKnown}
 use Rattle.canonical_text.proofs.Lists.{all_of_both, each_among}
 
@@ -35,11 +34,20 @@ code_places_printable threads t (Copy r s) lt h = (lt, (lt, tt))
 code_places_printable threads t (Load r x) lt h = (lt, (h, tt))
 code_places_printable threads t (StoreImm x n) lt h = (h.0, tt)
 code_places_printable threads t (Store x r) lt h = (h, (lt, tt))
+code_places_printable threads t (Xchg x r) lt h = (h, (lt, tt))
 code_places_printable threads t Fence lt h = tt
+code_places_printable threads t (CmpImm r n) lt h = (lt, tt)
+code_places_printable threads t (CmpReg r s) lt h = (lt, (lt, tt))
+code_places_printable threads t (Je l) lt h = tt
+code_places_printable threads t (Jne l) lt h = tt
+code_places_printable threads t (Jmp l) lt h = tt
+
+content_places_printable : (threads t : ℕ) (c : Option CodeView) → t < threads → IsPrintableContent c → AllByRecursion (IsPrintablePlace threads) (option_map_or (code_places t) c [])
+content_places_printable threads t None lt h = tt
+content_places_printable threads t (Some c) lt h = code_places_printable threads t c lt h
 
 cell_places_printable : (threads t : ℕ) (cell : CellView) → t < threads → IsPrintableCell cell → AllByRecursion (IsPrintablePlace threads) (cell_places t cell)
-cell_places_printable threads t None lt h = tt
-cell_places_printable threads t (Some c) lt h = code_places_printable threads t c lt h
+cell_places_printable threads t cell lt h = content_places_printable threads t cell.code lt h.1
 
 cells_places_printable : (threads a : ℕ) (cells : List CellView) → a + length cells ≤ threads → AllByRecursion IsPrintableCell cells → AllByRecursion (IsPrintablePlace threads) (cells_places a cells)
 cells_places_printable threads a [] le h = tt
@@ -55,16 +63,20 @@ rows_places threads (row ∷ rows) h =
 signs_places : (threads : ℕ) (ss : List SignView) → AllByRecursion (IsPrintableSign threads) ss → AllByRecursion (IsPrintablePlace threads) (flat_map sign_places ss)
 signs_places threads [] h = tt
 signs_places threads (Atom p n ∷ ss) h = (h.0.0, signs_places threads ss h.1)
-signs_places threads (True ∷ ss) h = signs_places threads ss h.1
+signs_places threads (Const b ∷ ss) h = signs_places threads ss h.1
+signs_places threads (Not ∷ ss) h = signs_places threads ss h.1
 signs_places threads (And ∷ ss) h = signs_places threads ss h.1
+signs_places threads (Or ∷ ss) h = signs_places threads ss h.1
 signs_places threads (Open ∷ ss) h = signs_places threads ss h.1
 signs_places threads (Close ∷ ss) h = signs_places threads ss h.1
 
-pub places_printable : (b : BodyView) (ss : List SignView) → AllByRecursion (IsPrintableEntry b.threads) b.entries → AllByRecursion (IsPrintableRow b.threads) b.rows → AllByRecursion (IsPrintableSign b.threads) ss
-    → AllByRecursion (IsPrintablePlace b.threads) (places b ss)
-places_printable b ss entries rows signs =
-    all_of_both (IsPrintablePlace b.threads) (map entry_place b.entries) (flat_map row_places b.rows ++ flat_map sign_places ss) (entries_places b.threads b.entries entries)
-    (all_of_both (IsPrintablePlace b.threads) (flat_map row_places b.rows) (flat_map sign_places ss) (rows_places b.threads b.rows rows) (signs_places b.threads ss signs))
+pub places_printable : (b : BodyView) (e : EndingView) → AllByRecursion (IsPrintableEntry b.threads) b.entries → AllByRecursion (IsPrintableRow b.threads) b.rows → AllByRecursion (IsPrintablePlace b.threads) e.observed
+    → AllByRecursion (IsPrintableSign b.threads) e.signs → AllByRecursion (IsPrintablePlace b.threads) (places b e)
+places_printable b e entries rows shown signs =
+    let ends : List PlaceView = e.observed ++ flat_map sign_places e.signs in
+    all_of_both (IsPrintablePlace b.threads) (map entry_place b.entries) (flat_map row_places b.rows ++ ends) (entries_places b.threads b.entries entries)
+    (all_of_both (IsPrintablePlace b.threads) (flat_map row_places b.rows) ends (rows_places b.threads b.rows rows)
+    (all_of_both (IsPrintablePlace b.threads) e.observed (flat_map sign_places e.signs) shown (signs_places b.threads e.signs signs)))
 
 -- ---- so can the names
 
@@ -89,11 +101,11 @@ at_register f Esi = refl
 at_register f Edi = refl
 
 -- those that stand among the places
-pub named_is : (b : BodyView) (ss : List SignView) (t : ℕ) (r : Reg) → t < b.threads → is_named (names_of b ss) t r ≡ list_any (is_register t r) (places b ss)
-named_is b ss t r lt =
-    let flags : ℕ → List Bool = λ u. map (λ s. list_any (is_register u s) (places b ss)) all_registers in
+pub named_is : (b : BodyView) (e : EndingView) (t : ℕ) (r : Reg) → t < b.threads → is_named (names_of b e) t r ≡ list_any (is_register t r) (places b e)
+named_is b e t r lt =
+    let flags : ℕ → List Bool = λ u. map (λ s. list_any (is_register u s) (places b e)) all_registers in
     ap (λ (bs : List Bool). slice_index_or bs (number r) false) (get_or-map-range_with_len flags 0 b.threads t t [] lt (omega arith))
-    ∙ at_register (λ s. list_any (is_register t s) (places b ss)) r
+    ∙ at_register (λ s. list_any (is_register t s) (places b e)) r
 
 or_true : (a : Bool) → (a || (true || false)) ≡ true
 or_true true = refl
@@ -115,6 +127,11 @@ comes names x false h =
     let itself : bytes_eq x x ≡ true = (bytes_eq-Decides x x).1 refl in
     list_any-append (bytes_eq x) names (x ∷ []) ∙ ap (λ (b : Bool). list_any (bytes_eq x) names || (b || false)) itself ∙ or_true (list_any (bytes_eq x) names)
 
+-- a location's name stands among the names
+abbrev Stands : List (List ℕ) → PlaceView → Type 0
+Stands names (Location x) = list_any (bytes_eq x) names ≡ true
+Stands names (Register t r) = Unit {0}
+
 -- each location stands among the names
 all_stand : (names : List (List ℕ)) (ps : List PlaceView) → AllByRecursion (Stands (fold with_name names (filter_map location_name ps))) ps
 all_stand names [] = tt
@@ -122,17 +139,17 @@ all_stand names (Location x ∷ ps) =
     (stays (bytes_eq x) (with_name names x) (filter_map location_name ps) (comes names x (list_any (bytes_eq x) names) refl), all_stand (with_name names x) ps)
 all_stand names (Register t r ∷ ps) = (tt, all_stand names ps)
 
-known_of : (b : BodyView) (ss : List SignView) (qs : List PlaceView) → AllByRecursion (IsPrintablePlace b.threads) qs → AllByRecursion (Stands (names_of b ss).locations) qs
-    → AllByRecursion (λ p. list_any (λ q. same_place q p) (places b ss) ≡ true) qs → AllByRecursion (IsKnown (names_of b ss).locations (is_named (names_of b ss))) qs
-known_of b ss [] printable stand among = tt
-known_of b ss (Location x ∷ qs) printable stand among = (stand.0, known_of b ss qs printable.1 stand.1 among.1)
-known_of b ss (Register t r ∷ qs) printable stand among = (named_is b ss t r printable.0 ∙ among.0, known_of b ss qs printable.1 stand.1 among.1)
+known_of : (b : BodyView) (e : EndingView) (qs : List PlaceView) → AllByRecursion (IsPrintablePlace b.threads) qs → AllByRecursion (Stands (names_of b e).locations) qs
+    → AllByRecursion (λ p. list_any (λ q. same_place q p) (places b e) ≡ true) qs → AllByRecursion (IsKnown (names_of b e).locations (is_named (names_of b e))) qs
+known_of b e [] printable stand among = tt
+known_of b e (Location x ∷ qs) printable stand among = (stand.0, known_of b e qs printable.1 stand.1 among.1)
+known_of b e (Register t r ∷ qs) printable stand among = (named_is b e t r printable.0 ∙ among.0, known_of b e qs printable.1 stand.1 among.1)
 
 -- each place of a text is named
-pub places_known : (b : BodyView) (ss : List SignView) → AllByRecursion (IsPrintablePlace b.threads) (places b ss) → AllByRecursion (IsKnown (names_of b ss).locations (is_named (names_of b ss))) (places b ss)
-places_known b ss printable =
-    let ps : List PlaceView = places b ss in
-    known_of b ss ps printable (all_stand [] ps) (each_among same_place same_place_itself ps)
+pub places_known : (b : BodyView) (e : EndingView) → AllByRecursion (IsPrintablePlace b.threads) (places b e) → AllByRecursion (IsKnown (names_of b e).locations (is_named (names_of b e))) (places b e)
+places_known b e printable =
+    let ps : List PlaceView = places b e in
+    known_of b e ps printable (all_stand [] ps) (each_among same_place same_place_itself ps)
 
 -- ---- what the places hold
 
@@ -163,9 +180,9 @@ neither true b h = cc
 neither false b h = refl
 
 -- a register that is not named holds 0
-pub unnamed_zero : (b : BodyView) (ss : List SignView) (t : ℕ) (r : Reg) → t < b.threads → is_named (names_of b ss) t r ≡ false → first_value b.entries (Register t r) ≡ 0
-unnamed_zero b ss t r lt h =
+pub unnamed_zero : (b : BodyView) (e : EndingView) (t : ℕ) (r : Reg) → t < b.threads → is_named (names_of b e) t r ≡ false → first_value b.entries (Register t r) ≡ 0
+unnamed_zero b e t r lt h =
     let f : PlaceView → Bool = is_register t r in
-    let more : List PlaceView = flat_map row_places b.rows ++ flat_map sign_places ss in
-    let none : (list_any f (map entry_place b.entries) || list_any f more) ≡ false = sym (list_any-append f (map entry_place b.entries) more) ∙ sym (named_is b ss t r lt) ∙ h in
+    let more : List PlaceView = flat_map row_places b.rows ++ (e.observed ++ flat_map sign_places e.signs) in
+    let none : (list_any f (map entry_place b.entries) || list_any f more) ≡ false = sym (list_any-append f (map entry_place b.entries) more) ∙ sym (named_is b e t r lt) ∙ h in
     nothing_held (Register t r) b.entries (neither (list_any f (map entry_place b.entries)) (list_any f more) none)

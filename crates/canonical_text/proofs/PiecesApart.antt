@@ -1,15 +1,25 @@
 -- The pieces of parts that can be printed can be written one behind the other.
-use Rattle.std.proofs.Common.{◌≡◌, ℕ, ◌+◌, ◌≤◌, zero, suc, false, List, [], ◌∷◌, ◌++◌, map, Some, None, refl, arith}
-use Rattle.std.specs.List.{flat_map, range_with_len, AllByRecursion}
-use Rattle.text_tokens.specs.Lexing.{NoWordGoesOn}
+use Rattle.std.proofs.Common.{◌≡◌, ℕ, ◌+◌, ◌^◌, ◌<◌, ◌≤◌, ◌==◌, zero, suc, ◌&&◌, Bool, true, false, List, [], ◌∷◌, ◌++◌, length, map, Option, Some, None, refl, sym, ap, ◌∙◌, inl, inr, arith, append_assoc}
+use Rattle.std.specs.List.{flat_map, list_all, range_with_len, AllByRecursion}
+use Rattle.std.specs.Option.{option_to_list}
+use Rattle.std.specs.Char.{is_ascii_digit}
+use Rattle.std.specs.Fmt.{decimal}
+use Rattle.std.proofs.lemmas.Fmt.{digits_decimal, decimal_nonempty}
+use Rattle.std.proofs.lemmas.Bool.{cases_Bool}
+use Rattle.std.proofs.lemmas.Bool.Decides.{Decides-eqb}
+use Rattle.text_tokens.specs.Bytes.{is_letter}
+use Rattle.text_tokens.specs.Comments.{opens}
+use Rattle.text_tokens.specs.Lexing.{IsWord, NoWordGoesOn}
+use Rattle.text_tokens.proofs.NumberLaws.{own}
 use Rattle.text_tokens.specs.Pieces.{Piece, text_of, AreApartBefore, AreApart}
 use Rattle.text_tokens.proofs.PieceLaws.{AreApartBefore-append}
-use Rattle.conditions.specs.declared.condition.Quantifier.TheVariants.{Exists}
-use Rattle.litmus_syntax.specs.Views.{PlaceView, Location, Register, EntryView, CodeView, LoadImm, Copy, Load, StoreImm, Store, Fence, CellView, BodyView, SignView, Atom, True, And, Open, Close}
-use Rattle.canonical_text.specs.Spelling.{line_end, valued_pieces, entry_pieces, initial_pieces, next_column, joined, row_end, line_of, column_pieces, header_pieces, code_pieces, cell_pieces, row_pieces, body_pieces, sign_pieces, condition_pieces, lines_pieces, sign, space}
+use Rattle.litmus_syntax.specs.declared.ending.Quantifier.{Quantifier}
+use Rattle.litmus_syntax.specs.declared.ending.Quantifier.TheVariants.{Exists, NotExists, Forall}
+use Rattle.litmus_syntax.specs.Views.{PlaceView, Location, Register, EntryView, CodeView, LoadImm, Copy, Load, StoreImm, Store, Xchg, Fence, CmpImm, CmpReg, Je, Jne, Jmp, CellView, BodyView, SignView, Atom, Const, Not, And, Or, Open, Close, EndingView}
+use Rattle.canonical_text.specs.Spelling.{line_end, next, joined_by, bar, gap, valued_pieces, entry_pieces, initial_pieces, row_end, line_of, column_pieces, header_pieces, code_pieces, label_pieces, cell_pieces, row_pieces, body_pieces, observed_place_pieces, observed_pieces, sign_pieces, condition_pieces, ending_pieces, lines_pieces, sign, space}
 use Rattle.text_tokens.specs.declared.token.Mark.TheVariants as the
-use Rattle.canonical_text.specs.Printable.{IsNumber, IsPrintablePlace, IsPrintableEntry, IsPrintableCode, IsPrintableCell, IsPrintableRow, IsPrintable, IsPrintableSign, begins_with_word, SignsAreApart, ArePrintable}
-use Rattle.canonical_text.proofs.WordsWritten.{mov_word, mfence_word, exists_word, true_word, register_word, column_word}
+use Rattle.canonical_text.specs.Printable.{IsNumber, IsLabelName, IsPrintablePlace, IsPrintableEntry, IsPrintableCode, IsPrintableContent, IsPrintableCell, IsPrintableRow, IsPrintable, IsPrintableSign, begins_with_word, SignsAreApart, ArePrintable, IsPrintableEnding}
+use Rattle.canonical_text.proofs.WordsWritten.{mov_word, xchg_word, mfence_word, cmp_word, je_word, jne_word, jmp_word, locations_word, exists_word, forall_word, true_word, false_word, not_word, register_word, column_word}
 
 -- pieces that can be written before whatever does not go on with a word
 abbrev pub IsApart : List Piece → Type 0
@@ -28,41 +38,50 @@ apart_all f P each (x ∷ xs) h rest =
 -- ---- places and entries
 
 valued_apart : (threads : ℕ) (p : PlaceView) (n : ℕ) → IsNumber threads → IsPrintablePlace threads p → IsNumber n → IsApart (valued_pieces p n)
-valued_apart threads (Location x) n few h hn rest free = ((h.0, refl), (tt, ((hn, free), tt)))
+valued_apart threads (Location x) n few h hn rest free = ((h.0, refl), (refl, ((hn, free), tt)))
 valued_apart threads (Register t r) n few h hn rest free =
     let small : t ≤ 4294967295 = omega (arith, h, few) in
-    ((small, refl), (tt, ((register_word r, refl), (tt, ((hn, free), tt)))))
+    ((small, refl), (refl, ((register_word r, refl), (refl, ((hn, free), tt)))))
 
 entry_apart : (threads : ℕ) → IsNumber threads → (e : EntryView) → IsPrintableEntry threads e → EndsApart (entry_pieces e)
 entry_apart threads few e h rest =
-    (refl, AreApartBefore-append (valued_pieces e.place e.value) (sign the.Semicolon ∷ []) rest (valued_apart threads e.place e.value few h.0 h.1 (59 ∷ rest) refl) (tt, tt))
+    (refl, AreApartBefore-append (valued_pieces e.place e.value) (sign the.Semicolon ∷ []) rest (valued_apart threads e.place e.value few h.0 h.1 (59 ∷ rest) refl) (refl, tt))
 
 initial_apart : (threads : ℕ) → IsNumber threads → (es : List EntryView) → AllByRecursion (IsPrintableEntry threads) es → EndsApart (initial_pieces es)
 initial_apart threads few es h rest =
     let tail : List Piece = space ∷ sign the.CloseBrace ∷ line_end ∷ [] in
-    (tt, AreApartBefore-append (flat_map entry_pieces es) tail rest (apart_all entry_pieces (IsPrintableEntry threads) (entry_apart threads few) es h (text_of tail ++ rest)) (refl, (tt, (refl, tt))))
+    (refl, AreApartBefore-append (flat_map entry_pieces es) tail rest (apart_all entry_pieces (IsPrintableEntry threads) (entry_apart threads few) es h (text_of tail ++ rest)) (refl, (refl, (refl, tt))))
 
--- ---- columns
+-- ---- parts in a line
 
--- a further column begins with a space
-columns_end : (columns : List (List Piece)) (rest : List ℕ) → NoWordGoesOn rest → NoWordGoesOn (text_of (flat_map next_column columns) ++ rest)
-columns_end [] rest free = free
-columns_end (ps ∷ columns) rest free = refl
+-- with a space and more between them
+module _ (more : List Piece) (apart : EndsApart more) where
+  -- a further part begins with a space
+  parts_end : (parts : List (List Piece)) (rest : List ℕ) → NoWordGoesOn rest → NoWordGoesOn (text_of (flat_map (next (space ∷ more)) parts) ++ rest)
+  parts_end [] rest free = free
+  parts_end (ps ∷ parts) rest free = refl
 
-columns_apart : (columns : List (List Piece)) → AllByRecursion IsApart columns → IsApart (flat_map next_column columns)
-columns_apart [] h rest free = tt
-columns_apart (ps ∷ columns) h rest free =
-    AreApartBefore-append (next_column ps) (flat_map next_column columns) rest
-    (refl, (tt, (refl, h.0 (text_of (flat_map next_column columns) ++ rest) (columns_end columns rest free))))
-    (columns_apart columns h.1 rest free)
+  parts_apart : (parts : List (List Piece)) → AllByRecursion IsApart parts → IsApart (flat_map (next (space ∷ more)) parts)
+  parts_apart [] h rest free = tt
+  parts_apart (ps ∷ parts) h rest free =
+      let others : List ℕ = text_of (flat_map (next (space ∷ more)) parts) ++ rest in
+      AreApartBefore-append (next (space ∷ more) ps) (flat_map (next (space ∷ more)) parts) rest
+      (refl, AreApartBefore-append more ps others (apart (text_of ps ++ others)) (h.0 others (parts_end parts rest free)))
+      (parts_apart parts h.1 rest free)
 
-joined_apart : (columns : List (List Piece)) → AllByRecursion IsApart columns → IsApart (joined columns)
-joined_apart [] h rest free = tt
-joined_apart (ps ∷ columns) h rest free =
-    AreApartBefore-append ps (flat_map next_column columns) rest (h.0 (text_of (flat_map next_column columns) ++ rest) (columns_end columns rest free)) (columns_apart columns h.1 rest free)
+  pub joined_apart : (parts : List (List Piece)) → AllByRecursion IsApart parts → IsApart (joined_by (space ∷ more) parts)
+  joined_apart [] h rest free = tt
+  joined_apart (ps ∷ parts) h rest free =
+      AreApartBefore-append ps (flat_map (next (space ∷ more)) parts) rest (h.0 (text_of (flat_map (next (space ∷ more)) parts) ++ rest) (parts_end parts rest free)) (parts_apart parts h.1 rest free)
+
+bars_apart : (columns : List (List Piece)) → AllByRecursion IsApart columns → IsApart (joined_by bar columns)
+bars_apart = joined_apart (sign the.Bar ∷ space ∷ []) (λ rest. (refl, (refl, tt)))
+
+gaps_apart : (parts : List (List Piece)) → AllByRecursion IsApart parts → IsApart (joined_by gap parts)
+gaps_apart = joined_apart [] (λ rest. tt)
 
 line_apart : (columns : List (List Piece)) → AllByRecursion IsApart columns → EndsApart (line_of columns)
-line_apart columns h rest = AreApartBefore-append (joined columns) row_end rest (joined_apart columns h (text_of row_end ++ rest) refl) (refl, (tt, (refl, tt)))
+line_apart columns h rest = AreApartBefore-append (joined_by bar columns) row_end rest (bars_apart columns h (text_of row_end ++ rest) refl) (refl, (refl, (refl, tt)))
 
 names_apart : (k n : ℕ) → k + n ≤ 4294967295 → AllByRecursion IsApart (map column_pieces (range_with_len k n))
 names_apart k zero h = tt
@@ -77,16 +96,29 @@ header_apart threads few = line_apart (map column_pieces (range_with_len 0 threa
 -- ---- rows
 
 code_apart : (c : CodeView) → IsPrintableCode c → IsApart (code_pieces c)
-code_apart (LoadImm r n) h rest free = ((mov_word, refl), (refl, ((register_word r, refl), (tt, (tt, ((h, free), tt))))))
-code_apart (Copy r s) h rest free = ((mov_word, refl), (refl, ((register_word r, refl), (tt, ((register_word s, free), tt)))))
-code_apart (Load r x) h rest free = ((mov_word, refl), (refl, ((register_word r, refl), (tt, (tt, ((h.0, refl), (tt, tt)))))))
-code_apart (StoreImm x n) h rest free = ((mov_word, refl), (refl, (tt, ((h.0.0, refl), (tt, (tt, (tt, ((h.1, free), tt))))))))
-code_apart (Store x r) h rest free = ((mov_word, refl), (refl, (tt, ((h.0, refl), (tt, (tt, ((register_word r, free), tt)))))))
+code_apart (LoadImm r n) h rest free = ((mov_word, refl), (refl, ((register_word r, refl), (refl, (refl, ((h, free), tt))))))
+code_apart (Copy r s) h rest free = ((mov_word, refl), (refl, ((register_word r, refl), (refl, ((register_word s, free), tt)))))
+code_apart (Load r x) h rest free = ((mov_word, refl), (refl, ((register_word r, refl), (refl, (refl, ((h.0, refl), (refl, tt)))))))
+code_apart (StoreImm x n) h rest free = ((mov_word, refl), (refl, (refl, ((h.0.0, refl), (refl, (refl, (refl, ((h.1, free), tt))))))))
+code_apart (Store x r) h rest free = ((mov_word, refl), (refl, (refl, ((h.0, refl), (refl, (refl, ((register_word r, free), tt)))))))
+code_apart (Xchg x r) h rest free = ((xchg_word, refl), (refl, (refl, ((h.0, refl), (refl, (refl, ((register_word r, free), tt)))))))
 code_apart Fence h rest free = ((mfence_word, free), tt)
+code_apart (CmpImm r n) h rest free = ((cmp_word, refl), (refl, ((register_word r, refl), (refl, (refl, ((h, free), tt))))))
+code_apart (CmpReg r s) h rest free = ((cmp_word, refl), (refl, ((register_word r, refl), (refl, ((register_word s, free), tt)))))
+code_apart (Je l) h rest free = ((je_word, refl), (refl, ((h, free), tt)))
+code_apart (Jne l) h rest free = ((jne_word, refl), (refl, ((h, free), tt)))
+code_apart (Jmp l) h rest free = ((jmp_word, refl), (refl, ((h, free), tt)))
+
+content_apart : (c : Option CodeView) → IsPrintableContent c → AllByRecursion IsApart (map code_pieces (option_to_list c))
+content_apart None h = tt
+content_apart (Some c) h = (code_apart c h, tt)
+
+labels_apart : (ls : List (List ℕ)) (parts : List (List Piece)) → AllByRecursion IsLabelName ls → AllByRecursion IsApart parts → AllByRecursion IsApart (map label_pieces ls ++ parts)
+labels_apart [] parts h g = g
+labels_apart (l ∷ ls) parts h g = (λ rest free. ((h.0.0, refl), (refl, tt)), labels_apart ls parts h.1 g)
 
 cell_apart : (c : CellView) → IsPrintableCell c → IsApart (cell_pieces c)
-cell_apart None h rest free = tt
-cell_apart (Some c) h rest free = code_apart c h rest free
+cell_apart c h = gaps_apart (map label_pieces c.labels ++ map code_pieces (option_to_list c.code)) (labels_apart c.labels (map code_pieces (option_to_list c.code)) h.0 (content_apart c.code h.1))
 
 cells_apart : (cs : List CellView) → AllByRecursion IsPrintableCell cs → AllByRecursion IsApart (map cell_pieces cs)
 cells_apart [] h = tt
@@ -103,33 +135,114 @@ body_apart b h rest =
     (AreApartBefore-append (header_pieces b.threads) rows rest (header_apart b.threads h.few_threads (text_of rows ++ rest))
     (apart_all row_pieces (IsPrintableRow b.threads) (row_apart b.threads) b.rows h.rows rest))
 
+-- ---- what is observed
+
+place_apart : (threads : ℕ) → IsNumber threads → (p : PlaceView) → IsPrintablePlace threads p → IsApart (observed_place_pieces p)
+place_apart threads few (Location x) h rest free = ((h.0, refl), (refl, tt))
+place_apart threads few (Register t r) h rest free =
+    let small : t ≤ 4294967295 = omega (arith, h, few) in
+    ((small, refl), (refl, ((register_word r, refl), (refl, tt))))
+
+places_apart : (threads : ℕ) → IsNumber threads → (ps : List PlaceView) → AllByRecursion (IsPrintablePlace threads) ps → AllByRecursion IsApart (map observed_place_pieces ps)
+places_apart threads few [] h = tt
+places_apart threads few (p ∷ ps) h = (place_apart threads few p h.0, places_apart threads few ps h.1)
+
+observed_apart : (threads : ℕ) → IsNumber threads → (ps : List PlaceView) → AllByRecursion (IsPrintablePlace threads) ps → EndsApart (observed_pieces ps)
+observed_apart threads few [] h rest = tt
+observed_apart threads few (p ∷ ps) h rest =
+    let tail : List Piece = sign the.CloseBracket ∷ line_end ∷ [] in (
+      (locations_word, refl),
+      (
+        refl,
+        (
+          refl,
+          AreApartBefore-append (joined_by gap (map observed_place_pieces (p ∷ ps))) tail rest (gaps_apart (map observed_place_pieces (p ∷ ps)) (places_apart threads few (p ∷ ps) h) (text_of tail ++ rest) refl) (refl, (refl, tt)),
+        ),
+      ),
+    )
+
 -- ---- the condition
+
+-- `(` before the text does not begin a comment
+abbrev NoStar : List ℕ → Type 0
+NoStar rest = opens (40 ∷ rest) ≡ false
+
+other_byte : (test : ℕ → Bool) → test 42 ≡ false → (b : ℕ) → test b ≡ true → (b == 42) ≡ false
+other_byte test star b h =
+    elim (cases_Bool (b == 42)) [
+      | inl t ↦ let clash : false ≡ true = sym star ∙ ap test (sym ((Decides-eqb b 42).0 t)) ∙ h in cc
+      | inr f ↦ f
+    ]
+
+word_first : (w more : List ℕ) → IsWord w → NoStar (w ++ more)
+word_first [] more h = absurd (let clash : is_letter 0 ≡ true = h.0 in cc)
+word_first (b ∷ w) more h = other_byte is_letter refl b h.0
+
+front : (a b : Bool) → (a && b) ≡ true → a ≡ true
+front true b h = refl
+front false b h = cc
+
+digits_first : (ds more : List ℕ) → 0 < length ds → list_all is_ascii_digit ds ≡ true → NoStar (ds ++ more)
+digits_first [] more some h = absurd (omega (arith, some))
+digits_first (d ∷ ds) more some h = other_byte is_ascii_digit refl d (front (is_ascii_digit d) (list_all is_ascii_digit ds) h)
+
+number_first : (n : ℕ) (more : List ℕ) → n ≤ 4294967295 → NoStar (decimal n ++ more)
+number_first n more h = let small : n < 2 ^ 64 = omega (arith, h) in digits_first (decimal n) more (decimal_nonempty n small) (digits_decimal own n small)
+
+signs_free : (threads : ℕ) → IsNumber threads → (ss : List SignView) (rest : List ℕ) → AllByRecursion (IsPrintableSign threads) ss → NoStar rest → NoStar (text_of (flat_map sign_pieces ss) ++ rest)
+signs_free threads few [] rest h free = free
+signs_free threads few (Atom (Location x) n ∷ ss) rest h free = rw append_assoc (word_first x _ h.0.0.0)
+signs_free threads few (Atom (Register t r) n ∷ ss) rest h free =
+    let small : t ≤ 4294967295 = omega (arith, h.0.0, few) in
+    rw append_assoc (number_first t _ small)
+signs_free threads few (Const true ∷ ss) rest h free = refl
+signs_free threads few (Const false ∷ ss) rest h free = refl
+signs_free threads few (Not ∷ ss) rest h free = refl
+signs_free threads few (And ∷ ss) rest h free = refl
+signs_free threads few (Or ∷ ss) rest h free = refl
+signs_free threads few (Open ∷ ss) rest h free = refl
+signs_free threads few (Close ∷ ss) rest h free = refl
 
 signs_end : (ss : List SignView) (rest : List ℕ) → begins_with_word ss ≡ false → NoWordGoesOn rest → NoWordGoesOn (text_of (flat_map sign_pieces ss) ++ rest)
 signs_end [] rest e free = free
 signs_end (Atom p n ∷ ss) rest e free = cc
-signs_end (True ∷ ss) rest e free = cc
+signs_end (Const b ∷ ss) rest e free = cc
+signs_end (Not ∷ ss) rest e free = cc
 signs_end (And ∷ ss) rest e free = refl
+signs_end (Or ∷ ss) rest e free = refl
 signs_end (Open ∷ ss) rest e free = refl
 signs_end (Close ∷ ss) rest e free = refl
 
-signs_apart : (threads : ℕ) → IsNumber threads → (ss : List SignView) → AllByRecursion (IsPrintableSign threads) ss → SignsAreApart ss → IsApart (flat_map sign_pieces ss)
-signs_apart threads few [] h g rest free = tt
-signs_apart threads few (Atom p n ∷ ss) h g rest free =
+signs_apart : (threads : ℕ) → IsNumber threads → (ss : List SignView) → AllByRecursion (IsPrintableSign threads) ss → SignsAreApart ss → (rest : List ℕ) → NoWordGoesOn rest → NoStar rest
+    → AreApartBefore (flat_map sign_pieces ss) rest
+signs_apart threads few [] h g rest free star = tt
+signs_apart threads few (Atom p n ∷ ss) h g rest free star =
     AreApartBefore-append (valued_pieces p n) (flat_map sign_pieces ss) rest
     (valued_apart threads p n few h.0.0 h.0.1 (text_of (flat_map sign_pieces ss) ++ rest) (signs_end ss rest g.0 free))
-    (signs_apart threads few ss h.1 g.1 rest free)
-signs_apart threads few (True ∷ ss) h g rest free = ((true_word, signs_end ss rest g.0 free), signs_apart threads few ss h.1 g.1 rest free)
-signs_apart threads few (And ∷ ss) h g rest free = (refl, (tt, (refl, signs_apart threads few ss h.1 g rest free)))
-signs_apart threads few (Open ∷ ss) h g rest free = (tt, signs_apart threads few ss h.1 g rest free)
-signs_apart threads few (Close ∷ ss) h g rest free = (tt, signs_apart threads few ss h.1 g rest free)
+    (signs_apart threads few ss h.1 g.1 rest free star)
+signs_apart threads few (Const true ∷ ss) h g rest free star = ((true_word, signs_end ss rest g.0 free), signs_apart threads few ss h.1 g.1 rest free star)
+signs_apart threads few (Const false ∷ ss) h g rest free star = ((false_word, signs_end ss rest g.0 free), signs_apart threads few ss h.1 g.1 rest free star)
+signs_apart threads few (Not ∷ ss) h g rest free star = ((not_word, refl), (refl, signs_apart threads few ss h.1 g rest free star))
+signs_apart threads few (And ∷ ss) h g rest free star = (refl, (refl, (refl, signs_apart threads few ss h.1 g rest free star)))
+signs_apart threads few (Or ∷ ss) h g rest free star = (refl, (refl, (refl, signs_apart threads few ss h.1 g rest free star)))
+signs_apart threads few (Open ∷ ss) h g rest free star = (signs_free threads few ss rest h.1 star, signs_apart threads few ss h.1 g rest free star)
+signs_apart threads few (Close ∷ ss) h g rest free star = (refl, signs_apart threads few ss h.1 g rest free star)
 
-condition_apart : (threads : ℕ) → IsNumber threads → (ss : List SignView) → ArePrintable threads ss → AreApart (condition_pieces Exists ss)
-condition_apart threads few ss h =
-    ((exists_word, refl), (refl, AreApartBefore-append (flat_map sign_pieces ss) (line_end ∷ []) [] (signs_apart threads few ss h.0 h.1 (10 ∷ []) refl) (refl, tt)))
+condition_apart : (threads : ℕ) → IsNumber threads → (q : Quantifier) (ss : List SignView) → ArePrintable threads ss → AreApart (condition_pieces q ss)
+condition_apart threads few q ss h = go q
+  where
+    behind : AreApartBefore (space ∷ (flat_map sign_pieces ss ++ line_end ∷ [])) []
+    behind = (refl, AreApartBefore-append (flat_map sign_pieces ss) (line_end ∷ []) [] (signs_apart threads few ss h.0 h.1 (10 ∷ []) refl refl) (refl, tt))
+
+    go : (q : Quantifier) → AreApart (condition_pieces q ss)
+    go Exists = ((exists_word, refl), behind)
+    go NotExists = (refl, ((exists_word, refl), behind))
+    go Forall = ((forall_word, refl), behind)
 
 -- ---- the whole
 
-pub lines_apart : (b : BodyView) (ss : List SignView) → IsPrintable b → ArePrintable b.threads ss → AreApart (lines_pieces b Exists ss)
-lines_apart b ss h g =
-    AreApartBefore-append (body_pieces b) (condition_pieces Exists ss) [] (body_apart b h (text_of (condition_pieces Exists ss) ++ [])) (condition_apart b.threads h.few_threads ss g)
+pub lines_apart : (b : BodyView) (e : EndingView) → IsPrintable b → IsPrintableEnding b.threads e → AreApart (lines_pieces b e)
+lines_apart b e h g =
+    let condition : List Piece = condition_pieces e.quantifier e.signs in
+    AreApartBefore-append (body_pieces b) (ending_pieces e) [] (body_apart b h (text_of (ending_pieces e) ++ []))
+    (AreApartBefore-append (observed_pieces e.observed) condition [] (observed_apart b.threads h.few_threads e.observed g.observed (text_of condition ++ [])) (condition_apart b.threads h.few_threads e.quantifier e.signs g.signs))

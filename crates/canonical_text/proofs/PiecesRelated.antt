@@ -1,18 +1,22 @@
 -- The tokens of printed parts are related to those parts by the grammar.
-use Rattle.std.proofs.Common.{◌≡◌, ℕ, ◌+◌, ◌<◌, zero, suc, true, List, [], ◌∷◌, ◌++◌, map, codes, Some, None, inl, refl, sym, ap, ◌∙◌, subst, arith, append_assoc}
+use Rattle.std.proofs.Common.{◌≡◌, ℕ, ◌+◌, ◌<◌, zero, suc, true, false, List, [], ◌∷◌, ◌++◌, map, codes, Option, Some, None, inl, inr, refl, sym, ap, ◌∙◌, subst, arith, append_assoc}
+use Rattle.std.specs.Option.{option_to_list}
+use Rattle.std.proofs.lemmas.List.{append-nil}
 use Rattle.std.specs.List.{AllByRecursion, flat_map, range_with_len}
 use Rattle.std.proofs.lemmas.List.Elements.{All-from_recursion}
 use Rattle.text_tokens.specs.declared.token.Mark.TheVariants as the
 use Rattle.text_tokens.specs.Tokens.{Tok, Sign}
 use Rattle.text_tokens.specs.Pieces.{Piece, tokens_of}
-use Rattle.conditions.specs.declared.condition.Quantifier.TheVariants.{Exists}
-use Rattle.litmus_syntax.specs.Views.{PlaceView, Location, Register, EntryView, CodeView, LoadImm, Copy, Load, StoreImm, Store, Fence, CellView, BodyView, SignView, Atom, True, And, Open, Close}
-use Rattle.litmus_syntax.specs.Phrases.{Phrase, ◌▸◌, mark, number, Items, end, item}
-use Rattle.litmus_syntax.specs.Grammar.{IsPlace, IsEntryItem, NoneTwice, place_of, IsInitial, HasThread, MoreColumns, last, column, IsHeader, IsCode, ends_cell, IsCell, IsNextCell, IsRow, before_condition, IsRows, IsBody, IsSign, the_end, IsSigns}
+use Rattle.litmus_syntax.specs.declared.ending.Quantifier.{Quantifier}
+use Rattle.litmus_syntax.specs.declared.ending.Quantifier.TheVariants.{Exists, NotExists, Forall}
+use Rattle.litmus_syntax.specs.Views.{PlaceView, Location, Register, EntryView, CodeView, LoadImm, Copy, Load, StoreImm, Store, Xchg, Fence, CmpImm, CmpReg, Je, Jne, Jmp, CellView, BodyView, SignView, Atom, Const, Not, And, Or, Open, Close, EndingView}
+use Rattle.litmus_syntax.specs.Words.{mnemonic_of}
+use Rattle.litmus_syntax.specs.Phrases.{Phrase, ◌▸◌, mark, number, begins_with_word, Items, end, item}
+use Rattle.litmus_syntax.specs.Grammar.{IsPlace, IsEntryItem, NoneTwice, place_of, IsInitial, HasThread, MoreColumns, last, column, IsHeader, IsCode, IsLabel, IsContent, ends_cell, IsCell, IsNextCell, IsRow, ends_rows, before_ending, IsRows, IsBody, IsObservedItem, IsObserved, IsQuantifier, IsSign, the_end, IsSigns, IsEnding}
 use Rattle.litmus_text.specs.Outcomes.{register_name}
-use Rattle.canonical_text.specs.Spelling.{space, line_end, sign, valued_pieces, entry_pieces, initial_pieces, next_column, row_end, column_pieces, header_pieces, code_pieces, cell_pieces, row_pieces, sign_pieces, condition_pieces, lines_pieces}
-use Rattle.canonical_text.specs.Printable.{IsPrintablePlace, IsPrintableEntry, IsPrintableCode, IsPrintableCell, IsPrintableRow, IsPrintable, IsPrintableSign, ArePrintable}
-use Rattle.canonical_text.proofs.WordsWritten.{moves, fences, opens, register_named}
+use Rattle.canonical_text.specs.Spelling.{space, line_end, sign, next, joined_by, bar, gap, place_pieces, valued_pieces, entry_pieces, initial_pieces, row_end, column_pieces, header_pieces, code_pieces, label_pieces, cell_pieces, row_pieces, observed_place_pieces, observed_pieces, sign_pieces, condition_pieces, ending_pieces, lines_pieces}
+use Rattle.canonical_text.specs.Printable.{IsLabelName, IsPrintablePlace, IsPrintableEntry, IsPrintableCode, IsPrintableContent, IsPrintableCell, IsPrintableRow, IsPrintable, IsPrintableSign, ArePrintable, IsPrintableEnding}
+use Rattle.canonical_text.proofs.WordsWritten.{opens, opens_all, opens_locations, register_named}
 
 -- items one after another
 items_related : {X : Type 0} (f : X → List Piece) (Item : X → Phrase) (End : Phrase) (P : X → Type 0)
@@ -23,7 +27,31 @@ items_related f Item End P each [] h ps rest e = end e
 items_related f Item End P each (x ∷ xs) h ps rest e =
     rw (append_assoc (f x) (flat_map f xs) ps) (item (each x (flat_map f xs ++ ps) h.0) (items_related f Item End P each xs h.1 ps rest e))
 
+-- items with a space before each
+spaced_related : {X : Type 0} (f : X → List Piece) (Item : X → Phrase) (End : Phrase) (P : X → Type 0)
+    → ((x : X) (ps : List Piece) → P x → Item x (tokens_of (f x ++ ps)) (tokens_of ps))
+    → (xs : List X) → AllByRecursion P xs → (ps : List Piece) (rest : List Tok) → End (tokens_of ps) rest
+    → Items Item End xs (tokens_of (flat_map (next gap) (map f xs) ++ ps)) rest
+spaced_related f Item End P each [] h ps rest e = end e
+spaced_related f Item End P each (x ∷ xs) h ps rest e =
+    let more : List Piece = flat_map (next gap) (map f xs) in
+    rw (append_assoc (f x) more ps) (item (each x (more ++ ps) h.0) (spaced_related f Item End P each xs h.1 ps rest e))
+
+-- items with a space between them
+joined_related : {X : Type 0} (f : X → List Piece) (Item : X → Phrase) (End : Phrase) (P : X → Type 0)
+    → ((x : X) (ps : List Piece) → P x → Item x (tokens_of (f x ++ ps)) (tokens_of ps))
+    → (xs : List X) → AllByRecursion P xs → (ps : List Piece) (rest : List Tok) → End (tokens_of ps) rest
+    → Items Item End xs (tokens_of (joined_by gap (map f xs) ++ ps)) rest
+joined_related f Item End P each [] h ps rest e = end e
+joined_related f Item End P each (x ∷ xs) h ps rest e =
+    let more : List Piece = flat_map (next gap) (map f xs) in
+    rw (append_assoc (f x) more ps) (item (each x (more ++ ps) h.0) (spaced_related f Item End P each xs h.1 ps rest e))
+
 -- ---- places and entries
+
+place_related : (threads : ℕ) (p : PlaceView) (ps : List Piece) → IsPrintablePlace threads p → IsPlace p (tokens_of (place_pieces p ++ ps)) (tokens_of ps)
+place_related threads (Location x) ps h = inl (h.1, refl)
+place_related threads (Register t r) ps h = (_, refl, (_, refl, (register_name r, register_named r, refl)))
 
 -- a place, `=` and a number
 valued_related : (threads : ℕ) (p : PlaceView) (n : ℕ) (ps : List Piece) → IsPrintablePlace threads p
@@ -54,7 +82,7 @@ have_threads threads (e ∷ es) h = (has_thread threads e.place h.0.0, have_thre
 -- ---- the header row
 
 columns_related : (k n threads : ℕ) → k + n ≡ threads → (ps : List Piece)
-    → MoreColumns k threads (tokens_of ((flat_map next_column (map column_pieces (range_with_len k n)) ++ row_end) ++ ps)) (tokens_of ps)
+    → MoreColumns k threads (tokens_of ((flat_map (next bar) (map column_pieces (range_with_len k n)) ++ row_end) ++ ps)) (tokens_of ps)
 columns_related k zero threads e ps = let all : k ≡ threads = omega (arith, e) in last all refl
 columns_related k (suc n) threads e ps = let more : (k + 1) + n ≡ threads = omega (arith, e) in column (_, refl, refl) (columns_related (k + 1) n threads more ps)
 
@@ -65,70 +93,137 @@ header_related (suc n) h ps = let all : 1 + n ≡ suc n = omega arith in (_, ref
 -- ---- rows
 
 code_related : (c : CodeView) (ps : List Piece) → IsPrintableCode c → IsCode c (tokens_of (code_pieces c ++ ps)) (tokens_of ps)
-code_related (LoadImm r n) ps h = (_, (codes "MOV", moves, refl), (_, (register_name r, register_named r, refl), (_, refl, inl (_, refl, refl))))
-code_related (Copy r s) ps h = (_, (codes "MOV", moves, refl), (_, (register_name r, register_named r, refl), (_, refl, (register_name s, register_named s, refl))))
-code_related (Load r x) ps h = (_, (codes "MOV", moves, refl), (_, (register_name r, register_named r, refl), (_, refl, (_, refl, (_, (h.1, refl), refl)))))
-code_related (StoreImm x n) ps h = (_, (codes "MOV", moves, refl), (_, (_, refl, (_, (h.0.1, refl), refl)), (_, refl, inl (_, refl, refl))))
-code_related (Store x r) ps h = (_, (codes "MOV", moves, refl), (_, (_, refl, (_, (h.1, refl), refl)), (_, refl, (register_name r, register_named r, refl))))
-code_related Fence ps h = (codes "MFENCE", fences, refl)
+unfolding mnemonic_of
+code_related (LoadImm r n) ps h = (_, (codes "MOV", refl, refl), (_, (register_name r, register_named r, refl), (_, refl, inl (_, refl, refl))))
+code_related (Copy r s) ps h = (_, (codes "MOV", refl, refl), (_, (register_name r, register_named r, refl), (_, refl, (register_name s, register_named s, refl))))
+code_related (Load r x) ps h = (_, (codes "MOV", refl, refl), (_, (register_name r, register_named r, refl), (_, refl, (_, refl, (_, (h.1, refl), refl)))))
+code_related (StoreImm x n) ps h = (_, (codes "MOV", refl, refl), (_, (_, refl, (_, (h.0.1, refl), refl)), (_, refl, inl (_, refl, refl))))
+code_related (Store x r) ps h = (_, (codes "MOV", refl, refl), (_, (_, refl, (_, (h.1, refl), refl)), (_, refl, (register_name r, register_named r, refl))))
+code_related (Xchg x r) ps h = (_, (codes "XCHG", refl, refl), inl (_, (_, refl, (_, (h.1, refl), refl)), (_, refl, (register_name r, register_named r, refl))))
+code_related Fence ps h = (codes "MFENCE", refl, refl)
+code_related (CmpImm r n) ps h = (_, (codes "CMP", refl, refl), (_, (register_name r, register_named r, refl), (_, refl, inl (_, refl, refl))))
+code_related (CmpReg r s) ps h = (_, (codes "CMP", refl, refl), (_, (register_name r, register_named r, refl), (_, refl, (register_name s, register_named s, refl))))
+code_related (Je l) ps h = (_, (codes "JE", refl, refl), refl)
+code_related (Jne l) ps h = (_, (codes "JNE", refl, refl), refl)
+code_related (Jmp l) ps h = (_, (codes "JMP", refl, refl), refl)
+
+-- further labels, and then an instruction or nothing
+labelled_related : (ls : List (List ℕ)) (c : Option CodeView) (ps : List Piece) → AllByRecursion IsLabelName ls → IsPrintableContent c → ends_cell (tokens_of ps) ≡ true
+    → Items IsLabel (IsContent c) ls (tokens_of (flat_map (next gap) (map label_pieces ls ++ map code_pieces (option_to_list c)) ++ ps)) (tokens_of ps)
+labelled_related [] None ps h g e = end (refl, e)
+labelled_related [] (Some c) ps h g e = rw (append-nil (code_pieces c)) (end (code_related c ps g, e))
+labelled_related (l ∷ ls) c ps h g e = item (h.0.1, (_, refl, refl)) (labelled_related ls c ps h.1 g e)
+
+content_related : (ls : List (List ℕ)) (c : Option CodeView) (ps : List Piece) → AllByRecursion IsLabelName ls → IsPrintableContent c → ends_cell (tokens_of ps) ≡ true
+    → Items IsLabel (IsContent c) ls (tokens_of (joined_by gap (map label_pieces ls ++ map code_pieces (option_to_list c)) ++ ps)) (tokens_of ps)
+content_related [] None ps h g e = end (refl, e)
+content_related [] (Some c) ps h g e = rw (append-nil (code_pieces c)) (end (code_related c ps g, e))
+content_related (l ∷ ls) c ps h g e = item (h.0.1, (_, refl, refl)) (labelled_related ls c ps h.1 g e)
 
 cell_related : (c : CellView) (ps : List Piece) → IsPrintableCell c → ends_cell (tokens_of ps) ≡ true → IsCell c (tokens_of (cell_pieces c ++ ps)) (tokens_of ps)
-cell_related None ps h e = (refl, e)
-cell_related (Some c) ps h e = (code_related c ps h, e)
+cell_related c ps h e = content_related c.labels c.code ps h.0 h.1 e
 
 -- behind a cell comes `|` or `;`
-cells_end : (cs : List CellView) (ps : List Piece) → ends_cell (tokens_of (flat_map next_column (map cell_pieces cs) ++ (row_end ++ ps))) ≡ true
+cells_end : (cs : List CellView) (ps : List Piece) → ends_cell (tokens_of (flat_map (next bar) (map cell_pieces cs) ++ (row_end ++ ps))) ≡ true
 cells_end [] ps = refl
 cells_end (c ∷ cs) ps = refl
 
 cells_related : (cs : List CellView) (ps : List Piece) → AllByRecursion IsPrintableCell cs
-    → Items IsNextCell (mark the.Semicolon) cs (tokens_of (flat_map next_column (map cell_pieces cs) ++ (row_end ++ ps))) (tokens_of ps)
+    → Items IsNextCell (mark the.Semicolon) cs (tokens_of (flat_map (next bar) (map cell_pieces cs) ++ (row_end ++ ps))) (tokens_of ps)
 cells_related [] ps h = end refl
 cells_related (c ∷ cs) ps h =
-    let more : List Piece = flat_map next_column (map cell_pieces cs) in
+    let more : List Piece = flat_map (next bar) (map cell_pieces cs) in
     rw (append_assoc (cell_pieces c) more (row_end ++ ps))
     (item (_, refl, cell_related c (more ++ (row_end ++ ps)) h.0 (cells_end cs ps)) (cells_related cs ps h.1))
 
 row_related : (threads : ℕ) → 0 < threads → (cells : List CellView) (ps : List Piece) → IsPrintableRow threads cells → IsRow threads cells (tokens_of (row_pieces cells ++ ps)) (tokens_of ps)
 row_related threads some [] ps h = absurd (omega (arith, some, h.0))
 row_related threads some (c ∷ cs) ps h =
-    let more : List Piece = flat_map next_column (map cell_pieces cs) in (
+    let more : List Piece = flat_map (next bar) (map cell_pieces cs) in (
       h.0,
       rw (append_assoc (cell_pieces c ++ more) row_end ps, append_assoc (cell_pieces c) more (row_end ++ ps))
           (_, cell_related c (more ++ (row_end ++ ps)) h.1.0 (cells_end cs ps), cells_related cs ps h.1.1),
+    )
+
+-- ---- what is observed
+
+observed_item_related : (threads : ℕ) (p : PlaceView) (ps : List Piece) → IsPrintablePlace threads p → IsObservedItem threads p (tokens_of (observed_place_pieces p ++ ps)) (tokens_of ps)
+observed_item_related threads p ps h =
+    (has_thread threads p h, rw (append_assoc (place_pieces p) (sign the.Semicolon ∷ []) ps) (Sign the.Semicolon ∷ tokens_of ps, place_related threads p (sign the.Semicolon ∷ ps) h, inl refl))
+
+no_locations : (q : Quantifier) (ss : List SignView) → begins_with_word (codes "locations") (tokens_of (condition_pieces q ss)) ≡ false
+no_locations Exists ss = refl
+no_locations NotExists ss = refl
+no_locations Forall ss = refl
+
+observed_related : (threads : ℕ) (places : List PlaceView) (q : Quantifier) (ss : List SignView) → AllByRecursion (IsPrintablePlace threads) places
+    → IsObserved threads places (tokens_of (observed_pieces places ++ condition_pieces q ss)) (tokens_of (condition_pieces q ss))
+observed_related threads [] q ss h = inr (refl, (refl, no_locations q ss))
+observed_related threads (p ∷ places) q ss h =
+    let tail : List Piece = sign the.CloseBracket ∷ line_end ∷ [] in
+    let condition : List Piece = condition_pieces q ss in
+    inl (
+      _,
+      refl,
+      (
+        _,
+        refl,
+        rw (append_assoc (joined_by gap (map observed_place_pieces (p ∷ places))) tail condition)
+            (joined_related observed_place_pieces (IsObservedItem threads) (mark the.CloseBracket) (IsPrintablePlace threads) (observed_item_related threads) (p ∷ places) h (tail ++ condition) (tokens_of condition) refl),
+      ),
     )
 
 -- ---- the condition
 
 sign_related : (threads : ℕ) (s : SignView) (ps : List Piece) → IsPrintableSign threads s → IsSign threads s (tokens_of (sign_pieces s ++ ps)) (tokens_of ps)
 sign_related threads (Atom p n) ps h = (has_thread threads p h.0, valued_related threads p n ps h.0)
-sign_related threads True ps h = refl
+sign_related threads (Const true) ps h = refl
+sign_related threads (Const false) ps h = refl
+sign_related threads Not ps h = inl refl
 sign_related threads And ps h = refl
+sign_related threads Or ps h = refl
 sign_related threads Open ps h = refl
 sign_related threads Close ps h = refl
 
-pub condition_related : (threads : ℕ) (ss : List SignView) → ArePrintable threads ss → IsSigns threads ss (tokens_of (condition_pieces Exists ss))
-condition_related threads ss h =
-    (_, refl, items_related sign_pieces (IsSign threads) the_end (IsPrintableSign threads) (sign_related threads) ss h.0 (line_end ∷ []) [] (refl, refl))
+signs_related : (threads : ℕ) (ss : List SignView) → ArePrintable threads ss → IsSigns threads ss (tokens_of (flat_map sign_pieces ss ++ line_end ∷ [])) []
+signs_related threads ss h = items_related sign_pieces (IsSign threads) the_end (IsPrintableSign threads) (sign_related threads) ss h.0 (line_end ∷ []) [] (refl, refl)
+
+condition_related : (threads : ℕ) (q : Quantifier) (ss : List SignView) → ArePrintable threads ss → (IsQuantifier q ▸ IsSigns threads ss) (tokens_of (condition_pieces q ss)) []
+condition_related threads Exists ss h = (_, refl, signs_related threads ss h)
+condition_related threads NotExists ss h = (_, (_, refl, refl), signs_related threads ss h)
+condition_related threads Forall ss h = (_, refl, signs_related threads ss h)
+
+pub ending_related : (threads : ℕ) (e : EndingView) → IsPrintableEnding threads e → IsEnding threads e (tokens_of (ending_pieces e))
+ending_related threads e h =
+    (tokens_of (condition_pieces e.quantifier e.signs), observed_related threads e.observed e.quantifier e.signs h.observed, condition_related threads e.quantifier e.signs h.signs)
 
 -- ---- the whole
 
-rows_related : (b : BodyView) (ss : List SignView) → IsPrintable b → IsRows b.threads b.rows (tokens_of (flat_map row_pieces b.rows ++ condition_pieces Exists ss)) (tokens_of (condition_pieces Exists ss))
-rows_related b ss h =
-    items_related row_pieces (IsRow b.threads) before_condition (IsPrintableRow b.threads) (row_related b.threads h.some_thread) b.rows h.rows (condition_pieces Exists ss) (tokens_of (condition_pieces Exists ss)) (refl, opens)
+ending_opens : (places : List PlaceView) (q : Quantifier) (ss : List SignView) → ends_rows (tokens_of (observed_pieces places ++ condition_pieces q ss)) ≡ true
+ending_opens [] Exists ss = opens
+ending_opens [] NotExists ss = refl
+ending_opens [] Forall ss = opens_all
+ending_opens (p ∷ places) q ss = opens_locations
 
-pub body_related : (b : BodyView) (ss : List SignView) → IsPrintable b → IsBody b (tokens_of (lines_pieces b Exists ss)) (tokens_of (condition_pieces Exists ss))
-body_related b ss h =
-    let condition : List Piece = condition_pieces Exists ss in
+rows_related : (b : BodyView) (e : EndingView) → IsPrintable b → IsRows b.threads b.rows (tokens_of (flat_map row_pieces b.rows ++ ending_pieces e)) (tokens_of (ending_pieces e))
+rows_related b e h = (
+  items_related row_pieces (IsRow b.threads) before_ending (IsPrintableRow b.threads) (row_related b.threads h.some_thread) b.rows h.rows (ending_pieces e) (tokens_of (ending_pieces e))
+      (refl, ending_opens e.observed e.quantifier e.signs),
+  h.labels_once,
+)
+
+pub body_related : (b : BodyView) (e : EndingView) → IsPrintable b → IsBody b (tokens_of (lines_pieces b e)) (tokens_of (ending_pieces e))
+body_related b e h =
+    let ending : List Piece = ending_pieces e in
     let rows : List Piece = flat_map row_pieces b.rows in
     let header : List Piece = header_pieces b.threads in
     let initial : List Piece = initial_pieces b.entries in
-    let same : initial ++ (header ++ (rows ++ condition)) ≡ (initial ++ (header ++ rows)) ++ condition =
-    ap (λ (ps : List Piece). initial ++ ps) (sym (append_assoc header rows condition)) ∙ sym (append_assoc initial (header ++ rows) condition) in
-    let parts : List Piece → Type 0 = λ ps. (IsInitial b.entries ▸ IsHeader b.threads ▸ IsRows b.threads b.rows) (tokens_of ps) (tokens_of condition) in
-    let related : parts (initial ++ (header ++ (rows ++ condition))) = (
-      tokens_of (header ++ (rows ++ condition)),
-      initial_related b.threads b.entries (header ++ (rows ++ condition)) h.entries h.none_twice,
-      (tokens_of (rows ++ condition), header_related b.threads h.some_thread (rows ++ condition), rows_related b ss h),
+    let same : initial ++ (header ++ (rows ++ ending)) ≡ (initial ++ (header ++ rows)) ++ ending =
+    ap (λ (ps : List Piece). initial ++ ps) (sym (append_assoc header rows ending)) ∙ sym (append_assoc initial (header ++ rows) ending) in
+    let parts : List Piece → Type 0 = λ ps. (IsInitial b.entries ▸ IsHeader b.threads ▸ IsRows b.threads b.rows) (tokens_of ps) (tokens_of ending) in
+    let related : parts (initial ++ (header ++ (rows ++ ending))) = (
+      tokens_of (header ++ (rows ++ ending)),
+      initial_related b.threads b.entries (header ++ (rows ++ ending)) h.entries h.none_twice,
+      (tokens_of (rows ++ ending), header_related b.threads h.some_thread (rows ++ ending), rows_related b e h),
     ) in
     (subst parts same related, All-from_recursion (HasThread b.threads) (map place_of b.entries) (have_threads b.threads b.entries h.entries))

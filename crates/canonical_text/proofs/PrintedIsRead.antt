@@ -4,12 +4,13 @@ use Rattle.std.proofs.lemmas.Str.{IsUtf8-from_ascii, IsAscii-append}
 use Rattle.std.proofs.lemmas.List.{append-nil}
 use Rattle.text_tokens.specs.Pieces.{text_of, tokens_of, AreApart}
 use Rattle.text_tokens.proofs.PieceLaws.{pieces_lex}
-use Rattle.conditions.specs.declared.condition.Quantifier.TheVariants.{Exists}
+use Rattle.text_tokens.specs.Space.{nothing}
 use Rattle.litmus_text.specs.FirstLine.{is_visible, AreSome, IsFirstLine}
-use Rattle.canonical_text.specs.Spelling.{lines_pieces, condition_pieces, heading}
+use Rattle.litmus_text.specs.SkippedLines.{brace}
+use Rattle.canonical_text.specs.Spelling.{lines_pieces, ending_pieces, heading}
 use Rattle.canonical_text.specs.Laws.{PrintedPartsAreRead}
 use Rattle.canonical_text.proofs.PiecesApart.{lines_apart}
-use Rattle.canonical_text.proofs.PiecesRelated.{body_related, condition_related}
+use Rattle.canonical_text.proofs.PiecesRelated.{body_related, ending_related}
 use Rattle.canonical_text.proofs.AsciiTexts.{ascii_pieces, ascii_heading}
 
 -- the first line gives the name
@@ -20,15 +21,16 @@ heading_read name rest h =
     (codes "X86 " ++ name, whole, (32 ∷ [], [], same, (lit< tt, refl), h, refl))
 
 pub printed_is_read : PrintedPartsAreRead
-printed_is_read name body signs named h g =
-    let apart : AreApart (lines_pieces body Exists signs) = lines_apart body signs h g in
+printed_is_read name body ending named h g =
+    let apart : AreApart (lines_pieces body ending) = lines_apart body ending h g in
     record {
-      lines = text_of (lines_pieces body Exists signs);
-      tokens = tokens_of (lines_pieces body Exists signs);
-      others = tokens_of (condition_pieces Exists signs);
-      utf8 = IsUtf8-from_ascii _ (IsAscii-append (heading name) (text_of (lines_pieces body Exists signs)) (ascii_heading name named.1) (ascii_pieces (lines_pieces body Exists signs) [] apart));
-      first_line = heading_read name (text_of (lines_pieces body Exists signs)) named;
-      lexes = pieces_lex (lines_pieces body Exists signs) apart;
-      begins = body_related body signs h;
-      ends = condition_related body.threads signs g;
+      lines = text_of (lines_pieces body ending);
+      tokens = tokens_of (lines_pieces body ending);
+      others = tokens_of (ending_pieces ending);
+      utf8 = IsUtf8-from_ascii _ (IsAscii-append (heading name) (text_of (lines_pieces body ending)) (ascii_heading name named.1) (ascii_pieces (lines_pieces body ending) [] apart));
+      first_line = heading_read name (text_of (lines_pieces body ending)) named;
+      skipped = brace (nothing refl refl) refl;
+      lexes = pieces_lex (lines_pieces body ending) apart;
+      begins = body_related body ending h;
+      ends = ending_related body.threads ending g;
     }

@@ -1,6 +1,6 @@
 -- The condition: its canonical signs, named again, spell the same formula.
-use Rattle.std.proofs.Common.{◌≡◌, ℕ, Bool, true, false, List, [], ◌∷◌, ◌++◌, map, Option, Some, refl, sym, ap, ◌∙◌, subst, append_assoc}
-use Rattle.std.specs.List.{AllByRecursion, IsDistinct, flat_map, filter_map, cons_option}
+use Rattle.std.proofs.Common.{◌≡◌, ℕ, false, List, [], ◌∷◌, ◌++◌, map, refl, sym, ap, ◌∙◌, subst, append_assoc}
+use Rattle.std.specs.List.{AllByRecursion, IsDistinct, flat_map}
 use Rattle.std.specs.Str.{bytes_eq}
 use Rattle.std.proofs.lemmas.List.{append-nil}
 use Rattle.conditions.specs.Tree.{Tree, tree_map}
@@ -27,85 +27,126 @@ Said = PlaceView × ℕ
 -- the sign as a text has it
 abbrev pub view_of : Sign Said → SignView
 view_of (sign.Atom a) = view.Atom a.0 a.1
-view_of (sign.Const b) = view.True
-view_of sign.Not = view.True
+view_of (sign.Const b) = view.Const b
+view_of sign.Not = view.Not
 view_of sign.And = view.And
-view_of sign.Or = view.And
+view_of sign.Or = view.Or
 view_of sign.Open = view.Open
 view_of sign.Close = view.Close
+
+pub sign_again : (s : Sign Said) → meaning.sign_of (view_of s) ≡ s
+sign_again (sign.Atom a) = refl
+sign_again (sign.Const b) = refl
+sign_again sign.Not = refl
+sign_again sign.And = refl
+sign_again sign.Or = refl
+sign_again sign.Open = refl
+sign_again sign.Close = refl
+
+signs_again : (ss : List (Sign Said)) → map meaning.sign_of (map view_of ss) ≡ ss
+signs_again [] = refl
+signs_again (s ∷ ss) = ap (λ (x : Sign Said). x ∷ map meaning.sign_of (map view_of ss)) (sign_again s) ∙ ap (λ (xs : List (Sign Said)). s ∷ xs) (signs_again ss)
+
+-- the canonical signs spell the formula
+pub spelled_again : (f : Tree Said) → Spells Sum f (map meaning.sign_of (map view_of (enclosed_signs_of f))) []
+spelled_again f = subst (λ (ss : List (Sign Said)). Spells Sum f ss []) (sym (signs_again (enclosed_signs_of f))) (canonical_spell f).1
+
+-- ---- they stand apart
+
+regroup_and : (f g : Tree Said) (rest : List (Sign Said))
+    → signs_of f ++ (sign.And ∷ (signs_of g ++ (sign.Close ∷ rest))) ≡ (signs_of f ++ (sign.And ∷ (signs_of g ++ sign.Close ∷ []))) ++ rest
+regroup_and f g rest = simp append_assoc
+
+regroup_or : (f g : Tree Said) (rest : List (Sign Said))
+    → signs_of f ++ (sign.Or ∷ (signs_of g ++ (sign.Close ∷ rest))) ≡ (signs_of f ++ (sign.Or ∷ (signs_of g ++ sign.Close ∷ []))) ++ rest
+regroup_or f g rest = simp append_assoc
+
+apart_before : (f : Tree Said) (rest : List (Sign Said)) → begins_with_word (map view_of rest) ≡ false → SignsAreApart (map view_of rest) → SignsAreApart (map view_of (signs_of f ++ rest))
+apart_before (tree.Atom a) rest e free = (e, free)
+apart_before (tree.Const b) rest e free = (e, free)
+apart_before (tree.Not f) rest e free = apart_before f rest e free
+apart_before (tree.And f g) rest e free =
+    let inner = apart_before f (sign.And ∷ (signs_of g ++ (sign.Close ∷ rest))) refl (apart_before g (sign.Close ∷ rest) refl free) in
+    subst (λ (ss : List (Sign Said)). SignsAreApart (map view_of ss)) (regroup_and f g rest) inner
+apart_before (tree.Or f g) rest e free =
+    let inner = apart_before f (sign.Or ∷ (signs_of g ++ (sign.Close ∷ rest))) refl (apart_before g (sign.Close ∷ rest) refl free) in
+    subst (λ (ss : List (Sign Said)). SignsAreApart (map view_of ss)) (regroup_or f g rest) inner
+
+apart_alone : (f : Tree Said) → SignsAreApart (map view_of (signs_of f))
+apart_alone f = subst (λ (ss : List (Sign Said)). SignsAreApart (map view_of ss)) (append-nil (signs_of f)) (apart_before f [] refl tt)
+
+pub enclosed_apart : (f : Tree Said) → SignsAreApart (map view_of (enclosed_signs_of f))
+enclosed_apart (tree.Atom a) = apart_before (tree.Atom a) (sign.Close ∷ []) refl tt
+enclosed_apart (tree.Const b) = apart_before (tree.Const b) (sign.Close ∷ []) refl tt
+enclosed_apart (tree.Not f) = apart_before (tree.Not f) (sign.Close ∷ []) refl tt
+enclosed_apart (tree.And f g) = apart_alone (tree.And f g)
+enclosed_apart (tree.Or f g) = apart_alone (tree.Or f g)
 
 module _ (names : List (List ℕ)) (named : Named) (threads : ℕ) where
   -- a place that is named, and that can be printed with its value
   abbrev pub IsSaidOf : Said → Type 0
   IsSaidOf a = IsKnown names named a.0 × IsPrintablePlace threads a.0 × IsNumber a.1
 
-  -- a sign that texts have a word for
+  -- a sign whose place is so
   abbrev pub IsSaid : Sign Said → Type 0
   IsSaid (sign.Atom a) = IsSaidOf a
-  IsSaid (sign.Const true) = Unit {0}
-  IsSaid (sign.Const false) = ⊥
-  IsSaid sign.Not = ⊥
+  IsSaid (sign.Const b) = Unit {0}
+  IsSaid sign.Not = Unit {0}
   IsSaid sign.And = Unit {0}
-  IsSaid sign.Or = ⊥
+  IsSaid sign.Or = Unit {0}
   IsSaid sign.Open = Unit {0}
   IsSaid sign.Close = Unit {0}
 
   -- a formula of such signs
   abbrev pub IsSayable : Tree Said → Type 0
   IsSayable (tree.Atom a) = IsSaidOf a
-  IsSayable (tree.Const true) = Unit {0}
-  IsSayable (tree.Const false) = ⊥
-  IsSayable (tree.Not f) = ⊥
+  IsSayable (tree.Const b) = Unit {0}
+  IsSayable (tree.Not f) = IsSayable f
   IsSayable (tree.And f g) = IsSayable f × IsSayable g
-  IsSayable (tree.Or f g) = ⊥
+  IsSayable (tree.Or f g) = IsSayable f × IsSayable g
 
   -- the signs of a text
   pub text_said : (ss : List SignView) → AllByRecursion (IsPrintableSign threads) ss → AllByRecursion (IsKnown names named) (flat_map sign_places ss) → AllByRecursion IsSaid (map meaning.sign_of ss)
   text_said [] h k = tt
   text_said (view.Atom p n ∷ ss) h k = ((k.0, h.0.0, h.0.1), text_said ss h.1 k.1)
-  text_said (view.True ∷ ss) h k = (tt, text_said ss h.1 k)
+  text_said (view.Const b ∷ ss) h k = (tt, text_said ss h.1 k)
+  text_said (view.Not ∷ ss) h k = (tt, text_said ss h.1 k)
   text_said (view.And ∷ ss) h k = (tt, text_said ss h.1 k)
+  text_said (view.Or ∷ ss) h k = (tt, text_said ss h.1 k)
   text_said (view.Open ∷ ss) h k = (tt, text_said ss h.1 k)
   text_said (view.Close ∷ ss) h k = (tt, text_said ss h.1 k)
-
-  constant : (b : Bool) → IsSaid (sign.Const b) → IsSayable (tree.Const b)
-  constant true h = tt
-  constant false h = h
 
   -- what they spell
   pub sayable : {c : Class} {f : Tree Said} {ss rest : List (Sign Said)} → Spells c f ss rest → AllByRecursion IsSaid ss → IsSayable f × AllByRecursion IsSaid rest
   sayable atom h = (h.0, h.1)
-  sayable (const {b = b}) h = (constant b h.0, h.1)
-  sayable (negation s) h = absurd h.0
+  sayable const h = (tt, h.1)
+  sayable (negation s) h = sayable s h.1
   sayable (parens s) h = let inner = sayable s h.1 in (inner.0, inner.1.1)
   sayable (operand s) h = sayable s h
   sayable (conjunction s t) h = let one = sayable s h in let two = sayable t one.1.1 in ((one.0, two.0), two.1)
   sayable (term s) h = sayable s h
-  sayable (disjunction s t) h = let one = sayable s h in absurd one.1.0
+  sayable (disjunction s t) h = let one = sayable s h in let two = sayable t one.1.1 in ((one.0, two.0), two.1)
 
   both : (xs ys : List (Sign Said)) → AllByRecursion IsSaid xs → AllByRecursion IsSaid ys → AllByRecursion IsSaid (xs ++ ys)
   both [] ys h g = g
   both (x ∷ xs) ys h g = (h.0, both xs ys h.1 g)
 
-  constant_said : (b : Bool) → IsSayable (tree.Const b) → IsSaid (sign.Const b)
-  constant_said true h = tt
-  constant_said false h = h
-
   -- its canonical signs
   signs_said : (f : Tree Said) → IsSayable f → AllByRecursion IsSaid (signs_of f)
   signs_said (tree.Atom a) h = (h, tt)
-  signs_said (tree.Const b) h = (constant_said b h, tt)
-  signs_said (tree.Not f) h = absurd h
+  signs_said (tree.Const b) h = (tt, tt)
+  signs_said (tree.Not f) h = (tt, signs_said f h)
   signs_said (tree.And f g) h =
       (tt, both (signs_of f) (sign.And ∷ (signs_of g ++ sign.Close ∷ [])) (signs_said f h.0) (tt, both (signs_of g) (sign.Close ∷ []) (signs_said g h.1) (tt, tt)))
-  signs_said (tree.Or f g) h = absurd h
+  signs_said (tree.Or f g) h =
+      (tt, both (signs_of f) (sign.Or ∷ (signs_of g ++ sign.Close ∷ [])) (signs_said f h.0) (tt, both (signs_of g) (sign.Close ∷ []) (signs_said g h.1) (tt, tt)))
 
   pub enclosed_said : (f : Tree Said) → IsSayable f → AllByRecursion IsSaid (enclosed_signs_of f)
   enclosed_said (tree.Atom a) h = (tt, (h, (tt, tt)))
-  enclosed_said (tree.Const b) h = (tt, (constant_said b h, (tt, tt)))
-  enclosed_said (tree.Not f) h = absurd h
+  enclosed_said (tree.Const b) h = (tt, (tt, (tt, tt)))
+  enclosed_said (tree.Not f) h = (tt, both (signs_of (tree.Not f)) (sign.Close ∷ []) (signs_said (tree.Not f) h) (tt, tt))
   enclosed_said (tree.And f g) h = signs_said (tree.And f g) h
-  enclosed_said (tree.Or f g) h = absurd h
+  enclosed_said (tree.Or f g) h = signs_said (tree.Or f g) h
 
   -- ---- named again
 
@@ -113,55 +154,34 @@ module _ (names : List (List ℕ)) (named : Named) (threads : ℕ) where
   atom_back once (Location x) n h = ap (λ (y : List ℕ). view.Atom (Location y) n) (name_back names x once h)
   atom_back once (Register t r) n h = refl
 
-  sign_back : IsDistinct bytes_eq names → (s : Sign Said) → IsSaid s → sign_named names (sign_map (numbered_atom (number_in names)) s) ≡ Some (view_of s)
-  sign_back once (sign.Atom a) h = ap (λ (s : SignView). Some s) (atom_back once a.0 a.1 h.0)
-  sign_back once (sign.Const true) h = refl
-  sign_back once (sign.Const false) h = absurd h
-  sign_back once sign.Not h = absurd h
+  sign_back : IsDistinct bytes_eq names → (s : Sign Said) → IsSaid s → sign_named names (sign_map (numbered_atom (number_in names)) s) ≡ view_of s
+  sign_back once (sign.Atom a) h = atom_back once a.0 a.1 h.0
+  sign_back once (sign.Const b) h = refl
+  sign_back once sign.Not h = refl
   sign_back once sign.And h = refl
-  sign_back once sign.Or h = absurd h
+  sign_back once sign.Or h = refl
   sign_back once sign.Open h = refl
   sign_back once sign.Close h = refl
 
-  signs_back : IsDistinct bytes_eq names → (ss : List (Sign Said)) → AllByRecursion IsSaid ss → filter_map (sign_named names) (map (sign_map (numbered_atom (number_in names))) ss) ≡ map view_of ss
+  signs_back : IsDistinct bytes_eq names → (ss : List (Sign Said)) → AllByRecursion IsSaid ss → map (sign_named names) (map (sign_map (numbered_atom (number_in names))) ss) ≡ map view_of ss
   signs_back once [] h = refl
   signs_back once (s ∷ ss) h =
-      ap (λ (o : Option SignView). cons_option o (filter_map (sign_named names) (map (sign_map (numbered_atom (number_in names))) ss))) (sign_back once s h.0)
+      ap (λ (v : SignView). v ∷ map (sign_named names) (map (sign_map (numbered_atom (number_in names))) ss)) (sign_back once s h.0)
       ∙ ap (λ (vs : List SignView). view_of s ∷ vs) (signs_back once ss h.1)
 
   -- the canonical signs are those of the formula with names
   pub signs_are : IsDistinct bytes_eq names → (f : Tree Said) → IsSayable f → signs_named names (tree_map (numbered_atom (number_in names)) f) ≡ map view_of (enclosed_signs_of f)
   signs_are once f h =
-      ap (filter_map (sign_named names)) (canonical_mapped (numbered_atom (number_in names)) f).1 ∙ signs_back once (enclosed_signs_of f) (enclosed_said f h)
-
-  sign_again : (s : Sign Said) → IsSaid s → meaning.sign_of (view_of s) ≡ s
-  sign_again (sign.Atom a) h = refl
-  sign_again (sign.Const true) h = refl
-  sign_again (sign.Const false) h = absurd h
-  sign_again sign.Not h = absurd h
-  sign_again sign.And h = refl
-  sign_again sign.Or h = absurd h
-  sign_again sign.Open h = refl
-  sign_again sign.Close h = refl
-
-  signs_again : (ss : List (Sign Said)) → AllByRecursion IsSaid ss → map meaning.sign_of (map view_of ss) ≡ ss
-  signs_again [] h = refl
-  signs_again (s ∷ ss) h =
-      ap (λ (x : Sign Said). x ∷ map meaning.sign_of (map view_of ss)) (sign_again s h.0) ∙ ap (λ (xs : List (Sign Said)). s ∷ xs) (signs_again ss h.1)
-
-  -- they spell it
-  pub spelled_again : (f : Tree Said) → IsSayable f → Spells Sum f (map meaning.sign_of (map view_of (enclosed_signs_of f))) []
-  spelled_again f h = subst (λ (ss : List (Sign Said)). Spells Sum f ss []) (sym (signs_again (enclosed_signs_of f) (enclosed_said f h))) (canonical_spell f).1
+      ap (map (sign_named names)) (canonical_mapped (numbered_atom (number_in names)) f).1 ∙ signs_back once (enclosed_signs_of f) (enclosed_said f h)
 
   -- ---- they can be printed
 
   sign_printable : (s : Sign Said) → IsSaid s → IsPrintableSign threads (view_of s)
   sign_printable (sign.Atom a) h = (h.1, h.2)
-  sign_printable (sign.Const true) h = tt
-  sign_printable (sign.Const false) h = absurd h
-  sign_printable sign.Not h = absurd h
+  sign_printable (sign.Const b) h = tt
+  sign_printable sign.Not h = tt
   sign_printable sign.And h = tt
-  sign_printable sign.Or h = absurd h
+  sign_printable sign.Or h = tt
   sign_printable sign.Open h = tt
   sign_printable sign.Close h = tt
 
@@ -173,31 +193,9 @@ module _ (names : List (List ℕ)) (named : Named) (threads : ℕ) where
   pub signs_known : (ss : List (Sign Said)) → AllByRecursion IsSaid ss → AllByRecursion (IsKnown names named) (flat_map sign_places (map view_of ss))
   signs_known [] h = tt
   signs_known (sign.Atom a ∷ ss) h = (h.0.0, signs_known ss h.1)
-  signs_known (sign.Const true ∷ ss) h = signs_known ss h.1
-  signs_known (sign.Const false ∷ ss) h = absurd h.0
-  signs_known (sign.Not ∷ ss) h = absurd h.0
+  signs_known (sign.Const b ∷ ss) h = signs_known ss h.1
+  signs_known (sign.Not ∷ ss) h = signs_known ss h.1
   signs_known (sign.And ∷ ss) h = signs_known ss h.1
-  signs_known (sign.Or ∷ ss) h = absurd h.0
+  signs_known (sign.Or ∷ ss) h = signs_known ss h.1
   signs_known (sign.Open ∷ ss) h = signs_known ss h.1
   signs_known (sign.Close ∷ ss) h = signs_known ss h.1
-
-  regroup : (f g : Tree Said) (rest : List (Sign Said))
-      → signs_of f ++ (sign.And ∷ (signs_of g ++ (sign.Close ∷ rest))) ≡ (signs_of f ++ (sign.And ∷ (signs_of g ++ sign.Close ∷ []))) ++ rest
-  regroup f g rest = simp append_assoc
-
-  apart_before : (f : Tree Said) → IsSayable f → (rest : List (Sign Said)) → begins_with_word (map view_of rest) ≡ false → SignsAreApart (map view_of rest) → SignsAreApart (map view_of (signs_of f ++ rest))
-  apart_before (tree.Atom a) h rest e free = (e, free)
-  apart_before (tree.Const b) h rest e free = (e, free)
-  apart_before (tree.Not f) h rest e free = absurd h
-  apart_before (tree.And f g) h rest e free =
-      let inner = apart_before f h.0 (sign.And ∷ (signs_of g ++ (sign.Close ∷ rest))) refl (apart_before g h.1 (sign.Close ∷ rest) refl free) in
-      subst (λ (ss : List (Sign Said)). SignsAreApart (map view_of ss)) (regroup f g rest) inner
-  apart_before (tree.Or f g) h rest e free = absurd h
-
-  pub enclosed_apart : (f : Tree Said) → IsSayable f → SignsAreApart (map view_of (enclosed_signs_of f))
-  enclosed_apart (tree.Atom a) h = apart_before (tree.Atom a) h (sign.Close ∷ []) refl tt
-  enclosed_apart (tree.Const b) h = apart_before (tree.Const b) h (sign.Close ∷ []) refl tt
-  enclosed_apart (tree.Not f) h = absurd h
-  enclosed_apart (tree.And f g) h =
-      subst (λ (ss : List (Sign Said)). SignsAreApart (map view_of ss)) (append-nil (signs_of (tree.And f g))) (apart_before (tree.And f g) h [] refl tt)
-  enclosed_apart (tree.Or f g) h = absurd h

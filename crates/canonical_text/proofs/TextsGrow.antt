@@ -1,21 +1,19 @@
 -- The text of pieces, one more part behind the others.
-use Rattle.std.proofs.Common.{◌≡◌, ℕ, ◌+◌, ◌<◌, suc, List, [], ◌∷◌, ◌++◌, length, map, take, drop, get_or, codes, Option, Some, None, refl, sym, ap, ◌∙◌, arith, append_assoc}
+use Rattle.std.proofs.Common.{◌≡◌, ℕ, ◌+◌, ◌<◌, ◌==◌, zero, suc, false, List, [], ◌∷◌, ◌++◌, length, map, take, drop, get_or, codes, Some, None, refl, sym, ap, ◌∙◌, arith, append_assoc}
 use Rattle.std.specs.Prelude.{nat_lt, if◌then◌else◌}
-use Rattle.std.specs.List.{flat_map, filter_map, cons_option, range_with_len}
-use Rattle.std.specs.Option.{option_to_list}
-use Rattle.std.proofs.lemmas.List.{append-nil, take_more, map_push, drop_more, length-map}
-use Rattle.std.proofs.lemmas.List.Elements.{filter_map-append}
+use Rattle.std.specs.List.{flat_map, range_with_len}
+use Rattle.std.proofs.lemmas.List.{append-nil, take_more, map_push, drop_more, length-map, length-take-le}
 use Rattle.std.proofs.lemmas.List.FromFn.{map-range_with_len_more, length-range_with_len}
 use Rattle.std.proofs.lemmas.Grind.{flat_map-append}
 use Rattle.std.proofs.lemmas.Bool.{lt-ltb}
 use Rattle.text_tokens.specs.declared.token.Mark.TheVariants as the
 use Rattle.text_tokens.specs.Pieces.{Piece, text_of}
-use Rattle.conditions.specs.declared.condition.Quantifier.{Quantifier}
-use Rattle.litmus_syntax.specs.Views.{EntryView, SignView}
+use Rattle.litmus_syntax.specs.declared.ending.Quantifier.{Quantifier}
+use Rattle.litmus_syntax.specs.Views.{PlaceView, EntryView, CodeView, SignView}
 use Rattle.text_tokens.proofs.PieceLaws.{text_of-append}
 use Rattle.tso_program.specs.declared.listing.Thread.{Thread}
 use Rattle.litmus_text.specs.Names.{Names}
-use Rattle.canonical_text.specs.Spelling.{space, line_end, sign, entry_pieces, initial_pieces, next_column, joined, sign_pieces, quantifier_pieces, condition_pieces}
+use Rattle.canonical_text.specs.Spelling.{space, line_end, sign, next, joined_by, gap, code_pieces, label_pieces, cell_pieces, observed_place_pieces, observed_pieces, entry_pieces, initial_pieces, sign_pieces, quantifier_pieces, condition_pieces}
 use Rattle.canonical_text.specs.Canonical.{thread_entries, register_entries}
 
 -- the texts of two lists of parts
@@ -46,65 +44,72 @@ element_more {X} g f bs ys i d lt =
     ap (λ (xs : List X). front ++ xs) (sym (append-nil (f (get_or ys i d)))) ∙ sym (flat_map-append f (take i ys) (get_or ys i d ∷ [])) ∙ ap (flat_map f) (sym (take_more ys i d lt)) in
     all_more g bs front (f (get_or ys i d)) ∙ ap (λ (xs : List X). bs ++ text_of (flat_map g xs)) same
 
-given_alone : {Y : Type 0} (o : Option Y) → cons_option o [] ≡ option_to_list o
-given_alone (Some y) = refl
-given_alone None = refl
-
--- the part that one more element may give
-pub given_more : {X Y Z : Type 0} (g : Y → List Piece) (h : X → Option Y) (view : Z → X) (bs : List ℕ) (zs : List Z) (i : ℕ) (d : Z) → i < length zs
-    → (bs ++ text_of (flat_map g (filter_map h (map view (take i zs))))) ++ text_of (flat_map g (option_to_list (h (view (get_or zs i d)))))
-    ≡ bs ++ text_of (flat_map g (filter_map h (map view (take (i + 1) zs))))
+-- the part that one more element gives
+pub given_more : {X Y Z : Type 0} (g : Y → List Piece) (h : X → Y) (view : Z → X) (bs : List ℕ) (zs : List Z) (i : ℕ) (d : Z) → i < length zs
+    → (bs ++ text_of (flat_map g (map h (map view (take i zs))))) ++ text_of (g (h (view (get_or zs i d)))) ≡ bs ++ text_of (flat_map g (map h (map view (take (i + 1) zs))))
 given_more {X} {Y} {Z} g h view bs zs i d lt =
-    let x : X = view (get_or zs i d) in
-    let front : List Y = filter_map h (map view (take i zs)) in
-    let same : front ++ option_to_list (h x) ≡ filter_map h (map view (take (i + 1) zs)) =
-    ap (λ (ys : List Y). front ++ ys) (sym (given_alone (h x)))
-    ∙ sym (filter_map-append h (map view (take i zs)) (x ∷ []))
-    ∙ ap (filter_map h) (sym (map_push view (take i zs) (get_or zs i d)))
-    ∙ ap (λ (ws : List Z). filter_map h (map view ws)) (sym (take_more zs i d lt)) in
-    all_more g bs front (option_to_list (h x)) ∙ ap (λ (ys : List Y). bs ++ text_of (flat_map g ys)) same
+    let front : List Y = map h (map view (take i zs)) in
+    let same : front ++ h (view (get_or zs i d)) ∷ [] ≡ map h (map view (take (i + 1) zs)) =
+    sym (map_push h (map view (take i zs)) (view (get_or zs i d)))
+    ∙ ap (map h) (sym (map_push view (take i zs) (get_or zs i d)))
+    ∙ ap (λ (ws : List Z). map h (map view ws)) (sym (take_more zs i d lt)) in
+    one_more g bs front (h (view (get_or zs i d))) ∙ ap (λ (ys : List Y). bs ++ text_of (flat_map g ys)) same
 
--- ---- columns
+-- ---- parts in a line
 
--- ` | `, if a column stands before
-abbrev pub bar_at : ℕ → List ℕ
-bar_at n = if nat_lt 0 n then codes " | " else []
+-- what stands before part n
+abbrev pub between_at : List Piece → ℕ → List ℕ
+between_at between n = if nat_lt 0 n then text_of between else []
 
-bar_behind : (n : ℕ) → 0 < n → bar_at n ≡ codes " | "
-bar_behind n h = rw (lt-ltb 0 n h) refl
+module _ (between : List Piece) where
+  between_behind : (n : ℕ) → 0 < n → between_at between n ≡ text_of between
+  between_behind n h = rw (lt-ltb 0 n h) refl
 
-joined_push : (columns : List (List Piece)) (ps : List Piece) → text_of (joined (columns ++ ps ∷ [])) ≡ (text_of (joined columns) ++ bar_at (length columns)) ++ text_of ps
-joined_push [] ps = ap text_of (append-nil ps)
-joined_push (qs ∷ columns) ps =
-    let more : List Piece = flat_map next_column columns in
-    let same : qs ++ flat_map next_column (columns ++ ps ∷ []) ≡ (qs ++ more) ++ next_column ps =
-    ap (λ (rs : List Piece). qs ++ rs) (flat_map-append next_column columns (ps ∷ []) ∙ ap (λ (rs : List Piece). more ++ rs) (append-nil (next_column ps)))
-    ∙ sym (append_assoc qs more (next_column ps)) in
-    ap text_of same ∙ text_of-append (qs ++ more) (next_column ps) ∙ sym (append_assoc (text_of (qs ++ more)) (codes " | ") (text_of ps))
-    ∙ ap (λ (bar : List ℕ). (text_of (qs ++ more) ++ bar) ++ text_of ps) (sym (bar_behind (suc (length columns)) (omega arith)))
+  pub joined_push : (columns : List (List Piece)) (ps : List Piece)
+      → text_of (joined_by between (columns ++ ps ∷ [])) ≡ (text_of (joined_by between columns) ++ between_at between (length columns)) ++ text_of ps
+  joined_push [] ps = ap text_of (append-nil ps)
+  joined_push (qs ∷ columns) ps =
+      let more : List Piece = flat_map (next between) columns in
+      let same : qs ++ flat_map (next between) (columns ++ ps ∷ []) ≡ (qs ++ more) ++ next between ps =
+      ap (λ (rs : List Piece). qs ++ rs) (flat_map-append (next between) columns (ps ∷ []) ∙ ap (λ (rs : List Piece). more ++ rs) (append-nil (next between ps)))
+      ∙ sym (append_assoc qs more (next between ps)) in
+      ap text_of same ∙ text_of-append (qs ++ more) (next between ps)
+      ∙ ap (λ (bs : List ℕ). text_of (qs ++ more) ++ bs) (text_of-append between ps)
+      ∙ sym (append_assoc (text_of (qs ++ more)) (text_of between) (text_of ps))
+      ∙ ap (λ (bs : List ℕ). (text_of (qs ++ more) ++ bs) ++ text_of ps) (sym (between_behind (suc (length columns)) (omega arith)))
 
--- one column more
-pub column_more : (bs : List ℕ) (columns next : List (List Piece)) (ps : List Piece) (n : ℕ) → length columns ≡ n → next ≡ columns ++ ps ∷ []
-    → ((bs ++ text_of (joined columns)) ++ bar_at n) ++ text_of ps ≡ bs ++ text_of (joined next)
-column_more bs columns next ps n count same =
-    ap (λ (cs : List ℕ). cs ++ text_of ps) (append_assoc bs (text_of (joined columns)) (bar_at n))
-    ∙ append_assoc bs (text_of (joined columns) ++ bar_at n) (text_of ps)
-    ∙ ap (λ (m : ℕ). bs ++ ((text_of (joined columns) ++ bar_at m) ++ text_of ps)) (sym count)
-    ∙ ap (λ (cs : List ℕ). bs ++ cs) (sym (joined_push columns ps) ∙ ap (λ (cs : List (List Piece)). text_of (joined cs)) (sym same))
+  -- one part more
+  pub column_more : (bs : List ℕ) (columns further : List (List Piece)) (ps : List Piece) (n : ℕ) → length columns ≡ n → further ≡ columns ++ ps ∷ []
+      → ((bs ++ text_of (joined_by between columns)) ++ between_at between n) ++ text_of ps ≡ bs ++ text_of (joined_by between further)
+  column_more bs columns further ps n count same =
+      ap (λ (cs : List ℕ). cs ++ text_of ps) (append_assoc bs (text_of (joined_by between columns)) (between_at between n))
+      ∙ append_assoc bs (text_of (joined_by between columns) ++ between_at between n) (text_of ps)
+      ∙ ap (λ (m : ℕ). bs ++ ((text_of (joined_by between columns) ++ between_at between m) ++ text_of ps)) (sym count)
+      ∙ ap (λ (cs : List ℕ). bs ++ cs) (sym (joined_push columns ps) ∙ ap (λ (cs : List (List Piece)). text_of (joined_by between cs)) (sym same))
 
--- one number's column more
-pub number_column_more : (g : ℕ → List Piece) (bs : List ℕ) (n : ℕ)
-    → ((bs ++ text_of (joined (map g (range_with_len 0 n)))) ++ bar_at n) ++ text_of (g n) ≡ bs ++ text_of (joined (map g (range_with_len 0 (n + 1))))
-number_column_more g bs n =
-    column_more bs (map g (range_with_len 0 n)) (map g (range_with_len 0 (n + 1))) (g n) n (length-map (range_with_len 0 n) g ∙ length-range_with_len 0 n) (map-range_with_len_more g 0 n n (omega arith))
+  -- one number's part more
+  pub number_column_more : (g : ℕ → List Piece) (bs : List ℕ) (n : ℕ)
+      → ((bs ++ text_of (joined_by between (map g (range_with_len 0 n)))) ++ between_at between n) ++ text_of (g n) ≡ bs ++ text_of (joined_by between (map g (range_with_len 0 (n + 1))))
+  number_column_more g bs n =
+      column_more bs (map g (range_with_len 0 n)) (map g (range_with_len 0 (n + 1))) (g n) n (length-map (range_with_len 0 n) g ∙ length-range_with_len 0 n) (map-range_with_len_more g 0 n n (omega arith))
 
--- one item's column more
-pub item_column_more : {X : Type 0} (g : X → List Piece) (f : ℕ → X) (bs : List ℕ) (n : ℕ)
-    → ((bs ++ text_of (joined (map g (map f (range_with_len 0 n))))) ++ bar_at n) ++ text_of (g (f n)) ≡ bs ++ text_of (joined (map g (map f (range_with_len 0 (n + 1)))))
-item_column_more {X} g f bs n =
-    let xs : List X = map f (range_with_len 0 n) in
-    column_more bs (map g xs) (map g (map f (range_with_len 0 (n + 1)))) (g (f n)) n (length-map xs g ∙ length-map (range_with_len 0 n) f ∙ length-range_with_len 0 n)
-    (ap (map g) (map-range_with_len_more f 0 n n (omega arith)) ∙ map_push g xs (f n))
+  -- one item's part more
+  pub item_column_more : {X : Type 0} (g : X → List Piece) (f : ℕ → X) (bs : List ℕ) (n : ℕ)
+      → ((bs ++ text_of (joined_by between (map g (map f (range_with_len 0 n))))) ++ between_at between n) ++ text_of (g (f n)) ≡ bs ++ text_of (joined_by between (map g (map f (range_with_len 0 (n + 1)))))
+  item_column_more {X} g f bs n =
+      let xs : List X = map f (range_with_len 0 n) in
+      column_more bs (map g xs) (map g (map f (range_with_len 0 (n + 1)))) (g (f n)) n (length-map xs g ∙ length-map (range_with_len 0 n) f ∙ length-range_with_len 0 n)
+      (ap (map g) (map-range_with_len_more f 0 n n (omega arith)) ∙ map_push g xs (f n))
+
+  -- one element's part more
+  pub element_column_more : {X Y : Type 0} (g : X → List Piece) (f : Y → X) (bs : List ℕ) (ys : List Y) (i : ℕ) (d : Y) → i < length ys
+      → ((bs ++ text_of (joined_by between (map g (map f (take i ys))))) ++ between_at between i) ++ text_of (g (f (get_or ys i d)))
+      ≡ bs ++ text_of (joined_by between (map g (map f (take (i + 1) ys))))
+  element_column_more {X} {Y} g f bs ys i d lt =
+      let xs : List X = map f (take i ys) in
+      let long : length (take i ys) ≡ i = length-take-le i ys (omega arith) in
+      column_more bs (map g xs) (map g (map f (take (i + 1) ys))) (g (f (get_or ys i d))) i (length-map xs g ∙ length-map (take i ys) f ∙ long)
+      (ap (λ (zs : List Y). map g (map f zs)) (take_more ys i d lt) ∙ ap (map g) (map_push f (take i ys) (get_or ys i d)) ∙ map_push g xs (f (get_or ys i d)))
 
 -- ---- registers
 
@@ -142,3 +147,34 @@ condition_grown bs q ss =
     grown (front ++ 32 ∷ []) (flat_map sign_pieces ss) (line_end ∷ [])
     ∙ append_assoc front (32 ∷ []) (text_of (flat_map sign_pieces ss ++ line_end ∷ []))
     ∙ grown bs (quantifier_pieces q) (space ∷ (flat_map sign_pieces ss ++ line_end ∷ []))
+
+-- ---- labels and what is observed
+
+-- one label more
+pub label_more : (bs : List ℕ) (names : List (List ℕ)) (name : List ℕ) (count : ℕ) → count ≡ length names
+    → (((bs ++ text_of (joined_by gap (map label_pieces names))) ++ between_at gap count) ++ name) ++ 58 ∷ [] ≡ bs ++ text_of (joined_by gap (map label_pieces (names ++ name ∷ [])))
+label_more bs names name count counted =
+    append_assoc ((bs ++ text_of (joined_by gap (map label_pieces names))) ++ between_at gap count) name (58 ∷ [])
+    ∙ column_more gap bs (map label_pieces names) (map label_pieces (names ++ name ∷ [])) (label_pieces name) count (length-map names label_pieces ∙ sym counted) (map_push label_pieces names name)
+
+-- an instruction behind its labels
+pub code_more : (bs : List ℕ) (names : List (List ℕ)) (c : CodeView) (count : ℕ) → count ≡ length names
+    → ((bs ++ text_of (joined_by gap (map label_pieces names))) ++ between_at gap count) ++ text_of (code_pieces c) ≡ bs ++ text_of (cell_pieces (record { labels = names; code = Some c }))
+code_more bs names c count counted =
+    column_more gap bs (map label_pieces names) (map label_pieces names ++ code_pieces c ∷ []) (code_pieces c) count (length-map names label_pieces ∙ sym counted) refl
+
+-- labels alone
+pub labels_alone : (bs : List ℕ) (names : List (List ℕ)) → bs ++ text_of (joined_by gap (map label_pieces names)) ≡ bs ++ text_of (cell_pieces (record { labels = names; code = None }))
+labels_alone bs names = ap (λ (parts : List (List Piece)). bs ++ text_of (joined_by gap parts)) (sym (append-nil (map label_pieces names)))
+
+pub not_none : (n : ℕ) → (n == 0) ≡ false → 0 < n
+not_none zero h = absurd cc
+not_none (suc n) h = omega arith
+
+-- places in their brackets
+pub brackets : (bs : List ℕ) (ps : List PlaceView) → 0 < length ps
+    → ((bs ++ codes "locations [") ++ text_of (joined_by gap (map observed_place_pieces ps))) ++ codes "]\n" ≡ bs ++ text_of (observed_pieces ps)
+brackets bs [] some = absurd (omega (arith, some))
+brackets bs (p ∷ ps) some =
+    grown (bs ++ codes "locations [") (joined_by gap (map observed_place_pieces (p ∷ ps))) (sign the.CloseBracket ∷ line_end ∷ [])
+    ∙ append_assoc bs (codes "locations [") (text_of (joined_by gap (map observed_place_pieces (p ∷ ps)) ++ sign the.CloseBracket ∷ line_end ∷ []))

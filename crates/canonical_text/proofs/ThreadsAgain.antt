@@ -1,49 +1,125 @@
 -- The threads of the fenced program, told by the canonical text.
-use Rattle.std.proofs.Common.{◌≡◌, ℕ, ◌+◌, ◌<◌, ◌≤◌, zero, suc, List, [], ◌∷◌, length, map, get_or, Option, refl, sym, ap, ◌∙◌, subst, inl, inr, arith}
+use Rattle.std.proofs.Common.{◌≡◌, ℕ, ◌+◌, ◌<◌, ◌≤◌, zero, suc, Bool, List, [], ◌∷◌, length, map, get_or, Option, refl, sym, ap, ◌∙◌, subst, inl, inr, arith}
+use Rattle.std.specs.Prelude.{slice_index_or}
 use Rattle.std.specs.List.{AllByRecursion, IsDistinct, flat_map, range_with_len}
 use Rattle.std.specs.Option.{option_map_or}
 use Rattle.std.specs.Str.{bytes_eq}
 use Rattle.std.proofs.Math.Nat.{add-zero}
 use Rattle.std.proofs.lemmas.Bool.{cases_lt}
 use Rattle.std.proofs.lemmas.Option.{slice_get_past}
-use Rattle.std.proofs.lemmas.List.FromFn.{length-map-range_with_len}
+use Rattle.std.proofs.lemmas.List.{get_or_past}
+use Rattle.std.proofs.lemmas.List.FromFn.{length-map-range_with_len, get_or-map-range_with_len}
 use Rattle.tso_program.specs.declared.instruction.Instr.{Instr}
 use Rattle.tso_program.specs.declared.listing.Thread.{Thread}
 use Rattle.tso_program.specs.Listings.{code_of}
-use Rattle.tso_program.specs.Fences.{Gaps, fenced_threads}
+use Rattle.tso_program.specs.Fences.{Gaps, place_of, fenced_code, fenced_threads}
 use Rattle.tso_program.proofs.FencedPlaces.{fenced_code_of}
+use Rattle.tso_program.proofs.FencedLimits.{ends}
 use Rattle.litmus_syntax.specs.Views.{PlaceView, Register, BodyView}
+use Rattle.litmus_syntax.specs.Grammar.{NoneTwice, labels_of as all_names}
 use Rattle.litmus_text.specs.Names.{all_registers, number_in}
 use Rattle.litmus_text.specs.Places.{row_places}
+use Rattle.litmus_text.specs.declared.label.Label.{Label}
+use Rattle.litmus_text.specs.Labels.{thread_labels, all_labels, position_in, JumpsAreFound}
 use Rattle.litmus_text.specs.Meaning.{first_value, thread_of}
+use Rattle.litmus_text.specs.Meaning as meaning
+use Rattle.canonical_text.specs.Canonical.{labels_of, moved_label, moved_labels}
 use Rattle.canonical_text.specs.Printable.{IsPrintableRow}
+use Rattle.canonical_text.proofs.LabelPlaces.{moved_of}
+use Rattle.canonical_text.proofs.LabelsNamed.{label_name, AreGoodLabels, Ascending}
+use Rattle.canonical_text.proofs.LabelsOnce.{once_of_rows}
+use Rattle.canonical_text.proofs.LabelsAgain.{thread_ascending, moved_ascending, thread_good, moved_good}
 use Rattle.canonical_text.proofs.NamedPlaces.{Named, RegistersAre}
 use Rattle.canonical_text.proofs.ToldCode.{IsKnown, IsTold, AreTold, rows_told, fenced_told}
 use Rattle.canonical_text.proofs.Lists.{made_at}
 
--- ---- code
+-- ---- labels and code
 
--- a text's threads are told
-text_told : (names : List (List ℕ)) (named : Named) → IsDistinct bytes_eq names → (b : BodyView) → AllByRecursion (IsPrintableRow b.threads) b.rows
-    → AllByRecursion (IsKnown names named) (flat_map row_places b.rows) → AreTold names named (map (thread_of (number_in names) b) (range_with_len 0 b.threads))
-text_told names named once b printable known t =
-    let threads : List Thread = map (thread_of (number_in names) b) (range_with_len 0 b.threads) in
-    let told : Option Thread → Type 0 = λ o. AllByRecursion (IsTold names named t) (option_map_or (λ (thread : Thread). thread.code) o []) in
-    elim (cases_lt t b.threads) [
-      | inl lt ↦ subst told (sym (made_at (thread_of (number_in names) b) b.threads t lt)) (rows_told names named once b.threads t b.rows printable known)
-      | inr le ↦
-          let count : length threads ≡ b.threads = length-map-range_with_len (thread_of (number_in names) b) 0 b.threads in
-          let past : length threads ≤ t = omega (arith, count, le) in
-          subst told (sym (slice_get_past threads t past)) tt
-    ]
+same_names : (gap : ℕ → Bool) (labels : List Label) → map label_name (map (moved_label gap) labels) ≡ map label_name labels
+same_names gap [] = refl
+same_names gap (l ∷ labels) = ap (λ (ns : List (List ℕ)). l.name ∷ ns) (same_names gap labels)
 
--- so are they with fences
-pub fences_told : (names : List (List ℕ)) (named : Named) → IsDistinct bytes_eq names → (gaps : Gaps) (b : BodyView) → AllByRecursion (IsPrintableRow b.threads) b.rows
-    → AllByRecursion (IsKnown names named) (flat_map row_places b.rows) → AreTold names named (fenced_threads gaps 0 (map (thread_of (number_in names) b) (range_with_len 0 b.threads)))
-fences_told names named once gaps b printable known t =
-    let threads : List Thread = map (thread_of (number_in names) b) (range_with_len 0 b.threads) in
-    subst (λ (code : List Instr). AllByRecursion (IsTold names named t) code) (sym (fenced_code_of gaps t threads))
-    (fenced_told names named (gaps t) t 0 (code_of threads t) (text_told names named once b printable known t))
+module _ (names : List (List ℕ)) (named : Named) (once : IsDistinct bytes_eq names) (gaps : Gaps) (b : BodyView) (printable : AllByRecursion (IsPrintableRow b.threads) b.rows)
+    (known : AllByRecursion (IsKnown names named) (flat_map row_places b.rows)) (found : JumpsAreFound b) (labels_once : NoneTwice (all_names b.rows)) where
+  abbrev source : List Thread
+  source = map (thread_of (number_in names) b) (range_with_len 0 b.threads)
+
+  abbrev threads : List Thread
+  threads = fenced_threads gaps 0 source
+
+  -- the labels, where their fences are
+  abbrev labels : List (List Label)
+  labels = moved_labels gaps 0 (all_labels b)
+
+  abbrev positions : ℕ → List ℕ → ℕ
+  positions t = position_in (thread_labels b.rows t)
+
+  abbrev text_code : ℕ → List Instr
+  text_code t = meaning.code_of (number_in names) (positions t) b.rows t
+
+  own_source : (t : ℕ) → t < b.threads → slice_index_or (all_labels b) t [] ≡ thread_labels b.rows t
+  own_source t lt = get_or-map-range_with_len (thread_labels b.rows) 0 b.threads t t [] lt (omega arith)
+
+  pub own_is : (t : ℕ) → t < b.threads → labels_of labels t ≡ map (moved_label (gaps t)) (thread_labels b.rows t)
+  own_is t lt = moved_of gaps t (all_labels b) ∙ ap (map (moved_label (gaps t))) (own_source t lt)
+
+  pub own_past : (t : ℕ) → b.threads ≤ t → labels_of labels t ≡ []
+  own_past t le =
+      let count : length (all_labels b) ≡ b.threads = length-map-range_with_len (thread_labels b.rows) 0 b.threads in
+      let past : length (all_labels b) ≤ t = omega arith in
+      moved_of gaps t (all_labels b) ∙ ap (map (moved_label (gaps t))) (get_or_past (all_labels b) t [] past)
+
+  pub good : (t : ℕ) → AreGoodLabels (labels_of labels t)
+  good t =
+      elim (cases_lt t b.threads) [
+        | inl lt ↦ subst AreGoodLabels (sym (own_is t lt)) (moved_good (gaps t) (thread_labels b.rows t) (thread_good b.threads b.rows t printable))
+        | inr le ↦ subst AreGoodLabels (sym (own_past t le)) tt
+      ]
+
+  pub names_once : (t : ℕ) → NoneTwice (map label_name (labels_of labels t))
+  names_once t =
+      let once_of : List Label → Type 0 = λ ls. NoneTwice (map label_name ls) in
+      elim (cases_lt t b.threads) [
+        | inl lt ↦ subst once_of (sym (own_is t lt)) (subst NoneTwice (sym (same_names (gaps t) (thread_labels b.rows t))) (once_of_rows t b.rows labels_once))
+        | inr le ↦ subst once_of (sym (own_past t le)) tt
+      ]
+
+  -- the code of a thread of the text
+  source_code : (t : ℕ) → t < b.threads → code_of source t ≡ text_code t
+  source_code t lt = ap (λ (o : Option Thread). option_map_or (λ (thread : Thread). thread.code) o []) (made_at (thread_of (number_in names) b) b.threads t lt)
+
+  fenced_is : (t : ℕ) → t < b.threads → code_of threads t ≡ fenced_code (gaps t) 0 (text_code t)
+  fenced_is t lt = fenced_code_of gaps t source ∙ ap (fenced_code (gaps t) 0) (source_code t lt)
+
+  fenced_past : (t : ℕ) → b.threads ≤ t → code_of threads t ≡ []
+  fenced_past t le =
+      let count : length source ≡ b.threads = length-map-range_with_len (thread_of (number_in names) b) 0 b.threads in
+      let past : length source ≤ t = omega arith in
+      fenced_code_of gaps t source ∙ ap (λ (o : Option Thread). fenced_code (gaps t) 0 (option_map_or (λ (thread : Thread). thread.code) o [])) (slice_get_past source t past)
+
+  pub ascending : (t : ℕ) → Ascending 0 (length (code_of threads t)) (labels_of labels t)
+  ascending t =
+      elim (cases_lt t b.threads) [
+        | inl lt ↦
+            let long : place_of (gaps t) (length (text_code t)) ≡ length (code_of threads t) = sym (ends (gaps t) (text_code t)) ∙ ap length (sym (fenced_is t lt)) in
+            let moved : Ascending 0 (place_of (gaps t) (length (text_code t))) (map (moved_label (gaps t)) (thread_labels b.rows t)) =
+            moved_ascending (gaps t) 0 (length (text_code t)) (thread_labels b.rows t) (thread_ascending (number_in names) (positions t) b.rows t) in
+            subst (Ascending 0 (length (code_of threads t))) (sym (own_is t lt))
+            (subst (λ (n : ℕ). Ascending 0 n (map (moved_label (gaps t)) (thread_labels b.rows t))) long moved)
+        | inr le ↦ subst (Ascending 0 (length (code_of threads t))) (sym (own_past t le)) tt
+      ]
+
+  -- the fenced code is told
+  pub fences_told : AreTold names named labels threads
+  fences_told t =
+      let all : List Instr → Type 0 = λ code. AllByRecursion (IsTold names named labels t) code in
+      elim (cases_lt t b.threads) [
+        | inl lt ↦
+            subst all (sym (fenced_is t lt))
+            (fenced_told names named labels once t (gaps t) (thread_labels b.rows t) (own_is t lt) (good t) (names_once t) 0 (text_code t)
+            (rows_told names named labels once t (gaps t) (thread_labels b.rows t) (own_is t lt) (good t) (names_once t) (all_labels b) (own_source t lt) b.threads b.rows printable known found))
+        | inr le ↦ subst all (sym (fenced_past t le)) tt
+      ]
 
 -- ---- registers
 

@@ -1,7 +1,8 @@
--- Code that came from a text: each instruction is told again by its location's name, with fences too.
-use Rattle.std.proofs.Common.{◌≡◌, ℕ, ◌+◌, ◌<◌, ◌≤◌, zero, suc, Bool, true, false, List, [], ◌∷◌, ◌++◌, length, map, Option, Some, None, refl, sym, ap, ◌∙◌, subst, arith}
-use Rattle.std.specs.Prelude.{slice_get, option_map, option_and_then, if◌then◌else◌}
-use Rattle.std.specs.List.{AllByRecursion, IsDistinct, list_any, flat_map, filter_map, cons_option, range_with_len}
+-- Code that a text tells: with names of locations and labels it can be printed, and stands for the same code again. Fences too.
+use Rattle.std.proofs.Common.{◌≡◌, ℕ, ◌+◌, ◌<◌, ◌≤◌, zero, suc, Bool, true, false, ◌&&◌, List, [], ◌∷◌, ◌++◌, length, map, Option, Some, None, refl, sym, ap, ◌∙◌, subst, arith}
+use Rattle.std.specs.Prelude.{slice_get, slice_index_or, nat_lt, is_some, option_map, option_and_then, if◌then◌else◌}
+use Rattle.std.specs.List.{AllByRecursion, IsDistinct, list_all, list_any, flat_map, filter_map, cons_option, range_with_len}
+use Rattle.std.specs.Option.{option_map_or}
 use Rattle.std.specs.Str.{bytes_eq}
 use Rattle.std.proofs.Math.Nat.{add-zero}
 use Rattle.std.proofs.lemmas.List.{length-map}
@@ -10,16 +11,22 @@ use Rattle.tso_program.specs.declared.instruction.Instr.{Instr}
 use Rattle.tso_program.specs.declared.instruction.Instr.TheVariants as instr
 use Rattle.tso_program.specs.declared.listing.Thread.{Thread}
 use Rattle.tso_program.specs.Listings.{code_of, instr_at}
-use Rattle.tso_program.specs.Fences.{moved, fenced_code}
-use Rattle.litmus_syntax.specs.Views.{PlaceView, Location, Register, CodeView, LoadImm, Copy, Load, StoreImm, Store, Fence, CellView}
+use Rattle.tso_program.specs.Fences.{place_of, moved, fenced_code}
+use Rattle.litmus_syntax.specs.Views.{PlaceView, Location, Register, CodeView, LoadImm, Copy, Load, StoreImm, Store, Xchg, Fence, CmpImm, CmpReg, Je, Jne, Jmp, CellView}
+use Rattle.litmus_syntax.specs.Grammar.{NoneTwice}
 use Rattle.litmus_text.specs.Names.{number_in}
 use Rattle.litmus_text.specs.Places.{code_places, cell_places, cells_places, row_places}
+use Rattle.litmus_text.specs.declared.label.Label.{Label}
+use Rattle.litmus_text.specs.Labels.{label_in, position_in, jump_of, is_found, are_found}
 use Rattle.litmus_text.specs.Meaning.{instruction_of, instruction_in}
 use Rattle.litmus_text.specs.Meaning as meaning
 use Rattle.litmus_text.proofs.NamesOnce.{place_among, number_at}
-use Rattle.canonical_text.specs.Canonical.{name_at, code_named, cell_of, row_of, longest, rows_of}
-use Rattle.canonical_text.specs.Printable.{IsPrintableCode, IsPrintableCell, IsPrintableRow}
+use Rattle.canonical_text.specs.Canonical.{name_at, labels_at, label_at, labels_of, moved_label, code_named, cell_of, row_of, most_cells, rows_of}
+use Rattle.canonical_text.specs.Printable.{IsLabelName, IsPrintableCode, IsPrintableContent, IsPrintableCell, IsPrintableRow}
 use Rattle.canonical_text.proofs.NamedPlaces.{Named}
+use Rattle.canonical_text.proofs.LabelPlaces.{labels_moved}
+use Rattle.canonical_text.proofs.LabelsNamed.{label_name, SomeAt, AreGoodLabels, position_again, label_found, label_good, labels_good, found_stands}
+use Rattle.canonical_text.proofs.WordsWritten.{and_first, and_second}
 use Rattle.canonical_text.proofs.Lists.{all_of_both, both_of_all, all_of_range, made_at, by_places}
 
 -- a place that is named
@@ -34,77 +41,130 @@ name_back names x once h =
     let number : number_in names x ≡ own.0 = ap (number_in names) own.2 ∙ number_at names own.0 once own.1 in
     ap (name_at names) number ∙ sym own.2
 
-module _ (names : List (List ℕ)) (named : Named) where
-  -- instruction i of thread t stands for code that can be printed, and whose places are named
+-- an instruction that jumps nowhere or to one of these labels
+abbrev pub JumpsAmong : List Label → Option CodeView → Type 0
+JumpsAmong labels o = option_map_or (λ l. is_some (label_in labels l)) (option_and_then jump_of o) true ≡ true
+
+both_true : (a b : Bool) → a ≡ true → b ≡ true → (a && b) ≡ true
+both_true true b h g = g
+both_true false b h g = h
+
+module _ (names : List (List ℕ)) (named : Named) (labels : List (List Label)) where
+  abbrev own : ℕ → List Label
+  own t = labels_of labels t
+
+  -- instruction i of thread t stands for code that can be printed, whose places are named, and that jumps to a label of the thread
   abbrev pub IsTold : ℕ → Instr → Type 0
   IsTold t i =
-      (c : CodeView) × (code_named names i ≡ Some c) × (instruction_of (number_in names) c ≡ i) × IsPrintableCode c × AllByRecursion (IsKnown names named) (code_places t c)
+      (c : CodeView) × (code_named names (own t) i ≡ c) × (instruction_of (number_in names) (position_in (own t)) c ≡ i) × IsPrintableCode c × AllByRecursion (IsKnown names named) (code_places t c)
+      × JumpsAmong (own t) (Some c)
 
   abbrev pub IsGoodCell : ℕ → CellView → Type 0
   IsGoodCell t cell = IsPrintableCell cell × AllByRecursion (IsKnown names named) (cell_places t cell)
 
-  pub code_told : IsDistinct bytes_eq names → (t : ℕ) (c : CodeView) → IsPrintableCode c → AllByRecursion (IsKnown names named) (code_places t c) → IsTold t (instruction_of (number_in names) c)
-  code_told once t (LoadImm r n) h k = (LoadImm r n, refl, refl, h, k)
-  code_told once t (Copy r s) h k = (Copy r s, refl, refl, h, k)
-  code_told once t (Load r x) h k = (Load r x, ap (λ (y : List ℕ). Some (Load r y)) (name_back names x once k.1.0), refl, h, k)
-  code_told once t (StoreImm x n) h k = (StoreImm x n, ap (λ (y : List ℕ). Some (StoreImm y n)) (name_back names x once k.0), refl, h, k)
-  code_told once t (Store x r) h k = (Store x r, ap (λ (y : List ℕ). Some (Store y r)) (name_back names x once k.0), refl, h, k)
-  code_told once t Fence h k = (Fence, refl, refl, h, k)
+  -- ---- what a text's code stands for, with its labels where their fences are
 
-  -- ---- fences
+  module _ (once : IsDistinct bytes_eq names) (t : ℕ) (gap : ℕ → Bool) (source : List Label) (same : own t ≡ map (moved_label gap) source)
+      (good : AreGoodLabels (own t)) (labels_once : NoneTwice (map label_name (own t))) where
+    aim : List ℕ → ℕ
+    aim l = place_of gap (position_in source l)
 
-  stays : (gap : ℕ → Bool) (c : CodeView) → moved gap (instruction_of (number_in names) c) ≡ instruction_of (number_in names) c
-  stays gap (LoadImm r n) = refl
-  stays gap (Copy r s) = refl
-  stays gap (Load r x) = refl
-  stays gap (StoreImm x n) = refl
-  stays gap (Store x r) = refl
-  stays gap Fence = refl
+    stands : (l : List ℕ) → is_some (label_in source l) ≡ true → SomeAt (own t) (place_of gap (position_in source l))
+    stands l h =
+        let place : ℕ = place_of gap (position_in source l) in
+        let there : labels_at (own t) place ≡ labels_at source (position_in source l) =
+        ap (λ (ls : List Label). labels_at ls place) same ∙ labels_moved gap source (position_in source l) place refl in
+        subst (λ (ns : List (List ℕ)). 0 < length ns) (sym there) (found_stands source l h)
 
-  moved_told : (gap : ℕ → Bool) (t : ℕ) (i : Instr) → IsTold t i → IsTold t (moved gap i)
-  moved_told gap t i told =
-      let same : i ≡ moved gap i = sym told.2 ∙ sym (stays gap told.0) ∙ ap (moved gap) told.2 in
-      subst (IsTold t) same told
+    again : (l : List ℕ) → is_some (label_in source l) ≡ true → position_in (own t) (label_at (own t) (place_of gap (position_in source l))) ≡ place_of gap (position_in source l)
+    again l h = position_again (own t) (place_of gap (position_in source l)) labels_once (stands l h)
 
-  fence_told : (b : Bool) (t : ℕ) (code : List Instr) → AllByRecursion (IsTold t) code → AllByRecursion (IsTold t) ((if b then instr.Fence ∷ [] else []) ++ code)
-  fence_told true t code h = ((Fence, refl, refl, tt, tt), h)
-  fence_told false t code h = h
+    found : (l : List ℕ) → is_some (label_in source l) ≡ true → is_some (label_in (own t) (label_at (own t) (place_of gap (position_in source l)))) ≡ true
+    found l h = label_found (own t) (place_of gap (position_in source l)) labels_once (stands l h)
 
-  pub fenced_told : (gap : ℕ → Bool) (t k : ℕ) (code : List Instr) → AllByRecursion (IsTold t) code → AllByRecursion (IsTold t) (fenced_code gap k code)
-  fenced_told gap t k [] h = tt
-  fenced_told gap t k (i ∷ code) h =
-      fence_told (gap k) t (moved gap i ∷ fenced_code gap (k + 1) code) (moved_told gap t i h.0, fenced_told gap t (k + 1) code h.1)
+    may_stand : (l : List ℕ) → is_some (label_in source l) ≡ true → IsLabelName (label_at (own t) (place_of gap (position_in source l)))
+    may_stand l h = label_good (own t) (place_of gap (position_in source l)) good (stands l h)
 
-  -- ---- the rows of a text
+    pub code_told : (c : CodeView) → IsPrintableCode c → AllByRecursion (IsKnown names named) (code_places t c) → JumpsAmong source (Some c)
+        → IsTold t (moved gap (instruction_of (number_in names) (position_in source) c))
+    code_told (LoadImm r n) h k j = (LoadImm r n, refl, refl, h, k, refl)
+    code_told (Copy r s) h k j = (Copy r s, refl, refl, h, k, refl)
+    code_told (Load r x) h k j = (Load r x, ap (λ (y : List ℕ). Load r y) (name_back names x once k.1.0), refl, h, k, refl)
+    code_told (StoreImm x n) h k j = (StoreImm x n, ap (λ (y : List ℕ). StoreImm y n) (name_back names x once k.0), refl, h, k, refl)
+    code_told (Store x r) h k j = (Store x r, ap (λ (y : List ℕ). Store y r) (name_back names x once k.0), refl, h, k, refl)
+    code_told (Xchg x r) h k j = (Xchg x r, ap (λ (y : List ℕ). Xchg y r) (name_back names x once k.0), refl, h, k, refl)
+    code_told Fence h k j = (Fence, refl, refl, h, k, refl)
+    code_told (CmpImm r n) h k j = (CmpImm r n, refl, refl, h, k, refl)
+    code_told (CmpReg r s) h k j = (CmpReg r s, refl, refl, h, k, refl)
+    code_told (Je l) h k j = (Je (label_at (own t) (place_of gap (position_in source l))), refl, ap (λ (p : ℕ). instr.Je p) (again l j), (may_stand l j).0, tt, found l j)
+    code_told (Jne l) h k j = (Jne (label_at (own t) (place_of gap (position_in source l))), refl, ap (λ (p : ℕ). instr.Jne p) (again l j), (may_stand l j).0, tt, found l j)
+    code_told (Jmp l) h k j = (Jmp (label_at (own t) (place_of gap (position_in source l))), refl, ap (λ (p : ℕ). instr.Jmp p) (again l j), (may_stand l j).0, tt, found l j)
 
-  abbrev IfGood : ℕ → Option CellView → Type 0
-  IfGood t None = Unit {0}
-  IfGood t (Some cell) = IsGoodCell t cell
+    -- ---- the rows of a text
 
-  good_at : (a t : ℕ) (cells : List CellView) → AllByRecursion IsPrintableCell cells → AllByRecursion (IsKnown names named) (cells_places a cells) → IfGood (a + t) (slice_get cells t)
-  good_at a t [] h k = tt
-  good_at a zero (cell ∷ cells) h k =
-      let places = both_of_all (IsKnown names named) (cell_places a cell) (cells_places (a + 1) cells) k in
-      subst (λ (u : ℕ). IsGoodCell u cell) (sym (add-zero a)) (h.0, places.0)
-  good_at a (suc t) (cell ∷ cells) h k =
-      let places = both_of_all (IsKnown names named) (cell_places a cell) (cells_places (a + 1) cells) k in
-      let same : (a + 1) + t ≡ a + suc t = omega arith in
-      subst (λ (u : ℕ). IfGood u (slice_get cells t)) same (good_at (a + 1) t cells h.1 places.1)
+    -- told behind its fence
+    abbrev IsToldMoved : Instr → Type 0
+    IsToldMoved i = IsTold t (moved gap i)
 
-  told_cell : IsDistinct bytes_eq names → (t : ℕ) (o : Option CellView) (rest : List Instr) → IfGood t o → AllByRecursion (IsTold t) rest
-      → AllByRecursion (IsTold t) (cons_option (option_map (instruction_of (number_in names)) (option_and_then (λ cell. cell) o)) rest)
-  told_cell once t None rest good h = h
-  told_cell once t (Some None) rest good h = h
-  told_cell once t (Some (Some c)) rest good h = (code_told once t c good.0 good.1, h)
+    told_content : (o : Option CodeView) (rest : List Instr) → IsPrintableContent o → AllByRecursion (IsKnown names named) (option_map_or (code_places t) o []) → JumpsAmong source o
+        → AllByRecursion IsToldMoved rest → AllByRecursion IsToldMoved (cons_option (option_map (instruction_of (number_in names) (position_in source)) o) rest)
+    told_content None rest h k j more = more
+    told_content (Some c) rest h k j more = (code_told c h k j, more)
 
-  -- a text's code is told
-  pub rows_told : IsDistinct bytes_eq names → (threads t : ℕ) (rows : List (List CellView)) → AllByRecursion (IsPrintableRow threads) rows → AllByRecursion (IsKnown names named) (flat_map row_places rows)
-      → AllByRecursion (IsTold t) (meaning.code_of (number_in names) rows t)
-  rows_told once threads t [] h k = tt
-  rows_told once threads t (row ∷ rows) h k =
-      let places = both_of_all (IsKnown names named) (row_places row) (flat_map row_places rows) k in
-      let here : IfGood t (slice_get row t) = let zero_first : 0 + t ≡ t = omega arith in subst (λ (u : ℕ). IfGood u (slice_get row t)) zero_first (good_at 0 t row h.0.1 places.0) in
-      told_cell once t (slice_get row t) (meaning.code_of (number_in names) rows t) here (rows_told once threads t rows h.1 places.1)
+    -- a cell of the text
+    abbrev IfTellable : Option CellView → Type 0
+    IfTellable None = Unit {0}
+    IfTellable (Some cell) = IsGoodCell t cell × (is_found source cell ≡ true)
+
+    told_cell : (o : Option CellView) (rest : List Instr) → IfTellable o → AllByRecursion IsToldMoved rest
+        → AllByRecursion IsToldMoved (cons_option (option_map (instruction_of (number_in names) (position_in source)) (option_and_then (λ cell. cell.code) o)) rest)
+    told_cell None rest good' more = more
+    told_cell (Some cell) rest good' more = told_content cell.code rest good'.0.0.1 good'.0.1 good'.1 more
+
+    module _ (all : List (List Label)) (mine : slice_index_or all t [] ≡ source) where
+      -- a cell of thread u
+      abbrev IfGood : ℕ → Option CellView → Type 0
+      IfGood u None = Unit {0}
+      IfGood u (Some cell) = IsGoodCell u cell × (is_found (slice_index_or all u []) cell ≡ true)
+
+      good_at : (a u : ℕ) (cells : List CellView) → AllByRecursion IsPrintableCell cells → AllByRecursion (IsKnown names named) (cells_places a cells) → are_found all a cells ≡ true
+          → IfGood (a + u) (slice_get cells u)
+      good_at a u [] h k j = tt
+      good_at a zero (cell ∷ cells) h k j =
+          let places = both_of_all (IsKnown names named) (cell_places a cell) (cells_places (a + 1) cells) k in
+          let here : is_found (slice_index_or all a []) cell ≡ true = and_first (is_found (slice_index_or all a []) cell) (are_found all (a + 1) cells) j in
+          subst (λ (v : ℕ). IfGood v (Some cell)) (sym (add-zero a)) ((h.0, places.0), here)
+      good_at a (suc u) (cell ∷ cells) h k j =
+          let places = both_of_all (IsKnown names named) (cell_places a cell) (cells_places (a + 1) cells) k in
+          let there : are_found all (a + 1) cells ≡ true = and_second (is_found (slice_index_or all a []) cell) (are_found all (a + 1) cells) j in
+          let next : (a + 1) + u ≡ a + suc u = omega arith in
+          subst (λ (v : ℕ). IfGood v (slice_get cells u)) next (good_at (a + 1) u cells h.1 places.1 there)
+
+      tellable : (o : Option CellView) → IfGood t o → IfTellable o
+      tellable None h = tt
+      tellable (Some cell) h = (h.0, subst (λ (ls : List Label). is_found ls cell ≡ true) mine h.1)
+
+      -- a text's code is told
+      pub rows_told : (threads : ℕ) (rows : List (List CellView)) → AllByRecursion (IsPrintableRow threads) rows → AllByRecursion (IsKnown names named) (flat_map row_places rows)
+          → list_all (are_found all 0) rows ≡ true → AllByRecursion IsToldMoved (meaning.code_of (number_in names) (position_in source) rows t)
+      rows_told threads [] h k j = tt
+      rows_told threads (row ∷ rows) h k j =
+          let places = both_of_all (IsKnown names named) (row_places row) (flat_map row_places rows) k in
+          let first : are_found all 0 row ≡ true = and_first (are_found all 0 row) (list_all (are_found all 0) rows) j in
+          let others : list_all (are_found all 0) rows ≡ true = and_second (are_found all 0 row) (list_all (are_found all 0) rows) j in
+          let zero_first : 0 + t ≡ t = omega arith in
+          let here : IfGood t (slice_get row t) = subst (λ (u : ℕ). IfGood u (slice_get row t)) zero_first (good_at 0 t row h.0.1 places.0 first) in
+          told_cell (slice_get row t) (meaning.code_of (number_in names) (position_in source) rows t) (tellable (slice_get row t) here) (rows_told threads rows h.1 places.1 others)
+
+    -- ---- fences
+
+    fence_told : (b : Bool) (code : List Instr) → AllByRecursion (IsTold t) code → AllByRecursion (IsTold t) ((if b then instr.Fence ∷ [] else []) ++ code)
+    fence_told true code h = ((Fence, refl, refl, tt, tt, refl), h)
+    fence_told false code h = h
+
+    pub fenced_told : (k : ℕ) (code : List Instr) → AllByRecursion IsToldMoved code → AllByRecursion (IsTold t) (fenced_code gap k code)
+    fenced_told k [] h = tt
+    fenced_told k (i ∷ code) h = fence_told (gap k) (moved gap i ∷ fenced_code gap (k + 1) code) (h.0, fenced_told (k + 1) code h.1)
 
   -- ---- the rows of the canonical text
 
@@ -117,65 +177,106 @@ module _ (names : List (List ℕ)) (named : Named) where
   told_at t zero (i ∷ code) h = h.0
   told_at t (suc k) (i ∷ code) h = told_at t k code h.1
 
-  good_cell : (t : ℕ) (o : Option Instr) → IfTold t o → IsGoodCell t (option_and_then (code_named names) o)
-  good_cell t None h = (tt, tt)
-  good_cell t (Some i) told = subst (IsGoodCell t) (sym told.1) (told.3, told.4)
+  -- what is known of an instruction with its names
+  abbrev IsGoodContent : ℕ → Option CodeView → Type 0
+  IsGoodContent t o = IsPrintableContent o × AllByRecursion (IsKnown names named) (option_map_or (code_places t) o []) × JumpsAmong (own t) o
+
+  good_content : (t : ℕ) (o : Option Instr) → IfTold t o → IsGoodContent t (option_map (code_named names (own t)) o)
+  good_content t None h = (tt, tt, refl)
+  good_content t (Some i) told = subst (λ (c : CodeView). IsGoodContent t (Some c)) (sym told.1) (told.3, told.4, told.5)
 
   -- each thread's code is told
   abbrev pub AreTold : List Thread → Type 0
   AreTold threads = (t : ℕ) → AllByRecursion (IsTold t) (code_of threads t)
 
-  cells_good : (threads : List Thread) → AreTold threads → (k t : ℕ) → IsGoodCell t (cell_of names threads k t)
-  cells_good threads told k t = good_cell t (instr_at threads t k) (told_at t k (code_of threads t) (told t))
+  module _ (threads : List Thread) (told : AreTold threads) (good : (t : ℕ) → AreGoodLabels (own t)) where
+    content : (k t : ℕ) → IsGoodContent t (option_map (code_named names (own t)) (instr_at threads t k))
+    content k t = good_content t (instr_at threads t k) (told_at t k (code_of threads t) (told t))
 
-  row_printable : (threads : List Thread) → AreTold threads → (k : ℕ) → IsPrintableRow (length threads) (row_of names threads k)
-  row_printable threads told k = (
-    length-map (range_with_len 0 (length threads)) (cell_of names threads k) ∙ length-range_with_len 0 (length threads),
-    all_of_range IsPrintableCell (cell_of names threads k) (λ t. (cells_good threads told k t).0) 0 (length threads),
-  )
+    cells_good : (k t : ℕ) → IsGoodCell t (cell_of names labels threads k t)
+    cells_good k t = let c = content k t in ((labels_good (own t) k (good t), c.0), c.1)
 
-  pub rows_printable : (threads : List Thread) → AreTold threads → AllByRecursion (IsPrintableRow (length threads)) (rows_of names threads)
-  rows_printable threads told = all_of_range (IsPrintableRow (length threads)) (row_of names threads) (row_printable threads told) 0 (longest threads)
+    row_printable : (k : ℕ) → IsPrintableRow (length threads) (row_of names labels threads k)
+    row_printable k = (
+      length-map (range_with_len 0 (length threads)) (cell_of names labels threads k) ∙ length-range_with_len 0 (length threads),
+      all_of_range IsPrintableCell (cell_of names labels threads k) (λ t. (cells_good k t).0) 0 (length threads),
+    )
 
-  row_known : (threads : List Thread) → AreTold threads → (k a n : ℕ) → AllByRecursion (IsKnown names named) (cells_places a (map (cell_of names threads k) (range_with_len a n)))
-  row_known threads told k a zero = tt
-  row_known threads told k a (suc n) =
-      all_of_both (IsKnown names named) (cell_places a (cell_of names threads k a)) (cells_places (a + 1) (map (cell_of names threads k) (range_with_len (a + 1) n)))
-      (cells_good threads told k a).1 (row_known threads told k (a + 1) n)
+    pub rows_printable : AllByRecursion (IsPrintableRow (length threads)) (rows_of names labels threads)
+    rows_printable = all_of_range (IsPrintableRow (length threads)) (row_of names labels threads) row_printable 0 (most_cells labels 0 threads)
 
-  some_rows_known : (threads : List Thread) → AreTold threads → (a n : ℕ) → AllByRecursion (IsKnown names named) (flat_map row_places (map (row_of names threads) (range_with_len a n)))
-  some_rows_known threads told a zero = tt
-  some_rows_known threads told a (suc n) =
-      all_of_both (IsKnown names named) (row_places (row_of names threads a)) (flat_map row_places (map (row_of names threads) (range_with_len (a + 1) n)))
-      (row_known threads told a 0 (length threads)) (some_rows_known threads told (a + 1) n)
+    row_known : (k a n : ℕ) → AllByRecursion (IsKnown names named) (cells_places a (map (cell_of names labels threads k) (range_with_len a n)))
+    row_known k a zero = tt
+    row_known k a (suc n) =
+        all_of_both (IsKnown names named) (cell_places a (cell_of names labels threads k a)) (cells_places (a + 1) (map (cell_of names labels threads k) (range_with_len (a + 1) n)))
+        (cells_good k a).1 (row_known k (a + 1) n)
 
-  pub rows_known : (threads : List Thread) → AreTold threads → AllByRecursion (IsKnown names named) (flat_map row_places (rows_of names threads))
-  rows_known threads told = some_rows_known threads told 0 (longest threads)
+    some_rows_known : (a n : ℕ) → AllByRecursion (IsKnown names named) (flat_map row_places (map (row_of names labels threads) (range_with_len a n)))
+    some_rows_known a zero = tt
+    some_rows_known a (suc n) =
+        all_of_both (IsKnown names named) (row_places (row_of names labels threads a)) (flat_map row_places (map (row_of names labels threads) (range_with_len (a + 1) n)))
+        (row_known a 0 (length threads)) (some_rows_known (a + 1) n)
+
+    pub rows_known : AllByRecursion (IsKnown names named) (flat_map row_places (rows_of names labels threads))
+    rows_known = some_rows_known 0 (most_cells labels 0 threads)
+
+    row_found : (k a n : ℕ) → are_found labels a (map (cell_of names labels threads k) (range_with_len a n)) ≡ true
+    row_found k a zero = refl
+    row_found k a (suc n) =
+        both_true (is_found (own a) (cell_of names labels threads k a)) (are_found labels (a + 1) (map (cell_of names labels threads k) (range_with_len (a + 1) n)))
+        (content k a).2 (row_found k (a + 1) n)
+
+    some_rows_found : (a n : ℕ) → list_all (are_found labels 0) (map (row_of names labels threads) (range_with_len a n)) ≡ true
+    some_rows_found a zero = refl
+    some_rows_found a (suc n) =
+        both_true (are_found labels 0 (row_of names labels threads a)) (list_all (are_found labels 0) (map (row_of names labels threads) (range_with_len (a + 1) n)))
+        (row_found a 0 (length threads)) (some_rows_found (a + 1) n)
+
+    -- its jumps are found
+    pub rows_found : list_all (are_found labels 0) (rows_of names labels threads) ≡ true
+    rows_found = some_rows_found 0 (most_cells labels 0 threads)
 
   -- ---- what the canonical rows mean
 
-  told_again : (t : ℕ) (o : Option Instr) → IfTold t o → option_map (instruction_of (number_in names)) (option_and_then (code_named names) o) ≡ o
+  told_again : (t : ℕ) (o : Option Instr) → IfTold t o → option_map (instruction_of (number_in names) (position_in (own t))) (option_map (code_named names (own t)) o) ≡ o
   told_again t None h = refl
-  told_again t (Some i) told = ap (option_map (instruction_of (number_in names))) told.1 ∙ ap (λ (x : Instr). Some x) told.2
+  told_again t (Some i) told = ap (λ (c : CodeView). Some (instruction_of (number_in names) (position_in (own t)) c)) told.1 ∙ ap (λ (x : Instr). Some x) told.2
 
-  within_longest : (threads : List Thread) (t : ℕ) → length (code_of threads t) ≤ longest threads
-  within_longest [] t = omega arith
-  within_longest (thread ∷ threads) zero = omega arith
-  within_longest (thread ∷ threads) (suc t) = let rest = within_longest threads t in omega (arith, rest)
+  -- how many cells code has, with the labels of its end
+  abbrev pub cells : List Label → List Instr → ℕ
+  cells ls code = length code + (if nat_lt 0 (length (labels_at ls (length code))) then 1 else 0)
+
+  within_from : (a t : ℕ) (threads : List Thread) → t < length threads → cells (own (a + t)) (code_of threads t) ≤ most_cells labels a threads
+  within_from a t [] lt = absurd (omega arith)
+  within_from a zero (thread ∷ threads) lt =
+      let e : a + 0 ≡ a = add-zero a in
+      let same : cells (own (a + 0)) thread.code ≡ cells (own a) thread.code = ap (λ (u : ℕ). cells (own u) thread.code) e in
+      omega arith
+  within_from a (suc t) (thread ∷ threads) lt =
+      let e : (a + 1) + t ≡ a + suc t = omega arith in
+      let same : cells (own ((a + 1) + t)) (code_of threads t) ≡ cells (own (a + suc t)) (code_of threads t) = ap (λ (u : ℕ). cells (own u) (code_of threads t)) e in
+      let rest = within_from (a + 1) t threads (omega (arith, lt)) in
+      omega arith
+
+  pub within_most : (threads : List Thread) (t : ℕ) → t < length threads → cells (own t) (code_of threads t) ≤ most_cells labels 0 threads
+  within_most threads t lt =
+      let e : 0 + t ≡ t = omega arith in
+      subst (λ (u : ℕ). cells (own u) (code_of threads t) ≤ most_cells labels 0 threads) e (within_from 0 t threads lt)
 
   filter_map_map : {X Y Z : Type 0} (h : Y → Option Z) (f : X → Y) (xs : List X) → filter_map h (map f xs) ≡ filter_map (λ x. h (f x)) xs
   filter_map_map h f [] = refl
   filter_map_map {Z = Z} h f (x ∷ xs) = ap (λ (zs : List Z). cons_option (h (f x)) zs) (filter_map_map h f xs)
 
   -- the code of the canonical rows is the code
-  pub code_again : (threads : List Thread) → AreTold threads → (t : ℕ) → t < length threads → meaning.code_of (number_in names) (rows_of names threads) t ≡ code_of threads t
+  pub code_again : (threads : List Thread) → AreTold threads → (t : ℕ) → t < length threads → meaning.code_of (number_in names) (position_in (own t)) (rows_of names labels threads) t ≡ code_of threads t
   code_again threads told t lt =
-      let cell : ℕ → CellView = λ k. cell_of names threads k t in
-      let at : (k : ℕ) → instruction_in (number_in names) t (row_of names threads (0 + k)) ≡ slice_get (code_of threads t) k =
+      let f : List CellView → Option Instr = instruction_in (number_in names) (position_in (own t)) t in
+      let at : (k : ℕ) → f (row_of names labels threads (0 + k)) ≡ slice_get (code_of threads t) k =
       λ k.
       let same : 0 + k ≡ k = omega arith in
-      ap (λ (j : ℕ). instruction_in (number_in names) t (row_of names threads j)) same
-      ∙ ap (λ (o : Option CellView). option_map (instruction_of (number_in names)) (option_and_then (λ c. c) o)) (made_at (cell_of names threads k) (length threads) t lt)
+      ap (λ (j : ℕ). f (row_of names labels threads j)) same
+      ∙ ap (λ (o : Option CellView). option_map (instruction_of (number_in names) (position_in (own t))) (option_and_then (λ c. c.code) o)) (made_at (cell_of names labels threads k) (length threads) t lt)
       ∙ told_again t (slice_get (code_of threads t) k) (told_at t k (code_of threads t) (told t)) in
-      filter_map_map (instruction_in (number_in names) t) (row_of names threads) (range_with_len 0 (longest threads))
-      ∙ by_places (λ k. instruction_in (number_in names) t (row_of names threads k)) (code_of threads t) 0 (longest threads) at (within_longest threads t)
+      let count : length (code_of threads t) ≤ most_cells labels 0 threads = (let w = within_most threads t lt in omega arith) in
+      filter_map_map f (row_of names labels threads) (range_with_len 0 (most_cells labels 0 threads))
+      ∙ by_places (λ k. f (row_of names labels threads k)) (code_of threads t) 0 (most_cells labels 0 threads) at count

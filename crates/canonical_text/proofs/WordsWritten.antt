@@ -9,7 +9,7 @@ use Rattle.text_tokens.specs.Lexing.{IsWord}
 use Rattle.text_tokens.proofs.NumberLaws.{own}
 use Rattle.tso_program.specs.declared.instruction.Reg.{Reg}
 use Rattle.tso_program.specs.declared.instruction.Reg.TheVariants.{Eax, Ebx, Ecx, Edx, Esi, Edi}
-use Rattle.litmus_syntax.specs.Words.{reg_of, opens_condition, is_mov, is_mfence, column_name}
+use Rattle.litmus_syntax.specs.Words.{reg_of, opens_condition, column_name}
 use Rattle.litmus_text.specs.Outcomes.{register_name}
 
 -- ---- words
@@ -20,8 +20,35 @@ mov_word = (refl, refl)
 pub mfence_word : IsWord (codes "MFENCE")
 mfence_word = (refl, refl)
 
+pub xchg_word : IsWord (codes "XCHG")
+xchg_word = (refl, refl)
+
+pub cmp_word : IsWord (codes "CMP")
+cmp_word = (refl, refl)
+
+pub je_word : IsWord (codes "JE")
+je_word = (refl, refl)
+
+pub jne_word : IsWord (codes "JNE")
+jne_word = (refl, refl)
+
+pub jmp_word : IsWord (codes "JMP")
+jmp_word = (refl, refl)
+
+pub locations_word : IsWord (codes "locations")
+locations_word = (refl, refl)
+
 pub exists_word : IsWord (codes "exists")
 exists_word = (refl, refl)
+
+pub forall_word : IsWord (codes "forall")
+forall_word = (refl, refl)
+
+pub not_word : IsWord (codes "not")
+not_word = (refl, refl)
+
+pub false_word : IsWord (codes "false")
+false_word = (refl, refl)
 
 pub true_word : IsWord (codes "true")
 true_word = (refl, refl)
@@ -62,17 +89,17 @@ column_word t h = (refl, digits_in_word (decimal t) (digits_decimal own t (omega
 
 -- ---- what they stand for
 
-pub moves : is_mov (codes "MOV") ≡ true
-unfolding is_mov
-moves = refl
-
-pub fences : is_mfence (codes "MFENCE") ≡ true
-unfolding is_mfence
-fences = refl
-
 pub opens : opens_condition (codes "exists") ≡ true
 unfolding opens_condition
 opens = refl
+
+pub opens_all : opens_condition (codes "forall") ≡ true
+unfolding opens_condition
+opens_all = refl
+
+pub opens_locations : opens_condition (codes "locations") ≡ true
+unfolding opens_condition
+opens_locations = refl
 
 pub register_named : (r : Reg) → reg_of (register_name r) ≡ Some r
 unfolding reg_of

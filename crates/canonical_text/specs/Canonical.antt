@@ -1,5 +1,5 @@
 -- The canonical text of what a litmus text stands for.
-use Rattle.std.specs.Prelude.{ℕ, true, false, List, [], ◌∷◌, ◌++◌, ◌+◌, map, max, length, Option, Some, None, option_and_then, slice_index, slice_index_or, if◌then◌else◌}
+use Rattle.std.specs.Prelude.{ℕ, Bool, List, [], ◌∷◌, ◌++◌, ◌+◌, ◌==◌, map, max, nat_lt, length, Option, Some, None, option_map, slice_index, slice_index_or, if◌then◌else◌}
 use Rattle.std.specs.List.{flat_map, filter_map, range_with_len}
 use Rattle.gap_sets.specs.Gaps.{SetOfGaps}
 use Rattle.tso_program.specs.declared.instruction.Reg.{Reg}
@@ -9,15 +9,23 @@ use Rattle.tso_program.specs.declared.listing.Thread.{Thread}
 use Rattle.tso_program.specs.declared.listing.Listing.{Listing}
 use Rattle.tso_program.specs.Instructions.{number}
 use Rattle.tso_program.specs.Listings.{instr_at}
-use Rattle.tso_program.specs.Fences.{gaps_in, fence}
+use Rattle.tso_program.specs.Fences.{Gaps, gaps_in, place_of, fence}
 use Rattle.conditions.specs.declared.atom.Atom.{Atom}
 use Rattle.conditions.specs.declared.atom.Atom.TheVariants as atom
+use Rattle.conditions.specs.declared.condition.Condition.{Condition}
+use Rattle.conditions.specs.declared.condition.Quantifier.{Quantifier}
+use Rattle.conditions.specs.declared.condition.Quantifier.TheVariants.{Exists, NotExists, Forall}
 use Rattle.conditions.specs.Tree.{Tree}
 use Rattle.conditions.specs.Grammar.{Sign}
 use Rattle.conditions.specs.Grammar as sign
 use Rattle.conditions.specs.Canonical.{enclosed_signs_of}
-use Rattle.litmus_syntax.specs.Views.{PlaceView, Location, Register, EntryView, CodeView, CellView, BodyView, SignView}
+use Rattle.litmus_syntax.specs.declared.ending.Quantifier.{Quantifier as Word}
+use Rattle.litmus_syntax.specs.declared.ending.Quantifier.TheVariants as word
+use Rattle.litmus_syntax.specs.Views.{PlaceView, Location, Register, EntryView, CodeView, CellView, BodyView, SignView, EndingView}
 use Rattle.litmus_syntax.specs.Views as view
+use Rattle.litmus_text.specs.declared.label.Label.{Label}
+use Rattle.litmus_text.specs.declared.observed.Observed.{Observed}
+use Rattle.litmus_text.specs.declared.observed.Observed.TheVariants as observed
 use Rattle.litmus_text.specs.declared.litmus.Litmus.{Litmus}
 use Rattle.litmus_text.specs.Names.{Names, all_registers}
 use Rattle.litmus_text.specs.Outcomes.{is_named}
@@ -53,41 +61,73 @@ register_entries names t (thread ∷ threads) = thread_entries names t thread.re
 abbrev pub entries_of : Names → Listing → List EntryView
 entries_of names p = location_entries names.locations p.memory ++ register_entries names 0 p.threads
 
+-- ---- labels
+
+-- the label's name, if it stands at position k
+abbrev pub named_at : ℕ → Label → Option (List ℕ)
+named_at k l = if l.position == k then Some l.name else None
+
+-- the names of the labels at position k, in text order
+abbrev pub labels_at : List Label → ℕ → List (List ℕ)
+labels_at labels k = filter_map (named_at k) labels
+
+-- the name of the first of them; none where there is none
+abbrev pub label_at : List Label → ℕ → List ℕ
+label_at labels k = slice_index_or (labels_at labels k) 0 []
+
+-- thread t's labels
+abbrev pub labels_of : List (List Label) → ℕ → List Label
+labels_of labels t = slice_index_or labels t []
+
 -- ---- rows
 
--- an instruction with its location's name; none for those that litmus texts have no words for
-abbrev pub code_named : List (List ℕ) → Instr → Option CodeView
-code_named names (instr.LoadImm r n) = Some (view.LoadImm r n)
-code_named names (instr.Copy r s) = Some (view.Copy r s)
-code_named names (instr.Load r l) = Some (view.Load r (name_at names l))
-code_named names (instr.StoreImm l n) = Some (view.StoreImm (name_at names l) n)
-code_named names (instr.Store l r) = Some (view.Store (name_at names l) r)
-code_named names instr.Fence = Some view.Fence
-code_named names (instr.Xchg l r) = None
-code_named names (instr.CmpImm r n) = None
-code_named names (instr.CmpReg r s) = None
-code_named names (instr.Je k) = None
-code_named names (instr.Jne k) = None
-code_named names (instr.Jmp k) = None
+-- an instruction with its location's name, or the name of the first label where it jumps to
+abbrev pub code_named : List (List ℕ) → List Label → Instr → CodeView
+code_named names labels (instr.LoadImm r n) = view.LoadImm r n
+code_named names labels (instr.Copy r s) = view.Copy r s
+code_named names labels (instr.Load r l) = view.Load r (name_at names l)
+code_named names labels (instr.StoreImm l n) = view.StoreImm (name_at names l) n
+code_named names labels (instr.Store l r) = view.Store (name_at names l) r
+code_named names labels (instr.Xchg l r) = view.Xchg (name_at names l) r
+code_named names labels instr.Fence = view.Fence
+code_named names labels (instr.CmpImm r n) = view.CmpImm r n
+code_named names labels (instr.CmpReg r s) = view.CmpReg r s
+code_named names labels (instr.Je k) = view.Je (label_at labels k)
+code_named names labels (instr.Jne k) = view.Jne (label_at labels k)
+code_named names labels (instr.Jmp k) = view.Jmp (label_at labels k)
 
--- the cell of thread t in row k: its instruction k
-abbrev pub cell_of : List (List ℕ) → List Thread → ℕ → ℕ → CellView
-cell_of names threads k t = option_and_then (code_named names) (instr_at threads t k)
+-- the cell of thread t in row k: the labels at position k, and instruction k
+abbrev pub cell_of : List (List ℕ) → List (List Label) → List Thread → ℕ → ℕ → CellView
+cell_of names labels threads k t = record {
+  labels = labels_at (labels_of labels t) k;
+  code = option_map (code_named names (labels_of labels t)) (instr_at threads t k);
+}
 
-abbrev pub row_of : List (List ℕ) → List Thread → ℕ → List CellView
-row_of names threads k = map (cell_of names threads k) (range_with_len 0 (length threads))
+abbrev pub row_of : List (List ℕ) → List (List Label) → List Thread → ℕ → List CellView
+row_of names labels threads k = map (cell_of names labels threads k) (range_with_len 0 (length threads))
 
--- how many instructions the longest thread has
-abbrev pub longest : List Thread → ℕ
-longest [] = 0
-longest (thread ∷ threads) = max (length thread.code) (longest threads)
+-- how many cells a thread has: one for each instruction, and one for the labels of its end where it has such
+abbrev pub cell_count : List Label → Thread → ℕ
+cell_count labels thread = length thread.code + (if nat_lt 0 (length (labels_at labels (length thread.code))) then 1 else 0)
 
--- as many rows as the longest thread has instructions
-abbrev pub rows_of : List (List ℕ) → List Thread → List (List CellView)
-rows_of names threads = map (row_of names threads) (range_with_len 0 (longest threads))
+-- how many cells the thread with most of them has, from thread t on
+abbrev pub most_cells : List (List Label) → ℕ → List Thread → ℕ
+most_cells labels t [] = 0
+most_cells labels t (thread ∷ threads) = max (cell_count (labels_of labels t) thread) (most_cells labels (t + 1) threads)
 
-abbrev pub body_of : Names → Listing → BodyView
-body_of names p = record { entries = entries_of names p; threads = length p.threads; rows = rows_of names.locations p.threads }
+-- as many rows as a thread has cells
+abbrev pub rows_of : List (List ℕ) → List (List Label) → List Thread → List (List CellView)
+rows_of names labels threads = map (row_of names labels threads) (range_with_len 0 (most_cells labels 0 threads))
+
+abbrev pub body_of : Names → List (List Label) → Listing → BodyView
+body_of names labels p = record { entries = entries_of names p; threads = length p.threads; rows = rows_of names.locations labels p.threads }
+
+-- ---- what is observed
+
+-- a place with its location's name
+abbrev pub place_named : List (List ℕ) → Observed → PlaceView
+place_named names (observed.Location l) = Location (name_at names l)
+place_named names (observed.Register t r) = Register t r
 
 -- ---- the condition
 
@@ -96,27 +136,49 @@ abbrev pub atom_named : List (List ℕ) → Atom → SignView
 atom_named names (atom.Location l n) = view.Atom (Location (name_at names l)) n
 atom_named names (atom.Register t r n) = view.Atom (Register t r) n
 
--- a sign with its location's name; none for those that litmus texts have no words for
-abbrev pub sign_named : List (List ℕ) → Sign Atom → Option SignView
-sign_named names (sign.Atom a) = Some (atom_named names a)
-sign_named names (sign.Const true) = Some view.True
-sign_named names (sign.Const false) = None
-sign_named names sign.Not = None
-sign_named names sign.And = Some view.And
-sign_named names sign.Or = None
-sign_named names sign.Open = Some view.Open
-sign_named names sign.Close = Some view.Close
+-- a sign with its location's name
+abbrev pub sign_named : List (List ℕ) → Sign Atom → SignView
+sign_named names (sign.Atom a) = atom_named names a
+sign_named names (sign.Const b) = view.Const b
+sign_named names sign.Not = view.Not
+sign_named names sign.And = view.And
+sign_named names sign.Or = view.Or
+sign_named names sign.Open = view.Open
+sign_named names sign.Close = view.Close
 
 -- the formula's canonical signs, in one pair of parentheses
 abbrev pub signs_named : List (List ℕ) → Tree Atom → List SignView
-signs_named names formula = filter_map (sign_named names) (enclosed_signs_of formula)
+signs_named names formula = map (sign_named names) (enclosed_signs_of formula)
+
+abbrev pub word_of : Quantifier → Word
+word_of Exists = word.Exists
+word_of NotExists = word.NotExists
+word_of Forall = word.Forall
+
+-- what is observed, and the condition
+abbrev pub ending_of : List (List ℕ) → List Observed → Condition → EndingView
+ending_of names shown condition =
+    record { observed = map (place_named names) shown; quantifier = word_of condition.quantifier; signs = signs_named names condition.formula }
 
 -- ---- the whole
 
+-- a label where its place lies in the fenced thread: at its fence, where a fence stands before its instruction
+abbrev pub moved_label : (ℕ → Bool) → Label → Label
+moved_label gap l = record { name = l.name; position = place_of gap l.position }
+
+-- the labels of the threads from thread t on
+abbrev pub moved_labels : Gaps → ℕ → List (List Label) → List (List Label)
+moved_labels gaps t [] = []
+moved_labels gaps t (labels ∷ more) = map (moved_label (gaps t)) labels ∷ moved_labels gaps (t + 1) more
+
 -- what a litmus text stands for, with an MFENCE in each gap of the set
 abbrev pub fenced_at : SetOfGaps → Litmus Listing → Litmus Listing
-fenced_at gaps litmus = record litmus { program = fence (gaps_in litmus.program gaps) litmus.program }
+fenced_at gaps litmus = record litmus {
+  program = fence (gaps_in litmus.program gaps) litmus.program;
+  labels = moved_labels (gaps_in litmus.program gaps) 0 litmus.labels;
+}
 
 -- the canonical text
 abbrev pub canonical_text : Litmus Listing → List ℕ
-canonical_text litmus = text_with litmus.name (body_of litmus.names litmus.program) litmus.condition.quantifier (signs_named litmus.names.locations litmus.condition.formula)
+canonical_text litmus =
+    text_with litmus.name (body_of litmus.names litmus.labels litmus.program) (ending_of litmus.names.locations litmus.observed litmus.condition)

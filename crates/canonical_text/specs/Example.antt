@@ -35,6 +35,8 @@ fenced = record {
   program = fence (λ t k. nat_le 1 k) program;
   names = names;
   condition = record { quantifier = Exists; formula = tree.And (tree.Atom (atom.Register 0 Eax 0)) (tree.Atom (atom.Register 1 Eax 0)) };
+  observed = [];
+  labels = [] ∷ [] ∷ [];
 }
 
 -- a line and what follows it

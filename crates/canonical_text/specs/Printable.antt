@@ -1,10 +1,10 @@
 -- What can be printed, so that it is read again.
-use Rattle.std.specs.Prelude.{◌≡◌, ℕ, ◌<◌, ◌≤◌, Bool, true, false, List, [], ◌∷◌, map, length, Some, None}
+use Rattle.std.specs.Prelude.{◌≡◌, ℕ, ◌<◌, ◌≤◌, Bool, true, false, List, [], ◌∷◌, map, length, Option, Some, None}
 use Rattle.std.specs.List.{AllByRecursion}
 use Rattle.text_tokens.specs.Lexing.{IsWord}
-use Rattle.litmus_syntax.specs.Words.{is_name}
-use Rattle.litmus_syntax.specs.Views.{PlaceView, Location, Register, EntryView, CodeView, LoadImm, Copy, Load, StoreImm, Store, Fence, CellView, BodyView, SignView, Atom, True, And, Open, Close}
-use Rattle.litmus_syntax.specs.Grammar.{NoneTwice, place_of}
+use Rattle.litmus_syntax.specs.Words.{is_name, is_label}
+use Rattle.litmus_syntax.specs.Views.{PlaceView, Location, Register, EntryView, CodeView, LoadImm, Copy, Load, StoreImm, Store, Xchg, Fence, CmpImm, CmpReg, Je, Jne, Jmp, CellView, BodyView, SignView, Atom, Const, Not, And, Or, Open, Close, EndingView}
+use Rattle.litmus_syntax.specs.Grammar.{NoneTwice, place_of, labels_of}
 
 -- a number of the texts
 abbrev pub IsNumber : ℕ → Type 0
@@ -13,6 +13,10 @@ IsNumber n = n ≤ 4294967295
 -- a word that may name a location
 abbrev pub IsLocationName : List ℕ → Type 0
 IsLocationName x = IsWord x × (is_name x ≡ true)
+
+-- a word that may name a label
+abbrev pub IsLabelName : List ℕ → Type 0
+IsLabelName l = IsWord l × (is_label l ≡ true)
 
 -- a location's name, or a register of one of so many threads
 abbrev pub IsPrintablePlace : ℕ → PlaceView → Type 0
@@ -28,28 +32,41 @@ IsPrintableCode (Copy r s) = Unit {0}
 IsPrintableCode (Load r x) = IsLocationName x
 IsPrintableCode (StoreImm x n) = IsLocationName x × IsNumber n
 IsPrintableCode (Store x r) = IsLocationName x
+IsPrintableCode (Xchg x r) = IsLocationName x
 IsPrintableCode Fence = Unit {0}
+IsPrintableCode (CmpImm r n) = IsNumber n
+IsPrintableCode (CmpReg r s) = Unit {0}
+IsPrintableCode (Je l) = IsWord l
+IsPrintableCode (Jne l) = IsWord l
+IsPrintableCode (Jmp l) = IsWord l
+
+-- an instruction or nothing
+abbrev pub IsPrintableContent : Option CodeView → Type 0
+IsPrintableContent None = Unit {0}
+IsPrintableContent (Some c) = IsPrintableCode c
 
 abbrev pub IsPrintableCell : CellView → Type 0
-IsPrintableCell None = Unit {0}
-IsPrintableCell (Some c) = IsPrintableCode c
+IsPrintableCell c = AllByRecursion IsLabelName c.labels × IsPrintableContent c.code
 
 -- a cell for each of so many threads
 abbrev pub IsPrintableRow : ℕ → List CellView → Type 0
 IsPrintableRow threads cells = (length cells ≡ threads) × AllByRecursion IsPrintableCell cells
 
--- initial values that name nothing twice, at least one thread, and rows
+-- initial values that name nothing twice, at least one thread, and rows in which no label stands twice in its thread
 pub record IsPrintable (b : BodyView) : Type 0 where
   pub some_thread : 0 < b.threads
   pub few_threads : IsNumber b.threads
   pub entries : AllByRecursion (IsPrintableEntry b.threads) b.entries
   pub none_twice : NoneTwice (map place_of b.entries)
   pub rows : AllByRecursion (IsPrintableRow b.threads) b.rows
+  pub labels_once : NoneTwice (labels_of b.rows)
 
 abbrev pub IsPrintableSign : ℕ → SignView → Type 0
 IsPrintableSign threads (Atom p n) = IsPrintablePlace threads p × IsNumber n
-IsPrintableSign threads True = Unit {0}
+IsPrintableSign threads (Const b) = Unit {0}
+IsPrintableSign threads Not = Unit {0}
 IsPrintableSign threads And = Unit {0}
+IsPrintableSign threads Or = Unit {0}
 IsPrintableSign threads Open = Unit {0}
 IsPrintableSign threads Close = Unit {0}
 
@@ -57,8 +74,10 @@ IsPrintableSign threads Close = Unit {0}
 abbrev pub begins_with_word : List SignView → Bool
 begins_with_word [] = false
 begins_with_word (Atom p n ∷ ss) = true
-begins_with_word (True ∷ ss) = true
+begins_with_word (Const b ∷ ss) = true
+begins_with_word (Not ∷ ss) = true
 begins_with_word (And ∷ ss) = false
+begins_with_word (Or ∷ ss) = false
 begins_with_word (Open ∷ ss) = false
 begins_with_word (Close ∷ ss) = false
 
@@ -66,11 +85,18 @@ begins_with_word (Close ∷ ss) = false
 abbrev pub SignsAreApart : List SignView → Type 0
 SignsAreApart [] = Unit {0}
 SignsAreApart (Atom p n ∷ ss) = (begins_with_word ss ≡ false) × SignsAreApart ss
-SignsAreApart (True ∷ ss) = (begins_with_word ss ≡ false) × SignsAreApart ss
+SignsAreApart (Const b ∷ ss) = (begins_with_word ss ≡ false) × SignsAreApart ss
+SignsAreApart (Not ∷ ss) = SignsAreApart ss
 SignsAreApart (And ∷ ss) = SignsAreApart ss
+SignsAreApart (Or ∷ ss) = SignsAreApart ss
 SignsAreApart (Open ∷ ss) = SignsAreApart ss
 SignsAreApart (Close ∷ ss) = SignsAreApart ss
 
 -- signs over so many threads that can be printed one behind the other
 abbrev pub ArePrintable : ℕ → List SignView → Type 0
 ArePrintable threads ss = AllByRecursion (IsPrintableSign threads) ss × SignsAreApart ss
+
+-- what is observed and a condition, over so many threads
+pub record IsPrintableEnding (threads : ℕ) (e : EndingView) : Type 0 where
+  pub observed : AllByRecursion (IsPrintablePlace threads) e.observed
+  pub signs : ArePrintable threads e.signs

@@ -1,11 +1,10 @@
 //! The condition.
 ghost use Rattle.std.specs.Prelude.{◌≡◌, ◌++◌, OnOk, map};
-ghost use Rattle.std.specs.List.{flat_map, filter_map};
-ghost use Rattle.std.specs.Option.{option_to_list};
+ghost use Rattle.std.specs.List.{flat_map};
 ghost use Rattle.text_tokens.specs.Pieces.{text_of};
 ghost use Rattle.conditions.specs.Tokens.{sign_of};
 ghost use Rattle.canonical_text.specs.Spelling.{sign_pieces, quantifier_pieces, condition_pieces};
-ghost use Rattle.canonical_text.specs.Canonical.{atom_named, sign_named, signs_named};
+ghost use Rattle.canonical_text.specs.Canonical.{atom_named, sign_named, signs_named, word_of};
 
 use crate::words::{name_at, push_location_value, push_register_value};
 use conditions::{Atom, Condition, Quantifier, Token};
@@ -32,22 +31,24 @@ fn push_atom(
     }
 }
 
-/// A sign; nothing for those that litmus texts have no words for.
+/// A sign.
 fn push_sign(
     alloc: Global,
     out: &mut Vec<u8>,
     names: &NameTable,
     sign: Token,
 ) -> Result<(), AllocError>
-    ensures { OnOk result (out.new.items ≡ out.old.items ++ text_of (flat_map sign_pieces (option_to_list (sign_named names.now.locations (sign_of sign))))) }
+    ensures { OnOk result (out.new.items ≡ out.old.items ++ text_of (sign_pieces (sign_named names.now.locations (sign_of sign)))) }
 {
     match sign {
         Token::Atom(atom) => push_atom(alloc, out, names, atom),
         Token::Const(true) => out.extend_from_slice(b"true"),
+        Token::Const(false) => out.extend_from_slice(b"false"),
+        Token::Not => out.extend_from_slice(b"not "),
         Token::And => out.extend_from_slice(b" /\\ "),
+        Token::Or => out.extend_from_slice(b" \\/ "),
         Token::Open => out.extend_from_slice(b"("),
         Token::Close => out.extend_from_slice(b")"),
-        Token::Const(false) | Token::Not | Token::Or => Ok(()),
     }
 }
 
@@ -57,7 +58,7 @@ fn push_signs(
     names: &NameTable,
     signs: &[Token],
 ) -> Result<(), AllocError>
-    ensures { OnOk result (out.new.items ≡ out.old.items ++ text_of (flat_map sign_pieces (filter_map (sign_named names.now.locations) (map sign_of signs.now)))) }
+    ensures { OnOk result (out.new.items ≡ out.old.items ++ text_of (flat_map sign_pieces (map (sign_named names.now.locations) (map sign_of signs.now)))) }
 {
     for sign in signs {
         push_sign(alloc, out, names, *sign)?;
@@ -66,7 +67,7 @@ fn push_signs(
 }
 
 fn push_quantifier(out: &mut Vec<u8>, quantifier: Quantifier) -> Result<(), AllocError>
-    ensures { OnOk result (out.new.items ≡ out.old.items ++ text_of (quantifier_pieces quantifier)) }
+    ensures { OnOk result (out.new.items ≡ out.old.items ++ text_of (quantifier_pieces (word_of quantifier))) }
 {
     match quantifier {
         Quantifier::Exists => out.extend_from_slice(b"exists"),
@@ -83,7 +84,7 @@ pub fn push_condition(
     condition: &Condition,
 ) -> Result<(), AllocError>
     ensures { OnOk result (out.new.items ≡ out.old.items
-        ++ text_of (condition_pieces condition.now.quantifier (signs_named names.now.locations condition.now.formula))) }
+        ++ text_of (condition_pieces (word_of condition.now.quantifier) (signs_named names.now.locations condition.now.formula))) }
 {
     let signs = condition.formula.enclosed_tokens(alloc)?;
     push_quantifier(out, condition.quantifier)?;

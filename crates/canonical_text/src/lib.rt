@@ -1,9 +1,12 @@
 //! The canonical text of a litmus test: one spelling for each, which reads back.
 #![tactic(auto)]
 
+mod code;
 mod entries;
 mod formula;
+mod labels;
 mod laws;
+mod observed;
 mod rows;
 mod words;
 mod writer;

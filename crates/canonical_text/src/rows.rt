@@ -1,19 +1,23 @@
 //! The header row and the rows of instructions.
 ghost use Rattle.std.specs.Prelude.{◌≡◌, ◌<◌, ◌≤◌, ◌++◌, [], OnOk, codes, length, if◌then◌else◌, nat_lt};
-ghost use Rattle.std.specs.List.{flat_map, range_with_len};
+ghost use Rattle.std.specs.List.{flat_map};
 ghost use Rattle.text_tokens.specs.Pieces.{text_of};
-ghost use Rattle.canonical_text.specs.Spelling.{memory_pieces, immediate_pieces, cell_pieces, row_pieces, header_pieces, column_pieces, joined, row_end};
-ghost use Rattle.canonical_text.specs.Canonical.{name_at, code_named, cell_of, row_of, rows_of, longest};
-ghost use Rattle.litmus_text.specs.Outcomes.{register_name};
+ghost use Rattle.tso_program.specs.Listings.{instr_at};
+ghost use Rattle.tso_program.specs.Fences.{gaps_in};
+ghost use Rattle.canonical_text.specs.Spelling.{bar, cell_pieces, row_pieces, header_pieces, column_pieces};
+ghost use Rattle.canonical_text.specs.Canonical.{labels_of, moved_labels, cell_of, row_of, rows_of, cell_count, most_cells};
 
-use crate::words::{name_at, push_number, push_register};
-use litmus_text::NameTable;
+use crate::code::push_code;
+use crate::labels::{has_label, push_labels};
+use crate::words::{push_gap, push_number};
+use gap_sets::GapSet;
+use litmus_text::Litmus;
 use std::alloc::{AllocError, Global};
-use tso_program::{Instr, Reg, Thread};
+use tso_program::{FencedProgram, Instr, Program, Thread};
 
 /// ` | `, if a column stands before this one.
 fn push_bar(out: &mut Vec<u8>, column: usize) -> Result<(), AllocError>
-    ensures { OnOk result (out.new.items ≡ out.old.items ++ (if nat_lt 0 column then codes " | " else [])) }
+    ensures { OnOk result (out.new.items ≡ out.old.items ++ (if nat_lt 0 column then text_of bar else [])) }
 {
     if column > 0 {
         out.extend_from_slice(b" | ")?;
@@ -42,93 +46,38 @@ pub fn push_header(alloc: Global, out: &mut Vec<u8>, threads: usize) -> Result<(
     Ok(())
 }
 
-/// `[x]`
-fn push_memory(out: &mut Vec<u8>, names: &NameTable, location: u8) -> Result<(), AllocError>
-    ensures { OnOk result (out.new.items ≡ out.old.items ++ text_of (memory_pieces (name_at names.now.locations location))) }
+/// Instruction k of thread t, if there is one.
+fn instr_at(threads: &[Thread], t: usize, k: usize) -> Option<Instr>
+    ensures { result ≡ instr_at threads.now t k }
 {
-    out.push(b'[')?;
-    out.extend_from_slice(name_at(names, location as usize))?;
-    out.push(b']')?;
-    Ok(())
-}
-
-/// `$n`
-fn push_immediate(alloc: Global, out: &mut Vec<u8>, value: u32) -> Result<(), AllocError>
-    ensures { OnOk result (out.new.items ≡ out.old.items ++ text_of (immediate_pieces value)) }
-{
-    out.push(b'$')?;
-    push_number(alloc, out, value)
-}
-
-/// `MOV REG,`
-fn push_move_to_register(out: &mut Vec<u8>, register: Reg) -> Result<(), AllocError>
-    ensures { OnOk result (out.new.items ≡ out.old.items ++ (codes "MOV " ++ (register_name register ++ codes ","))) }
-{
-    out.extend_from_slice(b"MOV ")?;
-    push_register(out, register)?;
-    out.push(b',')?;
-    Ok(())
-}
-
-/// `MOV [x],`
-fn push_move_to_memory(out: &mut Vec<u8>, names: &NameTable, location: u8) -> Result<(), AllocError>
-    ensures { OnOk result (out.new.items ≡ out.old.items ++ (codes "MOV [" ++ (name_at names.now.locations location ++ codes "],"))) }
-{
-    out.extend_from_slice(b"MOV ")?;
-    push_memory(out, names, location)?;
-    out.push(b',')?;
-    Ok(())
-}
-
-/// An instruction; nothing for those that litmus texts have no words for.
-fn push_code(
-    alloc: Global,
-    out: &mut Vec<u8>,
-    names: &NameTable,
-    code: Instr,
-) -> Result<(), AllocError>
-    ensures { OnOk result (out.new.items ≡ out.old.items ++ text_of (cell_pieces (code_named names.now.locations code))) }
-{
-    match code {
-        Instr::LoadImm(register, value) => {
-            push_move_to_register(out, register)?;
-            push_immediate(alloc, out, value)
-        }
-        Instr::Copy(register, from) => {
-            push_move_to_register(out, register)?;
-            push_register(out, from)
-        }
-        Instr::Load(register, location) => {
-            push_move_to_register(out, register)?;
-            push_memory(out, names, location)
-        }
-        Instr::StoreImm(location, value) => {
-            push_move_to_memory(out, names, location)?;
-            push_immediate(alloc, out, value)
-        }
-        Instr::Store(location, register) => {
-            push_move_to_memory(out, names, location)?;
-            push_register(out, register)
-        }
-        Instr::Fence => out.extend_from_slice(b"MFENCE"),
-        _ => Ok(()),
+    match threads.get(t) {
+        Some(thread) => thread.code.as_slice().get(k).copied(),
+        None => None,
     }
 }
 
-/// The cell of thread t in row k, which is empty where the thread is at its end.
+/// The cell of thread t in row k: the labels at its place, and its instruction.
 fn push_cell(
     alloc: Global,
     out: &mut Vec<u8>,
-    names: &NameTable,
+    litmus: &Litmus<Program>,
+    gaps: &GapSet,
     threads: &[Thread],
     k: usize,
     t: usize,
 ) -> Result<(), AllocError>
-    requires { t < length threads.now }
-    ensures { OnOk result (out.new.items ≡ out.old.items ++ text_of (cell_pieces (cell_of names.now.locations threads.now k t))) }
+    requires small { k ≤ 255 }
+    requires few { length threads.now ≤ 255 }
+    requires thread { t < length threads.now }
+    ensures { OnOk result (out.new.items ≡ out.old.items ++ text_of (cell_pieces (cell_of litmus.now.names.locations
+        (moved_labels (gaps_in litmus.now.program gaps.now) 0 litmus.now.labels) threads.now k t))) }
 {
-    match threads[t].code.as_slice().get(k) {
-        Some(code) => push_code(alloc, out, names, *code),
+    let labels = push_labels(out, litmus, gaps, t as u8, k as u8)?;
+    match instr_at(threads, t, k) {
+        Some(code) => {
+            push_gap(out, labels)?;
+            push_code(alloc, out, litmus, gaps, t as u8, code)
+        }
         None => Ok(()),
     }
 }
@@ -136,41 +85,63 @@ fn push_cell(
 fn push_row(
     alloc: Global,
     out: &mut Vec<u8>,
-    names: &NameTable,
+    litmus: &Litmus<Program>,
+    gaps: &GapSet,
     threads: &[Thread],
     k: usize,
 ) -> Result<(), AllocError>
-    ensures { OnOk result (out.new.items ≡ out.old.items ++ text_of (row_pieces (row_of names.now.locations threads.now k))) }
+    requires small { k ≤ 255 }
+    requires few { length threads.now ≤ 255 }
+    ensures { OnOk result (out.new.items ≡ out.old.items ++ text_of (row_pieces (row_of litmus.now.names.locations
+        (moved_labels (gaps_in litmus.now.program gaps.now) 0 litmus.now.labels) threads.now k))) }
 {
     for t in 0..threads.len() {
         push_bar(out, t)?;
-        push_cell(alloc, out, names, threads, k, t)?;
+        push_cell(alloc, out, litmus, gaps, threads, k, t)?;
     }
     out.extend_from_slice(b" ;\n")?;
     Ok(())
 }
 
-/// How many instructions the longest thread has.
-fn longest(threads: &[Thread]) -> usize
-    ensures { result ≡ longest threads.now }
+/// How many cells thread t has.
+fn cell_count(litmus: &Litmus<Program>, gaps: &GapSet, thread: &Thread, t: u8) -> usize
+    requires { length thread.now.code ≤ 127 }
+    ensures value { result ≡ cell_count (labels_of (moved_labels (gaps_in litmus.now.program gaps.now) 0 litmus.now.labels) t) thread.now }
+    ensures few { result ≤ 128 }
 {
-    let mut rows = 0;
-    for thread in threads {
-        rows = rows.max(thread.code.len());
+    let len = thread.code.len();
+    if has_label(litmus, gaps, t, len as u8) {
+        len + 1
+    } else {
+        len
     }
-    rows
+}
+
+/// How many cells the thread with most of them has.
+fn most_cells(litmus: &Litmus<Program>, gaps: &GapSet, fenced: &FencedProgram) -> usize
+    ensures value { result ≡ most_cells (moved_labels (gaps_in litmus.now.program gaps.now) 0 litmus.now.labels) 0 fenced.now.threads }
+    ensures few { result ≤ 128 }
+{
+    let mut most = 0;
+    for (t, thread) in fenced.threads().iter().enumerate() {
+        most = most.max(cell_count(litmus, gaps, thread, t as u8));
+    }
+    most
 }
 
 pub fn push_rows(
     alloc: Global,
     out: &mut Vec<u8>,
-    names: &NameTable,
-    threads: &[Thread],
+    litmus: &Litmus<Program>,
+    gaps: &GapSet,
+    fenced: &FencedProgram,
 ) -> Result<(), AllocError>
-    ensures { OnOk result (out.new.items ≡ out.old.items ++ text_of (flat_map row_pieces (rows_of names.now.locations threads.now))) }
+    ensures { OnOk result (out.new.items ≡ out.old.items ++ text_of (flat_map row_pieces (rows_of litmus.now.names.locations
+        (moved_labels (gaps_in litmus.now.program gaps.now) 0 litmus.now.labels) fenced.now.threads))) }
 {
-    for k in 0..longest(threads) {
-        push_row(alloc, out, names, threads, k)?;
+    let threads = fenced.threads();
+    for k in 0..most_cells(litmus, gaps, fenced) {
+        push_row(alloc, out, litmus, gaps, threads, k)?;
     }
     Ok(())
 }

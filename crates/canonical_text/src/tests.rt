@@ -72,6 +72,103 @@ exists (true /\\ ((1:EDX=1 /\\ x=3) /\\ y=2))
 }
 
 #[test]
+fn a_fence_at_the_end_of_a_jump(rt: HostRuntime) {
+    let text = "X86 end
+{ }
+P0 | P1 ;
+MOV [x],$1 | MOV [y],$1 ;
+CMP EAX,$0 | MOV EAX,[x] ;
+JNE LC00 | ;
+MOV EAX,[y] | ;
+LC00: | ;
+exists (true)
+";
+    let expected = "X86 end
+{ x=0; y=0; 0:EAX=0; 1:EAX=0; }
+P0 | P1 ;
+MOV [x],$1 | MOV [y],$1 ;
+CMP EAX,$0 | MFENCE ;
+JNE LC00 | MOV EAX,[x] ;
+MFENCE |  ;
+MOV EAX,[y] |  ;
+LC00: |  ;
+exists (true)
+";
+    is_written(
+        &rt,
+        rt.alloc(),
+        text,
+        &GapSet::empty().with(2).with(3),
+        expected,
+    );
+}
+
+#[test]
+fn a_jump_over_a_fence(rt: HostRuntime) {
+    let text = "X86 over
+{ }
+P0 | P1 ;
+MOV [x],$1 | MOV [y],$1 ;
+JMP LC00 | MOV EAX,[x] ;
+MFENCE | ;
+LC00: MOV EAX,[y] | ;
+exists (true)
+";
+    let expected = "X86 over
+{ x=0; y=0; 0:EAX=0; 1:EAX=0; }
+P0 | P1 ;
+MOV [x],$1 | MOV [y],$1 ;
+JMP LC00 | MFENCE ;
+MFENCE | MOV EAX,[x] ;
+LC00: MFENCE |  ;
+MOV EAX,[y] |  ;
+exists (true)
+";
+    is_written(
+        &rt,
+        rt.alloc(),
+        text,
+        &GapSet::empty().with(2).with(3),
+        expected,
+    );
+}
+
+#[test]
+fn labels_and_observed_places(rt: HostRuntime) {
+    let text = "X86 labels
+{ }
+P0 | P1 ;
+A: | je B ;
+first: second: jmp last | xchg EBX,[x] ;
+| B: C: ;
+xchg [y],edi | CMP ECX,EDX ;
+last: end: | cmp ecx,7 ;
+| last: ;
+locations [ y; 1:esi; [x]; y ]
+forall not (~ x=1 \\/ false /\\ y=2)
+";
+    let expected = "X86 labels
+{ x=0; y=0; 0:EDI=0; 1:EBX=0; 1:ECX=0; 1:EDX=0; 1:ESI=0; }
+P0 | P1 ;
+A: first: second: JMP last | JE B ;
+MFENCE | XCHG [x],EBX ;
+XCHG [y],EDI | B: C: MFENCE ;
+last: end: | CMP ECX,EDX ;
+ | CMP ECX,$7 ;
+ | last: ;
+locations [y; 1:ESI; x; y;]
+forall (not (not x=1 \\/ (false /\\ y=2)))
+";
+    is_written(
+        &rt,
+        rt.alloc(),
+        text,
+        &GapSet::empty().with(0).with(2),
+        expected,
+    );
+}
+
+#[test]
 fn a_gap_that_is_not_there(rt: HostRuntime) {
     let alloc = rt.alloc();
     match read_litmus(alloc, STORE_BUFFERING.as_bytes()) {

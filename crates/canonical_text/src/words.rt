@@ -1,9 +1,9 @@
 //! Words and numbers at the end of a text.
-ghost use Rattle.std.specs.Prelude.{◌≡◌, ◌++◌, OnOk, slice_index_or};
+ghost use Rattle.std.specs.Prelude.{◌≡◌, ◌++◌, [], OnOk, nat_lt, slice_index_or, if◌then◌else◌};
 ghost use Rattle.text_tokens.specs.Pieces.{text_of};
 ghost use Rattle.litmus_text.specs.Outcomes.{register_name};
 ghost use Rattle.litmus_syntax.specs.Views.{Location, Register};
-ghost use Rattle.canonical_text.specs.Spelling.{register_pieces, valued_pieces};
+ghost use Rattle.canonical_text.specs.Spelling.{register_pieces, valued_pieces, gap};
 ghost use Rattle.canonical_text.specs.Canonical.{name_at};
 ghost use Rattle.std.specs.Fmt.{decimal};
 
@@ -46,6 +46,16 @@ pub fn push_register(out: &mut Vec<u8>, register: Reg) -> Result<(), AllocError>
     ensures { OnOk result (out.new.items ≡ out.old.items ++ text_of (register_pieces register)) }
 {
     out.extend_from_slice(register_name(register))
+}
+
+/// A space, if parts stand before this one.
+pub fn push_gap(out: &mut Vec<u8>, parts: usize) -> Result<(), AllocError>
+    ensures { OnOk result (out.new.items ≡ out.old.items ++ (if nat_lt 0 parts then text_of gap else [])) }
+{
+    if parts > 0 {
+        out.push(b' ')?;
+    }
+    Ok(())
 }
 
 /// `x=n`

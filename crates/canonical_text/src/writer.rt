@@ -1,20 +1,20 @@
 //! The whole text.
-ghost use Rattle.std.specs.Prelude.{◌≡◌, ◌≤◌, ◌++◌, ℕ, OnOk, IfOk, IsOkUnless, List, None, Some, Err, length};
+ghost use Rattle.std.specs.Prelude.{◌≡◌, ◌++◌, ℕ, OnOk, IfOk, IsOkUnless, List, None, Some, Err};
 ghost use Rattle.text_tokens.specs.Pieces.{text_of};
-ghost use Rattle.tso_program.specs.Fences.{first_missing};
+ghost use Rattle.tso_program.specs.Fences.{gaps_in, first_missing};
 ghost use Rattle.tso_program.specs.declared.fenced.FenceFault.TheVariants.{NoSuchGap, OutOfMemory};
 ghost use Rattle.litmus_text.specs.Texts.{IsLitmus, IsFencedLitmus};
-ghost use Rattle.canonical_text.specs.Spelling.{heading, body_pieces, text_with};
-ghost use Rattle.canonical_text.specs.Canonical.{body_of, signs_named, canonical_text, fenced_at};
+ghost use Rattle.canonical_text.specs.Spelling.{heading, body_pieces, ending_pieces, text_with};
+ghost use Rattle.canonical_text.specs.Canonical.{body_of, ending_of, moved_labels, canonical_text, fenced_at};
 
 use crate::entries::push_initial;
 use crate::formula::push_condition;
+use crate::observed::push_observed;
 use crate::rows::{push_header, push_rows};
-use conditions::Condition;
 use gap_sets::GapSet;
-use litmus_text::{Litmus, NameTable};
+use litmus_text::Litmus;
 use std::alloc::{AllocError, Global};
-use tso_program::{FenceFault, Program, Thread};
+use tso_program::{FenceFault, FencedProgram, Program};
 
 /// The first line.
 fn push_heading(out: &mut Vec<u8>, name: &[u8]) -> Result<(), AllocError>
@@ -30,50 +30,58 @@ fn push_heading(out: &mut Vec<u8>, name: &[u8]) -> Result<(), AllocError>
 fn push_body(
     alloc: Global,
     out: &mut Vec<u8>,
-    names: &NameTable,
-    threads: &[Thread],
-    memory: &[u32],
+    litmus: &Litmus<Program>,
+    gaps: &GapSet,
+    fenced: &FencedProgram,
 ) -> Result<(), AllocError>
-    requires { length threads.now ≤ 255 }
-    ensures { OnOk result (out.new.items ≡ out.old.items ++ text_of (body_pieces (body_of names.now (record { threads = threads.now; memory = memory.now })))) }
+    ensures { OnOk result (out.new.items ≡ out.old.items ++ text_of (body_pieces
+        (body_of litmus.now.names (moved_labels (gaps_in litmus.now.program gaps.now) 0 litmus.now.labels) fenced.now))) }
 {
-    push_initial(alloc, out, names, threads, memory)?;
+    let threads = fenced.threads();
+    push_initial(alloc, out, &litmus.names, threads, fenced.memory())?;
     push_header(alloc, out, threads.len())?;
-    push_rows(alloc, out, names, threads)?;
+    push_rows(alloc, out, litmus, gaps, fenced)?;
     Ok(())
 }
 
-/// The canonical text with this name, these names, this program and this condition.
+/// What is observed, and the condition.
+fn push_ending(alloc: Global, out: &mut Vec<u8>, litmus: &Litmus<Program>) -> Result<(), AllocError>
+    ensures { OnOk result (out.new.items ≡ out.old.items ++ text_of (ending_pieces
+        (ending_of litmus.now.names.locations litmus.now.observed litmus.now.condition))) }
+{
+    let names = &litmus.names;
+    push_observed(alloc, out, names, litmus.observed.as_slice())?;
+    push_condition(alloc, out, names, &litmus.condition)?;
+    Ok(())
+}
+
+/// The canonical text, with this fenced program.
 fn write_parts(
     alloc: Global,
-    name: &[u8],
-    names: &NameTable,
-    threads: &[Thread],
-    memory: &[u32],
-    condition: &Condition,
+    litmus: &Litmus<Program>,
+    gaps: &GapSet,
+    fenced: &FencedProgram,
 ) -> Result<Vec<u8>, AllocError>
-    requires { length threads.now ≤ 255 }
-    ensures { IfOk result (λ text. text.items ≡ text_with name.now (body_of names.now (record { threads = threads.now; memory = memory.now }))
-        condition.now.quantifier (signs_named names.now.locations condition.now.formula)) }
+    ensures { IfOk result (λ text. text.items ≡ text_with litmus.now.name
+        (body_of litmus.now.names (moved_labels (gaps_in litmus.now.program gaps.now) 0 litmus.now.labels) fenced.now)
+        (ending_of litmus.now.names.locations litmus.now.observed litmus.now.condition)) }
 {
     let mut out = Vec::new(alloc);
-    push_heading(&mut out, name)?;
-    push_body(alloc, &mut out, names, threads, memory)?;
-    push_condition(alloc, &mut out, names, condition)?;
+    push_heading(&mut out, litmus.name.as_slice())?;
+    push_body(alloc, &mut out, litmus, gaps, fenced)?;
+    push_ending(alloc, &mut out, litmus)?;
     Ok(out)
 }
 
 /// The canonical text of the program with an MFENCE in each gap of the set. `NoSuchGap` has the least gap of the set that
 /// the program has not.
-///
-/// An instruction or a sign of a formula that litmus texts have no words for leaves nothing; what was read has none.
 pub fn write_litmus(
     alloc: Global,
     litmus: &Litmus<Program>,
     gaps: &GapSet,
 ) -> Result<Vec<u8>, FenceFault>
     ensures text { IfOk result (λ text. text.items ≡ canonical_text (fenced_at gaps.now litmus.now)) }
-    // What a litmus text stands for is read again, with its fences.
+    // What a litmus text stands for is read again, with its fences and its labels.
     ensures again { (source : List ℕ) → IsLitmus source litmus.now
         → IfOk result (λ text. IsFencedLitmus text.items (fenced_at gaps.now litmus.now)) }
     ensures found { OnOk result (first_missing litmus.now.program gaps.now ≡ None) }
@@ -81,14 +89,6 @@ pub fn write_litmus(
     ensures missing { (gap : ℕ) → first_missing litmus.now.program gaps.now ≡ Some gap → result ≡ Err (NoSuchGap gap) }
 {
     let fenced = litmus.program.fenced(alloc, gaps)?;
-    let name = litmus.name.as_slice();
-    let text = write_parts(
-        alloc,
-        name,
-        &litmus.names,
-        fenced.threads(),
-        fenced.memory(),
-        &litmus.condition,
-    )?;
+    let text = write_parts(alloc, litmus, gaps, &fenced)?;
     Ok(text)
 }

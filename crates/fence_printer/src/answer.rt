@@ -21,7 +21,7 @@ fn is_read_back(
 ) -> Result<bool, FenceFault> {
     let fenced = source.program.fenced(alloc, gaps)?;
     match read_fenced(alloc, text) {
-        Ok(read) => Ok(is_fenced_source(&read, source, &fenced)),
+        Ok(read) => Ok(is_fenced_source(&read, source, gaps, &fenced)),
         Err(_) => Ok(false),
     }
 }

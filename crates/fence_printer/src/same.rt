@@ -1,7 +1,8 @@
 //! Whether two tests are the same.
 
-use litmus_text::{Litmus, NameTable};
-use tso_program::{FencedProgram, Program, Reg};
+use gap_sets::GapSet;
+use litmus_text::{Label, Litmus, NameTable};
+use tso_program::{FencedProgram, Items, Program, Reg};
 
 const REGISTERS: [Reg; 6] = [Reg::Eax, Reg::Ebx, Reg::Ecx, Reg::Edx, Reg::Esi, Reg::Edi];
 
@@ -33,14 +34,73 @@ fn same_programs(one: &FencedProgram, other: &FencedProgram) -> bool {
     one.threads() == other.threads() && one.memory() == other.memory()
 }
 
-/// Whether what was read is the source, with the fenced program in its program's place.
+/// Whether the gap of this number is in the set and lies in thread t before this position.
+fn lies_before(program: &Program, gaps: &GapSet, gap: u8, t: usize, position: usize) -> bool {
+    match program.gap_place(gap) {
+        Some((thread, k)) => gaps.has(gap) && thread as usize == t && (k as usize) < position,
+        None => false,
+    }
+}
+
+/// How many fences stand before a position of thread t.
+fn fences_before(program: &Program, gaps: &GapSet, t: usize, position: usize) -> usize {
+    let mut fences: usize = 0;
+    for gap in 0..64 {
+        if lies_before(program, gaps, gap, t, position) {
+            fences = fences.saturating_add(1);
+        }
+    }
+    fences
+}
+
+/// Whether the labels that were read are those of thread t of the source, where their fences or instructions stand.
+fn same_labels(
+    read: &[Label],
+    source: &[Label],
+    program: &Program,
+    gaps: &GapSet,
+    t: usize,
+) -> bool {
+    for (i, label) in source.iter().enumerate() {
+        let place = label
+            .position
+            .saturating_add(fences_before(program, gaps, t, label.position));
+        match read.get(i) {
+            Some(found) if found.name == label.name && found.position == place => {}
+            _ => return false,
+        }
+    }
+    read.len() == source.len()
+}
+
+fn same_label_lists(
+    read: &[Items<Label>],
+    source: &[Items<Label>],
+    program: &Program,
+    gaps: &GapSet,
+) -> bool {
+    for (t, labels) in source.iter().enumerate() {
+        match read.get(t) {
+            Some(found)
+                if same_labels(found.as_slice(), labels.as_slice(), program, gaps, t) => {}
+            _ => return false,
+        }
+    }
+    read.len() == source.len()
+}
+
+/// Whether what was read is the source, with the fenced program in its program's place, and its labels at their places there.
 pub fn is_fenced_source(
     read: &Litmus<FencedProgram>,
     source: &Litmus<Program>,
+    gaps: &GapSet,
     fenced: &FencedProgram,
 ) -> bool {
+    let program = &source.program;
     read.name == source.name
         && same_programs(&read.program, fenced)
         && same_names(&read.names, &source.names, fenced.threads().len())
         && read.condition.same(&source.condition)
+        && read.observed == source.observed
+        && same_label_lists(read.labels.as_slice(), source.labels.as_slice(), program, gaps)
 }

@@ -1,6 +1,4 @@
 use Rattle.std.proofs.Common.{ℕ, List, ◌++◌, get_or, ap, ◌∙◌}
-use Rattle.std.specs.List.{flat_map}
-use Rattle.std.specs.Option.{option_to_list}
 use Rattle.text_tokens.specs.Pieces.{text_of}
 use Rattle.tso_program.specs.declared.instruction.Reg.TheVariants.{Eax}
 use Rattle.conditions.specs.declared.atom.Atom.TheVariants as atom
@@ -18,5 +16,5 @@ loop-sign-preserved c =
     let first : Token = token.Atom (atom.Register 0 Eax 0) in
     let i = c.loop-sign.sign-index in
     c.in_ok-push_sign.ensures
-    ∙ ap (λ (bs : List ℕ). bs ++ text_of (flat_map sign_pieces (option_to_list (named (sign_of (get_or c.args.signs.now i first)))))) c.loop-sign.invariant
+    ∙ ap (λ (bs : List ℕ). bs ++ text_of (sign_pieces (named (sign_of (get_or c.args.signs.now i first))))) c.loop-sign.invariant
     ∙ given_more sign_pieces named sign_of c.args.out.now.items c.args.signs.now i first c.loop-sign-test.true

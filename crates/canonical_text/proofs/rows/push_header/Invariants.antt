@@ -1,9 +1,9 @@
 use Rattle.std.proofs.Common.{◌≡◌, ◌++◌, map}
 use Rattle.std.specs.List.{range_with_len}
 use Rattle.text_tokens.specs.Pieces.{text_of}
-use Rattle.canonical_text.specs.Spelling.{column_pieces, joined}
+use Rattle.canonical_text.specs.Spelling.{bar, column_pieces, joined_by}
 use Rattle.canonical_text.proofs.rows.push_header.Given as goal
 
 -- the columns so far
 abbrev pub invariant-loop-t : goal.invariant-loop-t
-invariant-loop-t l = l.out.items ≡ l.initial.out.items ++ text_of (joined (map column_pieces (range_with_len 0 l.t)))
+invariant-loop-t l = l.out.items ≡ l.initial.out.items ++ text_of (joined_by bar (map column_pieces (range_with_len 0 l.t)))

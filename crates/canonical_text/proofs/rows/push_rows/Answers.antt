@@ -1,13 +1,19 @@
 use Rattle.std.proofs.Common.{ℕ, List, ◌++◌, ap, ◌∙◌}
 use Rattle.text_tokens.specs.Pieces.{text_of}
+use Rattle.tso_program.specs.Fences.{gaps_in}
+use Rattle.tso_program.specs.declared.listing.Thread.{Thread}
 use Rattle.canonical_text.specs.Spelling.{row_pieces}
-use Rattle.canonical_text.specs.Canonical.{row_of}
+use Rattle.canonical_text.specs.Canonical.{moved_labels, row_of}
 use Rattle.canonical_text.proofs.TextsGrow.{number_more}
 use Rattle.canonical_text.proofs.rows.push_rows.Goals as goal
 
 pub loop-k-preserved : goal.loop-k-preserved
 loop-k-preserved c =
-    let row = row_of c.args.names.now.locations c.args.threads.now in
+    let litmus = c.args.litmus.now in
+    let written : List Thread → List ℕ =
+    λ threads. text_of (row_pieces (row_of litmus.names.locations (moved_labels (gaps_in litmus.program c.args.gaps.now) 0 litmus.labels) threads c.loop-k.k)) in
+    let row = row_of litmus.names.locations (moved_labels (gaps_in litmus.program c.args.gaps.now) 0 litmus.labels) c.args.fenced.now.threads in
     c.in_ok-push_row.ensures
+    ∙ ap (λ (threads : List Thread). c.loop-k.out.items ++ written threads) c.threads-threads.ensures.value
     ∙ ap (λ (bs : List ℕ). bs ++ text_of (row_pieces (row c.loop-k.k))) c.loop-k.invariant
     ∙ number_more row_pieces row c.args.out.now.items c.loop-k.k

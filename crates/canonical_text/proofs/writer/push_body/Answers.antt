@@ -1,18 +1,24 @@
-use Rattle.std.proofs.Common.{ℕ, List, ◌++◌, length, ap, ◌∙◌}
+use Rattle.std.proofs.Common.{◌≡◌, ℕ, List, ◌++◌, length, ap, ◌∙◌}
 use Rattle.std.specs.List.{flat_map}
 use Rattle.text_tokens.specs.Pieces.{Piece, text_of}
+use Rattle.tso_program.specs.Fences.{gaps_in}
+use Rattle.tso_program.specs.declared.listing.Listing.{Listing}
+use Rattle.tso_program.specs.declared.listing.Thread.{Thread}
 use Rattle.canonical_text.specs.Spelling.{initial_pieces, header_pieces, row_pieces}
-use Rattle.canonical_text.specs.Canonical.{entries_of, rows_of}
+use Rattle.canonical_text.specs.Canonical.{entries_of, moved_labels, rows_of}
 use Rattle.canonical_text.proofs.TextsGrow.{body_grown}
 use Rattle.canonical_text.proofs.writer.push_body.Goals as goal
 
 pub returns : goal.returns
 returns c =
-    let names = c.args.names.now in
-    let threads = c.args.threads.now in
-    let initial : List Piece = initial_pieces (entries_of names (record { threads = threads; memory = c.args.memory.now })) in
-    let header : List Piece = header_pieces (length threads) in
-    let rows : List Piece = flat_map row_pieces (rows_of names.locations threads) in
-    c.in_ok-push_rows.ensures
-    ∙ ap (λ (bs : List ℕ). bs ++ text_of rows) (c.in_ok-push_header.ensures ∙ ap (λ (bs : List ℕ). bs ++ text_of header) c.in_ok-push_initial.ensures)
-    ∙ body_grown c.args.out.now.items initial header rows
+    let litmus = c.args.litmus.now in
+    let fenced = c.args.fenced.now in
+    let out = c.args.out.now.items in
+    let given : Listing = record { threads = c.threads-threads.result.now; memory = c.memory.result.now } in
+    let same : given ≡ fenced = λ i. record { threads = c.threads-threads.ensures.value i; memory = c.memory.ensures.value i } in
+    let initial : List Piece = initial_pieces (entries_of litmus.names fenced) in
+    let header : List Piece = header_pieces (length fenced.threads) in
+    let rows : List Piece = flat_map row_pieces (rows_of litmus.names.locations (moved_labels (gaps_in litmus.program c.args.gaps.now) 0 litmus.labels) fenced.threads) in
+    let begun = c.in_ok-push_initial.ensures ∙ ap (λ (p : Listing). out ++ text_of (initial_pieces (entries_of litmus.names p))) same in
+    let headed = c.in_ok-push_header.ensures ∙ ap (λ (threads : List Thread). c.push_initial.new.out.items ++ text_of (header_pieces (length threads))) c.threads-threads.ensures.value ∙ ap (λ (bs : List ℕ). bs ++ text_of header) begun in
+    c.in_ok-push_rows.ensures ∙ ap (λ (bs : List ℕ). bs ++ text_of rows) headed ∙ body_grown out initial header rows

@@ -1,24 +1,25 @@
 use Rattle.std.proofs.Common.{◌≡◌, ℕ, List, sym, ap, ◌∙◌, subst}
 use Rattle.tso_program.specs.declared.listing.Listing.{Listing}
-use Rattle.tso_program.specs.Fences.{gaps_in, fence}
+use Rattle.tso_program.specs.Fences.{gaps_in}
 use Rattle.litmus_text.specs.Texts.{IsFencedLitmus}
 use Rattle.canonical_text.specs.Spelling.{text_with}
-use Rattle.canonical_text.specs.Canonical.{body_of, signs_named, canonical_text, fenced_at}
+use Rattle.canonical_text.specs.Canonical.{moved_labels, body_of, ending_of, canonical_text, fenced_at}
 use Rattle.canonical_text.proofs.CanonicalIsRead.{canonical_is_read}
 use Rattle.canonical_text.proofs.writer.write_litmus.Goals as goal
+
+pub returns-clause-text : goal.returns-clause-text
+returns-clause-text c =
+    let litmus = c.args.litmus.now in
+    let labels = moved_labels (gaps_in litmus.program c.args.gaps.now) 0 litmus.labels in
+    c.in_ok-text.ensures
+    ∙ ap (λ (p : Listing). text_with litmus.name (body_of litmus.names labels p) (ending_of litmus.names.locations litmus.observed litmus.condition)) c.in_ok-fenced.ensures.value
 
 pub returns-clause-again : goal.returns-clause-again
 returns-clause-again c =
     let litmus = c.args.litmus.now in
     let gaps = c.args.gaps.now in
-    let written : List ℕ → Listing → List ℕ =
-    λ name p. text_with name (body_of litmus.names p) litmus.condition.quantifier (signs_named litmus.names.locations litmus.condition.formula) in
-    let given : Listing = record { threads = c.threads.result.now; memory = c.memory.result.now } in
-    let same : given ≡ fence (gaps_in litmus.program gaps) litmus.program =
-    λ i. record {
-      threads = (c.threads.ensures.value ∙ ap (λ (p : Listing). p.threads) c.in_ok-fenced.ensures.value) i;
-      memory = (c.memory.ensures.value ∙ ap (λ (p : Listing). p.memory) c.in_ok-fenced.ensures.value) i;
-    } in
+    let labels = moved_labels (gaps_in litmus.program gaps) 0 litmus.labels in
     let text : c.in_ok-text.text.items ≡ canonical_text (fenced_at gaps litmus) =
-    c.in_ok-text.ensures ∙ ap (λ (name : List ℕ). written name given) c.as_slice-name.ensures ∙ ap (written litmus.name) same in
+    c.in_ok-text.ensures
+    ∙ ap (λ (p : Listing). text_with litmus.name (body_of litmus.names labels p) (ending_of litmus.names.locations litmus.observed litmus.condition)) c.in_ok-fenced.ensures.value in
     λ source is. subst (λ (bs : List ℕ). IsFencedLitmus bs (fenced_at gaps litmus)) (sym text) (canonical_is_read source litmus is gaps)

@@ -1,0 +1,161 @@
+-- No label stands twice in a thread: told of all rows at once, and of each thread.
+use Rattle.std.proofs.Common.{◌≡◌, ◌≢◌, ℕ, zero, suc, ◌+◌, ◌<◌, ◌==◌, Bool, true, false, List, [], ◌∷◌, ◌++◌, map, Option, Some, None, refl, sym, ap, ◌∙◌, subst, inl, inr, arith}
+use Rattle.std.specs.Prelude.{slice_get, if◌then◌else◌}
+use Rattle.std.specs.List.{cons_option, filter_map, flat_map}
+use Rattle.std.proofs.Math.Nat.{add-zero}
+use Rattle.std.proofs.lemmas.Bool.{cases_Bool}
+use Rattle.std.proofs.lemmas.Bool.Decides.{Decides-eqb}
+use Rattle.std.proofs.lemmas.List.{append-nil, map-append}
+use Rattle.std.proofs.lemmas.List.Elements.{filter_map-append}
+use Rattle.litmus_syntax.specs.Views.{CellView}
+use Rattle.litmus_syntax.specs.Grammar.{IsNoneOf, NoneTwice, labels_from, row_labels, labels_of}
+use Rattle.litmus_text.specs.Labels.{column, size, labels_behind, thread_labels}
+use Rattle.canonical_text.proofs.LabelsNamed.{label_name}
+
+-- a label with its thread
+abbrev Owned : Type 0
+Owned = ℕ × List ℕ
+
+-- its name, if it is thread t's
+abbrev own_name : ℕ → Owned → Option (List ℕ)
+own_name t p = if p.0 == t then Some p.1 else None
+
+-- thread t's
+abbrev own_names : ℕ → List Owned → List (List ℕ)
+own_names t ps = filter_map (own_name t) ps
+
+false_not_true : (b : Bool) → b ≡ false → b ≡ true → ⊥
+false_not_true b f t = let e : false ≡ true = sym f ∙ t in cc
+
+own_or_not : (C : Type 0) (t : ℕ) (p : Owned) → (p.0 ≡ t → C) → ((p.0 ≡ t → ⊥) → C) → C
+own_or_not C t p same other =
+    elim (cases_Bool (p.0 == t)) [
+      | inl h ↦ same ((Decides-eqb p.0 t).0 h)
+      | inr f ↦ other (λ e. false_not_true (p.0 == t) f ((Decides-eqb p.0 t).1 e))
+    ]
+
+not_true : (b : Bool) → (b ≡ true → ⊥) → b ≡ false
+not_true true h = absurd (h refl)
+not_true false h = refl
+
+own_here : (t : ℕ) (p : Owned) (ps : List Owned) → p.0 ≡ t → own_names t (p ∷ ps) ≡ p.1 ∷ own_names t ps
+own_here t p ps e = ap (λ (b : Bool). cons_option (if b then Some p.1 else None) (own_names t ps)) ((Decides-eqb p.0 t).1 e)
+
+own_others : (t : ℕ) (p : Owned) (ps : List Owned) → (p.0 ≡ t → ⊥) → own_names t (p ∷ ps) ≡ own_names t ps
+own_others t p ps other = ap (λ (b : Bool). cons_option (if b then Some p.1 else None) (own_names t ps)) (not_true (p.0 == t) (λ h. other ((Decides-eqb p.0 t).0 h)))
+
+-- ---- from all rows to a thread
+
+none_of_own : (t : ℕ) (p : Owned) (ps : List Owned) → p.0 ≡ t → IsNoneOf p ps → IsNoneOf p.1 (own_names t ps)
+none_of_own t p [] e h = tt
+none_of_own t p (q ∷ ps) e h =
+    own_or_not (IsNoneOf p.1 (own_names t (q ∷ ps))) t q
+    (λ here.
+    let ne : p.1 ≢ q.1 = λ same. h.0 (λ i. ((e ∙ sym here) i, same i)) in
+    subst (IsNoneOf p.1) (sym (own_here t q ps here)) (ne, none_of_own t p ps e h.1))
+    (λ other. subst (IsNoneOf p.1) (sym (own_others t q ps other)) (none_of_own t p ps e h.1))
+
+pub once_in_thread : (t : ℕ) (ps : List Owned) → NoneTwice ps → NoneTwice (own_names t ps)
+once_in_thread t [] h = tt
+once_in_thread t (p ∷ ps) h =
+    own_or_not (NoneTwice (own_names t (p ∷ ps))) t p
+    (λ here. subst NoneTwice (sym (own_here t p ps here)) (none_of_own t p ps here h.0, once_in_thread t ps h.1))
+    (λ other. subst NoneTwice (sym (own_others t p ps other)) (once_in_thread t ps h.1))
+
+-- ---- and back
+
+none_of_all : (p : Owned) (ps : List Owned) → IsNoneOf p.1 (own_names p.0 ps) → IsNoneOf p ps
+none_of_all p [] h = tt
+none_of_all p (q ∷ ps) h =
+    own_or_not (IsNoneOf p (q ∷ ps)) p.0 q
+    (λ here.
+    let own : IsNoneOf p.1 (q.1 ∷ own_names p.0 ps) = subst (IsNoneOf p.1) (own_here p.0 q ps here) h in
+    (λ e. own.0 (ap (λ (x : Owned). x.1) e), none_of_all p ps own.1))
+    (λ other.
+    let own : IsNoneOf p.1 (own_names p.0 ps) = subst (IsNoneOf p.1) (own_others p.0 q ps other) h in
+    (λ e. other (ap (λ (x : Owned). x.0) (sym e)), none_of_all p ps own))
+
+once_behind : (t : ℕ) (p : Owned) (ps : List Owned) → NoneTwice (own_names t (p ∷ ps)) → NoneTwice (own_names t ps)
+once_behind t p ps h =
+    own_or_not (NoneTwice (own_names t ps)) t p
+    (λ here. let own : NoneTwice (p.1 ∷ own_names t ps) = subst NoneTwice (own_here t p ps here) h in own.1)
+    (λ other. subst NoneTwice (own_others t p ps other) h)
+
+pub once_in_all : (ps : List Owned) → ((t : ℕ) → NoneTwice (own_names t ps)) → NoneTwice ps
+once_in_all [] h = tt
+once_in_all (p ∷ ps) h =
+    let own : NoneTwice (p.1 ∷ own_names p.0 ps) = subst NoneTwice (own_here p.0 p ps refl) (h p.0) in
+    (none_of_all p ps own.0, once_in_all ps (λ t. once_behind t p ps (h t)))
+
+-- ---- a thread's are those of its column
+
+-- the labels of a cell, where there is one
+abbrev labels_in : Option CellView → List (List ℕ)
+labels_in None = []
+labels_in (Some c) = c.labels
+
+abbrev cell_names : CellView → List (List ℕ)
+cell_names c = c.labels
+
+own_cell : (t : ℕ) (ls : List (List ℕ)) → own_names t (map (λ l. (t, l)) ls) ≡ ls
+own_cell t [] = refl
+own_cell t (l ∷ ls) = own_here t (t, l) (map (λ (k : List ℕ). (t, k)) ls) refl ∙ ap (λ (ns : List (List ℕ)). l ∷ ns) (own_cell t ls)
+
+other_cell : (t u : ℕ) (ls : List (List ℕ)) → (u ≡ t → ⊥) → own_names t (map (λ l. (u, l)) ls) ≡ []
+other_cell t u [] ne = refl
+other_cell t u (l ∷ ls) ne = own_others t (u, l) (map (λ (k : List ℕ). (u, k)) ls) ne ∙ other_cell t u ls ne
+
+later_cells : (t a : ℕ) (cells : List CellView) → t < a → own_names t (labels_from a cells) ≡ []
+later_cells t a [] lt = refl
+later_cells t a (c ∷ cells) lt =
+    filter_map-append (own_name t) (map (λ l. (a, l)) c.labels) (labels_from (a + 1) cells)
+    ∙ ap (λ (ns : List (List ℕ)). ns ++ own_names t (labels_from (a + 1) cells)) (other_cell t a c.labels (λ e. absurd (omega (arith, e, lt))))
+    ∙ later_cells t (a + 1) cells (omega (arith, lt))
+
+row_own : (a t : ℕ) (cells : List CellView) → own_names (a + t) (labels_from a cells) ≡ labels_in (slice_get cells t)
+row_own a t [] = refl
+row_own a zero (c ∷ cells) =
+    let same : a + 0 ≡ a = add-zero a in
+    ap (λ (u : ℕ). own_names u (labels_from a (c ∷ cells))) same
+    ∙ filter_map-append (own_name a) (map (λ l. (a, l)) c.labels) (labels_from (a + 1) cells)
+    ∙ ap (λ (ns : List (List ℕ)). ns ++ own_names a (labels_from (a + 1) cells)) (own_cell a c.labels)
+    ∙ ap (λ (ns : List (List ℕ)). c.labels ++ ns) (later_cells a (a + 1) cells (omega arith)) ∙ append-nil c.labels
+row_own a (suc t) (c ∷ cells) =
+    let same : a + suc t ≡ (a + 1) + t = omega arith in
+    filter_map-append (own_name (a + suc t)) (map (λ l. (a, l)) c.labels) (labels_from (a + 1) cells)
+    ∙ ap (λ (ns : List (List ℕ)). ns ++ own_names (a + suc t) (labels_from (a + 1) cells)) (other_cell (a + suc t) a c.labels (λ e. absurd (omega (arith, e))))
+    ∙ ap (λ (u : ℕ). own_names u (labels_from (a + 1) cells)) same
+    ∙ row_own (a + 1) t cells
+
+one_more : (o : Option CellView) (cells : List CellView) → labels_in o ++ flat_map cell_names cells ≡ flat_map cell_names (cons_option o cells)
+one_more None cells = refl
+one_more (Some c) cells = refl
+
+rows_own : (t : ℕ) (rows : List (List CellView)) → own_names t (labels_of rows) ≡ flat_map cell_names (column rows t)
+rows_own t [] = refl
+rows_own t (row ∷ rows) =
+    let zero_first : 0 + t ≡ t = omega arith in
+    let here : own_names t (row_labels row) ≡ labels_in (slice_get row t) = ap (λ (u : ℕ). own_names u (row_labels row)) (sym zero_first) ∙ row_own 0 t row in
+    filter_map-append (own_name t) (row_labels row) (labels_of rows)
+    ∙ (λ i. here i ++ rows_own t rows i)
+    ∙ one_more (slice_get row t) (column rows t)
+
+named_at_all : (k : ℕ) (ls : List (List ℕ)) → map label_name (map (λ l. record { name = l; position = k }) ls) ≡ ls
+named_at_all k [] = refl
+named_at_all k (l ∷ ls) = ap (λ (ns : List (List ℕ)). l ∷ ns) (named_at_all k ls)
+
+behind_named : (k : ℕ) (cells : List CellView) → map label_name (labels_behind k cells) ≡ flat_map cell_names cells
+behind_named k [] = refl
+behind_named k (c ∷ cells) =
+    map-append label_name (map (λ l. record { name = l; position = k }) c.labels) (labels_behind (k + size c) cells)
+    ∙ (λ i. named_at_all k c.labels i ++ behind_named (k + size c) cells i)
+
+-- the names of thread t's labels
+pub thread_own : (t : ℕ) (rows : List (List CellView)) → own_names t (labels_of rows) ≡ map label_name (thread_labels rows t)
+thread_own t rows = rows_own t rows ∙ sym (behind_named 0 (column rows t))
+
+pub once_of_rows : (t : ℕ) (rows : List (List CellView)) → NoneTwice (labels_of rows) → NoneTwice (map label_name (thread_labels rows t))
+once_of_rows t rows h = subst NoneTwice (thread_own t rows) (once_in_thread t (labels_of rows) h)
+
+pub rows_once : (rows : List (List CellView)) → ((t : ℕ) → NoneTwice (map label_name (thread_labels rows t))) → NoneTwice (labels_of rows)
+rows_once rows h = once_in_all (labels_of rows) (λ t. subst NoneTwice (sym (thread_own t rows)) (h t))

@@ -1,0 +1,32 @@
+use Rattle.std.proofs.Common.{◌≡◌, ◌<◌, ℕ, List, ◌++◌, length, map, take, get_or, codes, sym, ap, ◌∙◌, arith}
+use Rattle.std.proofs.lemmas.List.{length-map}
+use Rattle.std.proofs.Math.Seq.{take-length}
+use Rattle.text_tokens.specs.Pieces.{text_of}
+use Rattle.litmus_text.specs.declared.observed.Observed.{Observed}
+use Rattle.litmus_text.specs.declared.observed.Observed.TheVariants as observed
+use Rattle.canonical_text.specs.Spelling.{gap, joined_by, observed_place_pieces}
+use Rattle.canonical_text.specs.Canonical.{place_named}
+use Rattle.canonical_text.proofs.TextsGrow.{between_at, element_column_more, not_none, brackets}
+use Rattle.canonical_text.proofs.observed.push_observed.Goals as goal
+
+pub loop-i-preserved : goal.loop-i-preserved
+loop-i-preserved c =
+    let named = place_named c.args.names.now.locations in
+    let first : Observed = observed.Location 0 in
+    let i = c.loop-i.i in
+    c.in_ok-push_place.ensures
+    ∙ ap (λ (bs : List ℕ). bs ++ text_of (observed_place_pieces (named (get_or c.args.observed.now i first)))) (c.in_ok-push_gap.ensures ∙ ap (λ (bs : List ℕ). bs ++ between_at gap i) c.loop-i.invariant)
+    ∙ element_column_more gap observed_place_pieces named c.extend_from_slice.new.self.items c.args.observed.now i first c.loop-i-test.true
+
+pub returns : goal.returns
+returns c =
+    let shown = c.args.observed.now in
+    let named = place_named c.args.names.now.locations in
+    let all : c.loop-i.i ≡ length shown = omega arith in
+    let present : 0 < length shown = not_none (length shown) (sym c.is_empty.ensures ∙ c.if-is_empty.false) in
+    let some : 0 < length (map named shown) = omega (arith, length-map shown named, present) in
+    c.in_ok-extend_from_slice-2.ensures.items
+    ∙ ap (λ (bs : List ℕ). bs ++ codes "]\n") (c.loop-i.invariant
+    ∙ ap (λ (bs : List ℕ). bs ++ text_of (joined_by gap (map observed_place_pieces (map named (take c.loop-i.i shown))))) c.in_ok-extend_from_slice.ensures.items
+    ∙ ap (λ (ps : List Observed). (c.args.out.now.items ++ codes "locations [") ++ text_of (joined_by gap (map observed_place_pieces (map named ps)))) (ap (λ (n : ℕ). take n shown) all ∙ take-length shown))
+    ∙ brackets c.args.out.now.items (map named shown) some

@@ -1,0 +1,9 @@
+use Rattle.std.proofs.Common.{◌≡◌, ◌++◌, map, take}
+use Rattle.text_tokens.specs.Pieces.{text_of}
+use Rattle.canonical_text.specs.Spelling.{gap, joined_by, observed_place_pieces}
+use Rattle.canonical_text.specs.Canonical.{place_named}
+use Rattle.canonical_text.proofs.observed.push_observed.Given as goal
+
+-- the places so far
+abbrev pub invariant-loop-i : goal.invariant-loop-i
+invariant-loop-i l = l.out.items ≡ l.initial.out.items ++ text_of (joined_by gap (map observed_place_pieces (map (place_named l.names.locations) (take l.i l.observed))))
