@@ -20,6 +20,3 @@ mod values;
 pub use fault::SketchFault;
 pub use mode::Mode;
 pub use sketch::Sketch;
-
-#[cfg(test)]
-mod tests;

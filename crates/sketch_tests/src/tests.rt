@@ -1,6 +1,6 @@
 //! Sketches of small programs, by hand.
-use crate::{Mode, Sketch, SketchFault};
 use candidate_executions::{Event, Kind};
+use exec_axioms::{Mode, Sketch, SketchFault};
 use gap_sets::GapSet;
 use std::alloc::{AllocError, Global};
 use std::test::Fail;

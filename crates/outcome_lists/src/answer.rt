@@ -1,0 +1,96 @@
+//! What is printed for an input.
+
+use crate::fault::ListFault;
+use crate::input::{Request, request_of, split_at_byte};
+use crate::repeats::{repeated, told};
+use crate::{candidates, machine};
+use exec_axioms::Mode;
+use litmus_text::{Litmus, NameTable, read_litmus, write_outcome};
+use std::alloc::{AllocError, Global};
+use tso_program::{Outcome, Program};
+
+/// A list's heading and a line for each outcome.
+fn push_list(
+    alloc: Global,
+    names: &NameTable,
+    heading: &[u8],
+    list: &[Outcome],
+    printed: &mut Vec<u8>,
+) -> Result<(), AllocError> {
+    printed.extend_from_slice(heading)?;
+    for outcome in list {
+        printed.extend_from_slice(b"outcome: ")?;
+        printed.extend_from_slice(&write_outcome(alloc, names, outcome)?)?;
+        printed.extend_from_slice(b"\n")?;
+    }
+    Ok(())
+}
+
+/// Both lists, and whether they are the same.
+fn told_lists(
+    alloc: Global,
+    names: &NameTable,
+    chosen: &[Outcome],
+    reached: &[Outcome],
+) -> Result<Vec<u8>, AllocError> {
+    let mut printed = Vec::new(alloc);
+    push_list(
+        alloc,
+        names,
+        b"from candidate executions\n",
+        chosen,
+        &mut printed,
+    )?;
+    push_list(alloc, names, b"from the machine\n", reached, &mut printed)?;
+    let line: &[u8] = if chosen == reached {
+        b"same\n"
+    } else {
+        b"different\n"
+    };
+    printed.extend_from_slice(line)?;
+    Ok(printed)
+}
+
+/// The outcomes of candidate executions, and those of the machine.
+fn both_lists(alloc: Global, litmus: &Litmus<Program>, mode: &Mode) -> Result<Vec<u8>, ListFault> {
+    let chosen = candidates::outcomes(alloc, &litmus.program, *mode)?;
+    beside_the_machine(alloc, litmus, mode, chosen.as_slice())
+}
+
+/// The outcomes that were found, and those of the machine.
+fn beside_the_machine(
+    alloc: Global,
+    litmus: &Litmus<Program>,
+    mode: &Mode,
+    chosen: &[Outcome],
+) -> Result<Vec<u8>, ListFault> {
+    let reached = machine::outcomes(alloc, &litmus.program, *mode)?;
+    Ok(told_lists(alloc, &litmus.names, chosen, reached.as_slice())?)
+}
+
+fn answer_to(
+    alloc: Global,
+    litmus: &Litmus<Program>,
+    request: Request,
+) -> Result<Vec<u8>, ListFault> {
+    match request {
+        Request::Outcomes(mode) => both_lists(alloc, litmus, &mode),
+        Request::Repeat(times) => repeated(alloc, &litmus.program, times),
+    }
+}
+
+/// What is printed for an input.
+pub fn answer(alloc: Global, input: &[u8]) -> Result<Vec<u8>, AllocError> {
+    let (line, text) = split_at_byte(input, b'\n');
+    let Some(request) = request_of(line) else {
+        return Vec::from_slice(alloc, b"refused request\n");
+    };
+    let litmus = match read_litmus(alloc, text) {
+        Ok(litmus) => litmus,
+        Err(fault) => return told(format!(in alloc; "refused litmus {fault}\n")),
+    };
+    match answer_to(alloc, &litmus, request) {
+        Ok(printed) => Ok(printed),
+        Err(fault) => told(format!(in alloc; "refused {fault}\n")),
+    }
+}

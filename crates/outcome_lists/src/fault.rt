@@ -1,0 +1,42 @@
+//! Why there is no list.
+
+use exec_axioms::SketchFault;
+use std::alloc::{AllocError, AllocFailed};
+use thiserror::Error;
+
+/// Why there is no list of outcomes.
+#[derive(Clone, Copy, PartialEq, Eq, Debug, Error)]
+pub enum ListFault {
+    #[error("1 OutOfMemory")]
+    OutOfMemory,
+    /// The search for candidate executions is too long.
+    #[error("2 TooManySketches")]
+    TooManySketches,
+    /// The machine has too many states.
+    #[error("3 TooManyStates")]
+    TooManyStates,
+    /// A sketch refused a choice that it had offered.
+    #[error("4 ChoiceRefused")]
+    ChoiceRefused,
+}
+
+impl From<AllocError> for ListFault {
+    fn from(_e: AllocError) -> ListFault {
+        ListFault::OutOfMemory
+    }
+}
+
+impl<T: Drop> From<AllocFailed<T>> for ListFault {
+    fn from(_e: AllocFailed<T>) -> ListFault {
+        ListFault::OutOfMemory
+    }
+}
+
+impl From<SketchFault> for ListFault {
+    fn from(fault: SketchFault) -> ListFault {
+        match fault {
+            SketchFault::OutOfMemory => ListFault::OutOfMemory,
+            _ => ListFault::ChoiceRefused,
+        }
+    }
+}
