@@ -3,12 +3,12 @@ use Rattle.std.proofs.Common.{◌≡◌, ◌==◌, ℕ, ◌+◌, suc, true, fals
 use Rattle.std.specs.Prelude.{codes}
 use Rattle.std.proofs.lemmas.Bool.Decides.{nat_tests}
 use Rattle.clap.specs.Words.{Text}
-use Rattle.fencer.specs.declared.lines.FileFault.{FileFault}
-use Rattle.fencer.specs.declared.lines.FileFault.TheVariants as file
-use Rattle.fencer.specs.declared.files.TheConstants.{LIMIT}
-use Rattle.fencer.specs.CommandLines.{IsNoCommand}
+use Rattle.program_streams.specs.declared.fault.FileFault.{FileFault}
+use Rattle.program_streams.specs.declared.fault.FileFault.TheVariants as file
+use Rattle.program_streams.specs.declared.files.TheConstants.{TEXT_LIMIT}
+use Rattle.fencer_words.specs.CommandLines.{IsNoCommand}
 use Rattle.fencer.specs.Lines.{IsUtf8Refusal}
-use Rattle.fencer.specs.Streams.{IsReadFault, TakesOfLine}
+use Rattle.program_streams.specs.Streams.{IsReadFault, TakesOfLine}
 use Rattle.fencer.specs.Replays.{HasTooLongLine, IsReply, IsReplyToInput, IsOutput, no_command}
 
 not_zero : (n : ℕ) → (suc n == 0) ≡ true → ⊥
@@ -34,7 +34,7 @@ other (inl p) not_first = absurd (not_first p)
 other (inr q) not_first = q
 
 -- why a line isn't read, without what is left of the reader
-pub line_fault : (old new : Option (List ℕ)) (why : FileFault) → IsReadFault (TakesOfLine old new (LIMIT + 1)) why → IsReadFault (HasTooLongLine old) why
+pub line_fault : (old new : Option (List ℕ)) (why : FileFault) → IsReadFault (TakesOfLine old new (TEXT_LIMIT + 1)) why → IsReadFault (HasTooLongLine old) why
 line_fault old new file.Read is = tt
 line_fault old new file.Write is = absurd is
 line_fault old new file.TooLong is = (new, is)

@@ -22,13 +22,17 @@ use Rattle.litmus_text.specs.declared.fault.ReadFault.TheVariants as read_fault
 use Rattle.litmus_text.specs.Texts.{IsLitmus, Refuses}
 use Rattle.fencer.specs.declared.answer.Refusal.{Refusal}
 use Rattle.fencer.specs.declared.answer.Refusal.TheVariants as refusal
-use Rattle.fencer.specs.declared.files.TheConstants.{LIMIT}
-use Rattle.fencer.specs.declared.lines.FileFault.{FileFault}
-use Rattle.fencer.specs.declared.words.Job.{Job}
-use Rattle.fencer.specs.declared.words.Job.TheVariants.{Replay}
-use Rattle.fencer.specs.Lines.{EndsLine, file_line, litmus_line, outcome_line, passed_line, replay_line, run_line}
-use Rattle.fencer.specs.Streams.{Holds, IsReadFault, Takes, TakesLine, TakesOfLine}
-use Rattle.fencer.specs.CommandLines.{words_of, AsksFor, IsNoCommand}
+use Rattle.program_streams.specs.declared.fault.FileFault.{FileFault}
+use Rattle.program_streams.specs.declared.files.TheConstants.{TEXT_LIMIT}
+use Rattle.program_streams.specs.Files.{AreOfFile, IsFileFault}
+use Rattle.program_streams.specs.Streams.{IsReadFault, TakesLine, TakesOfLine}
+use Rattle.program_streams.specs.Words.{words_of}
+use Rattle.report.specs.Answers.{outcome_line, passed_line}
+use Rattle.report.specs.Faults.{file_line, litmus_line, replay_line, run_line}
+use Rattle.fencer_words.specs.declared.words.Job.{Job}
+use Rattle.fencer_words.specs.declared.words.Job.TheVariants.{Replay}
+use Rattle.fencer_words.specs.CommandLines.{AsksFor, IsNoCommand}
+use Rattle.fencer.specs.Lines.{EndsLine}
 
 -- the machine of a model, with no gap fenced
 abbrev pub unfenced : Listing → Model → Mode
@@ -79,28 +83,15 @@ refusal_line (refusal.Litmus fault) = litmus_line fault
 refusal_line (refusal.Run fault) = run_line fault
 refusal_line (refusal.Replay fault) = replay_line fault
 
--- the bytes of the file of this name, which are no more than the limit; `-` is the input, and nothing is known of other files
-pub record AreOfFile (path : List ℕ) (input : Option (List ℕ)) (bytes : List ℕ) : Type 0 where
-  pub within : length bytes ≤ LIMIT
-  pub known : path ≡ codes "-" → Holds input bytes
-
--- the input has more bytes than the limit
-abbrev pub IsTooLong : Option (List ℕ) → Type 0
-IsTooLong input = (rest : Option (List ℕ)) × Takes input rest (LIMIT + 1)
-
--- the same of its first line
+-- the first line of the input has more bytes than the limit
 abbrev pub HasTooLongLine : Option (List ℕ) → Type 0
-HasTooLongLine input = (rest : Option (List ℕ)) × TakesOfLine input rest (LIMIT + 1)
-
--- why that file isn't read
-abbrev pub IsFileFault : List ℕ → Option (List ℕ) → FileFault → Type 0
-IsFileFault path input fault = IsReadFault (path ≡ codes "-" → IsTooLong input) fault
+HasTooLongLine input = (rest : Option (List ℕ)) × TakesOfLine input rest (TEXT_LIMIT + 1)
 
 -- the answer to a replay, with its status: the lines of the run, or the line of a refusal
 pub data IsReplay (model : Model) (path labels : List ℕ) (input : Option (List ℕ)) : ℕ → List ℕ → Type 0 where
-  ran : (bytes lines : List ℕ) → AreOfFile path input bytes → PrintsRun bytes model labels lines → IsReplay model path labels input 0 lines
-  refused : (bytes : List ℕ) (why : Refusal) → AreOfFile path input bytes → IsRefused bytes model labels why → IsReplay model path labels input 1 (refusal_line why)
-  no_file : (why : FileFault) → IsFileFault path input why → IsReplay model path labels input 1 (file_line why)
+  ran : (bytes lines : List ℕ) → AreOfFile TEXT_LIMIT path input bytes → PrintsRun bytes model labels lines → IsReplay model path labels input 0 lines
+  refused : (bytes : List ℕ) (why : Refusal) → AreOfFile TEXT_LIMIT path input bytes → IsRefused bytes model labels why → IsReplay model path labels input 1 (refusal_line why)
+  no_file : (why : FileFault) → IsFileFault TEXT_LIMIT path input why → IsReplay model path labels input 1 (file_line why)
 
 -- the answer to a job
 abbrev pub IsAnswer : Job → Option (List ℕ) → ℕ → List ℕ → Type 0
@@ -113,7 +104,7 @@ pub data IsReply (words : List Text) (input : Option (List ℕ)) : ℕ → List 
 
 -- the reply to an input alone: its first line has the words, and what is behind it is the input
 pub data IsReplyToInput (input : Option (List ℕ)) : ℕ → List ℕ → Type 0 where
-  by_line : (line : List ℕ) (rest : Option (List ℕ)) (status : ℕ) (text : List ℕ) → TakesLine input rest line → length line ≤ LIMIT → IsReply (words_of line) rest status text → IsReplyToInput input status text
+  by_line : (line : List ℕ) (rest : Option (List ℕ)) (status : ℕ) (text : List ℕ) → TakesLine input rest line → length line ≤ TEXT_LIMIT → IsReply (words_of line) rest status text → IsReplyToInput input status text
   no_line : (why : FileFault) → IsReadFault (HasTooLongLine input) why → IsReplyToInput input 1 (file_line why)
 
 -- what the program prints for the words after its name, with which status

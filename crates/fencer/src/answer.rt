@@ -2,12 +2,12 @@
 
 ghost use Rattle.std.specs.Prelude.{◌≡◌, ◌++◌, IfOk, IfErr};
 ghost use Rattle.tso_machine.specs.RunTexts.{IsRunText};
-ghost use Rattle.fencer.specs.Lines.{outcome_line, passed_line};
+ghost use Rattle.report.specs.Answers.{outcome_line, passed_line};
 ghost use Rattle.fencer.specs.Replays.{run_text, PrintsRun, IsNoRunText, IsRefused, refusal_line};
 
-use crate::lines::{litmus_line, outcome_line, passed_line, replay_line, run_line};
 use gap_sets::GapSet;
 use litmus_text::{Litmus, ReadFault, read_litmus};
+use report::{litmus_line, outcome_line, passed_line, replay_line, run_line};
 use std::alloc::{AllocError, Global};
 use tso_machine::{Ended, Label, Model, ReplayFault, RunFault, read_run, replay};
 use tso_program::Program;

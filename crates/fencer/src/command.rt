@@ -1,56 +1,20 @@
 //! A whole run of the program, over a reader and a writer.
 
-ghost use Rattle.std.specs.Prelude.{◌≡◌, IfOk, IfErr, map, string_bytes};
-ghost use Rattle.fencer.specs.Lines.{EndsLine, IsUtf8Refusal};
-ghost use Rattle.fencer.specs.Streams.{IsMade, Prints};
-ghost use Rattle.fencer.specs.Replays.{run_text, AreOfFile, IsFileFault, IsReplay, IsAnswer, IsReply, IsOutput};
+ghost use Rattle.std.specs.Prelude.{◌≡◌, IfOk, map, string_bytes};
+ghost use Rattle.program_streams.specs.Streams.{Prints};
+ghost use Rattle.fencer.specs.Lines.{EndsLine, utf8_line, IsUtf8Refusal};
+ghost use Rattle.fencer.specs.Replays.{run_text, IsReplay, IsAnswer, IsReply, IsOutput};
 
 use crate::answer::{refusal_line, replay_lines};
-use crate::files::{LIMIT, read_line_up_to, read_up_to, write_bytes};
-use crate::lines::{FileFault, file_line, utf8_line};
-use crate::words::{Job, LineFault, line_words, read_words};
 use clap::Error;
 use clap::error::ErrorKind;
+use fencer_words::{Job, read_words};
+use program_streams::{LineFault, TEXT_LIMIT, line_words, named_bytes, read_line_up_to, say};
+use report::file_line;
 use std::alloc::{AllocError, Global};
-use std::fs::File;
 use std::io::{Read, Write};
 use std::rt::Files;
 use tso_machine::Model;
-
-/// The bytes of a file, or of the reader where the file is `-`.
-fn file_bytes<F: Files + AllocGlobal, R: Read>(
-    rt: &F,
-    path: &str,
-    input: &mut R,
-) -> Result<Vec<u8>, FileFault>
-    ensures whole { IfOk result (λ bytes. AreOfFile path.now (R.remaining input.old) bytes.items) }
-    ensures err { IfErr result (IsFileFault path.now (R.remaining input.old)) }
-{
-    if path == "-" {
-        return read_up_to(rt.alloc(), input, LIMIT);
-    }
-    match File::open(rt, path) {
-        Ok(file) => {
-            let mut file = file;
-            read_up_to(rt.alloc(), &mut file, LIMIT)
-        }
-        Err(_) => Err(FileFault::Read),
-    }
-}
-
-/// Writes a text that could be made, and answers the status: the given one, and 1 where the writer fails. A text that
-/// could not be made is not told, and the status is 1.
-fn say<W: Write>(output: &mut W, text: Result<Vec<u8>, AllocError>, status: u8) -> u8
-    ensures { Prints (IsMade text status) (W.contents output.old) (W.contents output.new) result }
-{
-    match text {
-        Ok(text) => match write_bytes(output, &text) {
-            Ok(()) => status,
-            Err(_) => 1,
-        },
-        Err(_) => 1,
-    }
-}
 
 /// What `clap` tells of words that are no command: why, or the help that they call for.
 fn error_text(alloc: Global, error: &Error) -> Result<Vec<u8>, AllocError>
@@ -73,7 +37,7 @@ fn run_replay<F: Files + AllocGlobal, R: Read, W: Write>(
 ) -> u8
     ensures { Prints (IsReplay model litmus.now (run_text labels.now) (R.remaining input.old)) (W.contents output.old) (W.contents output.new) result }
 {
-    let bytes = match file_bytes(rt, litmus, input) {
+    let bytes = match named_bytes(rt, litmus, input, TEXT_LIMIT) {
         Ok(bytes) => bytes,
         Err(fault) => return say(output, file_line(rt.alloc(), fault), 1),
     };
@@ -143,7 +107,7 @@ pub fn run_command<F: Files + AllocGlobal, R: Read, W: Write>(
     if !words.is_empty() {
         return run_words(rt, words, input, output);
     }
-    let line = match read_line_up_to(rt.alloc(), input, LIMIT) {
+    let line = match read_line_up_to(rt.alloc(), input, TEXT_LIMIT) {
         Ok(line) => line,
         Err(fault) => return say(output, file_line(rt.alloc(), fault), 1),
     };
@@ -152,6 +116,13 @@ pub fn run_command<F: Files + AllocGlobal, R: Read, W: Write>(
         Err(LineFault::NotUtf8) => refuse_words(rt.alloc(), output),
         Err(LineFault::OutOfMemory) => 1,
     }
+}
+
+/// Why the words of a command line aren't read: they are not UTF-8.
+fn utf8_line(alloc: Global) -> Result<Vec<u8>, AllocError>
+    ensures { IfOk result (λ line. line.items ≡ utf8_line) }
+{
+    Vec::from_slice(alloc, b"error: the command line is not UTF-8\n")
 }
 
 /// Tells that the command line is not UTF-8, and answers the status.

@@ -3,9 +3,6 @@
 
 mod answer;
 mod command;
-mod files;
-pub mod lines;
-mod words;
 
 use std::process::ExitCode;
 use std::{env, io};

@@ -1,6 +1,6 @@
 use Rattle.std.proofs.Common.{refl}
 use Rattle.fencer.specs.Lines.{utf8_line, IsUtf8Refusal}
-use Rattle.fencer.proofs.Printed.{prints_line}
+use Rattle.program_streams.proofs.Printed.{prints_line}
 use Rattle.fencer.proofs.command.refuse_words.Goals as goal
 
 pub returns : goal.returns

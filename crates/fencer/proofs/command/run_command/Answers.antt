@@ -1,9 +1,11 @@
 use Rattle.std.proofs.Common.{◌∙◌, map, arith, sym}
 use Rattle.std.specs.Prelude.{string_bytes}
-use Rattle.fencer.specs.Lines.{file_line, IsUtf8Refusal}
-use Rattle.fencer.specs.CommandLines.{words_of}
+use Rattle.report.specs.Faults.{file_line}
+use Rattle.fencer.specs.Lines.{IsUtf8Refusal}
+use Rattle.program_streams.specs.Words.{words_of}
+use Rattle.fencer_words.specs.CommandLines.{no_utf8}
 use Rattle.fencer.specs.Replays.{IsReply, IsOutput, by_line, no_line}
-use Rattle.fencer.proofs.Printed.{prints_line, prints_more, prints_nothing}
+use Rattle.program_streams.proofs.Printed.{prints_line, prints_more, prints_nothing}
 use Rattle.fencer.proofs.Served.{of_words, of_input, line_fault, utf8_reply}
 use Rattle.fencer.proofs.command.run_command.Goals as goal
 
@@ -38,7 +40,7 @@ returns-in-Err-NotUtf8 g c =
     let refused = rw c.deref.ensures.value at (c.in-Err-NotUtf8.ensures.refused c.in-Err-NotUtf8.field-0-is) in
     prints_more IsUtf8Refusal (IsOutput (map string_bytes c.args.words.now) input) _ _ c.refuse_words.result
     (λ status out is. of_input string_bytes input status out c.args.words.now (sym c.is_empty.ensures ∙ c.if-not-is_empty.false)
-    (by_line line.items rest status out c.in-Ok.ensures.line (omega (arith, c.in-Ok.ensures.within, line.ok.0)) (utf8_reply (words_of line.items) rest status out refused is))) c.refuse_words.ensures
+    (by_line line.items rest status out c.in-Ok.ensures.line (omega (arith, c.in-Ok.ensures.within, line.ok.0)) (utf8_reply (words_of line.items) rest status out (no_utf8 refused.word refused.there refused.no_utf8) is))) c.refuse_words.ensures
 
 pub returns : goal.returns
 returns g c = prints_nothing (IsOutput (map string_bytes c.args.words.now) (g.R.Read.remaining c.args.input.now)) _

@@ -1,8 +1,8 @@
 use Rattle.std.proofs.Common.{Ok}
 use Rattle.std.specs.declared.alloc.AllocError.{AllocError}
-use Rattle.fencer.specs.Lines.{file_line}
+use Rattle.report.specs.Faults.{file_line}
 use Rattle.fencer.specs.Replays.{run_text, IsReplay, ran, refused, no_file, refusal_line}
-use Rattle.fencer.proofs.Printed.{prints_made, prints_line}
+use Rattle.program_streams.proofs.Printed.{prints_made, prints_line}
 use Rattle.fencer.proofs.command.run_replay.Goals as goal
 
 pub returns-in-Err : goal.returns-in-Err

@@ -1,0 +1,5 @@
+pub mod LineLaws
+pub mod EntryLaws
+pub mod CostFaults
+pub mod TextLaws
+pub mod Judged

@@ -1,0 +1,7 @@
+use Rattle.std.proofs.Common.{map, take}
+use Rattle.cost_text.specs.TextReading.{IsTableOf}
+use Rattle.cost_text.proofs.reader.table_of.Given as goal
+
+-- the table has what the lines so far say
+abbrev pub invariant-loop-index : goal.invariant-loop-index
+invariant-loop-index l = IsTableOf l.program.threads (take l.index (map (λ line. line.now) l.lines)) l.table.items

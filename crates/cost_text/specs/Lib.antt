@@ -1,0 +1,4 @@
+pub mod CostLines
+pub mod CostTexts
+pub mod LineReading
+pub mod TextReading

@@ -1,0 +1,69 @@
+-- The rules of the arguments that are built for `clap`.
+use Rattle.std.proofs.Common.{◌≡◌, ◌∙◌, Bool, true, false, ◌||◌, [], ◌∷◌, Option, Some, ap, ap₂}
+use Rattle.std.specs.Prelude.{codes}
+use Rattle.std.specs.Borrow.{Bor}
+use Rattle.clap.specs.Lexer.{usize_max}
+use Rattle.clap.specs.Words.{Rule, Text, app_of, new_app, new_rule, rule_of}
+use Rattle.clap.specs.Simple.{app_of_fields, on_top}
+use Rattle.clap.specs.declared.builder.command.Command.{Command}
+use Rattle.clap.specs.declared.builder.command.Command.TheOpen.{Command-F}
+use Rattle.clap.specs.declared.builder.command.Command.TheViews.{out-Command}
+use Rattle.clap.specs.declared.builder.action.ArgAction.TheVariants.{Append}
+use Rattle.clap.specs.declared.builder.arg.Arg.{Arg}
+use Rattle.clap.specs.declared.builder.range.ValueRange.{ValueRange}
+use Rattle.clap.specs.declared.builder.texts.Texts.TheVariants.{One}
+use Rattle.clap.specs.declared.builder.value_parser.ValueParser.{ValueParser}
+use Rattle.fencer_words.specs.CommandLines.{model_rule, label_rule}
+
+-- an argument with a long name, a parser and a default value
+pub model_rule_of : (new long parsed done : Arg) (name value : Bor Text) (models : ValueParser)
+    → rule_of new ≡ new_rule (codes "model")
+    → long ≡ record new { long = Some name } → name.now ≡ codes "model"
+    → parsed ≡ record long { value_parser = parsed.value_parser } → parsed.value_parser ≡ Some models
+    → done ≡ record parsed { default_vals = One value } → value.now ≡ codes "buffered"
+    → rule_of done ≡ model_rule models
+model_rule_of new long parsed done name value models new_is long_is name_is parsed_is models_is done_is value_is =
+    ap (λ (a : Arg). rule_of a) done_is
+    ∙ ap₂ (λ (r : Rule) (t : Text). let s : Rule = record r { defaults = t ∷ [] } in s)
+    (ap (λ (a : Arg). rule_of a) parsed_is
+    ∙ ap₂ (λ (r : Rule) (p : Option ValueParser). let s : Rule = record r { parser = p } in s)
+    (ap (λ (a : Arg). rule_of a) long_is
+    ∙ ap₂ (λ (r : Rule) (t : Text). let s : Rule = record r { long = Some t } in s) new_is name_is)
+    models_is)
+    value_is
+
+-- an argument with a range of values and an action
+pub label_rule_of : (new ranged done : Arg) → rule_of new ≡ new_rule (codes "label")
+    → ranged ≡ record new { num_vals = ranged.num_vals }
+    → ranged.num_vals ≡ Some (record { start_inclusive = 0; end_inclusive = usize_max })
+    → done ≡ record ranged { action = Some Append }
+    → rule_of done ≡ label_rule
+label_rule_of new ranged done new_is ranged_is range_is done_is =
+    ap (λ (a : Arg). rule_of a) done_is
+    ∙ ap (λ (r : Rule). let s : Rule = record r { action = Some Append } in s)
+    (ap (λ (a : Arg). rule_of a) ranged_is
+    ∙ ap₂ (λ (r : Rule) (v : Option ValueRange). let s : Rule = record r { range = v } in s) new_is range_is)
+
+pub neither : (a b c : Bool) → c ≡ (a || b) → a ≡ false → b ≡ false → c ≡ false
+neither a b c is no_a no_b = is ∙ ap₂ (λ (x y : Bool). x || y) no_a no_b
+
+-- a command that takes no program's name, wants a subcommand and has none for help
+pub record IsFencer (new unnamed wanted done : Command) : Type 0 where
+  pub unnamed_is : out-Command unnamed ≡ record (out-Command new) { no_binary_name = true }
+  pub wanted_is : out-Command wanted ≡ record (out-Command unnamed) { subcommand_required = true }
+  pub done_is : out-Command done ≡ record (out-Command wanted) { disable_help_subcommand = true }
+
+pub fencer_shape : (new unnamed wanted done : Command) → IsFencer new unnamed wanted done → app_of new ≡ new_app (codes "fencer")
+    → app_of done ≡ on_top (λ s. record s { no_binary_name = true; subcommand_required = true; disable_help_subcommand = true }) (new_app (codes "fencer"))
+fencer_shape new unnamed wanted done f new_is =
+    ap app_of_fields f.done_is
+    ∙ ap (on_top (λ s. record s { disable_help_subcommand = true })) (ap app_of_fields f.wanted_is
+    ∙ ap (on_top (λ s. record s { subcommand_required = true })) (ap app_of_fields f.unnamed_is ∙ ap (on_top (λ s. record s { no_binary_name = true })) new_is))
+
+pub fencer_globals : (new unnamed wanted done : Command) → IsFencer new unnamed wanted done → (out-Command new).has_globals ≡ false
+    → (out-Command done).has_globals ≡ false
+fencer_globals new unnamed wanted done f none =
+    ap (λ (c : Command-F Command). c.has_globals) f.done_is
+    ∙ ap (λ (c : Command-F Command). c.has_globals) f.wanted_is
+    ∙ ap (λ (c : Command-F Command). c.has_globals) f.unnamed_is
+    ∙ none

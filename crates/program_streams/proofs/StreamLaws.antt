@@ -1,0 +1,47 @@
+-- What several reads or writes do to known bytes.
+use Rattle.std.proofs.Common.{ℕ, ◌+◌, List, [], ◌++◌, Option, Some, None, take, drop, refl, sym, ap, ◌∙◌, append_assoc}
+use Rattle.std.specs.Io.KnownBytes.{Appends, Consumes, IsAtEnd, Keeps}
+use Rattle.std.proofs.lemmas.List.{append-nil}
+use Rattle.std.proofs.Math.Seq.{take-add}
+use Rattle.program_streams.specs.Streams.{Holds}
+
+-- no read gives no byte
+pub none_read : (a : Option (List ℕ)) → Consumes a a []
+none_read None = tt
+none_read (Some xs) = refl
+
+-- two reads, one after the other
+pub reads_more : (a b c : Option (List ℕ)) (xs ys : List ℕ) → Consumes a b xs → Consumes b c ys → Consumes a c (xs ++ ys)
+reads_more None b c xs ys p q = tt
+reads_more (Some x) None c xs ys p q = absurd p
+reads_more (Some x) (Some y) None xs ys p q = absurd q
+reads_more (Some x) (Some y) (Some z) xs ys p q = p ∙ ap (λ (w : List ℕ). xs ++ w) q ∙ sym (append_assoc xs ys z)
+
+-- a reader that is at its end has given all that it had
+pub read_all : (a b : Option (List ℕ)) (xs : List ℕ) → Consumes a b xs → IsAtEnd b → Holds a xs
+read_all None b xs p q = tt
+read_all (Some x) None xs p q = absurd p
+read_all (Some x) (Some y) xs p q = p ∙ ap (λ (w : List ℕ). xs ++ w) q ∙ append-nil xs
+
+-- no write takes no byte
+pub none_written : (a : Option (List ℕ)) → Appends a a []
+none_written None = tt
+none_written (Some xs) = sym (append-nil xs)
+
+-- two writes, one after the other
+pub writes_more : (a b c : Option (List ℕ)) (xs ys : List ℕ) → Appends a b xs → Appends b c ys → Appends a c (xs ++ ys)
+writes_more None b c xs ys p q = tt
+writes_more (Some x) None c xs ys p q = absurd p
+writes_more (Some x) (Some y) None xs ys p q = absurd q
+writes_more (Some x) (Some y) (Some z) xs ys p q = q ∙ ap (λ (w : List ℕ). w ++ ys) p ∙ append_assoc x xs ys
+
+-- a write that fails keeps what was written
+pub writes_nothing : (a b c : Option (List ℕ)) (xs : List ℕ) → Appends a b xs → Keeps b c → Appends a c xs
+writes_nothing None b c xs p q = tt
+writes_nothing (Some x) None c xs p q = absurd p
+writes_nothing (Some x) (Some y) None xs p q = absurd q
+writes_nothing (Some x) (Some y) (Some z) xs p q = q ∙ p
+
+-- one more write of what is left
+pub sends_more : (a b c : Option (List ℕ)) (bytes : List ℕ) (sent count : ℕ) → Appends a b (take sent bytes) → Appends b c (take count (drop sent bytes)) → Appends a c (take (sent + count) bytes)
+sends_more a b c bytes sent count p q = rw take-add (writes_more a b c (take sent bytes) (take count (drop sent bytes)) p q)

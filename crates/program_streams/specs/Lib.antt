@@ -1,0 +1,3 @@
+pub mod Files
+pub mod Streams
+pub mod Words

@@ -1,0 +1,14 @@
+//! What the programs read and write: whole inputs up to a limit, the words of a line, and answers with their status.
+#![tactic(auto)]
+
+mod fault;
+mod files;
+mod output;
+mod streams;
+mod words;
+
+pub use fault::FileFault;
+pub use files::{TEXT_LIMIT, file_bytes, named_bytes};
+pub use output::say;
+pub use streams::{read_line_up_to, read_up_to, write_bytes};
+pub use words::{LineFault, line_words};

@@ -1,0 +1,86 @@
+//! Whole inputs up to a limit, and whole outputs.
+
+ghost use Rattle.std.specs.Prelude.{◌+◌, ◌<◌, ◌≤◌, ◌^◌, vec_len, IfOk, OnOk, OnErr, IfErr};
+ghost use Rattle.std.specs.Io.KnownBytes.{Appends};
+ghost use Rattle.program_streams.specs.Streams.{Holds, Takes, TakesLine, TakesOfLine, IsReadFault, AppendsFront};
+
+use crate::fault::FileFault;
+use std::alloc::Global;
+use std::io::{Read, Write};
+
+/// All that a reader gives, if that is no longer than the limit. It stops reading at the first byte
+/// past the limit. `Read` comes where a read fails and where there is no memory for the bytes.
+pub fn read_up_to<R: Read>(alloc: Global, input: &mut R, limit: usize) -> Result<Vec<u8>, FileFault>
+    requires { limit + 1 < 2 ^ 64 }
+    ensures whole { IfOk result (λ bytes. Holds (R.remaining input.old) bytes.items) }
+    ensures within { IfOk result (λ bytes. vec_len bytes ≤ limit) }
+    ensures err { IfErr result (IsReadFault (Takes (R.remaining input.old) (R.remaining input.new) (limit + 1))) }
+{
+    let mut bytes = Vec::new(alloc);
+    let mut buffer = [0u8; 4096];
+    for _ in 0..u64::MAX {
+        let room = limit - bytes.len();
+        let part = (room + 1).min(4096);
+        let count = match input.read(&mut buffer[..part]) {
+            Ok(count) => count,
+            Err(_) => return Err(FileFault::Read),
+        };
+        if count == 0 {
+            return Ok(bytes);
+        }
+        if room < count {
+            return Err(FileFault::TooLong);
+        }
+        if bytes.extend_from_slice(&buffer[..count]).is_err() {
+            return Err(FileFault::Read);
+        }
+    }
+    Err(FileFault::Read)
+}
+
+/// The first line of a reader without its line feed, if that is no longer than the limit. Nothing
+/// past the line feed is read. The faults are those of `read_up_to`.
+pub fn read_line_up_to<R: Read>(
+    alloc: Global,
+    input: &mut R,
+    limit: usize,
+) -> Result<Vec<u8>, FileFault>
+    requires { limit + 1 < 2 ^ 64 }
+    ensures line { IfOk result (λ line. TakesLine (R.remaining input.old) (R.remaining input.new) line.items) }
+    ensures within { IfOk result (λ line. vec_len line ≤ limit) }
+    ensures err { IfErr result (IsReadFault (TakesOfLine (R.remaining input.old) (R.remaining input.new) (limit + 1))) }
+{
+    let mut line = Vec::new(alloc);
+    let mut byte = [0u8; 1];
+    while line.len() <= limit {
+        match input.read(&mut byte) {
+            Ok(0) => return Ok(line),
+            Ok(_) => {
+                if byte[0] == b'\n' {
+                    return Ok(line);
+                }
+                if line.push(byte[0]).is_err() {
+                    return Err(FileFault::Read);
+                }
+            }
+            Err(_) => return Err(FileFault::Read),
+        }
+    }
+    Err(FileFault::TooLong)
+}
+
+/// Writes all of the bytes, or a front of them where the writer fails. A writer that takes no byte fails.
+pub fn write_bytes<W: Write>(output: &mut W, bytes: &[u8]) -> Result<(), FileFault>
+    ensures ok { OnOk result (Appends (W.contents output.old) (W.contents output.new) bytes.now) }
+    ensures err { OnErr result (AppendsFront (W.contents output.old) (W.contents output.new) bytes.now) }
+{
+    let mut sent = 0;
+    while sent < bytes.len() {
+        match output.write(bytes.split_at(sent).1) {
+            Ok(0) => return Err(FileFault::Write),
+            Ok(count) => sent += count,
+            Err(_) => return Err(FileFault::Write),
+        }
+    }
+    Ok(())
+}

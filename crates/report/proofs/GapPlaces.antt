@@ -1,0 +1,145 @@
+-- The gaps of a program, listed in the order of their numbers.
+use Rattle.std.proofs.Common.{◌≡◌, ℕ, zero, suc, ◌+◌, ◌-◌, ◌<◌, ◌≤◌, Bool, true, false, ◌&&◌, List, [], ◌∷◌, ◌++◌, length, take, get_or, Option, Some, None, refl, sym, ap, ◌∙◌, arith, inl, inr}
+use Rattle.std.specs.Prelude.{map, slice_get, nat_lt, nat_le, IfSome, if◌then◌else◌}
+use Rattle.std.specs.List.{range_with_len}
+use Rattle.std.proofs.lemmas.Bool.{cases_lt}
+use Rattle.std.proofs.lemmas.Bool.Decides.{nat_tests}
+use Rattle.std.proofs.lemmas.Option.{slice_get-get_or}
+use Rattle.std.proofs.lemmas.List.FromFn.{length-map-range_with_len, get_or-map-range_with_len}
+use Rattle.std.proofs.lemmas.List.Sums.{sum_by-cons}
+use Rattle.tso_program.specs.declared.listing.Thread.{Thread}
+use Rattle.tso_program.specs.Listings.{code_of, gap_count, gap_number, gaps_of_thread}
+use Rattle.report.specs.Places.{places_from, gap_place}
+
+in_front : {X : Type 0} (xs ys : List X) (i : ℕ) → i < length xs → slice_get (xs ++ ys) i ≡ slice_get xs i
+in_front [] ys i h = absurd (omega arith)
+in_front (x ∷ xs) ys zero h = refl
+in_front (x ∷ xs) ys (suc i) h = in_front xs ys i (omega arith)
+
+behind : {X : Type 0} (xs ys : List X) (i : ℕ) → slice_get (xs ++ ys) (length xs + i) ≡ slice_get ys i
+behind [] ys i = ap (slice_get ys) (let e : 0 + i ≡ i = omega arith in e)
+behind (x ∷ xs) ys i = ap (slice_get (x ∷ (xs ++ ys))) (let e : suc (length xs) + i ≡ suc (length xs + i) = omega arith in e) ∙ behind xs ys i
+
+count_first : (x : Thread) (xs : List Thread) → gap_count (x ∷ xs) ≡ gaps_of_thread x + gap_count xs
+count_first x xs = sum_by-cons gaps_of_thread x xs
+
+-- a number is that of a gap, which is listed there, or it is past all gaps
+data IsListed (t : ℕ) (threads : List Thread) (gap : ℕ) : Type 0 where
+  there : (u k : ℕ) → slice_get (places_from t threads) gap ≡ Some (t + u, k) → gap_number threads u k ≡ Some gap → IsListed t threads gap
+  past : slice_get (places_from t threads) gap ≡ None → ((u k : ℕ) → gap_number threads u k ≡ Some gap → ⊥) → IsListed t threads gap
+
+shifted : (b : Bool) (m n gap : ℕ) → (if b then Some n else None) ≡ Some gap → (if b then Some (m + n) else None) ≡ Some (m + gap)
+shifted true m n gap e = ap (λ k. Some (m + k)) (let q : n ≡ gap = cc in q)
+shifted false m n gap e = absurd cc
+
+-- a gap's number with one more thread before it
+later : (x : Thread) (xs : List Thread) (u k gap : ℕ) → gap_number xs u k ≡ Some gap → gap_number (x ∷ xs) (suc u) k ≡ Some (gaps_of_thread x + gap)
+later x xs u k gap e =
+    let there : Bool = nat_le 1 k && nat_lt k (length (code_of xs u)) in
+    let sum : gap_count (x ∷ take u xs) + (k - 1) ≡ gaps_of_thread x + (gap_count (take u xs) + (k - 1)) = omega (arith, count_first x (take u xs)) in
+    ap (λ n. if there then Some n else None) sum ∙ shifted there (gaps_of_thread x) (gap_count (take u xs) + (k - 1)) gap e
+
+first_listed : (x : Thread) (xs : List Thread) (gap : ℕ) → gap < gaps_of_thread x → gap_number (x ∷ xs) 0 (gap + 1) ≡ Some gap
+first_listed x xs gap h =
+    let low : nat_le 1 (gap + 1) ≡ true = grind (arith, nat_tests) in
+    let high : nat_lt (gap + 1) (length x.code) ≡ true = grind (arith, nat_tests) in
+    let number : gap_count [] + (gap + 1 - 1) ≡ gap = omega arith in
+    rw (low, high) (ap Some number)
+
+record Passed (k len n gap : ℕ) : Type 0 where
+  low : 1 ≤ k
+  high : k < len
+  number : n ≡ gap
+
+tested : (a b : Bool) (k len n gap : ℕ) → (a ≡ true → 1 ≤ k) → (b ≡ true → k < len) → (if a && b then Some n else None) ≡ Some gap → Passed k len n gap
+tested true true k len n gap low high e = record { low = low refl; high = high refl; number = cc }
+tested true false k len n gap low high e = absurd cc
+tested false b k len n gap low high e = absurd cc
+
+-- what a number says of its gap
+passed : (threads : List Thread) (u k gap : ℕ) → gap_number threads u k ≡ Some gap → Passed k (length (code_of threads u)) (gap_count (take u threads) + (k - 1)) gap
+passed threads u k gap e = tested (nat_le 1 k) (nat_lt k (length (code_of threads u))) k _ _ gap (λ e. grind (arith, nat_tests)) (λ e. grind (arith, nat_tests)) e
+
+earlier : (b : Bool) (m n gap : ℕ) → m ≤ gap → (if b then Some (m + n) else None) ≡ Some gap → (if b then Some n else None) ≡ Some (gap - m)
+earlier true m n gap h e = let q : m + n ≡ gap = cc in ap Some (let k : n ≡ gap - m = omega arith in k)
+earlier false m n gap h e = absurd cc
+
+-- a number past the gaps of the first thread and of no gap of the others is of no gap
+not_here : (x : Thread) (xs : List Thread) (gap : ℕ) → gaps_of_thread x ≤ gap → ((u k : ℕ) → gap_number xs u k ≡ Some (gap - gaps_of_thread x) → ⊥)
+    → (u k : ℕ) → gap_number (x ∷ xs) u k ≡ Some gap → ⊥
+not_here x xs gap h none zero k e =
+    let p = passed (x ∷ xs) 0 k gap e in
+    let low = p.low in let high = p.high in let number = p.number in
+    omega arith
+not_here x xs gap h none (suc u) k e =
+    let there : Bool = nat_le 1 k && nat_lt k (length (code_of xs u)) in
+    let sum : gaps_of_thread x + (gap_count (take u xs) + (k - 1)) ≡ gap_count (x ∷ take u xs) + (k - 1) = omega (arith, count_first x (take u xs)) in
+    none u k (earlier there (gaps_of_thread x) (gap_count (take u xs) + (k - 1)) gap h (ap (λ n. if there then Some n else None) sum ∙ e))
+
+record FirstPlaces (t : ℕ) (x : Thread) (front : List (ℕ × ℕ)) : Type 0 where
+  long : length front ≡ gaps_of_thread x
+  places : (gap : ℕ) → gap < gaps_of_thread x → slice_get front gap ≡ Some (t, gap + 1)
+
+places_of : ℕ → Thread → List (ℕ × ℕ)
+places_of t x = map (λ k. (t, k)) (range_with_len 1 (gaps_of_thread x))
+
+long_places : (t : ℕ) (x : Thread) → length (places_of t x) ≡ gaps_of_thread x
+unfolding places_of
+long_places t x = length-map-range_with_len (λ k. (t, k)) 1 (gaps_of_thread x)
+
+read_place : (t : ℕ) (x : Thread) (gap : ℕ) → gap < gaps_of_thread x → get_or (places_of t x) gap (t, gap + 1) ≡ (t, gap + 1)
+unfolding places_of
+read_place t x gap h = get_or-map-range_with_len (λ k. (t, k)) 1 (gaps_of_thread x) gap (gap + 1) (t, gap + 1) h (omega arith)
+
+place_there : (t : ℕ) (x : Thread) (gap : ℕ) → gap < gaps_of_thread x → slice_get (places_of t x) gap ≡ Some (t, gap + 1)
+place_there t x gap h = slice_get-get_or (places_of t x) gap (t, gap + 1) (omega (arith, long_places t x)) ∙ ap (λ p. Some p) (read_place t x gap h)
+
+first_places : (t : ℕ) (x : Thread) → FirstPlaces t x (map (λ k. (t, k)) (range_with_len 1 (gaps_of_thread x)))
+unfolding places_of
+first_places t x = record { long = long_places t x; places = place_there t x }
+
+here : (t : ℕ) (x : Thread) (front rest : List (ℕ × ℕ)) (gap : ℕ) → FirstPlaces t x front → gap < gaps_of_thread x → slice_get (front ++ rest) gap ≡ Some (t + 0, gap + 1)
+here t x front rest gap f h =
+    let long = f.long in
+    in_front front rest gap (omega arith) ∙ f.places gap h ∙ ap (λ u. Some (u, gap + 1)) (let e : t ≡ t + 0 = omega arith in e)
+
+skipped : (t : ℕ) (x : Thread) (front rest : List (ℕ × ℕ)) (gap : ℕ) → FirstPlaces t x front → gaps_of_thread x ≤ gap → slice_get (front ++ rest) gap ≡ slice_get rest (gap - gaps_of_thread x)
+skipped t x front rest gap f h =
+    let long = f.long in
+    let e : gap ≡ length front + (gap - gaps_of_thread x) = omega arith in
+    ap (slice_get (front ++ rest)) e ∙ behind front rest (gap - gaps_of_thread x)
+
+onward : (t : ℕ) (x : Thread) (xs : List Thread) (gap : ℕ) → gaps_of_thread x ≤ gap → IsListed (t + 1) xs (gap - gaps_of_thread x) → IsListed t (x ∷ xs) gap
+onward t x xs gap h (there u k place number) =
+    let e : t + 1 + u ≡ t + suc u = omega arith in
+    let n : gaps_of_thread x + (gap - gaps_of_thread x) ≡ gap = omega arith in
+    there (suc u) k
+    (skipped t x _ (places_from (t + 1) xs) gap (first_places t x) h ∙ place ∙ ap (λ v. Some (v, k)) e)
+    (later x xs u k (gap - gaps_of_thread x) number ∙ ap (λ m. Some m) n)
+onward t x xs gap h (past place none) =
+    past (skipped t x _ (places_from (t + 1) xs) gap (first_places t x) h ∙ place) (not_here x xs gap h none)
+
+none_of_none : (gap : ℕ) → (u k : ℕ) → gap_number [] u k ≡ Some gap → ⊥
+none_of_none gap u k e =
+    let high = (passed [] u k gap e).high in
+    omega arith
+
+-- each number is listed, or past all gaps
+listed : (t : ℕ) (threads : List Thread) (gap : ℕ) → IsListed t threads gap
+listed t [] gap = past refl (none_of_none gap)
+listed t (x ∷ xs) gap =
+    elim (cases_lt gap (gaps_of_thread x)) [
+      | inl h ↦ there 0 (gap + 1) (here t x _ (places_from (t + 1) xs) gap (first_places t x) h) (first_listed x xs gap h)
+      | inr h ↦ onward t x xs gap h (listed (t + 1) xs (gap - gaps_of_thread x))
+    ]
+
+-- what is found by a gap's number is where it is listed
+pub same_place : (threads : List Thread) (gap : ℕ) (found : Option (ℕ × ℕ)) → IfSome found (λ place. gap_number threads place.0 place.1 ≡ Some gap)
+    → ((u k : ℕ) → gap_number threads u k ≡ Some gap → found ≡ Some (u, k)) → found ≡ gap_place threads gap
+same_place threads gap found number only = go (listed 0 threads gap) found number only
+  where
+    go : IsListed 0 threads gap → (found : Option (ℕ × ℕ)) → IfSome found (λ place. gap_number threads place.0 place.1 ≡ Some gap)
+        → ((u k : ℕ) → gap_number threads u k ≡ Some gap → found ≡ Some (u, k)) → found ≡ gap_place threads gap
+    go (there u k place is) found number only = only u k is ∙ sym (place ∙ ap (λ v. Some (v, k)) (let e : 0 + u ≡ u = omega arith in e))
+    go (past place none) None number only = sym place
+    go (past place none) (Some (u, k)) number only = absurd (none u k number)

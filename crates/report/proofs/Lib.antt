@@ -1,0 +1,2 @@
+pub mod GapPlaces
+pub mod ObservationLaws

@@ -1,0 +1,15 @@
+//! The lines that the programs print. Each ends with a line feed, and each call gives exactly its line's bytes.
+#![tactic(auto)]
+
+mod answers;
+mod faults;
+mod laws;
+mod observations;
+
+pub use answers::{outcome_line, passed_line};
+pub use faults::{costs_line, file_line, litmus_line, replay_line, run_line};
+pub use laws::observations_are_told;
+pub use observations::{condition_line, observation_line};
+
+#[cfg(test)]
+mod tests;
