@@ -1,0 +1,110 @@
+-- The two certificates have their texts, and are within the limits.
+use Rattle.std.proofs.Common.{◌≡◌, [], ◌∷◌, lit<, lit≤}
+use Rattle.std.specs.Fmt.{decimal}
+use Rattle.std.proofs.lemmas.Fmt.{decimal_digit}
+use Rattle.candidate_executions.specs.declared.event.Kind.{Kind}
+use Rattle.candidate_executions.specs.declared.event.Kind.TheVariants as kinds
+use Rattle.cert_forest.specs.Limits.{IsCoverTo, HasNumbers}
+use Rattle.cert_forest.specs.Laws.{TheExamplesAreCertificates, crossed}
+
+-- single digits
+d0 : decimal 0 ≡ 48 ∷ []
+d0 = decimal_digit 0 (lit< tt)
+
+d1 : decimal 1 ≡ 49 ∷ []
+d1 = decimal_digit 1 (lit< tt)
+
+d2 : decimal 2 ≡ 50 ∷ []
+d2 = decimal_digit 2 (lit< tt)
+
+d3 : decimal 3 ≡ 51 ∷ []
+d3 = decimal_digit 3 (lit< tt)
+
+d4 : decimal 4 ≡ 52 ∷ []
+d4 = decimal_digit 4 (lit< tt)
+
+crossed_numbers : (kind : Kind) → HasNumbers (crossed kind)
+crossed_numbers kind = (
+  lit< tt,
+  lit≤ tt,
+  (
+    (
+      lit< tt,
+      lit≤ tt,
+      (
+        (
+          (lit< tt, lit< tt),
+          lit≤ tt,
+          (
+            (
+              (lit< tt, lit< tt),
+              lit≤ tt,
+              (
+                (lit≤ tt, ((lit< tt, lit< tt), ((lit< tt, lit< tt), ((lit< tt, lit< tt), ((lit< tt, lit< tt), tt))))),
+                tt,
+              ),
+            ),
+            tt,
+          ),
+        ),
+        (lit< tt, tt),
+      ),
+    ),
+    ((lit< tt, lit≤ tt, (lit< tt, (lit< tt, tt))), tt),
+  ),
+)
+
+crossed_fits : (kind : Kind) → IsCoverTo 400 (crossed kind)
+crossed_fits kind = (lit≤ tt, crossed_numbers kind)
+
+pub told : TheExamplesAreCertificates
+told = record {
+  crossing = record {
+    spelled = simp (d0, d1, d2, d3, d4);
+    within = record {
+      gaps = (lit≤ tt, lit< tt, (lit≤ tt, lit< tt, tt));
+      cost = lit< tt;
+      seq_runs = (
+        lit< tt,
+        (
+          (lit≤ tt, (lit< tt, (lit< tt, (lit< tt, (lit< tt, tt))))),
+          (
+            (lit≤ tt, (lit< tt, (lit< tt, (lit< tt, (lit< tt, tt))))),
+            (
+              (lit≤ tt, (lit< tt, (lit< tt, (lit< tt, (lit< tt, tt))))),
+              tt,
+            ),
+          ),
+        ),
+      );
+      seq_tree = crossed_fits kinds.Sequential;
+      runs = (
+        lit< tt,
+        (
+          (lit≤ tt, (lit< tt, (lit< tt, (lit< tt, (lit< tt, (lit< tt, (lit< tt, tt))))))),
+          (
+            (lit≤ tt, (lit< tt, (lit< tt, (lit< tt, (lit< tt, (lit< tt, (lit< tt, tt))))))),
+            (
+              (lit≤ tt, (lit< tt, (lit< tt, (lit< tt, (lit< tt, (lit< tt, (lit< tt, tt))))))),
+              tt,
+            ),
+          ),
+        ),
+      );
+      fenced_tree = crossed_fits kinds.Global;
+      gap_tree = (lit≤ tt, (lit< tt, lit≤ tt, ((lit< tt, lit≤ tt, (tt, tt)), ((lit< tt, lit≤ tt, tt), tt))));
+    };
+  };
+  nothing = record {
+    spelled = simp (d0, d1, d2, d3, d4);
+    within = record {
+      gaps = tt;
+      cost = lit< tt;
+      seq_runs = (lit< tt, ((lit≤ tt, tt), tt));
+      seq_tree = (lit≤ tt, lit< tt);
+      runs = (lit< tt, tt);
+      fenced_tree = (lit≤ tt, lit< tt);
+      gap_tree = (lit≤ tt, tt);
+    };
+  };
+}

@@ -1,0 +1,11 @@
+pub mod NameLaws
+pub mod TreeTexts
+pub mod CoverLaws
+pub mod GapLaws
+pub mod LineLaws
+pub mod WholeLaws
+pub mod Sets
+pub mod Examples
+pub mod Loops
+pub mod Writing
+pub mod TreeSteps

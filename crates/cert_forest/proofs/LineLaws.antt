@@ -1,0 +1,255 @@
+-- Lines are read exactly.
+use Rattle.std.proofs.Common.{◌≡◌, ℕ, zero, suc, ◌+◌, ◌<◌, ◌≤◌, ◌^◌, true, false, cond, List, [], ◌∷◌, ◌++◌, length, map, Option, Some, None, refl, sym, ap, subst, ◌∙◌, append_assoc, arith, inl, inr}
+use Rattle.std.specs.Prelude.{codes, nat_lt}
+use Rattle.std.specs.List.{AllByRecursion, list_all}
+use Rattle.std.specs.Fmt.{decimal}
+use Rattle.std.specs.Str.{bytes_eq}
+use Rattle.std.proofs.lemmas.Bool.{ltb-false, le-ltb}
+use Rattle.std.proofs.lemmas.Slice.Eq.{bytes_eq-Decides}
+use Rattle.std.proofs.lemmas.List.{append-nil}
+use Rattle.tso_machine.specs.declared.label.Label.{Label}
+use Rattle.tso_machine.specs.RunTexts.{spelling, IsLabel}
+use Rattle.cert_forest.specs.Trees.{Cover, Gap}
+use Rattle.cert_words.specs.Lines.{texts_of, spaced, line}
+use Rattle.cert_forest.specs.Texts.{cover_words, gap_words, run_line, runs_lines}
+use Rattle.cert_forest.specs.Limits.{AscendFrom, IsRun, AreRuns, IsCoverTo, IsGapTo}
+use Rattle.cert_words.specs.Words.{◌>>=◌, is_inner, word_at, name_at, end_at, begins_word, number_at, repeat_at}
+use Rattle.cert_forest.specs.Reading.{label_word_at, labels_at, gaps_at, run_at, runs_at, set_at, cost_at, cover_at, gap_at, cover_line_at, gap_line_at, version_at, header_at}
+use Rattle.cert_words.proofs.Steps.{bind_some, guarded, kept_out, chosen, some_is, Starts, done_with, repeat_takes, repeat_free}
+use Rattle.cert_words.proofs.WordLaws.{word_takes, word_again, name_takes, name_again, end_takes, end_again, number_text, number_exact, below64}
+use Rattle.cert_forest.proofs.NameLaws.{label_text, label_exact}
+use Rattle.cert_forest.proofs.TreeTexts.{texts_map, cover_text, gap_text}
+use Rattle.cert_forest.proofs.CoverLaws.{cover_exact}
+use Rattle.cert_forest.proofs.GapLaws.{gap_exact}
+
+-- ---- a line of a name and a value
+
+abbrev line_at : {A : Type 0} → List ℕ → (List ℕ → Option (A × List ℕ)) → List ℕ → Option (A × List ℕ)
+line_at name r bytes = name_at name bytes >>= λ t. r t >>= λ x. end_at x.1 >>= λ rest. Some (x.0, rest)
+
+abbrev line_of : List ℕ → List ℕ → List ℕ
+line_of name text = name ++ (text ++ 10 ∷ [])
+
+line_parts : (name text rest : List ℕ) → name ++ (text ++ 10 ∷ rest) ≡ line_of name text ++ rest
+line_parts name text rest = simp append_assoc
+
+line_takes : {A : Type 0} (r : List ℕ → Option (A × List ℕ)) (text : A → List ℕ) (P : A → Type 0) → ((bytes : List ℕ) (x : A × List ℕ) → r bytes ≡ Some x → (bytes ≡ text x.0 ++ x.1) × P x.0)
+    → (name bytes : List ℕ) (x : A × List ℕ) → line_at name r bytes ≡ Some x → (bytes ≡ line_of name (text x.0) ++ x.1) × P x.0
+line_takes r text P takes name bytes x e =
+    let t = bind_some (name_at name bytes) (λ t. r t >>= λ x. end_at x.1 >>= λ rest. Some (x.0, rest)) x e in
+    let v = bind_some (r t.0) (λ x. end_at x.1 >>= λ rest. Some (x.0, rest)) x t.2 in
+    let n = bind_some (end_at v.0.1) (λ rest. Some (v.0.0, rest)) x v.2 in
+    let one = name_takes name bytes t.0 t.1 in
+    let two = takes t.0 v.0 v.1 in
+    let three = end_takes v.0.1 n.0 n.1 in
+    let here : bytes ≡ line_of name (text v.0.0) ++ n.0 = one ∙ ap (λ (w : List ℕ). name ++ w) (two.0 ∙ ap (λ (w : List ℕ). text v.0.0 ++ w) three) ∙ line_parts name (text v.0.0) n.0 in
+    subst (λ (y : _ × List ℕ). (bytes ≡ line_of name (text y.0) ++ y.1) × P y.0) (some_is (v.0.0, n.0) x n.2) (here, two.1)
+
+line_again : {A : Type 0} (r : List ℕ → Option (A × List ℕ)) (text : List ℕ) (name : List ℕ) (x : A) (rest : List ℕ) → list_all is_inner name ≡ true → Starts (text ++ 10 ∷ rest) → r (text ++ 10 ∷ rest) ≡ Some (x, 10 ∷ rest)
+    → line_at name r (line_of name text ++ rest) ≡ Some (x, rest)
+line_again r text name x rest word st e =
+    ap (line_at name r) (sym (line_parts name text rest))
+    ∙ rw (name_again name (text ++ 10 ∷ rest) word st, e, end_again rest) refl
+
+-- ---- labels
+
+labels_take : (n : ℕ) (found : List Label) (bytes : List ℕ) (x : List Label × List ℕ) → labels_at n found bytes ≡ Some x
+    → (more : List Label) × (x.0 ≡ found ++ more) × (bytes ≡ texts_of label_text more ++ x.1) × (length more ≤ n) × AllByRecursion IsLabel more
+unfolding labels_at
+labels_take zero found bytes x e =
+    let k = kept_out (begins_word bytes) (Some (found, bytes)) x e in
+    let same = some_is (found, bytes) x k.1 in
+    ([], sym (ap (λ p. p.0) same) ∙ sym (append-nil found), ap (λ p. p.1) same, omega arith, tt)
+labels_take (suc n) found bytes x e =
+    elim (chosen (begins_word bytes) (label_word_at bytes >>= λ label. labels_at n (found ++ label.0 ∷ []) label.1) (Some (found, bytes)) (Some x) e) [
+      | inl h ↦
+          let u = bind_some (label_word_at bytes) (λ label. labels_at n (found ++ label.0 ∷ []) label.1) x h.1 in
+          let one = label_exact.takes bytes u.0 u.1 in
+          let others = labels_take n (found ++ u.0.0 ∷ []) u.0.1 x u.2 in
+          (u.0.0 ∷ others.0, others.1 ∙ append_assoc found (u.0.0 ∷ []) others.0, one.0 ∙ ap (λ (w : List ℕ). label_text u.0.0 ++ w) others.2 ∙ sym (append_assoc (label_text u.0.0) (texts_of label_text others.0) x.1), omega (arith, others.3), (one.1, others.4))
+      | inr h ↦
+          let same = some_is (found, bytes) x h.1 in
+          ([], sym (ap (λ p. p.0) same) ∙ sym (append-nil found), ap (λ p. p.1) same, omega arith, tt)
+    ]
+
+labels_start : (ls : List Label) (rest : List ℕ) → Starts (texts_of label_text ls ++ 10 ∷ rest)
+labels_start [] rest = refl
+labels_start (l ∷ ls) rest = refl
+
+labels_again : (n : ℕ) (ls found : List Label) (rest : List ℕ) → AllByRecursion IsLabel ls → length ls ≤ n → labels_at n found (texts_of label_text ls ++ 10 ∷ rest) ≡ Some (found ++ ls, 10 ∷ rest)
+unfolding labels_at
+labels_again zero [] found rest all few = ap (done_with (10 ∷ rest)) (sym (append-nil found))
+labels_again zero (l ∷ ls) found rest all few = absurd (omega arith)
+labels_again (suc n) [] found rest all few = ap (done_with (10 ∷ rest)) (sym (append-nil found))
+labels_again (suc n) (l ∷ ls) found rest all few =
+    let here : label_word_at (label_text l ++ (texts_of label_text ls ++ 10 ∷ rest)) ≡ Some (l, texts_of label_text ls ++ 10 ∷ rest) = label_exact.again l (texts_of label_text ls ++ 10 ∷ rest) all.0 (labels_start ls rest) in
+    let whole : label_word_at ((label_text l ++ texts_of label_text ls) ++ 10 ∷ rest) ≡ Some (l, texts_of label_text ls ++ 10 ∷ rest) = ap label_word_at (append_assoc (label_text l) (texts_of label_text ls) (10 ∷ rest)) ∙ here in
+    ap (λ o. o >>= λ label. labels_at n (found ++ label.0 ∷ []) label.1) whole
+    ∙ labels_again n ls (found ++ l ∷ []) rest all.1 (omega arith)
+    ∙ ap (done_with (10 ∷ rest)) (append_assoc found (l ∷ []) ls)
+
+-- ---- gaps
+
+gaps_take : (n least : ℕ) (found : List ℕ) (bytes : List ℕ) (x : List ℕ × List ℕ) → gaps_at n least found bytes ≡ Some x
+    → (more : List ℕ) × (x.0 ≡ found ++ more) × (bytes ≡ texts_of number_text more ++ x.1) × AscendFrom least more
+unfolding gaps_at
+gaps_take zero least found bytes x e =
+    let k = kept_out (begins_word bytes) (Some (found, bytes)) x e in
+    let same = some_is (found, bytes) x k.1 in
+    ([], sym (ap (λ p. p.0) same) ∙ sym (append-nil found), ap (λ p. p.1) same, tt)
+gaps_take (suc n) least found bytes x e =
+    elim (chosen (begins_word bytes) (number_at 63 bytes >>= λ gap. cond (nat_lt gap.0 least) None (gaps_at n (gap.0 + 1) (found ++ gap.0 ∷ []) gap.1)) (Some (found, bytes)) (Some x) e) [
+      | inl h ↦
+          let u = bind_some (number_at 63 bytes) (λ gap. cond (nat_lt gap.0 least) None (gaps_at n (gap.0 + 1) (found ++ gap.0 ∷ []) gap.1)) x h.1 in
+          let k = kept_out (nat_lt u.0.0 least) (gaps_at n (u.0.0 + 1) (found ++ u.0.0 ∷ []) u.0.1) x u.2 in
+          let above : least ≤ u.0.0 = ltb-false _ _ k.0 in
+          let one = (number_exact 63 (omega arith)).takes bytes u.0 u.1 in
+          let others = gaps_take n (u.0.0 + 1) (found ++ u.0.0 ∷ []) u.0.1 x k.1 in
+          let below : u.0.0 < 64 = omega (arith, one.1) in
+          (u.0.0 ∷ others.0, others.1 ∙ append_assoc found (u.0.0 ∷ []) others.0, one.0 ∙ ap (λ (w : List ℕ). number_text u.0.0 ++ w) others.2 ∙ sym (append_assoc (number_text u.0.0) (texts_of number_text others.0) x.1), (above, below, others.3))
+      | inr h ↦
+          let same = some_is (found, bytes) x h.1 in
+          ([], sym (ap (λ p. p.0) same) ∙ sym (append-nil found), ap (λ p. p.1) same, tt)
+    ]
+
+gaps_start : (gs : List ℕ) (rest : List ℕ) → Starts (texts_of number_text gs ++ 10 ∷ rest)
+gaps_start [] rest = refl
+gaps_start (g ∷ gs) rest = refl
+
+gaps_few : (least : ℕ) (gs : List ℕ) → least ≤ 64 → AscendFrom least gs → length gs + least ≤ 64
+gaps_few least [] le up = omega arith
+gaps_few least (g ∷ gs) le up = omega (arith, up.0, up.1, gaps_few (g + 1) gs (omega (arith, up.1)) up.2)
+
+gaps_again : (n least : ℕ) (gs found : List ℕ) (rest : List ℕ) → AscendFrom least gs → length gs ≤ n → gaps_at n least found (texts_of number_text gs ++ 10 ∷ rest) ≡ Some (found ++ gs, 10 ∷ rest)
+unfolding gaps_at
+gaps_again zero least [] found rest up few = ap (done_with (10 ∷ rest)) (sym (append-nil found))
+gaps_again zero least (g ∷ gs) found rest up few = absurd (omega arith)
+gaps_again (suc n) least [] found rest up few = ap (done_with (10 ∷ rest)) (sym (append-nil found))
+gaps_again (suc n) least (g ∷ gs) found rest up few =
+    let here : number_at 63 (number_text g ++ (texts_of number_text gs ++ 10 ∷ rest)) ≡ Some (g, texts_of number_text gs ++ 10 ∷ rest) = (number_exact 63 (omega arith)).again g (texts_of number_text gs ++ 10 ∷ rest) (omega (arith, up.1)) (gaps_start gs rest) in
+    let whole : number_at 63 ((number_text g ++ texts_of number_text gs) ++ 10 ∷ rest) ≡ Some (g, texts_of number_text gs ++ 10 ∷ rest) = ap (number_at 63) (append_assoc (number_text g) (texts_of number_text gs) (10 ∷ rest)) ∙ here in
+    let above : nat_lt g least ≡ false = le-ltb _ _ up.0 in
+    ap (λ o. o >>= λ gap. cond (nat_lt gap.0 least) None (gaps_at n (gap.0 + 1) (found ++ gap.0 ∷ []) gap.1)) whole
+    ∙ rw above (gaps_again n (g + 1) gs (found ++ g ∷ []) rest up.2 (omega arith))
+    ∙ ap (done_with (10 ∷ rest)) (append_assoc found (g ∷ []) gs)
+
+-- ---- each line
+
+pub run_takes : (bytes : List ℕ) (x : List Label × List ℕ) → run_at bytes ≡ Some x → (bytes ≡ run_line x.0 ++ x.1) × IsRun x.0
+unfolding run_at
+run_takes bytes x e =
+    let t = line_takes (labels_at 1024 []) (λ ls. texts_of label_text ls) IsRun read (codes "run") bytes x e in
+    (t.0 ∙ ap (λ (w : List ℕ). line_of (codes "run") w ++ x.1) (sym (texts_map spelling x.0)), t.1)
+  where
+    read : (bytes : List ℕ) (x : List Label × List ℕ) → labels_at 1024 [] bytes ≡ Some x → (bytes ≡ texts_of label_text x.0 ++ x.1) × IsRun x.0
+    read bytes x e =
+        let l = labels_take 1024 [] bytes x e in
+        subst (λ (ls : List Label). (bytes ≡ texts_of label_text ls ++ x.1) × IsRun ls) (sym l.1) (l.2, (l.3, l.4))
+
+pub run_again : (ls : List Label) (rest : List ℕ) → IsRun ls → run_at (run_line ls ++ rest) ≡ Some (ls, rest)
+unfolding run_at
+run_again ls rest fits =
+    ap (λ (w : List ℕ). line_at (codes "run") (labels_at 1024 []) (line_of (codes "run") w ++ rest)) (texts_map spelling ls)
+    ∙ line_again (labels_at 1024 []) (texts_of label_text ls) (codes "run") ls rest refl (labels_start ls rest) (labels_again 1024 ls [] rest fits.1 fits.0)
+
+counted : (name n texts rest : List ℕ) → name ++ (n ++ (10 ∷ (texts ++ rest))) ≡ ((name ++ ((n ++ []) ++ 10 ∷ [])) ++ texts) ++ rest
+counted name n texts rest = simp (append_assoc, append-nil)
+
+pub runs_takes : (name bytes : List ℕ) (x : List (List Label) × List ℕ) → runs_at name bytes ≡ Some x → (bytes ≡ runs_lines name x.0 ++ x.1) × AreRuns x.0
+unfolding runs_at
+runs_takes name bytes x e =
+    let t = bind_some (name_at name bytes) (λ t. number_at 18446744073709551615 t >>= λ n. end_at n.1 >>= λ lines. repeat_at run_at n.0 [] lines) x e in
+    let n = bind_some (number_at 18446744073709551615 t.0) (λ n. end_at n.1 >>= λ lines. repeat_at run_at n.0 [] lines) x t.2 in
+    let l = bind_some (end_at n.0.1) (λ lines. repeat_at run_at n.0.0 [] lines) x n.2 in
+    let one = name_takes name bytes t.0 t.1 in
+    let two = (number_exact 18446744073709551615 below64).takes t.0 n.0 n.1 in
+    let three = end_takes n.0.1 l.0 l.1 in
+    let more = repeat_takes run_at run_line IsRun run_takes n.0.0 [] l.0 x l.2 in
+    let len : n.0.0 ≡ length more.0 = sym more.3 in
+    let here : bytes ≡ runs_lines name more.0 ++ x.1 =
+    one ∙ ap (λ (w : List ℕ). name ++ w) (two.0 ∙ (λ i. number_text (len i) ++ (three ∙ ap (λ (w : List ℕ). 10 ∷ w) more.2) i)) ∙ counted name (number_text (length more.0)) (texts_of run_line more.0) x.1 in
+    let few : length more.0 < 2 ^ 64 = omega (arith, two.1, more.3) in
+    subst (λ (rs : List (List Label)). (bytes ≡ runs_lines name rs ++ x.1) × AreRuns rs) (sym more.1) (here, (few, more.4))
+
+pub runs_again : (name : List ℕ) (rs : List (List Label)) (rest : List ℕ) → list_all is_inner name ≡ true → AreRuns rs → runs_at name (runs_lines name rs ++ rest) ≡ Some (rs, rest)
+unfolding runs_at
+runs_again name rs rest word fits =
+    let n-again : number_at 18446744073709551615 (number_text (length rs) ++ (10 ∷ (texts_of run_line rs ++ rest))) ≡ Some (length rs, 10 ∷ (texts_of run_line rs ++ rest)) = (number_exact 18446744073709551615 below64).again (length rs) (10 ∷ (texts_of run_line rs ++ rest)) (omega (arith, fits.0)) refl in
+    ap (λ (w : List ℕ). name_at name w >>= λ t. number_at 18446744073709551615 t >>= λ n. end_at n.1 >>= λ lines. repeat_at run_at n.0 [] lines) (sym (counted name (number_text (length rs)) (texts_of run_line rs) rest))
+    ∙ rw (name_again name (number_text (length rs) ++ (10 ∷ (texts_of run_line rs ++ rest))) word refl, n-again, end_again (texts_of run_line rs ++ rest)) (repeat_free run_at run_line IsRun run_again rs [] rest fits.1)
+
+pub set_takes : (bytes : List ℕ) (x : List ℕ × List ℕ) → set_at bytes ≡ Some x → (bytes ≡ line (codes "set") (map decimal x.0) ++ x.1) × AscendFrom 0 x.0
+unfolding set_at
+set_takes bytes x e =
+    let t = line_takes (gaps_at 64 0 []) (λ gs. texts_of number_text gs) (AscendFrom 0) read (codes "set") bytes x e in
+    (t.0 ∙ ap (λ (w : List ℕ). line_of (codes "set") w ++ x.1) (sym (texts_map decimal x.0)), t.1)
+  where
+    read : (bytes : List ℕ) (x : List ℕ × List ℕ) → gaps_at 64 0 [] bytes ≡ Some x → (bytes ≡ texts_of number_text x.0 ++ x.1) × AscendFrom 0 x.0
+    read bytes x e =
+        let g = gaps_take 64 0 [] bytes x e in
+        subst (λ (gs : List ℕ). (bytes ≡ texts_of number_text gs ++ x.1) × AscendFrom 0 gs) (sym g.1) (g.2, g.3)
+
+pub set_again : (gs : List ℕ) (rest : List ℕ) → AscendFrom 0 gs → set_at (line (codes "set") (map decimal gs) ++ rest) ≡ Some (gs, rest)
+unfolding set_at
+set_again gs rest up =
+    let few : length gs ≤ 64 = omega (arith, gaps_few 0 gs (omega arith) up) in
+    ap (λ (w : List ℕ). line_at (codes "set") (gaps_at 64 0 []) (line_of (codes "set") w ++ rest)) (texts_map decimal gs)
+    ∙ line_again (gaps_at 64 0 []) (texts_of number_text gs) (codes "set") gs rest refl (gaps_start gs rest) (gaps_again 64 0 gs [] rest up few)
+
+pub cost_takes : (bytes : List ℕ) (x : ℕ × List ℕ) → cost_at bytes ≡ Some x → (bytes ≡ line (codes "cost") (decimal x.0 ∷ []) ++ x.1) × (x.0 < 2 ^ 64)
+unfolding cost_at
+cost_takes bytes x e =
+    let t = line_takes (number_at 18446744073709551615) number_text (λ n. n ≤ 18446744073709551615) (number_exact 18446744073709551615 below64).takes (codes "cost") bytes x e in
+    (t.0 ∙ ap (λ (w : List ℕ). line_of (codes "cost") w ++ x.1) (sym (append-nil (number_text x.0))), omega (arith, t.1))
+
+pub cost_again : (n : ℕ) (rest : List ℕ) → n < 2 ^ 64 → cost_at (line (codes "cost") (decimal n ∷ []) ++ rest) ≡ Some (n, rest)
+unfolding cost_at
+cost_again n rest fits =
+    ap (λ (w : List ℕ). line_at (codes "cost") (number_at 18446744073709551615) (line_of (codes "cost") w ++ rest)) (append-nil (number_text n))
+    ∙ line_again (number_at 18446744073709551615) (number_text n) (codes "cost") n rest refl refl ((number_exact 18446744073709551615 below64).again n (10 ∷ rest) (omega arith) refl)
+
+pub cover_line_takes : (name bytes : List ℕ) (x : Cover × List ℕ) → cover_line_at name bytes ≡ Some x → (bytes ≡ line name (cover_words x.0) ++ x.1) × IsCoverTo 400 x.0
+unfolding cover_line_at
+cover_line_takes name bytes x e = line_takes (cover_at 400) cover_text (IsCoverTo 400) (cover_exact 400).takes name bytes x e
+
+pub cover_line_again : (name : List ℕ) (t : Cover) (rest : List ℕ) → list_all is_inner name ≡ true → IsCoverTo 400 t → cover_line_at name (line name (cover_words t) ++ rest) ≡ Some (t, rest)
+unfolding cover_line_at
+cover_line_again name t rest word fits =
+    line_again (cover_at 400) (cover_text t) name t rest word ((cover_exact 400).starts t (10 ∷ rest) fits refl) ((cover_exact 400).again t (10 ∷ rest) fits refl)
+
+pub gap_line_takes : (bytes : List ℕ) (x : Gap × List ℕ) → gap_line_at bytes ≡ Some x → (bytes ≡ line (codes "gaps") (gap_words x.0) ++ x.1) × IsGapTo 65 x.0
+unfolding gap_line_at
+gap_line_takes bytes x e = line_takes (gap_at 65) gap_text (IsGapTo 65) (gap_exact 65).takes (codes "gaps") bytes x e
+
+pub gap_line_again : (t : Gap) (rest : List ℕ) → IsGapTo 65 t → gap_line_at (line (codes "gaps") (gap_words t) ++ rest) ≡ Some (t, rest)
+unfolding gap_line_at
+gap_line_again t rest fits =
+    line_again (gap_at 65) (gap_text t) (codes "gaps") t rest refl ((gap_exact 65).starts t (10 ∷ rest) fits refl) ((gap_exact 65).again t (10 ∷ rest) fits refl)
+
+-- ---- the first line
+
+version_takes : (bytes rest : List ℕ) → version_at bytes ≡ Some rest → bytes ≡ spaced (codes "1") ++ rest
+unfolding version_at
+version_takes bytes rest e =
+    let w = bind_some (word_at bytes) (λ w. cond (bytes_eq w.0 (codes "1")) (Some w.1) None) rest e in
+    let g = guarded (bytes_eq w.0.0 (codes "1")) w.0.1 rest w.2 in
+    let first : w.0.0 ≡ codes "1" = (bytes_eq-Decides w.0.0 (codes "1")).0 g.0 in
+    word_takes bytes w.0 w.1 ∙ (λ i. spaced (first i) ++ g.1 i)
+
+version_again : (rest : List ℕ) → Starts rest → version_at (spaced (codes "1") ++ rest) ≡ Some rest
+unfolding version_at
+version_again rest st = rw (word_again (codes "1") rest refl st) refl
+
+pub header_takes : (bytes rest : List ℕ) → header_at bytes ≡ Some rest → bytes ≡ line (codes "FENCECERT") (codes "1" ∷ []) ++ rest
+unfolding header_at
+header_takes bytes rest e =
+    let t = bind_some (name_at (codes "FENCECERT") bytes) (λ t. version_at t >>= λ r. end_at r) rest e in
+    let v = bind_some (version_at t.0) (λ r. end_at r) rest t.2 in
+    name_takes (codes "FENCECERT") bytes t.0 t.1 ∙ ap (λ (w : List ℕ). codes "FENCECERT" ++ w) (version_takes t.0 v.0 v.1 ∙ ap (λ (w : List ℕ). spaced (codes "1") ++ w) (end_takes v.0 rest v.2))
+
+pub header_again : (rest : List ℕ) → header_at (line (codes "FENCECERT") (codes "1" ∷ []) ++ rest) ≡ Some rest
+unfolding header_at
+header_again rest =
+    ap (λ o. o >>= λ t. version_at t >>= λ r. end_at r) (name_again (codes "FENCECERT") (spaced (codes "1") ++ 10 ∷ rest) refl refl)
+    ∙ ap (λ o. o >>= λ r. end_at r) (version_again (10 ∷ rest) refl)
+    ∙ end_again rest

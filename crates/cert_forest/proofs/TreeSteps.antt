@@ -1,0 +1,77 @@
+-- Nodes of trees, as the code reads them.
+use Rattle.std.proofs.Common.{◌≡◌, ℕ, suc, ◌-◌, ◌<◌, ◌==◌, false, List, [], Some, None, refl, ap, ◌∙◌, arith, inl, inr}
+use Rattle.std.proofs.lemmas.Bool.{cases_Bool, eqb-true}
+use Rattle.cert_words.specs.declared.refusal.Stop.{Stop}
+use Rattle.cert_words.specs.declared.refusal.Stop.TheVariants.{Refused, OutOfMemory}
+use Rattle.cert_forest.specs.Trees.{Gap, Split, Bound, gaps_of}
+use Rattle.cert_words.specs.Words.{Fails, letter_at, repeat_at}
+use Rattle.cert_forest.specs.Reading.{Head, head_at, below_at, cover_at, split_at, gap_by, gap_at}
+
+less : (d : ℕ) → 0 < d → d ≡ suc (d - 1)
+less d lt = omega arith
+
+-- ---- cover trees
+
+pub cover_none : (d : ℕ) (bytes : List ℕ) → d ≡ 0 → cover_at d bytes ≡ None
+unfolding cover_at
+cover_none d bytes e = rw e refl
+
+pub cover_node : (d : ℕ) (bytes : List ℕ) (h : Head) (rest : List ℕ) → 0 < d → head_at bytes ≡ Some (h, rest) → cover_at d bytes ≡ below_at (cover_at (d - 1)) h rest
+unfolding cover_at
+cover_node d bytes h rest lt e =
+    let step : cover_at (suc (d - 1)) bytes ≡ below_at (cover_at (d - 1)) h rest = rw e refl in
+    ap (λ (n : ℕ). cover_at n bytes) (less d lt) ∙ step
+
+pub cover_stops : (d : ℕ) (bytes : List ℕ) (stop : Stop) → 0 < d → Fails stop (head_at bytes) → Fails stop (cover_at d bytes)
+unfolding cover_at
+cover_stops d bytes OutOfMemory lt e = tt
+cover_stops d bytes (Refused r) lt e =
+    let step : cover_at (suc (d - 1)) bytes ≡ None = rw e refl in
+    ap (λ (n : ℕ). cover_at n bytes) (less d lt) ∙ step
+
+-- ---- gap trees
+
+pub gap_none : (d : ℕ) (bytes : List ℕ) → d ≡ 0 → gap_at d bytes ≡ None
+unfolding gap_at
+gap_none d bytes e = rw e refl
+
+gap_node : (d : ℕ) (bytes : List ℕ) (l : ℕ) (rest : List ℕ) → 0 < d → letter_at bytes ≡ Some (l, rest) → gap_at d bytes ≡ gap_by (gap_at (d - 1)) l rest
+unfolding gap_at
+gap_node d bytes l rest lt e =
+    let step : gap_at (suc (d - 1)) bytes ≡ gap_by (gap_at (d - 1)) l rest = rw e refl in
+    ap (λ (n : ℕ). gap_at n bytes) (less d lt) ∙ step
+
+pub gap_no_letter : (d : ℕ) (bytes : List ℕ) → 0 < d → letter_at bytes ≡ None → gap_at d bytes ≡ None
+unfolding gap_at
+gap_no_letter d bytes lt e =
+    let step : gap_at (suc (d - 1)) bytes ≡ None = rw e refl in
+    ap (λ (n : ℕ). gap_at n bytes) (less d lt) ∙ step
+
+pub gap_no_split : (d : ℕ) (bytes : List ℕ) (l : ℕ) (rest : List ℕ) → 0 < d → letter_at bytes ≡ Some (l, rest) → l ≡ 80 → split_at rest ≡ None → gap_at d bytes ≡ None
+gap_no_split d bytes l rest lt e is none =
+    let step : gap_by (gap_at (d - 1)) 80 rest ≡ None = rw none refl in
+    gap_node d bytes l rest lt e ∙ ap (λ (k : ℕ). gap_by (gap_at (d - 1)) k rest) is ∙ step
+
+pub gap_no_children : (d : ℕ) (bytes : List ℕ) (l : ℕ) (rest : List ℕ) (run n : ℕ) (more : List ℕ) (stop : Stop) → 0 < d → letter_at bytes ≡ Some (l, rest) → l ≡ 80 → split_at rest ≡ Some ((run, n), more)
+    → Fails stop (repeat_at (gap_at (d - 1)) n [] more) → Fails stop (gap_at d bytes)
+gap_no_children d bytes l rest run n more OutOfMemory lt e is so fails = tt
+gap_no_children d bytes l rest run n more (Refused r) lt e is so fails =
+    let step : gap_by (gap_at (d - 1)) 80 rest ≡ None = rw (so, fails) refl in
+    gap_node d bytes l rest lt e ∙ ap (λ (k : ℕ). gap_by (gap_at (d - 1)) k rest) is ∙ step
+
+pub gap_split : (d : ℕ) (bytes : List ℕ) (l : ℕ) (rest : List ℕ) (run n : ℕ) (more : List ℕ) (ts : List Gap) (end : List ℕ) → 0 < d → letter_at bytes ≡ Some (l, rest) → l ≡ 80 → split_at rest ≡ Some ((run, n), more)
+    → repeat_at (gap_at (d - 1)) n [] more ≡ Some (ts, end) → gap_at d bytes ≡ Some (Split run (gaps_of ts), end)
+gap_split d bytes l rest run n more ts end lt e is so all =
+    let step : gap_by (gap_at (d - 1)) 80 rest ≡ Some (Split run (gaps_of ts), end) = rw (so, all) refl in
+    gap_node d bytes l rest lt e ∙ ap (λ (k : ℕ). gap_by (gap_at (d - 1)) k rest) is ∙ step
+
+pub gap_bound : (d : ℕ) (bytes : List ℕ) (l : ℕ) (rest : List ℕ) → 0 < d → letter_at bytes ≡ Some (l, rest) → l ≡ 66 → gap_at d bytes ≡ Some (Bound, rest)
+gap_bound d bytes l rest lt e is = gap_node d bytes l rest lt e ∙ ap (λ (k : ℕ). gap_by (gap_at (d - 1)) k rest) is
+
+differs : (l k : ℕ) → ¬ (l ≡ k) → (l == k) ≡ false
+differs l k h = elim (cases_Bool (l == k)) [ inl y ↦ absurd (h (eqb-true _ _ y)) | inr n ↦ n ]
+
+pub gap_other : (d : ℕ) (bytes : List ℕ) (l : ℕ) (rest : List ℕ) → 0 < d → letter_at bytes ≡ Some (l, rest) → ¬ (l ≡ 80) → ¬ (l ≡ 66) → gap_at d bytes ≡ None
+gap_other d bytes l rest lt e one two =
+    let step : gap_by (gap_at (d - 1)) l rest ≡ None = rw (differs l 80 one, differs l 66 two) refl in
+    gap_node d bytes l rest lt e ∙ step

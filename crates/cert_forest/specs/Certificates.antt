@@ -1,0 +1,33 @@
+-- Certificates, without where they lie in memory.
+use Rattle.std.specs.Prelude.{ℕ, List, map}
+use Rattle.std.specs.Global.{Vec}
+use Rattle.tso_machine.specs.declared.label.Label.{Label}
+use Rattle.gap_sets.specs.Gaps.{gaps_in}
+use Rattle.cert_forest.specs.declared.certificate.Certificate.{Certificate}
+use Rattle.cert_forest.specs.Trees.{Cover, Gap}
+use Rattle.cert_forest.specs.Views.{cover, gap}
+
+-- a certificate's parts: the gaps of its set, ascending, the set's cost, runs and trees
+pub record Cert : Type 0 where
+  pub gaps : List ℕ
+  pub cost : ℕ
+  pub seq_runs : List (List Label)
+  pub seq_tree : Cover
+  pub runs : List (List Label)
+  pub fenced_tree : Cover
+  pub gap_tree : Gap
+
+abbrev pub labels_of : List (Vec Label) → List (List Label)
+labels_of runs = map (λ run. run.items) runs
+
+-- what a certificate in memory stands for
+abbrev pub certificate : Certificate → Cert
+certificate c = record {
+  gaps = gaps_in c.set;
+  cost = c.cost;
+  seq_runs = labels_of c.seq_runs.items;
+  seq_tree = cover c.seq_tree;
+  runs = labels_of c.runs.items;
+  fenced_tree = cover c.fenced_tree;
+  gap_tree = gap c.gap_tree;
+}

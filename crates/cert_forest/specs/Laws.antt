@@ -1,0 +1,99 @@
+-- Laws of certificates and their texts, and the definitions at two of them.
+use Rattle.std.specs.Prelude.{◌≡◌, ℕ, List, [], ◌∷◌, ◌++◌, codes}
+use Rattle.candidate_executions.specs.declared.event.Kind.{Kind}
+use Rattle.candidate_executions.specs.declared.event.Kind.TheVariants as kinds
+use Rattle.tso_machine.specs.declared.label.Label.TheVariants.{Exec, Flush}
+use Rattle.cert_forest.specs.declared.tree.AccessId.{AccessId}
+use Rattle.cert_forest.specs.Trees.{Cover, Value, Source, Cycle, Known, covers_of, Split, Bound, gaps_of}
+use Rattle.cert_forest.specs.Certificates.{Cert}
+use Rattle.cert_forest.specs.Limits.{IsCertificate}
+
+abbrev pub OneText : Type 0
+OneText = (c : Cert) (text other : List ℕ) → IsCertificate text c → IsCertificate other c → text ≡ other
+
+abbrev pub OneCertificate : Type 0
+OneCertificate = (text : List ℕ) (c d : Cert) → IsCertificate text c → IsCertificate text d → c ≡ d
+
+-- where a certificate's text goes on, it goes on with nothing
+abbrev pub NoTextBeginsAnother : Type 0
+NoTextBeginsAnother = (text more : List ℕ) (c d : Cert) → IsCertificate text c → IsCertificate (text ++ more) d → more ≡ []
+
+-- ---- store buffering: two threads store to a location each and load the other's
+
+abbrev pub access : ℕ → ℕ → AccessId
+access t i = record { thread = t; access = i }
+
+-- the tree of store buffering, by the kind of its cycle
+abbrev pub crossed : Kind → Cover
+crossed kind =
+    Value 0 (covers_of (
+    Value 1 (covers_of (
+    Source (access 0 1) (covers_of (Source (access 1 1) (covers_of (Cycle kind (access 0 0 ∷ (access 0 1 ∷ (access 1 0 ∷ (access 1 1 ∷ [])))) ∷ [])) ∷ []))
+    ∷ (Known 0 ∷ [])))
+    ∷ (Value 1 (covers_of (Known 1 ∷ (Known 2 ∷ []))) ∷ [])))
+
+abbrev pub store_buffering : Cert
+store_buffering = record {
+  gaps = 0 ∷ (1 ∷ []);
+  cost = 2;
+  seq_runs =
+      (Exec 0 ∷ (Exec 0 ∷ (Exec 1 ∷ (Exec 1 ∷ []))))
+      ∷ ((Exec 1 ∷ (Exec 1 ∷ (Exec 0 ∷ (Exec 0 ∷ []))))
+      ∷ ((Exec 0 ∷ (Exec 1 ∷ (Exec 0 ∷ (Exec 1 ∷ [])))) ∷ []));
+  seq_tree = crossed kinds.Sequential;
+  runs =
+      (Exec 0 ∷ (Exec 1 ∷ (Exec 0 ∷ (Exec 1 ∷ (Flush 0 ∷ (Flush 1 ∷ []))))))
+      ∷ ((Exec 1 ∷ (Exec 1 ∷ (Exec 0 ∷ (Flush 0 ∷ (Exec 0 ∷ (Flush 1 ∷ []))))))
+      ∷ ((Exec 0 ∷ (Exec 0 ∷ (Exec 1 ∷ (Flush 1 ∷ (Exec 1 ∷ (Flush 0 ∷ [])))))) ∷ []));
+  fenced_tree = crossed kinds.Global;
+  gap_tree = Split 0 (gaps_of (Split 1 (gaps_of (Bound ∷ [])) ∷ (Split 2 (gaps_of []) ∷ [])));
+}
+
+abbrev pub ended : List ℕ → List ℕ
+ended words = words ++ 10 ∷ []
+
+abbrev pub store_buffering_text : List ℕ
+store_buffering_text =
+    ended (codes "FENCECERT 1")
+    ++ (ended (codes "set 0 1")
+    ++ (ended (codes "cost 2")
+    ++ (ended (codes "seq 3")
+    ++ (ended (codes "run e0 e0 e1 e1")
+    ++ (ended (codes "run e1 e1 e0 e0")
+    ++ (ended (codes "run e0 e1 e0 e1")
+    ++ (ended (codes "tree V 0 2 V 1 2 S 0.1 1 S 1.1 1 C s 4 0.0 0.1 1.0 1.1 K 0 V 1 2 K 1 K 2")
+    ++ (ended (codes "runs 3")
+    ++ (ended (codes "run e0 e1 e0 e1 f0 f1")
+    ++ (ended (codes "run e1 e1 e0 f0 e0 f1")
+    ++ (ended (codes "run e0 e0 e1 f1 e1 f0")
+    ++ (ended (codes "fenced V 0 2 V 1 2 S 0.1 1 S 1.1 1 C g 4 0.0 0.1 1.0 1.1 K 0 V 1 2 K 1 K 2")
+    ++ ended (codes "gaps P 0 2 P 1 1 B P 2 0")))))))))))))
+
+-- ---- a program of one thread without instructions, and no location
+
+abbrev pub nothing_to_do : Cert
+nothing_to_do = record {
+  gaps = [];
+  cost = 0;
+  seq_runs = [] ∷ [];
+  seq_tree = Known 0;
+  runs = [];
+  fenced_tree = Known 0;
+  gap_tree = Bound;
+}
+
+abbrev pub nothing_to_do_text : List ℕ
+nothing_to_do_text =
+    ended (codes "FENCECERT 1")
+    ++ (ended (codes "set")
+    ++ (ended (codes "cost 0")
+    ++ (ended (codes "seq 1")
+    ++ (ended (codes "run")
+    ++ (ended (codes "tree K 0")
+    ++ (ended (codes "runs 0")
+    ++ (ended (codes "fenced K 0")
+    ++ ended (codes "gaps B"))))))))
+
+pub record TheExamplesAreCertificates : Type 0 where
+  pub crossing : IsCertificate store_buffering_text store_buffering
+  pub nothing : IsCertificate nothing_to_do_text nothing_to_do

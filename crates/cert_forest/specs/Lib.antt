@@ -1,0 +1,10 @@
+pub mod Trees
+pub mod Views
+pub mod Certificates
+pub mod Texts
+pub mod Limits
+pub mod Reading
+pub mod HeadViews
+pub mod PartsViews
+pub mod Exact
+pub mod Laws

@@ -1,0 +1,205 @@
+//! Certificates, read from their text.
+
+ghost use Rattle.std.specs.Prelude.{◌≡◌, ◌<◌, [], IfOk};
+ghost use Rattle.gap_sets.specs.Gaps.{gaps_in};
+ghost use Rattle.cert_forest.specs.Certificates.{Cert, certificate};
+ghost use Rattle.cert_forest.specs.Limits.{IsCertificate, AscendFrom};
+ghost use Rattle.cert_forest.specs.PartsViews.{parts_view};
+ghost use Rattle.cert_forest.specs.Exact.{GivesExactly};
+ghost use Rattle.cert_words.specs.Words.{Gives, GivesUnlessMemory, number_at};
+ghost use Rattle.cert_forest.specs.Reading.{gaps_at, set_at, cost_at, version_at, header_at, parts_at};
+
+use crate::certificate::Certificate;
+use crate::cover_tree::cover_line;
+use crate::fault::{CertFault, fault_of};
+use crate::gap_tree::gap_line;
+use crate::runs::runs;
+use crate::tree::{CoverTree, GapTree};
+use cert_words::{
+    Refusal, Stop, Wrong, begins_word, end, name, number, refused, refused_unless_cut,
+    refused_word, word,
+};
+use gap_sets::{GapSet, MAX_GAPS};
+use std::alloc::Global;
+use tso_machine::Label;
+
+/// The second word of the first line.
+#[tactic(auto, unfolding(crate::specs::Reading::version_at))]
+fn version(bytes: &[u8]) -> Result<&[u8], Refusal>
+    ensures { Gives (λ x. x.now) result (version_at bytes.now) }
+{
+    let (word, rest) = word(bytes)?;
+    if word == b"1".as_slice() {
+        Ok(rest)
+    } else {
+        Err(refused_unless_cut(Wrong::Token, word.is_empty(), bytes, rest))
+    }
+}
+
+#[tactic(auto, unfolding(crate::specs::Reading::header_at))]
+fn first_line(bytes: &[u8]) -> Result<&[u8], Refusal>
+    ensures { Gives (λ x. x.now) result (header_at bytes.now) }
+{
+    let rest = name(b"FENCECERT", bytes)?;
+    let rest = version(rest)?;
+    end(rest)
+}
+
+/// The first line, which says what the text is.
+fn header(bytes: &[u8]) -> Result<&[u8], Refusal>
+    ensures { Gives (λ x. x.now) result (header_at bytes.now) }
+{
+    match first_line(bytes) {
+        Ok(rest) => Ok(rest),
+        Err(refusal) => {
+            if refusal.wrong == Wrong::Ended {
+                Err(refusal)
+            } else {
+                Err(refused(Wrong::Header, 0))
+            }
+        }
+    }
+}
+
+/// What is wrong with a gap that is below the least which may stand there.
+fn below_least(gap: u8, least: u8, bytes: &[u8], rest: &[u8]) -> Refusal {
+    let could_go_on = gap > 0 && gap <= 6 && u64::from(least) <= (u64::from(gap) * 10 + 9).min(63);
+    refused_unless_cut(Wrong::Token, could_go_on, bytes, rest)
+}
+
+/// A gap's number.
+fn gap_number(bytes: &[u8]) -> Result<(u8, &[u8]), Refusal>
+    ensures gives { Gives (λ x. (x.0, x.1.now)) result (number_at 63 bytes.now) }
+    ensures below { IfOk result (λ x. x.0 < 64) }
+{
+    let (gap, rest) = number(63, bytes)?;
+    Ok((gap as u8, rest))
+}
+
+/// What is wrong with a word behind 64 gaps.
+fn after_all(bytes: &[u8]) -> Refusal {
+    match gap_number(bytes) {
+        Ok((gap, rest)) => below_least(gap, MAX_GAPS, bytes, rest),
+        Err(refusal) => refusal,
+    }
+}
+
+/// The gaps of the set, ascending, as long as words follow.
+fn gaps(alloc: Global, bytes: &[u8]) -> Result<(Vec<u8>, &[u8]), Stop>
+    ensures { GivesUnlessMemory (λ x. (x.0.items, x.1.now)) result (gaps_at 64 0 [] bytes.now) }
+{
+    let mut found = Vec::new(alloc);
+    let mut least: u8 = 0;
+    let mut rest = bytes;
+    for _ in 0..MAX_GAPS {
+        if !begins_word(rest) {
+            return Ok((found, rest));
+        }
+        let (gap, after) = gap_number(rest)?;
+        if gap < least {
+            return Err(Stop::Refused(below_least(gap, least, rest, after)));
+        }
+        found.push(gap)?;
+        least = gap + 1;
+        rest = after;
+    }
+    if begins_word(rest) {
+        return Err(Stop::Refused(after_all(rest)));
+    }
+    Ok((found, rest))
+}
+
+#[tactic(auto, unfolding(crate::specs::Reading::set_at))]
+fn set_line(alloc: Global, bytes: &[u8]) -> Result<(Vec<u8>, &[u8]), Stop>
+    ensures { GivesUnlessMemory (λ x. (x.0.items, x.1.now)) result (set_at bytes.now) }
+{
+    let rest = name(b"set", bytes)?;
+    let (gaps, rest) = gaps(alloc, rest)?;
+    let rest = end(rest)?;
+    Ok((gaps, rest))
+}
+
+/// The set of these gaps.
+fn set_of(gaps: &[u8]) -> GapSet
+    requires { AscendFrom 0 gaps.now }
+    ensures { gaps_in result ≡ gaps.now }
+{
+    let mut set = GapSet::empty();
+    for gap in gaps {
+        set = set.with(*gap);
+    }
+    set
+}
+
+#[tactic(auto, unfolding(crate::specs::Reading::cost_at))]
+fn cost(bytes: &[u8]) -> Result<(u64, &[u8]), Refusal>
+    ensures { Gives (λ x. (x.0, x.1.now)) result (cost_at bytes.now) }
+{
+    let rest = name(b"cost", bytes)?;
+    let (cost, rest) = number(u64::MAX, rest)?;
+    let rest = end(rest)?;
+    Ok((cost, rest))
+}
+
+/// What was read of a certificate.
+#[derive(Debug, Drop)]
+struct Parts {
+    gaps: Vec<u8>,
+    cost: u64,
+    seq_runs: Vec<Vec<Label>>,
+    seq_tree: CoverTree,
+    runs: Vec<Vec<Label>>,
+    fenced_tree: CoverTree,
+    gap_tree: GapTree,
+}
+
+/// A certificate's parts, and the bytes behind its last line.
+#[tactic(auto, unfolding(crate::specs::Reading::parts_at))]
+fn read_parts(alloc: Global, bytes: &[u8]) -> Result<(Parts, &[u8]), Stop>
+    ensures { GivesUnlessMemory (λ x. (parts_view x.0, x.1.now)) result (parts_at bytes.now) }
+{
+    let rest = header(bytes)?;
+    let (gaps, rest) = set_line(alloc, rest)?;
+    let (cost, rest) = cost(rest)?;
+    let (seq_runs, rest) = runs(alloc, b"seq", rest)?;
+    let (seq_tree, rest) = cover_line(alloc, b"tree", rest)?;
+    let (runs, rest) = runs(alloc, b"runs", rest)?;
+    let (fenced_tree, rest) = cover_line(alloc, b"fenced", rest)?;
+    let (gap_tree, rest) = gap_line(alloc, rest)?;
+    let parts = Parts {
+        gaps,
+        cost,
+        seq_runs,
+        seq_tree,
+        runs,
+        fenced_tree,
+        gap_tree,
+    };
+    Ok((parts, rest))
+}
+
+/// The certificate that the bytes are the text of. It reserves no memory by a count that it has read. The first fault
+/// from left to right is answered, and `OutOfMemory` wherever a growth was refused.
+pub fn read_cert(alloc: Global, bytes: &[u8]) -> Result<Certificate, CertFault>
+    ensures found { IfOk result (λ c. IsCertificate bytes.now (certificate c)) }
+    ensures only { (c : Cert) → IsCertificate bytes.now c → GivesExactly result c }
+{
+    match read_parts(alloc, bytes) {
+        Ok((parts, rest)) => {
+            if !rest.is_empty() {
+                return Err(CertFault::Trailing(bytes.len().saturating_sub(rest.len())));
+            }
+            Ok(Certificate {
+                set: set_of(&parts.gaps),
+                cost: parts.cost,
+                seq_runs: parts.seq_runs,
+                seq_tree: parts.seq_tree,
+                runs: parts.runs,
+                fenced_tree: parts.fenced_tree,
+                gap_tree: parts.gap_tree,
+            })
+        }
+        Err(Stop::Refused(refusal)) => Err(fault_of(refusal, bytes.len())),
+        Err(Stop::OutOfMemory) => Err(CertFault::OutOfMemory),
+    }
+}

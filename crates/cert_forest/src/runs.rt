@@ -1,0 +1,142 @@
+//! Lines of runs.
+
+ghost use Rattle.std.specs.Prelude.{◌≡◌, map, []};
+ghost use Rattle.tso_machine.specs.RunTexts.{label_at};
+ghost use Rattle.text_tokens.specs.Numbers.{plain_number_at};
+ghost use Rattle.cert_forest.specs.Certificates.{labels_of};
+ghost use Rattle.cert_words.specs.Words.{Gives, GivesUnlessMemory, repeat_at};
+ghost use Rattle.cert_forest.specs.Reading.{label_word_at, labels_at, run_at, runs_at};
+
+use cert_words::{
+    Refusal, Stop, Wrong, are_digits, begins_word, end, first_word, name, number, plain_number,
+    refused, refused_unless_cut, refused_word, word,
+};
+use std::alloc::Global;
+use tso_machine::Label;
+
+/// How many labels a run has at most.
+const MAX_LABELS: u16 = 1024;
+
+fn thread_of(digits: &[u8]) -> Option<u8>
+    ensures { result ≡ plain_number_at 255 digits.now }
+{
+    let number = plain_number(255, digits)?;
+    Some(number as u8)
+}
+
+/// The label that is spelled so.
+#[tactic(auto, unfolding(tso_machine::specs::RunTexts::label_at))]
+fn label_of(word: &[u8]) -> Option<Label>
+    ensures { result ≡ label_at word.now }
+{
+    match word {
+        [b'e', digits @ ..] => Some(Label::Exec(thread_of(digits)?)),
+        [b'f', digits @ ..] => Some(Label::Flush(thread_of(digits)?)),
+        _ => None,
+    }
+}
+
+/// What is wrong with a word that spells no label, and whether it could have gone on.
+fn fault_of(word: &[u8]) -> (Wrong, bool) {
+    match word.split_first() {
+        None => (Wrong::Token, true),
+        Some((first, digits)) => {
+            let begins = *first == b'e' || *first == b'f';
+            if begins && !digits.is_empty() && are_digits(digits) {
+                (Wrong::Number, false)
+            } else {
+                (Wrong::Token, begins && digits.is_empty())
+            }
+        }
+    }
+}
+
+/// A space, and a label.
+#[tactic(auto, unfolding(crate::specs::Reading::label_word_at))]
+fn label(bytes: &[u8]) -> Result<(Label, &[u8]), Refusal>
+    ensures { Gives (λ x. (x.0, x.1.now)) result (label_word_at bytes.now) }
+{
+    let (word, rest) = word(bytes)?;
+    match label_of(word) {
+        Some(label) => Ok((label, rest)),
+        None => {
+            let (wrong, could_go_on) = fault_of(word);
+            Err(refused_unless_cut(wrong, could_go_on, bytes, rest))
+        }
+    }
+}
+
+/// What is wrong where one label more than there may be begins.
+fn one_too_many(bytes: &[u8]) -> Refusal {
+    match bytes.split_first() {
+        None => refused(Wrong::Ended, 0),
+        Some((_, after)) => {
+            let (word, rest) = first_word(after);
+            if !word.is_empty() {
+                refused_word(Wrong::TooMany, bytes)
+            } else {
+                refused_unless_cut(Wrong::Token, true, bytes, rest)
+            }
+        }
+    }
+}
+
+/// Labels, as long as words follow.
+fn labels(alloc: Global, bytes: &[u8]) -> Result<(Vec<Label>, &[u8]), Stop>
+    ensures { GivesUnlessMemory (λ x. (x.0.items, x.1.now)) result (labels_at 1024 [] bytes.now) }
+{
+    let mut found = Vec::new(alloc);
+    let mut rest = bytes;
+    for _ in 0..MAX_LABELS {
+        if !begins_word(rest) {
+            return Ok((found, rest));
+        }
+        let (label, after) = label(rest)?;
+        found.push(label)?;
+        rest = after;
+    }
+    if begins_word(rest) {
+        return Err(Stop::Refused(one_too_many(rest)));
+    }
+    Ok((found, rest))
+}
+
+/// A run's line.
+#[tactic(auto, unfolding(crate::specs::Reading::run_at))]
+fn run(alloc: Global, bytes: &[u8]) -> Result<(Vec<Label>, &[u8]), Stop>
+    ensures { GivesUnlessMemory (λ x. (x.0.items, x.1.now)) result (run_at bytes.now) }
+{
+    let rest = name(b"run", bytes)?;
+    let (labels, rest) = labels(alloc, rest)?;
+    let rest = end(rest)?;
+    Ok((labels, rest))
+}
+
+/// So many lines of runs.
+fn run_lines(alloc: Global, count: u64, bytes: &[u8]) -> Result<(Vec<Vec<Label>>, &[u8]), Stop>
+    ensures { GivesUnlessMemory (λ x. (labels_of x.0.items, x.1.now)) result (repeat_at run_at count [] bytes.now) }
+{
+    let mut found = Vec::new(alloc);
+    let mut rest = bytes;
+    for _ in 0..count {
+        let (run, after) = run(alloc, rest)?;
+        found.push(run)?;
+        rest = after;
+    }
+    Ok((found, rest))
+}
+
+/// A line with the number of runs, and their lines.
+#[tactic(auto, unfolding(crate::specs::Reading::runs_at))]
+pub(crate) fn runs<'t>(
+    alloc: Global,
+    first: &[u8],
+    bytes: &'t [u8],
+) -> Result<(Vec<Vec<Label>>, &'t [u8]), Stop>
+    ensures { GivesUnlessMemory (λ x. (labels_of x.0.items, x.1.now)) result (runs_at first.now bytes.now) }
+{
+    let rest = name(first, bytes)?;
+    let (count, rest) = number(u64::MAX, rest)?;
+    let rest = end(rest)?;
+    run_lines(alloc, count, rest)
+}

@@ -1,0 +1,254 @@
+//! The text of a certificate.
+
+ghost use Rattle.std.specs.Prelude.{◌≡◌, ◌++◌, ◌∷◌, [], map, OnOk, IfOk, string_bytes, codes};
+ghost use Rattle.std.specs.Fmt.{decimal};
+ghost use Rattle.gap_sets.specs.Gaps.{gaps_in};
+ghost use Rattle.tso_machine.specs.RunTexts.{spelling};
+ghost use Rattle.cert_forest.specs.Views.{cover, gap};
+ghost use Rattle.cert_forest.specs.Trees.{covers_of, gaps_of};
+ghost use Rattle.cert_forest.specs.Certificates.{certificate, labels_of};
+ghost use Rattle.cert_words.specs.Lines.{texts_of, spaced, line};
+ghost use Rattle.cert_forest.specs.Texts.{access_word, kind_word, cover_words, covers_words, gap_words, gaps_words, run_line, runs_lines, certificate_text};
+
+use crate::certificate::Certificate;
+use crate::tree::{AccessId, CoverTree, GapTree};
+use candidate_executions::Kind;
+use gap_sets::GapSet;
+use std::alloc::{AllocError, Global};
+use tso_machine::Label;
+
+fn push_access(out: &mut String, event: AccessId) -> Result<(), AllocError>
+    ensures { OnOk result (string_bytes out.new ≡ string_bytes out.old ++ spaced (access_word event)) }
+{
+    let thread = event.thread;
+    let access = event.access;
+    write!(out, " {thread}.{access}")
+}
+
+fn push_accesses(out: &mut String, events: &[AccessId]) -> Result<(), AllocError>
+    ensures { OnOk result (string_bytes out.new ≡ string_bytes out.old ++ texts_of spaced (map access_word events.now)) }
+{
+    for event in events {
+        push_access(out, *event)?;
+    }
+    Ok(())
+}
+
+fn push_number(out: &mut String, number: u64) -> Result<(), AllocError>
+    ensures { OnOk result (string_bytes out.new ≡ string_bytes out.old ++ spaced (decimal number)) }
+{
+    write!(out, " {number}")
+}
+
+fn push_len(out: &mut String, number: usize) -> Result<(), AllocError>
+    ensures { OnOk result (string_bytes out.new ≡ string_bytes out.old ++ spaced (decimal number)) }
+{
+    write!(out, " {number}")
+}
+
+/// A space, and a word.
+fn push_word(out: &mut String, word: &str) -> Result<(), AllocError>
+    ensures { OnOk result (string_bytes out.new ≡ string_bytes out.old ++ spaced word.now) }
+{
+    out.push(' ')?;
+    out.push_str(word)
+}
+
+fn push_kind(out: &mut String, kind: Kind) -> Result<(), AllocError>
+    ensures { OnOk result (string_bytes out.new ≡ string_bytes out.old ++ spaced (kind_word kind)) }
+{
+    match kind {
+        Kind::Sequential => push_word(out, "s"),
+        Kind::Location => push_word(out, "l"),
+        Kind::Global => push_word(out, "g"),
+    }
+}
+
+#[cycle(push_cover)]
+fn push_cover(out: &mut String, tree: &CoverTree) -> Result<(), AllocError>
+    ensures { OnOk result (string_bytes out.new ≡ string_bytes out.old ++ texts_of spaced (cover_words (cover tree.now))) }
+{
+    match tree {
+        CoverTree::Value { thread, children } => {
+            push_word(out, "V")?;
+            push_number(out, u64::from(*thread))?;
+            push_len(out, children.len())?;
+            push_covers(out, children)
+        }
+        CoverTree::Source { read, children } => {
+            push_word(out, "S")?;
+            push_access(out, *read)?;
+            push_len(out, children.len())?;
+            push_covers(out, children)
+        }
+        CoverTree::Order {
+            first,
+            second,
+            first_before,
+            second_before,
+        } => {
+            push_word(out, "O")?;
+            push_access(out, *first)?;
+            push_access(out, *second)?;
+            push_cover(out, first_before)?;
+            push_cover(out, second_before)
+        }
+        CoverTree::Cycle { kind, events } => {
+            push_word(out, "C")?;
+            push_kind(out, *kind)?;
+            push_len(out, events.len())?;
+            push_accesses(out, events)
+        }
+        CoverTree::Known { run } => {
+            push_word(out, "K")?;
+            push_number(out, *run)
+        }
+    }
+}
+
+#[cycle(push_cover)]
+fn push_covers(out: &mut String, trees: &[CoverTree]) -> Result<(), AllocError>
+    ensures { OnOk result (string_bytes out.new
+        ≡ string_bytes out.old ++ texts_of spaced (covers_words (covers_of (map cover trees.now)))) }
+{
+    for tree in trees {
+        push_cover(out, tree)?;
+    }
+    Ok(())
+}
+
+#[cycle(push_gap)]
+fn push_gap(out: &mut String, tree: &GapTree) -> Result<(), AllocError>
+    ensures { OnOk result (string_bytes out.new ≡ string_bytes out.old ++ texts_of spaced (gap_words (gap tree.now))) }
+{
+    match tree {
+        GapTree::Split { run, children } => {
+            push_word(out, "P")?;
+            push_number(out, *run)?;
+            push_len(out, children.len())?;
+            push_gaps(out, children)
+        }
+        GapTree::Bound => push_word(out, "B"),
+    }
+}
+
+#[cycle(push_gap)]
+fn push_gaps(out: &mut String, trees: &[GapTree]) -> Result<(), AllocError>
+    ensures { OnOk result (string_bytes out.new
+        ≡ string_bytes out.old ++ texts_of spaced (gaps_words (gaps_of (map gap trees.now)))) }
+{
+    for tree in trees {
+        push_gap(out, tree)?;
+    }
+    Ok(())
+}
+
+fn push_label(out: &mut String, label: Label) -> Result<(), AllocError>
+    ensures { OnOk result (string_bytes out.new ≡ string_bytes out.old ++ spaced (spelling label)) }
+{
+    match label {
+        Label::Exec(thread) => write!(out, " e{thread}"),
+        Label::Flush(thread) => write!(out, " f{thread}"),
+    }
+}
+
+fn push_labels(out: &mut String, labels: &[Label]) -> Result<(), AllocError>
+    ensures { OnOk result (string_bytes out.new ≡ string_bytes out.old ++ texts_of spaced (map spelling labels.now)) }
+{
+    for label in labels {
+        push_label(out, *label)?;
+    }
+    Ok(())
+}
+
+fn push_run(out: &mut String, labels: &[Label]) -> Result<(), AllocError>
+    ensures { OnOk result (string_bytes out.new ≡ string_bytes out.old ++ run_line labels.now) }
+{
+    out.push_str("run")?;
+    push_labels(out, labels)?;
+    out.push('\n')
+}
+
+fn push_run_lines(out: &mut String, runs: &[Vec<Label>]) -> Result<(), AllocError>
+    ensures { OnOk result (string_bytes out.new ≡ string_bytes out.old ++ texts_of run_line (labels_of runs.now)) }
+{
+    for run in runs {
+        push_run(out, run)?;
+    }
+    Ok(())
+}
+
+fn push_runs(out: &mut String, name: &str, runs: &[Vec<Label>]) -> Result<(), AllocError>
+    ensures { OnOk result (string_bytes out.new ≡ string_bytes out.old ++ runs_lines name.now (labels_of runs.now)) }
+{
+    out.push_str(name)?;
+    push_len(out, runs.len())?;
+    out.push('\n')?;
+    push_run_lines(out, runs)
+}
+
+fn push_gap_numbers(out: &mut String, set: GapSet) -> Result<(), AllocError>
+    ensures { OnOk result (string_bytes out.new ≡ string_bytes out.old ++ texts_of spaced (map decimal (gaps_in set))) }
+{
+    for gap in set.iter() {
+        push_number(out, u64::from(gap))?;
+    }
+    Ok(())
+}
+
+/// The line of the set and that of its cost.
+fn push_set(out: &mut String, set: GapSet, cost: u64) -> Result<(), AllocError>
+    ensures { OnOk result (string_bytes out.new
+        ≡ string_bytes out.old ++ (line (codes "set") (map decimal (gaps_in set)) ++ line (codes "cost") (decimal cost ∷ []))) }
+{
+    out.push_str("set")?;
+    push_gap_numbers(out, set)?;
+    out.push_str("\ncost")?;
+    push_number(out, cost)?;
+    out.push('\n')
+}
+
+fn push_cover_line(out: &mut String, name: &str, tree: &CoverTree) -> Result<(), AllocError>
+    ensures { OnOk result (string_bytes out.new ≡ string_bytes out.old ++ line name.now (cover_words (cover tree.now))) }
+{
+    out.push_str(name)?;
+    push_cover(out, tree)?;
+    out.push('\n')
+}
+
+fn push_gap_line(out: &mut String, tree: &GapTree) -> Result<(), AllocError>
+    ensures { OnOk result (string_bytes out.new ≡ string_bytes out.old ++ line (codes "gaps") (gap_words (gap tree.now))) }
+{
+    out.push_str("gaps")?;
+    push_gap(out, tree)?;
+    out.push('\n')
+}
+
+/// The line that says what the text is.
+fn push_header(out: &mut String) -> Result<(), AllocError>
+    ensures { OnOk result (string_bytes out.new ≡ string_bytes out.old ++ line (codes "FENCECERT") (codes "1" ∷ [])) }
+{
+    out.push_str("FENCECERT 1\n")
+}
+
+fn push_certificate(out: &mut String, c: &Certificate) -> Result<(), AllocError>
+    ensures { OnOk result (string_bytes out.new ≡ string_bytes out.old ++ certificate_text (certificate c.now)) }
+{
+    push_header(out)?;
+    push_set(out, c.set, c.cost)?;
+    push_runs(out, "seq", &c.seq_runs)?;
+    push_cover_line(out, "tree", &c.seq_tree)?;
+    push_runs(out, "runs", &c.runs)?;
+    push_cover_line(out, "fenced", &c.fenced_tree)?;
+    push_gap_line(out, &c.gap_tree)
+}
+
+/// The certificate's text, beyond the limits of what is read too: `read_cert` reads the text of a certificate within
+/// them.
+pub fn write_cert(alloc: Global, c: &Certificate) -> Result<Vec<u8>, AllocError>
+    ensures { IfOk result (λ text. text.items ≡ certificate_text (certificate c.now)) }
+{
+    let mut out = String::new(alloc);
+    push_certificate(&mut out, c)?;
+    Ok(out.into_bytes())
+}

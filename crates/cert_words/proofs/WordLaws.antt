@@ -1,0 +1,158 @@
+-- Words: what the reader takes of each kind, and that it takes each again.
+use Rattle.std.proofs.Common.{◌≡◌, ℕ, suc, ◌+◌, ◌<◌, ◌≤◌, ◌==◌, ◌^◌, Bool, true, false, cond, List, [], ◌∷◌, ◌++◌, length, take, drop, Some, None, refl, sym, ap, subst, ◌∙◌, arith, inl, inr}
+use Rattle.std.specs.Prelude.{nat_lt}
+use Rattle.std.specs.List.{list_all, prefix_len}
+use Rattle.std.specs.Char.{is_ascii_digit}
+use Rattle.std.specs.Fmt.{decimal}
+use Rattle.std.specs.Str.{bytes_eq}
+use Rattle.std.proofs.lemmas.Bool.{and_parts, and_from, cases_Bool, eqb-true, ltb-false, le-ltb}
+use Rattle.std.proofs.lemmas.Bool.Decides.{nat_tests}
+use Rattle.std.proofs.lemmas.Slice.Eq.{bytes_eq-Decides}
+use Rattle.std.proofs.lemmas.List.{take_at, drop_at, take-append-drop}
+use Rattle.std.proofs.lemmas.Fmt.{digits_decimal}
+use Rattle.text_tokens.proofs.NumberLaws.{own, plain_number_takes, plain_number_again}
+use Rattle.text_tokens.specs.Numbers.{plain_number_at}
+use Rattle.cert_words.specs.Lines.{spaced}
+use Rattle.cert_words.specs.Words.{◌>>=◌, is_inner, front, behind, word_at, name_at, end_at, number_at, count_at, letter_of, letter_at}
+use Rattle.cert_words.proofs.Steps.{bind_some, guarded, kept_out, some_is, Stops, Starts, IsExact}
+
+-- ---- how far bytes go that pass a test
+
+one_more : (n : ℕ) → 1 + n ≡ suc n
+one_more n = omega arith
+
+pub prefix_is : (p : ℕ → Bool) (xs rest : List ℕ) → list_all p xs ≡ true → Stops p rest → prefix_len p (xs ++ rest) ≡ length xs
+prefix_is p [] [] all stop = refl
+prefix_is p [] (y ∷ rest) all stop = rw stop refl
+prefix_is p (x ∷ xs) rest all stop =
+    let a = and_parts (p x) (list_all p xs) all in
+    let others : prefix_len p (xs ++ rest) ≡ length xs = prefix_is p xs rest a.1 stop in
+    rw a.0 (omega arith)
+
+pub after_prefix : (p : ℕ → Bool) (xs : List ℕ) (b : ℕ) (ys : List ℕ) → drop (prefix_len p xs) xs ≡ b ∷ ys → p b ≡ false
+after_prefix p [] b ys e = absurd cc
+after_prefix p (x ∷ xs) b ys e =
+    elim (cases_Bool (p x)) [
+      | inl y ↦ after_prefix p xs b ys (rw (y, one_more) at e)
+      | inr n ↦ let whole : x ∷ xs ≡ b ∷ ys = rw n at e in let same : x ≡ b = cc in subst (λ (z : ℕ). p z ≡ false) same n
+    ]
+
+front_is : (w rest : List ℕ) → list_all is_inner w ≡ true → Starts rest → front (w ++ rest) ≡ w
+front_is w rest all st = ap (λ n. take n (w ++ rest)) (prefix_is is_inner w rest all st) ∙ take_at w rest (length w) refl
+
+behind_is : (w rest : List ℕ) → list_all is_inner w ≡ true → Starts rest → behind (w ++ rest) ≡ rest
+behind_is w rest all st = ap (λ n. drop n (w ++ rest)) (prefix_is is_inner w rest all st) ∙ drop_at w rest (length w) refl
+
+front_behind : (bytes : List ℕ) → front bytes ++ behind bytes ≡ bytes
+front_behind bytes = take-append-drop (prefix_len is_inner bytes) bytes
+
+-- ---- words
+
+pub word_takes : (bytes : List ℕ) (x : List ℕ × List ℕ) → word_at bytes ≡ Some x → bytes ≡ spaced x.0 ++ x.1
+unfolding word_at
+word_takes [] x e = absurd cc
+word_takes (b ∷ bytes) x e =
+    let g = guarded (b == 32) (front bytes, behind bytes) x e in
+    let first : b ≡ 32 = eqb-true _ _ g.0 in
+    let here : b ∷ bytes ≡ spaced (front bytes) ++ behind bytes = λ i. first i ∷ sym (front_behind bytes) i in
+    subst (λ (y : List ℕ × List ℕ). b ∷ bytes ≡ spaced y.0 ++ y.1) g.1 here
+
+pub word_again : (w rest : List ℕ) → list_all is_inner w ≡ true → Starts rest → word_at (spaced w ++ rest) ≡ Some (w, rest)
+unfolding word_at
+word_again w rest all st = rw (front_is w rest all st, behind_is w rest all st) refl
+
+pub name_takes : (name bytes rest : List ℕ) → name_at name bytes ≡ Some rest → bytes ≡ name ++ rest
+unfolding name_at
+name_takes name bytes rest e =
+    let g = guarded (bytes_eq (front bytes) name) (behind bytes) rest e in
+    let first : front bytes ≡ name = (bytes_eq-Decides (front bytes) name).0 g.0 in
+    sym (front_behind bytes) ∙ (λ i. first i ++ g.1 i)
+
+pub name_again : (name rest : List ℕ) → list_all is_inner name ≡ true → Starts rest → name_at name (name ++ rest) ≡ Some rest
+unfolding name_at
+name_again name rest all st =
+    let same : bytes_eq name name ≡ true = (bytes_eq-Decides name name).1 refl in
+    rw (front_is name rest all st, behind_is name rest all st, same) refl
+
+pub end_takes : (bytes rest : List ℕ) → end_at bytes ≡ Some rest → bytes ≡ 10 ∷ rest
+unfolding end_at
+end_takes [] rest e = absurd cc
+end_takes (b ∷ bytes) rest e =
+    let g = guarded (b == 10) bytes rest e in
+    let first : b ≡ 10 = eqb-true _ _ g.0 in
+    λ i. first i ∷ g.1 i
+
+pub end_again : (rest : List ℕ) → end_at (10 ∷ rest) ≡ Some rest
+unfolding end_at
+end_again rest = refl
+
+-- ---- numbers
+
+digit_inner : (c : ℕ) → is_ascii_digit c ≡ true → is_inner c ≡ true
+digit_inner c h = grind (arith, nat_tests)
+
+digits_inner : (ds : List ℕ) → list_all is_ascii_digit ds ≡ true → list_all is_inner ds ≡ true
+digits_inner [] all = refl
+digits_inner (d ∷ ds) all =
+    let a = and_parts (is_ascii_digit d) (list_all is_ascii_digit ds) all in
+    and_from (is_inner d) (list_all is_inner ds) (digit_inner d a.0) (digits_inner ds a.1)
+
+pub decimal_inner : (n : ℕ) → n < 2 ^ 64 → list_all is_inner (decimal n) ≡ true
+decimal_inner n lt = digits_inner (decimal n) (digits_decimal own n lt)
+
+abbrev pub number_text : ℕ → List ℕ
+number_text n = spaced (decimal n)
+
+pub number_exact : (limit : ℕ) → limit < 2 ^ 64 → IsExact (number_at limit) number_text (λ n. n ≤ limit)
+unfolding number_at
+number_exact limit fits = record { takes = taken; again = λ n rest le st. again n rest le st; starts = λ n rest le st. refl }
+  where
+    taken : (bytes : List ℕ) (x : ℕ × List ℕ) → number_at limit bytes ≡ Some x → (bytes ≡ number_text x.0 ++ x.1) × (x.0 ≤ limit)
+    taken bytes x e =
+        let a = bind_some (word_at bytes) (λ w. plain_number_at limit w.0 >>= λ n. Some (n, w.1)) x e in
+        let b = bind_some (plain_number_at limit a.0.0) (λ n. Some (n, a.0.1)) x a.2 in
+        let t = plain_number_takes limit b.0 a.0.0 fits b.1 in
+        let here : bytes ≡ number_text b.0 ++ a.0.1 = word_takes bytes a.0 a.1 ∙ ap (λ (v : List ℕ). spaced v ++ a.0.1) t.0 in
+        subst (λ (y : ℕ × List ℕ). (bytes ≡ number_text y.0 ++ y.1) × (y.0 ≤ limit)) (some_is (b.0, a.0.1) x b.2) (here, t.1)
+
+    again : (n : ℕ) (rest : List ℕ) → n ≤ limit → Starts rest → number_at limit (number_text n ++ rest) ≡ Some (n, rest)
+    again n rest le st = rw (word_again (decimal n) rest (decimal_inner n (omega arith)) st, plain_number_again limit n fits le) refl
+
+pub below64 : 18446744073709551615 < 2 ^ 64
+below64 = omega arith
+
+pub count_exact : IsExact count_at number_text (λ n. n ≤ 1024)
+unfolding count_at
+count_exact = record { takes = taken; again = λ n rest le st. again n rest le st; starts = λ n rest le st. refl }
+  where
+    taken : (bytes : List ℕ) (x : ℕ × List ℕ) → count_at bytes ≡ Some x → (bytes ≡ number_text x.0 ++ x.1) × (x.0 ≤ 1024)
+    taken bytes x e =
+        let a = bind_some (number_at 18446744073709551615 bytes) (λ n. cond (nat_lt 1024 n.0) None (Some n)) x e in
+        let k = kept_out (nat_lt 1024 a.0.0) (Some a.0) x a.2 in
+        let small : a.0.0 ≤ 1024 = ltb-false _ _ k.0 in
+        let here = (number_exact 18446744073709551615 below64).takes bytes a.0 a.1 in
+        subst (λ (y : ℕ × List ℕ). (bytes ≡ number_text y.0 ++ y.1) × (y.0 ≤ 1024)) (some_is a.0 x k.1) (here.0, small)
+
+    again : (n : ℕ) (rest : List ℕ) → n ≤ 1024 → Starts rest → count_at (number_text n ++ rest) ≡ Some (n, rest)
+    again n rest le st =
+        let small : nat_lt 1024 n ≡ false = le-ltb _ _ le in
+        rw ((number_exact 18446744073709551615 below64).again n rest (omega arith) st, small) refl
+
+-- ---- letters
+
+letter_of_takes : (word : List ℕ) (b : ℕ) → letter_of word ≡ Some b → word ≡ b ∷ []
+letter_of_takes [] b e = absurd cc
+letter_of_takes (c ∷ []) b e = let same : c ≡ b = some_is c b e in λ i. same i ∷ []
+letter_of_takes (c ∷ (d ∷ word)) b e = absurd cc
+
+pub letter_takes : (bytes : List ℕ) (x : ℕ × List ℕ) → letter_at bytes ≡ Some x → bytes ≡ spaced (x.0 ∷ []) ++ x.1
+unfolding letter_at
+letter_takes bytes x e =
+    let a = bind_some (word_at bytes) (λ w. letter_of w.0 >>= λ letter. Some (letter, w.1)) x e in
+    let b = bind_some (letter_of a.0.0) (λ letter. Some (letter, a.0.1)) x a.2 in
+    let here : bytes ≡ spaced (b.0 ∷ []) ++ a.0.1 = word_takes bytes a.0 a.1 ∙ ap (λ (v : List ℕ). spaced v ++ a.0.1) (letter_of_takes a.0.0 b.0 b.1) in
+    subst (λ (y : ℕ × List ℕ). bytes ≡ spaced (y.0 ∷ []) ++ y.1) (some_is (b.0, a.0.1) x b.2) here
+
+pub letter_again : (b : ℕ) (rest : List ℕ) → list_all is_inner (b ∷ []) ≡ true → Starts rest → letter_at (spaced (b ∷ []) ++ rest) ≡ Some (b, rest)
+unfolding letter_at
+letter_again b rest all st = rw (word_again (b ∷ []) rest all st) refl

@@ -1,0 +1,90 @@
+-- What each function of the words gives: a value, and the bytes behind it; or nothing.
+use Rattle.std.specs.Prelude.{◌≡◌, ◌==◌, ◌||◌, ℕ, zero, suc, Bool, false, List, [], ◌∷◌, ◌++◌, take, drop, nat_lt, not, Option, Some, None, Result, Ok, Err, option_and_then, if◌then◌else◌}
+use Rattle.std.specs.List.{prefix_len}
+use Rattle.std.specs.Str.{bytes_eq}
+use Rattle.text_tokens.specs.Numbers.{plain_number_at}
+use Rattle.cert_words.specs.declared.refusal.Refusal.{Refusal}
+use Rattle.cert_words.specs.declared.refusal.Stop.{Stop}
+use Rattle.cert_words.specs.declared.refusal.Stop.TheVariants.{Refused, OutOfMemory}
+
+infixl 10 ◌>>=◌
+abbrev pub ◌>>=◌ : {A B : Type 0} → Option A → (A → Option B) → Option B
+o >>= f = option_and_then f o
+
+-- what was returned, seen by view, is what reading gives
+abbrev pub Gives : {X Y : Type 0} → (X → Y) → Result X Refusal → Option Y → Type 0
+Gives view (Ok x) read = read ≡ Some (view x)
+Gives view (Err e) read = read ≡ None
+
+-- the same where memory can run out
+abbrev pub Fails : {Y : Type 0} → Stop → Option Y → Type 0
+Fails OutOfMemory read = Unit {0}
+Fails (Refused r) read = read ≡ None
+
+abbrev pub GivesUnlessMemory : {X Y : Type 0} → (X → Y) → Result X Stop → Option Y → Type 0
+GivesUnlessMemory view (Ok x) read = read ≡ Some (view x)
+GivesUnlessMemory view (Err e) read = Fails e read
+
+-- ---- words, and ends of lines
+
+-- neither a space nor LF
+abbrev pub is_inner : ℕ → Bool
+is_inner b = not (b == 32 || b == 10)
+
+abbrev pub front : List ℕ → List ℕ
+front bytes = take (prefix_len is_inner bytes) bytes
+
+abbrev pub behind : List ℕ → List ℕ
+behind bytes = drop (prefix_len is_inner bytes) bytes
+
+-- a space, and then a word as far as it goes
+unfoldable pub word_at : List ℕ → Option (List ℕ × List ℕ)
+word_at [] = None
+word_at (b ∷ bytes) = if b == 32 then Some (front bytes, behind bytes) else None
+
+-- the first word of a line
+unfoldable pub name_at : List ℕ → List ℕ → Option (List ℕ)
+name_at name bytes = if bytes_eq (front bytes) name then Some (behind bytes) else None
+
+-- the end of a line
+unfoldable pub end_at : List ℕ → Option (List ℕ)
+end_at [] = None
+end_at (b ∷ bytes) = if b == 10 then Some bytes else None
+
+abbrev pub begins_word : List ℕ → Bool
+begins_word [] = false
+begins_word (b ∷ bytes) = b == 32
+
+-- a number up to the limit
+unfoldable pub number_at : ℕ → List ℕ → Option (ℕ × List ℕ)
+number_at limit bytes = do
+  w ← word_at bytes
+  n ← plain_number_at limit w.0
+  Some (n, w.1)
+
+-- a number of children or events
+unfoldable pub count_at : List ℕ → Option (ℕ × List ℕ)
+count_at bytes = do
+  n ← number_at 18446744073709551615 bytes
+  if nat_lt 1024 n.0 then None else Some n
+
+-- the byte of a word of one byte
+abbrev pub letter_of : List ℕ → Option ℕ
+letter_of [] = None
+letter_of (b ∷ []) = Some b
+letter_of (b ∷ (d ∷ word)) = None
+
+unfoldable pub letter_at : List ℕ → Option (ℕ × List ℕ)
+letter_at bytes = do
+  w ← word_at bytes
+  letter ← letter_of w.0
+  Some (letter, w.1)
+
+-- ---- lists
+
+-- so many values, behind those that there are
+abbrev pub repeat_at : {A : Type 0} → (List ℕ → Option (A × List ℕ)) → ℕ → List A → List ℕ → Option (List A × List ℕ)
+repeat_at read zero found bytes = Some (found, bytes)
+repeat_at read (suc n) found bytes = do
+  x ← read bytes
+  repeat_at read n (found ++ x.0 ∷ []) x.1

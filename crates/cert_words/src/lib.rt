@@ -1,0 +1,11 @@
+//! Words of a certificate's text: the spaces before them, the ends of lines, numbers, and why a word can't stand where it
+//! does.
+#![tactic(auto)]
+
+mod numbers;
+mod refusal;
+mod words;
+
+pub use numbers::{MAX_COUNT, are_digits, count, number, plain_number};
+pub use refusal::{Refusal, Stop, Wrong, refused, refused_unless_cut, refused_word};
+pub use words::{begins_word, end, first_word, letter, name, word};
