@@ -1,5 +1,4 @@
 use crate::{Part, SyntaxFault, read_body, read_ending};
-use std::alloc::Global;
 use text_tokens::lex;
 
 #[test]
@@ -37,44 +36,6 @@ fn reads_an_ending(rt: HostRuntime) -> Result<(), SyntaxFault> {
         signs.as_str(),
         "Signs { signs: [SignAt { sign: Not, left: 2 }, SignAt { sign: Const(true), left: 1 }], refusal: None }"
     );
-    Ok(())
-}
-
-/// A text with so many entries, columns and parentheses.
-fn large_text(alloc: Global, count: u32) -> Result<Vec<u8>, SyntaxFault> {
-    let mut text = Vec::new(alloc);
-    text.extend_from_slice(b"{ ")?;
-    for place in 0..count {
-        let entry = format!(in alloc; "x{place}=1; {place}:EAX=2;")?;
-        text.extend_from_slice(entry.as_bytes())?;
-    }
-    text.extend_from_slice(b"} P0")?;
-    for thread in 1..count {
-        let column = format!(in alloc; " | P{thread}")?;
-        text.extend_from_slice(column.as_bytes())?;
-    }
-    text.extend_from_slice(b" ; MFENCE")?;
-    for _ in 1..count {
-        text.extend_from_slice(b"|")?;
-    }
-    text.extend_from_slice(b"; exists ")?;
-    for _ in 0..count {
-        text.extend_from_slice(b"(")?;
-    }
-    Ok(text)
-}
-
-#[test]
-fn reads_a_large_text(rt: HostRuntime) -> Result<(), SyntaxFault> {
-    let alloc = rt.alloc();
-    let text = large_text(alloc, 20_000)?;
-    let tokens = lex(alloc, text.as_slice(), 1)?;
-    let (body, rest) = read_body(alloc, tokens.as_slice())?;
-    let ending = read_ending(alloc, rest, body.threads)?;
-    assert_eq!(rt; body.entries.len(), 40_000);
-    assert_eq!(rt; body.threads, 20_000);
-    assert_eq!(rt; body.rows.len(), 1);
-    assert_eq!(rt; ending.signs.signs.len(), 20_000);
     Ok(())
 }
 

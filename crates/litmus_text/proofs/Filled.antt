@@ -71,17 +71,17 @@ changed f t r x u s = if t == u && number r == number s then x else f u s
 row_changed : {X : Type 0} (f : ℕ → Reg → X) (t : ℕ) (r : Reg) (x : X) (u n : ℕ) → u < n
     → (if t == u then set (get_or (grid f n) t []) (number r) x else map (f u) all_registers) ≡ map (changed f t r x u) all_registers
 row_changed {X} f t r x u n lt =
-    let row : ℕ → List X = λ v. map (f v) all_registers in
+    let line : ℕ → List X = λ v. map (f v) all_registers in
     elim (cases_Bool (t == u)) [
       | inl e ↦
           let same : t ≡ u = eqb-true t u e in
-          let here : get_or (grid f n) t [] ≡ row u = ap (λ (v : ℕ). get_or (grid f n) v []) same ∙ get_or-map-range_with_len row 0 n u u [] lt (omega arith) in
-          ap (λ (b : Bool). if b then set (get_or (grid f n) t []) (number r) x else row u) e
+          let here : get_or (grid f n) t [] ≡ line u = ap (λ (v : ℕ). get_or (grid f n) v []) same ∙ get_or-map-range_with_len line 0 n u u [] lt (omega arith) in
+          ap (λ (b : Bool). if b then set (get_or (grid f n) t []) (number r) x else line u) e
           ∙ ap (λ (old : List X). set old (number r) x) here
           ∙ row_set (f u) r x
           ∙ sym (ap (λ (b : Bool). map (λ s. if b && number r == number s then x else f u s) all_registers) e)
       | inr e ↦
-          ap (λ (b : Bool). if b then set (get_or (grid f n) t []) (number r) x else row u) e
+          ap (λ (b : Bool). if b then set (get_or (grid f n) t []) (number r) x else line u) e
           ∙ sym (ap (λ (b : Bool). map (λ s. if b && number r == number s then x else f u s) all_registers) e)
     ]
 

@@ -1,5 +1,5 @@
 //! The lines between the first line of a text and its initial values.
-ghost use Rattle.std.specs.Prelude.{◌≡◌, ◌==◌, ◌||◌, ◌<◌, ℕ, List, length, slice_index, IfSome, IfNone, IfOk, IfErr, IsOkAnd, IsTrue};
+ghost use Rattle.std.specs.Prelude.{◌≡◌, ◌==◌, ℕ, List, slice_index, IfSome, IfNone, IfOk, IfErr, IsOkAnd};
 ghost use Rattle.litmus_text.specs.Faults.{IsOfAToken};
 ghost use Rattle.litmus_text.specs.SkippedLines.{is_quoted, is_information, is_skipped, IsSkippedLine, AreSkipped};
 

@@ -101,10 +101,12 @@ locations [x; 0:EAX; x]
         threads.as_str(),
         "[Thread { code: Items { items: [Load(Eax, 0), CmpImm(Eax, 1), Jne(4), Xchg(1, Ebx)] }, registers: [0, 2, 0, 0, 0, 0] }, Thread { code: Items { items: [StoreImm(0, 1)] }, registers: [0, 0, 0, 0, 0, 0] }]"
     );
-    let labels = litmus.labels.as_slice()[1].as_slice();
+    let labels = litmus.labels.as_slice();
     assert_eq!(rt; labels.len(), 2);
-    assert_eq!(rt; labels[1].name.as_slice(), b"last".as_slice());
-    assert_eq!(rt; labels[1].position, 1);
+    let own = labels[1].as_slice();
+    assert_eq!(rt; own.len(), 2);
+    assert_eq!(rt; own[1].name.as_slice(), b"last".as_slice());
+    assert_eq!(rt; own[1].position, 1);
     assert_eq!(rt;
         litmus.observed.as_slice(),
         [
