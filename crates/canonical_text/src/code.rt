@@ -84,10 +84,8 @@ pub fn push_code(
     t: u8,
     code: Instr,
 ) -> Result<(), AllocError>
-    ensures { OnOk result (out.new.items ≡ out.old.items ++ text_of (code_pieces (code_named litmus.now.names.locations
-        (labels_of (moved_labels (gaps_in litmus.now.program gaps.now) 0 litmus.now.labels) t) code))) }
+    ensures { OnOk result (out.new.items ≡ out.old.items ++ text_of (code_pieces (code_named litmus.now.names.locations (labels_of (moved_labels (gaps_in litmus.now.program gaps.now) 0 litmus.now.labels) t) code))) }
 {
-    let names = &litmus.names;
     match code {
         Instr::LoadImm(register, value) => {
             push_to_register(out, b"MOV", register)?;
@@ -99,18 +97,18 @@ pub fn push_code(
         }
         Instr::Load(register, location) => {
             push_to_register(out, b"MOV", register)?;
-            push_memory(out, names, location)
+            push_memory(out, &litmus.names, location)
         }
         Instr::StoreImm(location, value) => {
-            push_to_memory(out, b"MOV", names, location)?;
+            push_to_memory(out, b"MOV", &litmus.names, location)?;
             push_immediate(alloc, out, value)
         }
         Instr::Store(location, register) => {
-            push_to_memory(out, b"MOV", names, location)?;
+            push_to_memory(out, b"MOV", &litmus.names, location)?;
             push_register(out, register)
         }
         Instr::Xchg(location, register) => {
-            push_to_memory(out, b"XCHG", names, location)?;
+            push_to_memory(out, b"XCHG", &litmus.names, location)?;
             push_register(out, register)
         }
         Instr::Fence => out.extend_from_slice(b"MFENCE"),
