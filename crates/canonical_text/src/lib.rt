@@ -13,6 +13,3 @@ mod writer;
 
 pub use laws::{canonical_text_is_read, printed_parts_are_read, store_buffering_is_written};
 pub use writer::write_litmus;
-
-#[cfg(test)]
-mod tests;

@@ -22,8 +22,3 @@ pub use laws::{
 pub use reader::read_cert;
 pub use tree::{AccessId, CoverTree, GapTree, MAX_COVER_DEPTH, MAX_GAP_DEPTH};
 pub use writer::write_cert;
-
-#[cfg(test)]
-mod damaged;
-#[cfg(test)]
-mod tests;

@@ -10,6 +10,3 @@ mod reader;
 
 pub use fault::CostTextFault;
 pub use reader::read_costs;
-
-#[cfg(test)]
-mod tests;

@@ -28,6 +28,3 @@ pub use entry::Entry;
 pub use fault::{Part, Refusal, SyntaxFault};
 pub use formula::{Sign, SignAt, Signs};
 pub use place::Place;
-
-#[cfg(test)]
-mod tests;

@@ -25,6 +25,3 @@ pub use names::NameTable;
 pub use observed::Observed;
 pub use outcome::write_outcome;
 pub use reader::{read_fenced, read_litmus};
-
-#[cfg(test)]
-mod tests;

@@ -10,6 +10,3 @@ pub use answers::{outcome_line, passed_line};
 pub use faults::{costs_line, file_line, litmus_line, replay_line, run_line};
 pub use laws::observations_are_told;
 pub use observations::{condition_line, observation_line};
-
-#[cfg(test)]
-mod tests;

@@ -1,4 +1,4 @@
-use crate::{condition_line, costs_line, observation_line};
+use report::{condition_line, costs_line, observation_line};
 use conditions::{Atom, Condition, Formula, Quantifier, Token};
 use cost_text::CostTextFault;
 use gap_sets::CostFault;

@@ -1,4 +1,4 @@
-use crate::{CertFault, read_cert};
+use cert_forest::{CertFault, read_cert};
 
 /// Damaged certificates, and the faults that another program told of them.
 const DAMAGED: [(&str, CertFault); 18] = [

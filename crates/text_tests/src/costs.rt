@@ -1,4 +1,4 @@
-use crate::{CostTextFault, read_costs};
+use cost_text::{CostTextFault, read_costs};
 use gap_sets::CostFault;
 use std::alloc::{AllocError, Global};
 use std::test::Fail;

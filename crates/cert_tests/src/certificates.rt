@@ -1,4 +1,4 @@
-use crate::{CertFault, CoverTree, GapTree, read_cert, write_cert};
+use cert_forest::{CertFault, CoverTree, GapTree, read_cert, write_cert};
 use std::alloc::{AllocError, Global};
 use std::test::Fail;
 

@@ -1,4 +1,4 @@
-use crate::{Part, SyntaxFault, read_body, read_ending};
+use litmus_syntax::{Part, SyntaxFault, read_body, read_ending};
 use text_tokens::lex;
 
 #[test]

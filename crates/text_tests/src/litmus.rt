@@ -1,4 +1,4 @@
-use crate::{Observed, read_fenced, read_litmus, write_outcome};
+use litmus_text::{Observed, read_fenced, read_litmus, write_outcome};
 use conditions::{Quantifier, holds};
 use std::alloc::{AllocError, Global};
 use std::test::Fail;

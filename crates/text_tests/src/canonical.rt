@@ -1,4 +1,4 @@
-use crate::{
+use canonical_text::{
     canonical_text_is_read, printed_parts_are_read, store_buffering_is_written, write_litmus,
 };
 use gap_sets::GapSet;
