@@ -81,8 +81,7 @@ fn same_label_lists(
 ) -> bool {
     for (t, labels) in source.iter().enumerate() {
         match read.get(t) {
-            Some(found)
-                if same_labels(found.as_slice(), labels.as_slice(), program, gaps, t) => {}
+            Some(found) if same_labels(found.as_slice(), labels.as_slice(), program, gaps, t) => {}
             _ => return false,
         }
     }
@@ -102,5 +101,10 @@ pub fn is_fenced_source(
         && same_names(&read.names, &source.names, fenced.threads().len())
         && read.condition.same(&source.condition)
         && read.observed == source.observed
-        && same_label_lists(read.labels.as_slice(), source.labels.as_slice(), program, gaps)
+        && same_label_lists(
+            read.labels.as_slice(),
+            source.labels.as_slice(),
+            program,
+            gaps,
+        )
 }

@@ -1,7 +1,7 @@
-use report::{condition_line, costs_line, observation_line};
 use conditions::{Atom, Condition, Formula, Quantifier, Token};
 use cost_text::CostTextFault;
 use gap_sets::CostFault;
+use report::{condition_line, costs_line, observation_line};
 use std::alloc::Global;
 use std::test::Fail;
 use tso_program::{Items, Outcome};
