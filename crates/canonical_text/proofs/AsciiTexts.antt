@@ -12,7 +12,7 @@ use Rattle.text_tokens.specs.Bytes.{is_blank, is_word_byte}
 use Rattle.text_tokens.specs.Marks.{mark_text}
 use Rattle.text_tokens.specs.Tokens.{Tok, Word, Number, Sign, NoToken}
 use Rattle.text_tokens.specs.Pieces.{Piece, Gap, Part, token_text, text_of, CanStand, AreApartBefore}
-use Rattle.litmus_text.specs.FirstLine.{is_visible}
+use Rattle.litmus_lines.specs.FirstLine.{is_visible}
 use Rattle.canonical_text.specs.Spelling.{heading}
 use Rattle.canonical_text.proofs.WordsWritten.{and_first, and_second}
 

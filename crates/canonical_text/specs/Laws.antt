@@ -6,8 +6,8 @@ use Rattle.text_tokens.specs.Tokens.{Tok}
 use Rattle.text_tokens.specs.Lexing.{Lexes}
 use Rattle.litmus_syntax.specs.Views.{BodyView, EndingView}
 use Rattle.litmus_syntax.specs.Grammar.{IsBody, IsEnding}
-use Rattle.litmus_text.specs.FirstLine.{is_visible, AreSome, IsFirstLine}
-use Rattle.litmus_text.specs.SkippedLines.{AreSkipped}
+use Rattle.litmus_lines.specs.FirstLine.{is_visible, AreSome, IsFirstLine}
+use Rattle.litmus_lines.specs.SkippedLines.{AreSkipped}
 use Rattle.tso_program.specs.declared.listing.Listing.{Listing}
 use Rattle.litmus_text.specs.declared.litmus.Litmus.{Litmus}
 use Rattle.litmus_text.specs.Texts.{IsLitmus, IsFencedLitmus}

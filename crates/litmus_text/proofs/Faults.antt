@@ -3,9 +3,11 @@ use Rattle.std.proofs.Common.{◌≡◌, ◌≢◌, ◌∙◌, Option, Some, Non
 use Rattle.std.specs.Prelude.{⊤}
 use Rattle.tso_program.specs.declared.limits.ProgramFault.TheVariants.{OutOfMemory as NoMemory}
 use Rattle.tso_program.specs.declared.limits.ProgramFault.{ProgramFault}
+use Rattle.litmus_lines.specs.declared.fault.LineFault.{LineFault}
+use Rattle.litmus_lines.specs.declared.fault.LineFault.TheVariants as line_fault
 use Rattle.litmus_text.specs.declared.fault.ReadFault.{ReadFault}
 use Rattle.litmus_text.specs.declared.fault.ReadFault.TheVariants.{NotUtf8, Header, Initial, Row, Instruction, Operand, Label, Condition, Number, Ended, Program, OutOfMemory}
-use Rattle.litmus_text.specs.Faults.{MatchFault}
+use Rattle.litmus_text.specs.Faults.{MatchFault, of_lines}
 
 -- what follows from it, case by case
 pub match_map : (fault : ReadFault) (U V : Type 0) (L K : ProgramFault → Type 0) (M N O P : Type 0) → (U → V) → ((limit : ProgramFault) → L limit → K limit) → (M → N) → (O → P)
@@ -37,6 +39,11 @@ match_memory (Label line) U L M O u l o h = absurd (o h)
 match_memory (Condition line) U L M O u l o h = absurd (o h)
 match_memory (Number line) U L M O u l o h = absurd (o h)
 match_memory (Ended line) U L M O u l o h = absurd (o h)
+
+-- a line before the initial values is a case of its own
+pub match_lines : (fault : LineFault) (U : Type 0) (L : ProgramFault → Type 0) (M O : Type 0) → O → MatchFault (of_lines fault) U L M O
+match_lines (line_fault.Header line) U L M O other = other
+match_lines (line_fault.Ended line) U L M O other = other
 
 -- a program's fault is the first limit that is broken, want of memory aside
 pub first_refused : (first : Option ProgramFault) (fault : ProgramFault) (read : ReadFault) → (first ≡ None → fault ≡ NoMemory) → ((limit : ProgramFault) → first ≡ Some limit → limit ≡ fault)

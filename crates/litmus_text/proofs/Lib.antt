@@ -1,6 +1,4 @@
 pub mod NameLaws
-pub mod FirstLineLaws
-pub mod SkippedLaws
 pub mod Rows
 pub mod Filled
 pub mod NamesOnce

@@ -19,7 +19,7 @@ use Rattle.litmus_text.specs.Meaning.{listing_of, condition_of, observed_of}
 use Rattle.litmus_text.specs.Filling.{byte_in, byte_at, listing_by}
 use Rattle.litmus_text.specs.Labels.{position_in, all_labels}
 use Rattle.tso_program.specs.Limits.{first_long}
-use Rattle.litmus_text.specs.SkippedLines.{AreSkipped}
+use Rattle.litmus_lines.specs.SkippedLines.{AreSkipped}
 use Rattle.litmus_text.specs.Texts.{Means, StandsFor}
 use Rattle.litmus_text.specs.Reading.{IsReadOf}
 use Rattle.litmus_text.proofs.NamesOnce.{in_order_once, entries_stand}

@@ -9,12 +9,13 @@ use Rattle.tso_program.specs.declared.limits.ProgramFault.{ProgramFault}
 use Rattle.litmus_text.specs.declared.litmus.Litmus.{Litmus}
 use Rattle.litmus_text.specs.declared.fault.ReadFault.{ReadFault}
 use Rattle.litmus_text.specs.declared.fault.ReadFault.TheVariants.{OutOfMemory}
-use Rattle.litmus_text.specs.Faults.{MatchFault, IsOfAToken}
-use Rattle.litmus_text.specs.FirstLine.{IsFirstLine}
-use Rattle.litmus_text.specs.SkippedLines.{AreSkipped}
+use Rattle.litmus_text.specs.Faults.{MatchFault, of_lines}
+use Rattle.litmus_lines.specs.declared.fault.LineFault.{LineFault}
+use Rattle.litmus_lines.specs.FirstLine.{IsFirstLine}
+use Rattle.litmus_lines.specs.SkippedLines.{AreSkipped}
 use Rattle.litmus_text.specs.Texts.{Means, StandsFor}
 use Rattle.litmus_text.specs.Reading.{IsRead, IsReadOf, HasNoParts}
-use Rattle.litmus_text.proofs.Faults.{match_map, match_memory}
+use Rattle.litmus_text.proofs.Faults.{match_map, match_memory, match_lines}
 use Rattle.litmus_text.proofs.Whole.{parts_whole}
 
 -- what first line, skipped lines and tokens were found
@@ -62,16 +63,15 @@ pub tokens_refused : (text name lines others : List ℕ) (tokens : List Tok) (fa
 tokens_refused text name lines others tokens fault split h =
     match_map fault ⊥ (IsUtf8 text → ⊥) (λ _. ⊥) (λ _. ⊥) ⊤ ⊤ (HasNoParts tokens) (StandsForNothing text) (λ x. absurd x) (λ _ x. x) (λ x. x) (no_parts text name lines others tokens split) h
 
-pub first_line_refused : (text : List ℕ) (fault : ReadFault) → IsOfAToken fault → ((name rest : List ℕ) → IsFirstLine text name rest → ⊥)
-    → MatchFault fault (IsUtf8 text → ⊥) (λ _. ⊥) ⊤ (StandsForNothing text)
-first_line_refused text fault h none =
-    match_map fault ⊥ (IsUtf8 text → ⊥) (λ _. ⊥) (λ _. ⊥) ⊥ ⊤ ⊤ (StandsForNothing text) (λ x. absurd x) (λ _ x. x) (λ x. absurd x) (λ _ litmus st. none litmus.name st.lines st.first_line) h
+pub first_line_refused : (text : List ℕ) (fault : LineFault) → ((name rest : List ℕ) → IsFirstLine text name rest → ⊥)
+    → MatchFault (of_lines fault) (IsUtf8 text → ⊥) (λ _. ⊥) ⊤ (StandsForNothing text)
+first_line_refused text fault none = match_lines fault (IsUtf8 text → ⊥) (λ _. ⊥) ⊤ (StandsForNothing text) (λ litmus st. none litmus.name st.lines st.first_line)
 
-pub skipped_lines_refused : (text name lines : List ℕ) (fault : ReadFault) → ((n rest : List ℕ) → IsFirstLine text n rest → (name ≡ n) × (lines ≡ rest)) → IsOfAToken fault
-    → ((rest : List ℕ) → AreSkipped lines rest → ⊥) → MatchFault fault (IsUtf8 text → ⊥) (λ _. ⊥) ⊤ (StandsForNothing text)
-skipped_lines_refused text name lines fault first_only h none =
-    match_map fault ⊥ (IsUtf8 text → ⊥) (λ _. ⊥) (λ _. ⊥) ⊥ ⊤ ⊤ (StandsForNothing text) (λ x. absurd x) (λ _ x. x) (λ x. absurd x)
-    (λ _ litmus st. none st.others (subst (λ (l : List ℕ). AreSkipped l st.others) (sym (first_only litmus.name st.lines st.first_line).1) st.skipped)) h
+pub skipped_lines_refused : (text name lines : List ℕ) (fault : LineFault) → ((n rest : List ℕ) → IsFirstLine text n rest → (name ≡ n) × (lines ≡ rest))
+    → ((rest : List ℕ) → AreSkipped lines rest → ⊥) → MatchFault (of_lines fault) (IsUtf8 text → ⊥) (λ _. ⊥) ⊤ (StandsForNothing text)
+skipped_lines_refused text name lines fault first_only none =
+    match_lines fault (IsUtf8 text → ⊥) (λ _. ⊥) ⊤ (StandsForNothing text)
+    (λ litmus st. none st.others (subst (λ (l : List ℕ). AreSkipped l st.others) (sym (first_only litmus.name st.lines st.first_line).1) st.skipped))
 
 pub bytes_refused : (text : List ℕ) (fault : ReadFault) → MatchFault fault (IsUtf8 text → ⊥) (λ _. ⊥) ⊥ ⊥ → MatchFault fault (IsUtf8 text → ⊥) (λ _. ⊥) ⊤ (StandsForNothing text)
 bytes_refused text fault h =

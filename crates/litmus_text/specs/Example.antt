@@ -10,7 +10,7 @@ use Rattle.conditions.specs.declared.condition.Quantifier.TheVariants.{Exists}
 use Rattle.conditions.specs.Tree as tree
 use Rattle.litmus_text.specs.declared.litmus.Litmus.{Litmus}
 use Rattle.litmus_text.specs.Names.{Names}
-use Rattle.litmus_text.specs.FirstLine.{IsFirstLine}
+use Rattle.litmus_lines.specs.FirstLine.{IsFirstLine}
 use Rattle.litmus_text.specs.Texts.{Means}
 
 -- `MOV [x],$1`

@@ -1,6 +1,8 @@
 -- Cases on a fault.
 use Rattle.std.specs.Prelude.{⊤}
 use Rattle.tso_program.specs.declared.limits.ProgramFault.{ProgramFault}
+use Rattle.litmus_lines.specs.declared.fault.LineFault.{LineFault}
+use Rattle.litmus_lines.specs.declared.fault.LineFault.TheVariants as line_fault
 use Rattle.litmus_text.specs.declared.fault.ReadFault.{ReadFault}
 use Rattle.litmus_text.specs.declared.fault.ReadFault.TheVariants.{NotUtf8, Header, Initial, Row, Instruction, Operand, Label, Condition, Number, Ended, Program, OutOfMemory}
 
@@ -22,3 +24,8 @@ MatchFault (Ended line) Utf8 Limit Memory Other = Other
 -- a token that cannot stand where it does, or the end of the text
 abbrev pub IsOfAToken : ReadFault → Type 0
 IsOfAToken fault = MatchFault fault ⊥ (λ _. ⊥) ⊥ ⊤
+
+-- the fault of a line before the initial values
+abbrev pub of_lines : LineFault → ReadFault
+of_lines (line_fault.Header line) = Header line
+of_lines (line_fault.Ended line) = Ended line

@@ -1,13 +1,10 @@
 pub mod Names
 pub mod Places
-pub mod FirstLine
-pub mod SkippedLines
 pub mod Labels
 pub mod Meaning
 pub mod Faults
 pub mod Texts
 pub mod Outcomes
-pub mod FirstLineReading
 pub mod Filling
 pub mod Reading
 pub mod Laws

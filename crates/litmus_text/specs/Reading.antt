@@ -16,8 +16,8 @@ use Rattle.litmus_syntax.specs.Views.{PlaceView, BodyView, SignView, EndingView}
 use Rattle.litmus_text.specs.declared.litmus.Litmus.{Litmus}
 use Rattle.litmus_text.specs.declared.fault.ReadFault.{ReadFault}
 use Rattle.litmus_text.specs.Faults.{MatchFault}
-use Rattle.litmus_text.specs.FirstLine.{IsFirstLine}
-use Rattle.litmus_text.specs.SkippedLines.{AreSkipped}
+use Rattle.litmus_lines.specs.FirstLine.{IsFirstLine}
+use Rattle.litmus_lines.specs.SkippedLines.{AreSkipped}
 use Rattle.litmus_text.specs.Places.{names_of}
 use Rattle.litmus_text.specs.Labels.{all_labels}
 use Rattle.litmus_text.specs.Meaning.{sign_of, numbered_atom, condition_of, observed_of}

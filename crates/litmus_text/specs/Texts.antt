@@ -16,8 +16,8 @@ use Rattle.litmus_text.specs.declared.fault.ReadFault.{ReadFault}
 use Rattle.litmus_text.specs.Faults.{MatchFault}
 use Rattle.litmus_text.specs.Names.{number_in}
 use Rattle.litmus_text.specs.Places.{names_of}
-use Rattle.litmus_text.specs.FirstLine.{IsFirstLine}
-use Rattle.litmus_text.specs.SkippedLines.{AreSkipped}
+use Rattle.litmus_lines.specs.FirstLine.{IsFirstLine}
+use Rattle.litmus_lines.specs.SkippedLines.{AreSkipped}
 use Rattle.litmus_text.specs.Labels.{all_labels, JumpsAreFound}
 use Rattle.litmus_text.specs.Meaning.{listing_of, sign_of, condition_of, observed_of}
 

@@ -1,7 +1,9 @@
 //! Why a litmus text could not be read.
 ghost use Rattle.std.specs.Prelude.{◌≡◌};
 ghost use Rattle.litmus_text.specs.declared.fault.ReadFault.TheVariants.{OutOfMemory};
+ghost use Rattle.litmus_text.specs.Faults.{of_lines};
 
+use litmus_lines::LineFault;
 use std::alloc::{AllocError, AllocFailed};
 use thiserror::Error;
 use tso_program::ProgramFault;
@@ -44,6 +46,17 @@ pub enum ReadFault {
     Program(u32, ProgramFault),
     #[error("12 OutOfMemory")]
     OutOfMemory,
+}
+
+impl From<LineFault> for ReadFault {
+    ghost from_gives = { λ fault e. e ≡ of_lines fault };
+
+    fn from(fault: LineFault) -> ReadFault {
+        match fault {
+            LineFault::Header(line) => ReadFault::Header(line),
+            LineFault::Ended(line) => ReadFault::Ended(line),
+        }
+    }
 }
 
 impl From<AllocError> for ReadFault {

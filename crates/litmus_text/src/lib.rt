@@ -3,7 +3,6 @@
 
 mod condition;
 mod fault;
-mod first_line;
 mod jumps;
 mod label;
 mod laws;
@@ -15,7 +14,6 @@ mod observed;
 mod outcome;
 mod program;
 mod reader;
-mod skipped_lines;
 
 pub use fault::ReadFault;
 pub use label::Label;

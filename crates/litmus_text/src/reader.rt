@@ -13,17 +13,16 @@ ghost use Rattle.litmus_text.specs.Reading.{IsSyntaxFault, ReadsTokens, ReadsTex
 
 use crate::condition::{quantifier, read_formula};
 use crate::fault::ReadFault;
-use crate::first_line::first_line;
 use crate::jumps::{lost_jump, targets_of};
 use crate::label::{Label, all_labels};
-use crate::lines::{fault_at, header_line, line_at};
+use crate::lines::{fault_at, header_line};
 use crate::litmus::Litmus;
 use crate::mentions::names_of;
 use crate::names::NameTable;
 use crate::observed::all_observed;
 use crate::program::{fenced_program_of, listing_of, program_of};
-use crate::skipped_lines::skip_lines;
 use conditions::Condition;
+use litmus_lines::{line_number, read_first_line, skip_lines};
 use litmus_syntax::{Body, Part, Refusal, SyntaxFault, read_body, read_ending};
 use std::alloc::Global;
 use std::str;
@@ -37,7 +36,7 @@ fn check_utf8(bytes: &[u8]) -> Result<(), ReadFault>
 {
     match str::from_utf8(bytes) {
         Ok(_) => Ok(()),
-        Err(error) => Err(ReadFault::NotUtf8(line_at(bytes, error.valid_up_to()))),
+        Err(error) => Err(ReadFault::NotUtf8(line_number(bytes, error.valid_up_to()))),
     }
 }
 
@@ -113,9 +112,9 @@ fn read_text(alloc: Global, bytes: &[u8]) -> Result<(Litmus<Listing>, u32), Read
     ensures { ReadsText bytes.now result }
 {
     check_utf8(bytes)?;
-    let (name, lines) = first_line(bytes)?;
+    let (name, lines) = read_first_line(bytes)?;
     let others = skip_lines(bytes, lines)?;
-    let begin = line_at(bytes, bytes.len().saturating_sub(others.len()));
+    let begin = line_number(bytes, bytes.len().saturating_sub(others.len()));
     let tokens = lex(alloc, others, begin)?;
     let name = Items::of(Vec::from_slice(alloc, name)?);
     let litmus = read_tokens(alloc, name, &tokens)?;

@@ -1,11 +1,13 @@
 use Rattle.std.proofs.Common.{ℕ, List, length}
-use Rattle.litmus_text.specs.SkippedLines.{AreSkipped}
-use Rattle.litmus_text.proofs.skipped_lines.skip_lines.Given as goal
+use Rattle.litmus_lines.specs.SkippedLines.{AreSkipped}
+use Rattle.litmus_lines.specs.Faults.{BeginsSkipped}
+use Rattle.litmus_lines.proofs.skipped_lines.skip_lines.Given as goal
 
 -- where the lines end behind the rest, they end behind the whole, and the other way round
 abbrev pub invariant-loop-rest : goal.invariant-loop-rest
 invariant-loop-rest l = record {
   forth : (end : List ℕ) → AreSkipped l.rest end → AreSkipped l.lines end;
+  begun : BeginsSkipped l.lines l.rest;
   back : (end : List ℕ) → AreSkipped l.lines end → AreSkipped l.rest end;
 }
 

@@ -3,7 +3,7 @@ use Rattle.std.specs.Prelude.{◌≡◌, ◌==◌, ◌||◌, ◌&&◌, ℕ, Bool
 use Rattle.std.specs.List.{list_all, list_any}
 use Rattle.std.specs.Char.{is_ascii_alphabetic}
 use Rattle.text_tokens.specs.Space.{IsBehindSpace}
-use Rattle.litmus_text.specs.FirstLine.{is_inside}
+use Rattle.litmus_lines.specs.FirstLine.{is_inside}
 
 -- the line begins with `"` and has a second `"`
 abbrev pub is_quoted : List ℕ → Bool

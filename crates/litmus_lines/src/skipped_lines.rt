@@ -1,10 +1,12 @@
 //! The lines between the first line of a text and its initial values.
 ghost use Rattle.std.specs.Prelude.{◌≡◌, ◌==◌, ℕ, List, slice_index, IfSome, IfNone, IfOk, IfErr, IsOkAnd};
-ghost use Rattle.litmus_text.specs.Faults.{IsOfAToken};
-ghost use Rattle.litmus_text.specs.SkippedLines.{is_quoted, is_information, is_skipped, IsSkippedLine, AreSkipped};
+ghost use Rattle.std.specs.List.{list_all};
+ghost use Rattle.litmus_lines.specs.FirstLine.{is_inside};
+ghost use Rattle.litmus_lines.specs.SkippedLines.{is_quoted, is_information, is_skipped, IsSkippedLine, AreSkipped};
+ghost use Rattle.litmus_lines.specs.Faults.{is_front_of_skipped, ended_at, fault_at, RefusesLines};
 
-use crate::fault::ReadFault;
-use crate::lines::{line_at, split_line};
+use crate::fault::LineFault;
+use crate::lines::{line_number, split_line};
 use text_tokens::after_space;
 
 fn is_quoted(line: &[u8]) -> bool
@@ -43,36 +45,41 @@ fn begins_brace(text: &[u8]) -> bool
     text.len() > 0 && text[0] == b'{'
 }
 
-/// The fault of a text that stops where more is needed.
-fn ended(bytes: &[u8]) -> ReadFault
-    ensures { IsOfAToken result }
+fn has_no_end(text: &[u8]) -> bool
+    ensures { result ≡ list_all is_inside text.now }
 {
-    ReadFault::Ended(line_at(bytes, bytes.len()))
+    text.iter().all(|byte| *byte != b'\n')
 }
 
-/// The fault at the end of the bytes where no line begins that is skipped: the text stops in a line that may still become
-/// one, or the line is another.
-fn no_skipped_line(bytes: &[u8], text: &[u8]) -> ReadFault
-    ensures { IsOfAToken result }
+fn is_front_of_skipped(text: &[u8]) -> bool
+    ensures { result ≡ is_front_of_skipped text.now }
 {
-    let may_become_one = match text.first() {
-        Some(first) => (*first == b'"' || first.is_ascii_alphabetic()) && !text.contains(&b'\n'),
-        None => true,
-    };
-    if may_become_one {
+    text.len() == 0 || text[0] == b'"' || text[0].is_ascii_alphabetic()
+}
+
+/// The fault of a text that stops where more is needed.
+fn ended(bytes: &[u8]) -> LineFault
+    ensures { result ≡ ended_at bytes.now }
+{
+    LineFault::Ended(line_number(bytes, bytes.len()))
+}
+
+/// The fault at the end of the bytes where no line begins that is skipped.
+fn no_skipped_line(bytes: &[u8], text: &[u8]) -> LineFault
+    ensures { result ≡ fault_at bytes.now text.now }
+{
+    if has_no_end(text) && is_front_of_skipped(text) {
         ended(bytes)
     } else {
-        ReadFault::Header(line_at(bytes, bytes.len().saturating_sub(text.len())))
+        LineFault::Header(line_number(bytes, bytes.len().saturating_sub(text.len())))
     }
 }
 
 /// The end of the bytes from `{` on, behind the lines that are skipped.
-///
-/// `Ended` where the text stops in a comment, in a line that may still be skipped, or before `{`; `Header` for any other line.
-pub(crate) fn skip_lines<'a>(bytes: &[u8], lines: &'a [u8]) -> Result<&'a [u8], ReadFault>
+pub fn skip_lines<'a>(bytes: &[u8], lines: &'a [u8]) -> Result<&'a [u8], LineFault>
     ensures found { IfOk result (λ rest. AreSkipped lines.now rest.now) }
     ensures only { (rest : List ℕ) → AreSkipped lines.now rest → IsOkAnd result (λ found. found.now ≡ rest) }
-    ensures refused { IfErr result (λ fault. IsOfAToken fault) }
+    ensures refused { IfErr result (λ fault. RefusesLines bytes.now lines.now fault) }
 {
     let mut rest = lines;
     while !rest.is_empty() {

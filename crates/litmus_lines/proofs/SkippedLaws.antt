@@ -1,16 +1,13 @@
 -- The lines before the initial values: where they end.
-use Rattle.std.proofs.Common.{◌≡◌, ℕ, ◌+◌, ◌<◌, ◌≤◌, Bool, true, false, List, [], ◌∷◌, ◌++◌, length, Option, Some, None, refl, sym, ap, ◌∙◌, subst, arith}
-use Rattle.std.specs.Prelude.{◌==◌, ◌||◌, ◌&&◌, slice_index}
-use Rattle.std.specs.List.{list_all}
-use Rattle.std.specs.Char.{is_ascii_alphabetic}
+use Rattle.std.proofs.Common.{◌≡◌, ℕ, ◌<◌, true, false, List, [], ◌∷◌, ◌++◌, length, Some, None, sym, ap, ◌∙◌, subst, arith}
+use Rattle.std.specs.Prelude.{◌==◌, slice_index}
 use Rattle.std.proofs.lemmas.Bool.Decides.{nat_tests}
 use Rattle.std.proofs.lemmas.List.{length-append}
 use Rattle.text_tokens.specs.Space.{IsBehindSpace}
 use Rattle.text_tokens.proofs.SpaceLaws.{space_length, empty_back}
-use Rattle.litmus_text.specs.FirstLine.{is_inside}
-use Rattle.litmus_text.specs.FirstLineReading.{line_at}
-use Rattle.litmus_text.specs.SkippedLines.{is_skipped, IsSkippedLine, AreSkipped, brace, line}
-use Rattle.litmus_text.proofs.FirstLineLaws.{line_takes, line_inside, line_again, same_line, none_or}
+use Rattle.litmus_lines.specs.FirstLineReading.{line_at}
+use Rattle.litmus_lines.specs.SkippedLines.{is_skipped, IsSkippedLine, AreSkipped, brace, line}
+use Rattle.litmus_lines.proofs.FirstLineLaws.{line_takes, line_inside, line_again, same_line, none_or}
 
 -- ---- one line
 

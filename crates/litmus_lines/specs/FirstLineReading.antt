@@ -1,8 +1,8 @@
 -- How the first line is read.
-use Rattle.std.specs.Prelude.{◌&&◌, ℕ, Bool, List, length, take, drop, codes, nat_lt, Option, Some, None, if◌then◌else◌}
+use Rattle.std.specs.Prelude.{◌&&◌, ℕ, List, length, take, drop, codes, nat_lt, Option, Some, None, if◌then◌else◌}
 use Rattle.std.specs.List.{prefix_len, list_all}
 use Rattle.std.specs.Str.{bytes_eq}
-use Rattle.litmus_text.specs.FirstLine.{is_gap, is_inside, is_visible, is_trailing}
+use Rattle.litmus_lines.specs.FirstLine.{is_gap, is_inside, is_visible, is_trailing}
 
 -- the name behind a gap
 abbrev pub name_after : List ℕ → List ℕ → Option (List ℕ)

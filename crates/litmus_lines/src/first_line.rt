@@ -1,11 +1,11 @@
 //! The first line of a text.
 ghost use Rattle.std.specs.Prelude.{◌≡◌, ◌≤◌, ℕ, List, ⊤, length, option_map, IfOk, IfErr, IsOkAnd};
 ghost use Rattle.std.specs.List.{prefix_len, list_all};
-ghost use Rattle.litmus_text.specs.FirstLine.{is_gap, is_visible, is_trailing, IsFirstLine};
-ghost use Rattle.litmus_text.specs.Faults.{IsOfAToken};
-ghost use Rattle.litmus_text.specs.FirstLineReading.{heading_name};
+ghost use Rattle.litmus_lines.specs.FirstLine.{is_gap, is_visible, is_trailing, IsFirstLine};
+ghost use Rattle.litmus_lines.specs.FirstLineReading.{heading_name};
+ghost use Rattle.litmus_lines.specs.Faults.{RefusesFirstLine};
 
-use crate::fault::ReadFault;
+use crate::fault::LineFault;
 use crate::lines::split_line;
 
 fn is_gap(byte: u8) -> bool
@@ -64,19 +64,17 @@ fn heading_name(line: &[u8]) -> Option<&[u8]>
 }
 
 /// The name in the first line, and the text behind that line's LF.
-///
-/// `Ended` where the text has no LF, and `Header` for any other first line that is none.
-pub(crate) fn first_line(bytes: &[u8]) -> Result<(&[u8], &[u8]), ReadFault>
+pub fn read_first_line(bytes: &[u8]) -> Result<(&[u8], &[u8]), LineFault>
     ensures found { IfOk result (λ p. IsFirstLine bytes.now p.0.now p.1.now) }
     ensures only { (name rest : List ℕ) → IsFirstLine bytes.now name rest
         → IsOkAnd result (λ p. (p.0.now ≡ name) × (p.1.now ≡ rest)) }
-    ensures refused { IfErr result (λ fault. IsOfAToken fault) }
+    ensures refused { IfErr result (λ fault. RefusesFirstLine bytes.now fault) }
 {
     let Some((line, rest)) = split_line(bytes) else {
-        return Err(ReadFault::Ended(1));
+        return Err(LineFault::Ended(1));
     };
     match heading_name(line) {
         Some(name) => Ok((name, rest)),
-        None => Err(ReadFault::Header(1)),
+        None => Err(LineFault::Header(1)),
     }
 }

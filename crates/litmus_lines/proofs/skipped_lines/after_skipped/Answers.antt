@@ -1,6 +1,6 @@
 use Rattle.std.proofs.Common.{◌∙◌, sym}
-use Rattle.litmus_text.proofs.SkippedLaws.{line_is, line_only, other_line, no_line}
-use Rattle.litmus_text.proofs.skipped_lines.after_skipped.Goals as goal
+use Rattle.litmus_lines.proofs.SkippedLaws.{line_is, line_only, other_line, no_line}
+use Rattle.litmus_lines.proofs.skipped_lines.after_skipped.Goals as goal
 
 pub returns-in_default-clause-none : goal.returns-in_default-clause-none
 returns-in_default-clause-none c other h = no_line c.args.text.now other c.in_default.ensures h

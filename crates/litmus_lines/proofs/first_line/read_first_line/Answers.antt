@@ -1,7 +1,7 @@
-use Rattle.std.proofs.Common.{sym, ap, ◌∙◌}
-use Rattle.litmus_text.specs.FirstLineReading.{heading_name, line_at}
-use Rattle.litmus_text.proofs.FirstLineLaws.{first_takes, first_again, none_or, same_parts, same_line}
-use Rattle.litmus_text.proofs.first_line.first_line.Goals as goal
+use Rattle.std.proofs.Common.{refl, sym, ap, ◌∙◌}
+use Rattle.litmus_lines.specs.FirstLineReading.{heading_name, line_at}
+use Rattle.litmus_lines.proofs.FirstLineLaws.{first_takes, first_again, none_or, same_parts, same_line, no_end, has_end}
+use Rattle.litmus_lines.proofs.first_line.read_first_line.Goals as goal
 
 pub returns-in_default-clause-only : goal.returns-in_default-clause-only
 returns-in_default-clause-only c name rest h =
@@ -22,3 +22,9 @@ returns-in-None-clause-only c name rest h =
     let a = first_again c.args.bytes.now name rest h in
     let p = same_line (line_at c.args.bytes.now) c.in-Some.line.now a.0 c.in-Some.rest.now rest (sym c.in-Some.ensures) a.1 in
     none_or (heading_name c.in-Some.line.now) name c.in-None.ensures (ap heading_name p.0 ∙ a.2)
+
+pub returns-in_default-clause-refused : goal.returns-in_default-clause-refused
+returns-in_default-clause-refused c = (refl, no_end c.args.bytes.now c.in_default.ensures)
+
+pub returns-in-None-clause-refused : goal.returns-in-None-clause-refused
+returns-in-None-clause-refused c = (refl, has_end c.args.bytes.now c.in-Some.line.now c.in-Some.rest.now (sym c.in-Some.ensures))

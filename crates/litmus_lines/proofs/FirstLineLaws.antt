@@ -3,15 +3,15 @@ use Rattle.std.proofs.Common.{◌≡◌, ℕ, suc, ◌+◌, ◌<◌, Bool, true,
 use Rattle.std.specs.Prelude.{◌&&◌, codes, nat_lt, slice_index}
 use Rattle.std.specs.List.{list_all, prefix_len}
 use Rattle.std.specs.Str.{bytes_eq}
-use Rattle.std.proofs.lemmas.Bool.{and_parts, and_from, cases_Bool, lt-ltb, ltb-true}
+use Rattle.std.proofs.lemmas.Bool.{and_parts, and_from, cases_Bool, lt-ltb, ltb-true, ltb-false}
 use Rattle.std.proofs.lemmas.Bool.Decides.{nat_tests}
-use Rattle.std.proofs.lemmas.List.{take_at, drop_at, take-append-drop, length-append}
+use Rattle.std.proofs.lemmas.List.{take_at, take_all, drop_at, take-append-drop, length-append}
 use Rattle.std.proofs.lemmas.List.Folds.{list_all-append}
 use Rattle.std.proofs.lemmas.Option.{cond_some}
 use Rattle.std.proofs.lemmas.Slice.Eq.{bytes_eq-Decides}
 use Rattle.text_tokens.proofs.Prefixes.{all_pass}
-use Rattle.litmus_text.specs.FirstLine.{is_gap, is_inside, is_visible, is_trailing, AreSome, IsHeading, IsFirstLine}
-use Rattle.litmus_text.specs.FirstLineReading.{name_after, heading_name, line_at}
+use Rattle.litmus_lines.specs.FirstLine.{is_gap, is_inside, is_visible, is_trailing, AreSome, IsHeading, IsFirstLine}
+use Rattle.litmus_lines.specs.FirstLineReading.{name_after, heading_name, line_at}
 
 prefix_is : (p : ℕ → Bool) (xs rest : List ℕ) → list_all p xs ≡ true → p (slice_index rest 0) ≡ false → prefix_len p (xs ++ rest) ≡ length xs
 prefix_is p [] [] all stop = refl
@@ -169,3 +169,19 @@ same_line o l m r s e h = let p : ◌≡◌ {A = List ℕ × List ℕ} (l, r) (m
 
 pub same_parts : (l m n k : List ℕ) → l ≡ m → heading_name l ≡ Some n → heading_name m ≡ Some k → n ≡ k
 same_parts l m n k same e h = let f = ap heading_name same in cc
+
+-- ---- where no first line is read
+
+cond_none : {A : Type 0} (b : Bool) (x : A) → None ≡ cond b (Some x) None → b ≡ false
+cond_none true x e = absurd cc
+cond_none false x e = refl
+
+all_or_less : (p : ℕ → Bool) (xs : List ℕ) → nat_lt (prefix_len p xs) (length xs) ≡ false → list_all p xs ≡ true
+all_or_less p xs e = rw (sym (take_all (prefix_len p xs) xs (ltb-false _ _ e))) (all_pass p xs)
+
+pub no_end : (text : List ℕ) → None ≡ line_at text → list_all is_inside text ≡ true
+unfolding line_at
+no_end text e = let n = prefix_len is_inside text in all_or_less is_inside text (cond_none (nat_lt n (length text)) (take n text, drop 1 (drop n text)) e)
+
+pub has_end : (text line rest : List ℕ) → line_at text ≡ Some (line, rest) → list_all is_inside text ≡ false
+has_end text line rest e = rw (line_takes text line rest e, list_all-append is_inside line (10 ∷ rest), line_inside text line rest e) refl
