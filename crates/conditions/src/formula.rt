@@ -83,6 +83,3 @@ impl Formula {
         Ok(Formula { nodes })
     }
 }
-
-#[cfg(test)]
-mod tests;

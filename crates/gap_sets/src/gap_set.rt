@@ -183,30 +183,3 @@ impl Iterator for Gaps {
         Some(gap)
     }
 }
-
-#[cfg(test)]
-mod tests {
-    use super::*;
-    use std::test::Fail;
-
-    #[test]
-    fn three_of_sixty_four(rt: HostRuntime) -> Result<(), Fail> {
-        let set = GapSet::empty().with(63).with(0).with(5);
-        assert_eq!(rt; set.len(), 3);
-        assert!(rt; !set.is_empty());
-        assert!(rt; GapSet::empty().is_empty());
-        let gaps: Vec<u8> = set.iter().collect(rt.alloc())?;
-        assert_eq!(rt; gaps.as_slice(), [0, 5, 63].as_slice());
-        assert!(rt; set.has(63));
-        assert!(rt; !set.has(64));
-        let part = set.without(5);
-        assert!(rt; set.holds_all(&part));
-        assert!(rt; !part.holds_all(&set));
-        assert!(rt; set.meets(&part));
-        assert!(rt; !part.meets(&GapSet::empty().with(5)));
-        assert!(rt; part.with(5).same(&set));
-        assert_eq!(rt; part.with(5), set);
-        assert_ne!(rt; part, set);
-        Ok(())
-    }
-}

@@ -11,3 +11,5 @@ mod lines;
 mod litmus;
 #[cfg(test)]
 mod syntax;
+#[cfg(test)]
+mod tokens;

@@ -19,6 +19,3 @@ pub use numbers::{plain_number_up_to, value_up_to};
 pub use parts::{begins, begins_number, mark, number, word};
 pub use space::after_space;
 pub use token::{Bad, Mark, Token};
-
-#[cfg(test)]
-mod tests;

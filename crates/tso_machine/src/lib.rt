@@ -12,6 +12,3 @@ pub use ended::{Ended, ReplayFault, replay};
 pub use label::{Cause, Label, Model, Pending};
 pub use laws::{examples_are_told, fences_are_avoided, runs_have_no_fault};
 pub use run_text::{RunFault, read_run, write_run};
-
-#[cfg(test)]
-mod tests;

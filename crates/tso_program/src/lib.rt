@@ -22,6 +22,3 @@ pub use limits::{ProgramFault, limits_are_the_refusals};
 pub use listing::{Listing, Thread};
 pub use outcome::Outcome;
 pub use program::Program;
-
-#[cfg(test)]
-mod tests;

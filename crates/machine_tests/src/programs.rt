@@ -1,10 +1,10 @@
-use crate::{
-    Action, FenceFault, FencedProgram, Instr, Items, Local, Outcome, Program, ProgramFault, Reg,
-    Thread,
-};
 use gap_sets::GapSet;
 use std::alloc::{AllocError, Global};
 use std::test::Fail;
+use tso_program::{
+    Action, FenceFault, FencedProgram, Instr, Items, Local, Outcome, Program, ProgramFault, Reg,
+    Thread,
+};
 
 fn thread(alloc: Global, code: &[Instr]) -> Result<Thread, AllocError> {
     Ok(Thread {

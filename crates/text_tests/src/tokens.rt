@@ -1,9 +1,9 @@
-use crate::{
+use std::alloc::{AllocError, Global};
+use std::test::Fail;
+use text_tokens::{
     Bad, Mark, Token, Tokens, begins, begins_number, lex, mark, number, plain_number_up_to,
     value_up_to, word,
 };
-use std::alloc::{AllocError, Global};
-use std::test::Fail;
 
 /// The tokens in order, one letter for each kind: w, n, m for words, numbers and marks, and capitals for what is bad.
 fn kinds(alloc: Global, tokens: &Tokens) -> Result<String, AllocError> {

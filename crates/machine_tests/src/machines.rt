@@ -1,7 +1,7 @@
-use crate::{Ended, Label, Model, ReplayFault, RunFault, read_run, replay, write_run};
 use gap_sets::GapSet;
 use std::alloc::{AllocError, Global};
 use std::test::Fail;
+use tso_machine::{Ended, Label, Model, ReplayFault, RunFault, read_run, replay, write_run};
 use tso_program::{Instr, Items, Program, Reg, Thread};
 
 fn thread(alloc: Global, code: &[Instr]) -> Result<Thread, AllocError> {

@@ -1,9 +1,8 @@
-use super::*;
-use crate::atom::Atom;
-use crate::condition::{Condition, Quantifier, holds};
+use conditions::{Atom, Condition, Formula, FormulaFault, Quantifier, Token, holds};
+use std::alloc::{AllocError, Global};
 use std::process::Abort;
 use std::test::Fail;
-use tso_program::{Items, Reg};
+use tso_program::{Items, Outcome, Reg};
 
 const EAX_IS_1: Token = Token::Atom(Atom::Register {
     thread: 0,
