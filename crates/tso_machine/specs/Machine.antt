@@ -1,4 +1,4 @@
--- The two machines, their runs and their outcomes (Lamport's order; Sewell et al., CACM 2010, section 3: x86-TSO).
+-- The two machines, their runs and their outcomes (Lamport, IEEE Transactions on Computers 1979: sequential consistency; Sewell et al., CACM 2010, section 3: x86-TSO).
 use Rattle.std.specs.Prelude.{◌&&◌, ◌||◌, not, ◌≡◌, ℕ, Bool, true, false, List, [], ◌∷◌, ◌++◌, Option, Some, None, ◌==◌, if◌then◌else◌, slice_index, option_and_then, length, map}
 use Rattle.std.specs.List.{range_with_len}
 use Rattle.tso_program.specs.declared.action.Local.{Local}
@@ -52,7 +52,8 @@ abbrev pub when_empty : List Pending → State → Option State
 when_empty [] s = Some s
 when_empty (w ∷ ws) s = None
 
--- thread t does this, over store buffers
+-- thread t does this, over store buffers; a locked exchange is one step from an empty buffer: under x86-TSO's lock no other
+-- thread reads memory or empties its buffer
 abbrev pub buffered : State → ℕ → Action → Option State
 buffered s t Stop = None
 buffered s t (Go next) = Some (record s { locals = put s.locals t next })

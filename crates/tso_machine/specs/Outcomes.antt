@@ -48,9 +48,19 @@ pub record IsTheAnswer (p : Listing) (costs : List ℕ) (gaps : SetOfGaps) : Typ
   pub serves : Serves p gaps
   pub least : EachBetterLeavesOutcome p costs gaps
 
+-- the outcome is one that the program with an MFENCE in each gap of the set may leave, under the store buffer machine
+abbrev pub IsFencedOutcome : Listing → SetOfGaps → Outcome → Type 0
+IsFencedOutcome p gaps o = IsStoreBufferOutcome (fence (gaps_in p gaps) p) no_gaps o
+
+-- so fenced the program leaves an outcome that no sequential run of the source has
+pub record FencedLeavesOutcome (p : Listing) (gaps : SetOfGaps) : Type 0 where
+  pub outcome : Outcome
+  pub left : IsFencedOutcome p gaps outcome
+  pub foreign : IsSequentialOutcome p outcome → ⊥
+
 -- the headline: the program fenced there has, under the store buffer machine, exactly the source's sequential outcomes,
--- and every better set of gaps leaves an outcome that no sequential run has
+-- and fenced at any better set of its gaps it leaves an outcome that no sequential run has
 pub record Headline (p : Listing) (costs : List ℕ) (gaps : SetOfGaps) : Type 0 where
   pub of_program : AreGapsOf p gaps
-  pub fenced : (o : Outcome) → IsStoreBufferOutcome (fence (gaps_in p gaps) p) no_gaps o ↔ IsSequentialOutcome p o
-  pub least : EachBetterLeavesOutcome p costs gaps
+  pub fenced : (o : Outcome) → IsFencedOutcome p gaps o ↔ IsSequentialOutcome p o
+  pub least : (other : SetOfGaps) → AreGapsOf p other → Better costs other gaps → FencedLeavesOutcome p other
