@@ -1,33 +1,7 @@
+use crate::texts::{NOTHING_TO_DO, STORE_BUFFERING};
 use cert_forest::{CertFault, CoverTree, GapTree, read_cert, write_cert};
 use std::alloc::{AllocError, Global};
 use std::test::Fail;
-
-const STORE_BUFFERING: &[u8] = b"FENCECERT 1
-set 0 1
-cost 2
-seq 3
-run e0 e0 e1 e1
-run e1 e1 e0 e0
-run e0 e1 e0 e1
-tree V 0 2 V 1 2 S 0.1 1 S 1.1 1 C s 4 0.0 0.1 1.0 1.1 K 0 V 1 2 K 1 K 2
-runs 3
-run e0 e1 e0 e1 f0 f1
-run e1 e1 e0 f0 e0 f1
-run e0 e0 e1 f1 e1 f0
-fenced V 0 2 V 1 2 S 0.1 1 S 1.1 1 C g 4 0.0 0.1 1.0 1.1 K 0 V 1 2 K 1 K 2
-gaps P 0 2 P 1 1 B P 2 0
-";
-
-const NOTHING_TO_DO: &[u8] = b"FENCECERT 1
-set
-cost 0
-seq 1
-run
-tree K 0
-runs 0
-fenced K 0
-gaps B
-";
 
 /// The fault of the bytes, if they are no certificate's text.
 fn fault_of(alloc: Global, bytes: &[u8]) -> Option<CertFault> {
@@ -40,7 +14,7 @@ fn fault_of(alloc: Global, bytes: &[u8]) -> Option<CertFault> {
 /// The text of the program that has nothing to do, with other bytes from one place up to another.
 fn with_part(alloc: Global, from: usize, to: usize, part: &[u8]) -> Result<Vec<u8>, AllocError> {
     let mut text = Vec::new(alloc);
-    for (i, byte) in NOTHING_TO_DO.iter().enumerate() {
+    for (i, byte) in NOTHING_TO_DO.as_bytes().iter().enumerate() {
         if i == from {
             text.extend_from_slice(part)?;
         }
@@ -63,7 +37,7 @@ fn times(alloc: Global, count: usize, bytes: &[u8], end: &[u8]) -> Result<Vec<u8
 
 #[test]
 fn reads_and_writes(rt: HostRuntime) -> Result<(), Fail> {
-    for text in [STORE_BUFFERING, NOTHING_TO_DO] {
+    for text in [STORE_BUFFERING.as_bytes(), NOTHING_TO_DO.as_bytes()] {
         let certificate = read_cert(rt.alloc(), text).ok().ok_or("a certificate")?;
         let written = write_cert(rt.alloc(), &certificate)?;
         assert_eq!(rt; written.as_slice(), text);
@@ -73,20 +47,20 @@ fn reads_and_writes(rt: HostRuntime) -> Result<(), Fail> {
 
 #[test]
 fn copies(rt: HostRuntime) -> Result<(), Fail> {
-    let mut certificate = read_cert(rt.alloc(), STORE_BUFFERING)
+    let mut certificate = read_cert(rt.alloc(), STORE_BUFFERING.as_bytes())
         .ok()
         .ok_or("a certificate")?;
     certificate.seq_tree = certificate.seq_tree.copy(rt.alloc())?;
     certificate.fenced_tree = certificate.fenced_tree.copy(rt.alloc())?;
     certificate.gap_tree = certificate.gap_tree.copy(rt.alloc())?;
     let written = write_cert(rt.alloc(), &certificate)?;
-    assert_eq!(rt; written.as_slice(), STORE_BUFFERING);
+    assert_eq!(rt; written.as_slice(), STORE_BUFFERING.as_bytes());
     Ok(())
 }
 
 #[test]
 fn each_proper_prefix_has_ended(rt: HostRuntime) -> Result<(), Fail> {
-    for text in [STORE_BUFFERING, NOTHING_TO_DO] {
+    for text in [STORE_BUFFERING.as_bytes(), NOTHING_TO_DO.as_bytes()] {
         for len in 0..text.len() {
             assert_eq!(rt;
                 fault_of(rt.alloc(), text.split_at(len).0),

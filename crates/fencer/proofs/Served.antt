@@ -7,8 +7,8 @@ use Rattle.program_streams.specs.declared.fault.FileFault.{FileFault}
 use Rattle.program_streams.specs.declared.fault.FileFault.TheVariants as file
 use Rattle.program_streams.specs.declared.files.TheConstants.{TEXT_LIMIT}
 use Rattle.fencer_words.specs.CommandLines.{IsNoCommand}
-use Rattle.fencer.specs.Lines.{IsUtf8Refusal}
 use Rattle.program_streams.specs.Streams.{IsReadFault, TakesOfLine}
+use Rattle.program_streams.specs.Words.{IsUtf8Refusal}
 use Rattle.fencer.specs.Replays.{HasTooLongLine, IsReply, IsReplyToInput, IsOutput, no_command}
 
 not_zero : (n : ℕ) → (suc n == 0) ≡ true → ⊥

@@ -1,15 +1,17 @@
 //! A whole run of the program, over a reader and a writer.
 
-ghost use Rattle.std.specs.Prelude.{◌≡◌, IfOk, map, string_bytes};
+ghost use Rattle.std.specs.Prelude.{IfOk, map, string_bytes};
 ghost use Rattle.program_streams.specs.Streams.{Prints};
-ghost use Rattle.fencer.specs.Lines.{EndsLine, utf8_line, IsUtf8Refusal};
+ghost use Rattle.fencer.specs.Lines.{EndsLine};
 ghost use Rattle.fencer.specs.Replays.{run_text, IsReplay, IsAnswer, IsReply, IsOutput};
 
 use crate::answer::{refusal_line, replay_lines};
 use clap::Error;
 use clap::error::ErrorKind;
 use fencer_words::{Job, read_words};
-use program_streams::{LineFault, TEXT_LIMIT, line_words, named_bytes, read_line_up_to, say};
+use program_streams::{
+    LineFault, TEXT_LIMIT, line_words, named_bytes, read_line_up_to, refuse_words, say,
+};
 use report::file_line;
 use std::alloc::{AllocError, Global};
 use std::io::{Read, Write};
@@ -116,18 +118,4 @@ pub fn run_command<F: Files + AllocGlobal, R: Read, W: Write>(
         Err(LineFault::NotUtf8) => refuse_words(rt.alloc(), output),
         Err(LineFault::OutOfMemory) => 1,
     }
-}
-
-/// Why the words of a command line aren't read: they are not UTF-8.
-fn utf8_line(alloc: Global) -> Result<Vec<u8>, AllocError>
-    ensures { IfOk result (λ line. line.items ≡ utf8_line) }
-{
-    Vec::from_slice(alloc, b"error: the command line is not UTF-8\n")
-}
-
-/// Tells that the command line is not UTF-8, and answers the status.
-pub fn refuse_words<W: Write>(alloc: Global, output: &mut W) -> u8
-    ensures { Prints IsUtf8Refusal (W.contents output.old) (W.contents output.new) result }
-{
-    say(output, utf8_line(alloc), 2)
 }

@@ -21,7 +21,7 @@ fn main(rt: HostRuntime) -> ExitCode {
             if error.kind() == io::ErrorKind::OutOfMemory {
                 1
             } else {
-                command::refuse_words(rt.alloc(), &mut output)
+                program_streams::refuse_words(rt.alloc(), &mut output)
             }
         }
     };

@@ -1,5 +1,5 @@
--- The words of a line.
-use Rattle.std.specs.Prelude.{◌==◌, ℕ, List, Contains, IsUtf8, filter, length, nat_lt}
+-- The words of a line, and what is told of words that are not UTF-8.
+use Rattle.std.specs.Prelude.{◌≡◌, ◌==◌, ◌++◌, ◌∷◌, [], ℕ, List, Contains, IsUtf8, codes, filter, length, nat_lt}
 use Rattle.std.specs.List.{slice_split}
 
 -- the words of a line, which spaces separate
@@ -11,3 +11,11 @@ pub record HasNoUtf8 (words : List (List ℕ)) : Type 0 where
   pub word : List ℕ
   pub there : Contains words word
   pub no_utf8 : IsUtf8 word → ⊥
+
+-- what is told of a command line that is not UTF-8
+abbrev pub utf8_line : List ℕ
+utf8_line = codes "error: the command line is not UTF-8" ++ 10 ∷ []
+
+-- that line, with its status
+abbrev pub IsUtf8Refusal : ℕ → List ℕ → Type 0
+IsUtf8Refusal status text = (status ≡ 2) × (text ≡ utf8_line)

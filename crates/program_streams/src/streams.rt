@@ -1,6 +1,6 @@
 //! Whole inputs up to a limit, and whole outputs.
 
-ghost use Rattle.std.specs.Prelude.{◌+◌, ◌<◌, ◌≤◌, ◌^◌, vec_len, IfOk, OnOk, OnErr, IfErr};
+ghost use Rattle.std.specs.Prelude.{◌≡◌, ◌+◌, ◌<◌, ◌≤◌, ◌^◌, vec_len, IfOk, OnOk, OnErr, IfErr};
 ghost use Rattle.std.specs.Io.KnownBytes.{Appends};
 ghost use Rattle.program_streams.specs.Streams.{Holds, Takes, TakesLine, TakesOfLine, IsReadFault, AppendsFront};
 
@@ -73,6 +73,7 @@ pub fn read_line_up_to<R: Read>(
 pub fn write_bytes<W: Write>(output: &mut W, bytes: &[u8]) -> Result<(), FileFault>
     ensures ok { OnOk result (Appends (W.contents output.old) (W.contents output.new) bytes.now) }
     ensures err { OnErr result (AppendsFront (W.contents output.old) (W.contents output.new) bytes.now) }
+    ensures fault { IfErr result (λ fault. fault ≡ FileFault.Write) }
 {
     let mut sent = 0;
     while sent < bytes.len() {

@@ -1,12 +1,11 @@
 -- The lines of a run, byte for byte.
 use Rattle.std.specs.Prelude.{ℕ, List, [], ◌∷◌, ◌++◌, codes}
-use Rattle.std.specs.List.{flat_map}
-use Rattle.gap_sets.specs.Gaps.{SetOfGaps, gaps_in}
+use Rattle.gap_sets.specs.Gaps.{SetOfGaps}
 use Rattle.tso_program.specs.declared.listing.Listing.{Listing}
 use Rattle.tso_program.specs.declared.outcome.Outcome.{Outcome}
 use Rattle.litmus_text.specs.Names.{Names}
 use Rattle.litmus_text.specs.Outcomes.{outcome_text}
-use Rattle.report.specs.Places.{gap_text}
+use Rattle.report.specs.Places.{gaps_text}
 
 -- a text behind a space, or nothing where there is no text
 abbrev pub spaced : List ℕ → List ℕ
@@ -18,4 +17,4 @@ outcome_line names outcome = codes "outcome:" ++ spaced (outcome_text names outc
 
 -- the gaps by their places, ascending
 abbrev pub passed_line : Listing → SetOfGaps → List ℕ
-passed_line p gaps = codes "passed" ++ flat_map (gap_text p.threads) (gaps_in gaps) ++ 10 ∷ []
+passed_line p gaps = codes "passed" ++ gaps_text p.threads gaps ++ 10 ∷ []

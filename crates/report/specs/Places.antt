@@ -1,8 +1,9 @@
 -- Where the gaps of a program lie.
 use Rattle.std.specs.Prelude.{ℕ, ◌+◌, List, [], ◌∷◌, ◌++◌, map, slice_get, Option}
 use Rattle.std.specs.Option.{option_map_or}
-use Rattle.std.specs.List.{range_with_len}
+use Rattle.std.specs.List.{flat_map, range_with_len}
 use Rattle.std.specs.Fmt.{decimal}
+use Rattle.gap_sets.specs.Gaps.{SetOfGaps, gaps_in}
 use Rattle.tso_program.specs.declared.listing.Thread.{Thread}
 use Rattle.tso_program.specs.Listings.{gaps_of_thread}
 
@@ -22,3 +23,7 @@ place_text place = 32 ∷ decimal place.0 ++ 58 ∷ decimal place.1
 -- the gap of this number as it is printed
 abbrev pub gap_text : List Thread → ℕ → List ℕ
 gap_text threads gap = option_map_or place_text (gap_place threads gap) []
+
+-- gaps as they are printed, ascending
+abbrev pub gaps_text : List Thread → SetOfGaps → List ℕ
+gaps_text threads gaps = flat_map (gap_text threads) (gaps_in gaps)

@@ -1,9 +1,9 @@
 //! The lines of a run.
 
-ghost use Rattle.std.specs.Prelude.{◌≡◌, ◌++◌, IfOk, OnOk, string_bytes};
-ghost use Rattle.report.specs.Places.{gap_text, gap_place};
+ghost use Rattle.std.specs.Prelude.{◌≡◌, IfOk};
 ghost use Rattle.report.specs.Answers.{outcome_line, passed_line};
 
+use crate::places::push_gaps;
 use gap_sets::GapSet;
 use litmus_text::{NameTable, write_outcome};
 use std::alloc::{AllocError, Global};
@@ -32,25 +32,7 @@ pub fn passed_line(alloc: Global, program: &Program, passed: &GapSet) -> Result<
     ensures { IfOk result (λ line. line.items ≡ passed_line program.now passed.now) }
 {
     let mut line = String::from_str(alloc, "passed")?;
-    for gap in passed.iter() {
-        push_gap(&mut line, program, gap)?;
-    }
+    push_gaps(&mut line, program, passed)?;
     line.push('\n')?;
     Ok(line.into_bytes())
-}
-
-/// Puts a gap's place at the end of a line, if the program has the gap.
-fn push_gap(line: &mut String, program: &Program, gap: u8) -> Result<(), AllocError>
-    ensures { OnOk result (string_bytes line.new ≡ string_bytes line.old ++ gap_text program.now.threads gap) }
-{
-    if let Some((thread, k)) = gap_place(program, gap) {
-        write!(line, " {thread}:{k}")?;
-    }
-    Ok(())
-}
-
-fn gap_place(program: &Program, gap: u8) -> Option<(u8, u8)>
-    ensures { result ≡ gap_place program.now.threads gap }
-{
-    program.gap_place(gap)
 }

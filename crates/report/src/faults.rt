@@ -142,7 +142,7 @@ fn refused(alloc: Global, what: &str) -> Result<Vec<u8>, AllocError>
 }
 
 /// The line of a refusal with a number.
-fn refused_at(alloc: Global, what: &str, number: u64) -> Result<Vec<u8>, AllocError>
+pub fn refused_at(alloc: Global, what: &str, number: u64) -> Result<Vec<u8>, AllocError>
     ensures { IfOk result (λ line. line.items ≡ refused_at what.now number) }
 {
     Ok(format!(in alloc; "refused {what} {number}\n")?.into_bytes())

@@ -5,8 +5,10 @@ mod answers;
 mod faults;
 mod laws;
 mod observations;
+mod places;
 
 pub use answers::{outcome_line, passed_line};
-pub use faults::{costs_line, file_line, litmus_line, replay_line, run_line};
+pub use faults::{costs_line, file_line, litmus_line, refused_at, replay_line, run_line};
 pub use laws::observations_are_told;
 pub use observations::{condition_line, observation_line};
+pub use places::push_gaps;

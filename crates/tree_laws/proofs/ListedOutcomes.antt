@@ -12,7 +12,7 @@ use Rattle.candidate_executions.proofs.Choices.{empty_is_a_sketch}
 use Rattle.candidate_executions.proofs.RunsAreCandidates.{every_run_is_a_completion}
 use Rattle.candidate_executions.proofs.LastWrites.{outcomes_are_one}
 use Rattle.fence_laws.proofs.SequentialIsBuffered.{sequential_is_allowed}
-use Rattle.tree_laws.specs.Trees.{Cover}
+use Rattle.cert_forest.specs.Trees.{Cover}
 use Rattle.tree_laws.specs.CoverTrees.{IsValidCover, IsCovered}
 use Rattle.tree_laws.specs.Certificates.{AreSequentialRuns}
 use Rattle.tree_laws.specs.Laws.{ACoveredListHasEachOutcome, AValidTreeMakesTheSequentialList, AValidFencedTreeServes}

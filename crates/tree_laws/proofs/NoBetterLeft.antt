@@ -5,7 +5,7 @@ use Rattle.gap_sets.specs.Gaps.{SetOfGaps}
 use Rattle.tso_program.specs.declared.listing.Listing.{Listing}
 use Rattle.tso_program.specs.Limits.{IsWithinLimits}
 use Rattle.tso_machine.specs.declared.label.Label.{Label}
-use Rattle.tree_laws.specs.Trees.{Gap, Split, Bound, Gaps, NoGap, MoreGaps}
+use Rattle.cert_forest.specs.Trees.{Gap, Split, Bound, Gaps, NoGap, MoreGaps}
 use Rattle.tree_laws.specs.GapTrees.{Node, IsInRegion, children_of, HasNoneOf, IsSplitBy, IsValidGap, AreValidGaps, EachBetterOfRegionLeavesOutcome, HaveCosts}
 use Rattle.tree_laws.specs.Laws.{IsForeign, AValidGapTreeLeavesNoBetter, SoNoServingSetIsBetter, TheRootHasEverySet}
 use Rattle.tree_laws.proofs.Lists.{none_here, first_or_later, found_has}

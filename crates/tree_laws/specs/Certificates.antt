@@ -11,7 +11,7 @@ use Rattle.tso_machine.specs.declared.label.Label.{Label}
 use Rattle.tso_machine.specs.Machine.{Sequential, Fenced, no_gaps, IsRun}
 use Rattle.tso_machine.specs.Outcomes.{AreGapsOf}
 use Rattle.candidate_executions.specs.Sketches.{empty_sketch}
-use Rattle.tree_laws.specs.Trees.{Cover, Gap}
+use Rattle.cert_forest.specs.Trees.{Cover, Gap}
 use Rattle.tree_laws.specs.CoverTrees.{IsValidCover}
 use Rattle.tree_laws.specs.GapTrees.{root, IsValidGap}
 

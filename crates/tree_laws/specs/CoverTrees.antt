@@ -14,7 +14,8 @@ use Rattle.candidate_executions.specs.Values.{IsValueOf}
 use Rattle.candidate_executions.specs.Candidates.{Candidate, access_by, HasOutcome}
 use Rattle.candidate_executions.specs.Consistency.{IsCycle}
 use Rattle.candidate_executions.specs.Sketches.{Sketch, IsConsistentCompletion, IsSourceOf, IsPair, with_value, with_source, with_pair, next_read, IsWhole, MustEndAs, KnownEdge}
-use Rattle.tree_laws.specs.Trees.{AccessId, Cover, Value, Source, Order, Cycle, Known, Covers, NoCover, MoreCovers}
+use Rattle.cert_forest.specs.declared.tree.AccessId.{AccessId}
+use Rattle.cert_forest.specs.Trees.{Cover, Value, Source, Order, Cycle, Known, Covers, NoCover, MoreCovers}
 
 abbrev pub event_of : AccessId → Event
 event_of a = At a.thread a.access

@@ -10,7 +10,7 @@ use Rattle.tso_machine.specs.declared.label.Label.{Label}
 use Rattle.tso_machine.specs.Machine.{Fenced, no_gaps, start}
 use Rattle.tso_machine.specs.Modes.{Passes}
 use Rattle.tso_machine.specs.Outcomes.{Serves, LeavesOutcome, AreGapsOf}
-use Rattle.tree_laws.specs.Trees.{Gap, Split, Bound, Gaps, NoGap, MoreGaps}
+use Rattle.cert_forest.specs.Trees.{Gap, Split, Bound, Gaps, NoGap, MoreGaps}
 
 -- a node stands for a region of sets: those that hold `must` and avoid `never`
 pub record Node : Type 0 where

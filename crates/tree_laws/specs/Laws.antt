@@ -12,7 +12,7 @@ use Rattle.tso_machine.specs.Outcomes.{IsSequentialOutcome, Serves, IsForeignRun
 use Rattle.candidate_executions.specs.declared.event.Event.{Event}
 use Rattle.candidate_executions.specs.Sketches.{Sketch, empty_sketch, IsSketch}
 use Rattle.candidate_executions.specs.Laws.{JumpForward}
-use Rattle.tree_laws.specs.Trees.{Cover, Gap, covers_of, gaps_of}
+use Rattle.cert_forest.specs.Trees.{Cover, Gap, covers_of, gaps_of}
 use Rattle.tree_laws.specs.CoverTrees.{HasNextValues, HasSources, IsValidCover, AreValidCovers, IsCovered}
 use Rattle.tree_laws.specs.GapTrees.{Node, root, IsInRegion, children_of, HasNoneOf, IsSplitBy, IsValidGap, AreValidGaps, EachBetterOfRegionLeavesOutcome, NoServingSetIsBetter, HaveCosts}
 use Rattle.tree_laws.specs.Certificates.{Certificate, AreSequentialRuns, IsValidCertificate}

@@ -1,4 +1,3 @@
-pub mod Trees
 pub mod CoverTrees
 pub mod GapTrees
 pub mod Certificates

@@ -6,7 +6,8 @@ use Rattle.tso_machine.specs.declared.label.Label.TheVariants.{Exec, Flush}
 use Rattle.tso_machine.specs.Examples.{store_buffering, waiting_stores}
 use Rattle.candidate_executions.specs.declared.event.Kind.{Kind}
 use Rattle.candidate_executions.specs.declared.event.Kind.TheVariants as union
-use Rattle.tree_laws.specs.Trees.{AccessId, Cover, Value, Source, Cycle, Known, Covers, NoCover, MoreCovers, Gap, Split, Bound, NoGap, MoreGaps}
+use Rattle.cert_forest.specs.declared.tree.AccessId.{AccessId}
+use Rattle.cert_forest.specs.Trees.{Cover, Value, Source, Cycle, Known, Covers, NoCover, MoreCovers, Gap, Split, Bound, NoGap, MoreGaps}
 use Rattle.tree_laws.specs.Certificates.{Certificate, IsValidCertificate}
 use Rattle.tree_laws.specs.Laws.{IsProved}
 

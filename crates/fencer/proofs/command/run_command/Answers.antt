@@ -1,8 +1,7 @@
 use Rattle.std.proofs.Common.{◌∙◌, map, arith, sym}
 use Rattle.std.specs.Prelude.{string_bytes}
 use Rattle.report.specs.Faults.{file_line}
-use Rattle.fencer.specs.Lines.{IsUtf8Refusal}
-use Rattle.program_streams.specs.Words.{words_of}
+use Rattle.program_streams.specs.Words.{words_of, IsUtf8Refusal}
 use Rattle.fencer_words.specs.CommandLines.{no_utf8}
 use Rattle.fencer.specs.Replays.{IsReply, IsOutput, by_line, no_line}
 use Rattle.program_streams.proofs.Printed.{prints_line, prints_more, prints_nothing}

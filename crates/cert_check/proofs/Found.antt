@@ -1,0 +1,23 @@
+-- The first value that has not a property, by a loop.
+use Rattle.std.proofs.Common.{◌≡◌, ℕ, ◌<◌, ◌≤◌, List, Some, All, get_or, take, length, sym, ap, ◌∙◌, subst, arith}
+use Rattle.std.proofs.lemmas.List.{get_or-take, length-take-le}
+use Rattle.std.proofs.lemmas.Option.{slice_get-get_or}
+use Rattle.exec_axioms.proofs.Lookups.{same_default}
+use Rattle.cert_check.specs.Faults.{IsFirstWithout}
+
+module _ {A : Type 0} (P : A → Type 0) (xs : List A) (n : ℕ) where
+  -- each before place n has it
+  abbrev pub EachBefore : Type 0
+  EachBefore = (k : ℕ) (x : A) → k < n → get_or xs k x ≡ x → P x
+
+  pub all_so : EachBefore → length xs ≤ n → All P xs
+  all_so each h k d l = each k (get_or xs k d) (omega arith) (same_default xs k (get_or xs k d) d l)
+
+  all_before : EachBefore → n < length xs → All P (take n xs)
+  all_before each h k d l =
+      let long = length-take-le n xs (omega arith) in
+      let small : k < n = omega arith in
+      subst P (sym (get_or-take n xs k d small)) (each k (get_or xs k d) small (same_default xs k (get_or xs k d) d (omega arith)))
+
+  pub first_without : (x : A) → n < length xs → x ≡ get_or xs n x → (P x → ⊥) → EachBefore → IsFirstWithout P xs n
+  first_without x h at without each = record { value = x; there = slice_get-get_or xs n x h ∙ ap Some (sym at); without = without; before = all_before each h }

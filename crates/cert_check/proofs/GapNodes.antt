@@ -1,0 +1,94 @@
+-- What a split says, and the gaps by which it splits a region.
+use Rattle.std.proofs.Common.{◌≡◌, ◌↔◌, ℕ, zero, suc, true, false, List, [], ◌∷◌, Some, None, length, Contains, slice_get, refl, sym, ap, ◌∙◌, subst, arith}
+use Rattle.std.specs.List.{AllZip}
+use Rattle.std.specs.List.Sorted.{IsStrictlyIncreasing}
+use Rattle.std.specs.FinSet as set
+use Rattle.std.proofs.lemmas.Option.{same_Some}
+use Rattle.gap_sets.specs.Gaps.{SetOfGaps}
+use Rattle.gap_sets.specs.Order.{Better}
+use Rattle.tso_program.specs.declared.listing.Listing.{Listing}
+use Rattle.tso_machine.specs.declared.label.Label.{Label}
+use Rattle.tso_machine.specs.declared.label.Model.TheVariants as models
+use Rattle.tso_machine.specs.declared.ended.Ended.{Ended}
+use Rattle.cert_forest.specs.Trees.{Gap, Split, Bound, gaps_of}
+use Rattle.cert_forest.proofs.TreeTexts.{gaps_count}
+use Rattle.tree_laws.specs.GapTrees.{PassesGap, IsOpenGap, IsSplitBy, children_of}
+use Rattle.tree_laws.proofs.OneList.{one_list_of_gaps}
+use Rattle.cert_check.specs.declared.gap.Region.{Region}
+use Rattle.cert_check.specs.declared.fault.TreeFault.{TreeFault}
+use Rattle.cert_check.specs.Regions.{node_of, HasNoSplit, IsValidIn, IsWrongIn, AreValidIn, IsWrongChildIn}
+use Rattle.cert_check.specs.Replays.{IsReplayOf, AreBufferedReplays}
+use Rattle.cert_check.specs.Judged.{IsAtRoot, IsBelow}
+
+-- the replay of a number is that of the labels of this number
+pub replay_at : (p : Listing) (runs : List (List Label)) (ended : List Ended) (n : ℕ) (end : Ended) → AreBufferedReplays p runs ended → slice_get ended n ≡ Some end →
+    (labels : List Label) × (slice_get runs n ≡ Some labels) × IsReplayOf p models.Buffered labels end
+replay_at p [] [] n end each e = absurd cc
+replay_at p [] (x ∷ ended) n end each e = absurd each
+replay_at p (labels ∷ runs) [] n end each e = absurd each
+replay_at p (labels ∷ runs) (x ∷ ended) zero end each e = (labels, refl, subst (IsReplayOf p models.Buffered labels) (same_Some x end e) each.0)
+replay_at p (labels ∷ runs) (x ∷ ended) (suc n) end each e = replay_at p runs ended n end each.1 e
+
+-- there is none where there are no labels
+pub no_replay_at : (p : Listing) (runs : List (List Label)) (ended : List Ended) (n : ℕ) (labels : List Label) → AreBufferedReplays p runs ended → slice_get ended n ≡ None →
+    slice_get runs n ≡ Some labels → ⊥
+no_replay_at p [] [] n labels each e h = cc
+no_replay_at p [] (x ∷ ended) n labels each e h = each
+no_replay_at p (run ∷ runs) [] n labels each e h = each
+no_replay_at p (run ∷ runs) (x ∷ ended) zero labels each e h = cc
+no_replay_at p (run ∷ runs) (x ∷ ended) (suc n) labels each e h = no_replay_at p runs ended n labels each.1 e h
+
+module _ (p : Listing) (runs : List (List Label)) (ended : List Ended) (region : Region) (n : ℕ) (each : AreBufferedReplays p runs ended) where
+  -- no such run
+  pub not_there : slice_get ended n ≡ None → (count : ℕ) → HasNoSplit p runs region n count
+  not_there none count gaps split e = no_replay_at p runs ended n split.labels each none split.is_run
+
+  module _ (end : Ended) (there : slice_get ended n ≡ Some end) where
+    replay : (labels : List Label) × (slice_get runs n ≡ Some labels) × IsReplayOf p models.Buffered labels end
+    replay = replay_at p runs ended n end each there
+
+    same_labels : (gaps : List ℕ) (split : IsSplitBy p runs (node_of region) n gaps) → replay.0 ≡ split.labels
+    same_labels gaps split = same_Some replay.0 split.labels (sym replay.1 ∙ split.is_run)
+
+    -- the run passes a gap that the sets must have
+    pub must_pass : (gap : ℕ) → set.contains end.passed gap ≡ true → set.contains region.must gap ≡ true → (count : ℕ) → HasNoSplit p runs region n count
+    must_pass gap passed must count gaps split e =
+        split.passes_none gap must (subst (λ labels. PassesGap p labels gap) (same_labels gaps split) ((replay.2.passed gap).0 passed))
+
+    -- the gaps that it passes and that the sets may have split the region
+    pub splits : (gaps : List ℕ) → ((gap : ℕ) → set.contains end.passed gap ≡ true → set.contains region.must gap ≡ true → ⊥) → IsStrictlyIncreasing gaps →
+        ((gap : ℕ) → Contains gaps gap ↔ ((set.contains end.passed gap ≡ true) × (set.contains region.never gap ≡ false))) →
+        IsSplitBy p runs (node_of region) n gaps
+    splits gaps meets ascending exact = record {
+      labels = replay.0;
+      is_run = replay.1;
+      passes_none = λ gap must passes. meets gap ((replay.2.passed gap).1 passes) must;
+      ascending = ascending;
+      exact = λ gap. (
+        (λ here. (let (passed, open_gap) = (exact gap).0 here in ((replay.2.passed gap).0 passed, open_gap))),
+        (λ (passes, open_gap). (exact gap).1 ((replay.2.passed gap).1 passes, open_gap)),
+      );
+    }
+
+-- they are not so many
+pub not_as_many : (p : Listing) (runs : List (List Label)) (region : Region) (n count : ℕ) (gaps : List ℕ) → IsSplitBy p runs (node_of region) n gaps →
+    (length gaps ≡ count → ⊥) → HasNoSplit p runs region n count
+not_as_many p runs region n count gaps split differ others other e =
+    differ (ap length (one_list_of_gaps p runs (node_of region) n gaps others split other) ∙ sym e)
+
+module _ (p : Listing) (costs : List ℕ) (answer : SetOfGaps) (runs : List (List Label)) (region : Region) where
+  pub bound_here : (path : List ℕ) → IsAtRoot (Better costs region.must answer) path → IsWrongIn p costs answer runs Bound region path
+  bound_here path (at, better) = subst (IsWrongIn p costs answer runs Bound region) (sym at) better
+
+  module _ (n : ℕ) (trees : List Gap) where
+    pub split_here : (path : List ℕ) → IsAtRoot (HasNoSplit p runs region n (length trees)) path → IsWrongIn p costs answer runs (Split n (gaps_of trees)) region path
+    split_here path (at, none) = subst (IsWrongIn p costs answer runs (Split n (gaps_of trees)) region) (sym at) (λ gaps split e. none gaps split (sym (gaps_count trees) ∙ e))
+
+    module _ (gaps : List ℕ) (split : IsSplitBy p runs (node_of region) n gaps) where
+      pub split_valid : AreValidIn p costs answer runs trees region gaps → IsValidIn p costs answer runs (Split n (gaps_of trees)) region
+      split_valid valid = (gaps, split, valid)
+
+      pub split_below : length trees ≡ length gaps → (path : List ℕ) → IsBelow (IsWrongChildIn p costs answer runs trees region gaps) path →
+          IsWrongIn p costs answer runs (Split n (gaps_of trees)) region path
+      split_below as_many [] wrong = absurd wrong
+      split_below as_many (child ∷ path) wrong = (gaps, split, gaps_count trees ∙ as_many, wrong)

@@ -1,0 +1,95 @@
+-- Runs that are replayed in turn, and the first that is none.
+use Rattle.std.proofs.Common.{◌≡◌, ◌≢◌, ℕ, zero, suc, ◌+◌, ◌<◌, List, [], ◌∷◌, ◌++◌, length, All, take, get_or, refl, sym, ap, ◌∙◌, subst, arith}
+use Rattle.std.specs.List.{AllZip}
+use Rattle.std.specs.Option.{option_map}
+use Rattle.std.specs.Global.{Vec}
+use Rattle.std.specs.FinSet as set
+use Rattle.std.proofs.lemmas.List.{map_more, take-map}
+use Rattle.std.proofs.lemmas.Option.{slice_get-map, slice_get-get_or}
+use Rattle.tso_program.specs.declared.listing.Listing.{Listing}
+use Rattle.tso_machine.specs.declared.label.Label.{Label}
+use Rattle.tso_machine.specs.declared.label.Model.{Model}
+use Rattle.tso_machine.specs.declared.label.Model.TheVariants as models
+use Rattle.tso_machine.specs.declared.ended.Ended.{Ended}
+use Rattle.tso_machine.specs.declared.ended.ReplayFault.{ReplayFault}
+use Rattle.tso_machine.specs.declared.ended.ReplayFault.TheVariants as replays
+use Rattle.gap_sets.specs.Gaps.{SetOfGaps}
+use Rattle.cert_check.specs.declared.fault.RunsFault.{RunsFault}
+use Rattle.cert_check.specs.declared.fault.RunsFault.TheVariants as runs
+use Rattle.tso_machine.specs.Machine.{Mode, Fenced, IsRun}
+use Rattle.tso_machine.specs.Modes.{mode_of, ArePassed}
+use Rattle.tso_machine.specs.Faults.{FaultIs}
+use Rattle.tso_machine.proofs.Refused.{no_fault}
+use Rattle.fence_laws.proofs.GapsAvoided.{empty_fences_nothing}
+use Rattle.cert_forest.specs.Certificates.{labels_of}
+use Rattle.cert_check.specs.Faults.{IsRunOf, IsFirstWithout}
+use Rattle.cert_check.specs.Replays.{machine_of, IsReplayOf, AreReplaysOf, IsNoRun, RunsFaultIs}
+
+-- with the empty set fenced a model's machine is the one with no gap fenced
+pub machine_is : (p : Listing) (model : Model) → mode_of p set.empty model ≡ machine_of model
+machine_is p models.Sequential = refl
+machine_is p models.Buffered = ap Fenced (empty_fences_nothing p)
+
+-- a fault of a replay says that the labels are no run
+pub no_run : (p : Listing) (mode machine : Mode) (labels : List Label) (why : ReplayFault) → mode ≡ machine → FaultIs p mode labels why → why ≢ replays.OutOfMemory →
+    IsRunOf p machine labels → ⊥
+no_run p mode machine labels why same fault no_memory run =
+    let (o, is_run) = subst (λ m. IsRunOf p m labels) (sym same) run in no_memory (no_fault p mode labels o why is_run fault)
+
+module _ (p : Listing) (model : Model) (labels : List Label) (empty : SetOfGaps) (is_empty : empty ≡ set.empty) where
+  same_machine : mode_of p empty model ≡ machine_of model
+  same_machine = ap (λ s. mode_of p s model) is_empty ∙ machine_is p model
+
+  -- what a replay says of a run
+  pub replayed_is : (end : Ended) → IsRun p (mode_of p empty model) labels end.outcome → ArePassed p (mode_of p empty model) labels end.passed → IsReplayOf p model labels end
+  replayed_is end run passed = record {
+    is_run = subst (λ m. IsRun p m labels end.outcome) same_machine run;
+    passed = subst (λ m. ArePassed p m labels end.passed) same_machine passed;
+  }
+
+  -- and what it says where there is none
+  pub fault_is : (why : ReplayFault) (number : ℕ) (fault : RunsFault) → FaultIs p (mode_of p empty model) labels why → IsNoRun number (why ≡ replays.OutOfMemory) fault →
+      IsNoRun number (IsRunOf p (machine_of model) labels) fault
+  fault_is why number (runs.NoRun n) h (at, no_memory) = (at, no_run p (mode_of p empty model) (machine_of model) labels why same_machine h no_memory)
+  fault_is why number runs.OutOfMemory h none = tt
+
+-- lists in step, and one value more
+zip_more : {A B : Type 0} (R : A → B → Type 0) (xs : List A) (ys : List B) (x : A) (y : B) → AllZip R xs ys → R x y → AllZip R (xs ++ x ∷ []) (ys ++ y ∷ [])
+zip_more R [] [] x y all r = (r, tt)
+zip_more R [] (b ∷ ys) x y all r = absurd all
+zip_more R (a ∷ xs) [] x y all r = absurd all
+zip_more R (a ∷ xs) (b ∷ ys) x y all r = (all.0, zip_more R xs ys x y all.1 r)
+
+-- what each value on the left has, where lists are in step
+pub zip_left : {A B : Type 0} (R : A → B → Type 0) (P : A → Type 0) → ((x : A) (y : B) → R x y → P x) → (xs : List A) (ys : List B) → AllZip R xs ys → All P xs
+zip_left R P f [] ys all k d h = absurd (omega arith)
+zip_left R P f (x ∷ xs) [] all k d h = absurd all
+zip_left R P f (x ∷ xs) (y ∷ ys) all zero d h = f x y all.0
+zip_left R P f (x ∷ xs) (y ∷ ys) all (suc k) d h = zip_left R P f xs ys all.1 k d (omega arith)
+
+module _ (p : Listing) (model : Model) (all : List (Vec Label)) where
+  -- the replays so far, and one more
+  pub replays_more : (i : ℕ) (d : Vec Label) (labels : List Label) → labels ≡ (get_or all i d).items → (ended more : List Ended) (end : Ended) → i < length all → AreReplaysOf p model (labels_of (take i all)) ended →
+      IsReplayOf p model labels end → more ≡ ended ++ end ∷ [] → AreReplaysOf p model (labels_of (take (i + 1) all)) more
+  replays_more i d found same ended more end h each is pushed =
+      subst (λ labels. AreReplaysOf p model labels more) (sym (map_more (λ (run : Vec Label). run.items) all i d h))
+      (subst (AreReplaysOf p model (labels_of (take i all) ++ (get_or all i d).items ∷ [])) (sym pushed)
+      (zip_more (IsReplayOf p model) (labels_of (take i all)) ended (get_or all i d).items end each (subst (λ labels. IsReplayOf p model labels end) same is)))
+
+  -- the first run that is none
+  pub first_no_run : (i : ℕ) (d : Vec Label) (ended : List Ended) → i < length all → AreReplaysOf p model (labels_of (take i all)) ended →
+      (IsRunOf p (machine_of model) (get_or all i d).items → ⊥) → IsFirstWithout (IsRunOf p (machine_of model)) (labels_of all) i
+  first_no_run i d ended h each none = record {
+    value = (get_or all i d).items;
+    there = slice_get-map (λ (run : Vec Label). run.items) all i ∙ ap (λ o. option_map (λ (run : Vec Label). run.items) o) (slice_get-get_or all i d h);
+    without = none;
+    before = subst (All (IsRunOf p (machine_of model))) (sym (take-map (λ (run : Vec Label). run.items) i all))
+        (zip_left (IsReplayOf p model) (IsRunOf p (machine_of model)) (λ labels end is. (end.outcome, is.is_run)) (labels_of (take i all)) ended each);
+  }
+
+  -- the fault of the first run that is none
+  pub first_fault : (i : ℕ) (d : Vec Label) (ended : List Ended) (labels : List Label) → labels ≡ (get_or all i d).items → (fault : RunsFault) → i < length all → AreReplaysOf p model (labels_of (take i all)) ended →
+      IsNoRun i (IsRunOf p (machine_of model) labels) fault → RunsFaultIs p model (labels_of all) fault
+  first_fault i d ended labels same (runs.NoRun n) h each (at, none) = subst (IsFirstWithout (IsRunOf p (machine_of model)) (labels_of all)) (sym at)
+      (first_no_run i d ended h each (λ run. none (subst (IsRunOf p (machine_of model)) (sym same) run)))
+  first_fault i d ended labels same runs.OutOfMemory h each none = tt

@@ -1,0 +1,12 @@
+use Rattle.cert_check.specs.Claims.{claim_of}
+use Rattle.cert_check.proofs.FirstFaults.{valid_certificates_have_no_fault}
+use Rattle.cert_check.proofs.checker.check.Goals as goal
+
+pub returns-in-Ok-clause-headline : goal.returns-in-Ok-clause-headline
+returns-in-Ok-clause-headline c = (c.what_is_proved.ensures (claim_of c.args.certificate.now) c.in-Ok.ensures.valid).headline
+
+pub returns-in-Ok-clause-answer : goal.returns-in-Ok-clause-answer
+returns-in-Ok-clause-answer c = (c.what_is_proved.ensures (claim_of c.args.certificate.now) c.in-Ok.ensures.valid).answer
+
+pub returns-in-Err-clause-accepts : goal.returns-in-Err-clause-accepts
+returns-in-Err-clause-accepts c valid = valid_certificates_have_no_fault c.args.program.now c.args.costs.now (claim_of c.args.certificate.now) c.in-Err.fault valid c.in-Err.ensures.fault

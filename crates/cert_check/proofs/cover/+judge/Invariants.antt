@@ -1,0 +1,10 @@
+use Rattle.std.proofs.Common.{map, drop}
+use Rattle.cert_forest.specs.Views.{cover}
+use Rattle.cert_check.specs.Replays.{outcomes_of}
+use Rattle.cert_check.proofs.CoverSteps.{IsLeft}
+use Rattle.cert_check.proofs.cover.+judge.Given as goal
+
+-- the children that are left decide
+abbrev pub invariant-judge_children-loop-number : goal.invariant-judge_children-loop-number
+invariant-judge_children-loop-number l =
+    IsLeft (outcomes_of l.ended) l.sketch (map cover l.trees) l.choices l.number (map cover (drop l.number l.trees)) (drop l.number l.choices)

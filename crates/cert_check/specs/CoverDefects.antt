@@ -1,0 +1,55 @@
+-- Which node of a cover tree is the first wrong one: a node is judged before its children, and the children in order.
+use Rattle.std.specs.Prelude.{◌≡◌, ℕ, zero, suc, List, [], ◌∷◌, length, map}
+use Rattle.tso_program.specs.declared.listing.Listing.{Listing}
+use Rattle.tso_program.specs.declared.outcome.Outcome.{Outcome}
+use Rattle.tso_machine.specs.Machine.{Mode}
+use Rattle.candidate_executions.specs.declared.event.Event.{Event}
+use Rattle.candidate_executions.specs.Sketches.{Sketch, with_value, with_source, with_pair}
+use Rattle.cert_forest.specs.Trees.{Cover, Value, Source, Order, Cycle, Known, Covers, NoCover, MoreCovers}
+use Rattle.cert_forest.specs.Texts.{count_covers}
+use Rattle.tree_laws.specs.CoverTrees.{event_of, HasNextValues, HasSources, HasNoOrder, IsKnownCycle, MustEndAsNumber, IsValidCover}
+
+module _ (p : Listing) (mode : Mode) (outcomes : List Outcome) where
+  -- the root is wrong at the sketch, whatever its children say: its number of children is not that of the values or sources, or what it says does not hold
+  abbrev pub HasWrongRoot : Cover → Sketch → Type 0
+  HasWrongRoot (Value t children) k = (values : List ℕ) → HasNextValues p mode k t values → count_covers children ≡ length values → ⊥
+  HasWrongRoot (Source read children) k = (sources : List Event) → HasSources p mode k (event_of read) sources → count_covers children ≡ length sources → ⊥
+  HasWrongRoot (Order first second first_before second_before) k = HasNoOrder p mode k (event_of first) (event_of second) → ⊥
+  HasWrongRoot (Cycle kind events) k = IsKnownCycle p mode k kind (map event_of events) → ⊥
+  HasWrongRoot (Known number) k = MustEndAsNumber p mode outcomes k number → ⊥
+
+  -- of two children, the one of this number is the first that is wrong
+  abbrev pub FirstOfTwo : ℕ → Type 0 → Type 0 → Type 0 → Type 0
+  FirstOfTwo zero first_wrong first_valid second_wrong = first_wrong
+  FirstOfTwo (suc zero) first_wrong first_valid second_wrong = first_valid × second_wrong
+  FirstOfTwo (suc (suc number)) first_wrong first_valid second_wrong = ⊥
+
+  abbrev mutual
+    -- The node at this path is wrong, and none before it is: each node above it is right, and the trees of the children before it are valid.
+    pub FirstWrongCover : Cover → Sketch → List ℕ → Type 0
+    FirstWrongCover (Value t children) k [] = HasWrongRoot (Value t children) k
+    FirstWrongCover (Value t children) k (number ∷ path) =
+        (values : List ℕ) × HasNextValues p mode k t values × (count_covers children ≡ length values)
+        × FirstWrongChild children (map (with_value k t) values) number path
+    FirstWrongCover (Source read children) k [] = HasWrongRoot (Source read children) k
+    FirstWrongCover (Source read children) k (number ∷ path) =
+        (sources : List Event) × HasSources p mode k (event_of read) sources × (count_covers children ≡ length sources)
+        × FirstWrongChild children (map (with_source k (event_of read)) sources) number path
+    FirstWrongCover (Order first second first_before second_before) k [] = HasWrongRoot (Order first second first_before second_before) k
+    FirstWrongCover (Order first second first_before second_before) k (number ∷ path) =
+        HasNoOrder p mode k (event_of first) (event_of second)
+        × FirstOfTwo number
+        (FirstWrongCover first_before (with_pair k (event_of first) (event_of second)) path)
+        (IsValidCover p mode outcomes first_before (with_pair k (event_of first) (event_of second)))
+        (FirstWrongCover second_before (with_pair k (event_of second) (event_of first)) path)
+    FirstWrongCover (Cycle kind events) k [] = HasWrongRoot (Cycle kind events) k
+    FirstWrongCover (Cycle kind events) k (number ∷ path) = ⊥
+    FirstWrongCover (Known number) k [] = HasWrongRoot (Known number) k
+    FirstWrongCover (Known number) k (child ∷ path) = ⊥
+
+    -- the child of this number has the first wrong node, at this path from it
+    pub FirstWrongChild : Covers → List Sketch → ℕ → List ℕ → Type 0
+    FirstWrongChild NoCover ks number path = ⊥
+    FirstWrongChild (MoreCovers tree trees) [] number path = ⊥
+    FirstWrongChild (MoreCovers tree trees) (k ∷ ks) zero path = FirstWrongCover tree k path
+    FirstWrongChild (MoreCovers tree trees) (k ∷ ks) (suc number) path = IsValidCover p mode outcomes tree k × FirstWrongChild trees ks number path

@@ -1,0 +1,78 @@
+-- What is wrong first with a certificate.
+use Rattle.std.specs.Prelude.{◌≡◌, ℕ, List, Some, slice_get, take, length, All}
+use Rattle.gap_sets.specs.Order.{total}
+use Rattle.tso_program.specs.declared.listing.Listing.{Listing}
+use Rattle.tso_program.specs.declared.outcome.Outcome.{Outcome}
+use Rattle.tso_program.specs.Listings.{gap_count}
+use Rattle.tso_program.specs.Fences.{gaps_in}
+use Rattle.tso_machine.specs.declared.label.Label.{Label}
+use Rattle.tso_machine.specs.Machine.{Mode, Sequential, Fenced, no_gaps, IsRun}
+use Rattle.tso_machine.specs.Outcomes.{AreGapsOf}
+use Rattle.candidate_executions.specs.Sketches.{empty_sketch}
+use Rattle.tree_laws.specs.CoverTrees.{IsValidCover}
+use Rattle.tree_laws.specs.GapTrees.{root}
+use Rattle.tree_laws.specs.Certificates.{Certificate, AreSequentialRuns, IsRunOutside}
+use Rattle.cert_check.specs.declared.fault.CheckFault.{CheckFault}
+use Rattle.cert_check.specs.declared.fault.CheckFault.TheVariants as fault
+use Rattle.cert_check.specs.CoverDefects.{FirstWrongCover}
+use Rattle.cert_check.specs.GapDefects.{FirstWrongGap}
+
+-- the value of this number has not the property, and each before it has
+pub record IsFirstWithout {A : Type 0} (P : A → Type 0) (xs : List A) (number : ℕ) : Type 0 where
+  pub value : A
+  pub there : slice_get xs number ≡ Some value
+  pub without : P value → ⊥
+  pub before : All P (take number xs)
+
+-- the labels are a run of the mode's machine
+abbrev pub IsRunOf : Listing → Mode → List Label → Type 0
+IsRunOf p mode labels = (o : Outcome) × IsRun p mode labels o
+
+module _ (p : Listing) (costs : List ℕ) (c : Certificate) where
+  -- each gap has a cost, and the certificate's is the set's
+  abbrev pub HasRightCost : Type 0
+  HasRightCost = (length costs ≡ gap_count p.threads) × (c.cost ≡ total costs c.gaps)
+
+  -- its set is one of the program's gaps, and its cost is the set's
+  pub record HasSetAndCost : Type 0 where
+    pub of_program : AreGapsOf p c.gaps
+    pub cost : HasRightCost
+
+  module _ (outcomes : List Outcome) where
+    -- its sequential runs have these outcomes
+    pub record HasOutcomes : Type 0 where
+      pub head : HasSetAndCost
+      pub replayed : AreSequentialRuns p c.seq_runs outcomes
+
+    -- a valid tree shows that there are no other sequential outcomes
+    pub record HasEachOutcome : Type 0 where
+      pub listed : HasOutcomes
+      pub sequential : IsValidCover p Sequential outcomes c.seq_tree empty_sketch
+
+    -- its other runs are runs of the store buffer machine with no gap fenced
+    pub record HasRuns : Type 0 where
+      pub complete : HasEachOutcome
+      pub runs : All (IsRunOf p (Fenced no_gaps)) c.runs
+
+    -- their outcomes are not sequential
+    pub record HasForeignRuns : Type 0 where
+      pub replayed : HasRuns
+      pub foreign : All (IsRunOutside p outcomes) c.runs
+
+    -- a valid tree shows that the set serves
+    pub record HasServingSet : Type 0 where
+      pub runs : HasForeignRuns
+      pub fenced : IsValidCover p (Fenced (gaps_in p c.gaps)) outcomes c.fenced_tree empty_sketch
+
+  -- the fault is the first in the order of their numbers; want of memory says nothing
+  abbrev pub FaultIs : CheckFault → Type 0
+  FaultIs fault.Set = AreGapsOf p c.gaps → ⊥
+  FaultIs fault.Cost = AreGapsOf p c.gaps × (HasRightCost → ⊥)
+  FaultIs (fault.SequentialRun number) = HasSetAndCost × IsFirstWithout (IsRunOf p Sequential) c.seq_runs number
+  FaultIs (fault.SequentialTree path) = (outcomes : List Outcome) × HasOutcomes outcomes × FirstWrongCover p Sequential outcomes c.seq_tree empty_sketch path
+  FaultIs (fault.Run number) = (outcomes : List Outcome) × HasEachOutcome outcomes × IsFirstWithout (IsRunOf p (Fenced no_gaps)) c.runs number
+  FaultIs (fault.NotForeign number) = (outcomes : List Outcome) × HasRuns outcomes × IsFirstWithout (IsRunOutside p outcomes) c.runs number
+  FaultIs (fault.FencedTree path) =
+      (outcomes : List Outcome) × HasForeignRuns outcomes × FirstWrongCover p (Fenced (gaps_in p c.gaps)) outcomes c.fenced_tree empty_sketch path
+  FaultIs (fault.GapTree path) = (outcomes : List Outcome) × HasServingSet outcomes × FirstWrongGap p costs c.gaps c.runs c.gap_tree root path
+  FaultIs fault.OutOfMemory = Unit {0}

@@ -1,0 +1,75 @@
+-- What the functions that judge trees answer.
+use Rattle.std.specs.Prelude.{◌≡◌, ℕ, List, [], ◌∷◌, map, length}
+use Rattle.gap_sets.specs.Gaps.{SetOfGaps}
+use Rattle.tso_program.specs.declared.listing.Listing.{Listing}
+use Rattle.tso_program.specs.declared.outcome.Outcome.{Outcome}
+use Rattle.tso_machine.specs.declared.label.Label.{Label}
+use Rattle.candidate_executions.specs.declared.event.Event.{Event}
+use Rattle.candidate_executions.specs.Sketches as sketches
+use Rattle.exec_axioms.specs.Parts.{Parts, mode_in, sketch_of}
+use Rattle.cert_forest.specs.Trees.{Cover, Gap, covers_of, gaps_of}
+use Rattle.tree_laws.specs.CoverTrees.{HasNextValues, HasSources, IsValidCover, AreValidCovers}
+use Rattle.tree_laws.specs.GapTrees.{Node, IsSplitBy, IsValidGap, AreValidGaps, children_of}
+use Rattle.cert_check.specs.declared.choice.Choice.{Choice}
+use Rattle.cert_check.specs.declared.choice.Choice.TheVariants.{Value, Source}
+use Rattle.cert_check.specs.declared.fault.TreeFault.{TreeFault}
+use Rattle.cert_check.specs.declared.fault.TreeFault.TheVariants.{Wrong, OutOfMemory}
+use Rattle.cert_check.specs.CoverDefects as covers
+use Rattle.cert_check.specs.GapDefects as gaps
+use Rattle.cert_check.specs.Choices.{after}
+
+-- the path of the fault has the property; want of memory says nothing
+abbrev pub IfWrong : (List ℕ → Type 0) → TreeFault → Type 0
+IfWrong P (Wrong path) = P path
+IfWrong P OutOfMemory = Unit {0}
+
+-- the root is wrong
+abbrev pub IsAtRoot : Type 0 → List ℕ → Type 0
+IsAtRoot P path = (path ≡ []) × P
+
+-- the path leads through a child
+abbrev pub IsBelow : (ℕ → List ℕ → Type 0) → List ℕ → Type 0
+IsBelow P [] = ⊥
+IsBelow P (number ∷ path) = P number path
+
+-- the same path, from the parent
+abbrev pub IsFrom : ℕ → TreeFault → TreeFault → Type 0
+IsFrom number (Wrong path) (Wrong other) = other ≡ number ∷ path
+IsFrom number OutOfMemory (Wrong other) = ⊥
+IsFrom number fault OutOfMemory = Unit {0}
+
+module _ (outcomes : List Outcome) (s : Parts) where
+  -- the tree is valid at the sketch after a choice
+  abbrev pub IsValidAfter : Cover → sketches.Sketch → Type 0
+  IsValidAfter tree k = IsValidCover s.program (mode_in s) outcomes tree k
+
+  abbrev pub IsWrongAt : Cover → sketches.Sketch → List ℕ → Type 0
+  IsWrongAt tree k path = covers.FirstWrongCover s.program (mode_in s) outcomes tree k path
+
+  -- the trees are valid at the sketches after these choices, in order
+  abbrev pub AreValidAfter : List Cover → List Choice → Type 0
+  AreValidAfter trees choices = AreValidCovers s.program (mode_in s) outcomes (covers_of trees) (map (after (sketch_of s)) choices)
+
+  abbrev pub IsWrongChild : List Cover → List Choice → ℕ → List ℕ → Type 0
+  IsWrongChild trees choices number path =
+      covers.FirstWrongChild s.program (mode_in s) outcomes (covers_of trees) (map (after (sketch_of s)) choices) number path
+
+-- the values of thread t's next read are as many as this, and these choices give them
+pub record AreValueChoices (s : Parts) (t count : ℕ) (choices : List Choice) : Type 0 where
+  pub values : List ℕ
+  pub next : HasNextValues s.program (mode_in s) (sketch_of s) t values
+  pub as_many : count ≡ length values
+  pub each : choices ≡ map (Value t) values
+
+abbrev pub HasNoValues : Parts → ℕ → ℕ → Type 0
+HasNoValues s t count = (values : List ℕ) → HasNextValues s.program (mode_in s) (sketch_of s) t values → count ≡ length values → ⊥
+
+-- the sources of a read are as many as this, and these choices give them
+pub record AreSourceChoices (s : Parts) (read : Event) (count : ℕ) (choices : List Choice) : Type 0 where
+  pub sources : List Event
+  pub next : HasSources s.program (mode_in s) (sketch_of s) read sources
+  pub as_many : count ≡ length sources
+  pub each : choices ≡ map (Source read) sources
+
+abbrev pub HasNoSources : Parts → Event → ℕ → Type 0
+HasNoSources s read count = (sources : List Event) → HasSources s.program (mode_in s) (sketch_of s) read sources → count ≡ length sources → ⊥

@@ -1,0 +1,49 @@
+-- Replays of a certificate's runs.
+use Rattle.std.specs.Prelude.{◌≡◌, ℕ, List, map, Contains}
+use Rattle.std.specs.List.{AllZip}
+use Rattle.tso_program.specs.declared.listing.Listing.{Listing}
+use Rattle.tso_program.specs.declared.outcome.Outcome.{Outcome}
+use Rattle.tso_machine.specs.declared.label.Label.{Label}
+use Rattle.tso_machine.specs.declared.label.Model.{Model}
+use Rattle.tso_machine.specs.declared.label.Model.TheVariants as models
+use Rattle.tso_machine.specs.declared.ended.Ended.{Ended}
+use Rattle.tso_machine.specs.Machine.{Mode, Sequential, Fenced, no_gaps, IsRun}
+use Rattle.tso_machine.specs.Modes.{ArePassed}
+use Rattle.cert_check.specs.declared.fault.RunsFault.{RunsFault}
+use Rattle.cert_check.specs.declared.fault.RunsFault.TheVariants as why
+use Rattle.cert_check.specs.Faults.{IsRunOf, IsFirstWithout}
+
+-- the model's machine, with no gap fenced
+abbrev pub machine_of : Model → Mode
+machine_of models.Sequential = Sequential
+machine_of models.Buffered = Fenced no_gaps
+
+-- the labels are a run with this outcome, which passes these gaps
+pub record IsReplayOf (p : Listing) (model : Model) (labels : List Label) (ended : Ended) : Type 0 where
+  pub is_run : IsRun p (machine_of model) labels ended.outcome
+  pub passed : ArePassed p (machine_of model) labels ended.passed
+
+abbrev pub AreReplaysOf : Listing → Model → List (List Label) → List Ended → Type 0
+AreReplaysOf p model runs ended = AllZip (IsReplayOf p model) runs ended
+
+-- the outcomes that the replays leave
+abbrev pub outcomes_of : List Ended → List Outcome
+outcomes_of ended = map (λ (e : Ended). e.outcome) ended
+
+-- the outcome is none of the list's
+abbrev pub IsOutside : List Outcome → Ended → Type 0
+IsOutside outcomes ended = Contains outcomes ended.outcome → ⊥
+
+-- the run that is none, if memory is not wanting
+abbrev pub RunsFaultIs : Listing → Model → List (List Label) → RunsFault → Type 0
+RunsFaultIs p model runs (why.NoRun number) = IsFirstWithout (IsRunOf p (machine_of model)) runs number
+RunsFaultIs p model runs why.OutOfMemory = Unit {0}
+
+-- the run of this number is none, if memory is not wanting
+abbrev pub IsNoRun : ℕ → Type 0 → RunsFault → Type 0
+IsNoRun number P (why.NoRun n) = (n ≡ number) × (P → ⊥)
+IsNoRun number P why.OutOfMemory = Unit {0}
+
+-- replays of runs of the store buffer machine with no gap fenced
+abbrev pub AreBufferedReplays : Listing → List (List Label) → List Ended → Type 0
+AreBufferedReplays p runs ended = AreReplaysOf p models.Buffered runs ended

@@ -1,0 +1,212 @@
+//! The checker.
+ghost use Rattle.std.specs.Prelude.{◌≡◌, ℕ, List, OnOk, IfOk, IfErr, IsOkUnless, All};
+ghost use Rattle.gap_sets.specs.Order.{total};
+ghost use Rattle.tso_program.specs.declared.listing.Listing.{Listing};
+ghost use Rattle.tso_program.specs.declared.outcome.Outcome.{Outcome};
+ghost use Rattle.tso_program.specs.Fences.{gaps_in};
+ghost use Rattle.tso_machine.specs.Machine.{Sequential, Fenced};
+ghost use Rattle.tso_machine.specs.Outcomes.{Headline, IsTheAnswer};
+ghost use Rattle.candidate_executions.specs.Sketches.{empty_sketch};
+ghost use Rattle.tree_laws.specs.CoverTrees.{IsValidCover};
+ghost use Rattle.tree_laws.specs.GapTrees.{root, IsValidGap};
+ghost use Rattle.tree_laws.specs.Laws.{IsProved};
+ghost use Rattle.tree_laws.specs.Certificates as trees;
+ghost use Rattle.tree_laws.specs.Certificates.{AreSequentialRuns, IsRunOutside, IsValidCertificate};
+ghost use Rattle.cert_check.specs.Claims.{claim_of};
+ghost use Rattle.cert_check.specs.Faults.{FaultIs, HasSetAndCost, HasEachOutcome, HasForeignRuns, HasServingSet};
+ghost use Rattle.cert_check.specs.Replays.{AreBufferedReplays, outcomes_of};
+
+use crate::CheckFault;
+use crate::cover::judge_from_start;
+use crate::fault::{RunsFault, TreeFault};
+use crate::gap::{Bounds, Region, judge_gap};
+use crate::runs::{first_listed, replay_all};
+use cert_forest::Certificate;
+use exec_axioms::Mode;
+use gap_sets::{Costs, GapSet};
+use std::alloc::Global;
+use tree_laws::a_valid_certificate_proves_the_headline;
+use tso_machine::{Ended, Model};
+use tso_program::Program;
+
+/// What a certificate shows: a set of gaps is the answer, and this is its cost.
+#[derive(Clone, Copy, Debug)]
+pub struct Accepted {
+    pub set: GapSet,
+    pub cost: u64,
+}
+
+/// Judges a certificate for a program and the costs of its gaps.
+///
+/// Where it accepts, the program with the set's gaps fenced has under x86-TSO exactly its sequentially
+/// consistent outcomes, and each better set of gaps leaves an outcome that no sequential run has.
+pub fn check(
+    alloc: Global,
+    program: &Program,
+    costs: &Costs,
+    certificate: &Certificate,
+) -> Result<Accepted, CheckFault>
+    ensures headline { IfOk result (λ accepted. Headline program.now costs.now accepted.set) }
+    ensures answer { IfOk result (λ accepted. IsTheAnswer program.now costs.now accepted.set) }
+    ensures cost { IfOk result (λ accepted. accepted.cost ≡ total costs.now accepted.set) }
+    ensures set { IfOk result (λ accepted. accepted.set ≡ certificate.now.set) }
+
+    // A valid certificate is accepted if memory is there, any other is refused by its first fault.
+    ensures valid { OnOk result (IsValidCertificate program.now costs.now (claim_of certificate.now)) }
+    ensures accepts { IsValidCertificate program.now costs.now (claim_of certificate.now) → IsOkUnless result CheckFault.OutOfMemory }
+    ensures fault { IfErr result (FaultIs program.now costs.now (claim_of certificate.now)) }
+{
+    match check_all(alloc, program, costs, certificate) {
+        Ok(()) => {
+            what_is_proved(program, costs);
+            Ok(Accepted {
+                set: certificate.set,
+                cost: certificate.cost,
+            })
+        }
+        Err(fault) => Err(fault),
+    }
+}
+
+/// A valid certificate for a program and the costs of its gaps proves the headline. Calling it does
+/// nothing.
+fn what_is_proved(program: &Program, costs: &Costs)
+    ensures { (c : trees.Certificate) → IsValidCertificate program.now costs.now c → IsProved program.now costs.now c }
+{
+    let _ = program.threads();
+    let _ = costs.len();
+    a_valid_certificate_proves_the_headline();
+}
+
+/// Looks for the first fault.
+fn check_all(
+    alloc: Global,
+    program: &Program,
+    costs: &Costs,
+    certificate: &Certificate,
+) -> Result<(), CheckFault>
+    ensures valid { OnOk result (IsValidCertificate program.now costs.now (claim_of certificate.now)) }
+    ensures fault { IfErr result (FaultIs program.now costs.now (claim_of certificate.now)) }
+{
+    check_set_and_cost(program, costs, certificate)?;
+    let listed = sequential_list(alloc, program, certificate)?;
+    let runs = foreign_runs(alloc, program, certificate, &listed)?;
+    check_fenced(alloc, program, certificate, &listed)?;
+    check_gaps(alloc, costs, certificate, &runs)
+}
+
+/// Faults 1 and 2.
+fn check_set_and_cost(
+    program: &Program,
+    costs: &Costs,
+    certificate: &Certificate,
+) -> Result<(), CheckFault>
+    ensures ok { OnOk result (HasSetAndCost program.now costs.now (claim_of certificate.now)) }
+    ensures fault { IfErr result (FaultIs program.now costs.now (claim_of certificate.now)) }
+{
+    if !program.all_gaps().holds_all(&certificate.set) {
+        return Err(CheckFault::Set);
+    }
+    if costs.len() != program.gaps() as usize {
+        return Err(CheckFault::Cost);
+    }
+    if costs.total(&certificate.set) != certificate.cost {
+        return Err(CheckFault::Cost);
+    }
+    Ok(())
+}
+
+/// Faults 3 and 4: the replays of the sequential runs, which have all sequential outcomes.
+fn sequential_list(
+    alloc: Global,
+    program: &Program,
+    certificate: &Certificate,
+) -> Result<Vec<Ended>, CheckFault>
+    ensures replayed { IfOk result (λ listed. AreSequentialRuns program.now (claim_of certificate.now).seq_runs (outcomes_of listed.items)) }
+    ensures sequential { IfOk result (λ listed. IsValidCover program.now Sequential (outcomes_of listed.items) (claim_of certificate.now).seq_tree empty_sketch) }
+    ensures fault { (costs : List ℕ) → HasSetAndCost program.now costs (claim_of certificate.now)
+        → IfErr result (FaultIs program.now costs (claim_of certificate.now)) }
+{
+    let listed = match replay_all(alloc, program, Model::Sequential, &certificate.seq_runs) {
+        Ok(listed) => listed,
+        Err(RunsFault::NoRun(number)) => return Err(CheckFault::SequentialRun(number)),
+        Err(RunsFault::OutOfMemory) => return Err(CheckFault::OutOfMemory),
+    };
+    match judge_from_start(
+        alloc,
+        program,
+        Mode::Sequential,
+        &certificate.seq_tree,
+        &listed,
+    ) {
+        Ok(()) => Ok(listed),
+        Err(TreeFault::Wrong(path)) => Err(CheckFault::SequentialTree(path)),
+        Err(TreeFault::OutOfMemory) => Err(CheckFault::OutOfMemory),
+    }
+}
+
+/// Faults 5 and 6: the replays of the other runs, whose outcomes are none of the list.
+fn foreign_runs(
+    alloc: Global,
+    program: &Program,
+    certificate: &Certificate,
+    listed: &[Ended],
+) -> Result<Vec<Ended>, CheckFault>
+    ensures replays { IfOk result (λ runs. AreBufferedReplays program.now (claim_of certificate.now).runs runs.items) }
+    ensures foreign { OnOk result (All (IsRunOutside program.now (outcomes_of listed.now)) (claim_of certificate.now).runs) }
+    ensures fault { (costs : List ℕ) → HasEachOutcome program.now costs (claim_of certificate.now) (outcomes_of listed.now)
+        → IfErr result (FaultIs program.now costs (claim_of certificate.now)) }
+{
+    let runs = match replay_all(alloc, program, Model::Buffered, &certificate.runs) {
+        Ok(runs) => runs,
+        Err(RunsFault::NoRun(number)) => return Err(CheckFault::Run(number)),
+        Err(RunsFault::OutOfMemory) => return Err(CheckFault::OutOfMemory),
+    };
+    match first_listed(&runs, listed) {
+        Some(number) => Err(CheckFault::NotForeign(number)),
+        None => Ok(runs),
+    }
+}
+
+/// Fault 7.
+fn check_fenced(
+    alloc: Global,
+    program: &Program,
+    certificate: &Certificate,
+    listed: &[Ended],
+) -> Result<(), CheckFault>
+    ensures fenced { OnOk result (IsValidCover program.now (Fenced (gaps_in program.now certificate.now.set)) (outcomes_of listed.now) (claim_of certificate.now).fenced_tree empty_sketch) }
+    ensures fault { (costs : List ℕ) → HasForeignRuns program.now costs (claim_of certificate.now) (outcomes_of listed.now)
+        → IfErr result (FaultIs program.now costs (claim_of certificate.now)) }
+{
+    let mode = Mode::Fenced(certificate.set);
+    match judge_from_start(alloc, program, mode, &certificate.fenced_tree, listed) {
+        Ok(()) => Ok(()),
+        Err(TreeFault::Wrong(path)) => Err(CheckFault::FencedTree(path)),
+        Err(TreeFault::OutOfMemory) => Err(CheckFault::OutOfMemory),
+    }
+}
+
+/// Fault 8, by the replays of the foreign runs.
+fn check_gaps(
+    alloc: Global,
+    costs: &Costs,
+    certificate: &Certificate,
+    runs: &[Ended],
+) -> Result<(), CheckFault>
+    ensures least { (p : Listing) → AreBufferedReplays p (claim_of certificate.now).runs runs.now
+        → OnOk result (IsValidGap p costs.now certificate.now.set (claim_of certificate.now).runs (claim_of certificate.now).gap_tree root) }
+    ensures fault { (p : Listing) (outcomes : List Outcome) → AreBufferedReplays p (claim_of certificate.now).runs runs.now
+        → HasServingSet p costs.now (claim_of certificate.now) outcomes → IfErr result (FaultIs p costs.now (claim_of certificate.now)) }
+{
+    let bounds = Bounds {
+        costs,
+        answer: certificate.set,
+        runs,
+    };
+    match judge_gap(alloc, &certificate.gap_tree, &Region::root(), &bounds) {
+        Ok(()) => Ok(()),
+        Err(TreeFault::Wrong(path)) => Err(CheckFault::GapTree(path)),
+        Err(TreeFault::OutOfMemory) => Err(CheckFault::OutOfMemory),
+    }
+}

@@ -1,0 +1,103 @@
+//! Why a certificate is refused.
+ghost use Rattle.cert_check.specs.declared.fault.TreeFault.TheVariants.{OutOfMemory};
+ghost use Rattle.cert_check.specs.declared.fault.RunsFault.TheVariants as runs;
+ghost use Rattle.cert_check.specs.declared.fault.CheckFault.TheVariants as check;
+ghost use Rattle.std.specs.Prelude.{◌≡◌};
+ghost use Rattle.cert_check.specs.Judged.{IsFrom};
+
+use crate::Path;
+use std::alloc::{AllocError, AllocFailed};
+use thiserror::Error;
+
+/// Why a certificate is refused: the first of these in this order, and of several runs or nodes the
+/// first. In a tree a node comes before its children.
+#[derive(Debug, Drop, Error)]
+pub enum CheckFault {
+    /// The set has a number that is no gap of the program.
+    #[error("1 Set")]
+    Set,
+    /// The cost isn't the set's, or there isn't one cost for each gap.
+    #[error("2 Cost")]
+    Cost,
+    /// The sequential run of this number, from 0, is none.
+    #[error("3 SequentialRun {0}")]
+    SequentialRun(usize),
+    /// The tree doesn't show at this node that the sequential runs have all outcomes.
+    #[error("4 SequentialTree {0}")]
+    SequentialTree(Path),
+    /// The store buffer run of this number is none.
+    #[error("5 Run {0}")]
+    Run(usize),
+    /// The store buffer run of this number has a sequential outcome.
+    #[error("6 NotForeign {0}")]
+    NotForeign(usize),
+    /// The tree doesn't show at this node that the set serves.
+    #[error("7 FencedTree {0}")]
+    FencedTree(Path),
+    /// The tree doesn't show at this node that no better set serves.
+    #[error("8 GapTree {0}")]
+    GapTree(Path),
+    #[error("9 OutOfMemory")]
+    OutOfMemory,
+}
+
+impl From<AllocError> for CheckFault {
+    ghost from_gives = { λ _ fault. fault ≡ check.OutOfMemory };
+
+    fn from(_error: AllocError) -> CheckFault {
+        CheckFault::OutOfMemory
+    }
+}
+
+/// Why a tree isn't valid: its first wrong node.
+#[derive(Debug, Drop)]
+pub(crate) enum TreeFault {
+    Wrong(Path),
+    OutOfMemory,
+}
+
+impl TreeFault {
+    /// The same fault, from the parent of the tree as its child of this number.
+    pub(crate) fn from_parent(self, number: usize) -> TreeFault
+        ensures { IsFrom number self result }
+    {
+        match self {
+            TreeFault::Wrong(path) => match path.from_parent(number) {
+                Ok(path) => TreeFault::Wrong(path),
+                Err(_) => TreeFault::OutOfMemory,
+            },
+            TreeFault::OutOfMemory => TreeFault::OutOfMemory,
+        }
+    }
+}
+
+impl From<AllocError> for TreeFault {
+    ghost from_gives = { λ _ fault. fault ≡ OutOfMemory };
+
+    fn from(_error: AllocError) -> TreeFault {
+        TreeFault::OutOfMemory
+    }
+}
+
+impl<T: Drop> From<AllocFailed<T>> for TreeFault {
+    ghost from_gives = { λ _ fault. fault ≡ OutOfMemory };
+
+    fn from(_error: AllocFailed<T>) -> TreeFault {
+        TreeFault::OutOfMemory
+    }
+}
+
+/// Why runs aren't all replayed: the first that is none.
+#[derive(Debug, Drop)]
+pub(crate) enum RunsFault {
+    NoRun(usize),
+    OutOfMemory,
+}
+
+impl<T: Drop> From<AllocFailed<T>> for RunsFault {
+    ghost from_gives = { λ _ fault. fault ≡ runs.OutOfMemory };
+
+    fn from(_error: AllocFailed<T>) -> RunsFault {
+        RunsFault::OutOfMemory
+    }
+}

@@ -1,0 +1,195 @@
+//! Gap trees, judged node by node.
+ghost use Rattle.std.specs.Prelude.{◌≡◌, ◌↔◌, ℕ, List, ◌<◌, true, false, IsTrue, OnOk, IfOk, IfErr, All, Contains, length, map};
+ghost use Rattle.std.specs.List.Sorted.{IsStrictlyIncreasing};
+ghost use Rattle.std.specs.FinSet as set;
+ghost use Rattle.gap_sets.specs.Order.{Better};
+ghost use Rattle.tso_program.specs.declared.listing.Listing.{Listing};
+ghost use Rattle.tso_machine.specs.declared.label.Label.{Label};
+ghost use Rattle.cert_forest.specs.Views.{gap};
+ghost use Rattle.tree_laws.specs.GapTrees.{root, IsSplitBy, IsValidGap};
+ghost use Rattle.cert_check.specs.Replays.{AreBufferedReplays};
+ghost use Rattle.cert_check.specs.GapDefects.{FirstWrongGap};
+ghost use Rattle.cert_check.specs.Judged.{IfWrong, IsAtRoot, IsBelow};
+ghost use Rattle.cert_check.specs.Regions.{node_of, with_gap, without_gap, HasNoSplit, IsValidIn, IsWrongIn, AreValidIn, IsWrongChildIn};
+
+use crate::choice::wrong_here;
+use crate::fault::TreeFault;
+use crate::runs::replay_of;
+use cert_forest::GapTree;
+use gap_sets::{Costs, GapSet};
+use std::alloc::{AllocError, Global};
+use tso_machine::Ended;
+
+/// The sets that hold `must` and avoid `never`.
+#[derive(Clone, Copy, Debug)]
+pub(crate) struct Region {
+    must: GapSet,
+    never: GapSet,
+}
+
+impl Region {
+    /// All sets.
+    pub(crate) fn root() -> Region
+        ensures { node_of result ≡ root }
+    {
+        Region {
+            must: GapSet::empty(),
+            never: GapSet::empty(),
+        }
+    }
+
+    /// Those that hold the gap too.
+    fn with(&self, gap: u8) -> Region
+        requires { gap < 64 }
+        ensures { result ≡ with_gap self.now gap }
+    {
+        Region {
+            must: self.must.with(gap),
+            never: self.never,
+        }
+    }
+
+    /// Those that avoid the gap too.
+    fn without(&self, gap: u8) -> Region
+        requires { gap < 64 }
+        ensures { result ≡ without_gap self.now gap }
+    {
+        Region {
+            must: self.must,
+            never: self.never.with(gap),
+        }
+    }
+}
+
+/// What gap trees are judged by: the costs, the set that is to be the answer, and the foreign runs.
+#[derive(Clone, Copy)]
+pub(crate) struct Bounds<'a> {
+    pub(crate) costs: &'a Costs,
+    pub(crate) answer: GapSet,
+    pub(crate) runs: &'a [Ended],
+}
+
+/// Judges a tree for a region. It recurses as deep as the tree is.
+#[cycle(judge_gap)]
+pub(crate) fn judge_gap(
+    alloc: Global,
+    tree: &GapTree,
+    region: &Region,
+    bounds: &Bounds,
+) -> Result<(), TreeFault>
+    ensures valid { (p : Listing) (runs : List (List Label)) → AreBufferedReplays p runs bounds.now.runs.now
+        → OnOk result (IsValidIn p bounds.now.costs.now bounds.now.answer runs (gap tree.now) region.now) }
+    ensures wrong { (p : Listing) (runs : List (List Label)) → AreBufferedReplays p runs bounds.now.runs.now
+        → IfErr result (IfWrong (IsWrongIn p bounds.now.costs.now bounds.now.answer runs (gap tree.now) region.now)) }
+{
+    match tree {
+        GapTree::Bound => judge_bound(alloc, region, bounds),
+        GapTree::Split { run, children } => {
+            let gaps = split_gaps(alloc, *run, region, children.len(), bounds.runs)?;
+            judge_gaps(alloc, children, region, &gaps, bounds)
+        }
+    }
+}
+
+/// Judges the children of a split in order: each must have its gap, and never those before it.
+#[cycle(judge_gap)]
+fn judge_gaps(
+    alloc: Global,
+    trees: &[GapTree],
+    region: &Region,
+    gaps: &[u8],
+    bounds: &Bounds,
+) -> Result<(), TreeFault>
+    requires below { All (λ gap. gap < 64) gaps.now }
+    requires as_many { length trees.now ≡ length gaps.now }
+    ensures valid { (p : Listing) (runs : List (List Label)) → AreBufferedReplays p runs bounds.now.runs.now
+        → OnOk result (AreValidIn p bounds.now.costs.now bounds.now.answer runs (map gap trees.now) region.now gaps.now) }
+    ensures wrong { (p : Listing) (runs : List (List Label)) → AreBufferedReplays p runs bounds.now.runs.now
+        → IfErr result (IfWrong (IsBelow (IsWrongChildIn p bounds.now.costs.now bounds.now.answer runs (map gap trees.now) region.now gaps.now))) }
+{
+    let mut rest = *region;
+    for (number, tree) in trees.iter().enumerate() {
+        let gap = gaps[number];
+        let child = rest.with(gap);
+        judge_gap_child(alloc, tree, &child, number, bounds)?;
+        rest = rest.without(gap);
+    }
+    Ok(())
+}
+
+/// Judges the child of this number.
+#[cycle(judge_gap)]
+fn judge_gap_child(
+    alloc: Global,
+    tree: &GapTree,
+    region: &Region,
+    number: usize,
+    bounds: &Bounds,
+) -> Result<(), TreeFault>
+    ensures valid { (p : Listing) (runs : List (List Label)) → AreBufferedReplays p runs bounds.now.runs.now
+        → OnOk result (IsValidIn p bounds.now.costs.now bounds.now.answer runs (gap tree.now) region.now) }
+    ensures wrong { (p : Listing) (runs : List (List Label)) → AreBufferedReplays p runs bounds.now.runs.now
+        → IfErr result (IfWrong (IsBelow (λ n path. (n ≡ number)
+        × IsWrongIn p bounds.now.costs.now bounds.now.answer runs (gap tree.now) region.now path))) }
+{
+    match judge_gap(alloc, tree, region, bounds) {
+        Ok(()) => Ok(()),
+        Err(fault) => Err(fault.from_parent(number)),
+    }
+}
+
+/// Judges that what the sets of the region must have is not better than the answer.
+fn judge_bound(alloc: Global, region: &Region, bounds: &Bounds) -> Result<(), TreeFault>
+    ensures bound { OnOk result (Better bounds.now.costs.now region.now.must bounds.now.answer → ⊥) }
+    ensures wrong { IfErr result (IfWrong (IsAtRoot (Better bounds.now.costs.now region.now.must bounds.now.answer))) }
+{
+    if bounds.costs.better(&region.must, &bounds.answer) {
+        Err(wrong_here(alloc))
+    } else {
+        Ok(())
+    }
+}
+
+/// The gaps that the run of this number passes and that the sets of the region may have, where there are
+/// as many as this and it passes none that they must have.
+fn split_gaps(
+    alloc: Global,
+    run: u64,
+    region: &Region,
+    count: usize,
+    runs: &[Ended],
+) -> Result<Vec<u8>, TreeFault>
+    ensures split { (p : Listing) (labels : List (List Label)) → AreBufferedReplays p labels runs.now
+        → IfOk result (λ gaps. IsSplitBy p labels (node_of region.now) run gaps.items) }
+    ensures as_many { IfOk result (λ gaps. count ≡ length gaps.items) }
+    ensures below { IfOk result (λ gaps. All (λ gap. gap < 64) gaps.items) }
+    ensures wrong { (p : Listing) (labels : List (List Label)) → AreBufferedReplays p labels runs.now
+        → IfErr result (IfWrong (IsAtRoot (HasNoSplit p labels region.now run count))) }
+{
+    let Some(end) = replay_of(runs, run) else {
+        return Err(wrong_here(alloc));
+    };
+    if end.passed.meets(&region.must) {
+        return Err(wrong_here(alloc));
+    }
+    let gaps = open_gaps(alloc, end.passed, region.never)?;
+    if gaps.len() != count {
+        return Err(wrong_here(alloc));
+    }
+    Ok(gaps)
+}
+
+/// The gaps of the first set that aren't in the second, ascending.
+fn open_gaps(alloc: Global, passed: GapSet, never: GapSet) -> Result<Vec<u8>, AllocError>
+    ensures ascending { IfOk result (λ gaps. IsStrictlyIncreasing gaps.items) }
+    ensures exact { IfOk result (λ gaps. (gap : ℕ) → Contains gaps.items gap ↔ ((set.contains passed gap ≡ true) × (set.contains never gap ≡ false))) }
+    ensures below { IfOk result (λ gaps. All (λ gap. gap < 64) gaps.items) }
+{
+    let mut gaps = Vec::new(alloc);
+    for gap in passed.iter() {
+        if !never.has(gap) {
+            gaps.push(gap)?;
+        }
+    }
+    Ok(gaps)
+}

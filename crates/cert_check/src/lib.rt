@@ -1,0 +1,17 @@
+//! The checker of certificates: it accepts a certificate only where its set of gaps is the answer for the
+//! program and its costs, and names the first fault of any other. It uses nothing of a solver.
+#![tactic(auto)]
+
+mod checker;
+mod choice;
+mod cover;
+mod fault;
+mod gap;
+mod laws;
+mod path;
+mod runs;
+
+pub use checker::{Accepted, check};
+pub use fault::CheckFault;
+pub use laws::{the_first_fault_is_unique, valid_certificates_have_no_fault};
+pub use path::Path;

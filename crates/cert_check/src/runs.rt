@@ -1,0 +1,95 @@
+//! The runs of a certificate, replayed.
+ghost use Rattle.std.specs.Prelude.{◌≡◌, ◌↔◌, IsTrue, IfOk, IfErr, MatchOption, All, Contains, slice_get};
+ghost use Rattle.std.specs.Option.{option_copied};
+ghost use Rattle.tso_machine.specs.declared.ended.ReplayFault.TheVariants as replays;
+ghost use Rattle.cert_forest.specs.Certificates.{labels_of};
+ghost use Rattle.cert_check.specs.Faults.{IsRunOf, IsFirstWithout};
+ghost use Rattle.cert_check.specs.Replays.{machine_of, IsReplayOf, AreReplaysOf, outcomes_of, IsOutside, IsNoRun, RunsFaultIs};
+
+use crate::fault::RunsFault;
+use gap_sets::GapSet;
+use std::alloc::Global;
+use tso_machine::{Ended, Label, Model, ReplayFault, replay};
+use tso_program::{Outcome, Program};
+
+/// Replays runs in turn, with no gap fenced.
+pub(crate) fn replay_all(
+    alloc: Global,
+    program: &Program,
+    model: Model,
+    runs: &[Vec<Label>],
+) -> Result<Vec<Ended>, RunsFault>
+    ensures replays { IfOk result (λ ended. AreReplaysOf program.now model (labels_of runs.now) ended.items) }
+    ensures fault { IfErr result (RunsFaultIs program.now model (labels_of runs.now)) }
+{
+    let mut ended = Vec::new(alloc);
+    for (number, run) in runs.iter().enumerate() {
+        let end = replay_one(alloc, program, model, number, run)?;
+        ended.push(end)?;
+    }
+    Ok(ended)
+}
+
+/// Replays the run of this number with no gap fenced.
+fn replay_one(
+    alloc: Global,
+    program: &Program,
+    model: Model,
+    number: usize,
+    labels: &[Label],
+) -> Result<Ended, RunsFault>
+    ensures replay { IfOk result (IsReplayOf program.now model labels.now) }
+    ensures fault { IfErr result (IsNoRun number (IsRunOf program.now (machine_of model) labels.now)) }
+{
+    match replay(alloc, program, &GapSet::empty(), model, labels) {
+        Ok(end) => Ok(end),
+        Err(fault) => Err(runs_fault(fault, number)),
+    }
+}
+
+/// The labels of this number are no run, if memory isn't wanting.
+fn runs_fault(fault: ReplayFault, number: usize) -> RunsFault
+    ensures { IsNoRun number (fault ≡ replays.OutOfMemory) result }
+{
+    match fault {
+        ReplayFault::OutOfMemory => RunsFault::OutOfMemory,
+        _ => RunsFault::NoRun(number),
+    }
+}
+
+/// The replay of this number, from 0.
+pub(crate) fn replay_of(ended: &[Ended], number: u64) -> Option<&Ended>
+    ensures { option_copied result ≡ slice_get ended.now number }
+{
+    ended.get(number as usize)
+}
+
+/// The first replay whose outcome is one of the list's.
+pub(crate) fn first_listed(ended: &[Ended], list: &[Ended]) -> Option<usize>
+    ensures { MatchOption result (All (IsOutside (outcomes_of list.now)) ended.now) (IsFirstWithout (IsOutside (outcomes_of list.now)) ended.now) }
+{
+    for (number, end) in ended.iter().enumerate() {
+        if is_listed(&end.outcome, list) {
+            return Some(number);
+        }
+    }
+    None
+}
+
+/// Whether some replay of the list has the outcome.
+fn is_listed(outcome: &Outcome, list: &[Ended]) -> bool
+    ensures { IsTrue result ↔ Contains (outcomes_of list.now) outcome.now }
+{
+    for end in list {
+        if is_equal(&end.outcome, outcome) {
+            return true;
+        }
+    }
+    false
+}
+
+fn is_equal(a: &Outcome, b: &Outcome) -> bool
+    ensures { IsTrue result ↔ (a.now ≡ b.now) }
+{
+    a == b
+}

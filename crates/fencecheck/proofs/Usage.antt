@@ -1,0 +1,13 @@
+-- When the program tells how it is called.
+use Rattle.std.proofs.Common.{◌≡◌, ◌==◌, ◌||◌, ℕ, true, List, [], ◌∷◌, Option, length, map}
+use Rattle.std.specs.Prelude.{nat_lt}
+use Rattle.fencecheck.specs.Replies.{IsOutput, IsUsage}
+
+-- for one word, and for more than three
+pub usage_output : {W : Type 0} (text : W → List ℕ) (words : List W) (input : Option (List ℕ)) (status : ℕ) (out : List ℕ) → (length words == 1 || nat_lt 3 (length words)) ≡ true
+    → IsUsage status out → IsOutput (map text words) input status out
+usage_output text [] input status out few is = absurd cc
+usage_output text (a ∷ []) input status out few is = is
+usage_output text (a ∷ (b ∷ [])) input status out few is = absurd cc
+usage_output text (a ∷ (b ∷ (c ∷ []))) input status out few is = absurd cc
+usage_output text (a ∷ (b ∷ (c ∷ (d ∷ words)))) input status out few is = is

@@ -1,0 +1,4 @@
+pub mod Inputs
+pub mod Verdicts
+pub mod Replies
+pub mod Names

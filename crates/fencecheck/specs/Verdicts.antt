@@ -1,0 +1,87 @@
+-- What the texts of a program, a certificate and costs are told.
+use Rattle.std.specs.Prelude.{◌≡◌, ℕ, List, Option, Some, None, replicate}
+use Rattle.gap_sets.specs.Order.{total}
+use Rattle.tso_program.specs.declared.listing.Listing.{Listing}
+use Rattle.tso_program.specs.Listings.{gap_count}
+use Rattle.tso_machine.specs.Outcomes.{Headline}
+use Rattle.litmus_text.specs.declared.litmus.Litmus.{Litmus}
+use Rattle.litmus_text.specs.declared.fault.ReadFault.{ReadFault}
+use Rattle.litmus_text.specs.declared.fault.ReadFault.TheVariants as read_fault
+use Rattle.litmus_text.specs.Texts as litmus_texts
+use Rattle.cert_forest.specs.declared.certificate.Certificate.{Certificate}
+use Rattle.cert_forest.specs.declared.fault.CertFault.{CertFault}
+use Rattle.cert_forest.specs.declared.fault.CertFault.TheVariants as cert_fault
+use Rattle.cert_forest.specs.Certificates as certificates
+use Rattle.cert_forest.specs.Limits.{IsCertificate}
+use Rattle.cost_text.specs.declared.fault.CostTextFault.{CostTextFault}
+use Rattle.cost_text.specs.declared.fault.CostTextFault.TheVariants as cost_fault
+use Rattle.cost_text.specs.CostTexts as cost_texts
+use Rattle.tree_laws.specs.Certificates.{IsValidCertificate}
+use Rattle.cert_check.specs.declared.fault.CheckFault.{CheckFault}
+use Rattle.cert_check.specs.Claims.{claim_of}
+use Rattle.cert_check.specs.Faults.{FaultIs}
+use Rattle.report.specs.Faults.{litmus_line, costs_line}
+use Rattle.report_check.specs.Lines.{accepted_line, certificate_line}
+use Rattle.report_check.specs.CheckLines.{check_line}
+use Rattle.fencecheck.specs.declared.judge.Refusal.{Refusal}
+use Rattle.fencecheck.specs.declared.judge.Refusal.TheVariants as refusal
+
+-- the costs of a program's gaps: those that the text gives, or 1 each without a text
+abbrev pub AreCosts : Listing → Option (List ℕ) → List ℕ → Type 0
+AreCosts p None costs = costs ≡ replicate (gap_count p.threads) 1
+AreCosts p (Some text) costs = cost_texts.IsCostText text p.threads costs
+
+-- the first text is a program's, and the second this certificate's
+pub record Spell (litmus certificate : List ℕ) (program : Litmus Listing) (claimed : Certificate) : Type 0 where
+  pub of_program : litmus_texts.IsLitmus litmus program
+  pub of_certificate : IsCertificate certificate (certificates.certificate claimed)
+
+-- The line accepts: the texts are those of a program, of a certificate and of costs, the certificate is valid for them, the
+-- headline holds of its set, and the line tells the set and its cost.
+pub record IsAccepted (litmus certificate : List ℕ) (costs : Option (List ℕ)) (line : List ℕ) : Type 0 where
+  pub program : Litmus Listing
+  pub claimed : Certificate
+  pub spelled : Spell litmus certificate program claimed
+  pub gap_costs : List ℕ
+  pub given : AreCosts program.program costs gap_costs
+  pub valid : IsValidCertificate program.program gap_costs (claim_of claimed)
+  pub headline : Headline program.program gap_costs claimed.set
+  pub printed : line ≡ accepted_line program.program claimed.set (total gap_costs claimed.set)
+
+-- why bytes are no litmus text: what the fault says of them, and that they are none, want of memory aside
+pub record IsNoLitmus (text : List ℕ) (fault : ReadFault) : Type 0 where
+  pub why : litmus_texts.Refuses text fault
+  pub none : (program : Litmus Listing) → litmus_texts.IsLitmus text program → fault ≡ read_fault.OutOfMemory
+
+-- the bytes are no certificate's text, want of memory aside
+abbrev pub IsNoCertificate : List ℕ → CertFault → Type 0
+IsNoCertificate text fault = (c : certificates.Cert) → IsCertificate text c → fault ≡ cert_fault.OutOfMemory
+
+-- why there are no costs; without a text only for want of memory
+abbrev pub AreNoCosts : Listing → Option (List ℕ) → CostTextFault → Type 0
+AreNoCosts p None fault = fault ≡ cost_fault.OutOfMemory
+AreNoCosts p (Some text) fault = cost_texts.Refuses text p.threads fault
+
+-- Why a certificate is refused: the litmus text is judged first, then the certificate's text, the costs, and what the
+-- certificate shows.
+abbrev pub IsRefused : List ℕ → List ℕ → Option (List ℕ) → Refusal → Type 0
+IsRefused litmus certificate costs (refusal.Litmus fault) = IsNoLitmus litmus fault
+IsRefused litmus certificate costs (refusal.Certificate fault) =
+    (program : Litmus Listing) × litmus_texts.IsLitmus litmus program × IsNoCertificate certificate fault
+IsRefused litmus certificate costs (refusal.Costs fault) =
+    (program : Litmus Listing) × (claimed : Certificate) × Spell litmus certificate program claimed × AreNoCosts program.program costs fault
+IsRefused litmus certificate costs (refusal.Check fault) =
+    (program : Litmus Listing) × (claimed : Certificate) × (gap_costs : List ℕ) × Spell litmus certificate program claimed
+    × AreCosts program.program costs gap_costs × FaultIs program.program gap_costs (claim_of claimed) fault
+
+-- the line of a refusal
+abbrev pub refusal_line : Refusal → List ℕ
+refusal_line (refusal.Litmus fault) = litmus_line fault
+refusal_line (refusal.Certificate fault) = certificate_line fault
+refusal_line (refusal.Costs fault) = costs_line fault
+refusal_line (refusal.Check fault) = check_line fault
+
+-- what is printed, with its status: the line that accepts, or that of a refusal
+pub data IsVerdict (litmus certificate : List ℕ) (costs : Option (List ℕ)) : ℕ → List ℕ → Type 0 where
+  accepted : (line : List ℕ) → IsAccepted litmus certificate costs line → IsVerdict litmus certificate costs 0 line
+  refused : (why : Refusal) → IsRefused litmus certificate costs why → IsVerdict litmus certificate costs 1 (refusal_line why)

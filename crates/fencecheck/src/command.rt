@@ -1,0 +1,175 @@
+//! A whole run of the program, over a reader and a writer.
+
+ghost use Rattle.std.specs.Prelude.{◌≡◌, ◌==◌, ◌||◌, IfOk, IfErr, ⊤, length, map, nat_lt, option_map, string_bytes};
+ghost use Rattle.program_streams.specs.Streams.{IsReadFault, Prints};
+ghost use Rattle.fencecheck.specs.Verdicts.{IsVerdict};
+ghost use Rattle.fencecheck.specs.Replies.{usage_line, AreOfCosts, AreOfFiles, IsFilesFault, IsReplyToInput, IsReplyToFiles, IsOutput};
+ghost use Rattle.fencecheck.specs.Names.{names_of};
+
+use crate::judge::{judge, refusal_line};
+use crate::parts::{CERTIFICATE_LIMIT, parts_of};
+use program_streams::{FileFault, TEXT_LIMIT, file_bytes, named_bytes, read_up_to, say};
+use report::file_line;
+use std::alloc::{AllocError, Global};
+use std::io::{Read, Write};
+use std::rt::Files;
+
+/// How the program is called.
+fn usage_line(alloc: Global) -> Result<Vec<u8>, AllocError>
+    ensures { IfOk result (λ line. line.items ≡ usage_line) }
+{
+    Vec::from_slice(alloc, b"usage: fencecheck LITMUS CERTIFICATE [COSTS]\n")
+}
+
+/// Judges a certificate, tells the verdict, and answers the status.
+fn tell<W: Write>(
+    alloc: Global,
+    litmus: &[u8],
+    certificate: &[u8],
+    costs: Option<Vec<u8>>,
+    output: &mut W,
+) -> u8
+    ensures { Prints (IsVerdict litmus.now certificate.now (option_map (λ text. text.items) costs)) (W.contents output.old) (W.contents output.new) result }
+{
+    match judge(alloc, litmus, certificate, costs) {
+        Ok(line) => say(output, Ok(line), 0),
+        Err(refusal) => say(output, refusal_line(alloc, &refusal), 1),
+    }
+}
+
+/// Judges what the reader gives: a litmus text, and behind it a certificate.
+fn run_input<R: Read, W: Write>(alloc: Global, input: &mut R, output: &mut W) -> u8
+    ensures { Prints (IsReplyToInput (R.remaining input.old)) (W.contents output.old) (W.contents output.new) result }
+{
+    let bytes = match read_up_to(alloc, input, TEXT_LIMIT + CERTIFICATE_LIMIT) {
+        Ok(bytes) => bytes,
+        Err(fault) => return say(output, file_line(alloc, fault), 1),
+    };
+    match parts_of(&bytes) {
+        Some((litmus, certificate)) => tell(alloc, litmus, certificate, None, output),
+        None => say(output, file_line(alloc, FileFault::TooLong), 1),
+    }
+}
+
+/// The names of files.
+#[derive(Clone, Copy, Debug)]
+struct Names<'a> {
+    litmus: &'a str,
+    certificate: &'a str,
+    costs: Option<&'a str>,
+}
+
+/// What files hold.
+#[derive(Debug, Drop)]
+struct Texts {
+    litmus: Vec<u8>,
+    certificate: Vec<u8>,
+    costs: Option<Vec<u8>>,
+}
+
+/// The bytes of a cost file, if there is one.
+fn costs_text<F: Files + AllocGlobal>(
+    rt: &F,
+    name: Option<&str>,
+) -> Result<Option<Vec<u8>>, FileFault>
+    ensures costs { IfOk result (λ costs. AreOfCosts (option_map (λ name. name.now) name.entry) (option_map (λ text. text.items) costs)) }
+    ensures err { IfErr result (IsReadFault ⊤) }
+{
+    match name {
+        Some(name) => Ok(Some(file_bytes(rt, name, TEXT_LIMIT)?)),
+        None => Ok(None),
+    }
+}
+
+/// The bytes of files. The litmus file is read first, then the certificate, and then the costs.
+fn texts_of<F: Files + AllocGlobal, R: Read>(
+    rt: &F,
+    names: Names<'_>,
+    input: &mut R,
+) -> Result<Texts, FileFault>
+    ensures texts { IfOk result (λ texts. AreOfFiles (names_of names.entry) (R.remaining input.old) texts.litmus.items texts.certificate.items (option_map (λ text. text.items) texts.costs)) }
+    ensures err { IfErr result (IsFilesFault (names_of names.entry) (R.remaining input.old)) }
+{
+    let litmus = named_bytes(rt, names.litmus, input, TEXT_LIMIT)?;
+    let certificate = match file_bytes(rt, names.certificate, CERTIFICATE_LIMIT) {
+        Ok(certificate) => certificate,
+        Err(fault) => return Err(fault),
+    };
+    let costs = match costs_text(rt, names.costs) {
+        Ok(costs) => costs,
+        Err(fault) => return Err(fault),
+    };
+    Ok(Texts {
+        litmus,
+        certificate,
+        costs,
+    })
+}
+
+/// Judges texts, and tells the verdict.
+fn tell_texts<W: Write>(alloc: Global, texts: Texts, output: &mut W) -> u8
+    ensures { Prints (IsVerdict texts.litmus.items texts.certificate.items (option_map (λ text. text.items) texts.costs)) (W.contents output.old) (W.contents output.new) result }
+{
+    let Texts {
+        litmus,
+        certificate,
+        costs,
+    } = texts;
+    tell(alloc, &litmus, &certificate, costs, output)
+}
+
+/// Judges what files hold.
+fn run_files<F: Files + AllocGlobal, R: Read, W: Write>(
+    rt: &F,
+    names: Names<'_>,
+    input: &mut R,
+    output: &mut W,
+) -> u8
+    ensures { Prints (IsReplyToFiles (names_of names.entry) (R.remaining input.old)) (W.contents output.old) (W.contents output.new) result }
+{
+    match texts_of(rt, names, input) {
+        Ok(texts) => tell_texts(rt.alloc(), texts, output),
+        Err(fault) => say(output, file_line(rt.alloc(), fault), 1),
+    }
+}
+
+/// Whether there is one word, or more than three.
+fn is_misused(words: &[String]) -> bool
+    ensures { result ≡ (length words.now == 1 || nat_lt 3 (length words.now)) }
+{
+    words.len() == 1 || words.len() > 3
+}
+
+/// The program: it judges the certificate of the files that the words name, tells the verdict by one line, and answers its
+/// status. With no words it judges what the reader gives.
+///
+/// Status 0 means that the certificate is accepted and the line is written. Status 1 is a refusal, told by one line, a
+/// writer that fails or takes no byte, and want of memory for that line, with nothing written. Status 2 is a bad command
+/// line, told on the writer too.
+pub fn run_command<F: Files + AllocGlobal, R: Read, W: Write>(
+    rt: &F,
+    words: &[String],
+    input: &mut R,
+    output: &mut W,
+) -> u8
+    ensures { Prints (IsOutput (map string_bytes words.now) (R.remaining input.old)) (W.contents output.old) (W.contents output.new) result }
+{
+    if is_misused(words) {
+        return say(output, usage_line(rt.alloc()), 2);
+    }
+    let names = match words {
+        [] => return run_input(rt.alloc(), input, output),
+        [litmus, certificate] => Names {
+            litmus: litmus.as_str(),
+            certificate: certificate.as_str(),
+            costs: None,
+        },
+        [litmus, certificate, costs] => Names {
+            litmus: litmus.as_str(),
+            certificate: certificate.as_str(),
+            costs: Some(costs.as_str()),
+        },
+        _ => unreachable!(),
+    };
+    run_files(rt, names, input, output)
+}

@@ -1,0 +1,123 @@
+//! What the texts of a program, a certificate and costs are told.
+
+ghost use Rattle.std.specs.Prelude.{◌≡◌, IfOk, IfErr, IsOkUnless, OnOk, option_map, replicate};
+ghost use Rattle.gap_sets.specs.Order.{total};
+ghost use Rattle.tso_program.specs.Listings.{gap_count};
+ghost use Rattle.tso_machine.specs.Outcomes.{Headline};
+ghost use Rattle.tree_laws.specs.Certificates.{IsValidCertificate};
+ghost use Rattle.cert_check.specs.Claims.{claim_of};
+ghost use Rattle.cert_check.specs.Faults.{FaultIs};
+ghost use Rattle.report_check.specs.Lines.{accepted_line};
+ghost use Rattle.fencecheck.specs.Verdicts.{AreCosts, AreNoCosts, IsAccepted, IsRefused, refusal_line};
+
+use cert_check::{CheckFault, check};
+use cert_forest::{CertFault, Certificate, read_cert};
+use cost_text::{CostTextFault, read_costs};
+use gap_sets::Costs;
+use litmus_text::{ReadFault, read_litmus};
+use report::{costs_line, litmus_line};
+use report_check::{accepted_line, certificate_line, check_line};
+use std::alloc::{AllocError, Global};
+use tso_program::Program;
+
+/// Why a certificate isn't accepted.
+#[derive(Debug, Drop)]
+pub enum Refusal {
+    /// The first text isn't a litmus text.
+    Litmus(ReadFault),
+    /// The second isn't a certificate's.
+    Certificate(CertFault),
+    /// The third isn't one of costs for the program.
+    Costs(CostTextFault),
+    /// The certificate doesn't show what it claims.
+    Check(CheckFault),
+}
+
+/// The line of a refusal.
+pub fn refusal_line(alloc: Global, refusal: &Refusal) -> Result<Vec<u8>, AllocError>
+    ensures { IfOk result (λ line. line.items ≡ refusal_line refusal.now) }
+{
+    match refusal {
+        Refusal::Litmus(fault) => litmus_line(alloc, *fault),
+        Refusal::Certificate(fault) => certificate_line(alloc, *fault),
+        Refusal::Costs(fault) => costs_line(alloc, *fault),
+        Refusal::Check(fault) => check_line(alloc, fault),
+    }
+}
+
+fn equal_list(alloc: Global, program: &Program) -> Result<Vec<u32>, AllocError>
+    ensures { IfOk result (λ list. list.items ≡ replicate (gap_count program.now.threads) 1) }
+{
+    vec![in alloc; 1; program.gaps() as usize]
+}
+
+/// The costs where each gap costs 1.
+fn equal_costs(alloc: Global, program: &Program) -> Result<Costs, CostTextFault>
+    ensures costs { IfOk result (λ costs. costs ≡ replicate (gap_count program.now.threads) 1) }
+    ensures err { IsOkUnless result CostTextFault.OutOfMemory }
+{
+    let list = equal_list(alloc, program)?;
+    match Costs::new(alloc, &list) {
+        Ok(costs) => Ok(costs),
+        Err(_) => Err(CostTextFault::OutOfMemory),
+    }
+}
+
+/// The costs that a text gives a program's gaps; 1 each without a text.
+fn costs_of(alloc: Global, program: &Program, text: Option<Vec<u8>>) -> Result<Costs, CostTextFault>
+    ensures costs { IfOk result (AreCosts program.now (option_map (λ text. text.items) text)) }
+    ensures none { IfErr result (AreNoCosts program.now (option_map (λ text. text.items) text)) }
+{
+    match text {
+        Some(text) => read_costs(alloc, &text, program),
+        None => equal_costs(alloc, program),
+    }
+}
+
+/// The line of a certificate that the checker accepts, or why it doesn't.
+fn checked_line(
+    alloc: Global,
+    program: &Program,
+    costs: &Costs,
+    certificate: &Certificate,
+) -> Result<Vec<u8>, CheckFault>
+    ensures headline { OnOk result (Headline program.now costs.now certificate.now.set) }
+    ensures valid { OnOk result (IsValidCertificate program.now costs.now (claim_of certificate.now)) }
+    ensures line { IfOk result (λ line. line.items ≡ accepted_line program.now certificate.now.set (total costs.now certificate.now.set)) }
+    ensures refused { IfErr result (FaultIs program.now costs.now (claim_of certificate.now)) }
+{
+    let accepted = check(alloc, program, costs, certificate)?;
+    match accepted_line(alloc, program, accepted.set, accepted.cost) {
+        Ok(line) => Ok(line),
+        Err(_) => Err(CheckFault::OutOfMemory),
+    }
+}
+
+/// Judges a certificate for the program of a litmus text: the line that accepts it, or why it isn't accepted. The litmus
+/// text is judged first, then the certificate's text, the costs, and what the certificate shows.
+pub fn judge(
+    alloc: Global,
+    litmus: &[u8],
+    certificate: &[u8],
+    costs: Option<Vec<u8>>,
+) -> Result<Vec<u8>, Refusal>
+    ensures accepted { IfOk result (λ line. IsAccepted litmus.now certificate.now (option_map (λ text. text.items) costs) line.items) }
+    ensures refused { IfErr result (IsRefused litmus.now certificate.now (option_map (λ text. text.items) costs)) }
+{
+    let litmus = match read_litmus(alloc, litmus) {
+        Ok(litmus) => litmus,
+        Err(fault) => return Err(Refusal::Litmus(fault)),
+    };
+    let certificate = match read_cert(alloc, certificate) {
+        Ok(certificate) => certificate,
+        Err(fault) => return Err(Refusal::Certificate(fault)),
+    };
+    let costs = match costs_of(alloc, &litmus.program, costs) {
+        Ok(costs) => costs,
+        Err(fault) => return Err(Refusal::Costs(fault)),
+    };
+    match checked_line(alloc, &litmus.program, &costs, &certificate) {
+        Ok(line) => Ok(line),
+        Err(fault) => Err(Refusal::Check(fault)),
+    }
+}

@@ -1,7 +1,0 @@
-use Rattle.std.proofs.Common.{refl}
-use Rattle.fencer.specs.Lines.{utf8_line, IsUtf8Refusal}
-use Rattle.program_streams.proofs.Printed.{prints_line}
-use Rattle.fencer.proofs.command.refuse_words.Goals as goal
-
-pub returns : goal.returns
-returns g c = prints_line c.utf8_line.result 2 utf8_line IsUtf8Refusal _ _ c.say.result (refl, refl) c.utf8_line.ensures c.say.ensures
