@@ -1,16 +1,15 @@
 -- A certificate's parts put together.
-use Rattle.std.proofs.Common.{◌≡◌, ◌≢◌, ℕ, zero, suc, ◌<◌, true, List, [], ◌∷◌, length, All, Contains, map, take, refl, sym, ap, ◌∙◌, subst, arith}
-use Rattle.std.specs.List.{AllZip}
+use Rattle.std.proofs.Common.{ℕ, zero, suc, List, [], ◌∷◌, All, Contains, take, subst, arith}
 use Rattle.tso_program.specs.declared.listing.Listing.{Listing}
 use Rattle.tso_program.specs.declared.outcome.Outcome.{Outcome}
 use Rattle.tso_machine.specs.declared.label.Label.{Label}
 use Rattle.tso_machine.specs.declared.label.Model.TheVariants as models
 use Rattle.tso_machine.specs.declared.ended.Ended.{Ended}
-use Rattle.tso_machine.specs.Machine.{Sequential, Fenced, no_gaps}
+use Rattle.tso_machine.specs.Machine.{Fenced, no_gaps}
 use Rattle.tree_laws.specs.GapTrees.{root, IsValidGap}
 use Rattle.tree_laws.specs.Certificates.{Certificate, AreSequentialRuns, IsRunOutside, IsValidCertificate}
 use Rattle.cert_check.specs.Faults.{IsRunOf, IsFirstWithout, HasServingSet}
-use Rattle.cert_check.specs.Replays.{machine_of, IsReplayOf, AreReplaysOf, AreBufferedReplays, outcomes_of, IsOutside}
+use Rattle.cert_check.specs.Replays.{IsReplayOf, AreReplaysOf, AreBufferedReplays, outcomes_of, IsOutside}
 use Rattle.cert_check.proofs.Replayed.{zip_left}
 use Rattle.cert_check.proofs.GapNodes.{replay_at}
 use Rattle.cert_check.proofs.FirstFaults.{one_outcome}

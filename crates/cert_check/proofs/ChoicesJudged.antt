@@ -1,10 +1,9 @@
 -- What the nodes of a cover tree are judged by.
-use Rattle.std.proofs.Common.{◌≡◌, ◌≢◌, ◌↔◌, ◌<◌, ℕ, Bool, true, false, List, [], ◌∷◌, Option, Some, None, length, map, Contains, slice_get, refl, sym, ap, ◌∙◌, subst, inl, inr, arith}
+use Rattle.std.proofs.Common.{◌≡◌, ◌≢◌, ◌↔◌, ℕ, true, false, List, [], ◌∷◌, Option, Some, None, length, Contains, slice_get, refl, sym, ap, ◌∙◌, subst, inl, inr}
 use Rattle.std.specs.List.{AllPairs}
 use Rattle.std.specs.Option.{option_map, is_some}
 use Rattle.std.proofs.lemmas.Option.{same_Some, slice_get-map}
 use Rattle.tso_program.specs.declared.listing.Listing.{Listing}
-use Rattle.tso_program.specs.declared.outcome.Outcome.{Outcome}
 use Rattle.tso_machine.specs.declared.ended.Ended.{Ended}
 use Rattle.tso_machine.specs.Machine as machine
 use Rattle.candidate_executions.specs.declared.event.Event.{Event}

@@ -1,5 +1,5 @@
 -- What a node of a cover tree says, and what its children are judged for.
-use Rattle.std.proofs.Common.{◌≡◌, ℕ, zero, suc, List, [], ◌∷◌, length, map, All, Contains, refl, sym, ap, ◌∙◌, subst, arith}
+use Rattle.std.proofs.Common.{◌≡◌, ℕ, zero, suc, List, [], ◌∷◌, length, map, All, Contains, sym, ap, ◌∙◌, subst, arith}
 use Rattle.std.proofs.lemmas.List.{length-map}
 use Rattle.std.proofs.lemmas.List.Elements.{All-map, All-contains_itself, All-weaker}
 use Rattle.tso_program.specs.declared.outcome.Outcome.{Outcome}
@@ -9,7 +9,7 @@ use Rattle.exec_axioms.specs.Parts.{Parts, mode_in, sketch_of}
 use Rattle.cert_forest.specs.declared.tree.AccessId.{AccessId}
 use Rattle.cert_forest.specs.Trees.{Cover, Value, Source, Order, covers_of}
 use Rattle.cert_forest.proofs.TreeTexts.{covers_count}
-use Rattle.tree_laws.specs.CoverTrees.{event_of, HasNextValues, HasSources, HasNoOrder, AreValidCovers}
+use Rattle.tree_laws.specs.CoverTrees.{event_of, HasNoOrder, AreValidCovers}
 use Rattle.cert_check.specs.declared.choice.Choice.{Choice}
 use Rattle.cert_check.specs.declared.choice.Choice.TheVariants as choice
 use Rattle.cert_check.specs.CoverDefects.{FirstWrongChild}

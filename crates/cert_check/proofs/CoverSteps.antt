@@ -1,7 +1,7 @@
 -- The children of a node, judged in order: what is left to be judged decides.
-use Rattle.std.proofs.Common.{◌≡◌, ℕ, zero, suc, ◌+◌, ◌<◌, List, [], ◌∷◌, length, map, drop, get_or, refl, sym, ap, ◌∙◌, subst, arith}
+use Rattle.std.proofs.Common.{◌≡◌, ℕ, suc, ◌+◌, ◌<◌, List, [], ◌∷◌, length, map, drop, get_or, sym, ap, ◌∙◌, subst, arith}
 use Rattle.tso_program.specs.declared.outcome.Outcome.{Outcome}
-use Rattle.exec_axioms.specs.Parts.{Parts, mode_in, sketch_of}
+use Rattle.exec_axioms.specs.Parts.{Parts, sketch_of}
 use Rattle.cert_forest.specs.declared.tree.CoverTree.{CoverTree}
 use Rattle.cert_forest.specs.Views.{cover}
 use Rattle.cert_forest.specs.Trees.{Cover}

@@ -1,6 +1,5 @@
 -- What a split says, and the gaps by which it splits a region.
-use Rattle.std.proofs.Common.{◌≡◌, ◌↔◌, ℕ, zero, suc, true, false, List, [], ◌∷◌, Some, None, length, Contains, slice_get, refl, sym, ap, ◌∙◌, subst, arith}
-use Rattle.std.specs.List.{AllZip}
+use Rattle.std.proofs.Common.{◌≡◌, ◌↔◌, ℕ, zero, suc, true, false, List, [], ◌∷◌, Some, None, length, Contains, slice_get, refl, sym, ap, ◌∙◌, subst}
 use Rattle.std.specs.List.Sorted.{IsStrictlyIncreasing}
 use Rattle.std.specs.FinSet as set
 use Rattle.std.proofs.lemmas.Option.{same_Some}
@@ -12,10 +11,9 @@ use Rattle.tso_machine.specs.declared.label.Model.TheVariants as models
 use Rattle.tso_machine.specs.declared.ended.Ended.{Ended}
 use Rattle.cert_forest.specs.Trees.{Gap, Split, Bound, gaps_of}
 use Rattle.cert_forest.proofs.TreeTexts.{gaps_count}
-use Rattle.tree_laws.specs.GapTrees.{PassesGap, IsOpenGap, IsSplitBy, children_of}
+use Rattle.tree_laws.specs.GapTrees.{PassesGap, IsSplitBy}
 use Rattle.tree_laws.proofs.OneList.{one_list_of_gaps}
 use Rattle.cert_check.specs.declared.gap.Region.{Region}
-use Rattle.cert_check.specs.declared.fault.TreeFault.{TreeFault}
 use Rattle.cert_check.specs.Regions.{node_of, HasNoSplit, IsValidIn, IsWrongIn, AreValidIn, IsWrongChildIn}
 use Rattle.cert_check.specs.Replays.{IsReplayOf, AreBufferedReplays}
 use Rattle.cert_check.specs.Judged.{IsAtRoot, IsBelow}

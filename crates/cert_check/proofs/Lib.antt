@@ -12,7 +12,7 @@ pub mod GapNodes
 pub mod GapSteps
 -- runs
 pub mod Found
-pub mod OutcomesEqual
+pub mod OutcomesOrdered
 pub mod Replayed
 -- certificates
 pub mod SetAndCost

@@ -1,11 +1,9 @@
 -- What is chosen for a child of a cover tree's node.
 use Rattle.std.specs.Prelude.{◌≡◌, ℕ, List, Some, All, length}
-use Rattle.candidate_executions.specs.declared.event.Event.{Event}
 use Rattle.candidate_executions.specs.Values.{IsValueOf}
 use Rattle.candidate_executions.specs.Sketches as sketches
 use Rattle.exec_axioms.specs.Parts as parts
 use Rattle.exec_axioms.specs.Choices.{MayRead, MayFollow}
-use Rattle.tree_laws.specs.CoverTrees.{HasNextValues, HasSources}
 use Rattle.cert_check.specs.declared.choice.Choice.{Choice}
 use Rattle.cert_check.specs.declared.choice.Choice.TheVariants.{Value, Source, Order}
 

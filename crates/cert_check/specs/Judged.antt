@@ -1,21 +1,16 @@
 -- What the functions that judge trees answer.
 use Rattle.std.specs.Prelude.{◌≡◌, ℕ, List, [], ◌∷◌, map, length}
-use Rattle.gap_sets.specs.Gaps.{SetOfGaps}
-use Rattle.tso_program.specs.declared.listing.Listing.{Listing}
 use Rattle.tso_program.specs.declared.outcome.Outcome.{Outcome}
-use Rattle.tso_machine.specs.declared.label.Label.{Label}
 use Rattle.candidate_executions.specs.declared.event.Event.{Event}
 use Rattle.candidate_executions.specs.Sketches as sketches
 use Rattle.exec_axioms.specs.Parts.{Parts, mode_in, sketch_of}
-use Rattle.cert_forest.specs.Trees.{Cover, Gap, covers_of, gaps_of}
+use Rattle.cert_forest.specs.Trees.{Cover, covers_of}
 use Rattle.tree_laws.specs.CoverTrees.{HasNextValues, HasSources, IsValidCover, AreValidCovers}
-use Rattle.tree_laws.specs.GapTrees.{Node, IsSplitBy, IsValidGap, AreValidGaps, children_of}
 use Rattle.cert_check.specs.declared.choice.Choice.{Choice}
 use Rattle.cert_check.specs.declared.choice.Choice.TheVariants.{Value, Source}
 use Rattle.cert_check.specs.declared.fault.TreeFault.{TreeFault}
 use Rattle.cert_check.specs.declared.fault.TreeFault.TheVariants.{Wrong, OutOfMemory}
 use Rattle.cert_check.specs.CoverDefects as covers
-use Rattle.cert_check.specs.GapDefects as gaps
 use Rattle.cert_check.specs.Choices.{after}
 
 -- the path of the fault has the property; want of memory says nothing

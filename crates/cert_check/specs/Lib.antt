@@ -6,5 +6,6 @@ pub mod Faults
 pub mod Laws
 pub mod Choices
 pub mod Judged
+pub mod Ordered
 pub mod Replays
 pub mod Regions

@@ -162,7 +162,8 @@ fn foreign_runs(
         Err(RunsFault::NoRun(number)) => return Err(CheckFault::Run(number)),
         Err(RunsFault::OutOfMemory) => return Err(CheckFault::OutOfMemory),
     };
-    match first_listed(&runs, listed) {
+    let known = first_listed(alloc, &runs, listed)?;
+    match known {
         Some(number) => Err(CheckFault::NotForeign(number)),
         None => Ok(runs),
     }

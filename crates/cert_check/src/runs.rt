@@ -3,12 +3,17 @@ ghost use Rattle.std.specs.Prelude.{◌≡◌, ◌↔◌, IsTrue, IfOk, IfErr, M
 ghost use Rattle.std.specs.Option.{option_copied};
 ghost use Rattle.tso_machine.specs.declared.ended.ReplayFault.TheVariants as replays;
 ghost use Rattle.cert_forest.specs.Certificates.{labels_of};
+ghost use Rattle.std.specs.BTreeSet.{contains};
+ghost use Rattle.std.specs.Borrow.{Bor};
+ghost use Rattle.tso_program.specs.declared.outcome.Outcome.{Outcome};
 ghost use Rattle.cert_check.specs.Faults.{IsRunOf, IsFirstWithout};
+ghost use Rattle.cert_check.specs.Ordered.{borrowed_cmp};
 ghost use Rattle.cert_check.specs.Replays.{machine_of, IsReplayOf, AreReplaysOf, outcomes_of, IsOutside, IsNoRun, RunsFaultIs};
 
 use crate::fault::RunsFault;
 use gap_sets::GapSet;
-use std::alloc::Global;
+use std::alloc::{AllocError, Global};
+use std::collections::BTreeSet;
 use tso_machine::{Ended, Label, Model, ReplayFault, replay};
 use tso_program::{Outcome, Program};
 
@@ -65,31 +70,32 @@ pub(crate) fn replay_of(ended: &[Ended], number: u64) -> Option<&Ended>
 }
 
 /// The first replay whose outcome is one of the list's.
-pub(crate) fn first_listed(ended: &[Ended], list: &[Ended]) -> Option<usize>
-    ensures { MatchOption result (All (IsOutside (outcomes_of list.now)) ended.now) (IsFirstWithout (IsOutside (outcomes_of list.now)) ended.now) }
+pub(crate) fn first_listed(
+    alloc: Global,
+    ended: &[Ended],
+    list: &[Ended],
+) -> Result<Option<usize>, AllocError>
+    ensures { IfOk result (λ first. MatchOption first (All (IsOutside (outcomes_of list.now)) ended.now) (IsFirstWithout (IsOutside (outcomes_of list.now)) ended.now)) }
 {
+    let listed = outcomes_in_order(alloc, list)?;
     for (number, end) in ended.iter().enumerate() {
-        if is_listed(&end.outcome, list) {
-            return Some(number);
+        if listed.contains(&&end.outcome) {
+            return Ok(Some(number));
         }
     }
-    None
+    Ok(None)
 }
 
-/// Whether some replay of the list has the outcome.
-fn is_listed(outcome: &Outcome, list: &[Ended]) -> bool
-    ensures { IsTrue result ↔ Contains (outcomes_of list.now) outcome.now }
+/// The outcomes of replays, to look one up.
+fn outcomes_in_order<'a>(
+    alloc: Global,
+    list: &'a [Ended],
+) -> Result<BTreeSet<&'a Outcome>, AllocError>
+    ensures { IfOk result (λ set. (o : Bor Outcome) → IsTrue (contains borrowed_cmp set o) ↔ Contains (outcomes_of list.now) o.now) }
 {
+    let mut outcomes = BTreeSet::new(alloc);
     for end in list {
-        if is_equal(&end.outcome, outcome) {
-            return true;
-        }
+        outcomes.insert(&end.outcome)?;
     }
-    false
-}
-
-fn is_equal(a: &Outcome, b: &Outcome) -> bool
-    ensures { IsTrue result ↔ (a.now ≡ b.now) }
-{
-    a == b
+    Ok(outcomes)
 }

@@ -1,5 +1,6 @@
 -- What the texts of a program, a certificate and costs are told.
 use Rattle.std.specs.Prelude.{◌≡◌, ℕ, List, Option, Some, None, replicate}
+use Rattle.gap_sets.specs.Gaps.{SetOfGaps}
 use Rattle.gap_sets.specs.Order.{total}
 use Rattle.tso_program.specs.declared.listing.Listing.{Listing}
 use Rattle.tso_program.specs.Listings.{gap_count}
@@ -17,7 +18,6 @@ use Rattle.cost_text.specs.declared.fault.CostTextFault.{CostTextFault}
 use Rattle.cost_text.specs.declared.fault.CostTextFault.TheVariants as cost_fault
 use Rattle.cost_text.specs.CostTexts as cost_texts
 use Rattle.tree_laws.specs.Certificates.{IsValidCertificate}
-use Rattle.cert_check.specs.declared.fault.CheckFault.{CheckFault}
 use Rattle.cert_check.specs.Claims.{claim_of}
 use Rattle.cert_check.specs.Faults.{FaultIs}
 use Rattle.report.specs.Faults.{litmus_line, costs_line}
@@ -36,17 +36,24 @@ pub record Spell (litmus certificate : List ℕ) (program : Litmus Listing) (cla
   pub of_program : litmus_texts.IsLitmus litmus program
   pub of_certificate : IsCertificate certificate (certificates.certificate claimed)
 
--- The line accepts: the texts are those of a program, of a certificate and of costs, the certificate is valid for them, the
--- headline holds of its set, and the line tells the set and its cost.
-pub record IsAccepted (litmus certificate : List ℕ) (costs : Option (List ℕ)) (line : List ℕ) : Type 0 where
+-- What a line tells that is relied on: the litmus text stands for this program, its gaps have these costs, the headline holds of
+-- these gaps, and the line is made of them and of their total.
+pub record Tells (litmus : List ℕ) (costs : Option (List ℕ)) (line : List ℕ) : Type 0 where
   pub program : Litmus Listing
-  pub claimed : Certificate
-  pub spelled : Spell litmus certificate program claimed
+  pub of_text : litmus_texts.IsLitmus litmus program
   pub gap_costs : List ℕ
   pub given : AreCosts program.program costs gap_costs
-  pub valid : IsValidCertificate program.program gap_costs (claim_of claimed)
-  pub headline : Headline program.program gap_costs claimed.set
-  pub printed : line ≡ accepted_line program.program claimed.set (total gap_costs claimed.set)
+  pub gaps : SetOfGaps
+  pub headline : Headline program.program gap_costs gaps
+  pub printed : line ≡ accepted_line program.program gaps (total gap_costs gaps)
+
+-- The line accepts: it tells that, and the certificate's text is that of a certificate which claims these gaps and is valid.
+pub record IsAccepted (litmus certificate : List ℕ) (costs : Option (List ℕ)) (line : List ℕ) : Type 0 where
+  pub told : Tells litmus costs line
+  pub claimed : Certificate
+  pub of_certificate : IsCertificate certificate (certificates.certificate claimed)
+  pub claims : claimed.set ≡ told.gaps
+  pub valid : IsValidCertificate told.program.program told.gap_costs (claim_of claimed)
 
 -- why bytes are no litmus text: what the fault says of them, and that they are none, want of memory aside
 pub record IsNoLitmus (text : List ℕ) (fault : ReadFault) : Type 0 where

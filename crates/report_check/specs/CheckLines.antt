@@ -1,19 +1,9 @@
 -- The printed lines of the checker's faults, byte for byte.
-use Rattle.std.specs.Prelude.{ℕ, List, [], ◌∷◌, ◌++◌, codes}
-use Rattle.std.specs.List.{flat_map}
-use Rattle.std.specs.Fmt.{decimal}
+use Rattle.std.specs.Prelude.{ℕ, List, ◌∷◌, ◌++◌, codes}
+use Rattle.cert_check.specs.Paths.{path_text}
 use Rattle.cert_check.specs.declared.fault.CheckFault.{CheckFault}
 use Rattle.cert_check.specs.declared.fault.CheckFault.TheVariants as check
 use Rattle.report.specs.Faults.{refused, refused_at}
-
--- a step to a child, by the child's number
-abbrev pub child_text : ℕ → List ℕ
-child_text number = 47 ∷ decimal number
-
--- the path to a node: the numbers of the children from the root on, each after `/`; the root is `/`
-abbrev pub path_text : List ℕ → List ℕ
-path_text [] = codes "/"
-path_text (child ∷ children) = flat_map child_text (child ∷ children)
 
 -- the line of a refusal with the path to a node
 abbrev pub refused_node : List ℕ → List ℕ → List ℕ

@@ -1,8 +1,7 @@
 //! The lines of why the checker refuses a certificate.
 
-ghost use Rattle.std.specs.Prelude.{◌≡◌, ◌++◌, IfOk, OnOk, string_bytes};
-ghost use Rattle.std.specs.List.{flat_map};
-ghost use Rattle.report_check.specs.CheckLines.{check_line, child_text, path_text, refused_node};
+ghost use Rattle.std.specs.Prelude.{◌≡◌, IfOk};
+ghost use Rattle.report_check.specs.CheckLines.{check_line, refused_node};
 
 use cert_check::{CheckFault, Path};
 use report::refused_at;
@@ -29,27 +28,5 @@ pub fn check_line(alloc: Global, fault: &CheckFault) -> Result<Vec<u8>, AllocErr
 fn refused_node(alloc: Global, what: &str, path: &Path) -> Result<Vec<u8>, AllocError>
     ensures { IfOk result (λ line. line.items ≡ refused_node what.now path.now) }
 {
-    let mut line = format!(in alloc; "refused {what} ")?;
-    push_path(&mut line, path.as_slice())?;
-    line.push('\n')?;
-    Ok(line.into_bytes())
-}
-
-/// Puts a path at the end of a line.
-fn push_path(line: &mut String, children: &[usize]) -> Result<(), AllocError>
-    ensures { OnOk result (string_bytes line.new ≡ string_bytes line.old ++ path_text children.now) }
-{
-    if children.is_empty() {
-        return line.push('/');
-    }
-    push_children(line, children)
-}
-
-fn push_children(line: &mut String, children: &[usize]) -> Result<(), AllocError>
-    ensures { OnOk result (string_bytes line.new ≡ string_bytes line.old ++ flat_map child_text children.now) }
-{
-    for child in children {
-        write!(line, "/{child}")?;
-    }
-    Ok(())
+    Ok(format!(in alloc; "refused {what} {path}\n")?.into_bytes())
 }

@@ -7,9 +7,9 @@ returns-in-Some-clause-fault c costs has =
     let replays = rw c.deref.ensures.value at c.in-Ok.ensures.replays in (
       outcomes_of c.args.listed.now,
       record { complete = has; runs = each_is_run c.args.program.now _ c.in-Ok.runs.items replays },
-      first_not_foreign c.args.program.now (outcomes_of c.args.listed.now) _ c.in-Ok.runs.items c.in-Some.number replays (rw c.deref-2.ensures.value at c.in-Some.ensures),
+      first_not_foreign c.args.program.now (outcomes_of c.args.listed.now) _ c.in-Ok.runs.items c.in-Some.number replays (rw c.deref-2.ensures.value at (rw c.in-Some.is at c.in_ok-known.ensures)),
     )
 
 pub returns-in-None-clause-foreign : goal.returns-in-None-clause-foreign
 returns-in-None-clause-foreign c =
-    each_outside c.args.program.now (outcomes_of c.args.listed.now) _ c.in-Ok.runs.items (rw c.deref.ensures.value at c.in-Ok.ensures.replays) (rw c.deref-2.ensures.value at c.in-None.ensures)
+    each_outside c.args.program.now (outcomes_of c.args.listed.now) _ c.in-Ok.runs.items (rw c.deref.ensures.value at c.in-Ok.ensures.replays) (rw c.deref-2.ensures.value at (rw c.in-None.is at c.in_ok-known.ensures))

@@ -1,7 +1,5 @@
-use Rattle.std.proofs.Common.{◌≡◌, Some, true, false, sym, ap, ◌∙◌, subst, length, map, arith}
-use Rattle.std.specs.Option.{is_some}
+use Rattle.std.proofs.Common.{sym, ap, ◌∙◌, map, arith}
 use Rattle.exec_axioms.specs.Parts.{mode_in, sketch_of}
-use Rattle.exec_axioms.specs.Choices.{HasSource}
 use Rattle.tree_laws.specs.CoverTrees.{HasSources}
 use Rattle.tree_laws.proofs.Lists.{value_of}
 use Rattle.cert_check.specs.declared.choice.Choice.TheVariants as choice

@@ -1,4 +1,4 @@
-use Rattle.std.proofs.Common.{◌≡◌, ◌∙◌, ◌+◌, ℕ, List, All, map, drop, get_or, length, sym, ap, subst, rules, arith}
+use Rattle.std.proofs.Common.{◌≡◌, map, get_or, length, sym, subst, rules, arith}
 use Rattle.std.specs.Prelude.{IfErr, OnOk}
 use Rattle.std.specs.Box.{box_value}
 use Rattle.std.proofs.lemmas.List.{length-map}
@@ -6,14 +6,13 @@ use Rattle.cert_forest.specs.declared.tree.CoverTree.TheViews.{the_lemmas}
 use Rattle.cert_forest.specs.declared.tree.CoverTree.TheFolds.{fold-roll-CoverTree, fold_out-CoverTree}
 use Rattle.cert_forest.specs.Views.{cover, cover_node}
 use Rattle.cert_forest.specs.Trees.{Cover, Value, Source, Order, covers_of}
-use Rattle.exec_axioms.specs.Parts.{Parts, mode_in, sketch_of}
+use Rattle.exec_axioms.specs.Parts.{mode_in, sketch_of}
 use Rattle.tree_laws.specs.CoverTrees.{event_of, IsValidCover, HasNoOrder}
 use Rattle.candidate_executions.specs.declared.event.Event.{Event}
 use Rattle.exec_axioms.proofs.Lookups.{same_default}
-use Rattle.cert_check.specs.declared.fault.TreeFault.{TreeFault}
 use Rattle.cert_check.specs.declared.choice.Choice.TheVariants as choice
 use Rattle.cert_check.specs.CoverDefects.{FirstWrongCover}
-use Rattle.cert_check.specs.Choices.{after, parts_after, MayChoose}
+use Rattle.cert_check.specs.Choices.{after}
 use Rattle.cert_check.specs.Replays.{outcomes_of}
 use Rattle.cert_check.specs.Judged.{IfWrong, IsAtRoot, IsBelow, IsValidAfter, IsWrongAt, AreValidAfter, IsWrongChild, AreValueChoices, HasNoValues, AreSourceChoices, HasNoSources}
 use Rattle.cert_check.proofs.Answered.{err_up, if_err, on_ok}

@@ -1,4 +1,4 @@
-use Rattle.std.proofs.Common.{◌≡◌, sym, subst}
+use Rattle.std.proofs.Common.{sym, subst}
 use Rattle.std.specs.Prelude.{OnOk, IfErr}
 use Rattle.cert_forest.specs.Views.{cover}
 use Rattle.exec_axioms.specs.Parts.{sketch_of, machine_mode}

@@ -1,4 +1,4 @@
-use Rattle.std.proofs.Common.{◌≡◌, ◌∙◌, ◌+◌, ℕ, List, map, drop, get_or, length, sym, ap, subst, rules, arith, drop-cons}
+use Rattle.std.proofs.Common.{◌≡◌, ◌∙◌, map, length, sym, subst, rules, arith}
 use Rattle.std.specs.Prelude.{IfErr}
 use Rattle.std.proofs.lemmas.List.{length-map}
 use Rattle.cert_forest.specs.declared.tree.GapTree.TheViews.{the_lemmas}

@@ -1,4 +1,4 @@
-use Rattle.std.proofs.Common.{ℕ, List, map, drop}
+use Rattle.std.proofs.Common.{List, map, drop}
 use Rattle.tso_program.specs.declared.listing.Listing.{Listing}
 use Rattle.tso_machine.specs.declared.label.Label.{Label}
 use Rattle.cert_forest.specs.Views.{gap}

@@ -1,5 +1,4 @@
-use Rattle.std.proofs.Common.{◌≡◌, true, false, sym, ◌∙◌, length, arith}
-use Rattle.std.specs.FinSet as set
+use Rattle.std.proofs.Common.{◌≡◌, true, false, sym, ◌∙◌, arith}
 use Rattle.cert_check.specs.Regions.{HasNoSplit}
 use Rattle.cert_check.proofs.ChoicesJudged.{here}
 use Rattle.cert_check.proofs.GapNodes.{not_there, must_pass, splits, not_as_many}

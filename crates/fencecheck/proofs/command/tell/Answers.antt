@@ -1,4 +1,4 @@
-use Rattle.std.proofs.Common.{Ok, List, ℕ}
+use Rattle.std.proofs.Common.{Ok}
 use Rattle.std.specs.Prelude.{option_map}
 use Rattle.std.specs.declared.alloc.AllocError.{AllocError}
 use Rattle.program_streams.proofs.Printed.{prints_made, prints_line}

@@ -1,3 +1,4 @@
+use Rattle.std.proofs.Common.{refl}
 use Rattle.fencecheck.proofs.judge.judge.Goals as goal
 
 pub returns-in-Err-costs_of-clause-refused : goal.returns-in-Err-costs_of-clause-refused
@@ -6,14 +7,19 @@ returns-in-Err-costs_of-clause-refused c =
 
 pub returns-in-Ok-checked_line-clause-accepted : goal.returns-in-Ok-checked_line-clause-accepted
 returns-in-Ok-checked_line-clause-accepted c = record {
-  program = c.in-Ok.litmus;
+  told = record {
+    program = c.in-Ok.litmus;
+    of_text = c.in-Ok.ensures.found;
+    gap_costs = c.in-Ok-costs_of.costs;
+    given = c.in-Ok-costs_of.ensures.costs;
+    gaps = c.in-Ok-read_cert.certificate.set;
+    headline = c.in-Ok-checked_line.ensures.headline;
+    printed = c.in-Ok-checked_line.ensures.line;
+  };
   claimed = c.in-Ok-read_cert.certificate;
-  spelled = record { of_program = c.in-Ok.ensures.found; of_certificate = c.in-Ok-read_cert.ensures.found };
-  gap_costs = c.in-Ok-costs_of.costs;
-  given = c.in-Ok-costs_of.ensures.costs;
+  of_certificate = c.in-Ok-read_cert.ensures.found;
+  claims = refl;
   valid = c.in-Ok-checked_line.ensures.valid;
-  headline = c.in-Ok-checked_line.ensures.headline;
-  printed = c.in-Ok-checked_line.ensures.line;
 }
 
 pub returns-clause-refused : goal.returns-clause-refused
