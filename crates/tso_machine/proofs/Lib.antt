@@ -2,6 +2,7 @@ pub mod Link
 pub mod Effects
 pub mod Runs
 pub mod Refused
+pub mod OneFault
 pub mod Avoided
 pub mod RunLabels
 pub mod RunsRead

@@ -108,7 +108,7 @@ run_stops p mode (x ∷ xs) (suc n) s before label r g e = go (step p mode s x) 
     go (Some z) q rest = rest z q
 
 -- a step to which a cause applies is not possible
-applies_none : (p : Listing) (mode : Mode) (labels : List Label) (s : State) (cause : Cause) (label : Label) → run p mode (start p) labels ≡ Some s → Applies p mode s cause label → step p mode s label ≡ None
+pub applies_none : (p : Listing) (mode : Mode) (labels : List Label) (s : State) (cause : Cause) (label : Label) → run p mode (start p) labels ≡ Some s → Applies p mode s cause label → step p mode s label ≡ None
 applies_none p mode labels s NoSuchThread (Exec t) r a = stop_none p mode s t (no_action p t (s.locals t) a)
 applies_none p Sequential labels s NoSuchThread (Flush t) r a = refl
 applies_none p (Fenced gaps) labels s NoSuchThread (Flush t) r a = flush_none p (Fenced gaps) s t (run_keeps p t a gaps labels (start p) s refl r)
@@ -120,7 +120,7 @@ applies_none p Sequential labels s FenceWaits (Exec t) r a = absurd (a.0 (ap (λ
 applies_none p (Fenced gaps) labels s FenceWaits (Exec t) r a = held_none s t (gaps t (s.locals t).place) (action p.threads t (s.locals t)) a.0 a.1
 applies_none p mode labels s FenceWaits (Flush t) r a = absurd a
 
-stops_none : (p : Listing) (mode : Mode) (labels : List Label) (n : ℕ) (cause : Cause) → Stops p mode labels n cause → run p mode (start p) labels ≡ None
+pub stops_none : (p : Listing) (mode : Mode) (labels : List Label) (n : ℕ) (cause : Cause) → Stops p mode labels n cause → run p mode (start p) labels ≡ None
 stops_none p mode labels n cause s =
     run_stops p mode labels n (start p) s.before s.label s.reached s.there (applies_none p mode (take n labels) s.before cause s.label s.reached s.why)
 

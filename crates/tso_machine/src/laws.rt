@@ -1,10 +1,17 @@
 //! The laws of the machines: each function's contract is a theorem, and calling it does nothing.
-ghost use Rattle.tso_machine.specs.Laws.{RunsHaveNoFault, FencesAreAvoided};
+ghost use Rattle.tso_machine.specs.Laws.{RunsHaveNoFault, CausesStopSteps, TheFirstFaultIsUnique, FencesAreAvoided};
 ghost use Rattle.tso_machine.specs.Examples.{StoreBufferingIsTold, RIsTold, N6IsTold, LockedExchangeIsTold};
 
 /// Labels that are a run have no fault but want of memory.
 pub fn runs_have_no_fault()
     ensures { RunsHaveNoFault }
+{}
+
+/// A replay's fault is of its first step that isn't possible: a cause that applies makes its step impossible,
+/// and two faults that both fit a replay are the same, want of memory aside.
+pub fn the_first_fault_is_unique()
+    ensures stops { CausesStopSteps }
+    ensures unique { TheFirstFaultIsUnique }
 {}
 
 /// A run with no gap fenced is a run with other gaps fenced exactly where it passes none of those.
