@@ -1,5 +1,5 @@
 -- Labels and the words that spell them.
-use Rattle.std.proofs.Common.{sym, ◌∙◌, subst, ◌==◌, inl, inr, ◌⊎◌, take, Option, Some, None, ◌+◌, ◌≡◌, ℕ, zero, suc, ◌<◌, Bool, true, false, List, [], ◌∷◌, ◌++◌, length, get_or, map, refl, ap, arith, cond}
+use Rattle.std.proofs.Common.{sym, ◌∙◌, subst, ◌==◌, inl, inr, ◌⊎◌, take, drop, ◌≢◌, Option, Some, None, ◌+◌, ◌≡◌, ℕ, zero, suc, ◌<◌, Bool, true, false, List, [], ◌∷◌, ◌++◌, length, get_or, map, refl, ap, arith, cond}
 use Rattle.std.specs.Prelude.{filter, nat_lt, option_map}
 use Rattle.std.proofs.lemmas.List.{map_more, map_push}
 use Rattle.std.proofs.lemmas.List.Elements.{filter-append}
@@ -12,7 +12,7 @@ use Rattle.tso_machine.specs.declared.label.Label.TheVariants.{Exec, Flush}
 use Rattle.tso_machine.specs.RunTexts.{label_at}
 use Rattle.text_tokens.specs.Numbers.{plain_number_at}
 use Rattle.text_tokens.proofs.NumberLaws.{plain_number_takes, plain_number_again}
-use Rattle.tso_machine.specs.RunTexts.{spelling, IsLabel}
+use Rattle.tso_machine.specs.RunTexts.{spelling, IsLabel, words, IsFirstNoLabel}
 
 same_label : (l m : Label) → IsLabel l → IsLabel m → spelling l ≡ spelling m → l ≡ m
 same_label (Exec t) (Exec u) a b e = let same : t ≡ u = decimal_injective t u (omega (arith, a)) (omega (arith, b)) (cc) in cc
@@ -104,3 +104,33 @@ one_more ls l ps i d lt some is so_far =
     let yes : word_of (get_or ps i d).now ≡ true = lt-ltb 0 (length (get_or ps i d).now) some in
     let same = label_takes (get_or ps i d).now l is in
     rw (map_push spelling ls l, map_more (λ (p : Bor (List ℕ)). p.now) ps i d lt, filter-append word_of (map (λ (p : Bor (List ℕ)). p.now) (take i ps)) ((get_or ps i d).now ∷ []), so_far, yes, same.0) refl
+
+-- the words of some parts, at a part that is a word
+words_at : (ps : List (Bor (List ℕ))) (i : ℕ) (d : Bor (List ℕ)) → i < length ps → 0 < length (get_or ps i d).now
+    → filter word_of (map (λ p. p.now) ps) ≡ filter word_of (map (λ p. p.now) (take i ps)) ++ (get_or ps i d).now ∷ filter word_of (map (λ p. p.now) (drop (suc i) ps))
+words_at [] i d lt some = absurd (omega arith)
+words_at (p ∷ ps) zero d lt some =
+    let yes : word_of p.now ≡ true = lt-ltb 0 (length p.now) some in
+    rw yes refl
+words_at (p ∷ ps) (suc i) d lt some =
+    elim (cases_Bool (word_of p.now)) [
+      | inl w ↦ rw w (ap (λ (ws : List (List ℕ)). p.now ∷ ws) (words_at ps i d (omega arith) some))
+      | inr w ↦ rw w (words_at ps i d (omega arith) some)
+    ]
+
+not_spelled : (word : List ℕ) → label_at word ≡ None → (l : Label) → IsLabel l → spelling l ≢ word
+not_spelled word none l fits e = let found : label_at word ≡ Some l = rw (← e) (label_again l fits) in cc
+
+-- the word at which no label is read, behind the words of the labels so far
+pub first_no_label : (text : List ℕ) (ls : List Label) (ps : List (Bor (List ℕ))) (i n : ℕ) (d : Bor (List ℕ)) → filter word_of (map (λ p. p.now) ps) ≡ words text
+    → map spelling ls ≡ filter word_of (map (λ p. p.now) (take i ps)) → AllByRecursion IsLabel ls → length ls ≡ n → i < length ps → 0 < length (get_or ps i d).now → label_at (get_or ps i d).now ≡ None
+    → IsFirstNoLabel text n
+first_no_label text ls ps i n d parts so_far fits count lt some none = record {
+  labels = ls;
+  count = count;
+  fits = fits;
+  word = (get_or ps i d).now;
+  others = filter word_of (map (λ (p : Bor (List ℕ)). p.now) (drop (suc i) ps));
+  text_words = sym parts ∙ words_at ps i d lt some ∙ ap (λ (ws : List (List ℕ)). ws ++ (get_or ps i d).now ∷ filter word_of (map (λ (p : Bor (List ℕ)). p.now) (drop (suc i) ps))) (sym so_far);
+  no_label = not_spelled (get_or ps i d).now none;
+}

@@ -1,7 +1,7 @@
 -- The text of a run.
-use Rattle.std.specs.Prelude.{◌≡◌, ◌==◌, ℕ, ◌<◌, List, [], ◌∷◌, map, filter, length, nat_lt, Option, Some, None, option_map, Result, Ok, Err, if◌then◌else◌}
+use Rattle.std.specs.Prelude.{◌≡◌, ◌≢◌, ◌==◌, ℕ, ◌<◌, List, [], ◌∷◌, ◌++◌, map, filter, length, nat_lt, Option, None, option_map, Result, Ok, Err, if◌then◌else◌}
 use Rattle.std.specs.Fmt.{decimal}
-use Rattle.std.specs.List.{slice_split, join_with_byte}
+use Rattle.std.specs.List.{AllByRecursion, slice_split, join_with_byte}
 use Rattle.std.specs.Global.{Vec}
 use Rattle.text_tokens.specs.Bytes.{is_blank}
 use Rattle.text_tokens.specs.Numbers.{plain_number_at}
@@ -37,6 +37,21 @@ abbrev pub Gives : Result (Vec Label) RunFault → List Label → Type 0
 Gives (Ok v) labels = v.items ≡ labels
 Gives (Err (Token index)) labels = ⊥
 Gives (Err OutOfMemory) labels = Unit {0}
+
+-- the text's words before the one with this index are labels', and that one is no label's
+pub record IsFirstNoLabel (text : List ℕ) (index : ℕ) : Type 0 where
+  pub labels : List Label
+  pub count : length labels ≡ index
+  pub fits : AllByRecursion IsLabel labels
+  pub word : List ℕ
+  pub others : List (List ℕ)
+  pub text_words : words text ≡ map spelling labels ++ word ∷ others
+  pub no_label : (label : Label) → IsLabel label → spelling label ≢ word
+
+-- what a fault says of the text; want of memory says nothing
+abbrev pub RunFaultIs : List ℕ → RunFault → Type 0
+RunFaultIs text (Token index) = IsFirstNoLabel text index
+RunFaultIs text OutOfMemory = Unit {0}
 
 -- the label that a word spells
 unfoldable pub label_at : List ℕ → Option Label

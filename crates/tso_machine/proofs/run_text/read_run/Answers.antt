@@ -3,12 +3,18 @@ use Rattle.std.specs.Prelude.{filter}
 use Rattle.std.proofs.lemmas.Grind.{common_steps}
 use Rattle.std.proofs.lemmas.List.Elements.{recursion_from_All, All-push}
 use Rattle.tso_machine.specs.RunTexts.{spelling, words, IsLabel}
-use Rattle.tso_machine.proofs.RunLabels.{word_of, no_label, same_labels, one_more, label_takes}
+use Rattle.tso_machine.proofs.RunLabels.{word_of, no_label, first_no_label, same_labels, one_more, label_takes}
 use Rattle.tso_machine.proofs.run_text.read_run.Goals as goal
 
 pub returns-in-None-clause-only : goal.returns-in-None-clause-only
 returns-in-None-clause-only c = λ labels fits text.
     no_label labels c.deref-part-items.result.now c.loop-part.part-index _ fits (ap (λ ps. filter word_of (map (λ p. p.now) ps)) c.deref-part-items.ensures.value ∙ ap (filter word_of) c.in_ok-parts.ensures ∙ text) c.loop-part-test.true (grind arith) (sym c.in-None.ensures)
+
+pub returns-in-None-clause-fault : goal.returns-in-None-clause-fault
+returns-in-None-clause-fault c =
+    first_no_label c.args.bytes.now c.loop-part.labels.items c.deref-part-items.result.now c.loop-part.part-index c.len.result _
+    (ap (λ ps. filter word_of (map (λ p. p.now) ps)) c.deref-part-items.ensures.value ∙ ap (filter word_of) c.in_ok-parts.ensures)
+    c.loop-part.invariant.spelled (recursion_from_All IsLabel c.loop-part.labels.items c.loop-part.invariant.labels) (grind arith) c.loop-part-test.true (grind arith) (sym c.in-None.ensures)
 
 pub loop-part-preserved : goal.loop-part-preserved
 loop-part-preserved c = record {
