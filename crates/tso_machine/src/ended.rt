@@ -12,6 +12,7 @@ use crate::state::State;
 use crate::{Cause, Label, Model};
 use gap_sets::GapSet;
 use std::alloc::Global;
+use thiserror::Error;
 use tso_program::{Outcome, Program};
 
 /// What a run leaves, and the gaps that it passes.
@@ -21,18 +22,32 @@ pub struct Ended {
     pub passed: GapSet,
 }
 
-/// Why labels aren't a run. All but the last have a step's index.
-#[derive(Clone, Copy, PartialEq, Eq, Debug)]
+/// Why labels aren't a run, by number and name. Steps are counted from 0.
+#[derive(Clone, Copy, PartialEq, Eq, Debug, Error)]
 pub enum ReplayFault {
+    /// The step with this index is of a thread that the program hasn't.
+    #[error("1 NoSuchThread {0}")]
     NoSuchThread(usize),
+    /// The step with this index executes an instruction of a thread that is at its end.
+    #[error("2 AtEnd {0}")]
     AtEnd(usize),
+    /// The step with this index flushes a thread that has no waiting store.
+    #[error("3 BufferEmpty {0}")]
     BufferEmpty(usize),
+    /// The step with this index executes an instruction that has to wait for an empty buffer.
+    #[error("4 FenceWaits {0}")]
     FenceWaits(usize),
+    /// Each of the steps, of which there are so many, is possible, but then a thread isn't at its end or
+    /// has a waiting store.
+    #[error("5 NotEnded {0}")]
     NotEnded(usize),
+    #[error("6 OutOfMemory")]
     OutOfMemory,
 }
 
-/// Replays labels on a program from its start.
+/// Replays labels on a program from its start. Where stores wait, the gaps of the set are fenced; those
+/// that the program hasn't are ignored. The sequential model has no use for the set, and no store waits
+/// there: the flush of a thread that the program has is refused as `BufferEmpty`.
 pub fn replay(
     alloc: Global,
     program: &Program,
