@@ -1,5 +1,5 @@
 -- The definitions at programs of the literature: store buffering, R and n6 (Sewell et al., CACM 2010, section 2), and store buffering with a locked exchange.
-use Rattle.std.specs.Prelude.{◌≡◌, ◌≢◌, ℕ, true, false, List, [], ◌∷◌, ◌⊎◌}
+use Rattle.std.specs.Prelude.{◌≡◌, ℕ, true, false, List, [], ◌∷◌}
 use Rattle.tso_program.specs.declared.instruction.Reg.TheVariants.{Eax, Ebx}
 use Rattle.tso_program.specs.declared.instruction.Instr.{Instr}
 use Rattle.tso_program.specs.declared.instruction.Instr.TheVariants.{LoadImm, Load, StoreImm, Xchg}
@@ -8,7 +8,7 @@ use Rattle.tso_program.specs.declared.listing.Listing.{Listing}
 use Rattle.tso_program.specs.declared.outcome.Outcome.{Outcome}
 use Rattle.tso_machine.specs.declared.label.Label.{Label}
 use Rattle.tso_machine.specs.declared.label.Label.TheVariants.{Exec, Flush}
-use Rattle.tso_machine.specs.Machine.{Mode, Sequential, Fenced, no_gaps, start, IsRun, passes}
+use Rattle.tso_machine.specs.Machine.{Sequential, Fenced, no_gaps, start, IsRun, passes}
 
 -- registers that hold 0 but for EAX and EBX
 abbrev pub with_eax_ebx : ℕ → ℕ → List ℕ

@@ -1,4 +1,4 @@
-use Rattle.std.proofs.Common.{◌≡◌, ◌∙◌, ap, length, arith}
+use Rattle.std.proofs.Common.{ap, length, arith}
 use Rattle.tso_machine.specs.Cores.{Cores, Fits}
 use Rattle.tso_machine.specs.Machine.{Sequential}
 use Rattle.tso_machine.proofs.Runs.{all_ended}
