@@ -1,5 +1,5 @@
 -- The first fault of the costs, where one more entry gives a gap what no gap may cost.
-use Rattle.std.proofs.Common.{◌≡◌, ◌≢◌, ◌==◌, ℕ, ◌<◌, ◌≤◌, Bool, true, false, List, [], ◌∷◌, ◌++◌, length, get_or, Some, None, Result, Ok, Err, refl, sym, ap, ◌∙◌, arith, inl, inr, nat_lt, nat_le, position}
+use Rattle.std.proofs.Common.{◌≡◌, ◌≢◌, ◌==◌, ℕ, ◌<◌, Bool, true, false, List, [], ◌∷◌, ◌++◌, length, get_or, Some, None, Result, Ok, Err, refl, sym, ap, ◌∙◌, arith, inl, inr, nat_lt, nat_le, position}
 use Rattle.std.specs.Prelude.{not}
 use Rattle.std.specs.List.{position_or_len}
 use Rattle.std.proofs.lemmas.Bool.{cases_Bool, cases_eq, lt-ltb}
@@ -7,30 +7,17 @@ use Rattle.std.proofs.lemmas.Bool.Decides.{nat_tests}
 use Rattle.std.proofs.lemmas.List.Sums.{prefix_len_is}
 use Rattle.gap_sets.specs.declared.costs.CostFault.{CostFault}
 use Rattle.gap_sets.specs.declared.costs.CostFault.TheVariants.{Zero, TooLarge}
-use Rattle.gap_sets.specs.CostLists.{IsCostList, first_free, first_too_large, first_cost_fault}
+use Rattle.gap_sets.specs.CostLists.{IsCostList, first_free, first_cost_fault}
+use Rattle.gap_sets.proofs.CostLimits.{none_found, not_free, not_too_large, not_too_many}
 use Rattle.cost_text.specs.CostTexts.{Entry, said_of, costs_of}
 use Rattle.cost_text.specs.TextReading.{cost_or_fault}
 use Rattle.cost_text.proofs.EntryLaws.{IsCost, cost_there, others_within, same_length, few_gaps}
-
-not_less : (n : ℕ) → nat_lt n n ≡ false
-not_less n = grind (arith, nat_tests)
 
 -- the first element that passes a test
 position_is : (p : ℕ → Bool) (xs : List ℕ) (i : ℕ) → i < length xs → p (get_or xs i 0) ≡ true → ((k : ℕ) → k < i → p (get_or xs k 0) ≡ false) → position p xs ≡ Some i
 position_is p xs i lt passes before =
     let n : position_or_len p xs ≡ i = prefix_len_is (λ x. not (p x)) xs i 0 (omega arith) (λ k h. ap not (before k h)) (λ h. ap not passes) in
     rw (n, lt-ltb i (length xs) lt) refl
-
-none_passes : (p : ℕ → Bool) (xs : List ℕ) → ((k : ℕ) → k < length xs → p (get_or xs k 0) ≡ false) → position p xs ≡ None
-none_passes p xs fail =
-    let n : position_or_len p xs ≡ length xs = prefix_len_is (λ x. not (p x)) xs (length xs) 0 (omega arith) (λ k h. ap not (fail k h)) (λ h. absurd (omega arith)) in
-    rw (n, not_less (length xs)) refl
-
-is_some_cost : (c : ℕ) → IsCost c → (c == 0) ≡ false
-is_some_cost c is = let low = is.0 in grind (arith, nat_tests)
-
-is_small : (c : ℕ) → IsCost c → nat_lt 1000000 c ≡ false
-is_small c is = let high = is.1 in grind (arith, nat_tests)
 
 zero_test : (c : ℕ) → c ≡ 0 → (c == 0) ≡ true
 zero_test c e = grind (arith, nat_tests)
@@ -40,16 +27,6 @@ some_test c h = grind (arith, nat_tests)
 
 large_test : (c : ℕ) → 1000000 < c → nat_lt 1000000 c ≡ true
 large_test c h = grind (arith, nat_tests)
-
-few_test : (n : ℕ) → n ≤ 64 → nat_lt 64 n ≡ false
-few_test n h = grind (arith, nat_tests)
-
--- a list within the limits has no fault
-pub no_fault : (costs : List ℕ) → IsCostList costs → first_cost_fault costs ≡ None
-no_fault costs within =
-    let free : first_free costs ≡ None = none_passes (λ c. c == 0) costs (λ k lt. is_some_cost (get_or costs k 0) (within.each k 0 lt)) in
-    let large : first_too_large costs ≡ None = none_passes (λ c. nat_lt 1000000 c) costs (λ k lt. is_small (get_or costs k 0) (within.each k 0 lt)) in
-    rw (few_test (length costs) within.few, free, large) refl
 
 -- what no gap may cost
 data IsNoCost (gap cost : ℕ) (why : CostFault) : Type 0 where
@@ -90,7 +67,7 @@ module _ (gaps : ℕ) (entries : List Entry) (e : Entry) (below : e.gap < gaps) 
   long = same_length gaps entries e below new within
 
   few : nat_lt 64 (length (costs_of gaps (entries ++ e ∷ []))) ≡ false
-  few = few_test _ (omega (arith, long, few_gaps gaps entries e below new within))
+  few = not_too_many _ (omega (arith, long, few_gaps gaps entries e below new within))
 
   -- the first gap of a test that its cost alone passes
   found : (p : ℕ → Bool) → p e.cost ≡ true → ((c : ℕ) → IsCost c → p c ≡ false) → position p (costs_of gaps (entries ++ e ∷ [])) ≡ Some e.gap
@@ -98,14 +75,14 @@ module _ (gaps : ℕ) (entries : List Entry) (e : Entry) (below : e.gap < gaps) 
 
   none_free : 0 < e.cost → first_free (costs_of gaps (entries ++ e ∷ [])) ≡ None
   none_free some =
-      none_passes (λ c. c == 0) (costs_of gaps (entries ++ e ∷ [])) (λ k lt. elim (cases_eq e.gap k) [
+      none_found (λ c. c == 0) (costs_of gaps (entries ++ e ∷ [])) (λ k lt. elim (cases_eq e.gap k) [
         | inl same ↦ ap (λ (i : ℕ). get_or (costs_of gaps (entries ++ e ∷ [])) i 0 == 0) (sym same) ∙ ap (λ (c : ℕ). c == 0) there ∙ some_test e.cost some
-        | inr other ↦ is_some_cost _ (elsewhere k (omega (arith, long)) other)
+        | inr other ↦ not_free _ (elsewhere k (omega (arith, long)) other)
       ])
 
   pub first_fault : (why : CostFault) → cost_or_fault e.gap e.cost ≡ Err why → first_cost_fault (costs_of gaps (entries ++ e ∷ [])) ≡ Some why
   first_fault why is = by_kind (no_cost e.gap e.cost why is)
     where
       by_kind : IsNoCost e.gap e.cost why → first_cost_fault (costs_of gaps (entries ++ e ∷ [])) ≡ Some why
-      by_kind (free zero_cost named) = rw (few, found (λ c. c == 0) (zero_test e.cost zero_cost) is_some_cost) (ap (λ (w : CostFault). Some w) (sym named))
-      by_kind (large over named) = rw (few, none_free (omega arith), found (λ c. nat_lt 1000000 c) (large_test e.cost over) is_small) (ap (λ (w : CostFault). Some w) (sym named))
+      by_kind (free zero_cost named) = rw (few, found (λ c. c == 0) (zero_test e.cost zero_cost) not_free) (ap (λ (w : CostFault). Some w) (sym named))
+      by_kind (large over named) = rw (few, none_free (omega arith), found (λ c. nat_lt 1000000 c) (large_test e.cost over) not_too_large) (ap (λ (w : CostFault). Some w) (sym named))

@@ -14,7 +14,7 @@ use Rattle.cost_text.specs.CostTexts.{Entry, IsEntry, Lists, none, blank, entry,
 use Rattle.cost_text.specs.TextReading.{table_of, IsTable, IsNewEntry, IsTableOf}
 use Rattle.cost_text.proofs.LineLaws.{said_once, blank_says_nothing}
 use Rattle.cost_text.proofs.EntryLaws.{IsCost, said_there, once_more, not_twice, table_more, length-table_of, costs_at, length-costs_of, no_costs, within_more, costs_from_table}
-use Rattle.cost_text.proofs.CostFaults.{no_fault}
+use Rattle.gap_sets.proofs.CostLimits.{no_fault-from_IsCostList}
 
 -- ---- one more line
 
@@ -167,7 +167,7 @@ no_cost threads entries all line why before within r (says e more is all_are) =
     let is_cost : IsCost e.cost = subst IsCost cost (in_all.each e.gap 0 long) in
     let with_it : IsCostList (costs_of gaps (entries ++ e ∷ [])) = within_more gaps entries e below new before is_cost.0 is_cost.1 in
     let refused : first_cost_fault (costs_of gaps (entries ++ e ∷ [])) ≡ Some why = ap (λ (x : Entry). first_cost_fault (costs_of gaps (entries ++ x ∷ []))) (sym same) ∙ r.refused in
-    faultless (first_cost_fault (costs_of gaps (entries ++ e ∷ []))) why (no_fault (costs_of gaps (entries ++ e ∷ [])) with_it) refused
+    faultless (first_cost_fault (costs_of gaps (entries ++ e ∷ []))) why (no_fault-from_IsCostList (costs_of gaps (entries ++ e ∷ [])) with_it) refused
   where
     faultless : (o : Option CostFault) (why : CostFault) → o ≡ None → o ≡ Some why → ⊥
     faultless o why is also = cc

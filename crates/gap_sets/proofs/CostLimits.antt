@@ -1,11 +1,12 @@
--- A list of costs without a fault is within the limits.
-use Rattle.std.proofs.Common.{◌≡◌, ℕ, ◌<◌, ◌≤◌, ◌==◌, Bool, true, false, cond, nat_lt, List, length, get_or, Option, None, Some, position, refl, arith}
+-- A list of costs without a fault is within the limits, and one within the limits has no fault.
+use Rattle.std.proofs.Common.{◌≡◌, ℕ, ◌<◌, ◌≤◌, ◌==◌, Bool, true, false, cond, nat_lt, List, length, get_or, Option, None, Some, position, refl, ap, arith}
+use Rattle.std.specs.Prelude.{not}
 use Rattle.std.specs.Option.{option_map, option_or}
 use Rattle.std.specs.List.{position_or_len}
 use Rattle.std.proofs.lemmas.Bool.Decides.{nat_tests}
-use Rattle.std.proofs.lemmas.List.Sums.{fails_before_first}
+use Rattle.std.proofs.lemmas.List.Sums.{fails_before_first, prefix_len_is}
 use Rattle.gap_sets.specs.declared.costs.CostFault.TheVariants.{Zero, TooLarge, TooMany}
-use Rattle.gap_sets.specs.CostLists.{IsCostList, first_free, first_too_large, first_cost_fault}
+use Rattle.gap_sets.specs.CostLists.{IsCostList, first_free, first_too_large, first_cost_fault, LimitsAreTheRefusals}
 
 -- where no place below the end is found, the place is the end
 past_the_end : (place len : ℕ) → cond (nat_lt place len) (Some place) None ≡ None → len ≤ place
@@ -43,3 +44,31 @@ IsCostList-from_no_fault costs none =
       few = few (length costs) parts.0;
       each = λ k d h. in_range (get_or costs k d) (none_passes (λ cost. cost == 0) costs k d parts.1 h) (none_passes (λ cost. nat_lt 1000000 cost) costs k d parts.2 h);
     }
+
+not_less : (n : ℕ) → nat_lt n n ≡ false
+not_less n = grind (arith, nat_tests)
+
+-- where each element fails a test, none is found
+pub none_found : (p : ℕ → Bool) (xs : List ℕ) → ((k : ℕ) → k < length xs → p (get_or xs k 0) ≡ false) → position p xs ≡ None
+none_found p xs fail =
+    let n : position_or_len p xs ≡ length xs = prefix_len_is (λ x. not (p x)) xs (length xs) 0 (omega arith) (λ k h. ap not (fail k h)) (λ h. absurd (omega arith)) in
+    rw (n, not_less (length xs)) refl
+
+pub not_free : (cost : ℕ) → (1 ≤ cost) × (cost ≤ 1000000) → (cost == 0) ≡ false
+not_free cost within = let low = within.0 in grind (arith, nat_tests)
+
+pub not_too_large : (cost : ℕ) → (1 ≤ cost) × (cost ≤ 1000000) → nat_lt 1000000 cost ≡ false
+not_too_large cost within = let high = within.1 in grind (arith, nat_tests)
+
+pub not_too_many : (n : ℕ) → n ≤ 64 → nat_lt 64 n ≡ false
+not_too_many n h = grind (arith, nat_tests)
+
+-- a list within the limits has no fault
+pub no_fault-from_IsCostList : (costs : List ℕ) → IsCostList costs → first_cost_fault costs ≡ None
+no_fault-from_IsCostList costs within =
+    let free : first_free costs ≡ None = none_found (λ c. c == 0) costs (λ k lt. not_free (get_or costs k 0) (within.each k 0 lt)) in
+    let large : first_too_large costs ≡ None = none_found (λ c. nat_lt 1000000 c) costs (λ k lt. not_too_large (get_or costs k 0) (within.each k 0 lt)) in
+    rw (not_too_many (length costs) within.few, free, large) refl
+
+pub limits_are_the_refusals : LimitsAreTheRefusals
+limits_are_the_refusals costs = (IsCostList-from_no_fault costs, no_fault-from_IsCostList costs)

@@ -1,5 +1,5 @@
 -- Lists of costs by gap number, and what is refused as one.
-use Rattle.std.specs.Prelude.{ℕ, ◌==◌, ◌≤◌, nat_lt, List, length, All, Option, Some, position, if◌then◌else◌}
+use Rattle.std.specs.Prelude.{◌≡◌, ◌↔◌, ℕ, ◌==◌, ◌≤◌, nat_lt, List, length, All, Option, Some, None, position, if◌then◌else◌}
 use Rattle.std.specs.Option.{option_map, option_or}
 use Rattle.gap_sets.specs.declared.costs.CostFault.{CostFault}
 use Rattle.gap_sets.specs.declared.costs.CostFault.TheVariants.{Zero, TooLarge, TooMany}
@@ -22,3 +22,7 @@ abbrev pub first_cost_fault : List ℕ → Option CostFault
 first_cost_fault costs =
     if nat_lt 64 (length costs) then Some TooMany
     else option_or (option_map Zero (first_free costs)) (option_map TooLarge (first_too_large costs))
+
+-- no refusal applies exactly within the limits
+abbrev pub LimitsAreTheRefusals : Type 0
+LimitsAreTheRefusals = (costs : List ℕ) → (first_cost_fault costs ≡ None) ↔ IsCostList costs

@@ -8,7 +8,7 @@ pub fn better_is_an_order()
     ensures total { BetterIsTotal }
 {}
 
-/// Where each gap has a cost, fewer gaps are better.
+/// Where each gap has a cost and none is free, a proper subset is better than the set.
 pub fn a_proper_subset_is_better()
     ensures { ProperSubsetIsBetter }
 {}

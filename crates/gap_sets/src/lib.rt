@@ -9,6 +9,6 @@ mod costs;
 mod gap_set;
 mod laws;
 
-pub use costs::{CostFault, Costs, MAX_COST};
+pub use costs::{CostFault, Costs, MAX_COST, limits_are_the_refusals};
 pub use gap_set::{GapSet, Gaps, MAX_GAPS};
 pub use laws::{a_proper_subset_is_better, better_is_an_order, three_gaps_of_cost_one};
