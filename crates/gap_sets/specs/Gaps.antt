@@ -1,4 +1,4 @@
--- Sets of gap numbers.
+-- Sets of gap numbers (Bouajjani et al., ESOP 2013: sets of fences between instructions; the numbers are this project's own, docs/definitions.md).
 use Rattle.std.specs.Prelude.{◌≡◌, ℕ, ◌<◌, Bool, true, ◌&&◌, List}
 use Rattle.std.specs.List.{filter, range_with_len}
 use Rattle.std.specs.Ordering.{nat_cmp}

@@ -1,4 +1,4 @@
--- When one set of gaps is better than another.
+-- When one set of gaps is better than another (Bouajjani et al., ESOP 2013, for least sets of fences; which of two equally cheap sets is better is this project's own, docs/definitions.md).
 use Rattle.std.specs.Prelude.{◌≡◌, ℕ, ◌<◌, ◌⊎◌, true, false, List, sum_by, slice_get, unwrap_or}
 use Rattle.std.specs.FinSet as set
 use Rattle.gap_sets.specs.Gaps.{SetOfGaps, gaps_in}

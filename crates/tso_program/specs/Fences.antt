@@ -1,4 +1,4 @@
--- Programs with fences put into their gaps.
+-- Programs with fences put into their gaps (Bouajjani et al., ESOP 2013: fences between instructions; where jumps lead then is this project's own, docs/definitions.md).
 use Rattle.std.specs.Prelude.{ℕ, zero, suc, ◌+◌, Bool, false, nat_le, List, [], ◌∷◌, ◌++◌, Option, if◌then◌else◌}
 use Rattle.std.specs.List.{find}
 use Rattle.std.specs.Option.{option_map_or}

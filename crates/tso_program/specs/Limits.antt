@@ -1,4 +1,4 @@
--- The limits of a program, and the first that a listing breaks.
+-- The limits of a program, and the first that a listing breaks (this project's own; docs/definitions.md).
 use Rattle.std.specs.Prelude.{◌≡◌, ℕ, ◌+◌, ◌<◌, ◌≤◌, ◌==◌, ◌||◌, Bool, false, nat_lt, nat_le, List, [], ◌∷◌, ◌++◌, length, Option, Some, None, is_some, unwrap_or, sum_by, position, if◌then◌else◌, ◌↔◌}
 use Rattle.std.specs.List.{list_any, enumerate_from}
 use Rattle.std.specs.Option.{option_map_or}
