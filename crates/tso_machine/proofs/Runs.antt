@@ -122,13 +122,13 @@ module _ (p : Listing) (mode : Mode) where
   faulted labels n d before (Refused FenceWaits) h reached why = stopped labels n d before FenceWaits h reached why
   faulted labels n d before OutOfMemory h reached why = tt
 
-  -- all threads are at their ends
-  pub all_ended : (s : Cores) → Fits p s → ((t : ℕ) → t < length s.cores → Finished p t (core_at s.cores t)) → HasEnded p (state_of s)
-  all_ended s fits each t = elim (cases_lt t (length s.cores)) [
-    | inl h ↦ each t h
-    | inr h ↦ (let e : core_at s.cores t ≡ no_core = get_or_past s.cores t no_core h in
-        (subst (λ (c : Core). action p.threads t c.local ≡ Stop) (sym e) (no_action p t no_core.local (subst (λ n. n ≤ t) fits.threads h)), ap (λ (c : Core). c.buffer) e))
-  ]
+-- all threads are at their ends
+pub all_ended : (p : Listing) (s : Cores) → Fits p s → ((t : ℕ) → t < length s.cores → Finished p t (core_at s.cores t)) → HasEnded p (state_of s)
+all_ended p s fits each t = elim (cases_lt t (length s.cores)) [
+  | inl h ↦ each t h
+  | inr h ↦ (let e : core_at s.cores t ≡ no_core = get_or_past s.cores t no_core h in
+      (subst (λ (c : Core). action p.threads t c.local ≡ Stop) (sym e) (no_action p t no_core.local (subst (λ n. n ≤ t) fits.threads h)), ap (λ (c : Core). c.buffer) e))
+]
 
 or_false : (a : Bool) → a ≡ (a || false)
 or_false true = refl

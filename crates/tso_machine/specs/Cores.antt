@@ -18,7 +18,6 @@ use Rattle.tso_machine.specs.declared.label.Model.{Model}
 use Rattle.tso_machine.specs.declared.label.Model.TheVariants as models
 use Rattle.tso_machine.specs.Machine.{State, newest, found, is_empty}
 use Rattle.tso_machine.specs.Faults.{waits}
-use Rattle.tso_program.specs.declared.listing.Listing.{Listing}
 
 -- a thread and its waiting stores, the oldest first
 pub record Core : Type 0 where

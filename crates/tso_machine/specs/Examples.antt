@@ -26,10 +26,11 @@ two_threads first second = record { threads = thread_of first ∷ thread_of seco
 abbrev pub ends_with : ℕ → ℕ → ℕ → ℕ → ℕ → ℕ → Outcome
 ends_with eax ebx eax' ebx' x y = record { registers = with_eax_ebx eax ebx ∷ with_eax_ebx eax' ebx' ∷ []; memory = x ∷ y ∷ [] }
 
--- the run passes the gap before this instruction, which no sequential machine asks
+-- the steps, with no gap fenced, pass the gap before instruction k of thread t
 abbrev pub PassesGap : Listing → List Label → ℕ → ℕ → Type 0
 PassesGap p labels t k = passes p (Fenced no_gaps) (start p) labels t k ≡ true
 
+-- they don't pass it
 abbrev pub PassesNotGap : Listing → List Label → ℕ → ℕ → Type 0
 PassesNotGap p labels t k = passes p (Fenced no_gaps) (start p) labels t k ≡ false
 
@@ -50,7 +51,7 @@ StoreBufferingIsTold =
     × PassesGap store_buffering waiting_stores 1 1
     × IsRun store_buffering Sequential in_turn (ends_with 0 0 1 0 1 1)
 
--- R: the second thread reads x before its store to y is last
+-- R: the second thread reads 0 from x while its store to y waits, and that store is the last to y
 abbrev pub r : Listing
 r = two_threads (StoreImm 0 1 ∷ StoreImm 1 1 ∷ []) (StoreImm 1 2 ∷ Load Eax 0 ∷ [])
 
@@ -60,7 +61,7 @@ r_run = Exec 1 ∷ Exec 1 ∷ Exec 0 ∷ Flush 0 ∷ Exec 0 ∷ Flush 0 ∷ Flus
 abbrev pub RIsTold : Type 0
 RIsTold = IsRun r (Fenced no_gaps) r_run (ends_with 0 0 0 0 1 2) × PassesNotGap r r_run 0 1 × PassesGap r r_run 1 1
 
--- n6: a thread reads its own waiting store, and its store is the last of x
+-- n6: the first thread reads its own store to x, which waits, and that store is the last to x
 abbrev pub n6 : Listing
 n6 = two_threads (StoreImm 0 1 ∷ Load Eax 0 ∷ Load Ebx 1 ∷ []) (StoreImm 1 2 ∷ StoreImm 0 2 ∷ [])
 

@@ -33,7 +33,7 @@ abbrev pub IsFenced : Mode → ℕ → ℕ → Type 0
 IsFenced Sequential t k = ⊥
 IsFenced (Fenced gaps) t k = gaps t k ≡ true
 
-module _ (p : Listing) (mode : Mode) (s : State) where
+module _ (p : Listing) (s : State) where
   -- the thread is at its end
   abbrev pub IsAtEnd : Label → Type 0
   IsAtEnd (Exec t) = (t < length p.threads) × (action p.threads t (s.locals t) ≡ Stop)
@@ -44,6 +44,11 @@ module _ (p : Listing) (mode : Mode) (s : State) where
   HasNoStore (Exec t) = ⊥
   HasNoStore (Flush t) = (t < length p.threads) × (s.buffers t ≡ [])
 
+  -- thread t isn't at its end, or one of its stores waits
+  abbrev pub IsUnfinished : ℕ → Type 0
+  IsUnfinished t = (t < length p.threads) × ((action p.threads t (s.locals t) ≢ Stop) ⊎ (s.buffers t ≢ []))
+
+module _ (p : Listing) (mode : Mode) (s : State) where
   -- a store waits, and the instruction waits for it or a fenced gap stands before it
   abbrev pub HasToWait : Label → Type 0
   HasToWait (Exec t) = (s.buffers t ≢ []) × ((waits (action p.threads t (s.locals t)) ≡ true) ⊎ IsFenced mode t (s.locals t).place)
@@ -52,18 +57,14 @@ module _ (p : Listing) (mode : Mode) (s : State) where
   -- why a step from the state isn't possible
   abbrev pub Applies : Cause → Label → Type 0
   Applies NoSuchThread label = length p.threads ≤ thread_of label
-  Applies AtEnd label = IsAtEnd label
-  Applies BufferEmpty label = HasNoStore label
+  Applies AtEnd label = IsAtEnd p s label
+  Applies BufferEmpty label = HasNoStore p s label
   Applies FenceWaits label = HasToWait label
 
   -- the same of a step that wasn't made
   abbrev pub StepFaultIs : Label → StepFault → Type 0
   StepFaultIs label (step.Refused cause) = Applies cause label
   StepFaultIs label step.OutOfMemory = Unit {0}
-
-  -- thread t isn't at its end, or one of its stores waits
-  abbrev pub IsUnfinished : ℕ → Type 0
-  IsUnfinished t = (t < length p.threads) × ((action p.threads t (s.locals t) ≢ Stop) ⊎ (s.buffers t ≢ []))
 
 module _ (p : Listing) (mode : Mode) (labels : List Label) where
   -- the steps before step n are possible, and then the cause applies to it
@@ -80,7 +81,7 @@ module _ (p : Listing) (mode : Mode) (labels : List Label) where
     pub last : State
     pub reached : run p mode (start p) labels ≡ Some last
     pub thread : ℕ
-    pub unfinished : IsUnfinished p mode last thread
+    pub unfinished : IsUnfinished p last thread
 
   -- what a fault says of the labels; want of memory says nothing
   abbrev pub FaultIs : ReplayFault → Type 0

@@ -74,7 +74,7 @@ impl State {
     /// A thread that isn't at its end or has a waiting store, if there is one.
     pub(crate) fn unfinished(&self, program: &Program) -> Option<u8>
         requires { Fits program.now self.now }
-        ensures { MatchOption result (HasEnded program.now (state_of self.now)) (λ t. IsUnfinished program.now Mode.Sequential (state_of self.now) t) }
+        ensures { MatchOption result (HasEnded program.now (state_of self.now)) (λ t. IsUnfinished program.now (state_of self.now) t) }
     {
         let threads = program.threads().len() as u8;
         for t in 0..threads {

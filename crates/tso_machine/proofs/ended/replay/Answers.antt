@@ -2,7 +2,7 @@ use Rattle.std.proofs.Common.{◌≡◌, ◌∙◌, take, Some, sym, ap, subst, 
 use Rattle.std.proofs.lemmas.List.{take_all}
 use Rattle.tso_machine.specs.declared.label.Label.TheVariants.{Exec}
 use Rattle.tso_program.specs.declared.listing.Listing.{Listing}
-use Rattle.tso_machine.specs.Machine.{Mode, Sequential, start, HasEnded}
+use Rattle.tso_machine.specs.Machine.{Mode, start, HasEnded}
 use Rattle.tso_machine.specs.Modes.{mode_of}
 use Rattle.tso_machine.specs.Faults.{IsUnfinished}
 use Rattle.tso_machine.specs.Cores.{Cores, state_of, Fits}
@@ -39,14 +39,14 @@ pub returns-then-is_some-clause-fault : goal.returns-then-is_some-clause-fault
 returns-then-is_some-clause-fault c =
     let p : Listing = c.args.program.now in
     let all : take c.loop-n.n c.args.labels.now ≡ c.args.labels.now = take_all c.loop-n.n c.args.labels.now (omega arith) in
-    let (t, u) = match_some c.unfinished.result (HasEnded p (state_of c.loop-n.state)) (IsUnfinished p Sequential (state_of c.loop-n.state)) c.unfinished.ensures (sym c.is_some.ensures ∙ c.if-is_some.true) in
+    let (t, u) = match_some c.unfinished.result (HasEnded p (state_of c.loop-n.state)) (IsUnfinished p (state_of c.loop-n.state)) c.unfinished.ensures (sym c.is_some.ensures ∙ c.if-is_some.true) in
     record { all = refl; last = state_of c.loop-n.state; reached = rw all at c.loop-n.invariant.reached; thread = t; unfinished = u }
 
 pub returns-in-Ok-outcome-clause-run : goal.returns-in-Ok-outcome-clause-run
 returns-in-Ok-outcome-clause-run c =
     let p : Listing = c.args.program.now in
     let all : take c.loop-n.n c.args.labels.now ≡ c.args.labels.now = take_all c.loop-n.n c.args.labels.now (omega arith) in
-    let ended = match_none c.unfinished.result (HasEnded p (state_of c.loop-n.state)) (IsUnfinished p Sequential (state_of c.loop-n.state)) c.unfinished.ensures (sym c.is_some.ensures ∙ c.if-is_some.false) in
+    let ended = match_none c.unfinished.result (HasEnded p (state_of c.loop-n.state)) (IsUnfinished p (state_of c.loop-n.state)) c.unfinished.ensures (sym c.is_some.ensures ∙ c.if-is_some.false) in
     (state_of c.loop-n.state, rw all at c.loop-n.invariant.reached, ended, outcome_is p c.loop-n.state c.in-Ok-outcome.outcome c.loop-n.invariant.fits c.in-Ok-outcome.ensures.registers c.in-Ok-outcome.ensures.memory)
 
 pub returns-in-Ok-outcome-clause-sequential : goal.returns-in-Ok-outcome-clause-sequential

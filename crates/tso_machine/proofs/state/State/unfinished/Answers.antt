@@ -1,6 +1,5 @@
 use Rattle.std.proofs.Common.{ap, length, arith}
 use Rattle.tso_machine.specs.Cores.{Cores, Fits}
-use Rattle.tso_machine.specs.Machine.{Sequential}
 use Rattle.tso_machine.proofs.Runs.{all_ended}
 use Rattle.tso_machine.proofs.state.State.unfinished.Goals as goal
 
@@ -10,4 +9,4 @@ returns c =
     let fits : Fits c.args.program.now s = rw c.self.view_is c.requires in
     let threads = fits.threads in
     let count = ap length c.threads.ensures.value in
-    rw (← c.self.view_is) (all_ended c.args.program.now Sequential s fits (λ k h. c.loop-t.invariant k (omega arith)))
+    rw (← c.self.view_is) (all_ended c.args.program.now s fits (λ k h. c.loop-t.invariant k (omega arith)))
