@@ -48,6 +48,9 @@ no_brace_line text rest e h =
 pub line_shorter : (text rest : List ℕ) → IsSkippedLine text rest → length rest < length text
 line_shorter text rest h = omega (arith, ap length h.1, length-append h.0 (10 ∷ rest))
 
+pub no_line_in_nothing : (rest : List ℕ) → IsSkippedLine [] rest → ⊥
+no_line_in_nothing rest h = let short : length rest < 0 = line_shorter [] rest h in absurd (omega arith)
+
 -- ---- the lines
 
 pub shorter : (text front rest : List ℕ) → IsBehindSpace text front → IsSkippedLine front rest → length rest < length text

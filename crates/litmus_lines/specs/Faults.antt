@@ -35,8 +35,9 @@ abbrev pub fault_at : List ℕ → List ℕ → LineFault
 fault_at bytes text =
     if list_all is_inside text && is_front_of_skipped text then ended_at bytes else fault.Header (line_number bytes (length bytes - length text))
 
--- Behind lines that are skipped a comment does not end, or another line stands behind white space and comments.
+-- Behind lines that are skipped a comment does not end, or what stands behind white space and comments is no line that is skipped.
 abbrev pub RefusesLines : List ℕ → List ℕ → LineFault → Type 0
 RefusesLines bytes lines refused =
     (rest : List ℕ) × BeginsSkipped lines rest
-    × ((((text : List ℕ) → IsBehindSpace rest text → ⊥) × (refused ≡ ended_at bytes)) ⊎ ((text : List ℕ) × IsBehindSpace rest text × (refused ≡ fault_at bytes text)))
+    × ((((text : List ℕ) → IsBehindSpace rest text → ⊥) × (refused ≡ ended_at bytes))
+        ⊎ ((text : List ℕ) × IsBehindSpace rest text × ((others : List ℕ) → IsSkippedLine text others → ⊥) × (refused ≡ fault_at bytes text)))

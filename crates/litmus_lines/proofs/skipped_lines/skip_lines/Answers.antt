@@ -4,7 +4,7 @@ use Rattle.text_tokens.specs.Space.{IsBehindSpace}
 use Rattle.text_tokens.proofs.SpaceLaws.{empty_is}
 use Rattle.litmus_lines.specs.SkippedLines.{AreSkipped, line}
 use Rattle.litmus_lines.specs.Faults.{nothing, line as begins}
-use Rattle.litmus_lines.proofs.SkippedLaws.{shorter, line_back, brace_back, brace_is, no_space_back, no_line_back, nothing_back}
+use Rattle.litmus_lines.proofs.SkippedLaws.{shorter, line_back, brace_back, brace_is, no_space_back, no_line_back, no_line_in_nothing, nothing_back}
 use Rattle.litmus_lines.proofs.skipped_lines.skip_lines.Goals as goal
 
 pub returns-then-begins_brace-clause-found : goal.returns-then-begins_brace-clause-found
@@ -27,7 +27,7 @@ returns-in_default-clause-only c end h = no_space_back c.loop-rest.rest.now end 
 
 pub returns-in_default-after_skipped-clause-refused : goal.returns-in_default-after_skipped-clause-refused
 returns-in_default-after_skipped-clause-refused c =
-    (c.loop-rest.rest.now, c.loop-rest.invariant.begun, inr (c.in-Some.text.now, c.in-Some.ensures.some, c.no_skipped_line.ensures))
+    (c.loop-rest.rest.now, c.loop-rest.invariant.begun, inr (c.in-Some.text.now, c.in-Some.ensures.some, c.in_default-after_skipped.ensures.none, c.no_skipped_line.ensures))
 
 pub loop-rest-init : goal.loop-rest-init
 loop-rest-init c = record { forth = λ end h. h; begun = nothing; back = λ end h. h }
@@ -45,7 +45,8 @@ loop-rest-preserved c = record {
 pub returns-clause-refused : goal.returns-clause-refused
 returns-clause-refused c =
     let none : c.loop-rest.rest.now ≡ [] = nil_from_length _ (grind arith) in
-    (c.loop-rest.rest.now, c.loop-rest.invariant.begun, inr ([], subst (IsBehindSpace c.loop-rest.rest.now) none (empty_is c.loop-rest.rest.now none), c.ended-2.ensures))
+    (c.loop-rest.rest.now, c.loop-rest.invariant.begun,
+        inr ([], subst (IsBehindSpace c.loop-rest.rest.now) none (empty_is c.loop-rest.rest.now none), no_line_in_nothing, c.ended-2.ensures))
 
 pub returns-clause-only : goal.returns-clause-only
 returns-clause-only c end h =
