@@ -1,2 +1,3 @@
 pub mod FirstLineLaws
 pub mod SkippedLaws
+pub mod FaultLaws

@@ -3,10 +3,12 @@
 
 mod fault;
 mod first_line;
+mod laws;
 mod lines;
 mod skipped_lines;
 
 pub use fault::LineFault;
 pub use first_line::read_first_line;
+pub use laws::one_fault_of_lines;
 pub use lines::line_number;
 pub use skipped_lines::skip_lines;
