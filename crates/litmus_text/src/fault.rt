@@ -29,7 +29,7 @@ pub enum ReadFault {
     /// An operand of a wrong kind, or a missing one.
     #[error("6 Operand line {0}")]
     Operand(u32),
-    /// A label that may not stand where it does.
+    /// A label that may not stand where it does, or a jump to a name that is no label of its thread.
     #[error("7 Label line {0}")]
     Label(u32),
     /// In the condition.

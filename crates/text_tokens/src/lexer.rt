@@ -17,7 +17,7 @@ use crate::token::{Bad, Mark, Token};
 use std::alloc::{AllocError, Global};
 use std::marker::Model;
 
-/// The tokens of a text, each with the line where it begins.
+/// The tokens of a text, each with the line where it begins; what is unfinished has the line where the text stops.
 #[derive(Debug, Drop)]
 pub struct Tokens {
     tokens: Vec<Token>,
@@ -39,7 +39,8 @@ impl Tokens {
         self.tokens.as_slice()
     }
 
-    /// The line of the token with this index, or the line where the text stops for an index past the last token.
+    /// The line where the token with this index begins; the line where the text stops, if that token is unfinished or the index is
+    /// past the last token.
     pub fn line(&self, index: usize) -> u32 {
         self.lines.get(index).copied().unwrap_or(self.end_line)
     }
