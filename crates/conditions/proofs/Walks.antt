@@ -11,7 +11,16 @@ use Rattle.conditions.specs.Tree.{Tree}
 use Rattle.conditions.specs.Tree as tree
 use Rattle.conditions.specs.Truth.{truth}
 use Rattle.conditions.specs.Nodes.{nodes_of}
-use Rattle.conditions.specs.Walk.{walk, passed, seen}
+use Rattle.conditions.specs.Walk.{passed, seen}
+
+-- the value and the count after a node
+abbrev pub step : Outcome → Bool → ℕ → Node → Bool × ℕ
+step outcome v ends x = cond (nat_lt 0 ends) (v, passed ends x) (seen outcome v x)
+
+-- the value at the end of a walk
+abbrev pub walk : Outcome → Bool × ℕ → List Node → Bool
+walk outcome s [] = s.0
+walk outcome s (x ∷ xs) = walk outcome (step outcome s.0 s.1 x) xs
 
 -- one node that is passed over
 over : (o : Outcome) (v : Bool) (n m : ℕ) (x : Node) (xs : List Node) → passed (suc n) x ≡ m → walk o (v, suc n) (x ∷ xs) ≡ walk o (v, m) xs

@@ -1,5 +1,5 @@
 -- A walk over the nodes with one value and one count.
-use Rattle.std.specs.Prelude.{ℕ, ◌+◌, ◌-◌, Bool, not, cond, nat_lt, List, [], ◌∷◌}
+use Rattle.std.specs.Prelude.{ℕ, ◌+◌, ◌-◌, Bool, not, cond}
 use Rattle.tso_program.specs.declared.outcome.Outcome.{Outcome}
 use Rattle.conditions.specs.declared.node.Node.{Node}
 use Rattle.conditions.specs.declared.node.Node.TheVariants as node
@@ -22,12 +22,3 @@ seen outcome v node.Not = (not v, 0)
 seen outcome v node.And = (v, cond v 0 1)
 seen outcome v node.Or = (v, cond v 1 0)
 seen outcome v node.End = (v, 0)
-
--- the value and the count after a node
-abbrev pub step : Outcome → Bool → ℕ → Node → Bool × ℕ
-step outcome v ends x = cond (nat_lt 0 ends) (v, passed ends x) (seen outcome v x)
-
--- the value at the end of a walk
-abbrev pub walk : Outcome → Bool × ℕ → List Node → Bool
-walk outcome s [] = s.0
-walk outcome s (x ∷ xs) = walk outcome (step outcome s.0 s.1 x) xs

@@ -1,7 +1,6 @@
 use Rattle.std.proofs.Common.{◌∙◌, sym, ap, false, arith}
 use Rattle.std.proofs.lemmas.List.{at_drop_all}
-use Rattle.conditions.specs.Walk.{walk}
-use Rattle.conditions.proofs.Walks.{walks_all}
+use Rattle.conditions.proofs.Walks.{walk, walks_all}
 use Rattle.conditions.proofs.eval.holds.Goals as goal
 
 pub returns : goal.returns

@@ -1,5 +1,5 @@
 use Rattle.std.proofs.Common.{◌≡◌, ◌≤◌, drop, false}
-use Rattle.conditions.specs.Walk.{walk}
+use Rattle.conditions.proofs.Walks.{walk}
 use Rattle.conditions.proofs.eval.holds.Given as goal
 
 abbrev pub invariant-loop-node : goal.invariant-loop-node
