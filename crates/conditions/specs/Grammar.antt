@@ -1,4 +1,6 @@
 -- The grammar of formulas: `not` binds tightest, then `and`, then `or`, both to the left.
+-- The form is a part of that of herd's X86 litmus files (Alglave, Maranget and Tautschnig, Herding Cats, TOPLAS 2014);
+-- docs/formats.md tells which.
 use Rattle.std.specs.Prelude.{Bool, List, ◌∷◌}
 use Rattle.conditions.specs.Tree.{Tree}
 use Rattle.conditions.specs.Tree as tree

@@ -1,4 +1,5 @@
 -- When an atom, and a formula, is true at an outcome.
+-- The atoms are those of the conditions of herd's litmus files (Alglave, Maranget and Tautschnig, Herding Cats, TOPLAS 2014).
 use Rattle.std.specs.Prelude.{ℕ, Bool, false, ◌==◌, Option, Some, None, slice_get, option_and_then}
 use Rattle.tso_program.specs.declared.instruction.Reg.{Reg}
 use Rattle.tso_program.specs.declared.outcome.Outcome.{Outcome}

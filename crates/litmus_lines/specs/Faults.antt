@@ -40,4 +40,4 @@ abbrev pub RefusesLines : List ℕ → List ℕ → LineFault → Type 0
 RefusesLines bytes lines refused =
     (rest : List ℕ) × BeginsSkipped lines rest
     × ((((text : List ℕ) → IsBehindSpace rest text → ⊥) × (refused ≡ ended_at bytes))
-        ⊎ ((text : List ℕ) × IsBehindSpace rest text × ((others : List ℕ) → IsSkippedLine text others → ⊥) × (refused ≡ fault_at bytes text)))
+    ⊎ ((text : List ℕ) × IsBehindSpace rest text × ((others : List ℕ) → IsSkippedLine text others → ⊥) × (refused ≡ fault_at bytes text)))

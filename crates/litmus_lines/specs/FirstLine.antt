@@ -1,4 +1,6 @@
 -- The first line of a litmus text.
+-- The form is a part of that of herd's X86 litmus files (Alglave, Maranget and Tautschnig, Herding Cats, TOPLAS 2014);
+-- docs/formats.md tells which.
 use Rattle.std.specs.Prelude.{◌≡◌, ◌==◌, ◌||◌, ◌&&◌, ◌<◌, ℕ, Bool, true, nat_le, List, ◌∷◌, ◌++◌, length, codes, not}
 use Rattle.std.specs.List.{list_all}
 

@@ -1,4 +1,6 @@
 -- The grammar of a litmus text behind the lines before `{`, over tokens: initial values, the header row, the rows, what is observed, the condition.
+-- The form is a part of that of herd's X86 litmus files (Alglave, Maranget and Tautschnig, Herding Cats, TOPLAS 2014);
+-- docs/formats.md tells which.
 use Rattle.std.specs.Prelude.{◌≡◌, ◌≢◌, ◌<◌, ◌+◌, ◌||◌, ℕ, Bool, true, false, List, [], ◌∷◌, ◌++◌, length, map, codes, Option, Some, None}
 use Rattle.std.specs.List.{All, flat_map}
 use Rattle.text_tokens.specs.declared.token.Mark.{Mark}

@@ -1,4 +1,6 @@
 -- The words of a litmus text.
+-- The form is a part of that of herd's X86 litmus files (Alglave, Maranget and Tautschnig, Herding Cats, TOPLAS 2014);
+-- docs/formats.md tells which.
 use Rattle.std.specs.Prelude.{◌||◌, ◌&&◌, ℕ, ◌++◌, Bool, List, not, codes, Option, Some, None, is_some, if◌then◌else◌}
 use Rattle.std.specs.Str.{bytes_eq}
 use Rattle.std.specs.Fmt.{decimal}

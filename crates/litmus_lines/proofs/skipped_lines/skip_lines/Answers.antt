@@ -44,9 +44,11 @@ loop-rest-preserved c = record {
 
 pub returns-clause-refused : goal.returns-clause-refused
 returns-clause-refused c =
-    let none : c.loop-rest.rest.now ≡ [] = nil_from_length _ (grind arith) in
-    (c.loop-rest.rest.now, c.loop-rest.invariant.begun,
-        inr ([], subst (IsBehindSpace c.loop-rest.rest.now) none (empty_is c.loop-rest.rest.now none), no_line_in_nothing, c.ended-2.ensures))
+    let none : c.loop-rest.rest.now ≡ [] = nil_from_length _ (grind arith) in (
+      c.loop-rest.rest.now,
+      c.loop-rest.invariant.begun,
+      inr ([], subst (IsBehindSpace c.loop-rest.rest.now) none (empty_is c.loop-rest.rest.now none), no_line_in_nothing, c.ended-2.ensures),
+    )
 
 pub returns-clause-only : goal.returns-clause-only
 returns-clause-only c end h =
