@@ -1,3 +1,4 @@
+pub mod Events
 pub mod Values
 pub mod Traces
 pub mod Paths

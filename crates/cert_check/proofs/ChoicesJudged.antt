@@ -7,17 +7,14 @@ use Rattle.tso_program.specs.declared.listing.Listing.{Listing}
 use Rattle.tso_machine.specs.declared.ended.Ended.{Ended}
 use Rattle.tso_machine.specs.Machine as machine
 use Rattle.candidate_executions.specs.declared.event.Event.{Event}
-use Rattle.candidate_executions.specs.declared.event.Event.TheVariants.{Initial, Access as At}
 use Rattle.candidate_executions.specs.declared.event.Kind.{Kind}
-use Rattle.candidate_executions.specs.declared.event.Kind.TheVariants as union
-use Rattle.candidate_executions.specs.Consistency.{Leads, IsCycle}
+use Rattle.candidate_executions.specs.Events.{ComesBefore}
+use Rattle.candidate_executions.specs.Consistency.{IsOfMode, Leads, IsCycle}
 use Rattle.candidate_executions.specs.Sketches as sketches
-use Rattle.exec_axioms.specs.declared.mode.Mode.{Mode}
-use Rattle.exec_axioms.specs.declared.mode.Mode.TheVariants.{Sequential, Fenced}
-use Rattle.exec_axioms.specs.Parts.{Parts, mode_in, machine_mode, sketch_of}
+use Rattle.exec_axioms.specs.Parts.{Parts, mode_in, sketch_of}
 use Rattle.exec_axioms.specs.Choices as choices
 use Rattle.exec_axioms.specs.Known as known
-use Rattle.tree_laws.specs.CoverTrees.{ComesBefore, IsOfMode, HasNextValues, HasSources, HasNoOrder, IsKnownCycle, MustEndAsNumber}
+use Rattle.tree_laws.specs.CoverTrees.{HasNextValues, HasSources, HasNoOrder, IsKnownCycle, MustEndAsNumber}
 use Rattle.tree_laws.proofs.OneList.{one_list_of_values, one_list_of_sources}
 use Rattle.cert_check.specs.declared.fault.TreeFault.{TreeFault}
 use Rattle.cert_check.specs.declared.fault.TreeFault.TheVariants.{Wrong, OutOfMemory}
@@ -51,41 +48,18 @@ pub sources_differ : (s : Parts) (read : Event) (count : ℕ) (sources : List Ev
 sources_differ s read count sources next differ others has e =
     differ (ap length (one_list_of_sources s.program (mode_in s) (sketch_of s) read sources others next has) ∙ sym e)
 
-comes : (d e : Event) → known.ComesBefore d e → ComesBefore d e
-comes (Initial l) (Initial m) h = h
-comes (Initial l) (At t i) h = h
-comes (At t i) (Initial l) h = h
-comes (At t i) (At u j) h = h
-
 -- the sources of a read that has none yet
 pub sources_are : (s : Parts) (read : Event) (sources : List Event) → choices.IsWhole s × choices.IsRead s read → (choices.HasSource s read → ⊥) →
-    AllPairs known.ComesBefore sources → ((source : Event) → Contains sources source ↔ choices.IsSourceOf s source read) → HasSources s.program (mode_in s) (sketch_of s) read sources
+    AllPairs ComesBefore sources → ((source : Event) → Contains sources source ↔ choices.IsSourceOf s source read) → HasSources s.program (mode_in s) (sketch_of s) read sources
 sources_are s read sources (whole, (x, is, reads)) free ordered exact = record {
   whole = whole;
   access = x;
   is_access = is;
   is_read = reads;
   free = λ d has. free (d, has);
-  in_order = λ i j d h l. comes _ _ (ordered i j d h l);
+  in_order = ordered;
   exact = exact;
 }
-
--- unions of a mode
-of_mode : (p : Listing) (mode : Mode) (kind : Kind) → known.IsKindOf mode kind → IsOfMode (machine_mode p mode) kind
-of_mode p Sequential union.Sequential h = h
-of_mode p Sequential union.Location h = h
-of_mode p Sequential union.Global h = h
-of_mode p (Fenced gaps) union.Sequential h = h
-of_mode p (Fenced gaps) union.Location h = h
-of_mode p (Fenced gaps) union.Global h = h
-
-to_mode : (p : Listing) (mode : Mode) (kind : Kind) → IsOfMode (machine_mode p mode) kind → known.IsKindOf mode kind
-to_mode p Sequential union.Sequential h = h
-to_mode p Sequential union.Location h = h
-to_mode p Sequential union.Global h = h
-to_mode p (Fenced gaps) union.Sequential h = h
-to_mode p (Fenced gaps) union.Location h = h
-to_mode p (Fenced gaps) union.Global h = h
 
 -- what holds of each edge of a cycle
 module _ (A : Type 0) (R : Event → Event → Type 0) where
@@ -107,11 +81,11 @@ module _ (A : Type 0) (R : Event → Event → Type 0) where
 
 pub cycle_is : (s : Parts) (kind : Kind) (es : List Event) → known.IsKnownCycle s kind es → IsKnownCycle s.program (mode_in s) (sketch_of s) kind es
 cycle_is s kind es h =
-    let parts = cycle_parted (known.IsKindOf s.mode kind) (sketches.KnownEdge s.program (mode_in s) (sketch_of s) kind) es h in
-    record { of_mode = of_mode s.program s.mode kind parts.0; cycle = parts.1 }
+    let parts = cycle_parted (IsOfMode (mode_in s) kind) (sketches.KnownEdge s.program (mode_in s) (sketch_of s) kind) es h in
+    record { of_mode = parts.0; cycle = parts.1 }
 
 pub is_cycle : (s : Parts) (kind : Kind) (es : List Event) → IsKnownCycle s.program (mode_in s) (sketch_of s) kind es → known.IsKnownCycle s kind es
-is_cycle s kind es h = cycle_joined (known.IsKindOf s.mode kind) (sketches.KnownEdge s.program (mode_in s) (sketch_of s) kind) (to_mode s.program s.mode kind h.of_mode) es h.cycle
+is_cycle s kind es h = cycle_joined (IsOfMode (mode_in s) kind) (sketches.KnownEdge s.program (mode_in s) (sketch_of s) kind) h.of_mode es h.cycle
 
 -- no such outcome, or the sketch need not end so
 outcome_at : (ended : List Ended) (n : ℕ) → slice_get (outcomes_of ended) n ≡ option_map (λ (e : Ended). e.outcome) (slice_get ended n)

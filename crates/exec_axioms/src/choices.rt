@@ -4,7 +4,8 @@ ghost use Rattle.std.specs.List.{AllPairs};
 ghost use Rattle.candidate_executions.specs.declared.event.Event.{Event};
 ghost use Rattle.exec_axioms.specs.Parts.{with_source, with_pair};
 ghost use Rattle.exec_axioms.specs.Choices.{IsWhole, IsRead, ReadsAt, IsSourceOf, IsPair, SourcesFaultIs, HasSource, MayRead, MayFollow, SourceFaultIs, OrderFaultIs};
-ghost use Rattle.exec_axioms.specs.Known.{IsInitial, ComesBefore};
+ghost use Rattle.candidate_executions.specs.Events.{ComesBefore};
+ghost use Rattle.exec_axioms.specs.Known.{IsInitial};
 
 use crate::events::is_same;
 use crate::{Sketch, SketchFault};

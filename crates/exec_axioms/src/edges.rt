@@ -1,10 +1,10 @@
 //! Known edges, and their cycles.
 ghost use Rattle.std.specs.Prelude.{◌≡◌, ◌≢◌, ◌↔◌, IsTrue, IsSome, Contains};
 ghost use Rattle.candidate_executions.specs.declared.event.Event.{Event};
-ghost use Rattle.candidate_executions.specs.Consistency.{IsKept, Leads};
+ghost use Rattle.candidate_executions.specs.Consistency.{IsOfMode, IsKept, Leads};
 ghost use Rattle.candidate_executions.specs.Sketches.{IsBefore, KnownFromReads, KnownRelates};
-ghost use Rattle.exec_axioms.specs.Parts.{sketch_of};
-ghost use Rattle.exec_axioms.specs.Known.{IsKindOf, IsKnownEdge, IsKnownCycle, IsAccess, OrderPart, SourcePart};
+ghost use Rattle.exec_axioms.specs.Parts.{mode_in, sketch_of};
+ghost use Rattle.exec_axioms.specs.Known.{IsKnownEdge, IsKnownCycle, IsAccess, OrderPart, SourcePart};
 ghost use Rattle.exec_axioms.specs.Completions.{IsEdgeOfEach, IsRefuted};
 
 use crate::events::{has_pair, is_one_thread, is_same, precedes};
@@ -25,7 +25,7 @@ impl Sketch {
     fn has_edge(&self, kind: Kind, from: Event, to: Event) -> bool
         ensures { IsTrue result ↔ IsKnownEdge self.now kind from to }
     {
-        if !is_kind_of(self.mode, kind) {
+        if !self.has_union(kind) {
             return false;
         }
         let Some(x) = self.access(from) else {
@@ -35,6 +35,17 @@ impl Sketch {
             return false;
         };
         self.relates(kind, from, x, to, y)
+    }
+
+    /// Whether the union is one of the mode's.
+    fn has_union(&self, kind: Kind) -> bool
+        ensures { IsTrue result ↔ IsOfMode (mode_in self.now) kind }
+    {
+        match (self.mode, kind) {
+            (Mode::Sequential, Kind::Sequential) => true,
+            (Mode::Fenced(_), Kind::Location | Kind::Global) => true,
+            _ => false,
+        }
     }
 
     /// Whether each event has a known edge of the union to the next, and the last to the first. A cycle
@@ -141,17 +152,6 @@ fn keeps_order(kind: Kind, from: Event, x: Access, to: Event, y: Access) -> bool
         Kind::Sequential => true,
         Kind::Location => x.location == y.location,
         Kind::Global => is_kept(x, y),
-    }
-}
-
-/// Whether the union is one of the mode's.
-fn is_kind_of(mode: Mode, kind: Kind) -> bool
-    ensures { IsTrue result ↔ IsKindOf mode kind }
-{
-    match (mode, kind) {
-        (Mode::Sequential, Kind::Sequential) => true,
-        (Mode::Fenced(_), Kind::Location | Kind::Global) => true,
-        _ => false,
     }
 }
 

@@ -2,7 +2,8 @@
 ghost use Rattle.std.specs.Prelude.{◌≡◌, ◌⊎◌, ◌↔◌, ◌<◌, ℕ, List, Some, IfOk, OnOk, MatchOption, Contains, length, slice_get};
 ghost use Rattle.std.specs.List.{AllPairs};
 ghost use Rattle.candidate_executions.specs.declared.event.Event.{Event};
-ghost use Rattle.exec_axioms.specs.Known.{IsKnownEdge, IsKnownCycle, HasNoCycle, IsAccess, IsAccessOf, ComesBefore, IsInitial};
+ghost use Rattle.candidate_executions.specs.Events.{ComesBefore};
+ghost use Rattle.exec_axioms.specs.Known.{IsKnownEdge, IsKnownCycle, HasNoCycle, IsAccess, IsAccessOf, IsInitial};
 ghost use Rattle.exec_axioms.specs.Search.{IsSimpleCycle, HoldsCycles, IsEnd, IsNext, EachGoesOn};
 
 use crate::events::is_same;

@@ -6,7 +6,7 @@ use Rattle.std.proofs.lemmas.Option.{same_Some}
 use Rattle.candidate_executions.specs.declared.event.Event.{Event}
 use Rattle.candidate_executions.specs.declared.event.Event.TheVariants.{Initial, Access as At}
 use Rattle.candidate_executions.specs.Values.{IsValueOf}
-use Rattle.tree_laws.specs.CoverTrees.{ComesBefore}
+use Rattle.candidate_executions.specs.Events.{ComesBefore}
 use Rattle.tree_laws.specs.GapTrees.{IsOpenGap}
 use Rattle.tree_laws.specs.Laws.{TheValuesAreOneList, TheSourcesAreOneList, TheGapsAreOneList}
 use Rattle.tree_laws.proofs.Lists.{none_here, first_or_later, first_is_here, later_is_here}

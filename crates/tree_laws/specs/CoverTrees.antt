@@ -1,40 +1,24 @@
 -- Trees that show the outcome of each completion of a sketch: when they are valid, and what they mean (this project's own definitions; docs/definitions.md).
-use Rattle.std.specs.Prelude.{◌≡◌, ◌↔◌, ◌⊎◌, ℕ, ◌<◌, List, [], ◌∷◌, Some, IsSome, Contains, slice_get, map}
+use Rattle.std.specs.Prelude.{◌≡◌, ◌↔◌, ◌⊎◌, ℕ, List, [], ◌∷◌, Some, IsSome, Contains, slice_get, map}
 use Rattle.std.specs.List.{AllPairs}
 use Rattle.std.specs.List.Sorted.{IsStrictlyIncreasing}
 use Rattle.tso_program.specs.declared.listing.Listing.{Listing}
 use Rattle.tso_program.specs.declared.outcome.Outcome.{Outcome}
-use Rattle.tso_machine.specs.Machine.{Mode, Sequential, Fenced}
+use Rattle.tso_machine.specs.Machine.{Mode}
 use Rattle.candidate_executions.specs.declared.access.Access.{Access}
 use Rattle.candidate_executions.specs.declared.event.Event.{Event}
-use Rattle.candidate_executions.specs.declared.event.Event.TheVariants.{Initial, Access as At}
+use Rattle.candidate_executions.specs.declared.event.Event.TheVariants.{Access as At}
 use Rattle.candidate_executions.specs.declared.event.Kind.{Kind}
-use Rattle.candidate_executions.specs.declared.event.Kind.TheVariants as union
+use Rattle.candidate_executions.specs.Events.{ComesBefore}
 use Rattle.candidate_executions.specs.Values.{IsValueOf}
 use Rattle.candidate_executions.specs.Candidates.{Candidate, access_by, HasOutcome}
-use Rattle.candidate_executions.specs.Consistency.{IsCycle}
+use Rattle.candidate_executions.specs.Consistency.{IsOfMode, IsCycle}
 use Rattle.candidate_executions.specs.Sketches.{Sketch, IsConsistentCompletion, IsSourceOf, IsPair, with_value, with_source, with_pair, next_read, IsWhole, MustEndAs, KnownEdge}
 use Rattle.cert_forest.specs.declared.tree.AccessId.{AccessId}
 use Rattle.cert_forest.specs.Trees.{Cover, Value, Source, Order, Cycle, Known, Covers, NoCover, MoreCovers}
 
 abbrev pub event_of : AccessId → Event
 event_of a = At a.thread a.access
-
--- initial writes first, then accesses by thread and index
-abbrev pub ComesBefore : Event → Event → Type 0
-ComesBefore (Initial l) (Initial m) = l < m
-ComesBefore (Initial l) (At t i) = Unit {0}
-ComesBefore (At t i) (Initial l) = ⊥
-ComesBefore (At t i) (At u j) = (t < u) ⊎ ((t ≡ u) × (i < j))
-
--- a union that must have no cycle in the mode
-abbrev pub IsOfMode : Mode → Kind → Type 0
-IsOfMode Sequential union.Sequential = Unit {0}
-IsOfMode Sequential union.Location = ⊥
-IsOfMode Sequential union.Global = ⊥
-IsOfMode (Fenced gaps) union.Sequential = ⊥
-IsOfMode (Fenced gaps) union.Location = Unit {0}
-IsOfMode (Fenced gaps) union.Global = Unit {0}
 
 module _ (p : Listing) (mode : Mode) where
   -- thread t has a next read, and these are its location's values, ascending
