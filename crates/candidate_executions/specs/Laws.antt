@@ -1,12 +1,9 @@
 -- What ties candidate executions to the machines, and what shows how their definitions are to be read.
 use Rattle.std.specs.Prelude.{◌≡◌, ◌≢◌, ◌↔◌, ◌⊎◌, ℕ, ◌<◌, List, Some, None, IsSome, Contains}
-use Rattle.tso_program.specs.declared.instruction.Instr.{Instr}
-use Rattle.tso_program.specs.declared.listing.Thread.{Thread}
 use Rattle.tso_program.specs.declared.listing.Listing.{Listing}
 use Rattle.tso_program.specs.declared.outcome.Outcome.{Outcome}
-use Rattle.tso_program.specs.Instructions.{target_of}
-use Rattle.tso_program.specs.Listings.{action, instr_at}
-use Rattle.tso_program.specs.Limits.{IsWithinLimits}
+use Rattle.tso_program.specs.Listings.{action}
+use Rattle.tso_program.specs.Limits.{JumpForward}
 use Rattle.tso_program.specs.Fences.{Gaps}
 use Rattle.tso_machine.specs.declared.label.Label.{Label}
 use Rattle.tso_machine.specs.Machine.{Mode, Fenced, IsRun, Allows}
@@ -19,14 +16,6 @@ use Rattle.candidate_executions.specs.Consistency.{IsKept, Edge, IsCycle, IsCons
 use Rattle.candidate_executions.specs.Paths.{path_of, LiesBetween}
 use Rattle.candidate_executions.specs.Values.{IsValueOf}
 use Rattle.candidate_executions.specs.Sketches.{Sketch, empty_sketch, Completes, IsConsistentCompletion, IsSketch, IsSourceOf, IsPair, with_value, with_source, with_pair, next_read, IsWhole, MustEndAs, KnownEdge}
-
--- each jump leads to a later instruction, or past the last one: one of the limits of a program
-abbrev pub JumpForward : List Thread → Type 0
-JumpForward threads = (t k target : ℕ) (x : Instr) → instr_at threads t k ≡ Some x → target_of x ≡ Some target → k < target
-
--- programs are within the limits, so their jumps lead forward
-abbrev pub JumpsOfProgramsLeadForward : Type 0
-JumpsOfProgramsLeadForward = (threads : List Thread) (memory : List ℕ) → IsWithinLimits threads memory → JumpForward threads
 
 -- some consistent candidate has the outcome
 abbrev pub HasConsistentCandidate : Listing → Mode → Outcome → Type 0

@@ -1,13 +1,12 @@
 //! The laws of candidate executions: each function's contract is a theorem, and calling it does
 //! nothing.
-ghost use Rattle.candidate_executions.specs.Laws.{JumpsOfProgramsLeadForward, EveryRunIsACandidate, EveryRunIsACompletion, EveryCandidateIsARun, SectionsTellFences, KeptOrderIsTold, NoEdgeLeadsIntoInitial, CyclesAreOfAccesses, EveryCandidateCompletesEmpty, EmptyIsASketch, AValueKeepsASketch, ASourceKeepsASketch, APairKeepsASketch, EachCompletionHasAValue, EachCompletionHasTheValues, EachCompletionHasASource, EachCompletionHasAnOrder, EachCompletionEndsSo, OutcomesAreOne, AKnownEdgeIsAnEdge, AKnownCycleIsACycle, NoKnownEdgeLeadsIntoInitial, KnownCyclesAreOfAccesses};
+ghost use Rattle.candidate_executions.specs.Laws.{EveryRunIsACandidate, EveryRunIsACompletion, EveryCandidateIsARun, SectionsTellFences, KeptOrderIsTold, NoEdgeLeadsIntoInitial, CyclesAreOfAccesses, EveryCandidateCompletesEmpty, EmptyIsASketch, AValueKeepsASketch, ASourceKeepsASketch, APairKeepsASketch, EachCompletionHasAValue, EachCompletionHasTheValues, EachCompletionHasASource, EachCompletionHasAnOrder, EachCompletionEndsSo, OutcomesAreOne, AKnownEdgeIsAnEdge, AKnownCycleIsACycle, NoKnownEdgeLeadsIntoInitial, KnownCyclesAreOfAccesses};
 ghost use Rattle.candidate_executions.specs.StoreBuffering.{StoreBufferingIsTold};
 
 /// Every run of a mode's machine is a consistent candidate execution with the run's outcome, and so a
 /// completion of the sketch with which a search begins. Jumps lead forward, as they do in every
 /// program.
 pub fn every_run_is_a_candidate()
-    ensures forward { JumpsOfProgramsLeadForward }
     ensures candidate { EveryRunIsACandidate }
     ensures completion { EveryRunIsACompletion }
 {}

@@ -5,10 +5,11 @@ use Rattle.tso_program.specs.declared.listing.Listing.{Listing}
 use Rattle.tso_program.specs.declared.outcome.Outcome.{Outcome}
 use Rattle.tso_program.specs.Fences.{gaps_in}
 use Rattle.tso_program.proofs.Gaps.{gap_below}
+use Rattle.tso_program.specs.Limits.{JumpForward}
 use Rattle.tso_machine.specs.declared.label.Label.{Label}
 use Rattle.tso_machine.specs.Machine.{start}
 use Rattle.tso_machine.specs.Outcomes.{IsStoreBufferOutcome, IsSequentialOutcome}
-use Rattle.fence_laws.specs.Laws.{JumpForward, PassesNoGap, PassesNoGapOf, HasEveryGapOf, AllGapsServe}
+use Rattle.fence_laws.specs.Laws.{PassesNoGap, PassesNoGapOf, HasEveryGapOf, AllGapsServe}
 use Rattle.fence_laws.proofs.SequentialIsBuffered.{sequential_is_allowed}
 use Rattle.fence_laws.proofs.NothingPassed.{nothing_passed}
 use Rattle.fence_laws.proofs.Unfenced.{unfenced}

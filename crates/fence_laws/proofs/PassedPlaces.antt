@@ -12,11 +12,11 @@ use Rattle.tso_program.specs.declared.action.Action.TheVariants.{Stop, Go, Wait,
 use Rattle.tso_program.specs.Instructions.{target_of}
 use Rattle.tso_program.specs.Listings.{action, instr_at, code_of}
 use Rattle.tso_program.specs.Actions.{act, jumped}
+use Rattle.tso_program.specs.Limits.{JumpForward}
 use Rattle.tso_machine.specs.Machine.{no_gaps, put, Fenced, State, buffered, step, run, is_empty, from_some, passes_at, passes}
 use Rattle.tso_machine.specs.declared.label.Label.{Label}
 use Rattle.tso_machine.specs.declared.label.Label.TheVariants.{Exec, Flush}
 use Rattle.tso_machine.specs.declared.label.Pending.{Pending}
-use Rattle.fence_laws.specs.Laws.{JumpForward}
 use Rattle.fence_laws.proofs.ChangedAt.{put_same, put_other}
 use Rattle.fence_laws.proofs.StepCases.{exec_by, flush_by}
 

@@ -1,25 +1,18 @@
 -- What holds of every program, its runs and its fences.
-use Rattle.std.specs.Prelude.{◌≡◌, ◌↔◌, ℕ, ◌<◌, true, List, Some}
+use Rattle.std.specs.Prelude.{◌≡◌, ◌↔◌, ℕ, ◌<◌, true, List}
 use Rattle.std.specs.FinSet as set
 use Rattle.gap_sets.specs.Gaps.{SetOfGaps}
-use Rattle.tso_program.specs.declared.instruction.Instr.{Instr}
-use Rattle.tso_program.specs.declared.listing.Thread.{Thread}
 use Rattle.tso_program.specs.declared.listing.Listing.{Listing}
 use Rattle.tso_program.specs.declared.outcome.Outcome.{Outcome}
-use Rattle.tso_program.specs.Instructions.{target_of}
-use Rattle.tso_program.specs.Listings.{instr_at, gap_count}
-use Rattle.tso_program.specs.Limits.{IsWithinLimits}
+use Rattle.tso_program.specs.Listings.{gap_count}
+use Rattle.tso_program.specs.Limits.{JumpForward, IsWithinLimits}
 use Rattle.tso_program.specs.Fences.{Gaps, gaps_in, fence}
 use Rattle.tso_machine.specs.declared.label.Label.{Label}
 use Rattle.tso_machine.specs.Machine.{Fenced, no_gaps, start, IsRun}
 use Rattle.tso_machine.specs.Modes.{Passes, ArePassed}
 use Rattle.tso_machine.specs.Outcomes.{IsSequentialOutcome, IsStoreBufferOutcome, Serves, IsTheAnswer, Headline}
 
--- each jump leads forward
-abbrev pub JumpForward : List Thread → Type 0
-JumpForward threads = (t k target : ℕ) (x : Instr) → instr_at threads t k ≡ Some x → target_of x ≡ Some target → k < target
-
--- as each jump of a program within the limits does
+-- each jump of a program within the limits leads forward
 abbrev pub ProgramsJumpForward : Type 0
 ProgramsJumpForward = (p : Listing) → IsWithinLimits p.threads p.memory → JumpForward p.threads
 

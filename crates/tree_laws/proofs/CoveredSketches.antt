@@ -2,6 +2,7 @@
 use Rattle.std.proofs.Common.{ℕ, List, [], ◌∷◌, Contains, map, sym, subst, inl, inr}
 use Rattle.tso_program.specs.declared.listing.Listing.{Listing}
 use Rattle.tso_program.specs.declared.outcome.Outcome.{Outcome}
+use Rattle.tso_program.specs.Limits.{JumpForward}
 use Rattle.tso_machine.specs.Machine.{Mode, Sequential, Fenced}
 use Rattle.candidate_executions.specs.declared.event.Event.{Event}
 use Rattle.candidate_executions.specs.declared.event.Kind.{Kind}
@@ -9,7 +10,6 @@ use Rattle.candidate_executions.specs.declared.event.Kind.TheVariants as union
 use Rattle.candidate_executions.specs.Candidates.{Candidate}
 use Rattle.candidate_executions.specs.Consistency.{IsOfMode, Edge, IsAcyclic, IsConsistent}
 use Rattle.candidate_executions.specs.Sketches.{Sketch, Completes, IsConsistentCompletion, IsSketch, IsPair, with_value, with_source, with_pair}
-use Rattle.candidate_executions.specs.Laws.{JumpForward}
 use Rattle.candidate_executions.proofs.Choices.{a_value_keeps_a_sketch, a_source_keeps_a_sketch, a_pair_keeps_a_sketch, each_has_a_value, each_has_a_source, each_has_an_order}
 use Rattle.candidate_executions.proofs.KnownEdges.{known_cycle_is_a_cycle}
 use Rattle.candidate_executions.proofs.MustEnd.{each_ends_so}

@@ -3,11 +3,11 @@ use Rattle.std.proofs.Common.{List, [], ◌∷◌, Contains, subst, inl, inr}
 use Rattle.tso_program.specs.declared.listing.Listing.{Listing}
 use Rattle.tso_program.specs.declared.outcome.Outcome.{Outcome}
 use Rattle.tso_program.specs.Fences.{gaps_in}
+use Rattle.tso_program.specs.Limits.{JumpForward}
 use Rattle.tso_machine.specs.declared.label.Label.{Label}
 use Rattle.tso_machine.specs.Machine.{Mode, Sequential, Fenced, IsRun}
 use Rattle.tso_machine.specs.Outcomes.{IsSequentialOutcome}
 use Rattle.candidate_executions.specs.Sketches.{empty_sketch}
-use Rattle.candidate_executions.specs.Laws.{JumpForward}
 use Rattle.candidate_executions.proofs.Choices.{empty_is_a_sketch}
 use Rattle.candidate_executions.proofs.RunsAreCandidates.{every_run_is_a_completion}
 use Rattle.candidate_executions.proofs.LastWrites.{outcomes_are_one}

@@ -4,14 +4,13 @@ use Rattle.std.specs.List.{AllZip}
 use Rattle.gap_sets.specs.Gaps.{SetOfGaps}
 use Rattle.tso_program.specs.declared.listing.Listing.{Listing}
 use Rattle.tso_program.specs.declared.outcome.Outcome.{Outcome}
-use Rattle.tso_program.specs.Limits.{IsWithinLimits}
+use Rattle.tso_program.specs.Limits.{JumpForward, IsWithinLimits}
 use Rattle.tso_program.specs.Fences.{gaps_in}
 use Rattle.tso_machine.specs.declared.label.Label.{Label}
 use Rattle.tso_machine.specs.Machine.{Mode, Sequential, Fenced, Allows}
 use Rattle.tso_machine.specs.Outcomes.{IsSequentialOutcome, Serves, IsForeignRun, EachBetterLeavesOutcome, IsTheAnswer, Headline}
 use Rattle.candidate_executions.specs.declared.event.Event.{Event}
 use Rattle.candidate_executions.specs.Sketches.{Sketch, empty_sketch, IsSketch}
-use Rattle.candidate_executions.specs.Laws.{JumpForward}
 use Rattle.cert_forest.specs.Trees.{Cover, Gap, covers_of, gaps_of}
 use Rattle.tree_laws.specs.CoverTrees.{HasNextValues, HasSources, IsValidCover, AreValidCovers, IsCovered}
 use Rattle.tree_laws.specs.GapTrees.{Node, root, IsInRegion, children_of, HasNoneOf, IsSplitBy, IsValidGap, AreValidGaps, EachBetterOfRegionLeavesOutcome, NoServingSetIsBetter, HaveCosts}

@@ -9,6 +9,10 @@ use Rattle.tso_program.specs.declared.limits.ProgramFault.TheVariants.{NoThreads
 use Rattle.tso_program.specs.Instructions.{location_of, target_of}
 use Rattle.tso_program.specs.Listings.{code_of, instr_at, accesses_of, gap_count}
 
+-- each jump leads to a later instruction, or past the last one
+abbrev pub JumpForward : List Thread → Type 0
+JumpForward threads = (t k target : ℕ) (x : Instr) → instr_at threads t k ≡ Some x → target_of x ≡ Some target → k < target
+
 -- threads and initial values within the limits that programs and fenced programs share; a thread has at most so many instructions
 pub record IsWithinSharedLimits (longest : ℕ) (threads : List Thread) (memory : List ℕ) : Type 0 where
   pub some_thread : 0 < length threads
@@ -17,7 +21,7 @@ pub record IsWithinSharedLimits (longest : ℕ) (threads : List Thread) (memory 
   pub few_locations : length memory ≤ 8
   pub located : (t k l : ℕ) (x : Instr) → instr_at threads t k ≡ Some x → location_of x ≡ Some l → l < length memory
   pub few_accesses : sum_by accesses_of threads ≤ 24
-  pub forward_jumps : (t k target : ℕ) (x : Instr) → instr_at threads t k ≡ Some x → target_of x ≡ Some target → k < target
+  pub forward_jumps : JumpForward threads
   pub inner_jumps : (t k target : ℕ) (x : Instr) → instr_at threads t k ≡ Some x → target_of x ≡ Some target → target ≤ length (code_of threads t)
 
 -- a program within the limits
