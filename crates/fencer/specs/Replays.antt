@@ -1,6 +1,6 @@
 -- What the program prints for a command line and an input, and with which status.
 use Rattle.std.specs.Prelude.{◌≡◌, ℕ, ◌+◌, ◌≤◌, List, [], ◌∷◌, ◌++◌, Option, length, string_bytes}
-use Rattle.std.specs.List.{AllByRecursion, flat_map}
+use Rattle.std.specs.List.{flat_map}
 use Rattle.std.specs.declared.string.String.{String}
 use Rattle.std.specs.FinSet as set
 use Rattle.gap_sets.specs.Gaps.{SetOfGaps}
@@ -12,10 +12,8 @@ use Rattle.tso_machine.specs.declared.label.Model.{Model}
 use Rattle.tso_machine.specs.Machine.{Mode, IsRun}
 use Rattle.tso_machine.specs.Modes.{mode_of, ArePassed}
 use Rattle.tso_machine.specs.Faults.{FaultIs}
-use Rattle.tso_machine.specs.RunTexts.{IsLabel, IsRunText}
+use Rattle.tso_machine.specs.RunTexts.{IsRunText, RunFaultIs}
 use Rattle.tso_machine.specs.declared.ended.ReplayFault.{ReplayFault}
-use Rattle.tso_machine.specs.declared.run_text.RunFault.{RunFault}
-use Rattle.tso_machine.specs.declared.run_text.RunFault.TheVariants as run_fault
 use Rattle.litmus_text.specs.declared.litmus.Litmus.{Litmus}
 use Rattle.litmus_text.specs.declared.fault.ReadFault.{ReadFault}
 use Rattle.litmus_text.specs.declared.fault.ReadFault.TheVariants as read_fault
@@ -59,10 +57,6 @@ pub record IsNoLitmus (bytes : List ℕ) (fault : ReadFault) : Type 0 where
   pub why : Refuses bytes fault
   pub none : (litmus : Litmus Listing) → IsLitmus bytes litmus → fault ≡ read_fault.OutOfMemory
 
--- the text spells no steps, want of memory aside
-abbrev pub IsNoRunText : List ℕ → RunFault → Type 0
-IsNoRunText labels fault = (steps : List Label) → AllByRecursion IsLabel steps → IsRunText labels steps → fault ≡ run_fault.OutOfMemory
-
 -- why steps are no run of the unfenced program that the bytes spell
 pub record IsNoRun (bytes : List ℕ) (model : Model) (labels : List ℕ) (fault : ReplayFault) : Type 0 where
   pub litmus : Litmus Listing
@@ -74,7 +68,7 @@ pub record IsNoRun (bytes : List ℕ) (model : Model) (labels : List ℕ) (fault
 -- why a text and labels have no replay: the text is judged before the labels, and these before the run
 abbrev pub IsRefused : List ℕ → Model → List ℕ → Refusal → Type 0
 IsRefused bytes model labels (refusal.Litmus fault) = IsNoLitmus bytes fault
-IsRefused bytes model labels (refusal.Run fault) = (litmus : Litmus Listing) × IsLitmus bytes litmus × IsNoRunText labels fault
+IsRefused bytes model labels (refusal.Run fault) = (litmus : Litmus Listing) × IsLitmus bytes litmus × RunFaultIs labels fault
 IsRefused bytes model labels (refusal.Replay fault) = IsNoRun bytes model labels fault
 
 -- the line of a refusal

@@ -1,9 +1,9 @@
 //! The answer to a replay: the lines of a run, or why there is none.
 
 ghost use Rattle.std.specs.Prelude.{◌≡◌, ◌++◌, IfOk, IfErr};
-ghost use Rattle.tso_machine.specs.RunTexts.{IsRunText};
+ghost use Rattle.tso_machine.specs.RunTexts.{IsRunText, RunFaultIs};
 ghost use Rattle.report.specs.Answers.{outcome_line, passed_line};
-ghost use Rattle.fencer.specs.Replays.{run_text, PrintsRun, IsNoRunText, IsRefused, refusal_line};
+ghost use Rattle.fencer.specs.Replays.{run_text, PrintsRun, IsRefused, refusal_line};
 
 use gap_sets::GapSet;
 use litmus_text::{Litmus, ReadFault, read_litmus};
@@ -49,7 +49,7 @@ fn run_text(alloc: Global, words: &[String]) -> Result<Vec<u8>, AllocError>
 /// The steps that label words spell.
 fn steps_of(alloc: Global, words: &[String]) -> Result<Vec<Label>, RunFault>
     ensures found { IfOk result (λ steps. IsRunText (run_text words.now) steps.items) }
-    ensures err { IfErr result (IsNoRunText (run_text words.now)) }
+    ensures err { IfErr result (RunFaultIs (run_text words.now)) }
 {
     match run_text(alloc, words) {
         Ok(text) => read_run(alloc, &text),
