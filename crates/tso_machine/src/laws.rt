@@ -7,8 +7,8 @@ pub fn runs_have_no_fault()
     ensures { RunsHaveNoFault }
 {}
 
-/// A replay's fault is of its first step that isn't possible: a cause that applies makes its step impossible,
-/// and two faults that both fit a replay are the same, want of memory aside.
+/// A cause that applies to a step of a replay makes the step impossible, and two faults that both fit a
+/// replay are the same, want of memory aside: a replay that is refused has one answer.
 pub fn the_first_fault_is_unique()
     ensures stops { CausesStopSteps }
     ensures unique { TheFirstFaultIsUnique }
