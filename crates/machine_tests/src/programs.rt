@@ -35,6 +35,16 @@ fn refused(answer: Result<Program, ProgramFault>) -> Option<ProgramFault> {
 }
 
 #[test]
+fn a_list_grows(rt: HostRuntime) -> Result<(), Fail> {
+    let mut list = Items::of(vec![in rt.alloc(); 1, 2]?);
+    list.push(3)?;
+    let copy = list.copy(rt.alloc())?;
+    assert!(rt; copy == list);
+    assert_eq!(rt; list.into_vec().as_slice(), [1, 2, 3].as_slice());
+    Ok(())
+}
+
+#[test]
 fn store_buffering_is_a_program(rt: HostRuntime) -> Result<(), Fail> {
     let program = store_buffering(rt.alloc())?;
     let copy = program.copy()?;
