@@ -14,7 +14,8 @@ use Rattle.cert_forest.proofs.TreeTexts.{gaps_count}
 use Rattle.tree_laws.specs.GapTrees.{PassesGap, IsSplitBy}
 use Rattle.tree_laws.proofs.OneList.{one_list_of_gaps}
 use Rattle.cert_check.specs.declared.gap.Region.{Region}
-use Rattle.cert_check.specs.Regions.{node_of, HasNoSplit, IsValidIn, IsWrongIn, AreValidIn, IsWrongChildIn}
+use Rattle.cert_check.specs.Regions.{node_of, IsValidIn, IsWrongIn, AreValidIn, IsWrongChildIn}
+use Rattle.cert_check.specs.GapDefects.{HasNoSplit}
 use Rattle.cert_check.specs.Replays.{IsReplayOf, AreBufferedReplays}
 use Rattle.cert_check.specs.Judged.{IsAtRoot, IsBelow}
 
@@ -38,7 +39,7 @@ no_replay_at p (run ∷ runs) (x ∷ ended) (suc n) labels each e h = no_replay_
 
 module _ (p : Listing) (runs : List (List Label)) (ended : List Ended) (region : Region) (n : ℕ) (each : AreBufferedReplays p runs ended) where
   -- no such run
-  pub not_there : slice_get ended n ≡ None → (count : ℕ) → HasNoSplit p runs region n count
+  pub not_there : slice_get ended n ≡ None → (count : ℕ) → HasNoSplit p runs (node_of region) n count
   not_there none count gaps split e = no_replay_at p runs ended n split.labels each none split.is_run
 
   module _ (end : Ended) (there : slice_get ended n ≡ Some end) where
@@ -49,7 +50,7 @@ module _ (p : Listing) (runs : List (List Label)) (ended : List Ended) (region :
     same_labels gaps split = same_Some replay.0 split.labels (sym replay.1 ∙ split.is_run)
 
     -- the run passes a gap that the sets must have
-    pub must_pass : (gap : ℕ) → set.contains end.passed gap ≡ true → set.contains region.must gap ≡ true → (count : ℕ) → HasNoSplit p runs region n count
+    pub must_pass : (gap : ℕ) → set.contains end.passed gap ≡ true → set.contains region.must gap ≡ true → (count : ℕ) → HasNoSplit p runs (node_of region) n count
     must_pass gap passed must count gaps split e =
         split.passes_none gap must (subst (λ labels. PassesGap p labels gap) (same_labels gaps split) ((replay.2.passed gap).0 passed))
 
@@ -70,7 +71,7 @@ module _ (p : Listing) (runs : List (List Label)) (ended : List Ended) (region :
 
 -- they are not so many
 pub not_as_many : (p : Listing) (runs : List (List Label)) (region : Region) (n count : ℕ) (gaps : List ℕ) → IsSplitBy p runs (node_of region) n gaps →
-    (length gaps ≡ count → ⊥) → HasNoSplit p runs region n count
+    (length gaps ≡ count → ⊥) → HasNoSplit p runs (node_of region) n count
 not_as_many p runs region n count gaps split differ others other e =
     differ (ap length (one_list_of_gaps p runs (node_of region) n gaps others split other) ∙ sym e)
 
@@ -79,7 +80,7 @@ module _ (p : Listing) (costs : List ℕ) (answer : SetOfGaps) (runs : List (Lis
   bound_here path (at, better) = subst (IsWrongIn p costs answer runs Bound region) (sym at) better
 
   module _ (n : ℕ) (trees : List Gap) where
-    pub split_here : (path : List ℕ) → IsAtRoot (HasNoSplit p runs region n (length trees)) path → IsWrongIn p costs answer runs (Split n (gaps_of trees)) region path
+    pub split_here : (path : List ℕ) → IsAtRoot (HasNoSplit p runs (node_of region) n (length trees)) path → IsWrongIn p costs answer runs (Split n (gaps_of trees)) region path
     split_here path (at, none) = subst (IsWrongIn p costs answer runs (Split n (gaps_of trees)) region) (sym at) (λ gaps split e. none gaps split (sym (gaps_count trees) ∙ e))
 
     module _ (gaps : List ℕ) (split : IsSplitBy p runs (node_of region) n gaps) where

@@ -23,7 +23,7 @@ use Rattle.tso_machine.proofs.Refused.{no_fault}
 use Rattle.fence_laws.proofs.GapsAvoided.{empty_fences_nothing}
 use Rattle.cert_forest.specs.Certificates.{labels_of}
 use Rattle.cert_check.specs.Faults.{IsRunOf, IsFirstWithout}
-use Rattle.cert_check.specs.Replays.{machine_of, IsReplayOf, AreReplaysOf, IsNoRun, RunsFaultIs}
+use Rattle.cert_check.specs.Replays.{machine_of, IsReplayOf, AreReplaysOf, IsNoRun, IsFaultFrom, RunsFaultIs}
 
 -- with the empty set fenced a model's machine is the one with no gap fenced
 pub machine_is : (p : Listing) (model : Model) → mode_of p set.empty model ≡ machine_of model
@@ -48,8 +48,8 @@ module _ (p : Listing) (model : Model) (labels : List Label) (empty : SetOfGaps)
   }
 
   -- and what it says where there is none
-  pub fault_is : (why : ReplayFault) (number : ℕ) (fault : RunsFault) → FaultIs p (mode_of p empty model) labels why → IsNoRun number (why ≡ replays.OutOfMemory) fault →
-      IsNoRun number (IsRunOf p (machine_of model) labels) fault
+  pub fault_is : (why : ReplayFault) (number : ℕ) (fault : RunsFault) → FaultIs p (mode_of p empty model) labels why → IsFaultFrom why number fault →
+      IsNoRun p (machine_of model) labels number fault
   fault_is why number (runs.NoRun n) h (at, no_memory) = (at, no_run p (mode_of p empty model) (machine_of model) labels why same_machine h no_memory)
   fault_is why number runs.OutOfMemory h none = tt
 
@@ -89,7 +89,7 @@ module _ (p : Listing) (model : Model) (all : List (Vec Label)) where
 
   -- the fault of the first run that is none
   pub first_fault : (i : ℕ) (d : Vec Label) (ended : List Ended) (labels : List Label) → labels ≡ (get_or all i d).items → (fault : RunsFault) → i < length all → AreReplaysOf p model (labels_of (take i all)) ended →
-      IsNoRun i (IsRunOf p (machine_of model) labels) fault → RunsFaultIs p model (labels_of all) fault
+      IsNoRun p (machine_of model) labels i fault → RunsFaultIs p model (labels_of all) fault
   first_fault i d ended labels same (runs.NoRun n) h each (at, none) = subst (IsFirstWithout (IsRunOf p (machine_of model)) (labels_of all)) (sym at)
       (first_no_run i d ended h each (λ run. none (subst (IsRunOf p (machine_of model)) (sym same) run)))
   first_fault i d ended labels same runs.OutOfMemory h each none = tt

@@ -9,11 +9,20 @@ use Rattle.cert_forest.specs.Trees.{Cover, Value, Source, Order, Cycle, Known, C
 use Rattle.cert_forest.specs.Texts.{count_covers}
 use Rattle.tree_laws.specs.CoverTrees.{event_of, HasNextValues, HasSources, HasNoOrder, IsKnownCycle, MustEndAsNumber, IsValidCover}
 
+module _ (p : Listing) (mode : Mode) where
+  -- thread t has no next read, or its location has not so many values
+  abbrev pub HasNoValues : Sketch → ℕ → ℕ → Type 0
+  HasNoValues k t count = (values : List ℕ) → HasNextValues p mode k t values → count ≡ length values → ⊥
+
+  -- no source is to be chosen for e, or there are not so many
+  abbrev pub HasNoSources : Sketch → Event → ℕ → Type 0
+  HasNoSources k e count = (sources : List Event) → HasSources p mode k e sources → count ≡ length sources → ⊥
+
 module _ (p : Listing) (mode : Mode) (outcomes : List Outcome) where
   -- the root is wrong at the sketch, whatever its children say: its number of children is not that of the values or sources, or what it says does not hold
   abbrev pub HasWrongRoot : Cover → Sketch → Type 0
-  HasWrongRoot (Value t children) k = (values : List ℕ) → HasNextValues p mode k t values → count_covers children ≡ length values → ⊥
-  HasWrongRoot (Source read children) k = (sources : List Event) → HasSources p mode k (event_of read) sources → count_covers children ≡ length sources → ⊥
+  HasWrongRoot (Value t children) k = HasNoValues p mode k t (count_covers children)
+  HasWrongRoot (Source read children) k = HasNoSources p mode k (event_of read) (count_covers children)
   HasWrongRoot (Order first second first_before second_before) k = HasNoOrder p mode k (event_of first) (event_of second) → ⊥
   HasWrongRoot (Cycle kind events) k = IsKnownCycle p mode k kind (map event_of events) → ⊥
   HasWrongRoot (Known number) k = MustEndAsNumber p mode outcomes k number → ⊥

@@ -8,10 +8,14 @@ use Rattle.cert_forest.specs.Trees.{Gap, Split, Bound, Gaps, NoGap, MoreGaps}
 use Rattle.cert_forest.specs.Texts.{count_gaps}
 use Rattle.tree_laws.specs.GapTrees.{Node, children_of, IsSplitBy, IsValidGap}
 
+-- the run of this number doesn't split the node's region into so many
+abbrev pub HasNoSplit : Listing → List (List Label) → Node → ℕ → ℕ → Type 0
+HasNoSplit p runs n number count = (gaps : List ℕ) → IsSplitBy p runs n number gaps → count ≡ length gaps → ⊥
+
 module _ (p : Listing) (costs : List ℕ) (answer : SetOfGaps) (runs : List (List Label)) where
   -- the root is wrong at the node, whatever its children say
   abbrev pub HasWrongRoot : Gap → Node → Type 0
-  HasWrongRoot (Split number children) n = (gaps : List ℕ) → IsSplitBy p runs n number gaps → count_gaps children ≡ length gaps → ⊥
+  HasWrongRoot (Split number children) n = HasNoSplit p runs n number (count_gaps children)
   HasWrongRoot Bound n = Better costs n.must answer
 
   abbrev mutual

@@ -57,7 +57,7 @@ pub record AreValueChoices (s : Parts) (t count : ℕ) (choices : List Choice) :
   pub each : choices ≡ map (Value t) values
 
 abbrev pub HasNoValues : Parts → ℕ → ℕ → Type 0
-HasNoValues s t count = (values : List ℕ) → HasNextValues s.program (mode_in s) (sketch_of s) t values → count ≡ length values → ⊥
+HasNoValues s t count = covers.HasNoValues s.program (mode_in s) (sketch_of s) t count
 
 -- the sources of a read are as many as this, and these choices give them
 pub record AreSourceChoices (s : Parts) (read : Event) (count : ℕ) (choices : List Choice) : Type 0 where
@@ -67,4 +67,4 @@ pub record AreSourceChoices (s : Parts) (read : Event) (count : ℕ) (choices : 
   pub each : choices ≡ map (Source read) sources
 
 abbrev pub HasNoSources : Parts → Event → ℕ → Type 0
-HasNoSources s read count = (sources : List Event) → HasSources s.program (mode_in s) (sketch_of s) read sources → count ≡ length sources → ⊥
+HasNoSources s read count = covers.HasNoSources s.program (mode_in s) (sketch_of s) read count

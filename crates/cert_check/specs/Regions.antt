@@ -1,11 +1,11 @@
 -- Regions of sets of gaps, in the code and in the definitions.
-use Rattle.std.specs.Prelude.{◌≡◌, ℕ, List, length}
+use Rattle.std.specs.Prelude.{ℕ, List}
 use Rattle.std.specs.FinSet as set
 use Rattle.gap_sets.specs.Gaps.{SetOfGaps}
 use Rattle.tso_program.specs.declared.listing.Listing.{Listing}
 use Rattle.tso_machine.specs.declared.label.Label.{Label}
 use Rattle.cert_forest.specs.Trees.{Gap, gaps_of}
-use Rattle.tree_laws.specs.GapTrees.{Node, children_of, IsSplitBy, IsValidGap, AreValidGaps}
+use Rattle.tree_laws.specs.GapTrees.{Node, children_of, IsValidGap, AreValidGaps}
 use Rattle.cert_check.specs.declared.gap.Region.{Region}
 use Rattle.cert_check.specs.GapDefects.{FirstWrongGap, FirstWrongChild}
 
@@ -18,10 +18,6 @@ with_gap region gap = record region { must = set.insert region.must gap }
 
 abbrev pub without_gap : Region → ℕ → Region
 without_gap region gap = record region { never = set.insert region.never gap }
-
--- the run of this number doesn't split the region into so many
-abbrev pub HasNoSplit : Listing → List (List Label) → Region → ℕ → ℕ → Type 0
-HasNoSplit p runs region number count = (gaps : List ℕ) → IsSplitBy p runs (node_of region) number gaps → count ≡ length gaps → ⊥
 
 module _ (p : Listing) (costs : List ℕ) (answer : SetOfGaps) (runs : List (List Label)) where
   abbrev pub IsValidIn : Gap → Region → Type 0

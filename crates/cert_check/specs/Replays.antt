@@ -1,5 +1,5 @@
 -- Replays of a certificate's runs.
-use Rattle.std.specs.Prelude.{◌≡◌, ℕ, List, map, Contains}
+use Rattle.std.specs.Prelude.{◌≡◌, ◌≢◌, ℕ, List, map, Contains}
 use Rattle.std.specs.List.{AllZip}
 use Rattle.tso_program.specs.declared.listing.Listing.{Listing}
 use Rattle.tso_program.specs.declared.outcome.Outcome.{Outcome}
@@ -7,6 +7,8 @@ use Rattle.tso_machine.specs.declared.label.Label.{Label}
 use Rattle.tso_machine.specs.declared.label.Model.{Model}
 use Rattle.tso_machine.specs.declared.label.Model.TheVariants as models
 use Rattle.tso_machine.specs.declared.ended.Ended.{Ended}
+use Rattle.tso_machine.specs.declared.ended.ReplayFault.{ReplayFault}
+use Rattle.tso_machine.specs.declared.ended.ReplayFault.TheVariants as replays
 use Rattle.tso_machine.specs.Machine.{Mode, Sequential, Fenced, no_gaps, IsRun}
 use Rattle.tso_machine.specs.Modes.{ArePassed}
 use Rattle.cert_check.specs.declared.fault.RunsFault.{RunsFault}
@@ -39,10 +41,15 @@ abbrev pub RunsFaultIs : Listing → Model → List (List Label) → RunsFault �
 RunsFaultIs p model runs (why.NoRun number) = IsFirstWithout (IsRunOf p (machine_of model)) runs number
 RunsFaultIs p model runs why.OutOfMemory = Unit {0}
 
--- the run of this number is none, if memory is not wanting
-abbrev pub IsNoRun : ℕ → Type 0 → RunsFault → Type 0
-IsNoRun number P (why.NoRun n) = (n ≡ number) × (P → ⊥)
-IsNoRun number P why.OutOfMemory = Unit {0}
+-- the labels of this number are no run of the machine, if memory is not wanting
+abbrev pub IsNoRun : Listing → Mode → List Label → ℕ → RunsFault → Type 0
+IsNoRun p machine labels number (why.NoRun n) = (n ≡ number) × (IsRunOf p machine labels → ⊥)
+IsNoRun p machine labels number why.OutOfMemory = Unit {0}
+
+-- the fault of the run of this number, from that of its replay: want of memory stays that, every other says that there is no run
+abbrev pub IsFaultFrom : ReplayFault → ℕ → RunsFault → Type 0
+IsFaultFrom fault number (why.NoRun n) = (n ≡ number) × (fault ≢ replays.OutOfMemory)
+IsFaultFrom fault number why.OutOfMemory = fault ≡ replays.OutOfMemory
 
 -- replays of runs of the store buffer machine with no gap fenced
 abbrev pub AreBufferedReplays : Listing → List (List Label) → List Ended → Type 0

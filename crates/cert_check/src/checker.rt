@@ -73,6 +73,7 @@ pub fn check(
 fn what_is_proved(program: &Program, costs: &Costs)
     ensures { (c : trees.Certificate) → IsValidCertificate program.now costs.now c → IsProved program.now costs.now c }
 {
+    // For the proof alone: what holds of every program and of all costs is known where they are called.
     let _ = program.threads();
     let _ = costs.len();
     a_valid_certificate_proves_the_headline();

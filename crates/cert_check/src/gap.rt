@@ -8,9 +8,9 @@ ghost use Rattle.tso_machine.specs.declared.label.Label.{Label};
 ghost use Rattle.cert_forest.specs.Views.{gap};
 ghost use Rattle.tree_laws.specs.GapTrees.{root, IsSplitBy, IsValidGap};
 ghost use Rattle.cert_check.specs.Replays.{AreBufferedReplays};
-ghost use Rattle.cert_check.specs.GapDefects.{FirstWrongGap};
+ghost use Rattle.cert_check.specs.GapDefects.{HasNoSplit, FirstWrongGap};
 ghost use Rattle.cert_check.specs.Judged.{IfWrong, IsAtRoot, IsBelow};
-ghost use Rattle.cert_check.specs.Regions.{node_of, with_gap, without_gap, HasNoSplit, IsValidIn, IsWrongIn, AreValidIn, IsWrongChildIn};
+ghost use Rattle.cert_check.specs.Regions.{node_of, with_gap, without_gap, IsValidIn, IsWrongIn, AreValidIn, IsWrongChildIn};
 
 use crate::choice::wrong_here;
 use crate::fault::TreeFault;
@@ -164,7 +164,7 @@ fn split_gaps(
     ensures as_many { IfOk result (λ gaps. count ≡ length gaps.items) }
     ensures below { IfOk result (λ gaps. All (λ gap. gap < 64) gaps.items) }
     ensures wrong { (p : Listing) (labels : List (List Label)) → AreBufferedReplays p labels runs.now
-        → IfErr result (IfWrong (IsAtRoot (HasNoSplit p labels region.now run count))) }
+        → IfErr result (IfWrong (IsAtRoot (HasNoSplit p labels (node_of region.now) run count))) }
 {
     let Some(end) = replay_of(runs, run) else {
         return Err(wrong_here(alloc));

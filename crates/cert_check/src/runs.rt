@@ -1,14 +1,13 @@
 //! The runs of a certificate, replayed.
 ghost use Rattle.std.specs.Prelude.{◌≡◌, ◌↔◌, IsTrue, IfOk, IfErr, MatchOption, All, Contains, slice_get};
 ghost use Rattle.std.specs.Option.{option_copied};
-ghost use Rattle.tso_machine.specs.declared.ended.ReplayFault.TheVariants as replays;
 ghost use Rattle.cert_forest.specs.Certificates.{labels_of};
 ghost use Rattle.std.specs.BTreeSet.{contains};
 ghost use Rattle.std.specs.Borrow.{Bor};
 ghost use Rattle.tso_program.specs.declared.outcome.Outcome.{Outcome};
-ghost use Rattle.cert_check.specs.Faults.{IsRunOf, IsFirstWithout};
+ghost use Rattle.cert_check.specs.Faults.{IsFirstWithout};
 ghost use Rattle.cert_check.specs.Ordered.{borrowed_cmp};
-ghost use Rattle.cert_check.specs.Replays.{machine_of, IsReplayOf, AreReplaysOf, outcomes_of, IsOutside, IsNoRun, RunsFaultIs};
+ghost use Rattle.cert_check.specs.Replays.{machine_of, IsReplayOf, AreReplaysOf, outcomes_of, IsOutside, IsNoRun, IsFaultFrom, RunsFaultIs};
 
 use crate::fault::RunsFault;
 use gap_sets::GapSet;
@@ -44,7 +43,7 @@ fn replay_one(
     labels: &[Label],
 ) -> Result<Ended, RunsFault>
     ensures replay { IfOk result (IsReplayOf program.now model labels.now) }
-    ensures fault { IfErr result (IsNoRun number (IsRunOf program.now (machine_of model) labels.now)) }
+    ensures fault { IfErr result (IsNoRun program.now (machine_of model) labels.now number) }
 {
     match replay(alloc, program, &GapSet::empty(), model, labels) {
         Ok(end) => Ok(end),
@@ -52,9 +51,9 @@ fn replay_one(
     }
 }
 
-/// The labels of this number are no run, if memory isn't wanting.
+/// The fault of the replay of this number: the labels are no run, if memory isn't wanting.
 fn runs_fault(fault: ReplayFault, number: usize) -> RunsFault
-    ensures { IsNoRun number (fault ≡ replays.OutOfMemory) result }
+    ensures { IsFaultFrom fault number result }
 {
     match fault {
         ReplayFault::OutOfMemory => RunsFault::OutOfMemory,

@@ -7,7 +7,8 @@ use Rattle.cert_forest.specs.Views.{gap, gap_node}
 use Rattle.cert_forest.specs.Trees.{Gap, Split, gaps_of}
 use Rattle.cert_check.specs.declared.fault.TreeFault.{TreeFault}
 use Rattle.cert_check.specs.Judged.{IfWrong, IsAtRoot, IsBelow}
-use Rattle.cert_check.specs.Regions.{HasNoSplit, IsWrongIn, IsWrongChildIn}
+use Rattle.cert_check.specs.GapDefects.{HasNoSplit}
+use Rattle.cert_check.specs.Regions.{node_of, IsWrongIn, IsWrongChildIn}
 use Rattle.cert_check.proofs.Answered.{err_up, if_err}
 use Rattle.cert_check.proofs.ChoicesJudged.{if_wrong}
 use Rattle.cert_check.proofs.GapNodes.{split_here, split_below}
@@ -24,9 +25,9 @@ judge_gap-returns-in_err-gaps-in-Split-clause-wrong t c p runs each =
     let P : TreeFault → Type 0 = IfWrong (IsWrongIn p bounds.costs.now bounds.answer runs (gap c.args.tree.now) region) in
     err_up c.from_residual.result c.in_err-gaps-in-Split.field-0.0 P c.from_residual.ensures.1
     (subst (λ tree. IfWrong (IsWrongIn p bounds.costs.now bounds.answer runs tree region) c.in_err-gaps-in-Split.field-0.0) (sym is)
-    (if_wrong (IsAtRoot (HasNoSplit p runs region c.in-Split.run' (length kids))) (IsWrongIn p bounds.costs.now bounds.answer runs (Split c.in-Split.run' (gaps_of kids)) region) c.in_err-gaps-in-Split.field-0.0
+    (if_wrong (IsAtRoot (HasNoSplit p runs (node_of region) c.in-Split.run' (length kids))) (IsWrongIn p bounds.costs.now bounds.answer runs (Split c.in-Split.run' (gaps_of kids)) region) c.in_err-gaps-in-Split.field-0.0
     (split_here p bounds.costs.now bounds.answer runs region c.in-Split.run' kids)
-    (subst (λ n. IfWrong (IsAtRoot (HasNoSplit p runs region c.in-Split.run' n)) c.in_err-gaps-in-Split.field-0.0) len (c.in_err-gaps-in-Split.ensures.wrong p runs each))))
+    (subst (λ n. IfWrong (IsAtRoot (HasNoSplit p runs (node_of region) c.in-Split.run' n)) c.in_err-gaps-in-Split.field-0.0) len (c.in_err-gaps-in-Split.ensures.wrong p runs each))))
 
 pub judge_gap-returns-in_ok-gaps-in-Split-clause-wrong : goal.judge_gap-returns-in_ok-gaps-in-Split-clause-wrong
 judge_gap-returns-in_ok-gaps-in-Split-clause-wrong t c p runs each =

@@ -1,19 +1,20 @@
 use Rattle.std.proofs.Common.{◌≡◌, true, false, sym, ◌∙◌, arith}
-use Rattle.cert_check.specs.Regions.{HasNoSplit}
+use Rattle.cert_check.specs.GapDefects.{HasNoSplit}
+use Rattle.cert_check.specs.Regions.{node_of}
 use Rattle.cert_check.proofs.ChoicesJudged.{here}
 use Rattle.cert_check.proofs.GapNodes.{not_there, must_pass, splits, not_as_many}
 use Rattle.cert_check.proofs.gap.split_gaps.Goals as goal
 
 pub returns-in_default-clause-wrong : goal.returns-in_default-clause-wrong
 returns-in_default-clause-wrong c p labels each =
-    here (HasNoSplit p labels c.args.region.now c.args.run c.args.count) c.wrong_here.result c.wrong_here.ensures
+    here (HasNoSplit p labels (node_of c.args.region.now) c.args.run c.args.count) c.wrong_here.result c.wrong_here.ensures
     (not_there p labels c.args.runs.now c.args.region.now c.args.run each (sym c.in_default.ensures) c.args.count)
 
 pub returns-then-meets-clause-wrong : goal.returns-then-meets-clause-wrong
 returns-then-meets-clause-wrong c p labels each =
     let end = c.in-Some.end.now in
     let meets = c.meets.ensures.0 c.if-meets.true in
-    here (HasNoSplit p labels c.args.region.now c.args.run c.args.count) c.wrong_here-then-meets.result c.wrong_here-then-meets.ensures
+    here (HasNoSplit p labels (node_of c.args.region.now) c.args.run c.args.count) c.wrong_here-then-meets.result c.wrong_here-then-meets.ensures
     (must_pass p labels c.args.runs.now c.args.region.now c.args.run each end (sym c.in-Some.ensures) meets.0 meets.1 meets.2 c.args.count)
 
 pub returns-clause-split : goal.returns-clause-split
@@ -27,5 +28,5 @@ returns-then-len-count-clause-wrong c p labels each =
     let end = c.in-Some.end.now in
     let split = splits p labels c.args.runs.now c.args.region.now c.args.run each end (sym c.in-Some.ensures) c.in_ok-gaps.gaps.items
     (λ gap passed must. (let yes = c.meets.ensures.1 (gap, passed, must) in let no : true ≡ false = sym yes ∙ c.if-meets.false in cc)) c.in_ok-gaps.ensures.ascending c.in_ok-gaps.ensures.exact in
-    here (HasNoSplit p labels c.args.region.now c.args.run c.args.count) c.wrong_here-then-len-count.result c.wrong_here-then-len-count.ensures
+    here (HasNoSplit p labels (node_of c.args.region.now) c.args.run c.args.count) c.wrong_here-then-len-count.result c.wrong_here-then-len-count.ensures
     (not_as_many p labels c.args.region.now c.args.run c.args.count c.in_ok-gaps.gaps.items split (λ e. c.if-len-count.true (let long = c.in_ok-gaps.gaps.ok.0 in let len = c.len.ensures in omega arith)))
