@@ -17,6 +17,7 @@ mod search;
 mod sketch;
 mod values;
 
+pub use candidate_executions::{Event, Kind};
 pub use fault::SketchFault;
 pub use mode::Mode;
 pub use sketch::Sketch;

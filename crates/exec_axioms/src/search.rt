@@ -30,6 +30,7 @@ impl Sketch {
     fn find_cycle_of(&self, kind: Kind) -> Result<Option<(Kind, Vec<Event>)>, AllocError>
         ensures { IfOk result (λ found. MatchOption found ((es : List Event) → IsKnownCycle self.now kind es → ⊥) (λ cycle. IsSimpleCycle self.now cycle.0 cycle.1.items)) }
     {
+        // For the proof alone: what holds of every sketch is known where a field of it is read.
         let _ = &self.program;
         let mut nodes = Vec::new(self.alloc);
         self.push_accesses(&mut nodes)?;
@@ -86,7 +87,7 @@ impl Sketch {
         let mut path = Vec::new(self.alloc);
         let mut open = Vec::from_slice(self.alloc, nodes)?;
         let mut now = open.remove(0);
-        'steps: loop {
+        loop {
             path.push(now)?;
             let next = self.next_node(kind, now, nodes);
             if let Some(place) = place_of(path.as_slice(), next) {

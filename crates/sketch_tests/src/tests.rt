@@ -1,6 +1,5 @@
 //! Sketches of small programs, by hand.
-use candidate_executions::{Event, Kind};
-use exec_axioms::{Mode, Sketch, SketchFault};
+use exec_axioms::{Event, Kind, Mode, Sketch, SketchFault};
 use gap_sets::GapSet;
 use std::alloc::{AllocError, Global};
 use std::test::Fail;
