@@ -60,13 +60,9 @@ impl Sketch {
     fn location_read(&self, event: Event) -> Option<u8>
         ensures { MatchOption result (IsRead self.now event → ⊥) (ReadsAt self.now event) }
     {
-        match self.access(event) {
-            Some(access) => match access.read {
-                Some(_) => Some(access.location),
-                None => None,
-            },
-            None => None,
-        }
+        let access = self.access(event)?;
+        access.read?;
+        Some(access.location)
     }
 
     /// Chooses a read's source.
@@ -105,10 +101,7 @@ impl Sketch {
     fn has_source(&self, read: Event) -> bool
         ensures { IsTrue result ↔ HasSource self.now read }
     {
-        match self.source(read) {
-            Some(_) => true,
-            None => false,
-        }
+        self.source(read).is_some()
     }
 
     /// Chooses that the first write comes before the second.
