@@ -1,5 +1,5 @@
 -- The gaps of a program, listed in the order of their numbers.
-use Rattle.std.proofs.Common.{◌≡◌, ℕ, zero, suc, ◌+◌, ◌-◌, ◌<◌, ◌≤◌, Bool, true, false, ◌&&◌, List, [], ◌∷◌, ◌++◌, length, take, get_or, Option, Some, None, refl, sym, ap, ◌∙◌, arith, inl, inr}
+use Rattle.std.proofs.Common.{◌≡◌, ℕ, zero, suc, ◌+◌, ◌-◌, ◌<◌, ◌≤◌, Bool, true, false, ◌&&◌, List, [], ◌∷◌, ◌++◌, length, take, get_or, Option, Some, None, refl, sym, ap, subst, ◌∙◌, arith, inl, inr}
 use Rattle.std.specs.Prelude.{map, slice_get, nat_lt, nat_le, IfSome, if◌then◌else◌}
 use Rattle.std.specs.List.{range_with_len}
 use Rattle.std.proofs.lemmas.Bool.{cases_lt}
@@ -9,7 +9,7 @@ use Rattle.std.proofs.lemmas.List.FromFn.{length-map-range_with_len, get_or-map-
 use Rattle.std.proofs.lemmas.List.Sums.{sum_by-cons}
 use Rattle.tso_program.specs.declared.listing.Thread.{Thread}
 use Rattle.tso_program.specs.Listings.{code_of, gap_count, gap_number, gaps_of_thread}
-use Rattle.report.specs.Places.{places_from, gap_place}
+use Rattle.report.specs.Places.{places_from, gap_place, PrintedPlacesAreTheGaps}
 
 in_front : {X : Type 0} (xs ys : List X) (i : ℕ) → i < length xs → slice_get (xs ++ ys) i ≡ slice_get xs i
 in_front [] ys i h = absurd (omega arith)
@@ -143,3 +143,39 @@ same_place threads gap found number only = go (listed 0 threads gap) found numbe
     go (there u k place is) found number only = only u k is ∙ sym (place ∙ ap (λ v. Some (v, k)) (let e : 0 + u ≡ u = omega arith in e))
     go (past place none) None number only = sym place
     go (past place none) (Some (u, k)) number only = absurd (none u k number)
+
+-- the gap of a number is listed there
+found_place : (s : ℕ) (threads : List Thread) (t k gap : ℕ) → gap_number threads t k ≡ Some gap → slice_get (places_from s threads) gap ≡ Some (s + t, k)
+found_place s [] t k gap e = absurd (none_of_none gap t k e)
+found_place s (x ∷ xs) zero k gap e =
+    let p = passed (x ∷ xs) 0 k gap e in
+    let low = p.low in let high = p.high in let number = p.number in
+    let within : gap < gaps_of_thread x = omega arith in
+    let next : gap + 1 ≡ k = omega arith in
+    here s x _ (places_from (s + 1) xs) gap (first_places s x) within ∙ ap (λ k. Some (s + 0, k)) next
+found_place s (x ∷ xs) (suc t) k gap e =
+    let number = (passed (x ∷ xs) (suc t) k gap e).number in
+    let past_first : gaps_of_thread x ≤ gap = omega (arith, count_first x (take t xs)) in
+    let there : Bool = nat_le 1 k && nat_lt k (length (code_of xs t)) in
+    let sum : gaps_of_thread x + (gap_count (take t xs) + (k - 1)) ≡ gap_count (x ∷ take t xs) + (k - 1) = omega (arith, count_first x (take t xs)) in
+    let rest : gap_number xs t k ≡ Some (gap - gaps_of_thread x) = earlier there (gaps_of_thread x) (gap_count (take t xs) + (k - 1)) gap past_first (ap (λ n. if there then Some n else None) sum ∙ e) in
+    skipped s x _ (places_from (s + 1) xs) gap (first_places s x) past_first
+    ∙ found_place (s + 1) xs t k (gap - gaps_of_thread x) rest
+    ∙ ap (λ u. Some (u, k)) (let q : s + 1 + t ≡ s + suc t = omega arith in q)
+
+abbrev HasNumber : List Thread → ℕ → Option (ℕ × ℕ) → Type 0
+HasNumber threads gap found = IfSome found (λ place. gap_number threads place.0 place.1 ≡ Some gap)
+
+-- a gap that is listed there is the one of that number
+place_number : (threads : List Thread) (gap t k : ℕ) → slice_get (places_from 0 threads) gap ≡ Some (t, k) → gap_number threads t k ≡ Some gap
+place_number threads gap t k e = subst (HasNumber threads gap) e (go (listed 0 threads gap))
+  where
+    go : IsListed 0 threads gap → HasNumber threads gap (slice_get (places_from 0 threads) gap)
+    go (there u k place is) = subst (HasNumber threads gap) (sym place) (subst (λ v. gap_number threads v k ≡ Some gap) (let q : u ≡ 0 + u = omega arith in q) is)
+    go (past place none) = subst (HasNumber threads gap) (sym place) tt
+
+pub printed_places : PrintedPlacesAreTheGaps
+printed_places threads gap t k = (
+  place_number threads gap t k,
+  λ e. found_place 0 threads t k gap e ∙ ap (λ u. Some (u, k)) (let q : 0 + t ≡ t = omega arith in q),
+)

@@ -1,11 +1,11 @@
 -- Where the gaps of a program lie.
-use Rattle.std.specs.Prelude.{ℕ, ◌+◌, List, [], ◌∷◌, ◌++◌, map, slice_get, Option}
+use Rattle.std.specs.Prelude.{◌≡◌, ◌↔◌, ℕ, ◌+◌, List, [], ◌∷◌, ◌++◌, map, slice_get, Option, Some}
 use Rattle.std.specs.Option.{option_map_or}
 use Rattle.std.specs.List.{flat_map, range_with_len}
 use Rattle.std.specs.Fmt.{decimal}
 use Rattle.gap_sets.specs.Gaps.{SetOfGaps, gaps_in}
 use Rattle.tso_program.specs.declared.listing.Thread.{Thread}
-use Rattle.tso_program.specs.Listings.{gaps_of_thread}
+use Rattle.tso_program.specs.Listings.{gap_number, gaps_of_thread}
 
 -- the gaps of the threads from thread t on, each by its thread and the instruction that it lies before
 abbrev pub places_from : ℕ → List Thread → List (ℕ × ℕ)
@@ -27,3 +27,7 @@ gap_text threads gap = option_map_or place_text (gap_place threads gap) []
 -- gaps as they are printed, ascending
 abbrev pub gaps_text : List Thread → SetOfGaps → List ℕ
 gaps_text threads gaps = flat_map (gap_text threads) (gaps_in gaps)
+
+-- a gap is printed with the thread and the instruction of its number
+abbrev pub PrintedPlacesAreTheGaps : Type 0
+PrintedPlacesAreTheGaps = (threads : List Thread) (gap t k : ℕ) → (gap_place threads gap ≡ Some (t, k)) ↔ (gap_number threads t k ≡ Some gap)
