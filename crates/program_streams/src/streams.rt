@@ -18,7 +18,7 @@ pub fn read_up_to<R: Read>(alloc: Global, input: &mut R, limit: usize) -> Result
 {
     let mut bytes = Vec::new(alloc);
     let mut buffer = [0u8; 4096];
-    for _ in 0..u64::MAX {
+    loop {
         let room = limit - bytes.len();
         let part = (room + 1).min(4096);
         let count = match input.read(&mut buffer[..part]) {
@@ -35,7 +35,6 @@ pub fn read_up_to<R: Read>(alloc: Global, input: &mut R, limit: usize) -> Result
             return Err(FileFault::Read);
         }
     }
-    Err(FileFault::Read)
 }
 
 /// The first line of a reader without its line feed, if that is no longer than the limit. Nothing

@@ -8,7 +8,7 @@ returns-then-room-count-clause-err g c =
     let bytes = c.in-Ok.ensures.bytes in
     let bound = c.in-Ok.ensures.bound in
     let part : List ℕ = take c.in-Ok.count c.read.new.buf in (
-      c.loop.bytes.items ++ part,
-      reads_more _ _ _ c.loop.bytes.items part c.loop.invariant.known bytes.0,
-      simp length-append (omega (arith, bound.0, bound.1, c.loop.bytes.ok.0, length-take c.min-part.result c.loop.buffer)),
+      c.loop-count.bytes.items ++ part,
+      reads_more _ _ _ c.loop-count.bytes.items part c.loop-count.invariant.known bytes.0,
+      simp length-append (omega (arith, bound.0, bound.1, c.loop-count.bytes.ok.0, length-take c.min-part.result c.loop-count.buffer)),
     )
