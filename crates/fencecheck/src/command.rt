@@ -91,14 +91,8 @@ fn texts_of<F: Files + AllocGlobal, R: Read>(
     ensures err { IfErr result (IsFilesFault (names_of names.entry) (R.remaining input.old)) }
 {
     let litmus = named_bytes(rt, names.litmus, input, TEXT_LIMIT)?;
-    let certificate = match file_bytes(rt, names.certificate, CERTIFICATE_LIMIT) {
-        Ok(certificate) => certificate,
-        Err(fault) => return Err(fault),
-    };
-    let costs = match costs_text(rt, names.costs) {
-        Ok(costs) => costs,
-        Err(fault) => return Err(fault),
-    };
+    let certificate = file_bytes(rt, names.certificate, CERTIFICATE_LIMIT)?;
+    let costs = costs_text(rt, names.costs)?;
     Ok(Texts {
         litmus,
         certificate,
