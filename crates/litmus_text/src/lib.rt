@@ -15,6 +15,7 @@ mod outcome;
 mod program;
 mod reader;
 
+pub use conditions::{Condition, holds};
 pub use fault::ReadFault;
 pub use label::Label;
 pub use laws::{store_buffering_is_read, texts_name_few_locations};
