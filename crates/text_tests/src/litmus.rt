@@ -1,5 +1,5 @@
-use conditions::{Quantifier, holds};
-use litmus_text::{Observed, read_fenced, read_litmus, write_outcome};
+use conditions::Quantifier;
+use litmus_text::{Observed, holds, read_fenced, read_litmus, write_outcome};
 use std::alloc::{AllocError, Global};
 use std::test::Fail;
 use tso_program::{Items, Outcome, Reg};
