@@ -1,14 +1,16 @@
 -- Whole certificates are read exactly, and what follows for their texts.
-use Rattle.std.proofs.Common.{◌≡◌, ℕ, ◌<◌, ◌^◌, ◌==◌, false, length, List, [], ◌∷◌, ◌++◌, map, Option, Some, None, refl, sym, ap, subst, ◌∙◌, append_assoc}
+use Rattle.std.proofs.Common.{◌≡◌, ℕ, ◌+◌, ◌-◌, ◌<◌, ◌^◌, ◌==◌, arith, false, length, take, drop, List, [], ◌∷◌, ◌++◌, map, Option, Some, None, refl, sym, ap, subst, ◌∙◌, append_assoc}
 use Rattle.std.specs.Prelude.{codes}
 use Rattle.std.specs.Fmt.{decimal}
-use Rattle.std.proofs.lemmas.List.{append-nil}
+use Rattle.std.proofs.Math.Seq.{take-append_seam}
+use Rattle.std.proofs.lemmas.List.{append-nil, length-append, length-drop, take-append-drop}
 use Rattle.tso_machine.specs.declared.label.Label.{Label}
 use Rattle.cert_forest.specs.Trees.{Cover, Gap}
 use Rattle.cert_forest.specs.Certificates.{Cert}
 use Rattle.cert_words.specs.Lines.{line}
 use Rattle.cert_forest.specs.Texts.{cover_words, gap_words, runs_lines, certificate_text}
 use Rattle.cert_forest.specs.Limits.{AscendFrom, AreRuns, IsCoverTo, IsGapTo, IsWithin, IsCertificate}
+use Rattle.cert_forest.specs.Exact.{HasMore}
 use Rattle.cert_forest.specs.Laws.{OneText, OneCertificate, NoTextBeginsAnother}
 use Rattle.cert_words.specs.Words.{◌>>=◌}
 use Rattle.cert_forest.specs.Reading.{header_at, set_at, cost_at, runs_at, cover_line_at, gap_line_at, parts_at}
@@ -166,3 +168,31 @@ with_gaps c gaps bytes e is = let P : List ℕ → Type 0 = λ gs. IsCertificate
 pub some_behind : (rest : List ℕ) → (length rest == 0) ≡ false → rest ≡ [] → ⊥
 some_behind [] e none = absurd cc
 some_behind (b ∷ rest) e none = absurd cc
+
+not_empty : (rest : List ℕ) → (length rest == 0) ≡ false → 0 < length rest
+not_empty [] e = absurd cc
+not_empty (b ∷ rest) e = omega arith
+
+-- what stands behind a certificate, and where
+pub has_more : (bytes rest : List ℕ) (c : Cert) (place : ℕ) → parts_at bytes ≡ Some (c, rest) → (length rest == 0) ≡ false → place ≡ length bytes - length rest → HasMore bytes place
+has_more bytes rest c place e some at =
+    let t = parts_takes bytes (c, rest) e in
+    let long : length bytes ≡ length (certificate_text c) + length rest = ap length t.0 ∙ length-append (certificate_text c) rest in
+    let there : place ≡ length (certificate_text c) = omega arith in
+    let is : take place bytes ≡ certificate_text c = ap (λ n. take n bytes) there ∙ ap (take (length (certificate_text c))) t.0 ∙ take-append_seam (certificate_text c) rest in
+    let positive : 0 < length rest = not_empty rest some in
+    record { front = c; of_front = record { spelled = is; within = t.1 }; more = omega arith }
+
+read_front : (bytes : List ℕ) (place : ℕ) (m : HasMore bytes place) → parts_at bytes ≡ Some (m.front, drop place bytes)
+read_front bytes place m = ap parts_at (sym (take-append-drop place bytes)) ∙ read (take place bytes) (drop place bytes) m.front m.of_front
+
+-- where something stands behind a certificate, it is what is left, and it is not nothing
+pub left_behind : (bytes rest : List ℕ) (c : Cert) (place : ℕ) → parts_at bytes ≡ Some (c, rest) → HasMore bytes place → (length bytes - length rest ≡ place) × (0 < length rest)
+left_behind bytes rest c place e m =
+    let is : rest ≡ drop place bytes = ap (λ p. p.1) (some_is (c, rest) (m.front, drop place bytes) (sym e ∙ read_front bytes place m)) in
+    let long : length rest ≡ length bytes - place = ap length is ∙ length-drop place bytes in
+    let more = m.more in
+    (omega arith, omega arith)
+
+pub more_is_read : (bytes : List ℕ) (place : ℕ) → parts_at bytes ≡ None → HasMore bytes place → ⊥
+more_is_read bytes place e m = let bad = sym e ∙ read_front bytes place m in absurd cc

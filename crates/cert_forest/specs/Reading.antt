@@ -12,10 +12,11 @@ use Rattle.cert_forest.specs.declared.tree.AccessId.{AccessId}
 use Rattle.cert_forest.specs.Trees.{Cover, Value, Source, Order, Cycle, Known, covers_of, Gap, Split, Bound, gaps_of}
 use Rattle.cert_forest.specs.Certificates.{Cert}
 
--- how many bytes stand before a full stop
+-- the byte is no full stop
 abbrev pub is_no_stop : ℕ → Bool
 is_no_stop b = not (b == 46)
 
+-- the access of this thread, by its number behind a full stop
 abbrev pub access_tail : ℕ → List ℕ → Option AccessId
 access_tail thread [] = None
 access_tail thread (b ∷ word) = plain_number_at 255 word >>= λ access. Some (record { thread = thread; access = access })

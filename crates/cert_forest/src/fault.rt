@@ -1,5 +1,8 @@
 //! Why bytes are no certificate's text.
 
+ghost use Rattle.std.specs.Prelude.{◌≡◌, ℕ};
+ghost use Rattle.cert_forest.specs.declared.fault.CertFault.TheVariants.{Trailing};
+
 use cert_words::{Refusal, Wrong};
 use thiserror::Error;
 
@@ -26,7 +29,7 @@ pub enum CertFault {
     /// tell.
     #[error("6 Ended")]
     Ended,
-    /// Bytes stand behind the last line.
+    /// Bytes stand behind the last line, from this place on.
     #[error("7 Trailing {0}")]
     Trailing(usize),
     #[error("8 OutOfMemory")]
@@ -34,7 +37,9 @@ pub enum CertFault {
 }
 
 /// The fault that is told of a refusal in a text of so many bytes.
-pub(crate) fn fault_of(refusal: Refusal, len: usize) -> CertFault {
+pub(crate) fn fault_of(refusal: Refusal, len: usize) -> CertFault
+    ensures { (place : ℕ) → result ≡ Trailing place → ⊥ }
+{
     let place = len.saturating_sub(refusal.left);
     match refusal.wrong {
         Wrong::Header => CertFault::Header,

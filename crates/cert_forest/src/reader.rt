@@ -1,11 +1,12 @@
 //! Certificates, read from their text.
 
-ghost use Rattle.std.specs.Prelude.{◌≡◌, ◌<◌, [], IfOk};
+ghost use Rattle.std.specs.Prelude.{◌≡◌, ℕ, ◌<◌, ◌⊎◌, [], IfOk, IfErr, IsErrAnd};
 ghost use Rattle.gap_sets.specs.Gaps.{gaps_in};
 ghost use Rattle.cert_forest.specs.Certificates.{Cert, certificate};
 ghost use Rattle.cert_forest.specs.Limits.{IsCertificate, AscendFrom};
 ghost use Rattle.cert_forest.specs.PartsViews.{parts_view};
-ghost use Rattle.cert_forest.specs.Exact.{GivesExactly};
+ghost use Rattle.cert_forest.specs.Exact.{GivesExactly, HasMore};
+ghost use Rattle.cert_forest.specs.declared.fault.CertFault.TheVariants.{Trailing, OutOfMemory};
 ghost use Rattle.cert_words.specs.Words.{Gives, GivesUnlessMemory, number_at};
 ghost use Rattle.cert_forest.specs.Reading.{gaps_at, set_at, cost_at, version_at, header_at, parts_at};
 
@@ -183,6 +184,8 @@ fn read_parts(alloc: Global, bytes: &[u8]) -> Result<(Parts, &[u8]), Stop>
 pub fn read_cert(alloc: Global, bytes: &[u8]) -> Result<Certificate, CertFault>
     ensures found { IfOk result (λ c. IsCertificate bytes.now (certificate c)) }
     ensures only { (c : Cert) → IsCertificate bytes.now c → GivesExactly result c }
+    ensures trailing { IfErr result (λ fault. (place : ℕ) → fault ≡ Trailing place → HasMore bytes.now place) }
+    ensures more { (place : ℕ) → HasMore bytes.now place → IsErrAnd result (λ fault. (fault ≡ Trailing place) ⊎ (fault ≡ OutOfMemory)) }
 {
     match read_parts(alloc, bytes) {
         Ok((parts, rest)) => {
