@@ -1,8 +1,8 @@
 -- What the program prints for a command line and an input, and with which status.
-use Rattle.std.specs.Prelude.{◌≡◌, ℕ, ◌+◌, ◌≤◌, List, [], ◌∷◌, ◌++◌, Option, Some, None, ⊤, codes, length}
+use Rattle.std.specs.Prelude.{◌≡◌, ℕ, ◌+◌, List, [], ◌∷◌, ◌++◌, Option, Some, None, codes}
 use Rattle.program_streams.specs.declared.fault.FileFault.{FileFault}
 use Rattle.program_streams.specs.declared.fault.FileFault.TheVariants as file
-use Rattle.program_streams.specs.Files.{AreOfFile, IsFileFault, IsTooLong}
+use Rattle.program_streams.specs.Files.{AreOfFile, AreWithin, IsFileFault, IsTooLong}
 use Rattle.program_streams.specs.Streams.{Holds, IsReadFault}
 use Rattle.report.specs.Faults.{file_line}
 use Rattle.program_streams.specs.declared.files.TheConstants.{TEXT_LIMIT}
@@ -26,37 +26,46 @@ pub record FileNames : Type 0 where
   pub certificate : List ℕ
   pub costs : Option (List ℕ)
 
--- there are costs where a file of them is named, within the limit
-abbrev pub AreOfCosts : Option (List ℕ) → Option (List ℕ) → Type 0
-AreOfCosts None costs = costs ≡ None
-AreOfCosts (Some name) None = ⊥
-AreOfCosts (Some name) (Some costs) = length costs ≤ TEXT_LIMIT
+-- the costs are those of the file of this name, where one is named
+abbrev pub AreOfCosts : (List ℕ → Option (List ℕ)) → Option (List ℕ) → Option (List ℕ) → Type 0
+AreOfCosts files None costs = costs ≡ None
+AreOfCosts files (Some name) None = ⊥
+AreOfCosts files (Some name) (Some costs) = AreWithin TEXT_LIMIT (files name) costs
 
--- what the files hold: `-` as the litmus file is the input, and nothing is known of other files
-pub record AreOfFiles (names : FileNames) (input : Option (List ℕ)) (litmus certificate : List ℕ) (costs : Option (List ℕ)) : Type 0 where
-  pub of_litmus : AreOfFile TEXT_LIMIT names.litmus input litmus
-  pub of_certificate : length certificate ≤ CERTIFICATE_LIMIT
-  pub of_costs : AreOfCosts names.costs costs
+-- why the costs aren't read: a file of them is named, and this is why it isn't read
+pub record IsCostsFault (files : List ℕ → Option (List ℕ)) (named : Option (List ℕ)) (why : FileFault) : Type 0 where
+  pub name : List ℕ
+  pub is_named : named ≡ Some name
+  pub is_fault : IsReadFault (IsTooLong TEXT_LIMIT (files name)) why
 
--- why a file isn't read: the litmus file, or one of those behind it
-pub data IsFilesFault (names : FileNames) (input : Option (List ℕ)) (why : FileFault) : Type 0 where
-  no_litmus : IsFileFault TEXT_LIMIT names.litmus input why → IsFilesFault names input why
-  no_other : (litmus : List ℕ) → AreOfFile TEXT_LIMIT names.litmus input litmus → IsReadFault ⊤ why → IsFilesFault names input why
+-- what the files of these names hold; `-` as the litmus file is the input
+pub record AreOfFiles (names : FileNames) (input : Option (List ℕ)) (files : List ℕ → Option (List ℕ)) (litmus certificate : List ℕ) (costs : Option (List ℕ)) : Type 0 where
+  pub of_litmus : AreOfFile TEXT_LIMIT names.litmus input files litmus
+  pub of_certificate : AreWithin CERTIFICATE_LIMIT (files names.certificate) certificate
+  pub of_costs : AreOfCosts files names.costs costs
+
+-- why a file isn't read: the first that isn't, where those before it are
+pub data IsFilesFault (names : FileNames) (input : Option (List ℕ)) (files : List ℕ → Option (List ℕ)) (why : FileFault) : Type 0 where
+  no_litmus : IsFileFault TEXT_LIMIT names.litmus input files why → IsFilesFault names input files why
+  no_certificate : (litmus : List ℕ) → AreOfFile TEXT_LIMIT names.litmus input files litmus
+      → IsReadFault (IsTooLong CERTIFICATE_LIMIT (files names.certificate)) why → IsFilesFault names input files why
+  no_costs : (litmus certificate : List ℕ) → AreOfFile TEXT_LIMIT names.litmus input files litmus
+      → AreWithin CERTIFICATE_LIMIT (files names.certificate) certificate → IsCostsFault files names.costs why → IsFilesFault names input files why
 
 -- the reply to files
-pub data IsReplyToFiles (names : FileNames) (input : Option (List ℕ)) : ℕ → List ℕ → Type 0 where
-  judged : (litmus certificate : List ℕ) (costs : Option (List ℕ)) (status : ℕ) (text : List ℕ) → AreOfFiles names input litmus certificate costs
-      → IsVerdict litmus certificate costs status text → IsReplyToFiles names input status text
-  no_file : (why : FileFault) → IsFilesFault names input why → IsReplyToFiles names input 1 (file_line why)
+pub data IsReplyToFiles (names : FileNames) (input : Option (List ℕ)) (files : List ℕ → Option (List ℕ)) : ℕ → List ℕ → Type 0 where
+  judged : (litmus certificate : List ℕ) (costs : Option (List ℕ)) (status : ℕ) (text : List ℕ) → AreOfFiles names input files litmus certificate costs
+      → IsVerdict litmus certificate costs status text → IsReplyToFiles names input files status text
+  no_file : (why : FileFault) → IsFilesFault names input files why → IsReplyToFiles names input files 1 (file_line why)
 
 -- the line that tells how the program is called
 abbrev pub IsUsage : ℕ → List ℕ → Type 0
 IsUsage status text = (status ≡ 2) × (text ≡ usage_line)
 
--- what the program prints for the words after its name, with which status
-abbrev pub IsOutput : List (List ℕ) → Option (List ℕ) → ℕ → List ℕ → Type 0
-IsOutput [] input = IsReplyToInput input
-IsOutput (litmus ∷ []) input = IsUsage
-IsOutput (litmus ∷ certificate ∷ []) input = IsReplyToFiles (record { litmus = litmus; certificate = certificate; costs = None }) input
-IsOutput (litmus ∷ certificate ∷ costs ∷ []) input = IsReplyToFiles (record { litmus = litmus; certificate = certificate; costs = Some costs }) input
-IsOutput (litmus ∷ certificate ∷ costs ∷ word ∷ words) input = IsUsage
+-- what the program prints for the words after its name, an input and files, with which status
+abbrev pub IsOutput : List (List ℕ) → Option (List ℕ) → (List ℕ → Option (List ℕ)) → ℕ → List ℕ → Type 0
+IsOutput [] input files = IsReplyToInput input
+IsOutput (litmus ∷ []) input files = IsUsage
+IsOutput (litmus ∷ certificate ∷ []) input files = IsReplyToFiles (record { litmus = litmus; certificate = certificate; costs = None }) input files
+IsOutput (litmus ∷ certificate ∷ costs ∷ []) input files = IsReplyToFiles (record { litmus = litmus; certificate = certificate; costs = Some costs }) input files
+IsOutput (litmus ∷ certificate ∷ costs ∷ word ∷ words) input files = IsUsage

@@ -1,18 +1,17 @@
 //! A whole run of the program, over a reader and a writer.
 
 ghost use Rattle.std.specs.Prelude.{◌≡◌, ◌==◌, ◌||◌, IfOk, IfErr, ⊤, length, map, nat_lt, option_map, string_bytes};
-ghost use Rattle.program_streams.specs.Streams.{IsReadFault, Prints};
+ghost use Rattle.program_streams.specs.Streams.{Prints};
 ghost use Rattle.fencecheck.specs.Verdicts.{IsVerdict};
-ghost use Rattle.fencecheck.specs.Replies.{usage_line, AreOfCosts, AreOfFiles, IsFilesFault, IsReplyToInput, IsReplyToFiles, IsOutput};
+ghost use Rattle.fencecheck.specs.Replies.{usage_line, AreOfCosts, IsCostsFault, AreOfFiles, IsFilesFault, IsReplyToInput, IsReplyToFiles, IsOutput};
 ghost use Rattle.fencecheck.specs.Names.{names_of};
 
 use crate::judge::{judge, refusal_line};
 use crate::parts::{CERTIFICATE_LIMIT, parts_of};
-use program_streams::{FileFault, TEXT_LIMIT, file_bytes, named_bytes, read_up_to, say};
+use program_streams::{FileFault, FileStore, TEXT_LIMIT, named_bytes, read_up_to, say};
 use report::file_line;
 use std::alloc::{AllocError, Global};
 use std::io::{Read, Write};
-use std::rt::Files;
 
 /// How the program is called.
 fn usage_line(alloc: Global) -> Result<Vec<u8>, AllocError>
@@ -68,31 +67,33 @@ struct Texts {
 }
 
 /// The bytes of a cost file, if there is one.
-fn costs_text<F: Files + AllocGlobal>(
-    rt: &F,
+fn costs_text<S: FileStore>(
+    alloc: Global,
+    files: &S,
     name: Option<&str>,
 ) -> Result<Option<Vec<u8>>, FileFault>
-    ensures costs { IfOk result (λ costs. AreOfCosts (option_map (λ name. name.now) name.entry) (option_map (λ text. text.items) costs)) }
-    ensures err { IfErr result (IsReadFault ⊤) }
+    ensures costs { IfOk result (λ costs. AreOfCosts (S.held files.now) (option_map (λ name. name.now) name.entry) (option_map (λ text. text.items) costs)) }
+    ensures err { IfErr result (IsCostsFault (S.held files.now) (option_map (λ name. name.now) name.entry)) }
 {
     match name {
-        Some(name) => Ok(Some(file_bytes(rt, name, TEXT_LIMIT)?)),
+        Some(name) => Ok(Some(files.file_bytes(alloc, name, TEXT_LIMIT)?)),
         None => Ok(None),
     }
 }
 
 /// The bytes of files. The litmus file is read first, then the certificate, and then the costs.
-fn texts_of<F: Files + AllocGlobal, R: Read>(
-    rt: &F,
+fn texts_of<S: FileStore, R: Read>(
+    alloc: Global,
+    files: &S,
     names: Names<'_>,
     input: &mut R,
 ) -> Result<Texts, FileFault>
-    ensures texts { IfOk result (λ texts. AreOfFiles (names_of names.entry) (R.remaining input.old) texts.litmus.items texts.certificate.items (option_map (λ text. text.items) texts.costs)) }
-    ensures err { IfErr result (IsFilesFault (names_of names.entry) (R.remaining input.old)) }
+    ensures texts { IfOk result (λ texts. AreOfFiles (names_of names.entry) (R.remaining input.old) (S.held files.now) texts.litmus.items texts.certificate.items (option_map (λ text. text.items) texts.costs)) }
+    ensures err { IfErr result (IsFilesFault (names_of names.entry) (R.remaining input.old) (S.held files.now)) }
 {
-    let litmus = named_bytes(rt, names.litmus, input, TEXT_LIMIT)?;
-    let certificate = file_bytes(rt, names.certificate, CERTIFICATE_LIMIT)?;
-    let costs = costs_text(rt, names.costs)?;
+    let litmus = named_bytes(alloc, files, names.litmus, input, TEXT_LIMIT)?;
+    let certificate = files.file_bytes(alloc, names.certificate, CERTIFICATE_LIMIT)?;
+    let costs = costs_text(alloc, files, names.costs)?;
     Ok(Texts {
         litmus,
         certificate,
@@ -113,17 +114,18 @@ fn tell_texts<W: Write>(alloc: Global, texts: Texts, output: &mut W) -> u8
 }
 
 /// Judges what files hold.
-fn run_files<F: Files + AllocGlobal, R: Read, W: Write>(
-    rt: &F,
+fn run_files<S: FileStore, R: Read, W: Write>(
+    alloc: Global,
+    files: &S,
     names: Names<'_>,
     input: &mut R,
     output: &mut W,
 ) -> u8
-    ensures { Prints (IsReplyToFiles (names_of names.entry) (R.remaining input.old)) (W.contents output.old) (W.contents output.new) result }
+    ensures { Prints (IsReplyToFiles (names_of names.entry) (R.remaining input.old) (S.held files.now)) (W.contents output.old) (W.contents output.new) result }
 {
-    match texts_of(rt, names, input) {
-        Ok(texts) => tell_texts(rt.alloc(), texts, output),
-        Err(fault) => say(output, file_line(rt.alloc(), fault), 1),
+    match texts_of(alloc, files, names, input) {
+        Ok(texts) => tell_texts(alloc, texts, output),
+        Err(fault) => say(output, file_line(alloc, fault), 1),
     }
 }
 
@@ -140,19 +142,20 @@ fn is_misused(words: &[String]) -> bool
 /// Status 0 means that the certificate is accepted and the line is written. Status 1 is a refusal, told by one line, a
 /// writer that fails or takes no byte, and want of memory for that line, with nothing written. Status 2 is a bad command
 /// line, told on the writer too.
-pub fn run_command<F: Files + AllocGlobal, R: Read, W: Write>(
-    rt: &F,
+pub fn run_command<S: FileStore, R: Read, W: Write>(
+    alloc: Global,
+    files: &S,
     words: &[String],
     input: &mut R,
     output: &mut W,
 ) -> u8
-    ensures { Prints (IsOutput (map string_bytes words.now) (R.remaining input.old)) (W.contents output.old) (W.contents output.new) result }
+    ensures { Prints (IsOutput (map string_bytes words.now) (R.remaining input.old) (S.held files.now)) (W.contents output.old) (W.contents output.new) result }
 {
     if is_misused(words) {
-        return say(output, usage_line(rt.alloc()), 2);
+        return say(output, usage_line(alloc), 2);
     }
     let names = match words {
-        [] => return run_input(rt.alloc(), input, output),
+        [] => return run_input(alloc, input, output),
         [litmus, certificate] => Names {
             litmus: litmus.as_str(),
             certificate: certificate.as_str(),
@@ -165,5 +168,5 @@ pub fn run_command<F: Files + AllocGlobal, R: Read, W: Write>(
         },
         _ => unreachable!(),
     };
-    run_files(rt, names, input, output)
+    run_files(alloc, files, names, input, output)
 }

@@ -5,6 +5,7 @@ mod command;
 mod judge;
 mod parts;
 
+use program_streams::SystemFiles;
 use std::process::ExitCode;
 use std::{env, io};
 
@@ -17,7 +18,16 @@ fn main(rt: HostRuntime) -> ExitCode {
     let mut input = rt.stdin();
     let mut output = rt.stdout();
     let status = match given_words(&rt) {
-        Ok(words) => command::run_command(&rt, words.as_slice(), &mut input, &mut output),
+        Ok(words) => {
+            let files = SystemFiles::new(&rt);
+            command::run_command(
+                rt.alloc(),
+                &files,
+                words.as_slice(),
+                &mut input,
+                &mut output,
+            )
+        }
         Err(error) => {
             if error.kind() == io::ErrorKind::OutOfMemory {
                 1

@@ -1,7 +1,7 @@
 //! What the program does with readers and writers that fail in mid-stream.
 use crate::command::run_command;
 use failing_streams::{FailingReader, FailingWriter, is_lawful};
-use program_streams::line_words;
+use program_streams::{SystemFiles, line_words};
 use std::process::Abort;
 use std::rt::Files;
 use std::test::Fail;
@@ -36,7 +36,13 @@ fn run_over_reader(
     let mut reader = FailingReader::new(input, fails_at);
     let mut output = Vec::new(rt.alloc());
     let none: Vec<String> = Vec::new(rt.alloc());
-    let status = run_command(rt, none.as_slice(), &mut reader, &mut output);
+    let status = run_command(
+        rt.alloc(),
+        &SystemFiles::new(rt),
+        none.as_slice(),
+        &mut reader,
+        &mut output,
+    );
     (output, status, reader.has_failed())
 }
 
@@ -66,7 +72,13 @@ fn writer_fails<R: Files + AllocGlobal + Abort>(
     let words = line_words(rt.alloc(), line.as_bytes())?;
     for fails_at in 0..1_000 {
         let mut writer = FailingWriter::new(rt.alloc(), fails_at, takes_none);
-        let status = run_command(rt, words.as_slice(), &mut input.as_bytes(), &mut writer);
+        let status = run_command(
+            rt.alloc(),
+            &SystemFiles::new(rt),
+            words.as_slice(),
+            &mut input.as_bytes(),
+            &mut writer,
+        );
         assert!(rt; is_lawful(&writer, whole.as_bytes(), wanted, status));
         if !writer.has_failed() {
             assert!(rt; fails_at > 1);

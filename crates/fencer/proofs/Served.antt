@@ -17,14 +17,14 @@ not_zero n e = grind (arith, nat_tests)
 zero_is : (0 == 0) ≡ false → ⊥
 zero_is e = grind (arith, nat_tests)
 
-module _ {W : Type 0} (text : W → Text) (input : Option (List ℕ)) (status : ℕ) (out : List ℕ) where
+module _ {W : Type 0} (text : W → Text) (input : Option (List ℕ)) (files : List ℕ → Option (List ℕ)) (status : ℕ) (out : List ℕ) where
   -- words that are given count
-  pub of_words : (words : List W) → (length words == 0) ≡ false → IsReply (map text words) input status out → IsOutput (map text words) input status out
+  pub of_words : (words : List W) → (length words == 0) ≡ false → IsReply (map text words) input files status out → IsOutput (map text words) input files status out
   of_words [] some reply = absurd (zero_is some)
   of_words (word ∷ words) some reply = reply
 
   -- and with no words the input
-  pub of_input : (words : List W) → (length words == 0) ≡ true → IsReplyToInput input status out → IsOutput (map text words) input status out
+  pub of_input : (words : List W) → (length words == 0) ≡ true → IsReplyToInput input files status out → IsOutput (map text words) input files status out
   of_input [] none reply = reply
   of_input (word ∷ words) none reply = absurd (not_zero (length words) none)
 
@@ -40,5 +40,5 @@ line_fault old new file.Write is = absurd is
 line_fault old new file.TooLong is = (new, is)
 
 -- words that are not UTF-8 are told to be no command
-pub utf8_reply : (words : List Text) (input : Option (List ℕ)) (status : ℕ) (out : List ℕ) → IsNoCommand words → IsUtf8Refusal status out → IsReply words input status out
-utf8_reply words input status out refused is = subst (λ (s : ℕ). IsReply words input s out) (sym is.0) (no_command out refused (codes "error: the command line is not UTF-8", is.1))
+pub utf8_reply : (words : List Text) (input : Option (List ℕ)) (files : List ℕ → Option (List ℕ)) (status : ℕ) (out : List ℕ) → IsNoCommand words → IsUtf8Refusal status out → IsReply words input files status out
+utf8_reply words input files status out refused is = subst (λ (s : ℕ). IsReply words input files s out) (sym is.0) (no_command out refused (codes "error: the command line is not UTF-8", is.1))

@@ -82,26 +82,26 @@ abbrev pub HasTooLongLine : Option (List ℕ) → Type 0
 HasTooLongLine input = (rest : Option (List ℕ)) × TakesOfLine input rest (TEXT_LIMIT + 1)
 
 -- the answer to a replay, with its status: the lines of the run, or the line of a refusal
-pub data IsReplay (model : Model) (path labels : List ℕ) (input : Option (List ℕ)) : ℕ → List ℕ → Type 0 where
-  ran : (bytes lines : List ℕ) → AreOfFile TEXT_LIMIT path input bytes → PrintsRun bytes model labels lines → IsReplay model path labels input 0 lines
-  refused : (bytes : List ℕ) (why : Refusal) → AreOfFile TEXT_LIMIT path input bytes → IsRefused bytes model labels why → IsReplay model path labels input 1 (refusal_line why)
-  no_file : (why : FileFault) → IsFileFault TEXT_LIMIT path input why → IsReplay model path labels input 1 (file_line why)
+pub data IsReplay (model : Model) (path labels : List ℕ) (input : Option (List ℕ)) (files : List ℕ → Option (List ℕ)) : ℕ → List ℕ → Type 0 where
+  ran : (bytes lines : List ℕ) → AreOfFile TEXT_LIMIT path input files bytes → PrintsRun bytes model labels lines → IsReplay model path labels input files 0 lines
+  refused : (bytes : List ℕ) (why : Refusal) → AreOfFile TEXT_LIMIT path input files bytes → IsRefused bytes model labels why → IsReplay model path labels input files 1 (refusal_line why)
+  no_file : (why : FileFault) → IsFileFault TEXT_LIMIT path input files why → IsReplay model path labels input files 1 (file_line why)
 
 -- the answer to a job
-abbrev pub IsAnswer : Job → Option (List ℕ) → ℕ → List ℕ → Type 0
-IsAnswer (Replay model litmus labels) input = IsReplay model (string_bytes litmus) (run_text labels.items) input
+abbrev pub IsAnswer : Job → Option (List ℕ) → (List ℕ → Option (List ℕ)) → ℕ → List ℕ → Type 0
+IsAnswer (Replay model litmus labels) input files = IsReplay model (string_bytes litmus) (run_text labels.items) input files
 
 -- the reply to words: the answer to the job that they ask for; or, where they are no command, lines that tell so
-pub data IsReply (words : List Text) (input : Option (List ℕ)) : ℕ → List ℕ → Type 0 where
-  answer : (job : Job) (status : ℕ) (text : List ℕ) → AsksFor words job → IsAnswer job input status text → IsReply words input status text
-  no_command : (text : List ℕ) → IsNoCommand words → EndsLine text → IsReply words input 2 text
+pub data IsReply (words : List Text) (input : Option (List ℕ)) (files : List ℕ → Option (List ℕ)) : ℕ → List ℕ → Type 0 where
+  answer : (job : Job) (status : ℕ) (text : List ℕ) → AsksFor words job → IsAnswer job input files status text → IsReply words input files status text
+  no_command : (text : List ℕ) → IsNoCommand words → EndsLine text → IsReply words input files 2 text
 
 -- the reply to an input alone: its first line has the words, and what is behind it is the input
-pub data IsReplyToInput (input : Option (List ℕ)) : ℕ → List ℕ → Type 0 where
-  by_line : (line : List ℕ) (rest : Option (List ℕ)) (status : ℕ) (text : List ℕ) → TakesLine input rest line → length line ≤ TEXT_LIMIT → IsReply (words_of line) rest status text → IsReplyToInput input status text
-  no_line : (why : FileFault) → IsReadFault (HasTooLongLine input) why → IsReplyToInput input 1 (file_line why)
+pub data IsReplyToInput (input : Option (List ℕ)) (files : List ℕ → Option (List ℕ)) : ℕ → List ℕ → Type 0 where
+  by_line : (line : List ℕ) (rest : Option (List ℕ)) (status : ℕ) (text : List ℕ) → TakesLine input rest line → length line ≤ TEXT_LIMIT → IsReply (words_of line) rest files status text → IsReplyToInput input files status text
+  no_line : (why : FileFault) → IsReadFault (HasTooLongLine input) why → IsReplyToInput input files 1 (file_line why)
 
--- what the program prints for the words after its name, with which status
-abbrev pub IsOutput : List Text → Option (List ℕ) → ℕ → List ℕ → Type 0
-IsOutput [] input = IsReplyToInput input
-IsOutput (word ∷ words) input = IsReply (word ∷ words) input
+-- what the program prints for the words after its name, an input and files, with which status
+abbrev pub IsOutput : List Text → Option (List ℕ) → (List ℕ → Option (List ℕ)) → ℕ → List ℕ → Type 0
+IsOutput [] input files = IsReplyToInput input files
+IsOutput (word ∷ words) input files = IsReply (word ∷ words) input files

@@ -10,12 +10,11 @@ use clap::Error;
 use clap::error::ErrorKind;
 use fencer_words::{Job, read_words};
 use program_streams::{
-    LineFault, TEXT_LIMIT, line_words, named_bytes, read_line_up_to, refuse_words, say,
+    FileStore, LineFault, TEXT_LIMIT, line_words, named_bytes, read_line_up_to, refuse_words, say,
 };
 use report::file_line;
 use std::alloc::{AllocError, Global};
 use std::io::{Read, Write};
-use std::rt::Files;
 use tso_machine::Model;
 
 /// What `clap` tells of words that are no command: why, or the help that they call for.
@@ -29,34 +28,36 @@ fn error_text(alloc: Global, error: &Error) -> Result<Vec<u8>, AllocError>
 }
 
 /// Replays label words on the program of a litmus file, tells the answer, and answers the status.
-fn run_replay<F: Files + AllocGlobal, R: Read, W: Write>(
-    rt: &F,
+fn run_replay<S: FileStore, R: Read, W: Write>(
+    alloc: Global,
+    files: &S,
     model: Model,
     litmus: &str,
     labels: &[String],
     input: &mut R,
     output: &mut W,
 ) -> u8
-    ensures { Prints (IsReplay model litmus.now (run_text labels.now) (R.remaining input.old)) (W.contents output.old) (W.contents output.new) result }
+    ensures { Prints (IsReplay model litmus.now (run_text labels.now) (R.remaining input.old) (S.held files.now)) (W.contents output.old) (W.contents output.new) result }
 {
-    let bytes = match named_bytes(rt, litmus, input, TEXT_LIMIT) {
+    let bytes = match named_bytes(alloc, files, litmus, input, TEXT_LIMIT) {
         Ok(bytes) => bytes,
-        Err(fault) => return say(output, file_line(rt.alloc(), fault), 1),
+        Err(fault) => return say(output, file_line(alloc, fault), 1),
     };
-    match replay_lines(rt.alloc(), &bytes, model, labels) {
+    match replay_lines(alloc, &bytes, model, labels) {
         Ok(lines) => say(output, Ok(lines), 0),
-        Err(refusal) => say(output, refusal_line(rt.alloc(), refusal), 1),
+        Err(refusal) => say(output, refusal_line(alloc, refusal), 1),
     }
 }
 
 /// Does a job, and answers the status.
-fn run_job<F: Files + AllocGlobal, R: Read, W: Write>(
-    rt: &F,
+fn run_job<S: FileStore, R: Read, W: Write>(
+    alloc: Global,
+    files: &S,
     job: &Job,
     input: &mut R,
     output: &mut W,
 ) -> u8
-    ensures { Prints (IsAnswer job.now (R.remaining input.old)) (W.contents output.old) (W.contents output.new) result }
+    ensures { Prints (IsAnswer job.now (R.remaining input.old) (S.held files.now)) (W.contents output.old) (W.contents output.new) result }
 {
     match job {
         Job::Replay {
@@ -64,7 +65,8 @@ fn run_job<F: Files + AllocGlobal, R: Read, W: Write>(
             litmus,
             labels,
         } => run_replay(
-            rt,
+            alloc,
+            files,
             *model,
             litmus.as_str(),
             labels.as_slice(),
@@ -75,19 +77,20 @@ fn run_job<F: Files + AllocGlobal, R: Read, W: Write>(
 }
 
 /// Does what words ask for, and answers the status.
-fn run_words<F: Files + AllocGlobal, R: Read, W: Write>(
-    rt: &F,
+fn run_words<S: FileStore, R: Read, W: Write>(
+    alloc: Global,
+    files: &S,
     words: &[String],
     input: &mut R,
     output: &mut W,
 ) -> u8
-    ensures { Prints (IsReply (map string_bytes words.now) (R.remaining input.old)) (W.contents output.old) (W.contents output.new) result }
+    ensures { Prints (IsReply (map string_bytes words.now) (R.remaining input.old) (S.held files.now)) (W.contents output.old) (W.contents output.new) result }
 {
-    match read_words(rt.alloc(), words) {
-        Ok(job) => run_job(rt, &job, input, output),
+    match read_words(alloc, words) {
+        Ok(job) => run_job(alloc, files, &job, input, output),
         Err(error) => match error.kind() {
             ErrorKind::OutOfMemory => 1,
-            _ => say(output, error_text(rt.alloc(), &error), 2),
+            _ => say(output, error_text(alloc, &error), 2),
         },
     }
 }
@@ -98,24 +101,25 @@ fn run_words<F: Files + AllocGlobal, R: Read, W: Write>(
 /// Status 0 means that the whole answer is written. Status 1 is a refusal, told by one line, a writer
 /// that fails or takes no byte, and want of memory for the words or for that line, with nothing
 /// written. Status 2 is a bad command line or a call for help, told on the writer too.
-pub fn run_command<F: Files + AllocGlobal, R: Read, W: Write>(
-    rt: &F,
+pub fn run_command<S: FileStore, R: Read, W: Write>(
+    alloc: Global,
+    files: &S,
     words: &[String],
     input: &mut R,
     output: &mut W,
 ) -> u8
-    ensures { Prints (IsOutput (map string_bytes words.now) (R.remaining input.old)) (W.contents output.old) (W.contents output.new) result }
+    ensures { Prints (IsOutput (map string_bytes words.now) (R.remaining input.old) (S.held files.now)) (W.contents output.old) (W.contents output.new) result }
 {
     if !words.is_empty() {
-        return run_words(rt, words, input, output);
+        return run_words(alloc, files, words, input, output);
     }
-    let line = match read_line_up_to(rt.alloc(), input, TEXT_LIMIT) {
+    let line = match read_line_up_to(alloc, input, TEXT_LIMIT) {
         Ok(line) => line,
-        Err(fault) => return say(output, file_line(rt.alloc(), fault), 1),
+        Err(fault) => return say(output, file_line(alloc, fault), 1),
     };
-    match line_words(rt.alloc(), &line) {
-        Ok(words) => run_words(rt, words.as_slice(), input, output),
-        Err(LineFault::NotUtf8) => refuse_words(rt.alloc(), output),
+    match line_words(alloc, &line) {
+        Ok(words) => run_words(alloc, files, words.as_slice(), input, output),
+        Err(LineFault::NotUtf8) => refuse_words(alloc, output),
         Err(LineFault::OutOfMemory) => 1,
     }
 }

@@ -1,7 +1,7 @@
 //! What the program does with readers and writers that fail in mid-stream.
 use crate::command::run_command;
 use failing_streams::{FailingReader, FailingWriter, is_lawful};
-use program_streams::line_words;
+use program_streams::{SystemFiles, line_words};
 use std::process::Abort;
 use std::rt::Files;
 use std::test::Fail;
@@ -20,7 +20,13 @@ fn run_over_reader(
     let mut reader = FailingReader::new(input, fails_at);
     let mut output = Vec::new(rt.alloc());
     let none: Vec<String> = Vec::new(rt.alloc());
-    let status = run_command(rt, none.as_slice(), &mut reader, &mut output);
+    let status = run_command(
+        rt.alloc(),
+        &SystemFiles::new(rt),
+        none.as_slice(),
+        &mut reader,
+        &mut output,
+    );
     (output, status, reader.has_failed())
 }
 
@@ -47,11 +53,23 @@ fn writer_fails<R: Files + AllocGlobal + Abort>(
 ) -> Result<(), Fail> {
     let words = line_words(rt.alloc(), line.as_bytes())?;
     let mut whole = Vec::new(rt.alloc());
-    let status = run_command(rt, words.as_slice(), &mut TEXT.as_bytes(), &mut whole);
+    let status = run_command(
+        rt.alloc(),
+        &SystemFiles::new(rt),
+        words.as_slice(),
+        &mut TEXT.as_bytes(),
+        &mut whole,
+    );
     assert_eq!(rt; status, wanted);
     for fails_at in 0..1_000 {
         let mut writer = FailingWriter::new(rt.alloc(), fails_at, takes_none);
-        let status = run_command(rt, words.as_slice(), &mut TEXT.as_bytes(), &mut writer);
+        let status = run_command(
+            rt.alloc(),
+            &SystemFiles::new(rt),
+            words.as_slice(),
+            &mut TEXT.as_bytes(),
+            &mut writer,
+        );
         assert!(rt; is_lawful(&writer, whole.as_slice(), wanted, status));
         if !writer.has_failed() {
             return Ok(());

@@ -1,17 +1,26 @@
 -- The bytes of a file by its name, where `-` is an input.
-use Rattle.std.specs.Prelude.{◌≡◌, ℕ, ◌+◌, ◌≤◌, List, Option, codes, length}
+use Rattle.std.specs.Prelude.{◌≡◌, ◌≢◌, ℕ, ◌+◌, ◌≤◌, List, Option, codes, length}
 use Rattle.program_streams.specs.declared.fault.FileFault.{FileFault}
 use Rattle.program_streams.specs.Streams.{Holds, IsReadFault, Takes}
 
--- the bytes of the file of this name, which are no more than the limit; `-` is the input, and nothing is known of other files
-pub record AreOfFile (limit : ℕ) (path : List ℕ) (input : Option (List ℕ)) (bytes : List ℕ) : Type 0 where
-  pub within : length bytes ≤ limit
-  pub known : path ≡ codes "-" → Holds input bytes
+-- the bytes are all that is held, where that is known, and no more than the limit
+abbrev pub AreWithin : ℕ → Option (List ℕ) → List ℕ → Type 0
+AreWithin limit held bytes = (length bytes ≤ limit) × Holds held bytes
 
--- the input has more bytes than the limit
+-- more bytes are held than the limit
 abbrev pub IsTooLong : ℕ → Option (List ℕ) → Type 0
-IsTooLong limit input = (rest : Option (List ℕ)) × Takes input rest (limit + 1)
+IsTooLong limit held = (rest : Option (List ℕ)) × Takes held rest (limit + 1)
+
+-- the bytes of the file of this name, no more than the limit; `-` is the input
+pub record AreOfFile (limit : ℕ) (name : List ℕ) (input : Option (List ℕ)) (files : List ℕ → Option (List ℕ)) (bytes : List ℕ) : Type 0 where
+  pub of_input : name ≡ codes "-" → AreWithin limit input bytes
+  pub of_file : name ≢ codes "-" → AreWithin limit (files name) bytes
+
+-- that file is longer than the limit
+pub record IsLongFile (limit : ℕ) (name : List ℕ) (input : Option (List ℕ)) (files : List ℕ → Option (List ℕ)) : Type 0 where
+  pub of_input : name ≡ codes "-" → IsTooLong limit input
+  pub of_file : name ≢ codes "-" → IsTooLong limit (files name)
 
 -- why that file isn't read
-abbrev pub IsFileFault : ℕ → List ℕ → Option (List ℕ) → FileFault → Type 0
-IsFileFault limit path input fault = IsReadFault (path ≡ codes "-" → IsTooLong limit input) fault
+abbrev pub IsFileFault : ℕ → List ℕ → Option (List ℕ) → (List ℕ → Option (List ℕ)) → FileFault → Type 0
+IsFileFault limit name input files = IsReadFault (IsLongFile limit name input files)

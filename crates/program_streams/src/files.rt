@@ -1,11 +1,12 @@
 //! Files by their names.
 
-ghost use Rattle.std.specs.Prelude.{◌+◌, ◌<◌, ◌≤◌, ◌^◌, ⊤, vec_len, IfOk, IfErr};
+ghost use Rattle.std.specs.Prelude.{◌+◌, ◌<◌, ◌^◌, ℕ, List, Option, None, IfOk, IfErr};
 ghost use Rattle.program_streams.specs.Streams.{IsReadFault};
-ghost use Rattle.program_streams.specs.Files.{AreOfFile, IsFileFault};
+ghost use Rattle.program_streams.specs.Files.{AreWithin, IsTooLong, AreOfFile, IsFileFault};
 
 use crate::fault::FileFault;
 use crate::streams::read_up_to;
+use std::alloc::Global;
 use std::fs::File;
 use std::io::Read;
 use std::rt::Files;
@@ -13,39 +14,59 @@ use std::rt::Files;
 /// The most bytes of a litmus file, of a cost file, and of a command line that is read from the input.
 pub const TEXT_LIMIT: usize = 1_048_576;
 
-/// The bytes of a file, if they are no more than the limit.
-pub fn file_bytes<F: Files + AllocGlobal>(
-    rt: &F,
-    path: &str,
-    limit: usize,
-) -> Result<Vec<u8>, FileFault>
-    requires { limit + 1 < 2 ^ 64 }
-    ensures within { IfOk result (λ bytes. vec_len bytes ≤ limit) }
-    ensures err { IfErr result (IsReadFault ⊤) }
-{
-    match File::open(rt, path) {
-        Ok(file) => {
-            let mut file = file;
-            read_up_to(rt.alloc(), &mut file, limit)
+/// Where files are found by their names.
+pub trait FileStore {
+    // What the file of a name holds, where that is known.
+    ghost held: { Self → List ℕ → Option (List ℕ) } = { λ _ name. None };
+
+    /// The bytes of a file, if they are no more than the limit. `Read` comes where the file can't be
+    /// read and where there is no memory for the bytes.
+    fn file_bytes(&self, alloc: Global, name: &str, limit: usize) -> Result<Vec<u8>, FileFault>
+        requires { limit + 1 < 2 ^ 64 }
+        ensures whole { IfOk result (λ bytes. AreWithin limit (held self.now name.now) bytes.items) }
+        ensures err { IfErr result (IsReadFault (IsTooLong limit (held self.now name.now))) };
+}
+
+/// The files of the system. No contract knows what they hold.
+#[derive(Drop)]
+pub struct SystemFiles<'a, F> {
+    files: &'a F,
+}
+
+impl<'a, F: Files> SystemFiles<'a, F> {
+    /// The files to which a runtime gives access.
+    pub fn new(files: &'a F) -> Self {
+        SystemFiles { files }
+    }
+}
+
+impl<F: Files> FileStore for SystemFiles<'_, F> {
+    fn file_bytes(&self, alloc: Global, name: &str, limit: usize) -> Result<Vec<u8>, FileFault> {
+        match File::open(self.files, name) {
+            Ok(file) => {
+                let mut file = file;
+                read_up_to(alloc, &mut file, limit)
+            }
+            Err(_) => Err(FileFault::Read),
         }
-        Err(_) => Err(FileFault::Read),
     }
 }
 
 /// The bytes of a file, or of the reader where the file's name is `-`, if they are no more than the limit.
-pub fn named_bytes<F: Files + AllocGlobal, R: Read>(
-    rt: &F,
-    path: &str,
+pub fn named_bytes<S: FileStore, R: Read>(
+    alloc: Global,
+    files: &S,
+    name: &str,
     input: &mut R,
     limit: usize,
 ) -> Result<Vec<u8>, FileFault>
     requires { limit + 1 < 2 ^ 64 }
-    ensures whole { IfOk result (λ bytes. AreOfFile limit path.now (R.remaining input.old) bytes.items) }
-    ensures err { IfErr result (IsFileFault limit path.now (R.remaining input.old)) }
+    ensures whole { IfOk result (λ bytes. AreOfFile limit name.now (R.remaining input.old) (S.held files.now) bytes.items) }
+    ensures err { IfErr result (IsFileFault limit name.now (R.remaining input.old) (S.held files.now)) }
 {
-    if path == "-" {
-        read_up_to(rt.alloc(), input, limit)
+    if name == "-" {
+        read_up_to(alloc, input, limit)
     } else {
-        file_bytes(rt, path, limit)
+        files.file_bytes(alloc, name, limit)
     }
 }

@@ -8,7 +8,7 @@ mod streams;
 mod words;
 
 pub use fault::FileFault;
-pub use files::{TEXT_LIMIT, file_bytes, named_bytes};
+pub use files::{FileStore, SystemFiles, TEXT_LIMIT, named_bytes};
 pub use output::{refuse_words, say};
 pub use streams::{read_line_up_to, read_up_to, write_bytes};
 pub use words::{LineFault, line_words};

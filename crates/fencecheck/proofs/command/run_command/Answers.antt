@@ -8,6 +8,7 @@ use Rattle.fencecheck.proofs.command.run_command.Goals as goal
 pub returns-then-is_misused : goal.returns-then-is_misused
 returns-then-is_misused g c =
     let input = g.R.Read.remaining c.args.input.now in
-    prints_more IsUsage (IsOutput (map string_bytes c.args.words.now) input) _ _ c.say.result
-    (λ status out is. usage_output string_bytes c.args.words.now input status out (sym c.is_misused.ensures ∙ c.if-is_misused.true) is)
+    let files = g.S.FileStore.held c.args.files.now in
+    prints_more IsUsage (IsOutput (map string_bytes c.args.words.now) input files) _ _ c.say.result
+    (λ status out is. usage_output string_bytes c.args.words.now input files status out (sym c.is_misused.ensures ∙ c.if-is_misused.true) is)
     (prints_line c.usage_line.result 2 usage_line IsUsage _ _ c.say.result (refl, refl) c.usage_line.ensures c.say.ensures)
