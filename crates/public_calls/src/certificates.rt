@@ -1,0 +1,39 @@
+//! Calls of `cert_forest` and `cert_check`.
+
+use crate::input::{numbers_of, push_bytes, word_at};
+use crate::refusal::Refusal;
+use crate::sets::push_gaps;
+use cert_check::check;
+use cert_forest::{read_cert, write_cert};
+use gap_sets::Costs;
+use litmus_text::read_litmus;
+use std::alloc::Global;
+
+/// The text of a certificate whose trees are copies.
+pub fn certificate(alloc: Global, text: &[u8]) -> Result<String, Refusal> {
+    let mut certificate = read_cert(alloc, text)?;
+    certificate.seq_tree = certificate.seq_tree.copy(alloc)?;
+    certificate.fenced_tree = certificate.fenced_tree.copy(alloc)?;
+    certificate.gap_tree = certificate.gap_tree.copy(alloc)?;
+    let mut printed = String::new(alloc);
+    push_bytes(&mut printed, &write_cert(alloc, &certificate)?)?;
+    Ok(printed)
+}
+
+/// The litmus text and the certificate of a text; the first word `FENCECERT` begins the latter.
+fn split_texts(text: &[u8]) -> (&[u8], &[u8]) {
+    let head: &[u8] = b"FENCECERT ";
+    let start = text.windows(10).position(|part| part == head);
+    text.split_at(start.unwrap_or(0))
+}
+
+/// What the checker says of a certificate, for a test and the costs that are given.
+pub fn checked(alloc: Global, words: &[&[u8]], text: &[u8]) -> Result<String, Refusal> {
+    let (litmus, certificate) = split_texts(text);
+    let program = read_litmus(alloc, litmus)?.program;
+    let costs = Costs::new(alloc, &numbers_of(alloc, word_at(words, 1)?)?)?;
+    let accepted = check(alloc, &program, &costs, &read_cert(alloc, certificate)?)?;
+    let mut printed = format!(in alloc; "accepted cost {} set ", accepted.cost)?;
+    push_gaps(alloc, &accepted.set, &mut printed)?;
+    Ok(printed)
+}

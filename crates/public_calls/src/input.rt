@@ -1,0 +1,69 @@
+//! The parts of the input.
+
+use crate::refusal::Refusal;
+use gap_sets::GapSet;
+use std::alloc::{AllocError, Global};
+use text_tokens::plain_number_up_to;
+
+/// What stands before the first line feed, and what stands after it.
+pub fn split_line(bytes: &[u8]) -> (&[u8], &[u8]) {
+    match bytes.iter().position(|byte| *byte == b'\n') {
+        Some(end) => {
+            let (line, rest) = bytes.split_at(end);
+            (line, rest.split_at(1).1)
+        }
+        None => (bytes, b""),
+    }
+}
+
+/// The words of the first line, the call's name first.
+pub fn words_of(alloc: Global, line: &[u8]) -> Result<Vec<&[u8]>, AllocError> {
+    line.split(|byte| *byte == b' ').collect(alloc)
+}
+
+/// The word with this index.
+pub fn word_at<'w>(words: &[&'w [u8]], index: usize) -> Result<&'w [u8], Refusal> {
+    words.get(index).copied().ok_or(Refusal::Call)
+}
+
+/// The number that a word spells.
+pub fn number_of(word: &[u8]) -> Result<u32, Refusal> {
+    plain_number_up_to(u32::MAX, word).ok_or(Refusal::Call)
+}
+
+/// The number up to 255 that a word spells.
+pub fn byte_of(word: &[u8]) -> Result<u8, Refusal> {
+    u8::try_from(number_of(word)?).map_err(|_| Refusal::Call)
+}
+
+/// The numbers of a word, separated by commas; `-` has none.
+pub fn numbers_of(alloc: Global, word: &[u8]) -> Result<Vec<u32>, Refusal> {
+    let mut numbers = Vec::new(alloc);
+    if word == b"-".as_slice() {
+        return Ok(numbers);
+    }
+    for part in word.split(|byte| *byte == b',') {
+        numbers.push(number_of(part)?)?;
+    }
+    Ok(numbers)
+}
+
+/// The set of the gaps below 64 whose numbers a word has.
+pub fn gap_set_of(alloc: Global, word: &[u8]) -> Result<GapSet, Refusal> {
+    let mut gaps = GapSet::empty();
+    for number in &numbers_of(alloc, word)? {
+        let gap = u8::try_from(*number).unwrap_or(u8::MAX);
+        if gap < 64 {
+            gaps = gaps.with(gap);
+        }
+    }
+    Ok(gaps)
+}
+
+/// Puts ASCII bytes at the end of a text.
+pub fn push_bytes(printed: &mut String, bytes: &[u8]) -> Result<(), AllocError> {
+    for byte in bytes {
+        printed.push(char::from(*byte))?;
+    }
+    Ok(())
+}

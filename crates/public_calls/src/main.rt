@@ -1,0 +1,27 @@
+//! A program of the tests: it makes one public call of the libraries, and prints its answer.
+//!
+//! The first line of its input names the call and gives its arguments, and the rest is the text that the call takes.
+//! `tests/calls.tsv` has one input in each line.
+#![tactic(auto)]
+
+mod answer;
+mod certificates;
+mod formulas;
+mod input;
+mod machines;
+mod observations;
+mod programs;
+mod refusal;
+mod sets;
+mod syntax;
+mod texts;
+mod tokens;
+
+use std::io::{self, Read, Write};
+
+fn main(rt: HostRuntime) -> io::Result<()> {
+    let mut bytes = Vec::new(rt.alloc());
+    rt.stdin().read_to_end(&mut bytes)?;
+    let printed = answer::answer(rt.alloc(), &bytes)?;
+    rt.stdout().write_all(printed.as_bytes())
+}

@@ -1,0 +1,83 @@
+//! Calls of `tso_program`.
+
+use crate::input::{byte_of, gap_set_of, word_at};
+use crate::refusal::Refusal;
+use crate::sets::push_gaps;
+use litmus_text::read_litmus;
+use std::alloc::{AllocError, Global};
+use tso_program::{Instr, Items, Local, Program, Thread};
+
+fn thread(alloc: Global, code: &[Instr]) -> Result<Thread, AllocError> {
+    let mut list = Items::of(Vec::new(alloc));
+    for instruction in code {
+        list.push(*instruction)?;
+    }
+    Ok(Thread {
+        code: Items::of(list.copy(alloc)?.into_vec()),
+        registers: [0; 6],
+    })
+}
+
+/// The threads of a program that no litmus text spells, over two locations.
+fn threads_of(alloc: Global, name: &[u8]) -> Result<Vec<Thread>, Refusal> {
+    let code = match name {
+        b"no-threads" => return Ok(Vec::new(alloc)),
+        b"store-to-location-2" => [Instr::StoreImm(2, 1), Instr::Fence],
+        b"store-to-location-1" => [Instr::StoreImm(1, 1), Instr::Fence],
+        b"jump-to-3" => [Instr::Jmp(3), Instr::Fence],
+        b"jump-to-2" => [Instr::Jmp(2), Instr::Fence],
+        _ => return Err(Refusal::Call),
+    };
+    let mut threads = Vec::new(alloc);
+    threads.push(thread(alloc, &code)?)?;
+    Ok(threads)
+}
+
+/// A program that no litmus text spells.
+pub fn program(alloc: Global, words: &[&[u8]]) -> Result<String, Refusal> {
+    let threads = threads_of(alloc, word_at(words, 1)?)?;
+    let program = Program::new(alloc, threads, Vec::from_slice(alloc, &[0, 0])?)?;
+    Ok(format!(in alloc; "threads {:?}\n", program.threads())?)
+}
+
+/// The gaps of a program, the number of a gap and the place of a gap, as a copy of the program has them.
+pub fn gaps(alloc: Global, words: &[&[u8]], text: &[u8]) -> Result<String, Refusal> {
+    let program = read_litmus(alloc, text)?.program.copy()?;
+    let thread = byte_of(word_at(words, 1)?)?;
+    let instruction = byte_of(word_at(words, 2)?)?;
+    let gap = byte_of(word_at(words, 3)?)?;
+    let mut printed = format!(in alloc;
+        "gaps {}\nnumber {:?}\nplace {:?}\nall ",
+        program.gaps(),
+        program.gap_number(thread, instruction),
+        program.gap_place(gap)
+    )?;
+    push_gaps(alloc, &program.all_gaps(), &mut printed)?;
+    Ok(printed)
+}
+
+/// A program with fences in some gaps, as a copy has it.
+pub fn fenced(alloc: Global, words: &[&[u8]], text: &[u8]) -> Result<String, Refusal> {
+    let gaps = gap_set_of(alloc, word_at(words, 1)?)?;
+    let program = read_litmus(alloc, text)?
+        .program
+        .fenced(alloc, &gaps)?
+        .copy()?;
+    Ok(format!(in alloc;
+        "threads {:?}\nmemory {:?}\n",
+        program.threads(),
+        program.memory()
+    )?)
+}
+
+/// What a thread does next at a place, where its registers hold 0.
+pub fn action(alloc: Global, words: &[&[u8]], text: &[u8]) -> Result<String, Refusal> {
+    let program = read_litmus(alloc, text)?.program;
+    let thread = byte_of(word_at(words, 1)?)?;
+    let local = Local {
+        place: byte_of(word_at(words, 2)?)?,
+        registers: [0; 6],
+        flag: false,
+    };
+    Ok(format!(in alloc; "{:?}\n", program.action(thread, local))?)
+}

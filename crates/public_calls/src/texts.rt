@@ -1,0 +1,88 @@
+//! Calls of `litmus_text`.
+
+use crate::input::push_bytes;
+use crate::refusal::Refusal;
+use litmus_text::{Litmus, NameTable, read_fenced, read_litmus};
+use std::alloc::{AllocError, Global};
+use tso_program::{Reg, Thread};
+
+fn push_locations(names: &NameTable, printed: &mut String) -> Result<(), AllocError> {
+    printed.push_str("locations")?;
+    for number in 0..names.locations() {
+        printed.push(' ')?;
+        push_bytes(printed, names.location(number).unwrap_or(b"?"))?;
+    }
+    printed.push('\n')
+}
+
+/// The registers that the test names for a thread.
+fn push_registers(
+    names: &NameTable,
+    thread: usize,
+    printed: &mut String,
+) -> Result<(), AllocError> {
+    write!(printed, "registers of {thread}")?;
+    for register in Reg::ALL {
+        if names.is_named(thread, register) {
+            write!(printed, " {register:?}")?;
+        }
+    }
+    printed.push('\n')
+}
+
+/// The labels of a thread, each with its position.
+fn push_labels<P>(
+    litmus: &Litmus<P>,
+    thread: usize,
+    printed: &mut String,
+) -> Result<(), AllocError> {
+    write!(printed, "labels of {thread}")?;
+    if let Some(labels) = litmus.labels.as_slice().get(thread) {
+        for label in labels.as_slice() {
+            printed.push(' ')?;
+            push_bytes(printed, label.name.as_slice())?;
+            write!(printed, ":{}", label.position)?;
+        }
+    }
+    printed.push('\n')
+}
+
+/// All that a test has, with the threads and the memory of its program.
+fn parts<P>(
+    alloc: Global,
+    litmus: &Litmus<P>,
+    threads: &[Thread],
+    memory: &[u32],
+) -> Result<String, AllocError> {
+    let mut printed = String::from_str(alloc, "name ")?;
+    push_bytes(&mut printed, litmus.name.as_slice())?;
+    write!(&mut printed, "\nthreads {threads:?}\nmemory {memory:?}\n")?;
+    push_locations(&litmus.names, &mut printed)?;
+    for thread in 0..threads.len() {
+        push_registers(&litmus.names, thread, &mut printed)?;
+        push_labels(litmus, thread, &mut printed)?;
+    }
+    let condition = &litmus.condition;
+    write!(
+        &mut printed,
+        "observed {:?}\nquantifier {:?}\nformula {:?}\n",
+        litmus.observed.as_slice(),
+        condition.quantifier,
+        condition.formula.tokens(alloc)?
+    )?;
+    Ok(printed)
+}
+
+/// What is read of a test.
+pub fn read(alloc: Global, text: &[u8]) -> Result<String, Refusal> {
+    let litmus = read_litmus(alloc, text)?;
+    let program = &litmus.program;
+    Ok(parts(alloc, &litmus, program.threads(), program.memory())?)
+}
+
+/// What is read of a test that has its fences.
+pub fn read_with_fences(alloc: Global, text: &[u8]) -> Result<String, Refusal> {
+    let litmus = read_fenced(alloc, text)?;
+    let program = &litmus.program;
+    Ok(parts(alloc, &litmus, program.threads(), program.memory())?)
+}
