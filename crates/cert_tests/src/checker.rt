@@ -4,7 +4,7 @@ use cert_forest::read_cert;
 use gap_sets::{Costs, GapSet};
 use std::alloc::{AllocError, Global};
 use std::test::Fail;
-use tso_program::{Instr, Items, Program, Reg, Thread};
+use tso_program::{Instr, Items, Program, Reg, Shown, Thread};
 
 fn thread(alloc: Global, code: &[Instr]) -> Result<Thread, AllocError> {
     Ok(Thread {
@@ -38,7 +38,8 @@ fn judged(
     text: &str,
 ) -> Result<Result<Accepted, CheckFault>, Fail> {
     let certificate = read_cert(alloc, text.as_bytes())?;
-    Ok(check(alloc, program, &Costs::new(alloc, costs)?, &certificate))
+    let costs = Costs::new(alloc, costs)?;
+    Ok(check(alloc, program, &Shown::All, &costs, &certificate))
 }
 
 /// Why the text is refused.

@@ -2,7 +2,7 @@ use conditions::Quantifier;
 use litmus_text::{Observed, holds, read_fenced, read_litmus, write_outcome};
 use std::alloc::{AllocError, Global};
 use std::test::Fail;
-use tso_program::{Items, Outcome, Reg};
+use tso_program::{Items, Outcome, Reg, Shown};
 
 const STORE_BUFFERING: &str = "X86 SB
 { }
@@ -45,7 +45,7 @@ fn reads_store_buffering(rt: HostRuntime) -> Result<(), Fail> {
 fn writes_named_registers_and_locations(rt: HostRuntime) -> Result<(), Fail> {
     let alloc = rt.alloc();
     let litmus = read_litmus(alloc, STORE_BUFFERING.as_bytes())?;
-    let text = write_outcome(alloc, &litmus.names, &outcome(alloc, 0, 1)?)?;
+    let text = write_outcome(alloc, &litmus.names, &Shown::All, &outcome(alloc, 0, 1)?)?;
     assert_eq!(rt; text.as_slice(), b"0:EAX=0; 1:EAX=1; x=1; y=1;".as_slice());
     Ok(())
 }
