@@ -2,6 +2,7 @@
 use Rattle.std.specs.Prelude.{◌≡◌, ◌≢◌, ◌↔◌, ◌⊎◌, ℕ, ◌<◌, List, Some, None, IsSome, Contains}
 use Rattle.tso_program.specs.declared.listing.Listing.{Listing}
 use Rattle.tso_program.specs.declared.outcome.Outcome.{Outcome}
+use Rattle.tso_program.specs.Shown.{Question}
 use Rattle.tso_program.specs.Listings.{action}
 use Rattle.tso_program.specs.Limits.{JumpForward}
 use Rattle.tso_program.specs.Fences.{Gaps}
@@ -11,7 +12,7 @@ use Rattle.candidate_executions.specs.declared.access.Access.{Access}
 use Rattle.candidate_executions.specs.declared.event.Event.{Event}
 use Rattle.candidate_executions.specs.declared.event.Event.TheVariants.{Initial, Access as At}
 use Rattle.candidate_executions.specs.declared.event.Kind.{Kind}
-use Rattle.candidate_executions.specs.Candidates.{Candidate, access, access_by, IsCandidate, HasOutcome}
+use Rattle.candidate_executions.specs.Candidates.{Candidate, access, access_by, IsCandidate, HasOutcome, HasShownOutcome}
 use Rattle.candidate_executions.specs.Consistency.{IsKept, Edge, IsCycle, IsConsistent}
 use Rattle.candidate_executions.specs.Paths.{path_of, LiesBetween}
 use Rattle.candidate_executions.specs.Values.{IsValueOf}
@@ -131,7 +132,7 @@ abbrev pub EachCompletionHasAnOrder : Type 0
 EachCompletionHasAnOrder = (p : Listing) (mode : Mode) (k : Sketch) (c : Candidate) (d e : Event) → IsSketch p mode k → IsCandidate p mode c →
     Completes k c → IsPair p mode k d e → Completes (with_pair k d e) c ⊎ Completes (with_pair k e d) c
 
--- where a sketch must end as an outcome, each completion has that outcome
+-- where a sketch must end as an outcome, the same is shown of each completion's
 abbrev pub EachCompletionEndsSo : Type 0
-EachCompletionEndsSo = (p : Listing) (mode : Mode) (k : Sketch) (c : Candidate) (o : Outcome) → JumpForward p.threads → IsSketch p mode k →
-    IsCandidate p mode c → Completes k c → MustEndAs p mode k o → HasOutcome p mode c o
+EachCompletionEndsSo = (q : Question) (mode : Mode) (k : Sketch) (c : Candidate) (o : Outcome) → JumpForward q.program.threads →
+    IsSketch q.program mode k → IsCandidate q.program mode c → Completes k c → MustEndAs q mode k o → HasShownOutcome q mode c o

@@ -61,7 +61,7 @@ pub fn a_known_edge_is_an_edge()
     ensures accesses { KnownCyclesAreOfAccesses }
 {}
 
-/// Where a sketch must end as an outcome, each of its completions has that outcome and no other.
+/// Where a sketch must end as an outcome, the same is shown of the one outcome of each completion.
 pub fn each_completion_ends_so()
     ensures ends { EachCompletionEndsSo }
     ensures one { OutcomesAreOne }

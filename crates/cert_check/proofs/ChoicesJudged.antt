@@ -4,6 +4,8 @@ use Rattle.std.specs.List.{AllPairs}
 use Rattle.std.specs.Option.{option_map, is_some}
 use Rattle.std.proofs.lemmas.Option.{same_Some, slice_get-map}
 use Rattle.tso_program.specs.declared.listing.Listing.{Listing}
+use Rattle.tso_program.specs.declared.shown.Shown.{Shown}
+use Rattle.tso_program.specs.Shown.{asked}
 use Rattle.tso_machine.specs.declared.ended.Ended.{Ended}
 use Rattle.tso_machine.specs.Machine as machine
 use Rattle.candidate_executions.specs.declared.event.Event.{Event}
@@ -91,19 +93,19 @@ is_cycle s kind es h = cycle_joined (IsOfMode (mode_in s) kind) (sketches.KnownE
 outcome_at : (ended : List Ended) (n : ℕ) → slice_get (outcomes_of ended) n ≡ option_map (λ (e : Ended). e.outcome) (slice_get ended n)
 outcome_at ended n = slice_get-map (λ (e : Ended). e.outcome) ended n
 
-pub not_known : (s : Parts) (ended : List Ended) (n : ℕ) → slice_get ended n ≡ None → MustEndAsNumber s.program (mode_in s) (outcomes_of ended) (sketch_of s) n → ⊥
-not_known s ended n none must =
+pub not_known : (s : Parts) (shown : Shown) (ended : List Ended) (n : ℕ) → slice_get ended n ≡ None → MustEndAsNumber (asked s.program shown) (mode_in s) (outcomes_of ended) (sketch_of s) n → ⊥
+not_known s shown ended n none must =
     let no : Some must.outcome ≡ None = sym must.is_outcome ∙ outcome_at ended n ∙ ap (option_map (λ (e : Ended). e.outcome)) none in cc
 
-pub not_so : (s : Parts) (ended : List Ended) (n : ℕ) (end : Ended) → slice_get ended n ≡ Some end → (sketches.MustEndAs s.program (mode_in s) (sketch_of s) end.outcome → ⊥) →
-    MustEndAsNumber s.program (mode_in s) (outcomes_of ended) (sketch_of s) n → ⊥
-not_so s ended n end there not must =
-    not (subst (sketches.MustEndAs s.program (mode_in s) (sketch_of s))
+pub not_so : (s : Parts) (shown : Shown) (ended : List Ended) (n : ℕ) (end : Ended) → slice_get ended n ≡ Some end → (sketches.MustEndAs (asked s.program shown) (mode_in s) (sketch_of s) end.outcome → ⊥) →
+    MustEndAsNumber (asked s.program shown) (mode_in s) (outcomes_of ended) (sketch_of s) n → ⊥
+not_so s shown ended n end there not must =
+    not (subst (sketches.MustEndAs (asked s.program shown) (mode_in s) (sketch_of s))
     (same_Some must.outcome end.outcome (sym must.is_outcome ∙ outcome_at ended n ∙ ap (option_map (λ (e : Ended). e.outcome)) there)) must.must_end)
 
-pub is_so : (s : Parts) (ended : List Ended) (n : ℕ) (end : Ended) → slice_get ended n ≡ Some end → sketches.MustEndAs s.program (mode_in s) (sketch_of s) end.outcome →
-    MustEndAsNumber s.program (mode_in s) (outcomes_of ended) (sketch_of s) n
-is_so s ended n end there must = record {
+pub is_so : (s : Parts) (shown : Shown) (ended : List Ended) (n : ℕ) (end : Ended) → slice_get ended n ≡ Some end → sketches.MustEndAs (asked s.program shown) (mode_in s) (sketch_of s) end.outcome →
+    MustEndAsNumber (asked s.program shown) (mode_in s) (outcomes_of ended) (sketch_of s) n
+is_so s shown ended n end there must = record {
   outcome = end.outcome;
   is_outcome = outcome_at ended n ∙ ap (option_map (λ (e : Ended). e.outcome)) there;
   must_end = must;

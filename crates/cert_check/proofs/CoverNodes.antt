@@ -3,6 +3,8 @@ use Rattle.std.proofs.Common.{◌≡◌, ℕ, zero, suc, List, [], ◌∷◌, le
 use Rattle.std.proofs.lemmas.List.{length-map}
 use Rattle.std.proofs.lemmas.List.Elements.{All-map, All-contains_itself, All-weaker}
 use Rattle.tso_program.specs.declared.outcome.Outcome.{Outcome}
+use Rattle.tso_program.specs.declared.shown.Shown.{Shown}
+use Rattle.tso_program.specs.Shown.{asked}
 use Rattle.candidate_executions.specs.declared.event.Event.{Event}
 use Rattle.candidate_executions.specs.Sketches as sketches
 use Rattle.exec_axioms.specs.Parts.{Parts, mode_in, sketch_of}
@@ -39,48 +41,48 @@ source_may s read count choices are = record {
       are.sources (All-contains_itself are.sources)));
 }
 
-module _ (outcomes : List Outcome) (s : Parts) (trees : List Cover) where
+module _ (shown : Shown) (outcomes : List Outcome) (s : Parts) (trees : List Cover) where
   module _ (t : ℕ) (choices : List Choice) (are : AreValueChoices s t (length trees) choices) where
     values_sketches : map (after (sketch_of s)) choices ≡ map (sketches.with_value (sketch_of s) t) are.values
     values_sketches = ap (map (after (sketch_of s))) are.each ∙ map_map (after (sketch_of s)) (choice.Value t) are.values
 
-    pub value_valid : AreValidAfter outcomes s trees choices → IsValidAfter outcomes s (Value t (covers_of trees)) (sketch_of s)
-    value_valid valid = (are.values, are.next, subst (AreValidCovers s.program (mode_in s) outcomes (covers_of trees)) values_sketches valid)
+    pub value_valid : AreValidAfter shown outcomes s trees choices → IsValidAfter shown outcomes s (Value t (covers_of trees)) (sketch_of s)
+    value_valid valid = (are.values, are.next, subst (AreValidCovers (asked s.program shown) (mode_in s) outcomes (covers_of trees)) values_sketches valid)
 
-    pub value_below : (path : List ℕ) → IsBelow (IsWrongChild outcomes s trees choices) path → IsWrongAt outcomes s (Value t (covers_of trees)) (sketch_of s) path
+    pub value_below : (path : List ℕ) → IsBelow (IsWrongChild shown outcomes s trees choices) path → IsWrongAt shown outcomes s (Value t (covers_of trees)) (sketch_of s) path
     value_below [] wrong = absurd wrong
     value_below (number ∷ path) wrong = (
       are.values,
       are.next,
       covers_count trees ∙ are.as_many,
-      subst (λ ks. FirstWrongChild s.program (mode_in s) outcomes (covers_of trees) ks number path) values_sketches wrong,
+      subst (λ ks. FirstWrongChild (asked s.program shown) (mode_in s) outcomes (covers_of trees) ks number path) values_sketches wrong,
     )
 
-  pub value_here : (t : ℕ) (path : List ℕ) → IsAtRoot (HasNoValues s t (length trees)) path → IsWrongAt outcomes s (Value t (covers_of trees)) (sketch_of s) path
-  value_here t path (at, none) = subst (IsWrongAt outcomes s (Value t (covers_of trees)) (sketch_of s)) (sym at)
+  pub value_here : (t : ℕ) (path : List ℕ) → IsAtRoot (HasNoValues s t (length trees)) path → IsWrongAt shown outcomes s (Value t (covers_of trees)) (sketch_of s) path
+  value_here t path (at, none) = subst (IsWrongAt shown outcomes s (Value t (covers_of trees)) (sketch_of s)) (sym at)
       (λ values next e. none values next (sym (covers_count trees) ∙ e))
 
   module _ (read : AccessId) (choices : List Choice) (are : AreSourceChoices s (event_of read) (length trees) choices) where
     sources_sketches : map (after (sketch_of s)) choices ≡ map (sketches.with_source (sketch_of s) (event_of read)) are.sources
     sources_sketches = ap (map (after (sketch_of s))) are.each ∙ map_map (after (sketch_of s)) (choice.Source (event_of read)) are.sources
 
-    pub source_valid : AreValidAfter outcomes s trees choices → IsValidAfter outcomes s (Source read (covers_of trees)) (sketch_of s)
-    source_valid valid = (are.sources, are.next, subst (AreValidCovers s.program (mode_in s) outcomes (covers_of trees)) sources_sketches valid)
+    pub source_valid : AreValidAfter shown outcomes s trees choices → IsValidAfter shown outcomes s (Source read (covers_of trees)) (sketch_of s)
+    source_valid valid = (are.sources, are.next, subst (AreValidCovers (asked s.program shown) (mode_in s) outcomes (covers_of trees)) sources_sketches valid)
 
-    pub source_below : (path : List ℕ) → IsBelow (IsWrongChild outcomes s trees choices) path → IsWrongAt outcomes s (Source read (covers_of trees)) (sketch_of s) path
+    pub source_below : (path : List ℕ) → IsBelow (IsWrongChild shown outcomes s trees choices) path → IsWrongAt shown outcomes s (Source read (covers_of trees)) (sketch_of s) path
     source_below [] wrong = absurd wrong
     source_below (number ∷ path) wrong = (
       are.sources,
       are.next,
       covers_count trees ∙ are.as_many,
-      subst (λ ks. FirstWrongChild s.program (mode_in s) outcomes (covers_of trees) ks number path) sources_sketches wrong,
+      subst (λ ks. FirstWrongChild (asked s.program shown) (mode_in s) outcomes (covers_of trees) ks number path) sources_sketches wrong,
     )
 
-  pub source_here : (read : AccessId) (path : List ℕ) → IsAtRoot (HasNoSources s (event_of read) (length trees)) path → IsWrongAt outcomes s (Source read (covers_of trees)) (sketch_of s) path
-  source_here read path (at, none) = subst (IsWrongAt outcomes s (Source read (covers_of trees)) (sketch_of s)) (sym at)
+  pub source_here : (read : AccessId) (path : List ℕ) → IsAtRoot (HasNoSources s (event_of read) (length trees)) path → IsWrongAt shown outcomes s (Source read (covers_of trees)) (sketch_of s) path
+  source_here read path (at, none) = subst (IsWrongAt shown outcomes s (Source read (covers_of trees)) (sketch_of s)) (sym at)
       (λ sources next e. none sources next (sym (covers_count trees) ∙ e))
 
-module _ (outcomes : List Outcome) (s : Parts) (first second : AccessId) (one other : Cover) where
+module _ (shown : Shown) (outcomes : List Outcome) (s : Parts) (first second : AccessId) (one other : Cover) where
   abbrev first_choice : Choice
   first_choice = choice.Order (event_of first) (event_of second)
 
@@ -90,29 +92,29 @@ module _ (outcomes : List Outcome) (s : Parts) (first second : AccessId) (one ot
   no_order : MayChoose s first_choice → HasNoOrder s.program (mode_in s) (sketch_of s) (event_of first) (event_of second)
   no_order may = record { whole = may.whole; is_pair = may.is_pair; free = may.free }
 
-  pub order_valid : MayChoose s first_choice → IsValidAfter outcomes s one (after (sketch_of s) first_choice) → IsValidAfter outcomes s other (after (sketch_of s) second_choice) →
-      IsValidAfter outcomes s (Order first second one other) (sketch_of s)
+  pub order_valid : MayChoose s first_choice → IsValidAfter shown outcomes s one (after (sketch_of s) first_choice) → IsValidAfter shown outcomes s other (after (sketch_of s) second_choice) →
+      IsValidAfter shown outcomes s (Order first second one other) (sketch_of s)
   order_valid may a b = (no_order may, a, b)
 
-  pub order_first : MayChoose s first_choice → (path : List ℕ) → IsBelow (λ n rest. (n ≡ 0) × IsWrongAt outcomes s one (after (sketch_of s) first_choice) rest) path →
-      IsWrongAt outcomes s (Order first second one other) (sketch_of s) path
+  pub order_first : MayChoose s first_choice → (path : List ℕ) → IsBelow (λ n rest. (n ≡ 0) × IsWrongAt shown outcomes s one (after (sketch_of s) first_choice) rest) path →
+      IsWrongAt shown outcomes s (Order first second one other) (sketch_of s) path
   order_first may [] wrong = absurd wrong
   order_first may (zero ∷ path) (at, wrong) = (no_order may, wrong)
   order_first may (suc n ∷ path) (at, wrong) = absurd (omega arith)
 
-  pub order_second : MayChoose s first_choice → IsValidAfter outcomes s one (after (sketch_of s) first_choice) →
-      (path : List ℕ) → IsBelow (λ n rest. (n ≡ 1) × IsWrongAt outcomes s other (after (sketch_of s) second_choice) rest) path →
-      IsWrongAt outcomes s (Order first second one other) (sketch_of s) path
+  pub order_second : MayChoose s first_choice → IsValidAfter shown outcomes s one (after (sketch_of s) first_choice) →
+      (path : List ℕ) → IsBelow (λ n rest. (n ≡ 1) × IsWrongAt shown outcomes s other (after (sketch_of s) second_choice) rest) path →
+      IsWrongAt shown outcomes s (Order first second one other) (sketch_of s) path
   order_second may valid [] wrong = absurd wrong
   order_second may valid (zero ∷ path) (at, wrong) = absurd (omega arith)
   order_second may valid (suc zero ∷ path) (at, wrong) = (no_order may, (valid, wrong))
   order_second may valid (suc (suc n) ∷ path) (at, wrong) = absurd (omega arith)
 
   pub order_here : (path : List ℕ) → IsAtRoot (HasNoOrder s.program (mode_in s) (sketch_of s) (event_of first) (event_of second) → ⊥) path →
-      IsWrongAt outcomes s (Order first second one other) (sketch_of s) path
-  order_here path (at, none) = subst (IsWrongAt outcomes s (Order first second one other) (sketch_of s)) (sym at) none
+      IsWrongAt shown outcomes s (Order first second one other) (sketch_of s) path
+  order_here path (at, none) = subst (IsWrongAt shown outcomes s (Order first second one other) (sketch_of s)) (sym at) none
 
 -- at the root of a leaf
-pub leaf_here : (outcomes : List Outcome) (s : Parts) (tree : Cover) (P : Type 0) → (P → IsWrongAt outcomes s tree (sketch_of s) []) →
-    (path : List ℕ) → IsAtRoot P path → IsWrongAt outcomes s tree (sketch_of s) path
-leaf_here outcomes s tree P f path (at, p) = subst (IsWrongAt outcomes s tree (sketch_of s)) (sym at) (f p)
+pub leaf_here : (shown : Shown) (outcomes : List Outcome) (s : Parts) (tree : Cover) (P : Type 0) → (P → IsWrongAt shown outcomes s tree (sketch_of s) []) →
+    (path : List ℕ) → IsAtRoot P path → IsWrongAt shown outcomes s tree (sketch_of s) path
+leaf_here shown outcomes s tree P f path (at, p) = subst (IsWrongAt shown outcomes s tree (sketch_of s)) (sym at) (f p)

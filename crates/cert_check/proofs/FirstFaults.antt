@@ -6,8 +6,10 @@ use Rattle.std.proofs.lemmas.Option.{same_Some}
 use Rattle.gap_sets.specs.Gaps.{SetOfGaps}
 use Rattle.tso_program.specs.declared.listing.Listing.{Listing}
 use Rattle.tso_program.specs.declared.outcome.Outcome.{Outcome}
+use Rattle.tso_program.specs.Shown.{Question, show}
 use Rattle.tso_machine.specs.declared.label.Label.{Label}
-use Rattle.tso_machine.specs.Machine.{Mode, Sequential, Fenced, no_gaps, IsRun, outcome_at}
+use Rattle.tso_machine.specs.Machine.{Mode, Sequential, Fenced, no_gaps, outcome_at}
+use Rattle.tso_machine.specs.Outcomes.{IsShownRun}
 use Rattle.candidate_executions.specs.Sketches.{Sketch, with_value, with_source, with_pair}
 use Rattle.cert_forest.specs.Trees.{Cover, Value, Source, Order, Cycle, Known, Covers, NoCover, MoreCovers, Gap, Split, Bound, Gaps, NoGap, MoreGaps}
 use Rattle.cert_forest.specs.Texts.{count_covers, count_gaps}
@@ -22,47 +24,49 @@ use Rattle.cert_check.specs.CoverDefects.{FirstWrongCover, FirstWrongChild}
 use Rattle.cert_check.specs.GapDefects as gaps
 use Rattle.cert_check.specs.Faults.{IsRunOf, IsFirstWithout, FaultIs}
 use Rattle.cert_check.specs.Laws.{ValidCertificatesHaveNoFault}
-use Rattle.cert_check.proofs.Replayed.{zip_left}
+use Rattle.cert_check.proofs.Replayed.{zip_left, of_shown}
 
--- a run has one outcome
-pub one_outcome : (p : Listing) (mode : Mode) (labels : List Label) (o q : Outcome) → IsRun p mode labels o → IsRun p mode labels q → o ≡ q
-one_outcome p mode labels o q (last, runs, ended, at) (end, runs_too, ended_too, at_too) = at ∙ ap (outcome_at p) (same_Some last end (sym runs ∙ runs_too)) ∙ sym at_too
+-- a run has one outcome, and one is shown
+pub one_outcome : (q : Question) (mode : Mode) (labels : List Label) (o x : Outcome) → IsShownRun q mode labels o → IsShownRun q mode labels x → o ≡ x
+one_outcome q mode labels o x (whole, (last, runs, ended, at), shown) (other, (end, runs_too, ended_too, at_too), shown_too) =
+    let same : whole ≡ other = at ∙ ap (outcome_at q.program) (same_Some last end (sym runs ∙ runs_too)) ∙ sym at_too in
+    shown ∙ ap (show q.shown) same ∙ sym shown_too
 
 -- so runs have one list of outcomes
-pub one_list : (p : Listing) (runs : List (List Label)) (os qs : List Outcome) → AreSequentialRuns p runs os → AreSequentialRuns p runs qs → os ≡ qs
-one_list p [] [] [] left right = refl
-one_list p [] [] (q ∷ qs) left right = absurd right
-one_list p [] (o ∷ os) qs left right = absurd left
-one_list p (run ∷ runs) [] qs left right = absurd left
-one_list p (run ∷ runs) (o ∷ os) [] left right = absurd right
-one_list p (run ∷ runs) (o ∷ os) (q ∷ qs) left right =
-    let first = one_outcome p Sequential run o q left.0 right.0 in
-    let rest = one_list p runs os qs left.1 right.1 in
+pub one_list : (q : Question) (runs : List (List Label)) (os xs : List Outcome) → AreSequentialRuns q runs os → AreSequentialRuns q runs xs → os ≡ xs
+one_list q [] [] [] left right = refl
+one_list q [] [] (x ∷ xs) left right = absurd right
+one_list q [] (o ∷ os) xs left right = absurd left
+one_list q (run ∷ runs) [] xs left right = absurd left
+one_list q (run ∷ runs) (o ∷ os) [] left right = absurd right
+one_list q (run ∷ runs) (o ∷ os) (x ∷ xs) left right =
+    let first = one_outcome q Sequential run o x left.0 right.0 in
+    let rest = one_list q runs os xs left.1 right.1 in
     λ i. first i ∷ rest i
 
 -- a value that has not the property contradicts that each has it
 pub none_without : {A : Type 0} (P : A → Type 0) (xs : List A) (n : ℕ) → All P xs → IsFirstWithout P xs n → ⊥
 none_without P xs n all first = first.without (found_has P xs n first.value first.there all)
 
-module _ (p : Listing) (mode : Mode) (outcomes : List Outcome) where
-  many_covers : (trees : Covers) (ks : List Sketch) → AreValidCovers p mode outcomes trees ks → count_covers trees ≡ length ks
+module _ (q : Question) (mode : Mode) (outcomes : List Outcome) where
+  many_covers : (trees : Covers) (ks : List Sketch) → AreValidCovers q mode outcomes trees ks → count_covers trees ≡ length ks
   many_covers NoCover [] valid = refl
   many_covers NoCover (k ∷ ks) valid = absurd valid
   many_covers (MoreCovers tree trees) [] valid = absurd valid
   many_covers (MoreCovers tree trees) (k ∷ ks) valid = ap suc (many_covers trees ks valid.1)
 
   mutual
-    pub valid_is_not_wrong : (tree : Cover) (k : Sketch) (path : List ℕ) → IsValidCover p mode outcomes tree k → FirstWrongCover p mode outcomes tree k path → ⊥
+    pub valid_is_not_wrong : (tree : Cover) (k : Sketch) (path : List ℕ) → IsValidCover q mode outcomes tree k → FirstWrongCover q mode outcomes tree k path → ⊥
     valid_is_not_wrong (Value t children) k [] (values, has, valid) wrong =
         wrong values has (many_covers children (map (with_value k t) values) valid ∙ length-map values (with_value k t))
     valid_is_not_wrong (Value t children) k (n ∷ path) (values, has, valid) (others, has_too, many, wrong) =
         valid_has_no_wrong children (map (with_value k t) others) n path
-        (subst (λ vs. AreValidCovers p mode outcomes children (map (with_value k t) vs)) (one_list_of_values p mode k t values others has has_too) valid) wrong
+        (subst (λ vs. AreValidCovers q mode outcomes children (map (with_value k t) vs)) (one_list_of_values q.program mode k t values others has has_too) valid) wrong
     valid_is_not_wrong (Source read children) k [] (sources, has, valid) wrong =
         wrong sources has (many_covers children (map (with_source k (event_of read)) sources) valid ∙ length-map sources (with_source k (event_of read)))
     valid_is_not_wrong (Source read children) k (n ∷ path) (sources, has, valid) (others, has_too, many, wrong) =
         valid_has_no_wrong children (map (with_source k (event_of read)) others) n path
-        (subst (λ es. AreValidCovers p mode outcomes children (map (with_source k (event_of read)) es)) (one_list_of_sources p mode k (event_of read) sources others has has_too) valid) wrong
+        (subst (λ es. AreValidCovers q mode outcomes children (map (with_source k (event_of read)) es)) (one_list_of_sources q.program mode k (event_of read) sources others has has_too) valid) wrong
     valid_is_not_wrong (Order first second one other) k [] valid wrong = wrong valid.0
     valid_is_not_wrong (Order first second one other) k (zero ∷ path) valid wrong =
         valid_is_not_wrong one (with_pair k (event_of first) (event_of second)) path valid.1 wrong.1
@@ -74,8 +78,8 @@ module _ (p : Listing) (mode : Mode) (outcomes : List Outcome) where
     valid_is_not_wrong (Known number) k [] valid wrong = wrong valid
     valid_is_not_wrong (Known number) k (n ∷ path) valid wrong = wrong
 
-    valid_has_no_wrong : (trees : Covers) (ks : List Sketch) (n : ℕ) (path : List ℕ) → AreValidCovers p mode outcomes trees ks →
-        FirstWrongChild p mode outcomes trees ks n path → ⊥
+    valid_has_no_wrong : (trees : Covers) (ks : List Sketch) (n : ℕ) (path : List ℕ) → AreValidCovers q mode outcomes trees ks →
+        FirstWrongChild q mode outcomes trees ks n path → ⊥
     valid_has_no_wrong NoCover ks n path valid wrong = wrong
     valid_has_no_wrong (MoreCovers tree trees) [] n path valid wrong = wrong
     valid_has_no_wrong (MoreCovers tree trees) (k ∷ ks) zero path valid wrong = valid_is_not_wrong tree k path valid.0 wrong
@@ -109,30 +113,34 @@ module _ (p : Listing) (costs : List ℕ) (answer : SetOfGaps) (runs : List (Lis
     valid_gaps_have_no_wrong (MoreGaps tree trees) (n ∷ ns) zero path valid wrong = valid_gap_is_not_wrong tree n path valid.0 wrong
     valid_gaps_have_no_wrong (MoreGaps tree trees) (n ∷ ns) (suc child) path valid wrong = valid_gaps_have_no_wrong trees ns child path valid.1 wrong.1
 
-module _ (p : Listing) (costs : List ℕ) (c : Certificate) (valid : IsValidCertificate p costs c) where
-  same_list : (outcomes : List Outcome) → AreSequentialRuns p c.seq_runs outcomes → valid.outcomes ≡ outcomes
-  same_list outcomes replayed = one_list p c.seq_runs valid.outcomes outcomes valid.replayed replayed
+module _ (q : Question) (costs : List ℕ) (c : Certificate) (valid : IsValidCertificate q costs c) where
+  abbrev p : Listing
+  p = q.program
+
+  same_list : (outcomes : List Outcome) → AreSequentialRuns q c.seq_runs outcomes → valid.outcomes ≡ outcomes
+  same_list outcomes replayed = one_list q c.seq_runs valid.outcomes outcomes valid.replayed replayed
 
   are_runs : All (IsRunOf p (Fenced no_gaps)) c.runs
-  are_runs k d h = (let (o, is_run, outside) = valid.foreign k d h in (o, is_run))
+  are_runs k d h = (let (o, is_run, outside) = valid.foreign k d h in of_shown q (Fenced no_gaps) _ o is_run)
 
-  no_fault : (why : CheckFault) → FaultIs p costs c why → why ≡ fault.OutOfMemory
-  no_fault fault.Set wrong = absurd (wrong valid.of_program)
-  no_fault fault.Cost wrong = absurd (wrong.1 (valid.one_cost_each, valid.cost))
+  no_fault : (why : CheckFault) → FaultIs q costs c why → why ≡ fault.OutOfMemory
+  no_fault fault.Shown wrong = absurd (wrong valid.shown)
+  no_fault fault.Set wrong = absurd (wrong.1 valid.of_program)
+  no_fault fault.Cost wrong = absurd (wrong.2 (valid.one_cost_each, valid.cost))
   no_fault (fault.SequentialRun n) wrong =
-      absurd (none_without (IsRunOf p Sequential) c.seq_runs n (zip_left (IsRun p Sequential) (IsRunOf p Sequential) (λ labels o is. (o, is)) c.seq_runs valid.outcomes valid.replayed) wrong.1)
+      absurd (none_without (IsRunOf p Sequential) c.seq_runs n (zip_left (IsShownRun q Sequential) (IsRunOf p Sequential) (of_shown q Sequential) c.seq_runs valid.outcomes valid.replayed) wrong.1)
   no_fault (fault.SequentialTree path) (outcomes, has, wrong) =
-      absurd (valid_is_not_wrong p Sequential outcomes c.seq_tree _ path
-      (subst (λ os. IsValidCover p Sequential os c.seq_tree _) (same_list outcomes has.replayed) valid.sequential) wrong)
+      absurd (valid_is_not_wrong q Sequential outcomes c.seq_tree _ path
+      (subst (λ os. IsValidCover q Sequential os c.seq_tree _) (same_list outcomes has.replayed) valid.sequential) wrong)
   no_fault (fault.Run n) (outcomes, has, wrong) = absurd (none_without (IsRunOf p (Fenced no_gaps)) c.runs n are_runs wrong)
   no_fault (fault.NotForeign n) (outcomes, has, wrong) =
-      absurd (none_without (IsRunOutside p outcomes) c.runs n
-      (subst (λ os. All (IsRunOutside p os) c.runs) (same_list outcomes has.complete.listed.replayed) valid.foreign) wrong)
+      absurd (none_without (IsRunOutside q outcomes) c.runs n
+      (subst (λ os. All (IsRunOutside q os) c.runs) (same_list outcomes has.complete.listed.replayed) valid.foreign) wrong)
   no_fault (fault.FencedTree path) (outcomes, has, wrong) =
-      absurd (valid_is_not_wrong p _ outcomes c.fenced_tree _ path
-      (subst (λ os. IsValidCover p _ os c.fenced_tree _) (same_list outcomes has.replayed.complete.listed.replayed) valid.fenced) wrong)
+      absurd (valid_is_not_wrong q _ outcomes c.fenced_tree _ path
+      (subst (λ os. IsValidCover q _ os c.fenced_tree _) (same_list outcomes has.replayed.complete.listed.replayed) valid.fenced) wrong)
   no_fault (fault.GapTree path) (outcomes, has, wrong) = absurd (valid_gap_is_not_wrong p costs c.gaps c.runs c.gap_tree _ path valid.least wrong)
   no_fault fault.OutOfMemory wrong = refl
 
 pub valid_certificates_have_no_fault : ValidCertificatesHaveNoFault
-valid_certificates_have_no_fault p costs c why valid wrong = no_fault p costs c valid why wrong
+valid_certificates_have_no_fault q costs c why valid wrong = no_fault q costs c valid why wrong

@@ -1,5 +1,6 @@
 -- What a split says, and the gaps by which it splits a region.
 use Rattle.std.proofs.Common.{◌≡◌, ◌↔◌, ℕ, zero, suc, true, false, List, [], ◌∷◌, Some, None, length, Contains, slice_get, refl, sym, ap, ◌∙◌, subst}
+use Rattle.std.specs.List.{AllZip}
 use Rattle.std.specs.List.Sorted.{IsStrictlyIncreasing}
 use Rattle.std.specs.FinSet as set
 use Rattle.std.proofs.lemmas.Option.{same_Some}
@@ -7,7 +8,6 @@ use Rattle.gap_sets.specs.Gaps.{SetOfGaps}
 use Rattle.gap_sets.specs.Order.{Better}
 use Rattle.tso_program.specs.declared.listing.Listing.{Listing}
 use Rattle.tso_machine.specs.declared.label.Label.{Label}
-use Rattle.tso_machine.specs.declared.label.Model.TheVariants as models
 use Rattle.tso_machine.specs.declared.ended.Ended.{Ended}
 use Rattle.cert_forest.specs.Trees.{Gap, Split, Bound, gaps_of}
 use Rattle.cert_forest.proofs.TreeTexts.{gaps_count}
@@ -16,35 +16,35 @@ use Rattle.tree_laws.proofs.OneList.{one_list_of_gaps}
 use Rattle.cert_check.specs.declared.gap.Region.{Region}
 use Rattle.cert_check.specs.Regions.{node_of, IsValidIn, IsWrongIn, AreValidIn, IsWrongChildIn}
 use Rattle.cert_check.specs.GapDefects.{HasNoSplit}
-use Rattle.cert_check.specs.Replays.{IsReplayOf, AreBufferedReplays}
+use Rattle.cert_check.specs.Replays.{HasPassed, HavePassed}
 use Rattle.cert_check.specs.Judged.{IsAtRoot, IsBelow}
 
--- the replay of a number is that of the labels of this number
-pub replay_at : (p : Listing) (runs : List (List Label)) (ended : List Ended) (n : ℕ) (end : Ended) → AreBufferedReplays p runs ended → slice_get ended n ≡ Some end →
-    (labels : List Label) × (slice_get runs n ≡ Some labels) × IsReplayOf p models.Buffered labels end
-replay_at p [] [] n end each e = absurd cc
-replay_at p [] (x ∷ ended) n end each e = absurd each
-replay_at p (labels ∷ runs) [] n end each e = absurd each
-replay_at p (labels ∷ runs) (x ∷ ended) zero end each e = (labels, refl, subst (IsReplayOf p models.Buffered labels) (same_Some x end e) each.0)
-replay_at p (labels ∷ runs) (x ∷ ended) (suc n) end each e = replay_at p runs ended n end each.1 e
+-- what is found at a number goes with the labels of this number
+pub labels_at : (R : List Label → Ended → Type 0) (runs : List (List Label)) (ended : List Ended) (n : ℕ) (end : Ended) → AllZip R runs ended → slice_get ended n ≡ Some end →
+    (labels : List Label) × (slice_get runs n ≡ Some labels) × R labels end
+labels_at R [] [] n end each e = absurd cc
+labels_at R [] (x ∷ ended) n end each e = absurd each
+labels_at R (labels ∷ runs) [] n end each e = absurd cc
+labels_at R (labels ∷ runs) (x ∷ ended) zero end each e = (labels, refl, subst (R labels) (same_Some x end e) each.0)
+labels_at R (labels ∷ runs) (x ∷ ended) (suc n) end each e = labels_at R runs ended n end each.1 e
 
--- there is none where there are no labels
-pub no_replay_at : (p : Listing) (runs : List (List Label)) (ended : List Ended) (n : ℕ) (labels : List Label) → AreBufferedReplays p runs ended → slice_get ended n ≡ None →
+-- there is nothing where there are no labels
+pub nothing_at : (R : List Label → Ended → Type 0) (runs : List (List Label)) (ended : List Ended) (n : ℕ) (labels : List Label) → AllZip R runs ended → slice_get ended n ≡ None →
     slice_get runs n ≡ Some labels → ⊥
-no_replay_at p [] [] n labels each e h = cc
-no_replay_at p [] (x ∷ ended) n labels each e h = each
-no_replay_at p (run ∷ runs) [] n labels each e h = each
-no_replay_at p (run ∷ runs) (x ∷ ended) zero labels each e h = cc
-no_replay_at p (run ∷ runs) (x ∷ ended) (suc n) labels each e h = no_replay_at p runs ended n labels each.1 e h
+nothing_at R [] [] n labels each e h = cc
+nothing_at R [] (x ∷ ended) n labels each e h = each
+nothing_at R (run ∷ runs) [] n labels each e h = each
+nothing_at R (run ∷ runs) (x ∷ ended) zero labels each e h = cc
+nothing_at R (run ∷ runs) (x ∷ ended) (suc n) labels each e h = nothing_at R runs ended n labels each.1 e h
 
-module _ (p : Listing) (runs : List (List Label)) (ended : List Ended) (region : Region) (n : ℕ) (each : AreBufferedReplays p runs ended) where
+module _ (p : Listing) (runs : List (List Label)) (ended : List Ended) (region : Region) (n : ℕ) (each : HavePassed p runs ended) where
   -- no such run
   pub not_there : slice_get ended n ≡ None → (count : ℕ) → HasNoSplit p runs (node_of region) n count
-  not_there none count gaps split e = no_replay_at p runs ended n split.labels each none split.is_run
+  not_there none count gaps split e = nothing_at (HasPassed p) runs ended n split.labels each none split.is_run
 
   module _ (end : Ended) (there : slice_get ended n ≡ Some end) where
-    replay : (labels : List Label) × (slice_get runs n ≡ Some labels) × IsReplayOf p models.Buffered labels end
-    replay = replay_at p runs ended n end each there
+    replay : (labels : List Label) × (slice_get runs n ≡ Some labels) × HasPassed p labels end
+    replay = labels_at (HasPassed p) runs ended n end each there
 
     same_labels : (gaps : List ℕ) (split : IsSplitBy p runs (node_of region) n gaps) → replay.0 ≡ split.labels
     same_labels gaps split = same_Some replay.0 split.labels (sym replay.1 ∙ split.is_run)

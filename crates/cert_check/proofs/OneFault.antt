@@ -7,9 +7,10 @@ use Rattle.gap_sets.specs.Gaps.{SetOfGaps}
 use Rattle.tso_program.specs.declared.listing.Listing.{Listing}
 use Rattle.tso_program.specs.declared.outcome.Outcome.{Outcome}
 use Rattle.tso_program.specs.Fences.{gaps_in}
+use Rattle.tso_program.specs.Shown.{Question}
 use Rattle.tso_machine.specs.declared.label.Label.{Label}
-use Rattle.tso_machine.specs.Machine.{Mode, Sequential, Fenced, no_gaps, IsRun}
-use Rattle.tso_machine.specs.Outcomes.{AreGapsOf}
+use Rattle.tso_machine.specs.Machine.{Mode, Sequential, Fenced, no_gaps}
+use Rattle.tso_machine.specs.Outcomes.{IsShownRun, AreGapsOf}
 use Rattle.candidate_executions.specs.Sketches.{Sketch, empty_sketch, with_value, with_source, with_pair}
 use Rattle.cert_forest.specs.Trees.{Cover, Value, Source, Order, Cycle, Known, Covers, NoCover, MoreCovers, Gap, Split, Bound, Gaps, NoGap, MoreGaps}
 use Rattle.tree_laws.specs.CoverTrees.{event_of, IsValidCover}
@@ -20,9 +21,9 @@ use Rattle.cert_check.specs.declared.fault.CheckFault.{CheckFault}
 use Rattle.cert_check.specs.declared.fault.CheckFault.TheVariants as fault
 use Rattle.cert_check.specs.CoverDefects.{FirstWrongCover, FirstWrongChild}
 use Rattle.cert_check.specs.GapDefects as gaps
-use Rattle.cert_check.specs.Faults.{IsRunOf, IsFirstWithout, HasRightCost, HasSetAndCost, HasOutcomes, HasEachOutcome, HasRuns, HasForeignRuns, HasServingSet, FaultIs}
+use Rattle.cert_check.specs.Faults.{IsRunOf, IsFirstWithout, HasRightCost, HasHead, HasOutcomes, HasEachOutcome, HasRuns, HasForeignRuns, HasServingSet, FaultIs}
 use Rattle.cert_check.specs.Laws.{TheFirstFaultIsUnique}
-use Rattle.cert_check.proofs.Replayed.{zip_left}
+use Rattle.cert_check.proofs.Replayed.{zip_left, of_shown}
 use Rattle.cert_check.proofs.FirstFaults.{one_list, none_without, valid_is_not_wrong, valid_gap_is_not_wrong}
 
 -- what each value before a place has, one of them has
@@ -47,33 +48,33 @@ abbrev next_sibling : List ℕ → List ℕ
 next_sibling [] = []
 next_sibling (n ∷ path) = suc n ∷ path
 
-module _ (p : Listing) (mode : Mode) (outcomes : List Outcome) where
+module _ (q : Question) (mode : Mode) (outcomes : List Outcome) where
   mutual
     -- one node of a cover tree is the first wrong one
-    pub one_wrong_node : (tree : Cover) (k : Sketch) (path other : List ℕ) → FirstWrongCover p mode outcomes tree k path → FirstWrongCover p mode outcomes tree k other → path ≡ other
+    pub one_wrong_node : (tree : Cover) (k : Sketch) (path other : List ℕ) → FirstWrongCover q mode outcomes tree k path → FirstWrongCover q mode outcomes tree k other → path ≡ other
     one_wrong_node (Value t children) k [] [] wrong also = refl
     one_wrong_node (Value t children) k [] (m ∷ other) wrong (values, has, many, below) = absurd (wrong values has many)
     one_wrong_node (Value t children) k (n ∷ path) [] (values, has, many, below) wrong = absurd (wrong values has many)
     one_wrong_node (Value t children) k (n ∷ path) (m ∷ other) (values, has, many, below) (others, has_too, many_too, below_too) =
         one_wrong_child children (map (with_value k t) values) n m path other below
-        (subst (λ vs. FirstWrongChild p mode outcomes children (map (with_value k t) vs) m other) (one_list_of_values p mode k t others values has_too has) below_too)
+        (subst (λ vs. FirstWrongChild q mode outcomes children (map (with_value k t) vs) m other) (one_list_of_values q.program mode k t others values has_too has) below_too)
     one_wrong_node (Source read children) k [] [] wrong also = refl
     one_wrong_node (Source read children) k [] (m ∷ other) wrong (sources, has, many, below) = absurd (wrong sources has many)
     one_wrong_node (Source read children) k (n ∷ path) [] (sources, has, many, below) wrong = absurd (wrong sources has many)
     one_wrong_node (Source read children) k (n ∷ path) (m ∷ other) (sources, has, many, below) (others, has_too, many_too, below_too) =
         one_wrong_child children (map (with_source k (event_of read)) sources) n m path other below
-        (subst (λ es. FirstWrongChild p mode outcomes children (map (with_source k (event_of read)) es) m other)
-        (one_list_of_sources p mode k (event_of read) others sources has_too has) below_too)
+        (subst (λ es. FirstWrongChild q mode outcomes children (map (with_source k (event_of read)) es) m other)
+        (one_list_of_sources q.program mode k (event_of read) others sources has_too has) below_too)
     one_wrong_node (Order first second one two) k [] [] wrong also = refl
     one_wrong_node (Order first second one two) k [] (m ∷ other) wrong below = absurd (wrong below.0)
     one_wrong_node (Order first second one two) k (n ∷ path) [] below wrong = absurd (wrong below.0)
     one_wrong_node (Order first second one two) k (zero ∷ path) (zero ∷ other) wrong also =
         ap (λ xs. zero ∷ xs) (one_wrong_node one (with_pair k (event_of first) (event_of second)) path other wrong.1 also.1)
     one_wrong_node (Order first second one two) k (zero ∷ path) (suc zero ∷ other) wrong also =
-        absurd (valid_is_not_wrong p mode outcomes one (with_pair k (event_of first) (event_of second)) path also.1.0 wrong.1)
+        absurd (valid_is_not_wrong q mode outcomes one (with_pair k (event_of first) (event_of second)) path also.1.0 wrong.1)
     one_wrong_node (Order first second one two) k (zero ∷ path) (suc (suc m) ∷ other) wrong also = absurd also.1
     one_wrong_node (Order first second one two) k (suc zero ∷ path) (zero ∷ other) wrong also =
-        absurd (valid_is_not_wrong p mode outcomes one (with_pair k (event_of first) (event_of second)) other wrong.1.0 also.1)
+        absurd (valid_is_not_wrong q mode outcomes one (with_pair k (event_of first) (event_of second)) other wrong.1.0 also.1)
     one_wrong_node (Order first second one two) k (suc zero ∷ path) (suc zero ∷ other) wrong also =
         ap (λ xs. suc zero ∷ xs) (one_wrong_node two (with_pair k (event_of second) (event_of first)) path other wrong.1.1 also.1.1)
     one_wrong_node (Order first second one two) k (suc zero ∷ path) (suc (suc m) ∷ other) wrong also = absurd also.1
@@ -85,13 +86,13 @@ module _ (p : Listing) (mode : Mode) (outcomes : List Outcome) where
     one_wrong_node (Known number) k [] (m ∷ other) wrong also = absurd also
     one_wrong_node (Known number) k (n ∷ path) other wrong also = absurd wrong
 
-    one_wrong_child : (trees : Covers) (ks : List Sketch) (n m : ℕ) (path other : List ℕ) → FirstWrongChild p mode outcomes trees ks n path →
-        FirstWrongChild p mode outcomes trees ks m other → n ∷ path ≡ m ∷ other
+    one_wrong_child : (trees : Covers) (ks : List Sketch) (n m : ℕ) (path other : List ℕ) → FirstWrongChild q mode outcomes trees ks n path →
+        FirstWrongChild q mode outcomes trees ks m other → n ∷ path ≡ m ∷ other
     one_wrong_child NoCover ks n m path other wrong also = absurd wrong
     one_wrong_child (MoreCovers tree trees) [] n m path other wrong also = absurd wrong
     one_wrong_child (MoreCovers tree trees) (k ∷ ks) zero zero path other wrong also = ap (λ xs. zero ∷ xs) (one_wrong_node tree k path other wrong also)
-    one_wrong_child (MoreCovers tree trees) (k ∷ ks) zero (suc m) path other wrong also = absurd (valid_is_not_wrong p mode outcomes tree k path also.0 wrong)
-    one_wrong_child (MoreCovers tree trees) (k ∷ ks) (suc n) zero path other wrong also = absurd (valid_is_not_wrong p mode outcomes tree k other wrong.0 also)
+    one_wrong_child (MoreCovers tree trees) (k ∷ ks) zero (suc m) path other wrong also = absurd (valid_is_not_wrong q mode outcomes tree k path also.0 wrong)
+    one_wrong_child (MoreCovers tree trees) (k ∷ ks) (suc n) zero path other wrong also = absurd (valid_is_not_wrong q mode outcomes tree k other wrong.0 also)
     one_wrong_child (MoreCovers tree trees) (k ∷ ks) (suc n) (suc m) path other wrong also = ap next_sibling (one_wrong_child trees ks n m path other wrong.1 also.1)
 
 module _ (p : Listing) (costs : List ℕ) (answer : SetOfGaps) (runs : List (List Label)) where
@@ -132,49 +133,52 @@ one_of_part X make Wrong Right Later same not_both later why other (inl (x, wron
 one_of_part X make Wrong Right Later same not_both later why other (inr (right, rest)) (inl (y, also, is_too)) = absurd (not_both y also right)
 one_of_part X make Wrong Right Later same not_both later why other (inr (right, rest)) (inr (right_too, rest_too)) = later why other rest rest_too
 
-module _ (p : Listing) (costs : List ℕ) (c : Certificate) where
+module _ (q : Question) (costs : List ℕ) (c : Certificate) where
+  abbrev p : Listing
+  p = q.program
+
   -- the outcomes of the certificate's sequential runs have the property
   abbrev OutcomesHave : (List Outcome → Type 0) → Type 0
-  OutcomesHave P = (outcomes : List Outcome) × AreSequentialRuns p c.seq_runs outcomes × P outcomes
+  OutcomesHave P = (outcomes : List Outcome) × AreSequentialRuns q c.seq_runs outcomes × P outcomes
 
   -- they are one list, and so it has both of two properties
   have_both : (P Q : List Outcome → Type 0) → OutcomesHave P → OutcomesHave Q → (outcomes : List Outcome) × P outcomes × Q outcomes
   have_both P Q (outcomes, replayed, has) (others, replayed_too, has_too) =
-      (outcomes, has, subst Q (one_list p c.seq_runs others outcomes replayed_too replayed) has_too)
+      (outcomes, has, subst Q (one_list q c.seq_runs others outcomes replayed_too replayed) has_too)
 
   -- the first wrong node of a cover tree, and a valid one
   abbrev WrongCover : Mode → Cover → List ℕ → Type 0
-  WrongCover mode tree path = OutcomesHave (λ outcomes. FirstWrongCover p mode outcomes tree empty_sketch path)
+  WrongCover mode tree path = OutcomesHave (λ outcomes. FirstWrongCover q mode outcomes tree empty_sketch path)
 
   abbrev RightCover : Mode → Cover → Type 0
-  RightCover mode tree = OutcomesHave (λ outcomes. IsValidCover p mode outcomes tree empty_sketch)
+  RightCover mode tree = OutcomesHave (λ outcomes. IsValidCover q mode outcomes tree empty_sketch)
 
   one_path : (mode : Mode) (tree : Cover) (path other : List ℕ) → WrongCover mode tree path → WrongCover mode tree other → path ≡ other
   one_path mode tree path other wrong also =
-      let (outcomes, left, right) = have_both (λ os. FirstWrongCover p mode os tree empty_sketch path) (λ os. FirstWrongCover p mode os tree empty_sketch other) wrong also in
-      one_wrong_node p mode outcomes tree empty_sketch path other left right
+      let (outcomes, left, right) = have_both (λ os. FirstWrongCover q mode os tree empty_sketch path) (λ os. FirstWrongCover q mode os tree empty_sketch other) wrong also in
+      one_wrong_node q mode outcomes tree empty_sketch path other left right
 
   not_wrong : (mode : Mode) (tree : Cover) (path : List ℕ) → WrongCover mode tree path → RightCover mode tree → ⊥
   not_wrong mode tree path wrong valid =
-      let (outcomes, left, right) = have_both (λ os. FirstWrongCover p mode os tree empty_sketch path) (λ os. IsValidCover p mode os tree empty_sketch) wrong valid in
-      valid_is_not_wrong p mode outcomes tree empty_sketch path right left
+      let (outcomes, left, right) = have_both (λ os. FirstWrongCover q mode os tree empty_sketch path) (λ os. IsValidCover q mode os tree empty_sketch) wrong valid in
+      valid_is_not_wrong q mode outcomes tree empty_sketch path right left
 
   -- the first run that is not foreign, and foreign runs
   abbrev NotForeign : ℕ → Type 0
-  NotForeign n = OutcomesHave (λ outcomes. IsFirstWithout (IsRunOutside p outcomes) c.runs n)
+  NotForeign n = OutcomesHave (λ outcomes. IsFirstWithout (IsRunOutside q outcomes) c.runs n)
 
   abbrev AreForeign : Type 0
-  AreForeign = OutcomesHave (λ outcomes. All (IsRunOutside p outcomes) c.runs)
+  AreForeign = OutcomesHave (λ outcomes. All (IsRunOutside q outcomes) c.runs)
 
   one_not_foreign : (n m : ℕ) → NotForeign n → NotForeign m → n ≡ m
   one_not_foreign n m wrong also =
-      let (outcomes, left, right) = have_both (λ os. IsFirstWithout (IsRunOutside p os) c.runs n) (λ os. IsFirstWithout (IsRunOutside p os) c.runs m) wrong also in
-      one_number (IsRunOutside p outcomes) c.runs n m left right
+      let (outcomes, left, right) = have_both (λ os. IsFirstWithout (IsRunOutside q os) c.runs n) (λ os. IsFirstWithout (IsRunOutside q os) c.runs m) wrong also in
+      one_number (IsRunOutside q outcomes) c.runs n m left right
 
   not_not_foreign : (n : ℕ) → NotForeign n → AreForeign → ⊥
   not_not_foreign n wrong foreign =
-      let (outcomes, left, right) = have_both (λ os. IsFirstWithout (IsRunOutside p os) c.runs n) (λ os. All (IsRunOutside p os) c.runs) wrong foreign in
-      none_without (IsRunOutside p outcomes) c.runs n right left
+      let (outcomes, left, right) = have_both (λ os. IsFirstWithout (IsRunOutside q os) c.runs n) (λ os. All (IsRunOutside q os) c.runs) wrong foreign in
+      none_without (IsRunOutside q outcomes) c.runs n right left
 
   -- the parts, from the last on
   abbrev OfGaps : CheckFault → Type 0
@@ -196,10 +200,13 @@ module _ (p : Listing) (costs : List ℕ) (c : Certificate) where
   OfSequential why = OfPart ℕ fault.SequentialRun (IsFirstWithout (IsRunOf p Sequential) c.seq_runs) (All (IsRunOf p Sequential) c.seq_runs) OfTree why
 
   abbrev OfCost : CheckFault → Type 0
-  OfCost why = OfPart (Unit {0}) (λ _. fault.Cost) (λ _. HasRightCost p costs c → ⊥) (HasRightCost p costs c) OfSequential why
+  OfCost why = OfPart (Unit {0}) (λ _. fault.Cost) (λ _. HasRightCost q costs c → ⊥) (HasRightCost q costs c) OfSequential why
 
   abbrev OfSet : CheckFault → Type 0
   OfSet why = OfPart (Unit {0}) (λ _. fault.Set) (λ _. AreGapsOf p c.gaps → ⊥) (AreGapsOf p c.gaps) OfCost why
+
+  abbrev OfShown : CheckFault → Type 0
+  OfShown why = OfPart (Unit {0}) (λ _. fault.Shown) (λ _. c.shown ≡ q.shown → ⊥) (c.shown ≡ q.shown) OfSet why
 
   -- in each part there is one
   one_of_gaps : IsOfOne OfGaps
@@ -228,34 +235,38 @@ module _ (p : Listing) (costs : List ℕ) (c : Certificate) where
       (λ n wrong all. none_without (IsRunOf p Sequential) c.seq_runs n all wrong) one_of_tree
 
   one_of_cost : IsOfOne OfCost
-  one_of_cost = one_of_part (Unit {0}) (λ _. fault.Cost) (λ _. HasRightCost p costs c → ⊥) (HasRightCost p costs c) OfSequential (λ x y wrong also. refl) (λ x wrong right. wrong right) one_of_sequential
+  one_of_cost = one_of_part (Unit {0}) (λ _. fault.Cost) (λ _. HasRightCost q costs c → ⊥) (HasRightCost q costs c) OfSequential (λ x y wrong also. refl) (λ x wrong right. wrong right) one_of_sequential
 
   one_of_set : IsOfOne OfSet
   one_of_set = one_of_part (Unit {0}) (λ _. fault.Set) (λ _. AreGapsOf p c.gaps → ⊥) (AreGapsOf p c.gaps) OfCost (λ x y wrong also. refl) (λ x wrong right. wrong right) one_of_cost
 
+  one_of_shown : IsOfOne OfShown
+  one_of_shown = one_of_part (Unit {0}) (λ _. fault.Shown) (λ _. c.shown ≡ q.shown → ⊥) (c.shown ≡ q.shown) OfSet (λ x y wrong also. refl) (λ x wrong right. wrong right) one_of_set
+
   -- what holds before a part
-  after_head : (why : CheckFault) → HasSetAndCost p costs c → OfSequential why → OfSet why
-  after_head why head rest = inr (head.of_program, inr (head.cost, rest))
+  after_head : (why : CheckFault) → HasHead q costs c → OfSequential why → OfShown why
+  after_head why head rest = inr (head.shown, inr (head.of_program, inr (head.cost, rest)))
 
-  after_replays : (why : CheckFault) (outcomes : List Outcome) → HasOutcomes p costs c outcomes → OfTree why → OfSet why
+  after_replays : (why : CheckFault) (outcomes : List Outcome) → HasOutcomes q costs c outcomes → OfTree why → OfShown why
   after_replays why outcomes has rest =
-      after_head why has.head (inr (zip_left (IsRun p Sequential) (IsRunOf p Sequential) (λ labels o is. (o, is)) c.seq_runs outcomes has.replayed, rest))
+      after_head why has.head (inr (zip_left (IsShownRun q Sequential) (IsRunOf p Sequential) (of_shown q Sequential) c.seq_runs outcomes has.replayed, rest))
 
-  after_tree : (why : CheckFault) (outcomes : List Outcome) → HasEachOutcome p costs c outcomes → OfRuns why → OfSet why
+  after_tree : (why : CheckFault) (outcomes : List Outcome) → HasEachOutcome q costs c outcomes → OfRuns why → OfShown why
   after_tree why outcomes has rest = after_replays why outcomes has.listed (inr ((outcomes, has.listed.replayed, has.sequential), rest))
 
-  after_runs : (why : CheckFault) (outcomes : List Outcome) → HasRuns p costs c outcomes → OfForeign why → OfSet why
+  after_runs : (why : CheckFault) (outcomes : List Outcome) → HasRuns q costs c outcomes → OfForeign why → OfShown why
   after_runs why outcomes has rest = after_tree why outcomes has.complete (inr (has.runs, rest))
 
-  after_foreign : (why : CheckFault) (outcomes : List Outcome) → HasForeignRuns p costs c outcomes → OfFenced why → OfSet why
+  after_foreign : (why : CheckFault) (outcomes : List Outcome) → HasForeignRuns q costs c outcomes → OfFenced why → OfShown why
   after_foreign why outcomes has rest = after_runs why outcomes has.replayed (inr ((outcomes, has.replayed.complete.listed.replayed, has.foreign), rest))
 
-  after_fenced : (why : CheckFault) (outcomes : List Outcome) → HasServingSet p costs c outcomes → OfGaps why → OfSet why
+  after_fenced : (why : CheckFault) (outcomes : List Outcome) → HasServingSet q costs c outcomes → OfGaps why → OfShown why
   after_fenced why outcomes has rest = after_foreign why outcomes has.runs (inr ((outcomes, has.runs.replayed.complete.listed.replayed, has.fenced), rest))
 
-  of_a_part : (why : CheckFault) → why ≢ fault.OutOfMemory → FaultIs p costs c why → OfSet why
-  of_a_part fault.Set known wrong = inl (tt, wrong, refl)
-  of_a_part fault.Cost known wrong = inr (wrong.0, inl (tt, wrong.1, refl))
+  of_a_part : (why : CheckFault) → why ≢ fault.OutOfMemory → FaultIs q costs c why → OfShown why
+  of_a_part fault.Shown known wrong = inl (tt, wrong, refl)
+  of_a_part fault.Set known wrong = inr (wrong.0, inl (tt, wrong.1, refl))
+  of_a_part fault.Cost known wrong = inr (wrong.0, inr (wrong.1, inl (tt, wrong.2, refl)))
   of_a_part (fault.SequentialRun n) known wrong = after_head (fault.SequentialRun n) wrong.0 (inl (n, wrong.1, refl))
   of_a_part (fault.SequentialTree path) known (outcomes, has, wrong) =
       after_replays (fault.SequentialTree path) outcomes has (inl (path, (outcomes, has.replayed, wrong), refl))
@@ -268,5 +279,5 @@ module _ (p : Listing) (costs : List ℕ) (c : Certificate) where
   of_a_part fault.OutOfMemory known wrong = absurd (known refl)
 
 pub the_first_fault_is_unique : TheFirstFaultIsUnique
-the_first_fault_is_unique p costs c why other known known_too wrong also =
-    one_of_set p costs c why other (of_a_part p costs c why known wrong) (of_a_part p costs c other known_too also)
+the_first_fault_is_unique q costs c why other known known_too wrong also =
+    one_of_shown q costs c why other (of_a_part q costs c why known wrong) (of_a_part q costs c other known_too also)

@@ -7,6 +7,9 @@ use Rattle.std.specs.FinSet as set
 use Rattle.std.proofs.lemmas.List.{map_more, take-map}
 use Rattle.std.proofs.lemmas.Option.{slice_get-map, slice_get-get_or}
 use Rattle.tso_program.specs.declared.listing.Listing.{Listing}
+use Rattle.tso_program.specs.declared.outcome.Outcome.{Outcome}
+use Rattle.tso_program.specs.declared.shown.Shown.{Shown}
+use Rattle.tso_program.specs.Shown.{Question, show, asked}
 use Rattle.tso_machine.specs.declared.label.Label.{Label}
 use Rattle.tso_machine.specs.declared.label.Model.{Model}
 use Rattle.tso_machine.specs.declared.label.Model.TheVariants as models
@@ -18,6 +21,7 @@ use Rattle.cert_check.specs.declared.fault.RunsFault.{RunsFault}
 use Rattle.cert_check.specs.declared.fault.RunsFault.TheVariants as runs
 use Rattle.tso_machine.specs.Machine.{Mode, Fenced, IsRun}
 use Rattle.tso_machine.specs.Modes.{mode_of, ArePassed}
+use Rattle.tso_machine.specs.Outcomes.{IsShownRun}
 use Rattle.tso_machine.specs.Faults.{FaultIs}
 use Rattle.tso_machine.proofs.Refused.{no_fault}
 use Rattle.fence_laws.proofs.GapsAvoided.{empty_fences_nothing}
@@ -40,12 +44,13 @@ module _ (p : Listing) (model : Model) (labels : List Label) (empty : SetOfGaps)
   same_machine : mode_of p empty model ≡ machine_of model
   same_machine = ap (λ s. mode_of p s model) is_empty ∙ machine_is p model
 
-  -- what a replay says of a run
-  pub replayed_is : (end : Ended) → IsRun p (mode_of p empty model) labels end.outcome → ArePassed p (mode_of p empty model) labels end.passed → IsReplayOf p model labels end
-  replayed_is end run passed = record {
-    is_run = subst (λ m. IsRun p m labels end.outcome) same_machine run;
+  -- what a replay says of a run, where its outcome is as it is shown
+  pub replayed_is : (shown : Shown) (end kept : Ended) → IsRun p (mode_of p empty model) labels end.outcome → ArePassed p (mode_of p empty model) labels end.passed →
+      kept ≡ record end { outcome = show shown end.outcome } → IsReplayOf (asked p shown) model labels kept
+  replayed_is shown end kept run passed is = subst (IsReplayOf (asked p shown) model labels) (sym is) (record {
+    is_run = (end.outcome, subst (λ m. IsRun p m labels end.outcome) same_machine run, refl);
     passed = subst (λ m. ArePassed p m labels end.passed) same_machine passed;
-  }
+  })
 
   -- and what it says where there is none
   pub fault_is : (why : ReplayFault) (number : ℕ) (fault : RunsFault) → FaultIs p (mode_of p empty model) labels why → IsFaultFrom why number fault →
@@ -67,29 +72,33 @@ zip_left R P f (x ∷ xs) [] all k d h = absurd all
 zip_left R P f (x ∷ xs) (y ∷ ys) all zero d h = f x y all.0
 zip_left R P f (x ∷ xs) (y ∷ ys) all (suc k) d h = zip_left R P f xs ys all.1 k d (omega arith)
 
-module _ (p : Listing) (model : Model) (all : List (Vec Label)) where
+-- a run of which something is shown is a run
+pub of_shown : (q : Question) (mode : Mode) (labels : List Label) (o : Outcome) → IsShownRun q mode labels o → IsRunOf q.program mode labels
+of_shown q mode labels o (whole, is_run, shown) = (whole, is_run)
+
+module _ (q : Question) (model : Model) (all : List (Vec Label)) where
   -- the replays so far, and one more
-  pub replays_more : (i : ℕ) (d : Vec Label) (labels : List Label) → labels ≡ (get_or all i d).items → (ended more : List Ended) (end : Ended) → i < length all → AreReplaysOf p model (labels_of (take i all)) ended →
-      IsReplayOf p model labels end → more ≡ ended ++ end ∷ [] → AreReplaysOf p model (labels_of (take (i + 1) all)) more
+  pub replays_more : (i : ℕ) (d : Vec Label) (labels : List Label) → labels ≡ (get_or all i d).items → (ended more : List Ended) (end : Ended) → i < length all → AreReplaysOf q model (labels_of (take i all)) ended →
+      IsReplayOf q model labels end → more ≡ ended ++ end ∷ [] → AreReplaysOf q model (labels_of (take (i + 1) all)) more
   replays_more i d found same ended more end h each is pushed =
-      subst (λ labels. AreReplaysOf p model labels more) (sym (map_more (λ (run : Vec Label). run.items) all i d h))
-      (subst (AreReplaysOf p model (labels_of (take i all) ++ (get_or all i d).items ∷ [])) (sym pushed)
-      (zip_more (IsReplayOf p model) (labels_of (take i all)) ended (get_or all i d).items end each (subst (λ labels. IsReplayOf p model labels end) same is)))
+      subst (λ labels. AreReplaysOf q model labels more) (sym (map_more (λ (run : Vec Label). run.items) all i d h))
+      (subst (AreReplaysOf q model (labels_of (take i all) ++ (get_or all i d).items ∷ [])) (sym pushed)
+      (zip_more (IsReplayOf q model) (labels_of (take i all)) ended (get_or all i d).items end each (subst (λ labels. IsReplayOf q model labels end) same is)))
 
   -- the first run that is none
-  pub first_no_run : (i : ℕ) (d : Vec Label) (ended : List Ended) → i < length all → AreReplaysOf p model (labels_of (take i all)) ended →
-      (IsRunOf p (machine_of model) (get_or all i d).items → ⊥) → IsFirstWithout (IsRunOf p (machine_of model)) (labels_of all) i
+  pub first_no_run : (i : ℕ) (d : Vec Label) (ended : List Ended) → i < length all → AreReplaysOf q model (labels_of (take i all)) ended →
+      (IsRunOf q.program (machine_of model) (get_or all i d).items → ⊥) → IsFirstWithout (IsRunOf q.program (machine_of model)) (labels_of all) i
   first_no_run i d ended h each none = record {
     value = (get_or all i d).items;
     there = slice_get-map (λ (run : Vec Label). run.items) all i ∙ ap (λ o. option_map (λ (run : Vec Label). run.items) o) (slice_get-get_or all i d h);
     without = none;
-    before = subst (All (IsRunOf p (machine_of model))) (sym (take-map (λ (run : Vec Label). run.items) i all))
-        (zip_left (IsReplayOf p model) (IsRunOf p (machine_of model)) (λ labels end is. (end.outcome, is.is_run)) (labels_of (take i all)) ended each);
+    before = subst (All (IsRunOf q.program (machine_of model))) (sym (take-map (λ (run : Vec Label). run.items) i all))
+        (zip_left (IsReplayOf q model) (IsRunOf q.program (machine_of model)) (λ labels end is. of_shown q (machine_of model) labels end.outcome is.is_run) (labels_of (take i all)) ended each);
   }
 
   -- the fault of the first run that is none
-  pub first_fault : (i : ℕ) (d : Vec Label) (ended : List Ended) (labels : List Label) → labels ≡ (get_or all i d).items → (fault : RunsFault) → i < length all → AreReplaysOf p model (labels_of (take i all)) ended →
-      IsNoRun p (machine_of model) labels i fault → RunsFaultIs p model (labels_of all) fault
-  first_fault i d ended labels same (runs.NoRun n) h each (at, none) = subst (IsFirstWithout (IsRunOf p (machine_of model)) (labels_of all)) (sym at)
-      (first_no_run i d ended h each (λ run. none (subst (IsRunOf p (machine_of model)) (sym same) run)))
+  pub first_fault : (i : ℕ) (d : Vec Label) (ended : List Ended) (labels : List Label) → labels ≡ (get_or all i d).items → (fault : RunsFault) → i < length all → AreReplaysOf q model (labels_of (take i all)) ended →
+      IsNoRun q.program (machine_of model) labels i fault → RunsFaultIs q.program model (labels_of all) fault
+  first_fault i d ended labels same (runs.NoRun n) h each (at, none) = subst (IsFirstWithout (IsRunOf q.program (machine_of model)) (labels_of all)) (sym at)
+      (first_no_run i d ended h each (λ run. none (subst (IsRunOf q.program (machine_of model)) (sym same) run)))
   first_fault i d ended labels same runs.OutOfMemory h each none = tt

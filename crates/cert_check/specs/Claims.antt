@@ -6,6 +6,7 @@ use Rattle.tree_laws.specs.Certificates.{Certificate}
 
 abbrev pub claim_of : memory.Certificate → Certificate
 claim_of c = record {
+  shown = c.shown;
   gaps = c.set;
   cost = c.cost;
   seq_runs = labels_of c.seq_runs.items;

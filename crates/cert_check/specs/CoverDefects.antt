@@ -2,6 +2,7 @@
 use Rattle.std.specs.Prelude.{◌≡◌, ℕ, zero, suc, List, [], ◌∷◌, length, map}
 use Rattle.tso_program.specs.declared.listing.Listing.{Listing}
 use Rattle.tso_program.specs.declared.outcome.Outcome.{Outcome}
+use Rattle.tso_program.specs.Shown.{Question}
 use Rattle.tso_machine.specs.Machine.{Mode}
 use Rattle.candidate_executions.specs.declared.event.Event.{Event}
 use Rattle.candidate_executions.specs.Sketches.{Sketch, with_value, with_source, with_pair}
@@ -18,14 +19,14 @@ module _ (p : Listing) (mode : Mode) where
   abbrev pub HasNoSources : Sketch → Event → ℕ → Type 0
   HasNoSources k e count = (sources : List Event) → HasSources p mode k e sources → count ≡ length sources → ⊥
 
-module _ (p : Listing) (mode : Mode) (outcomes : List Outcome) where
+module _ (q : Question) (mode : Mode) (outcomes : List Outcome) where
   -- the root is wrong at the sketch, whatever its children say: its number of children is not that of the values or sources, or what it says does not hold
   abbrev pub HasWrongRoot : Cover → Sketch → Type 0
-  HasWrongRoot (Value t children) k = HasNoValues p mode k t (count_covers children)
-  HasWrongRoot (Source read children) k = HasNoSources p mode k (event_of read) (count_covers children)
-  HasWrongRoot (Order first second first_before second_before) k = HasNoOrder p mode k (event_of first) (event_of second) → ⊥
-  HasWrongRoot (Cycle kind events) k = IsKnownCycle p mode k kind (map event_of events) → ⊥
-  HasWrongRoot (Known number) k = MustEndAsNumber p mode outcomes k number → ⊥
+  HasWrongRoot (Value t children) k = HasNoValues q.program mode k t (count_covers children)
+  HasWrongRoot (Source read children) k = HasNoSources q.program mode k (event_of read) (count_covers children)
+  HasWrongRoot (Order first second first_before second_before) k = HasNoOrder q.program mode k (event_of first) (event_of second) → ⊥
+  HasWrongRoot (Cycle kind events) k = IsKnownCycle q.program mode k kind (map event_of events) → ⊥
+  HasWrongRoot (Known number) k = MustEndAsNumber q mode outcomes k number → ⊥
 
   -- of two children, the one of this number is the first that is wrong
   abbrev pub FirstOfTwo : ℕ → Type 0 → Type 0 → Type 0 → Type 0
@@ -38,18 +39,18 @@ module _ (p : Listing) (mode : Mode) (outcomes : List Outcome) where
     pub FirstWrongCover : Cover → Sketch → List ℕ → Type 0
     FirstWrongCover (Value t children) k [] = HasWrongRoot (Value t children) k
     FirstWrongCover (Value t children) k (number ∷ path) =
-        (values : List ℕ) × HasNextValues p mode k t values × (count_covers children ≡ length values)
+        (values : List ℕ) × HasNextValues q.program mode k t values × (count_covers children ≡ length values)
         × FirstWrongChild children (map (with_value k t) values) number path
     FirstWrongCover (Source read children) k [] = HasWrongRoot (Source read children) k
     FirstWrongCover (Source read children) k (number ∷ path) =
-        (sources : List Event) × HasSources p mode k (event_of read) sources × (count_covers children ≡ length sources)
+        (sources : List Event) × HasSources q.program mode k (event_of read) sources × (count_covers children ≡ length sources)
         × FirstWrongChild children (map (with_source k (event_of read)) sources) number path
     FirstWrongCover (Order first second first_before second_before) k [] = HasWrongRoot (Order first second first_before second_before) k
     FirstWrongCover (Order first second first_before second_before) k (number ∷ path) =
-        HasNoOrder p mode k (event_of first) (event_of second)
+        HasNoOrder q.program mode k (event_of first) (event_of second)
         × FirstOfTwo number
         (FirstWrongCover first_before (with_pair k (event_of first) (event_of second)) path)
-        (IsValidCover p mode outcomes first_before (with_pair k (event_of first) (event_of second)))
+        (IsValidCover q mode outcomes first_before (with_pair k (event_of first) (event_of second)))
         (FirstWrongCover second_before (with_pair k (event_of second) (event_of first)) path)
     FirstWrongCover (Cycle kind events) k [] = HasWrongRoot (Cycle kind events) k
     FirstWrongCover (Cycle kind events) k (number ∷ path) = ⊥
@@ -61,4 +62,4 @@ module _ (p : Listing) (mode : Mode) (outcomes : List Outcome) where
     FirstWrongChild NoCover ks number path = ⊥
     FirstWrongChild (MoreCovers tree trees) [] number path = ⊥
     FirstWrongChild (MoreCovers tree trees) (k ∷ ks) zero path = FirstWrongCover tree k path
-    FirstWrongChild (MoreCovers tree trees) (k ∷ ks) (suc number) path = IsValidCover p mode outcomes tree k × FirstWrongChild trees ks number path
+    FirstWrongChild (MoreCovers tree trees) (k ∷ ks) (suc number) path = IsValidCover q mode outcomes tree k × FirstWrongChild trees ks number path

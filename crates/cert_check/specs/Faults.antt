@@ -3,6 +3,7 @@ use Rattle.std.specs.Prelude.{◌≡◌, ℕ, List, Some, slice_get, take, lengt
 use Rattle.gap_sets.specs.Order.{total}
 use Rattle.tso_program.specs.declared.listing.Listing.{Listing}
 use Rattle.tso_program.specs.declared.outcome.Outcome.{Outcome}
+use Rattle.tso_program.specs.Shown.{Question}
 use Rattle.tso_program.specs.Listings.{gap_count}
 use Rattle.tso_program.specs.Fences.{gaps_in}
 use Rattle.tso_machine.specs.declared.label.Label.{Label}
@@ -28,51 +29,53 @@ pub record IsFirstWithout {A : Type 0} (P : A → Type 0) (xs : List A) (number 
 abbrev pub IsRunOf : Listing → Mode → List Label → Type 0
 IsRunOf p mode labels = (o : Outcome) × IsRun p mode labels o
 
-module _ (p : Listing) (costs : List ℕ) (c : Certificate) where
+module _ (q : Question) (costs : List ℕ) (c : Certificate) where
   -- each gap has a cost, and the certificate's is the set's
   abbrev pub HasRightCost : Type 0
-  HasRightCost = (length costs ≡ gap_count p.threads) × (c.cost ≡ total costs c.gaps)
+  HasRightCost = (length costs ≡ gap_count q.program.threads) × (c.cost ≡ total costs c.gaps)
 
-  -- its set is one of the program's gaps, and its cost is the set's
-  pub record HasSetAndCost : Type 0 where
-    pub of_program : AreGapsOf p c.gaps
+  -- it is about what is shown, its set is one of the program's gaps, and its cost is the set's
+  pub record HasHead : Type 0 where
+    pub shown : c.shown ≡ q.shown
+    pub of_program : AreGapsOf q.program c.gaps
     pub cost : HasRightCost
 
   module _ (outcomes : List Outcome) where
     -- its sequential runs have these outcomes
     pub record HasOutcomes : Type 0 where
-      pub head : HasSetAndCost
-      pub replayed : AreSequentialRuns p c.seq_runs outcomes
+      pub head : HasHead
+      pub replayed : AreSequentialRuns q c.seq_runs outcomes
 
     -- a valid tree shows that there are no other sequential outcomes
     pub record HasEachOutcome : Type 0 where
       pub listed : HasOutcomes
-      pub sequential : IsValidCover p Sequential outcomes c.seq_tree empty_sketch
+      pub sequential : IsValidCover q Sequential outcomes c.seq_tree empty_sketch
 
     -- its other runs are runs of the store buffer machine with no gap fenced
     pub record HasRuns : Type 0 where
       pub complete : HasEachOutcome
-      pub runs : All (IsRunOf p (Fenced no_gaps)) c.runs
+      pub runs : All (IsRunOf q.program (Fenced no_gaps)) c.runs
 
     -- their outcomes are not sequential
     pub record HasForeignRuns : Type 0 where
       pub replayed : HasRuns
-      pub foreign : All (IsRunOutside p outcomes) c.runs
+      pub foreign : All (IsRunOutside q outcomes) c.runs
 
     -- a valid tree shows that the set serves
     pub record HasServingSet : Type 0 where
       pub runs : HasForeignRuns
-      pub fenced : IsValidCover p (Fenced (gaps_in p c.gaps)) outcomes c.fenced_tree empty_sketch
+      pub fenced : IsValidCover q (Fenced (gaps_in q.program c.gaps)) outcomes c.fenced_tree empty_sketch
 
-  -- the fault is the first in the order of their numbers; want of memory says nothing
+  -- the fault is the first in their order, in which what is shown comes before the set; want of memory says nothing
   abbrev pub FaultIs : CheckFault → Type 0
-  FaultIs fault.Set = AreGapsOf p c.gaps → ⊥
-  FaultIs fault.Cost = AreGapsOf p c.gaps × (HasRightCost → ⊥)
-  FaultIs (fault.SequentialRun number) = HasSetAndCost × IsFirstWithout (IsRunOf p Sequential) c.seq_runs number
-  FaultIs (fault.SequentialTree path) = (outcomes : List Outcome) × HasOutcomes outcomes × FirstWrongCover p Sequential outcomes c.seq_tree empty_sketch path
-  FaultIs (fault.Run number) = (outcomes : List Outcome) × HasEachOutcome outcomes × IsFirstWithout (IsRunOf p (Fenced no_gaps)) c.runs number
-  FaultIs (fault.NotForeign number) = (outcomes : List Outcome) × HasRuns outcomes × IsFirstWithout (IsRunOutside p outcomes) c.runs number
+  FaultIs fault.Shown = c.shown ≡ q.shown → ⊥
+  FaultIs fault.Set = (c.shown ≡ q.shown) × (AreGapsOf q.program c.gaps → ⊥)
+  FaultIs fault.Cost = (c.shown ≡ q.shown) × AreGapsOf q.program c.gaps × (HasRightCost → ⊥)
+  FaultIs (fault.SequentialRun number) = HasHead × IsFirstWithout (IsRunOf q.program Sequential) c.seq_runs number
+  FaultIs (fault.SequentialTree path) = (outcomes : List Outcome) × HasOutcomes outcomes × FirstWrongCover q Sequential outcomes c.seq_tree empty_sketch path
+  FaultIs (fault.Run number) = (outcomes : List Outcome) × HasEachOutcome outcomes × IsFirstWithout (IsRunOf q.program (Fenced no_gaps)) c.runs number
+  FaultIs (fault.NotForeign number) = (outcomes : List Outcome) × HasRuns outcomes × IsFirstWithout (IsRunOutside q outcomes) c.runs number
   FaultIs (fault.FencedTree path) =
-      (outcomes : List Outcome) × HasForeignRuns outcomes × FirstWrongCover p (Fenced (gaps_in p c.gaps)) outcomes c.fenced_tree empty_sketch path
-  FaultIs (fault.GapTree path) = (outcomes : List Outcome) × HasServingSet outcomes × FirstWrongGap p costs c.gaps c.runs c.gap_tree root path
+      (outcomes : List Outcome) × HasForeignRuns outcomes × FirstWrongCover q (Fenced (gaps_in q.program c.gaps)) outcomes c.fenced_tree empty_sketch path
+  FaultIs (fault.GapTree path) = (outcomes : List Outcome) × HasServingSet outcomes × FirstWrongGap q.program costs c.gaps c.runs c.gap_tree root path
   FaultIs fault.OutOfMemory = Unit {0}

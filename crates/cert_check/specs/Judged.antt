@@ -1,6 +1,8 @@
 -- What the functions that judge trees answer.
 use Rattle.std.specs.Prelude.{◌≡◌, ℕ, List, [], ◌∷◌, map, length}
 use Rattle.tso_program.specs.declared.outcome.Outcome.{Outcome}
+use Rattle.tso_program.specs.declared.shown.Shown.{Shown}
+use Rattle.tso_program.specs.Shown.{asked}
 use Rattle.candidate_executions.specs.declared.event.Event.{Event}
 use Rattle.candidate_executions.specs.Sketches as sketches
 use Rattle.exec_axioms.specs.Parts.{Parts, mode_in, sketch_of}
@@ -33,21 +35,21 @@ IsFrom number (Wrong path) (Wrong other) = other ≡ number ∷ path
 IsFrom number OutOfMemory (Wrong other) = ⊥
 IsFrom number fault OutOfMemory = Unit {0}
 
-module _ (outcomes : List Outcome) (s : Parts) where
+module _ (shown : Shown) (outcomes : List Outcome) (s : Parts) where
   -- the tree is valid at the sketch after a choice
   abbrev pub IsValidAfter : Cover → sketches.Sketch → Type 0
-  IsValidAfter tree k = IsValidCover s.program (mode_in s) outcomes tree k
+  IsValidAfter tree k = IsValidCover (asked s.program shown) (mode_in s) outcomes tree k
 
   abbrev pub IsWrongAt : Cover → sketches.Sketch → List ℕ → Type 0
-  IsWrongAt tree k path = covers.FirstWrongCover s.program (mode_in s) outcomes tree k path
+  IsWrongAt tree k path = covers.FirstWrongCover (asked s.program shown) (mode_in s) outcomes tree k path
 
   -- the trees are valid at the sketches after these choices, in order
   abbrev pub AreValidAfter : List Cover → List Choice → Type 0
-  AreValidAfter trees choices = AreValidCovers s.program (mode_in s) outcomes (covers_of trees) (map (after (sketch_of s)) choices)
+  AreValidAfter trees choices = AreValidCovers (asked s.program shown) (mode_in s) outcomes (covers_of trees) (map (after (sketch_of s)) choices)
 
   abbrev pub IsWrongChild : List Cover → List Choice → ℕ → List ℕ → Type 0
   IsWrongChild trees choices number path =
-      covers.FirstWrongChild s.program (mode_in s) outcomes (covers_of trees) (map (after (sketch_of s)) choices) number path
+      covers.FirstWrongChild (asked s.program shown) (mode_in s) outcomes (covers_of trees) (map (after (sketch_of s)) choices) number path
 
 -- the values of thread t's next read are as many as this, and these choices give them
 pub record AreValueChoices (s : Parts) (t count : ℕ) (choices : List Choice) : Type 0 where

@@ -1,6 +1,6 @@
 -- What the faults of certificates are: a valid one has none, and of any other one is the first.
 use Rattle.std.specs.Prelude.{◌≡◌, ◌≢◌, ℕ, List}
-use Rattle.tso_program.specs.declared.listing.Listing.{Listing}
+use Rattle.tso_program.specs.Shown.{Question}
 use Rattle.tree_laws.specs.Certificates.{Certificate, IsValidCertificate}
 use Rattle.cert_check.specs.declared.fault.CheckFault.{CheckFault}
 use Rattle.cert_check.specs.declared.fault.CheckFault.TheVariants.{OutOfMemory}
@@ -8,10 +8,10 @@ use Rattle.cert_check.specs.Faults.{FaultIs}
 
 -- no fault but want of memory fits a valid certificate
 abbrev pub ValidCertificatesHaveNoFault : Type 0
-ValidCertificatesHaveNoFault = (p : Listing) (costs : List ℕ) (c : Certificate) (why : CheckFault) → IsValidCertificate p costs c →
-    FaultIs p costs c why → why ≡ OutOfMemory
+ValidCertificatesHaveNoFault = (q : Question) (costs : List ℕ) (c : Certificate) (why : CheckFault) → IsValidCertificate q costs c →
+    FaultIs q costs c why → why ≡ OutOfMemory
 
 -- two faults that both fit a certificate are the same, want of memory aside
 abbrev pub TheFirstFaultIsUnique : Type 0
-TheFirstFaultIsUnique = (p : Listing) (costs : List ℕ) (c : Certificate) (why other : CheckFault) → why ≢ OutOfMemory → other ≢ OutOfMemory →
-    FaultIs p costs c why → FaultIs p costs c other → why ≡ other
+TheFirstFaultIsUnique = (q : Question) (costs : List ℕ) (c : Certificate) (why other : CheckFault) → why ≢ OutOfMemory → other ≢ OutOfMemory →
+    FaultIs q costs c why → FaultIs q costs c other → why ≡ other

@@ -3,14 +3,16 @@ use Rattle.std.specs.Prelude.{◌≡◌, ◌≢◌, ℕ, List, map, Contains}
 use Rattle.std.specs.List.{AllZip}
 use Rattle.tso_program.specs.declared.listing.Listing.{Listing}
 use Rattle.tso_program.specs.declared.outcome.Outcome.{Outcome}
+use Rattle.tso_program.specs.Shown.{Question}
 use Rattle.tso_machine.specs.declared.label.Label.{Label}
 use Rattle.tso_machine.specs.declared.label.Model.{Model}
 use Rattle.tso_machine.specs.declared.label.Model.TheVariants as models
 use Rattle.tso_machine.specs.declared.ended.Ended.{Ended}
 use Rattle.tso_machine.specs.declared.ended.ReplayFault.{ReplayFault}
 use Rattle.tso_machine.specs.declared.ended.ReplayFault.TheVariants as replays
-use Rattle.tso_machine.specs.Machine.{Mode, Sequential, Fenced, no_gaps, IsRun}
+use Rattle.tso_machine.specs.Machine.{Mode, Sequential, Fenced, no_gaps}
 use Rattle.tso_machine.specs.Modes.{ArePassed}
+use Rattle.tso_machine.specs.Outcomes.{IsShownRun}
 use Rattle.cert_check.specs.declared.fault.RunsFault.{RunsFault}
 use Rattle.cert_check.specs.declared.fault.RunsFault.TheVariants as why
 use Rattle.cert_check.specs.Faults.{IsRunOf, IsFirstWithout}
@@ -20,13 +22,13 @@ abbrev pub machine_of : Model → Mode
 machine_of models.Sequential = Sequential
 machine_of models.Buffered = Fenced no_gaps
 
--- the labels are a run with this outcome, which passes these gaps
-pub record IsReplayOf (p : Listing) (model : Model) (labels : List Label) (ended : Ended) : Type 0 where
-  pub is_run : IsRun p (machine_of model) labels ended.outcome
-  pub passed : ArePassed p (machine_of model) labels ended.passed
+-- the labels are a run of which this outcome is shown, and which passes these gaps
+pub record IsReplayOf (q : Question) (model : Model) (labels : List Label) (ended : Ended) : Type 0 where
+  pub is_run : IsShownRun q (machine_of model) labels ended.outcome
+  pub passed : ArePassed q.program (machine_of model) labels ended.passed
 
-abbrev pub AreReplaysOf : Listing → Model → List (List Label) → List Ended → Type 0
-AreReplaysOf p model runs ended = AllZip (IsReplayOf p model) runs ended
+abbrev pub AreReplaysOf : Question → Model → List (List Label) → List Ended → Type 0
+AreReplaysOf q model runs ended = AllZip (IsReplayOf q model) runs ended
 
 -- the outcomes that the replays leave
 abbrev pub outcomes_of : List Ended → List Outcome
@@ -52,5 +54,12 @@ IsFaultFrom fault number (why.NoRun n) = (n ≡ number) × (fault ≢ replays.Ou
 IsFaultFrom fault number why.OutOfMemory = fault ≡ replays.OutOfMemory
 
 -- replays of runs of the store buffer machine with no gap fenced
-abbrev pub AreBufferedReplays : Listing → List (List Label) → List Ended → Type 0
-AreBufferedReplays p runs ended = AreReplaysOf p models.Buffered runs ended
+abbrev pub AreBufferedReplays : Question → List (List Label) → List Ended → Type 0
+AreBufferedReplays q runs ended = AreReplaysOf q models.Buffered runs ended
+
+-- the labels pass these gaps, with no gap fenced
+pub record HasPassed (p : Listing) (labels : List Label) (ended : Ended) : Type 0 where
+  pub passed : ArePassed p (Fenced no_gaps) labels ended.passed
+
+abbrev pub HavePassed : Listing → List (List Label) → List Ended → Type 0
+HavePassed p runs ended = AllZip (HasPassed p) runs ended

@@ -3,6 +3,7 @@ ghost use Rattle.std.specs.Prelude.{◌≡◌, ℕ, List, OnOk, IfOk, IfErr, IsO
 ghost use Rattle.gap_sets.specs.Order.{total};
 ghost use Rattle.tso_program.specs.declared.listing.Listing.{Listing};
 ghost use Rattle.tso_program.specs.declared.outcome.Outcome.{Outcome};
+ghost use Rattle.tso_program.specs.Shown.{Question, asked};
 ghost use Rattle.tso_program.specs.Fences.{gaps_in};
 ghost use Rattle.tso_machine.specs.Machine.{Sequential, Fenced};
 ghost use Rattle.tso_machine.specs.Outcomes.{Headline, IsTheAnswer};
@@ -13,8 +14,8 @@ ghost use Rattle.tree_laws.specs.Laws.{IsProved};
 ghost use Rattle.tree_laws.specs.Certificates as trees;
 ghost use Rattle.tree_laws.specs.Certificates.{AreSequentialRuns, IsRunOutside, IsValidCertificate};
 ghost use Rattle.cert_check.specs.Claims.{claim_of};
-ghost use Rattle.cert_check.specs.Faults.{FaultIs, HasSetAndCost, HasEachOutcome, HasForeignRuns, HasServingSet};
-ghost use Rattle.cert_check.specs.Replays.{AreBufferedReplays, outcomes_of};
+ghost use Rattle.cert_check.specs.Faults.{FaultIs, HasHead, HasEachOutcome, HasForeignRuns, HasServingSet};
+ghost use Rattle.cert_check.specs.Replays.{AreBufferedReplays, HavePassed, outcomes_of};
 
 use crate::CheckFault;
 use crate::cover::judge_from_start;
@@ -27,7 +28,7 @@ use gap_sets::{Costs, GapSet};
 use std::alloc::Global;
 use tree_laws::a_valid_certificate_proves_the_headline;
 use tso_machine::{Ended, Model};
-use tso_program::Program;
+use tso_program::{Program, Shown};
 
 /// What a certificate shows: a set of gaps is the answer, and this is its cost.
 #[derive(Clone, Copy, Debug)]
@@ -36,29 +37,31 @@ pub struct Accepted {
     pub cost: u64,
 }
 
-/// Judges a certificate for a program and the costs of its gaps.
+/// Judges a certificate for a program, what is shown of its outcomes, and the costs of its gaps.
 ///
 /// Where it accepts, the program with the set's gaps fenced has under x86-TSO exactly its sequentially
-/// consistent outcomes, and each better set of gaps leaves an outcome that no sequential run has.
+/// consistent outcomes, as far as they are shown, and each better set of gaps leaves an outcome that no
+/// sequential run has.
 pub fn check(
     alloc: Global,
     program: &Program,
+    shown: &Shown,
     costs: &Costs,
     certificate: &Certificate,
 ) -> Result<Accepted, CheckFault>
-    ensures headline { IfOk result (λ accepted. Headline program.now costs.now accepted.set) }
-    ensures answer { IfOk result (λ accepted. IsTheAnswer program.now costs.now accepted.set) }
+    ensures headline { IfOk result (λ accepted. Headline (asked program.now shown.now) costs.now accepted.set) }
+    ensures answer { IfOk result (λ accepted. IsTheAnswer (asked program.now shown.now) costs.now accepted.set) }
     ensures cost { IfOk result (λ accepted. accepted.cost ≡ total costs.now accepted.set) }
     ensures set { IfOk result (λ accepted. accepted.set ≡ certificate.now.set) }
 
     // A valid certificate is accepted if memory is there, any other is refused by its first fault.
-    ensures valid { OnOk result (IsValidCertificate program.now costs.now (claim_of certificate.now)) }
-    ensures accepts { IsValidCertificate program.now costs.now (claim_of certificate.now) → IsOkUnless result CheckFault.OutOfMemory }
-    ensures fault { IfErr result (FaultIs program.now costs.now (claim_of certificate.now)) }
+    ensures valid { OnOk result (IsValidCertificate (asked program.now shown.now) costs.now (claim_of certificate.now)) }
+    ensures accepts { IsValidCertificate (asked program.now shown.now) costs.now (claim_of certificate.now) → IsOkUnless result CheckFault.OutOfMemory }
+    ensures fault { IfErr result (FaultIs (asked program.now shown.now) costs.now (claim_of certificate.now)) }
 {
-    match check_all(alloc, program, costs, certificate) {
+    match check_all(alloc, program, shown, costs, certificate) {
         Ok(()) => {
-            what_is_proved(program, costs);
+            what_is_proved(program, shown, costs);
             Ok(Accepted {
                 set: certificate.set,
                 cost: certificate.cost,
@@ -70,8 +73,8 @@ pub fn check(
 
 /// A valid certificate for a program and the costs of its gaps proves the headline. Calling it does
 /// nothing.
-fn what_is_proved(program: &Program, costs: &Costs)
-    ensures { (c : trees.Certificate) → IsValidCertificate program.now costs.now c → IsProved program.now costs.now c }
+fn what_is_proved(program: &Program, shown: &Shown, costs: &Costs)
+    ensures { (c : trees.Certificate) → IsValidCertificate (asked program.now shown.now) costs.now c → IsProved (asked program.now shown.now) costs.now c }
 {
     // For the proof alone: what holds of every program and of all costs is known where they are called.
     let _ = program.threads();
@@ -83,28 +86,33 @@ fn what_is_proved(program: &Program, costs: &Costs)
 fn check_all(
     alloc: Global,
     program: &Program,
+    shown: &Shown,
     costs: &Costs,
     certificate: &Certificate,
 ) -> Result<(), CheckFault>
-    ensures valid { OnOk result (IsValidCertificate program.now costs.now (claim_of certificate.now)) }
-    ensures fault { IfErr result (FaultIs program.now costs.now (claim_of certificate.now)) }
+    ensures valid { OnOk result (IsValidCertificate (asked program.now shown.now) costs.now (claim_of certificate.now)) }
+    ensures fault { IfErr result (FaultIs (asked program.now shown.now) costs.now (claim_of certificate.now)) }
 {
-    check_set_and_cost(program, costs, certificate)?;
-    let listed = sequential_list(alloc, program, certificate)?;
-    let runs = foreign_runs(alloc, program, certificate, &listed)?;
-    check_fenced(alloc, program, certificate, &listed)?;
+    check_head(program, shown, costs, certificate)?;
+    let listed = sequential_list(alloc, program, shown, certificate)?;
+    let runs = foreign_runs(alloc, program, shown, certificate, &listed)?;
+    check_fenced(alloc, program, shown, certificate, &listed)?;
     check_gaps(alloc, costs, certificate, &runs)
 }
 
-/// Faults 1 and 2.
-fn check_set_and_cost(
+/// Faults 10, 1 and 2.
+fn check_head(
     program: &Program,
+    shown: &Shown,
     costs: &Costs,
     certificate: &Certificate,
 ) -> Result<(), CheckFault>
-    ensures ok { OnOk result (HasSetAndCost program.now costs.now (claim_of certificate.now)) }
-    ensures fault { IfErr result (FaultIs program.now costs.now (claim_of certificate.now)) }
+    ensures ok { OnOk result (HasHead (asked program.now shown.now) costs.now (claim_of certificate.now)) }
+    ensures fault { IfErr result (FaultIs (asked program.now shown.now) costs.now (claim_of certificate.now)) }
 {
+    if !certificate.shown.same(shown) {
+        return Err(CheckFault::Shown);
+    }
     if !program.all_gaps().holds_all(&certificate.set) {
         return Err(CheckFault::Set);
     }
@@ -121,14 +129,21 @@ fn check_set_and_cost(
 fn sequential_list(
     alloc: Global,
     program: &Program,
+    shown: &Shown,
     certificate: &Certificate,
 ) -> Result<Vec<Ended>, CheckFault>
-    ensures replayed { IfOk result (λ listed. AreSequentialRuns program.now (claim_of certificate.now).seq_runs (outcomes_of listed.items)) }
-    ensures sequential { IfOk result (λ listed. IsValidCover program.now Sequential (outcomes_of listed.items) (claim_of certificate.now).seq_tree empty_sketch) }
-    ensures fault { (costs : List ℕ) → HasSetAndCost program.now costs (claim_of certificate.now)
-        → IfErr result (FaultIs program.now costs (claim_of certificate.now)) }
+    ensures replayed { IfOk result (λ listed. AreSequentialRuns (asked program.now shown.now) (claim_of certificate.now).seq_runs (outcomes_of listed.items)) }
+    ensures sequential { IfOk result (λ listed. IsValidCover (asked program.now shown.now) Sequential (outcomes_of listed.items) (claim_of certificate.now).seq_tree empty_sketch) }
+    ensures fault { (costs : List ℕ) → HasHead (asked program.now shown.now) costs (claim_of certificate.now)
+        → IfErr result (FaultIs (asked program.now shown.now) costs (claim_of certificate.now)) }
 {
-    let listed = match replay_all(alloc, program, Model::Sequential, &certificate.seq_runs) {
+    let listed = match replay_all(
+        alloc,
+        program,
+        shown,
+        Model::Sequential,
+        &certificate.seq_runs,
+    ) {
         Ok(listed) => listed,
         Err(RunsFault::NoRun(number)) => return Err(CheckFault::SequentialRun(number)),
         Err(RunsFault::OutOfMemory) => return Err(CheckFault::OutOfMemory),
@@ -138,6 +153,7 @@ fn sequential_list(
         program,
         Mode::Sequential,
         &certificate.seq_tree,
+        shown,
         &listed,
     ) {
         Ok(()) => Ok(listed),
@@ -150,15 +166,16 @@ fn sequential_list(
 fn foreign_runs(
     alloc: Global,
     program: &Program,
+    shown: &Shown,
     certificate: &Certificate,
     listed: &[Ended],
 ) -> Result<Vec<Ended>, CheckFault>
-    ensures replays { IfOk result (λ runs. AreBufferedReplays program.now (claim_of certificate.now).runs runs.items) }
-    ensures foreign { OnOk result (All (IsRunOutside program.now (outcomes_of listed.now)) (claim_of certificate.now).runs) }
-    ensures fault { (costs : List ℕ) → HasEachOutcome program.now costs (claim_of certificate.now) (outcomes_of listed.now)
-        → IfErr result (FaultIs program.now costs (claim_of certificate.now)) }
+    ensures replays { IfOk result (λ runs. AreBufferedReplays (asked program.now shown.now) (claim_of certificate.now).runs runs.items) }
+    ensures foreign { OnOk result (All (IsRunOutside (asked program.now shown.now) (outcomes_of listed.now)) (claim_of certificate.now).runs) }
+    ensures fault { (costs : List ℕ) → HasEachOutcome (asked program.now shown.now) costs (claim_of certificate.now) (outcomes_of listed.now)
+        → IfErr result (FaultIs (asked program.now shown.now) costs (claim_of certificate.now)) }
 {
-    let runs = match replay_all(alloc, program, Model::Buffered, &certificate.runs) {
+    let runs = match replay_all(alloc, program, shown, Model::Buffered, &certificate.runs) {
         Ok(runs) => runs,
         Err(RunsFault::NoRun(number)) => return Err(CheckFault::Run(number)),
         Err(RunsFault::OutOfMemory) => return Err(CheckFault::OutOfMemory),
@@ -174,15 +191,23 @@ fn foreign_runs(
 fn check_fenced(
     alloc: Global,
     program: &Program,
+    shown: &Shown,
     certificate: &Certificate,
     listed: &[Ended],
 ) -> Result<(), CheckFault>
-    ensures fenced { OnOk result (IsValidCover program.now (Fenced (gaps_in program.now certificate.now.set)) (outcomes_of listed.now) (claim_of certificate.now).fenced_tree empty_sketch) }
-    ensures fault { (costs : List ℕ) → HasForeignRuns program.now costs (claim_of certificate.now) (outcomes_of listed.now)
-        → IfErr result (FaultIs program.now costs (claim_of certificate.now)) }
+    ensures fenced { OnOk result (IsValidCover (asked program.now shown.now) (Fenced (gaps_in program.now certificate.now.set)) (outcomes_of listed.now) (claim_of certificate.now).fenced_tree empty_sketch) }
+    ensures fault { (costs : List ℕ) → HasForeignRuns (asked program.now shown.now) costs (claim_of certificate.now) (outcomes_of listed.now)
+        → IfErr result (FaultIs (asked program.now shown.now) costs (claim_of certificate.now)) }
 {
     let mode = Mode::Fenced(certificate.set);
-    match judge_from_start(alloc, program, mode, &certificate.fenced_tree, listed) {
+    match judge_from_start(
+        alloc,
+        program,
+        mode,
+        &certificate.fenced_tree,
+        shown,
+        listed,
+    ) {
         Ok(()) => Ok(()),
         Err(TreeFault::Wrong(path)) => Err(CheckFault::FencedTree(path)),
         Err(TreeFault::OutOfMemory) => Err(CheckFault::OutOfMemory),
@@ -196,10 +221,10 @@ fn check_gaps(
     certificate: &Certificate,
     runs: &[Ended],
 ) -> Result<(), CheckFault>
-    ensures least { (p : Listing) → AreBufferedReplays p (claim_of certificate.now).runs runs.now
+    ensures least { (p : Listing) → HavePassed p (claim_of certificate.now).runs runs.now
         → OnOk result (IsValidGap p costs.now certificate.now.set (claim_of certificate.now).runs (claim_of certificate.now).gap_tree root) }
-    ensures fault { (p : Listing) (outcomes : List Outcome) → AreBufferedReplays p (claim_of certificate.now).runs runs.now
-        → HasServingSet p costs.now (claim_of certificate.now) outcomes → IfErr result (FaultIs p costs.now (claim_of certificate.now)) }
+    ensures fault { (q : Question) (outcomes : List Outcome) → HavePassed q.program (claim_of certificate.now).runs runs.now
+        → HasServingSet q costs.now (claim_of certificate.now) outcomes → IfErr result (FaultIs q costs.now (claim_of certificate.now)) }
 {
     let bounds = Bounds {
         costs,

@@ -1,5 +1,6 @@
 //! Cover trees, judged node by node.
 ghost use Rattle.std.specs.Prelude.{◌≡◌, ◌≢◌, OnOk, IfOk, IfErr, length, map};
+ghost use Rattle.tso_program.specs.Shown.{asked};
 ghost use Rattle.cert_forest.specs.Views.{cover};
 ghost use Rattle.cert_forest.specs.Trees.{Value, Source, covers_of};
 ghost use Rattle.exec_axioms.specs.Parts.{mode_in, sketch_of, machine_mode};
@@ -18,7 +19,7 @@ use cert_forest::{AccessId, CoverTree};
 use exec_axioms::{Mode, Sketch, SketchFault};
 use std::alloc::{AllocError, Global};
 use tso_machine::Ended;
-use tso_program::Program;
+use tso_program::{Program, Shown};
 
 /// Judges a tree at the sketch with no choice. It recurses as deep as the tree is.
 pub(crate) fn judge_from_start(
@@ -26,28 +27,35 @@ pub(crate) fn judge_from_start(
     program: &Program,
     mode: Mode,
     tree: &CoverTree,
+    shown: &Shown,
     ended: &[Ended],
 ) -> Result<(), TreeFault>
-    ensures valid { OnOk result (trees.IsValidCover program.now (machine_mode program.now mode) (outcomes_of ended.now) (cover tree.now) empty_sketch) }
-    ensures wrong { IfErr result (IfWrong (FirstWrongCover program.now (machine_mode program.now mode) (outcomes_of ended.now) (cover tree.now) empty_sketch)) }
+    ensures valid { OnOk result (trees.IsValidCover (asked program.now shown.now) (machine_mode program.now mode) (outcomes_of ended.now) (cover tree.now) empty_sketch) }
+    ensures wrong { IfErr result (IfWrong (FirstWrongCover (asked program.now shown.now) (machine_mode program.now mode) (outcomes_of ended.now) (cover tree.now) empty_sketch)) }
 {
     let sketch = Sketch::new(alloc, program, mode)?;
-    judge(alloc, tree, &sketch, ended)
+    judge(alloc, tree, &sketch, shown, ended)
 }
 
 /// Judges a tree at a sketch.
 #[cycle(judge)]
-fn judge(alloc: Global, tree: &CoverTree, sketch: &Sketch, ended: &[Ended]) -> Result<(), TreeFault>
+fn judge(
+    alloc: Global,
+    tree: &CoverTree,
+    sketch: &Sketch,
+    shown: &Shown,
+    ended: &[Ended],
+) -> Result<(), TreeFault>
     requires { HasEachThread sketch.now }
-    ensures valid { OnOk result (IsValidAfter (outcomes_of ended.now) sketch.now (cover tree.now) (sketch_of sketch.now)) }
-    ensures wrong { IfErr result (IfWrong (IsWrongAt (outcomes_of ended.now) sketch.now (cover tree.now) (sketch_of sketch.now))) }
+    ensures valid { OnOk result (IsValidAfter shown.now (outcomes_of ended.now) sketch.now (cover tree.now) (sketch_of sketch.now)) }
+    ensures wrong { IfErr result (IfWrong (IsWrongAt shown.now (outcomes_of ended.now) sketch.now (cover tree.now) (sketch_of sketch.now))) }
 {
     match tree {
         CoverTree::Value { thread, children } => {
-            judge_values(alloc, *thread, children, sketch, ended)
+            judge_values(alloc, *thread, children, sketch, shown, ended)
         }
         CoverTree::Source { read, children } => {
-            judge_sources(alloc, *read, children, sketch, ended)
+            judge_sources(alloc, *read, children, sketch, shown, ended)
         }
         CoverTree::Order {
             first,
@@ -58,12 +66,12 @@ fn judge(alloc: Global, tree: &CoverTree, sketch: &Sketch, ended: &[Ended]) -> R
             let (first, second) = (event_of(*first), event_of(*second));
             judge_order(alloc, sketch, first, second)?;
             let choice = Choice::Order(first, second);
-            judge_child(alloc, first_before, sketch, choice, 0, ended)?;
+            judge_child(alloc, first_before, sketch, choice, 0, shown, ended)?;
             let choice = Choice::Order(second, first);
-            judge_child(alloc, second_before, sketch, choice, 1, ended)
+            judge_child(alloc, second_before, sketch, choice, 1, shown, ended)
         }
         CoverTree::Cycle { kind, events } => judge_cycle(alloc, sketch, *kind, events),
-        CoverTree::Known { run } => judge_known(alloc, sketch, *run, ended),
+        CoverTree::Known { run } => judge_known(alloc, sketch, *run, shown, ended),
     }
 }
 
@@ -74,14 +82,15 @@ fn judge_values(
     thread: u8,
     children: &[CoverTree],
     sketch: &Sketch,
+    shown: &Shown,
     ended: &[Ended],
 ) -> Result<(), TreeFault>
     requires { HasEachThread sketch.now }
-    ensures valid { OnOk result (IsValidAfter (outcomes_of ended.now) sketch.now (Value thread (covers_of (map cover children.now))) (sketch_of sketch.now)) }
-    ensures wrong { IfErr result (IfWrong (IsWrongAt (outcomes_of ended.now) sketch.now (Value thread (covers_of (map cover children.now))) (sketch_of sketch.now))) }
+    ensures valid { OnOk result (IsValidAfter shown.now (outcomes_of ended.now) sketch.now (Value thread (covers_of (map cover children.now))) (sketch_of sketch.now)) }
+    ensures wrong { IfErr result (IfWrong (IsWrongAt shown.now (outcomes_of ended.now) sketch.now (Value thread (covers_of (map cover children.now))) (sketch_of sketch.now))) }
 {
     let choices = value_choices(alloc, sketch, thread, children.len())?;
-    judge_children(alloc, children, sketch, &choices, ended)
+    judge_children(alloc, children, sketch, &choices, shown, ended)
 }
 
 /// Judges a node whose children are for the sources of a read.
@@ -91,14 +100,15 @@ fn judge_sources(
     read: AccessId,
     children: &[CoverTree],
     sketch: &Sketch,
+    shown: &Shown,
     ended: &[Ended],
 ) -> Result<(), TreeFault>
     requires { HasEachThread sketch.now }
-    ensures valid { OnOk result (IsValidAfter (outcomes_of ended.now) sketch.now (Source read (covers_of (map cover children.now))) (sketch_of sketch.now)) }
-    ensures wrong { IfErr result (IfWrong (IsWrongAt (outcomes_of ended.now) sketch.now (Source read (covers_of (map cover children.now))) (sketch_of sketch.now))) }
+    ensures valid { OnOk result (IsValidAfter shown.now (outcomes_of ended.now) sketch.now (Source read (covers_of (map cover children.now))) (sketch_of sketch.now)) }
+    ensures wrong { IfErr result (IfWrong (IsWrongAt shown.now (outcomes_of ended.now) sketch.now (Source read (covers_of (map cover children.now))) (sketch_of sketch.now))) }
 {
     let choices = source_choices(alloc, sketch, event_of(read), children.len())?;
-    judge_children(alloc, children, sketch, &choices, ended)
+    judge_children(alloc, children, sketch, &choices, shown, ended)
 }
 
 /// Judges the children of a node in order, each at the sketch after its choice.
@@ -108,16 +118,17 @@ fn judge_children(
     trees: &[CoverTree],
     sketch: &Sketch,
     choices: &[Choice],
+    shown: &Shown,
     ended: &[Ended],
 ) -> Result<(), TreeFault>
     requires each { HasEachThread sketch.now }
     requires may { MayChooseEach sketch.now choices.now }
     requires as_many { length trees.now ≡ length choices.now }
-    ensures valid { OnOk result (AreValidAfter (outcomes_of ended.now) sketch.now (map cover trees.now) choices.now) }
-    ensures wrong { IfErr result (IfWrong (IsBelow (IsWrongChild (outcomes_of ended.now) sketch.now (map cover trees.now) choices.now))) }
+    ensures valid { OnOk result (AreValidAfter shown.now (outcomes_of ended.now) sketch.now (map cover trees.now) choices.now) }
+    ensures wrong { IfErr result (IfWrong (IsBelow (IsWrongChild shown.now (outcomes_of ended.now) sketch.now (map cover trees.now) choices.now))) }
 {
     for (number, tree) in trees.iter().enumerate() {
-        judge_child(alloc, tree, sketch, choices[number], number, ended)?;
+        judge_child(alloc, tree, sketch, choices[number], number, shown, ended)?;
     }
     Ok(())
 }
@@ -130,15 +141,16 @@ fn judge_child(
     sketch: &Sketch,
     choice: Choice,
     number: usize,
+    shown: &Shown,
     ended: &[Ended],
 ) -> Result<(), TreeFault>
     requires each { HasEachThread sketch.now }
     requires may { MayChoose sketch.now choice }
-    ensures valid { OnOk result (IsValidAfter (outcomes_of ended.now) sketch.now (cover tree.now) (after (sketch_of sketch.now) choice)) }
-    ensures wrong { IfErr result (IfWrong (IsBelow (λ n path. (n ≡ number) × IsWrongAt (outcomes_of ended.now) sketch.now (cover tree.now) (after (sketch_of sketch.now) choice) path))) }
+    ensures valid { OnOk result (IsValidAfter shown.now (outcomes_of ended.now) sketch.now (cover tree.now) (after (sketch_of sketch.now) choice)) }
+    ensures wrong { IfErr result (IfWrong (IsBelow (λ n path. (n ≡ number) × IsWrongAt shown.now (outcomes_of ended.now) sketch.now (cover tree.now) (after (sketch_of sketch.now) choice) path))) }
 {
     let next = chosen(sketch, choice)?;
-    match judge(alloc, tree, &next, ended) {
+    match judge(alloc, tree, &next, shown, ended) {
         Ok(()) => Ok(()),
         Err(fault) => Err(fault.from_parent(number)),
     }
@@ -198,14 +210,15 @@ fn judge_known(
     alloc: Global,
     sketch: &Sketch,
     number: u64,
+    shown: &Shown,
     ended: &[Ended],
 ) -> Result<(), TreeFault>
-    ensures known { OnOk result (trees.MustEndAsNumber sketch.now.program (mode_in sketch.now) (outcomes_of ended.now) (sketch_of sketch.now) number) }
-    ensures wrong { IfErr result (IfWrong (IsAtRoot (trees.MustEndAsNumber sketch.now.program (mode_in sketch.now) (outcomes_of ended.now) (sketch_of sketch.now) number → ⊥))) }
+    ensures known { OnOk result (trees.MustEndAsNumber (asked sketch.now.program shown.now) (mode_in sketch.now) (outcomes_of ended.now) (sketch_of sketch.now) number) }
+    ensures wrong { IfErr result (IfWrong (IsAtRoot (trees.MustEndAsNumber (asked sketch.now.program shown.now) (mode_in sketch.now) (outcomes_of ended.now) (sketch_of sketch.now) number → ⊥))) }
 {
     match replay_of(ended, number) {
         Some(end) => {
-            if sketch.must_end_as(&end.outcome) {
+            if sketch.must_end_as(shown, &end.outcome) {
                 Ok(())
             } else {
                 Err(wrong_here(alloc))

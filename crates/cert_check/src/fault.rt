@@ -9,8 +9,8 @@ use crate::Path;
 use std::alloc::{AllocError, AllocFailed};
 use thiserror::Error;
 
-/// Why a certificate is refused: the first of these in this order, and of several runs or nodes the
-/// first. In a tree a node comes before its children.
+/// Why a certificate is refused: the first of these in this order, after `Shown`, and of several runs or
+/// nodes the first. In a tree a node comes before its children.
 #[derive(Debug, Drop, Error)]
 pub enum CheckFault {
     /// The set has a number that is no gap of the program.
@@ -39,6 +39,9 @@ pub enum CheckFault {
     GapTree(Path),
     #[error("9 OutOfMemory")]
     OutOfMemory,
+    /// The certificate is about something else than what is shown. Tried before all others.
+    #[error("10 Shown")]
+    Shown,
 }
 
 impl From<AllocError> for CheckFault {

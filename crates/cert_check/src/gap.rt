@@ -7,7 +7,7 @@ ghost use Rattle.tso_program.specs.declared.listing.Listing.{Listing};
 ghost use Rattle.tso_machine.specs.declared.label.Label.{Label};
 ghost use Rattle.cert_forest.specs.Views.{gap};
 ghost use Rattle.tree_laws.specs.GapTrees.{root, IsSplitBy, IsValidGap};
-ghost use Rattle.cert_check.specs.Replays.{AreBufferedReplays};
+ghost use Rattle.cert_check.specs.Replays.{HavePassed};
 ghost use Rattle.cert_check.specs.GapDefects.{HasNoSplit, FirstWrongGap};
 ghost use Rattle.cert_check.specs.Judged.{IfWrong, IsAtRoot, IsBelow};
 ghost use Rattle.cert_check.specs.Regions.{node_of, with_gap, without_gap, IsValidIn, IsWrongIn, AreValidIn, IsWrongChildIn};
@@ -77,9 +77,9 @@ pub(crate) fn judge_gap(
     region: &Region,
     bounds: &Bounds,
 ) -> Result<(), TreeFault>
-    ensures valid { (p : Listing) (runs : List (List Label)) → AreBufferedReplays p runs bounds.now.runs.now
+    ensures valid { (p : Listing) (runs : List (List Label)) → HavePassed p runs bounds.now.runs.now
         → OnOk result (IsValidIn p bounds.now.costs.now bounds.now.answer runs (gap tree.now) region.now) }
-    ensures wrong { (p : Listing) (runs : List (List Label)) → AreBufferedReplays p runs bounds.now.runs.now
+    ensures wrong { (p : Listing) (runs : List (List Label)) → HavePassed p runs bounds.now.runs.now
         → IfErr result (IfWrong (IsWrongIn p bounds.now.costs.now bounds.now.answer runs (gap tree.now) region.now)) }
 {
     match tree {
@@ -102,9 +102,9 @@ fn judge_gaps(
 ) -> Result<(), TreeFault>
     requires below { All (λ gap. gap < 64) gaps.now }
     requires as_many { length trees.now ≡ length gaps.now }
-    ensures valid { (p : Listing) (runs : List (List Label)) → AreBufferedReplays p runs bounds.now.runs.now
+    ensures valid { (p : Listing) (runs : List (List Label)) → HavePassed p runs bounds.now.runs.now
         → OnOk result (AreValidIn p bounds.now.costs.now bounds.now.answer runs (map gap trees.now) region.now gaps.now) }
-    ensures wrong { (p : Listing) (runs : List (List Label)) → AreBufferedReplays p runs bounds.now.runs.now
+    ensures wrong { (p : Listing) (runs : List (List Label)) → HavePassed p runs bounds.now.runs.now
         → IfErr result (IfWrong (IsBelow (IsWrongChildIn p bounds.now.costs.now bounds.now.answer runs (map gap trees.now) region.now gaps.now))) }
 {
     let mut rest = *region;
@@ -126,9 +126,9 @@ fn judge_gap_child(
     number: usize,
     bounds: &Bounds,
 ) -> Result<(), TreeFault>
-    ensures valid { (p : Listing) (runs : List (List Label)) → AreBufferedReplays p runs bounds.now.runs.now
+    ensures valid { (p : Listing) (runs : List (List Label)) → HavePassed p runs bounds.now.runs.now
         → OnOk result (IsValidIn p bounds.now.costs.now bounds.now.answer runs (gap tree.now) region.now) }
-    ensures wrong { (p : Listing) (runs : List (List Label)) → AreBufferedReplays p runs bounds.now.runs.now
+    ensures wrong { (p : Listing) (runs : List (List Label)) → HavePassed p runs bounds.now.runs.now
         → IfErr result (IfWrong (IsBelow (λ n path. (n ≡ number)
         × IsWrongIn p bounds.now.costs.now bounds.now.answer runs (gap tree.now) region.now path))) }
 {
@@ -159,11 +159,11 @@ fn split_gaps(
     count: usize,
     runs: &[Ended],
 ) -> Result<Vec<u8>, TreeFault>
-    ensures split { (p : Listing) (labels : List (List Label)) → AreBufferedReplays p labels runs.now
+    ensures split { (p : Listing) (labels : List (List Label)) → HavePassed p labels runs.now
         → IfOk result (λ gaps. IsSplitBy p labels (node_of region.now) run gaps.items) }
     ensures as_many { IfOk result (λ gaps. count ≡ length gaps.items) }
     ensures below { IfOk result (λ gaps. All (λ gap. gap < 64) gaps.items) }
-    ensures wrong { (p : Listing) (labels : List (List Label)) → AreBufferedReplays p labels runs.now
+    ensures wrong { (p : Listing) (labels : List (List Label)) → HavePassed p labels runs.now
         → IfErr result (IfWrong (IsAtRoot (HasNoSplit p labels (node_of region.now) run count))) }
 {
     let Some(end) = replay_of(runs, run) else {

@@ -3,6 +3,8 @@ pub mod TreeTexts
 pub mod CoverLaws
 pub mod GapLaws
 pub mod LineLaws
+pub mod PlaceLaws
+pub mod HeadLaws
 pub mod WholeLaws
 pub mod Sets
 pub mod Examples

@@ -14,7 +14,7 @@ use Rattle.cert_words.specs.Lines.{texts_of, spaced, line}
 use Rattle.cert_forest.specs.Texts.{cover_words, gap_words, run_line, runs_lines}
 use Rattle.cert_forest.specs.Limits.{AscendFrom, IsRun, AreRuns, IsCoverTo, IsGapTo}
 use Rattle.cert_words.specs.Words.{◌>>=◌, is_inner, word_at, name_at, end_at, begins_word, number_at, repeat_at}
-use Rattle.cert_forest.specs.Reading.{label_word_at, labels_at, gaps_at, run_at, runs_at, set_at, cost_at, cover_at, gap_at, cover_line_at, gap_line_at, version_at, header_at}
+use Rattle.cert_forest.specs.Reading.{label_word_at, labels_at, gaps_at, run_at, runs_at, set_at, cost_at, cover_at, gap_at, cover_line_at, gap_line_at}
 use Rattle.cert_words.proofs.Steps.{bind_some, guarded, kept_out, chosen, some_is, Starts, done_with, repeat_takes, repeat_free}
 use Rattle.cert_words.proofs.WordLaws.{word_takes, word_again, name_takes, name_again, end_takes, end_again, number_text, number_exact, below64}
 use Rattle.cert_forest.proofs.NameLaws.{label_text, label_exact}
@@ -24,16 +24,16 @@ use Rattle.cert_forest.proofs.GapLaws.{gap_exact}
 
 -- ---- a line of a name and a value
 
-abbrev line_at : {A : Type 0} → List ℕ → (List ℕ → Option (A × List ℕ)) → List ℕ → Option (A × List ℕ)
+abbrev pub line_at : {A : Type 0} → List ℕ → (List ℕ → Option (A × List ℕ)) → List ℕ → Option (A × List ℕ)
 line_at name r bytes = name_at name bytes >>= λ t. r t >>= λ x. end_at x.1 >>= λ rest. Some (x.0, rest)
 
-abbrev line_of : List ℕ → List ℕ → List ℕ
+abbrev pub line_of : List ℕ → List ℕ → List ℕ
 line_of name text = name ++ (text ++ 10 ∷ [])
 
 line_parts : (name text rest : List ℕ) → name ++ (text ++ 10 ∷ rest) ≡ line_of name text ++ rest
 line_parts name text rest = simp append_assoc
 
-line_takes : {A : Type 0} (r : List ℕ → Option (A × List ℕ)) (text : A → List ℕ) (P : A → Type 0) → ((bytes : List ℕ) (x : A × List ℕ) → r bytes ≡ Some x → (bytes ≡ text x.0 ++ x.1) × P x.0)
+pub line_takes : {A : Type 0} (r : List ℕ → Option (A × List ℕ)) (text : A → List ℕ) (P : A → Type 0) → ((bytes : List ℕ) (x : A × List ℕ) → r bytes ≡ Some x → (bytes ≡ text x.0 ++ x.1) × P x.0)
     → (name bytes : List ℕ) (x : A × List ℕ) → line_at name r bytes ≡ Some x → (bytes ≡ line_of name (text x.0) ++ x.1) × P x.0
 line_takes r text P takes name bytes x e =
     let t = bind_some (name_at name bytes) (λ t. r t >>= λ x. end_at x.1 >>= λ rest. Some (x.0, rest)) x e in
@@ -45,7 +45,7 @@ line_takes r text P takes name bytes x e =
     let here : bytes ≡ line_of name (text v.0.0) ++ n.0 = one ∙ ap (λ (w : List ℕ). name ++ w) (two.0 ∙ ap (λ (w : List ℕ). text v.0.0 ++ w) three) ∙ line_parts name (text v.0.0) n.0 in
     subst (λ (y : _ × List ℕ). (bytes ≡ line_of name (text y.0) ++ y.1) × P y.0) (some_is (v.0.0, n.0) x n.2) (here, two.1)
 
-line_again : {A : Type 0} (r : List ℕ → Option (A × List ℕ)) (text : List ℕ) (name : List ℕ) (x : A) (rest : List ℕ) → list_all is_inner name ≡ true → Starts (text ++ 10 ∷ rest) → r (text ++ 10 ∷ rest) ≡ Some (x, 10 ∷ rest)
+pub line_again : {A : Type 0} (r : List ℕ → Option (A × List ℕ)) (text : List ℕ) (name : List ℕ) (x : A) (rest : List ℕ) → list_all is_inner name ≡ true → Starts (text ++ 10 ∷ rest) → r (text ++ 10 ∷ rest) ≡ Some (x, 10 ∷ rest)
     → line_at name r (line_of name text ++ rest) ≡ Some (x, rest)
 line_again r text name x rest word st e =
     ap (line_at name r) (sym (line_parts name text rest))
@@ -225,31 +225,3 @@ pub gap_line_again : (t : Gap) (rest : List ℕ) → IsGapTo 65 t → gap_line_a
 unfolding gap_line_at
 gap_line_again t rest fits =
     line_again (gap_at 65) (gap_text t) (codes "gaps") t rest refl ((gap_exact 65).starts t (10 ∷ rest) fits refl) ((gap_exact 65).again t (10 ∷ rest) fits refl)
-
--- ---- the first line
-
-version_takes : (bytes rest : List ℕ) → version_at bytes ≡ Some rest → bytes ≡ spaced (codes "1") ++ rest
-unfolding version_at
-version_takes bytes rest e =
-    let w = bind_some (word_at bytes) (λ w. cond (bytes_eq w.0 (codes "1")) (Some w.1) None) rest e in
-    let g = guarded (bytes_eq w.0.0 (codes "1")) w.0.1 rest w.2 in
-    let first : w.0.0 ≡ codes "1" = (bytes_eq-Decides w.0.0 (codes "1")).0 g.0 in
-    word_takes bytes w.0 w.1 ∙ (λ i. spaced (first i) ++ g.1 i)
-
-version_again : (rest : List ℕ) → Starts rest → version_at (spaced (codes "1") ++ rest) ≡ Some rest
-unfolding version_at
-version_again rest st = rw (word_again (codes "1") rest refl st) refl
-
-pub header_takes : (bytes rest : List ℕ) → header_at bytes ≡ Some rest → bytes ≡ line (codes "FENCECERT") (codes "1" ∷ []) ++ rest
-unfolding header_at
-header_takes bytes rest e =
-    let t = bind_some (name_at (codes "FENCECERT") bytes) (λ t. version_at t >>= λ r. end_at r) rest e in
-    let v = bind_some (version_at t.0) (λ r. end_at r) rest t.2 in
-    name_takes (codes "FENCECERT") bytes t.0 t.1 ∙ ap (λ (w : List ℕ). codes "FENCECERT" ++ w) (version_takes t.0 v.0 v.1 ∙ ap (λ (w : List ℕ). spaced (codes "1") ++ w) (end_takes v.0 rest v.2))
-
-pub header_again : (rest : List ℕ) → header_at (line (codes "FENCECERT") (codes "1" ∷ []) ++ rest) ≡ Some rest
-unfolding header_at
-header_again rest =
-    ap (λ o. o >>= λ t. version_at t >>= λ r. end_at r) (name_again (codes "FENCECERT") (spaced (codes "1") ++ 10 ∷ rest) refl refl)
-    ∙ ap (λ o. o >>= λ r. end_at r) (version_again (10 ∷ rest) refl)
-    ∙ end_again rest

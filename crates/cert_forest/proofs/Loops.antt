@@ -6,7 +6,7 @@ use Rattle.tso_machine.specs.declared.label.Label.{Label}
 use Rattle.cert_words.specs.declared.refusal.Stop.{Stop}
 use Rattle.cert_words.specs.declared.refusal.Stop.TheVariants.{Refused, OutOfMemory}
 use Rattle.cert_words.specs.Words.{Fails, begins_word, repeat_at, number_at}
-use Rattle.cert_forest.specs.Reading.{label_word_at, labels_at, gaps_at}
+use Rattle.cert_forest.specs.Reading.{label_word_at, labels_at, gaps_at, place_at, places_at}
 
 one_less : (n k : ℕ) → k < n → n - k ≡ suc (n - (k + 1))
 one_less n k lt = omega arith
@@ -103,3 +103,43 @@ gaps_past n k least found bytes all le word so =
     let none : n - k ≡ 0 = omega arith in
     let step : gaps_at 0 least found bytes ≡ None = rw word refl in
     sym so ∙ ap (λ (m : ℕ). gaps_at m least found bytes) none ∙ step
+
+-- ---- places
+
+pub places_more : (n k least : ℕ) (found : List ℕ) (bytes : List ℕ) (x : ℕ) (rest : List ℕ) (all : Option (List ℕ × List ℕ)) → k < n → begins_word bytes ≡ true → place_at bytes ≡ Some (x, rest) → least ≤ x
+    → places_at (n - k) least found bytes ≡ all → places_at (n - (k + 1)) (x + 1) (found ++ x ∷ []) rest ≡ all
+unfolding places_at
+places_more n k least found bytes x rest all lt word e le so =
+    let above : nat_lt x least ≡ false = le-ltb _ _ le in
+    let step : places_at (suc (n - (k + 1))) least found bytes ≡ places_at (n - (k + 1)) (x + 1) (found ++ x ∷ []) rest = rw (word, e, above) refl in
+    sym step ∙ ap (λ (m : ℕ). places_at m least found bytes) (sym (one_less n k lt)) ∙ so
+
+pub places_low : (n k least : ℕ) (found : List ℕ) (bytes : List ℕ) (x : ℕ) (rest : List ℕ) (all : Option (List ℕ × List ℕ)) → k < n → begins_word bytes ≡ true → place_at bytes ≡ Some (x, rest) → x < least
+    → places_at (n - k) least found bytes ≡ all → all ≡ None
+unfolding places_at
+places_low n k least found bytes x rest all lt word e below so =
+    let under : nat_lt x least ≡ true = lt-ltb _ _ below in
+    let step : places_at (suc (n - (k + 1))) least found bytes ≡ None = rw (word, e, under) refl in
+    sym so ∙ ap (λ (m : ℕ). places_at m least found bytes) (one_less n k lt) ∙ step
+
+pub places_stop : (n k least : ℕ) (found : List ℕ) (bytes : List ℕ) (all : Option (List ℕ × List ℕ)) → k < n → begins_word bytes ≡ true → place_at bytes ≡ None
+    → places_at (n - k) least found bytes ≡ all → all ≡ None
+unfolding places_at
+places_stop n k least found bytes all lt word e so =
+    let step : places_at (suc (n - (k + 1))) least found bytes ≡ None = rw (word, e) refl in
+    sym so ∙ ap (λ (m : ℕ). places_at m least found bytes) (one_less n k lt) ∙ step
+
+places_here : (m least : ℕ) (found : List ℕ) (bytes : List ℕ) → begins_word bytes ≡ false → places_at m least found bytes ≡ Some (found, bytes)
+unfolding places_at
+places_here zero least found bytes away = rw away refl
+places_here (suc m) least found bytes away = rw away refl
+
+pub places_end : (m least : ℕ) (found : List ℕ) (bytes : List ℕ) (all : Option (List ℕ × List ℕ)) → begins_word bytes ≡ false → places_at m least found bytes ≡ all → all ≡ Some (found, bytes)
+places_end m least found bytes all away so = sym so ∙ places_here m least found bytes away
+
+pub places_past : (n k least : ℕ) (found : List ℕ) (bytes : List ℕ) (all : Option (List ℕ × List ℕ)) → n ≤ k → begins_word bytes ≡ true → places_at (n - k) least found bytes ≡ all → all ≡ None
+unfolding places_at
+places_past n k least found bytes all le word so =
+    let none : n - k ≡ 0 = omega arith in
+    let step : places_at 0 least found bytes ≡ None = rw word refl in
+    sym so ∙ ap (λ (m : ℕ). places_at m least found bytes) none ∙ step

@@ -9,7 +9,7 @@ use Rattle.std.proofs.lemmas.Bool.Decides.{nat_tests}
 use Rattle.std.specs.Cmp.{nat_cmp_total}
 use Rattle.std.proofs.lemmas.List.{take_more}
 use Rattle.gap_sets.specs.Gaps.{SetOfGaps, gaps_in}
-use Rattle.cert_forest.specs.Limits.{AscendFrom}
+use Rattle.cert_forest.specs.Limits.{AscendFrom, PlacesFrom}
 
 abbrev is_in : List ℕ → ℕ → Bool
 is_in gs q = list_any (λ y. nat_eq y q) gs
@@ -63,3 +63,16 @@ pub from_list_more : (gs : List ℕ) (i : ℕ) (s : SetOfGaps) → i < length gs
 from_list_more gs i s lt so =
     let more : take (i + 1) gs ≡ take i gs ++ get_or gs i 0 ∷ [] = take_more gs i 0 lt in
     ap (λ (t : SetOfGaps). set.insert t (get_or gs i 0)) so ∙ sym (set.from_list_push nat_cmp_total set.nat_cmp-IsAntisymmetric (take i gs) (get_or gs i 0)) ∙ ap set.from_list (sym more)
+
+-- places are numbers below 64 too
+ascend : (least : ℕ) (ps : List ℕ) → PlacesFrom least ps → AscendFrom least ps
+ascend least [] up = tt
+ascend least (p ∷ ps) up = (up.0, omega (arith, up.1), ascend (p + 1) ps up.2)
+
+pub places_in_list : (ps : List ℕ) → PlacesFrom 0 ps → gaps_in (set.from_list ps) ≡ ps
+places_in_list ps up = gaps_in_list ps (ascend 0 ps up)
+
+pub place_below : (least : ℕ) (ps : List ℕ) (i : ℕ) → PlacesFrom least ps → i < length ps → get_or ps i 0 < 56
+place_below least [] i up lt = absurd (omega arith)
+place_below least (p ∷ ps) zero up lt = up.1
+place_below least (p ∷ ps) (suc i) up lt = place_below (p + 1) ps i up.2 (omega arith)

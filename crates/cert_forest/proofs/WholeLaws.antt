@@ -8,14 +8,15 @@ use Rattle.tso_machine.specs.declared.label.Label.{Label}
 use Rattle.cert_forest.specs.Trees.{Cover, Gap}
 use Rattle.cert_forest.specs.Certificates.{Cert}
 use Rattle.cert_words.specs.Lines.{line}
-use Rattle.cert_forest.specs.Texts.{cover_words, gap_words, runs_lines, certificate_text}
-use Rattle.cert_forest.specs.Limits.{AscendFrom, AreRuns, IsCoverTo, IsGapTo, IsWithin, IsCertificate}
+use Rattle.cert_forest.specs.Texts.{head_lines, cover_words, gap_words, runs_lines, certificate_text}
+use Rattle.cert_forest.specs.Limits.{AscendFrom, ArePlaces, AreRuns, IsCoverTo, IsGapTo, IsWithin, IsCertificate}
 use Rattle.cert_forest.specs.Exact.{HasMore}
 use Rattle.cert_forest.specs.Laws.{OneText, OneCertificate, NoTextBeginsAnother}
 use Rattle.cert_words.specs.Words.{◌>>=◌}
-use Rattle.cert_forest.specs.Reading.{header_at, set_at, cost_at, runs_at, cover_line_at, gap_line_at, parts_at}
+use Rattle.cert_forest.specs.Reading.{shown_at, set_at, cost_at, runs_at, cover_line_at, gap_line_at, parts_at}
 use Rattle.cert_words.proofs.Steps.{some_is}
-use Rattle.cert_forest.proofs.LineLaws.{header_takes, header_again, set_takes, set_again, cost_takes, cost_again, runs_takes, runs_again, cover_line_takes, cover_line_again, gap_line_takes, gap_line_again}
+use Rattle.cert_forest.proofs.HeadLaws.{head_takes, head_again}
+use Rattle.cert_forest.proofs.LineLaws.{set_takes, set_again, cost_takes, cost_again, runs_takes, runs_again, cover_line_takes, cover_line_again, gap_line_takes, gap_line_again}
 
 eight : (a b c d e f g h rest : List ℕ) → a ++ (b ++ (c ++ (d ++ (e ++ (f ++ (g ++ (h ++ rest))))))) ≡ (a ++ (b ++ (c ++ (d ++ (e ++ (f ++ (g ++ h))))))) ++ rest
 eight a b c d e f g h rest = simp append_assoc
@@ -28,7 +29,7 @@ join a s k q t r f g b0 b1 b2 b3 b4 b5 b6 b7 b8 e0 e1 e2 e3 e4 e5 e6 e7 =
     ∙ eight a s k q t r f g b8
 
 -- a certificate's parts, each with its text
-told : (a : List ℕ) (c : Cert) (b0 b1 b2 b3 b4 b5 b6 b7 b8 : List ℕ) → a ≡ line (codes "FENCECERT") (codes "1" ∷ []) → b0 ≡ a ++ b1
+told : (a : List ℕ) (c : Cert) (b0 b1 b2 b3 b4 b5 b6 b7 b8 : List ℕ) → a ≡ head_lines c.shown → (b0 ≡ a ++ b1) × ArePlaces c.shown
     → (b1 ≡ line (codes "set") (map decimal c.gaps) ++ b2) × AscendFrom 0 c.gaps
     → (b2 ≡ line (codes "cost") (decimal c.cost ∷ []) ++ b3) × (c.cost < 2 ^ 64)
     → (b3 ≡ runs_lines (codes "seq") c.seq_runs ++ b4) × AreRuns c.seq_runs
@@ -38,75 +39,71 @@ told : (a : List ℕ) (c : Cert) (b0 b1 b2 b3 b4 b5 b6 b7 b8 : List ℕ) → a �
     → (b7 ≡ line (codes "gaps") (gap_words c.gap_tree) ++ b8) × IsGapTo 65 c.gap_tree
     → (b0 ≡ certificate_text c ++ b8) × IsWithin c
 told a c b0 b1 b2 b3 b4 b5 b6 b7 b8 e h0 h1 h2 h3 h4 h5 h6 h7 = (
-  join (line (codes "FENCECERT") (codes "1" ∷ [])) (line (codes "set") (map decimal c.gaps)) (line (codes "cost") (decimal c.cost ∷ [])) (runs_lines (codes "seq") c.seq_runs) (line (codes "tree") (cover_words c.seq_tree)) (runs_lines (codes "runs") c.runs) (line (codes "fenced") (cover_words c.fenced_tree)) (line (codes "gaps") (gap_words c.gap_tree))
-      b0 b1 b2 b3 b4 b5 b6 b7 b8 (h0 ∙ ap (λ (w : List ℕ). w ++ b1) e) h1.0 h2.0 h3.0 h4.0 h5.0 h6.0 h7.0,
-  record { gaps = h1.1; cost = h2.1; seq_runs = h3.1; seq_tree = h4.1; runs = h5.1; fenced_tree = h6.1; gap_tree = h7.1 },
+  join (head_lines c.shown) (line (codes "set") (map decimal c.gaps)) (line (codes "cost") (decimal c.cost ∷ [])) (runs_lines (codes "seq") c.seq_runs) (line (codes "tree") (cover_words c.seq_tree)) (runs_lines (codes "runs") c.runs) (line (codes "fenced") (cover_words c.fenced_tree)) (line (codes "gaps") (gap_words c.gap_tree))
+      b0 b1 b2 b3 b4 b5 b6 b7 b8 (h0.0 ∙ ap (λ (w : List ℕ). w ++ b1) e) h1.0 h2.0 h3.0 h4.0 h5.0 h6.0 h7.0,
+  record { shown = h0.1; gaps = h1.1; cost = h2.1; seq_runs = h3.1; seq_tree = h4.1; runs = h5.1; fenced_tree = h6.1; gap_tree = h7.1 },
 )
 
-abbrev made : List ℕ → ℕ → List (List Label) → Cover → List (List Label) → Cover → Gap → Cert
-made gaps cost seq_runs seq_tree runs fenced_tree gap_tree = record { gaps = gaps; cost = cost; seq_runs = seq_runs; seq_tree = seq_tree; runs = runs; fenced_tree = fenced_tree; gap_tree = gap_tree }
+abbrev made : Option (List ℕ) → List ℕ → ℕ → List (List Label) → Cover → List (List Label) → Cover → Gap → Cert
+made shown gaps cost seq_runs seq_tree runs fenced_tree gap_tree = record { shown = shown; gaps = gaps; cost = cost; seq_runs = seq_runs; seq_tree = seq_tree; runs = runs; fenced_tree = fenced_tree; gap_tree = gap_tree }
 
 -- what follows where a first step succeeds and then the others
 peel : {A C : Type 0} (o : Option (A × List ℕ)) (k : A → List ℕ → Option C) (y : C) (P : Type 0) → ((a : A) (rest : List ℕ) → o ≡ Some (a, rest) → k a rest ≡ Some y → P) → (o >>= λ x. k x.0 x.1) ≡ Some y → P
 peel (Some x) k y P use_it e = use_it x.0 x.1 refl e
 peel None k y P use_it e = absurd cc
 
-peel_line : {C : Type 0} (o : Option (List ℕ)) (k : List ℕ → Option C) (y : C) (P : Type 0) → ((rest : List ℕ) → o ≡ Some rest → k rest ≡ Some y → P) → (o >>= k) ≡ Some y → P
-peel_line (Some rest) k y P use_it e = use_it rest refl e
-peel_line None k y P use_it e = absurd cc
-
 -- reading from each part on
-abbrev from8 : List ℕ → ℕ → List (List Label) → Cover → List (List Label) → Cover → Gap → List ℕ → Option (Cert × List ℕ)
-from8 gaps cost q t r f g rest = Some (made gaps cost q t r f g, rest)
+abbrev from8 : Option (List ℕ) → List ℕ → ℕ → List (List Label) → Cover → List (List Label) → Cover → Gap → List ℕ → Option (Cert × List ℕ)
+from8 shown gaps cost q t r f g rest = Some (made shown gaps cost q t r f g, rest)
 
-abbrev from7 : List ℕ → ℕ → List (List Label) → Cover → List (List Label) → Cover → List ℕ → Option (Cert × List ℕ)
-from7 gaps cost q t r f bytes = gap_line_at bytes >>= λ x. from8 gaps cost q t r f x.0 x.1
+abbrev from7 : Option (List ℕ) → List ℕ → ℕ → List (List Label) → Cover → List (List Label) → Cover → List ℕ → Option (Cert × List ℕ)
+from7 shown gaps cost q t r f bytes = gap_line_at bytes >>= λ x. from8 shown gaps cost q t r f x.0 x.1
 
-abbrev from6 : List ℕ → ℕ → List (List Label) → Cover → List (List Label) → List ℕ → Option (Cert × List ℕ)
-from6 gaps cost q t r bytes = cover_line_at (codes "fenced") bytes >>= λ x. from7 gaps cost q t r x.0 x.1
+abbrev from6 : Option (List ℕ) → List ℕ → ℕ → List (List Label) → Cover → List (List Label) → List ℕ → Option (Cert × List ℕ)
+from6 shown gaps cost q t r bytes = cover_line_at (codes "fenced") bytes >>= λ x. from7 shown gaps cost q t r x.0 x.1
 
-abbrev from5 : List ℕ → ℕ → List (List Label) → Cover → List ℕ → Option (Cert × List ℕ)
-from5 gaps cost q t bytes = runs_at (codes "runs") bytes >>= λ x. from6 gaps cost q t x.0 x.1
+abbrev from5 : Option (List ℕ) → List ℕ → ℕ → List (List Label) → Cover → List ℕ → Option (Cert × List ℕ)
+from5 shown gaps cost q t bytes = runs_at (codes "runs") bytes >>= λ x. from6 shown gaps cost q t x.0 x.1
 
-abbrev from4 : List ℕ → ℕ → List (List Label) → List ℕ → Option (Cert × List ℕ)
-from4 gaps cost q bytes = cover_line_at (codes "tree") bytes >>= λ x. from5 gaps cost q x.0 x.1
+abbrev from4 : Option (List ℕ) → List ℕ → ℕ → List (List Label) → List ℕ → Option (Cert × List ℕ)
+from4 shown gaps cost q bytes = cover_line_at (codes "tree") bytes >>= λ x. from5 shown gaps cost q x.0 x.1
 
-abbrev from3 : List ℕ → ℕ → List ℕ → Option (Cert × List ℕ)
-from3 gaps cost bytes = runs_at (codes "seq") bytes >>= λ x. from4 gaps cost x.0 x.1
+abbrev from3 : Option (List ℕ) → List ℕ → ℕ → List ℕ → Option (Cert × List ℕ)
+from3 shown gaps cost bytes = runs_at (codes "seq") bytes >>= λ x. from4 shown gaps cost x.0 x.1
 
-abbrev from2 : List ℕ → List ℕ → Option (Cert × List ℕ)
-from2 gaps bytes = cost_at bytes >>= λ x. from3 gaps x.0 x.1
+abbrev from2 : Option (List ℕ) → List ℕ → List ℕ → Option (Cert × List ℕ)
+from2 shown gaps bytes = cost_at bytes >>= λ x. from3 shown gaps x.0 x.1
 
-abbrev from1 : List ℕ → Option (Cert × List ℕ)
-from1 bytes = set_at bytes >>= λ x. from2 x.0 x.1
+abbrev from1 : Option (List ℕ) → List ℕ → Option (Cert × List ℕ)
+from1 shown bytes = set_at bytes >>= λ x. from2 shown x.0 x.1
 
 abbrev Taken : List ℕ → Cert × List ℕ → Type 0
 Taken bytes x = (bytes ≡ certificate_text x.0 ++ x.1) × IsWithin x.0
 
-all_taken : (bytes b1 b2 b3 b4 b5 b6 b7 b8 : List ℕ) (gaps : List ℕ) (cost : ℕ) (q : List (List Label)) (t : Cover) (r : List (List Label)) (f : Cover) (g : Gap) → header_at bytes ≡ Some b1 → set_at b1 ≡ Some (gaps, b2) → cost_at b2 ≡ Some (cost, b3)
+all_taken : (bytes b1 b2 b3 b4 b5 b6 b7 b8 : List ℕ) (shown : Option (List ℕ)) (gaps : List ℕ) (cost : ℕ) (q : List (List Label)) (t : Cover) (r : List (List Label)) (f : Cover) (g : Gap) → shown_at bytes ≡ Some (shown, b1) → set_at b1 ≡ Some (gaps, b2) → cost_at b2 ≡ Some (cost, b3)
     → runs_at (codes "seq") b3 ≡ Some (q, b4) → cover_line_at (codes "tree") b4 ≡ Some (t, b5) → runs_at (codes "runs") b5 ≡ Some (r, b6) → cover_line_at (codes "fenced") b6 ≡ Some (f, b7) → gap_line_at b7 ≡ Some (g, b8)
-    → Taken bytes (made gaps cost q t r f g, b8)
-all_taken bytes b1 b2 b3 b4 b5 b6 b7 b8 gaps cost q t r f g e0 e1 e2 e3 e4 e5 e6 e7 =
-    told (line (codes "FENCECERT") (codes "1" ∷ [])) (made gaps cost q t r f g) bytes b1 b2 b3 b4 b5 b6 b7 b8 refl (header_takes bytes b1 e0)
+    → Taken bytes (made shown gaps cost q t r f g, b8)
+all_taken bytes b1 b2 b3 b4 b5 b6 b7 b8 shown gaps cost q t r f g e0 e1 e2 e3 e4 e5 e6 e7 =
+    told (head_lines shown) (made shown gaps cost q t r f g) bytes b1 b2 b3 b4 b5 b6 b7 b8 refl (head_takes bytes (shown, b1) e0)
     (set_takes b1 (gaps, b2) e1) (cost_takes b2 (cost, b3) e2) (runs_takes (codes "seq") b3 (q, b4) e3) (cover_line_takes (codes "tree") b4 (t, b5) e4) (runs_takes (codes "runs") b5 (r, b6) e5) (cover_line_takes (codes "fenced") b6 (f, b7) e6) (gap_line_takes b7 (g, b8) e7)
 
 pub parts_takes : (bytes : List ℕ) (x : Cert × List ℕ) → parts_at bytes ≡ Some x → Taken bytes x
 unfolding parts_at
 parts_takes bytes x e =
-    peel_line (header_at bytes) from1 x (Taken bytes x) (λ b1 e0 h1.
-    peel (set_at b1) from2 x (Taken bytes x) (λ gaps b2 e1 h2.
-    peel (cost_at b2) (from3 gaps) x (Taken bytes x) (λ cost b3 e2 h3.
-    peel (runs_at (codes "seq") b3) (from4 gaps cost) x (Taken bytes x) (λ q b4 e3 h4.
-    peel (cover_line_at (codes "tree") b4) (from5 gaps cost q) x (Taken bytes x) (λ t b5 e4 h5.
-    peel (runs_at (codes "runs") b5) (from6 gaps cost q t) x (Taken bytes x) (λ r b6 e5 h6.
-    peel (cover_line_at (codes "fenced") b6) (from7 gaps cost q t r) x (Taken bytes x) (λ f b7 e6 h7.
-    peel (gap_line_at b7) (from8 gaps cost q t r f) x (Taken bytes x) (λ g b8 e7 h8.
-    subst (Taken bytes) (some_is (made gaps cost q t r f g, b8) x h8) (all_taken bytes b1 b2 b3 b4 b5 b6 b7 b8 gaps cost q t r f g e0 e1 e2 e3 e4 e5 e6 e7)) h7) h6) h5) h4) h3) h2) h1) e
+    peel (shown_at bytes) from1 x (Taken bytes x) (λ shown b1 e0 h1.
+    peel (set_at b1) (from2 shown) x (Taken bytes x) (λ gaps b2 e1 h2.
+    peel (cost_at b2) (from3 shown gaps) x (Taken bytes x) (λ cost b3 e2 h3.
+    peel (runs_at (codes "seq") b3) (from4 shown gaps cost) x (Taken bytes x) (λ q b4 e3 h4.
+    peel (cover_line_at (codes "tree") b4) (from5 shown gaps cost q) x (Taken bytes x) (λ t b5 e4 h5.
+    peel (runs_at (codes "runs") b5) (from6 shown gaps cost q t) x (Taken bytes x) (λ r b6 e5 h6.
+    peel (cover_line_at (codes "fenced") b6) (from7 shown gaps cost q t r) x (Taken bytes x) (λ f b7 e6 h7.
+    peel (gap_line_at b7) (from8 shown gaps cost q t r f) x (Taken bytes x) (λ g b8 e7 h8.
+    subst (Taken bytes) (some_is (made shown gaps cost q t r f g, b8) x h8) (all_taken bytes b1 b2 b3 b4 b5 b6 b7 b8 shown gaps cost q t r f g e0 e1 e2 e3 e4 e5 e6 e7)) h7) h6) h5) h4) h3) h2) h1) e
 
 pub parts_again : (c : Cert) (rest : List ℕ) → IsWithin c → parts_at (certificate_text c ++ rest) ≡ Some (c, rest)
 unfolding parts_at
 parts_again c rest fits =
-    let a = line (codes "FENCECERT") (codes "1" ∷ []) in
+    let a = head_lines c.shown in
     let s = line (codes "set") (map decimal c.gaps) in
     let k = line (codes "cost") (decimal c.cost ∷ []) in
     let q = runs_lines (codes "seq") c.seq_runs in
@@ -116,7 +113,7 @@ parts_again c rest fits =
     let g = line (codes "gaps") (gap_words c.gap_tree) in
     ap parts_at (sym (eight a s k q t r f g rest))
     ∙ rw (
-      header_again (s ++ (k ++ (q ++ (t ++ (r ++ (f ++ (g ++ rest))))))),
+      head_again c.shown (s ++ (k ++ (q ++ (t ++ (r ++ (f ++ (g ++ rest))))))) fits.shown,
       set_again c.gaps (k ++ (q ++ (t ++ (r ++ (f ++ (g ++ rest)))))) fits.gaps,
       cost_again c.cost (q ++ (t ++ (r ++ (f ++ (g ++ rest))))) fits.cost,
       runs_again (codes "seq") c.seq_runs (t ++ (r ++ (f ++ (g ++ rest)))) refl fits.seq_runs,
@@ -161,9 +158,16 @@ never_none bytes d e is = let bad = sym e ∙ read_whole bytes d is in absurd cc
 pub gaps_ascend : (bytes rest : List ℕ) (c : Cert) → parts_at bytes ≡ Some (c, rest) → AscendFrom 0 c.gaps
 gaps_ascend bytes rest c e = (parts_takes bytes (c, rest) e).1.gaps
 
--- the same certificate, by another name of its gaps
-pub with_gaps : (c : Cert) (gaps : List ℕ) (bytes : List ℕ) → gaps ≡ c.gaps → IsCertificate bytes c → IsCertificate bytes (record c { gaps = gaps })
-with_gaps c gaps bytes e is = let P : List ℕ → Type 0 = λ gs. IsCertificate bytes (record c { gaps = gs }) in subst P (sym e) is
+pub places_ascend : (bytes rest : List ℕ) (c : Cert) → parts_at bytes ≡ Some (c, rest) → ArePlaces c.shown
+places_ascend bytes rest c e = (parts_takes bytes (c, rest) e).1.shown
+
+-- the same certificate, by other names of what is shown and of its gaps
+pub same_sets : (c : Cert) (shown : Option (List ℕ)) (gaps : List ℕ) → shown ≡ c.shown → gaps ≡ c.gaps → record c { shown = shown; gaps = gaps } ≡ c
+same_sets c shown gaps also e = λ i. record c { shown = also i; gaps = e i }
+
+pub with_sets : (c : Cert) (shown : Option (List ℕ)) (gaps : List ℕ) (bytes : List ℕ) → shown ≡ c.shown → gaps ≡ c.gaps → IsCertificate bytes c →
+    IsCertificate bytes (record c { shown = shown; gaps = gaps })
+with_sets c shown gaps bytes also e is = subst (IsCertificate bytes) (sym (same_sets c shown gaps also e)) is
 
 pub some_behind : (rest : List ℕ) → (length rest == 0) ≡ false → rest ≡ [] → ⊥
 some_behind [] e none = absurd cc

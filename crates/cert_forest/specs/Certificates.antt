@@ -1,14 +1,17 @@
 -- Certificates, without where they lie in memory.
-use Rattle.std.specs.Prelude.{ℕ, List, map}
+use Rattle.std.specs.Prelude.{ℕ, List, Option, Some, None, map}
 use Rattle.std.specs.Global.{Vec}
+use Rattle.tso_program.specs.declared.shown.Shown.{Shown}
+use Rattle.tso_program.specs.declared.shown.Shown.TheVariants.{All, Only}
 use Rattle.tso_machine.specs.declared.label.Label.{Label}
 use Rattle.gap_sets.specs.Gaps.{gaps_in}
 use Rattle.cert_forest.specs.declared.certificate.Certificate.{Certificate}
 use Rattle.cert_forest.specs.Trees.{Cover, Gap}
 use Rattle.cert_forest.specs.Views.{cover, gap}
 
--- a certificate's parts: the gaps of its set, ascending, the set's cost, runs and trees
+-- a certificate's parts: the places of the registers and locations that are shown, ascending, where not all are; the gaps of its set, ascending, the set's cost, runs and trees
 pub record Cert : Type 0 where
+  pub shown : Option (List ℕ)
   pub gaps : List ℕ
   pub cost : ℕ
   pub seq_runs : List (List Label)
@@ -20,9 +23,20 @@ pub record Cert : Type 0 where
 abbrev pub labels_of : List (Vec Label) → List (List Label)
 labels_of runs = map (λ run. run.items) runs
 
+-- the places of what is shown, ascending, where not all is
+abbrev pub shown_places : Shown → Option (List ℕ)
+shown_places All = None
+shown_places (Only names) = Some (gaps_in names)
+
+-- places that are kept in a vector
+abbrev pub listed : Option (Vec ℕ) → Option (List ℕ)
+listed None = None
+listed (Some places) = Some places.items
+
 -- what a certificate in memory stands for
 abbrev pub certificate : Certificate → Cert
 certificate c = record {
+  shown = shown_places c.shown;
   gaps = gaps_in c.set;
   cost = c.cost;
   seq_runs = labels_of c.seq_runs.items;

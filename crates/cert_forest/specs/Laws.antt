@@ -1,5 +1,5 @@
 -- Laws of certificates and their texts, and the definitions at two of them.
-use Rattle.std.specs.Prelude.{◌≡◌, ℕ, List, [], ◌∷◌, ◌++◌, codes}
+use Rattle.std.specs.Prelude.{◌≡◌, ℕ, List, [], ◌∷◌, ◌++◌, None, codes}
 use Rattle.candidate_executions.specs.declared.event.Kind.{Kind}
 use Rattle.candidate_executions.specs.declared.event.Kind.TheVariants as kinds
 use Rattle.tso_machine.specs.declared.label.Label.TheVariants.{Exec, Flush}
@@ -34,6 +34,7 @@ crossed kind =
 
 abbrev pub store_buffering : Cert
 store_buffering = record {
+  shown = None;
   gaps = 0 ∷ (1 ∷ []);
   cost = 2;
   seq_runs =
@@ -73,6 +74,7 @@ store_buffering_text =
 
 abbrev pub nothing_to_do : Cert
 nothing_to_do = record {
+  shown = None;
   gaps = [];
   cost = 0;
   seq_runs = [] ∷ [];

@@ -1,5 +1,5 @@
 -- What a certificate's text may hold.
-use Rattle.std.specs.Prelude.{◌≡◌, ℕ, suc, ◌+◌, ◌<◌, ◌≤◌, ◌^◌, List, [], ◌∷◌, length, max}
+use Rattle.std.specs.Prelude.{◌≡◌, ℕ, suc, ◌+◌, ◌<◌, ◌≤◌, ◌^◌, List, [], ◌∷◌, Option, Some, None, length, max}
 use Rattle.std.specs.List.{AllByRecursion}
 use Rattle.tso_machine.specs.declared.label.Label.{Label}
 use Rattle.tso_machine.specs.RunTexts.{IsLabel}
@@ -12,6 +12,15 @@ use Rattle.cert_forest.specs.Certificates.{Cert}
 abbrev pub AscendFrom : ℕ → List ℕ → Type 0
 AscendFrom least [] = Unit {0}
 AscendFrom least (gap ∷ gaps) = (least ≤ gap) × (gap < 64) × AscendFrom (gap + 1) gaps
+
+-- places from this one on, below 56, each greater than the one before
+abbrev pub PlacesFrom : ℕ → List ℕ → Type 0
+PlacesFrom least [] = Unit {0}
+PlacesFrom least (place ∷ places) = (least ≤ place) × (place < 56) × PlacesFrom (place + 1) places
+
+abbrev pub ArePlaces : Option (List ℕ) → Type 0
+ArePlaces None = Unit {0}
+ArePlaces (Some places) = PlacesFrom 0 places
 
 -- threads and accesses are numbered from 0 to 255
 abbrev pub IsAccess : AccessId → Type 0
@@ -78,6 +87,7 @@ AreRuns runs = (length runs < 2 ^ 64) × AllByRecursion IsRun runs
 
 -- a certificate within the limits: cover trees to depth 400, a gap tree to depth 65
 pub record IsWithin (c : Cert) : Type 0 where
+  pub shown : ArePlaces c.shown
   pub gaps : AscendFrom 0 c.gaps
   pub cost : c.cost < 2 ^ 64
   pub seq_runs : AreRuns c.seq_runs

@@ -1,7 +1,8 @@
 -- What each function of the reader gives: a value, and the bytes behind it; or nothing.
-use Rattle.std.specs.Prelude.{◌==◌, ℕ, zero, suc, ◌+◌, Bool, List, [], ◌∷◌, ◌++◌, take, drop, codes, nat_lt, not, Option, Some, None, if◌then◌else◌}
+use Rattle.std.specs.Prelude.{◌==◌, ◌&&◌, ◌-◌, nat_le, true, false, ℕ, zero, suc, ◌+◌, Bool, List, [], ◌∷◌, ◌++◌, take, drop, codes, nat_lt, not, Option, Some, None, if◌then◌else◌}
 use Rattle.std.specs.List.{prefix_len}
 use Rattle.std.specs.Str.{bytes_eq}
+use Rattle.tso_program.specs.Names.{register_place, location_place}
 use Rattle.candidate_executions.specs.declared.event.Kind.{Kind}
 use Rattle.candidate_executions.specs.declared.event.Kind.TheVariants as kinds
 use Rattle.tso_machine.specs.declared.label.Label.{Label}
@@ -193,28 +194,81 @@ gap_line_at bytes = do
   rest ← end_at tree.1
   Some (tree.0, rest)
 
--- ` 1`
-unfoldable pub version_at : List ℕ → Option (List ℕ)
+-- ---- what is shown
+
+-- the digit up to a limit that is written so
+abbrev pub digit_of : ℕ → ℕ → Option ℕ
+digit_of limit b = if nat_le 48 b && nat_le b (48 + limit) then Some (b - 48) else None
+
+abbrev pub location_of : ℕ → ℕ → Option ℕ
+location_of first digit = if first == 108 then (digit_of 7 digit >>= λ location. Some (location_place location)) else None
+
+abbrev pub register_of : ℕ → ℕ → ℕ → ℕ → Option ℕ
+register_of first thread stop register =
+    if first == 114 && stop == 46 then (digit_of 7 thread >>= λ t. digit_of 5 register >>= λ r. Some (register_place t r)) else None
+
+-- the place whose word this is
+abbrev pub place_of : List ℕ → Option ℕ
+place_of [] = None
+place_of (a ∷ []) = None
+place_of (a ∷ (b ∷ [])) = location_of a b
+place_of (a ∷ (b ∷ (c ∷ []))) = None
+place_of (a ∷ (b ∷ (c ∷ (d ∷ [])))) = register_of a b c d
+place_of (a ∷ (b ∷ (c ∷ (d ∷ (e ∷ word))))) = None
+
+unfoldable pub place_at : List ℕ → Option (ℕ × List ℕ)
+place_at bytes = do
+  w ← word_at bytes
+  place ← place_of w.0
+  Some (place, w.1)
+
+-- places from the least on, at most so many
+unfoldable pub places_at : ℕ → ℕ → List ℕ → List ℕ → Option (List ℕ × List ℕ)
+places_at zero least found bytes = if begins_word bytes then None else Some (found, bytes)
+places_at (suc n) least found bytes =
+    if begins_word bytes then (place_at bytes >>= λ place. if nat_lt place.0 least then None else places_at n (place.0 + 1) (found ++ place.0 ∷ []) place.1)
+    else Some (found, bytes)
+
+unfoldable pub shown_line_at : List ℕ → Option (List ℕ × List ℕ)
+shown_line_at bytes = do
+  places_text ← name_at (codes "shown") bytes
+  places ← places_at 56 0 [] places_text
+  rest ← end_at places.1
+  Some (places.0, rest)
+
+-- ` 1`, or ` 2`: whether what is shown follows
+unfoldable pub version_at : List ℕ → Option (Bool × List ℕ)
 version_at bytes = do
   w ← word_at bytes
-  if bytes_eq w.0 (codes "1") then Some w.1 else None
+  if bytes_eq w.0 (codes "1") then Some (false, w.1) else if bytes_eq w.0 (codes "2") then Some (true, w.1) else None
 
--- `FENCECERT 1`
-unfoldable pub header_at : List ℕ → Option (List ℕ)
+-- `FENCECERT 1`, or `FENCECERT 2`
+unfoldable pub header_at : List ℕ → Option (Bool × List ℕ)
 header_at bytes = do
   version_text ← name_at (codes "FENCECERT") bytes
-  rest ← version_at version_text
-  end_at rest
+  version ← version_at version_text
+  rest ← end_at version.1
+  Some (version.0, rest)
+
+abbrev pub shown_by : Bool → List ℕ → Option (Option (List ℕ) × List ℕ)
+shown_by false bytes = Some (None, bytes)
+shown_by true bytes = shown_line_at bytes >>= λ places. Some (Some places.0, places.1)
+
+-- the head
+unfoldable pub shown_at : List ℕ → Option (Option (List ℕ) × List ℕ)
+shown_at bytes = do
+  version ← header_at bytes
+  shown_by version.0 version.1
 
 -- a certificate at the front of the bytes
 unfoldable pub parts_at : List ℕ → Option (Cert × List ℕ)
 parts_at bytes = do
-  body ← header_at bytes
-  gaps ← set_at body
+  shown ← shown_at bytes
+  gaps ← set_at shown.1
   cost ← cost_at gaps.1
   seq_runs ← runs_at (codes "seq") cost.1
   seq_tree ← cover_line_at (codes "tree") seq_runs.1
   runs ← runs_at (codes "runs") seq_tree.1
   fenced_tree ← cover_line_at (codes "fenced") runs.1
   gap_tree ← gap_line_at fenced_tree.1
-  Some (record { gaps = gaps.0; cost = cost.0; seq_runs = seq_runs.0; seq_tree = seq_tree.0; runs = runs.0; fenced_tree = fenced_tree.0; gap_tree = gap_tree.0 }, gap_tree.1)
+  Some (record { shown = shown.0; gaps = gaps.0; cost = cost.0; seq_runs = seq_runs.0; seq_tree = seq_tree.0; runs = runs.0; fenced_tree = fenced_tree.0; gap_tree = gap_tree.0 }, gap_tree.1)

@@ -1,5 +1,5 @@
 -- The text of a certificate: lines of words, with single spaces between the words, each line ended by LF.
-use Rattle.std.specs.Prelude.{ℕ, suc, List, [], ◌∷◌, ◌++◌, map, length, codes}
+use Rattle.std.specs.Prelude.{ℕ, suc, ◌-◌, ◌/◌, ◌%◌, nat_lt, if◌then◌else◌, List, [], ◌∷◌, ◌++◌, Option, Some, None, map, length, codes}
 use Rattle.std.specs.Fmt.{decimal}
 use Rattle.candidate_executions.specs.declared.event.Kind.{Kind}
 use Rattle.candidate_executions.specs.declared.event.Kind.TheVariants.{Sequential, Location, Global}
@@ -21,6 +21,16 @@ abbrev pub kind_word : Kind → List ℕ
 kind_word Sequential = codes "s"
 kind_word Location = codes "l"
 kind_word Global = codes "g"
+
+-- `rT.R`, a thread and a register's number, or `lN`, a location, by its place
+abbrev pub register_word : ℕ → ℕ → List ℕ
+register_word thread register = 114 ∷ (decimal thread ++ 46 ∷ decimal register)
+
+abbrev pub location_word : ℕ → List ℕ
+location_word location = 108 ∷ decimal location
+
+abbrev pub place_word : ℕ → List ℕ
+place_word place = if nat_lt place 48 then register_word (place / 6) (place % 6) else location_word (place - 48)
 
 -- ---- trees: what a node says, how many children it has where that is not fixed, and then the children
 
@@ -63,9 +73,14 @@ run_line labels = line (codes "run") (map spelling labels)
 abbrev pub runs_lines : List ℕ → List (List Label) → List ℕ
 runs_lines name runs = line name (decimal (length runs) ∷ []) ++ texts_of run_line runs
 
+-- the version's line, and in the second version that of what is shown
+abbrev pub head_lines : Option (List ℕ) → List ℕ
+head_lines None = line (codes "FENCECERT") (codes "1" ∷ [])
+head_lines (Some places) = line (codes "FENCECERT") (codes "2" ∷ []) ++ line (codes "shown") (map place_word places)
+
 abbrev pub certificate_text : Cert → List ℕ
 certificate_text c =
-    line (codes "FENCECERT") (codes "1" ∷ [])
+    head_lines c.shown
     ++ (line (codes "set") (map decimal c.gaps)
     ++ (line (codes "cost") (decimal c.cost ∷ [])
     ++ (runs_lines (codes "seq") c.seq_runs

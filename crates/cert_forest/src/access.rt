@@ -10,7 +10,7 @@ use cert_words::{Refusal, Stop, Wrong, are_digits, plain_number, refused_unless_
 use std::alloc::Global;
 
 /// How many bytes stand before a full stop.
-fn stop_len(bytes: &[u8]) -> usize
+pub(crate) fn stop_len(bytes: &[u8]) -> usize
     ensures value { result ≡ prefix_len is_no_stop bytes.now }
     ensures within { result ≤ length bytes.now }
 {

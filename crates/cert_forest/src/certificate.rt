@@ -3,10 +3,13 @@
 use crate::tree::{CoverTree, GapTree};
 use gap_sets::GapSet;
 use tso_machine::Label;
+use tso_program::Shown;
 
 /// What shows that a set of gaps is the answer for a program.
 #[derive(Debug, Drop)]
 pub struct Certificate {
+    /// What is shown of outcomes: what this shows is shown of them alone.
+    pub shown: Shown,
     pub set: GapSet,
     /// The set's cost.
     pub cost: u64,

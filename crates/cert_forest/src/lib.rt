@@ -11,6 +11,7 @@ mod head;
 mod laws;
 mod reader;
 mod runs;
+mod shown;
 mod tree;
 mod writer;
 

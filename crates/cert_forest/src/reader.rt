@@ -8,59 +8,19 @@ ghost use Rattle.cert_forest.specs.PartsViews.{parts_view};
 ghost use Rattle.cert_forest.specs.Exact.{GivesExactly, HasMore};
 ghost use Rattle.cert_forest.specs.declared.fault.CertFault.TheVariants.{Trailing, OutOfMemory};
 ghost use Rattle.cert_words.specs.Words.{Gives, GivesUnlessMemory, number_at};
-ghost use Rattle.cert_forest.specs.Reading.{gaps_at, set_at, cost_at, version_at, header_at, parts_at};
+ghost use Rattle.cert_forest.specs.Reading.{gaps_at, set_at, cost_at, parts_at};
 
 use crate::certificate::Certificate;
 use crate::cover_tree::cover_line;
 use crate::fault::{CertFault, fault_of};
 use crate::gap_tree::gap_line;
 use crate::runs::runs;
+use crate::shown::{head, shown_of};
 use crate::tree::{CoverTree, GapTree};
-use cert_words::{
-    Refusal, Stop, Wrong, begins_word, end, name, number, refused, refused_unless_cut,
-    refused_word, word,
-};
+use cert_words::{Refusal, Stop, Wrong, begins_word, end, name, number, refused_unless_cut};
 use gap_sets::{GapSet, MAX_GAPS};
 use std::alloc::Global;
 use tso_machine::Label;
-
-/// The second word of the first line.
-#[tactic(auto, unfolding(crate::specs::Reading::version_at))]
-fn version(bytes: &[u8]) -> Result<&[u8], Refusal>
-    ensures { Gives (λ x. x.now) result (version_at bytes.now) }
-{
-    let (word, rest) = word(bytes)?;
-    if word == b"1".as_slice() {
-        Ok(rest)
-    } else {
-        Err(refused_unless_cut(Wrong::Token, word.is_empty(), bytes, rest))
-    }
-}
-
-#[tactic(auto, unfolding(crate::specs::Reading::header_at))]
-fn first_line(bytes: &[u8]) -> Result<&[u8], Refusal>
-    ensures { Gives (λ x. x.now) result (header_at bytes.now) }
-{
-    let rest = name(b"FENCECERT", bytes)?;
-    let rest = version(rest)?;
-    end(rest)
-}
-
-/// The first line, which says what the text is.
-fn header(bytes: &[u8]) -> Result<&[u8], Refusal>
-    ensures { Gives (λ x. x.now) result (header_at bytes.now) }
-{
-    match first_line(bytes) {
-        Ok(rest) => Ok(rest),
-        Err(refusal) => {
-            if refusal.wrong == Wrong::Ended {
-                Err(refusal)
-            } else {
-                Err(refused(Wrong::Header, 0))
-            }
-        }
-    }
-}
 
 /// What is wrong with a gap that is below the least which may stand there.
 fn below_least(gap: u8, least: u8, bytes: &[u8], rest: &[u8]) -> Refusal {
@@ -145,6 +105,7 @@ fn cost(bytes: &[u8]) -> Result<(u64, &[u8]), Refusal>
 /// What was read of a certificate.
 #[derive(Debug, Drop)]
 struct Parts {
+    shown: Option<Vec<u8>>,
     gaps: Vec<u8>,
     cost: u64,
     seq_runs: Vec<Vec<Label>>,
@@ -159,7 +120,7 @@ struct Parts {
 fn read_parts(alloc: Global, bytes: &[u8]) -> Result<(Parts, &[u8]), Stop>
     ensures { GivesUnlessMemory (λ x. (parts_view x.0, x.1.now)) result (parts_at bytes.now) }
 {
-    let rest = header(bytes)?;
+    let (shown, rest) = head(alloc, bytes)?;
     let (gaps, rest) = set_line(alloc, rest)?;
     let (cost, rest) = cost(rest)?;
     let (seq_runs, rest) = runs(alloc, b"seq", rest)?;
@@ -168,6 +129,7 @@ fn read_parts(alloc: Global, bytes: &[u8]) -> Result<(Parts, &[u8]), Stop>
     let (fenced_tree, rest) = cover_line(alloc, b"fenced", rest)?;
     let (gap_tree, rest) = gap_line(alloc, rest)?;
     let parts = Parts {
+        shown,
         gaps,
         cost,
         seq_runs,
@@ -193,6 +155,7 @@ pub fn read_cert(alloc: Global, bytes: &[u8]) -> Result<Certificate, CertFault>
                 return Err(CertFault::Trailing(bytes.len().saturating_sub(rest.len())));
             }
             Ok(Certificate {
+                shown: shown_of(&parts.shown),
                 set: set_of(&parts.gaps),
                 cost: parts.cost,
                 seq_runs: parts.seq_runs,

@@ -1,14 +1,14 @@
 //! The text of a certificate.
 
-ghost use Rattle.std.specs.Prelude.{◌≡◌, ◌++◌, ◌∷◌, [], map, OnOk, IfOk, string_bytes, codes};
+ghost use Rattle.std.specs.Prelude.{◌≡◌, ◌++◌, ◌∷◌, [], Some, map, OnOk, IfOk, string_bytes, codes};
 ghost use Rattle.std.specs.Fmt.{decimal};
 ghost use Rattle.gap_sets.specs.Gaps.{gaps_in};
 ghost use Rattle.tso_machine.specs.RunTexts.{spelling};
 ghost use Rattle.cert_forest.specs.Views.{cover, gap};
 ghost use Rattle.cert_forest.specs.Trees.{covers_of, gaps_of};
-ghost use Rattle.cert_forest.specs.Certificates.{certificate, labels_of};
+ghost use Rattle.cert_forest.specs.Certificates.{certificate, shown_places, labels_of};
 ghost use Rattle.cert_words.specs.Lines.{texts_of, spaced, line};
-ghost use Rattle.cert_forest.specs.Texts.{access_word, kind_word, cover_words, covers_words, gap_words, gaps_words, run_line, runs_lines, certificate_text};
+ghost use Rattle.cert_forest.specs.Texts.{register_word, location_word, place_word, head_lines, access_word, kind_word, cover_words, covers_words, gap_words, gaps_words, run_line, runs_lines, certificate_text};
 
 use crate::certificate::Certificate;
 use crate::tree::{AccessId, CoverTree, GapTree};
@@ -16,6 +16,7 @@ use candidate_executions::Kind;
 use gap_sets::GapSet;
 use std::alloc::{AllocError, Global};
 use tso_machine::Label;
+use tso_program::{Names, Shown};
 
 fn push_access(out: &mut String, event: AccessId) -> Result<(), AllocError>
     ensures { OnOk result (string_bytes out.new ≡ string_bytes out.old ++ spaced (access_word event)) }
@@ -224,17 +225,70 @@ fn push_gap_line(out: &mut String, tree: &GapTree) -> Result<(), AllocError>
     out.push('\n')
 }
 
-/// The line that says what the text is.
-fn push_header(out: &mut String) -> Result<(), AllocError>
-    ensures { OnOk result (string_bytes out.new ≡ string_bytes out.old ++ line (codes "FENCECERT") (codes "1" ∷ [])) }
+/// A space, and `rT.R`.
+fn push_register(out: &mut String, thread: u8, register: u8) -> Result<(), AllocError>
+    ensures { OnOk result (string_bytes out.new ≡ string_bytes out.old ++ spaced (register_word thread register)) }
 {
-    out.push_str("FENCECERT 1\n")
+    write!(out, " r{thread}.{register}")
+}
+
+/// A space, and `lN`.
+fn push_location(out: &mut String, location: u8) -> Result<(), AllocError>
+    ensures { OnOk result (string_bytes out.new ≡ string_bytes out.old ++ spaced (location_word location)) }
+{
+    write!(out, " l{location}")
+}
+
+/// A space, and the word of a place.
+fn push_place(out: &mut String, place: u8) -> Result<(), AllocError>
+    ensures { OnOk result (string_bytes out.new ≡ string_bytes out.old ++ spaced (place_word place)) }
+{
+    if place < 48 {
+        push_register(out, place / 6, place % 6)
+    } else {
+        push_location(out, place - 48)
+    }
+}
+
+fn push_places(out: &mut String, names: &Names) -> Result<(), AllocError>
+    ensures { OnOk result (string_bytes out.new ≡ string_bytes out.old ++ texts_of spaced (map place_word (gaps_in names.now))) }
+{
+    for place in names.places() {
+        push_place(out, place)?;
+    }
+    Ok(())
+}
+
+/// The line that says what the text is, and that of what is shown, where not all is.
+fn push_head(out: &mut String, shown: &Shown) -> Result<(), AllocError>
+    ensures { OnOk result (string_bytes out.new ≡ string_bytes out.old ++ head_lines (shown_places shown.now)) }
+{
+    match shown {
+        Shown::All => out.push_str("FENCECERT 1\n"),
+        Shown::Only(names) => push_second(out, names),
+    }
+}
+
+/// The two lines of the second version.
+fn push_second(out: &mut String, names: &Names) -> Result<(), AllocError>
+    ensures { OnOk result (string_bytes out.new ≡ string_bytes out.old ++ head_lines (Some (gaps_in names.now))) }
+{
+    out.push_str("FENCECERT 2\n")?;
+    push_shown(out, names)
+}
+
+fn push_shown(out: &mut String, names: &Names) -> Result<(), AllocError>
+    ensures { OnOk result (string_bytes out.new ≡ string_bytes out.old ++ line (codes "shown") (map place_word (gaps_in names.now))) }
+{
+    out.push_str("shown")?;
+    push_places(out, names)?;
+    out.push('\n')
 }
 
 fn push_certificate(out: &mut String, c: &Certificate) -> Result<(), AllocError>
     ensures { OnOk result (string_bytes out.new ≡ string_bytes out.old ++ certificate_text (certificate c.now)) }
 {
-    push_header(out)?;
+    push_head(out, &c.shown)?;
     push_set(out, c.set, c.cost)?;
     push_runs(out, "seq", &c.seq_runs)?;
     push_cover_line(out, "tree", &c.seq_tree)?;

@@ -10,3 +10,4 @@ pub mod Steps
 pub mod Mapped
 pub mod Unwound
 pub mod CanonicalSigns
+pub mod NodesNamed

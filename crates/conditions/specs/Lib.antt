@@ -3,6 +3,7 @@ pub mod Grammar
 pub mod Truth
 pub mod Tokens
 pub mod Nodes
+pub mod Named
 pub mod Reads
 pub mod Laws
 pub mod Canonical

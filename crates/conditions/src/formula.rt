@@ -2,16 +2,17 @@
 ghost use Rattle.std.specs.Prelude.{◌≡◌, ◌↔◌, IfOk, IsTrue, map};
 ghost use Rattle.conditions.specs.Tokens.{sign_of};
 ghost use Rattle.conditions.specs.Truth.{truth};
+ghost use Rattle.conditions.specs.Named.{with_named};
 ghost use Rattle.conditions.specs.Reads.{Reads};
 ghost use Rattle.conditions.specs.Canonical.{signs_of, enclosed_signs_of};
 
 use crate::fault::FormulaFault;
 use crate::node::Node;
 use crate::token::Token;
-use crate::{eval, reader, writer};
+use crate::{eval, named, reader, writer};
 use std::alloc::{AllocError, Global};
 use std::marker::Model;
-use tso_program::Outcome;
+use tso_program::{Names, Outcome};
 
 /// A formula over final values. It is seen as a tree, and lies in memory as a list of plain nodes.
 #[derive(Drop)]
@@ -51,6 +52,13 @@ impl Formula {
         ensures { result ≡ truth outcome.now self.now }
     {
         eval::holds(&self.nodes, outcome)
+    }
+
+    /// These names and those of the registers and locations that the formula speaks of. Takes no memory.
+    pub fn with_named(&self, names: Names) -> Names
+        ensures { result ≡ with_named names self.now }
+    {
+        named::with_nodes(names, &self.nodes)
     }
 
     /// Whether the two are the same formula. Takes no memory.

@@ -9,6 +9,7 @@ mod eval;
 mod fault;
 mod formula;
 mod later;
+mod named;
 mod node;
 mod reader;
 mod spelling;
@@ -20,6 +21,7 @@ pub use atom::Atom;
 pub use condition::{Condition, Quantifier, holds};
 pub use fault::FormulaFault;
 pub use formula::Formula;
+pub use named::{with_location, with_register};
 pub use spelling::{
     canonical_signs_spell, canonical_signs_with_other_atoms, spell_at_most_one,
     spell_the_same_with_other_atoms,

@@ -3,6 +3,7 @@ use Rattle.std.proofs.Common.{List}
 use Rattle.gap_sets.specs.Gaps.{SetOfGaps}
 use Rattle.tso_program.specs.declared.listing.Listing.{Listing}
 use Rattle.tso_program.specs.declared.outcome.Outcome.{Outcome}
+use Rattle.tso_program.specs.Shown.{Question}
 use Rattle.tso_program.specs.Fences.{gaps_in}
 use Rattle.tso_program.proofs.Gaps.{gap_below}
 use Rattle.tso_program.specs.Limits.{JumpForward}
@@ -20,10 +21,12 @@ every_gap : (p : Listing) (gaps : SetOfGaps) (labels : List Label) → HasEveryG
 every_gap p gaps labels every none gap (t, k, number, passed) = none gap (every gap (gap_below p.threads t k gap number)) (t, k, number, passed)
 
 -- so the run is sequential with no gap fenced
-only_sequential : (p : Listing) (gaps : SetOfGaps) (o : Outcome) → JumpForward p.threads → HasEveryGapOf p gaps → IsStoreBufferOutcome p (gaps_in p gaps) o → IsSequentialOutcome p o
-only_sequential p gaps o forward every (labels, (last, r, ended, e)) =
-    nothing_passed p labels o forward (last, unfenced p (gaps_in p gaps) labels (start p) last r, ended, e) (every_gap p gaps labels every (fenced_run_passes_none p gaps labels last r))
+only_sequential : (q : Question) (gaps : SetOfGaps) (o : Outcome) → JumpForward q.program.threads → HasEveryGapOf q.program gaps →
+    IsStoreBufferOutcome q (gaps_in q.program gaps) o → IsSequentialOutcome q o
+only_sequential q gaps o forward every (labels, (whole, (last, r, ended, e), shown)) =
+    let p : Listing = q.program in
+    nothing_passed q labels o forward (whole, (last, unfenced p (gaps_in p gaps) labels (start p) last r, ended, e), shown) (every_gap p gaps labels every (fenced_run_passes_none p gaps labels last r))
 
 -- both ways
 pub all_serve : AllGapsServe
-all_serve p gaps forward every o = (only_sequential p gaps o forward every, sequential_is_allowed p (gaps_in p gaps) o)
+all_serve q gaps forward every o = (only_sequential q gaps o forward every, sequential_is_allowed q (gaps_in q.program gaps) o)

@@ -1,5 +1,5 @@
 -- The outcomes of a fenced program are those of the machine with the gaps fenced.
-use Rattle.std.proofs.Common.{◌≡◌, ℕ, ◌+◌, Bool, true, false, List, [], Option, Some, None, refl, sym, ap, ◌∙◌, subst, inl, inr, map, length}
+use Rattle.std.proofs.Common.{◌≡◌, ◌↔◌, ℕ, ◌+◌, Bool, true, false, List, [], Option, Some, None, refl, sym, ap, ◌∙◌, subst, inl, inr, map, length}
 use Rattle.std.specs.List.{range_with_len}
 use mathlib.Core.Path.{fun_ext}
 use Rattle.tso_program.specs.declared.instruction.Instr.{Instr}
@@ -10,7 +10,10 @@ use Rattle.tso_program.specs.declared.outcome.Outcome.{Outcome}
 use Rattle.tso_program.specs.Actions.{act}
 use Rattle.tso_program.specs.Listings.{action, instr_at, start_of}
 use Rattle.tso_program.specs.Fences.{Gaps, place_of, moved, fence}
-use Rattle.tso_machine.specs.Machine.{no_gaps, State, start, outcome_at, HasEnded, Allows}
+use Rattle.tso_program.specs.declared.shown.Shown.{Shown}
+use Rattle.tso_program.specs.Shown.{Question, asked}
+use Rattle.tso_machine.specs.Machine.{Mode, no_gaps, State, start, outcome_at, HasEnded, Allows}
+use Rattle.tso_machine.specs.Outcomes.{AllowsShown, fenced_at}
 use Rattle.fence_laws.specs.Laws.{FencingIsTheMachineWithGaps, FencingKeepsSequentialOutcomes}
 use Rattle.tso_program.proofs.FencedPlaces.{first_of, same_registers, same_count, instr_at_place, instr_after_fence}
 use Rattle.fence_laws.proofs.FencedActions.{placed, stops_at_none}
@@ -90,10 +93,21 @@ module _ (p : Listing) (gaps : Gaps) where
         ),
       )
 
+-- where one program's outcomes are another's, those are shown
+shown_too : (shown : Shown) (p other : Listing) (m n : Mode) (o : Outcome) → ((whole : Outcome) → Allows p m whole → Allows other n whole) →
+    AllowsShown (asked p shown) m o → AllowsShown (asked other shown) n o
+shown_too shown p other m n o also (labels, (whole, is_run, same)) = let (ls, is) = also whole (labels, is_run) in (ls, (whole, is, same))
+
+both_ways : (q : Question) (gaps : Gaps) (waits : Bool) (o : Outcome) → AllowsShown (fenced_at gaps q) (mode_with waits no_gaps) o ↔ AllowsShown q (mode_with waits gaps) o
+both_ways q gaps waits o = (
+  shown_too q.shown (fence gaps q.program) q.program (mode_with waits no_gaps) (mode_with waits gaps) o (to_program q.program gaps waits),
+  shown_too q.shown q.program (fence gaps q.program) (mode_with waits gaps) (mode_with waits no_gaps) o (to_fenced q.program gaps waits),
+)
+
 -- over store buffers
 pub fencing_is_the_machine : FencingIsTheMachineWithGaps
-fencing_is_the_machine p gaps o = (to_program p gaps true o, to_fenced p gaps true o)
+fencing_is_the_machine q gaps o = both_ways q gaps true o
 
 -- and sequentially
 pub fencing_keeps_sequential : FencingKeepsSequentialOutcomes
-fencing_keeps_sequential p gaps o = (to_program p gaps false o, to_fenced p gaps false o)
+fencing_keeps_sequential q gaps o = both_ways q gaps false o

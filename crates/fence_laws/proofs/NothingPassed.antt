@@ -27,10 +27,12 @@ no_place_passed p labels last t k forward r none = by_test (passes p (Fenced no_
 
 -- so every place may be fenced
 pub nothing_passed : ARunThatPassesNothingIsSequential
-nothing_passed p labels o forward (last, r, ended, e) none =
-    to_sequential p labels o (last, run_fenced p all labels (start p) last r (λ t k fenced. no_place_passed p labels last t k forward r none), ended, e)
+nothing_passed q labels o forward (whole, (last, r, ended, e), shown) none =
+    let p : Listing = q.program in
+    let (ls, is_run) = to_sequential p labels whole (last, run_fenced p all labels (start p) last r (λ t k fenced. no_place_passed p labels last t k forward r none), ended, e) in
+    (ls, (whole, is_run, shown))
 
 -- a run whose passed gaps are the empty set passes none
 pub empty_passed : ARunWithNothingPassedIsSequential
-empty_passed p labels o forward is_run are_passed =
-    nothing_passed p labels o forward is_run (λ gap passes. let no : false ≡ true = sym (set.contains-empty nat_cmp gap) ∙ (are_passed gap).1 passes in cc)
+empty_passed q labels o forward is_run are_passed =
+    nothing_passed q labels o forward is_run (λ gap passes. let no : false ≡ true = sym (set.contains-empty nat_cmp gap) ∙ (are_passed gap).1 passes in cc)

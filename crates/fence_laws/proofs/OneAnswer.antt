@@ -4,6 +4,7 @@ use Rattle.gap_sets.specs.Gaps.{SetOfGaps, IsGapSet}
 use Rattle.gap_sets.specs.Order.{Better}
 use Rattle.gap_sets.proofs.Orders.{decided}
 use Rattle.tso_program.specs.declared.listing.Listing.{Listing}
+use Rattle.tso_program.specs.Shown.{Question}
 use Rattle.tso_program.specs.Listings.{gap_count}
 use Rattle.tso_machine.specs.Outcomes.{AreGapsOf, LeavesOutcome, IsTheAnswer}
 use Rattle.fence_laws.specs.Laws.{TheAnswerIsTheOnlyOne}
@@ -13,16 +14,16 @@ small : (p : Listing) (s : SetOfGaps) → gap_count p.threads ≤ 64 → AreGaps
 small p s few of_program gap there = let h = of_program gap there in omega arith
 
 -- an answer is not better than another: that one would leave an outcome
-none_better : (p : Listing) (costs : List ℕ) (a b : SetOfGaps) → IsTheAnswer p costs a → IsTheAnswer p costs b → Better costs a b → ⊥
-none_better p costs a b one other better =
-    let left : LeavesOutcome p a = other.least a one.of_program better in
+none_better : (q : Question) (costs : List ℕ) (a b : SetOfGaps) → IsTheAnswer q costs a → IsTheAnswer q costs b → Better costs a b → ⊥
+none_better q costs a b one other better =
+    let left : LeavesOutcome q a = other.least a one.of_program better in
     left.foreign ((one.serves left.outcome).0 left.left)
 
 -- of two that differ one would be better
 pub one_answer : TheAnswerIsTheOnlyOne
-one_answer p costs a b within one other =
-    elim (decided costs a b (small p a within.few_gaps one.of_program) (small p b within.few_gaps other.of_program)) [
+one_answer q costs a b within one other =
+    elim (decided costs a b (small q.program a within.few_gaps one.of_program) (small q.program b within.few_gaps other.of_program)) [
       | inl same ↦ same
-      | inr (inl better) ↦ absurd (none_better p costs a b one other better)
-      | inr (inr better) ↦ absurd (none_better p costs b a other one better)
+      | inr (inl better) ↦ absurd (none_better q costs a b one other better)
+      | inr (inr better) ↦ absurd (none_better q costs b a other one better)
     ]

@@ -87,6 +87,6 @@ module _ (p : Listing) (gaps : Gaps) where
 
 -- the buffers of a sequential run stay empty, so its end is one of the other machine's
 pub sequential_is_allowed : SequentialRunsAreAllowed
-sequential_is_allowed p gaps o (labels, (last, r, ended, e)) =
-    let (js, f) = embed p gaps last labels (start p) (λ t. refl) r in
-    (js, (last, f, ended, e))
+sequential_is_allowed q gaps o (labels, (whole, (last, r, ended, e), shown)) =
+    let (js, f) = embed q.program gaps last labels (start q.program) (λ t. refl) r in
+    (js, (whole, (last, f, ended, e), shown))

@@ -4,13 +4,14 @@ use Rattle.std.specs.FinSet as set
 use Rattle.gap_sets.specs.Gaps.{SetOfGaps}
 use Rattle.tso_program.specs.declared.listing.Listing.{Listing}
 use Rattle.tso_program.specs.declared.outcome.Outcome.{Outcome}
+use Rattle.tso_program.specs.Shown.{Question}
 use Rattle.tso_program.specs.Listings.{gap_count}
 use Rattle.tso_program.specs.Limits.{JumpForward, IsWithinLimits}
-use Rattle.tso_program.specs.Fences.{Gaps, gaps_in, fence}
+use Rattle.tso_program.specs.Fences.{Gaps, gaps_in}
 use Rattle.tso_machine.specs.declared.label.Label.{Label}
 use Rattle.tso_machine.specs.Machine.{Fenced, no_gaps, start, IsRun}
 use Rattle.tso_machine.specs.Modes.{Passes, ArePassed}
-use Rattle.tso_machine.specs.Outcomes.{IsSequentialOutcome, IsStoreBufferOutcome, Serves, IsTheAnswer, Headline}
+use Rattle.tso_machine.specs.Outcomes.{IsShownRun, IsSequentialOutcome, IsStoreBufferOutcome, Serves, IsTheAnswer, fenced_at, Headline}
 
 -- each jump of a program within the limits leads forward
 abbrev pub ProgramsJumpForward : Type 0
@@ -30,7 +31,7 @@ HasEveryGapOf p gaps = (gap : ℕ) → gap < gap_count p.threads → set.contain
 
 -- each sequential outcome is a store buffer outcome, whatever gaps are fenced
 abbrev pub SequentialRunsAreAllowed : Type 0
-SequentialRunsAreAllowed = (p : Listing) (gaps : Gaps) (o : Outcome) → IsSequentialOutcome p o → IsStoreBufferOutcome p gaps o
+SequentialRunsAreAllowed = (q : Question) (gaps : Gaps) (o : Outcome) → IsSequentialOutcome q o → IsStoreBufferOutcome q gaps o
 
 -- the runs with a set fenced are those with no gap fenced that pass no gap of the set, with the same outcomes
 abbrev pub FencedRunsPassNoGapOfTheSet : Type 0
@@ -49,33 +50,33 @@ TheEmptySetFencesNothing = (p : Listing) → gaps_in p set.empty ≡ no_gaps
 
 -- a run that passes no gap has a sequential outcome
 abbrev pub ARunThatPassesNothingIsSequential : Type 0
-ARunThatPassesNothingIsSequential = (p : Listing) (labels : List Label) (o : Outcome) →
-    JumpForward p.threads → IsRun p (Fenced no_gaps) labels o → PassesNoGap p labels → IsSequentialOutcome p o
+ARunThatPassesNothingIsSequential = (q : Question) (labels : List Label) (o : Outcome) → JumpForward q.program.threads →
+    IsShownRun q (Fenced no_gaps) labels o → PassesNoGap q.program labels → IsSequentialOutcome q o
 
 -- the same of a run whose passed gaps are the empty set
 abbrev pub ARunWithNothingPassedIsSequential : Type 0
-ARunWithNothingPassedIsSequential = (p : Listing) (labels : List Label) (o : Outcome) →
-    JumpForward p.threads → IsRun p (Fenced no_gaps) labels o → ArePassed p (Fenced no_gaps) labels set.empty → IsSequentialOutcome p o
+ARunWithNothingPassedIsSequential = (q : Question) (labels : List Label) (o : Outcome) → JumpForward q.program.threads →
+    IsShownRun q (Fenced no_gaps) labels o → ArePassed q.program (Fenced no_gaps) labels set.empty → IsSequentialOutcome q o
 
 -- a set that has every gap of the program serves
 abbrev pub AllGapsServe : Type 0
-AllGapsServe = (p : Listing) (gaps : SetOfGaps) → JumpForward p.threads → HasEveryGapOf p gaps → Serves p gaps
+AllGapsServe = (q : Question) (gaps : SetOfGaps) → JumpForward q.program.threads → HasEveryGapOf q.program gaps → Serves q gaps
 
 -- the store buffer outcomes of the program with an MFENCE in each gap of the set are those of the program with the set fenced
 abbrev pub FencingIsTheMachineWithGaps : Type 0
-FencingIsTheMachineWithGaps = (p : Listing) (gaps : Gaps) (o : Outcome) →
-    IsStoreBufferOutcome (fence gaps p) no_gaps o ↔ IsStoreBufferOutcome p gaps o
+FencingIsTheMachineWithGaps = (q : Question) (gaps : Gaps) (o : Outcome) →
+    IsStoreBufferOutcome (fenced_at gaps q) no_gaps o ↔ IsStoreBufferOutcome q gaps o
 
 -- its sequential outcomes are those of the program
 abbrev pub FencingKeepsSequentialOutcomes : Type 0
-FencingKeepsSequentialOutcomes = (p : Listing) (gaps : Gaps) (o : Outcome) →
-    IsSequentialOutcome (fence gaps p) o ↔ IsSequentialOutcome p o
+FencingKeepsSequentialOutcomes = (q : Question) (gaps : Gaps) (o : Outcome) →
+    IsSequentialOutcome (fenced_at gaps q) o ↔ IsSequentialOutcome q o
 
 -- the headline, of the program fenced at the set, says that the set is the answer
 abbrev pub TheHeadlineIsTheAnswer : Type 0
-TheHeadlineIsTheAnswer = (p : Listing) (costs : List ℕ) (gaps : SetOfGaps) → Headline p costs gaps ↔ IsTheAnswer p costs gaps
+TheHeadlineIsTheAnswer = (q : Question) (costs : List ℕ) (gaps : SetOfGaps) → Headline q costs gaps ↔ IsTheAnswer q costs gaps
 
 -- two sets that are both the answer are the same set
 abbrev pub TheAnswerIsTheOnlyOne : Type 0
-TheAnswerIsTheOnlyOne = (p : Listing) (costs : List ℕ) (one other : SetOfGaps) →
-    IsWithinLimits p.threads p.memory → IsTheAnswer p costs one → IsTheAnswer p costs other → one ≡ other
+TheAnswerIsTheOnlyOne = (q : Question) (costs : List ℕ) (one other : SetOfGaps) →
+    IsWithinLimits q.program.threads q.program.memory → IsTheAnswer q costs one → IsTheAnswer q costs other → one ≡ other

@@ -4,7 +4,11 @@ use Rattle.gap_sets.specs.Gaps.{SetOfGaps}
 use Rattle.gap_sets.specs.Order.{total}
 use Rattle.tso_program.specs.declared.listing.Listing.{Listing}
 use Rattle.tso_program.specs.Listings.{gap_count}
+use Rattle.tso_program.specs.declared.shown.Shown.{Shown}
+use Rattle.tso_program.specs.declared.shown.Shown.TheVariants.{All, Only}
+use Rattle.tso_program.specs.Shown.{asked}
 use Rattle.tso_machine.specs.Outcomes.{Headline}
+use Rattle.litmus_text.specs.Shown.{shown_by}
 use Rattle.litmus_text.specs.declared.litmus.Litmus.{Litmus}
 use Rattle.litmus_text.specs.declared.fault.ReadFault.{ReadFault}
 use Rattle.litmus_text.specs.declared.fault.ReadFault.TheVariants as read_fault
@@ -36,16 +40,23 @@ pub record Spell (litmus certificate : List ℕ) (program : Litmus Listing) (cla
   pub of_program : litmus_texts.IsLitmus litmus program
   pub of_certificate : IsCertificate certificate (certificates.certificate claimed)
 
+-- What is shown of outcomes: all, or what the condition and `locations` of the litmus text name, as the certificate's version asks.
+abbrev pub handed_in : Litmus Listing → Shown → Shown
+handed_in litmus All = All
+handed_in litmus (Only names) = shown_by litmus.condition.formula litmus.observed
+
 -- What a line tells that is relied on: the litmus text stands for this program, its gaps have these costs, the headline holds of
--- these gaps, and the line is made of them and of their total.
+-- these gaps, as far as outcomes are shown, and the line is made of them and of their total.
 pub record Tells (litmus : List ℕ) (costs : Option (List ℕ)) (line : List ℕ) : Type 0 where
   pub program : Litmus Listing
   pub of_text : litmus_texts.IsLitmus litmus program
   pub gap_costs : List ℕ
   pub given : AreCosts program.program costs gap_costs
+  pub shown : Shown
+  pub as_asked : handed_in program shown ≡ shown
   pub gaps : SetOfGaps
-  pub headline : Headline program.program gap_costs gaps
-  pub printed : line ≡ accepted_line program.program gaps (total gap_costs gaps)
+  pub headline : Headline (asked program.program shown) gap_costs gaps
+  pub printed : line ≡ accepted_line program.program shown gaps (total gap_costs gaps)
 
 -- The line accepts: it tells that, and the certificate's text is that of a certificate which claims these gaps and is valid.
 pub record IsAccepted (litmus certificate : List ℕ) (costs : Option (List ℕ)) (line : List ℕ) : Type 0 where
@@ -53,7 +64,7 @@ pub record IsAccepted (litmus certificate : List ℕ) (costs : Option (List ℕ)
   pub claimed : Certificate
   pub of_certificate : IsCertificate certificate (certificates.certificate claimed)
   pub claims : claimed.set ≡ told.gaps
-  pub valid : IsValidCertificate told.program.program told.gap_costs (claim_of claimed)
+  pub valid : IsValidCertificate (asked told.program.program told.shown) told.gap_costs (claim_of claimed)
 
 -- why bytes are no litmus text: what the fault says of them, and that they are none, want of memory aside
 pub record IsNoLitmus (text : List ℕ) (fault : ReadFault) : Type 0 where
@@ -79,7 +90,7 @@ IsRefused litmus certificate costs (refusal.Costs fault) =
     (program : Litmus Listing) × (claimed : Certificate) × Spell litmus certificate program claimed × AreNoCosts program.program costs fault
 IsRefused litmus certificate costs (refusal.Check fault) =
     (program : Litmus Listing) × (claimed : Certificate) × (gap_costs : List ℕ) × Spell litmus certificate program claimed
-    × AreCosts program.program costs gap_costs × FaultIs program.program gap_costs (claim_of claimed) fault
+    × AreCosts program.program costs gap_costs × FaultIs (asked program.program (handed_in program claimed.shown)) gap_costs (claim_of claimed) fault
 
 -- the line of a refusal
 abbrev pub refusal_line : Refusal → List ℕ

@@ -3,22 +3,23 @@
 ghost use Rattle.std.specs.Prelude.{◌≡◌, IfOk, IfErr, IsOkUnless, OnOk, option_map, replicate};
 ghost use Rattle.gap_sets.specs.Order.{total};
 ghost use Rattle.tso_program.specs.Listings.{gap_count};
+ghost use Rattle.tso_program.specs.Shown.{asked};
 ghost use Rattle.tso_machine.specs.Outcomes.{Headline};
 ghost use Rattle.tree_laws.specs.Certificates.{IsValidCertificate};
 ghost use Rattle.cert_check.specs.Claims.{claim_of};
 ghost use Rattle.cert_check.specs.Faults.{FaultIs};
 ghost use Rattle.report_check.specs.Lines.{accepted_line};
-ghost use Rattle.fencecheck.specs.Verdicts.{AreCosts, AreNoCosts, IsAccepted, IsRefused, refusal_line};
+ghost use Rattle.fencecheck.specs.Verdicts.{handed_in, AreCosts, AreNoCosts, IsAccepted, IsRefused, refusal_line};
 
 use cert_check::{CheckFault, check};
 use cert_forest::{CertFault, Certificate, read_cert};
 use cost_text::{CostTextFault, read_costs};
 use gap_sets::Costs;
-use litmus_text::{ReadFault, read_litmus};
+use litmus_text::{Litmus, ReadFault, read_litmus};
 use report::{costs_line, litmus_line};
 use report_check::{accepted_line, certificate_line, check_line};
 use std::alloc::{AllocError, Global};
-use tso_program::Program;
+use tso_program::{Program, Shown};
 
 /// Why a certificate isn't accepted.
 #[derive(Debug, Drop)]
@@ -74,20 +75,31 @@ fn costs_of(alloc: Global, program: &Program, text: Option<Vec<u8>>) -> Result<C
     }
 }
 
+/// What is shown of outcomes: all, or what the litmus text names, as the certificate's version asks.
+fn handed_in(litmus: &Litmus<Program>, claimed: &Shown) -> Shown
+    ensures { result ≡ handed_in litmus.now claimed.now }
+{
+    match claimed {
+        Shown::All => Shown::All,
+        Shown::Only(_) => litmus.shown(),
+    }
+}
+
 /// The line of a certificate that the checker accepts, or why it doesn't.
 fn checked_line(
     alloc: Global,
     program: &Program,
+    shown: &Shown,
     costs: &Costs,
     certificate: &Certificate,
 ) -> Result<Vec<u8>, CheckFault>
-    ensures headline { OnOk result (Headline program.now costs.now certificate.now.set) }
-    ensures valid { OnOk result (IsValidCertificate program.now costs.now (claim_of certificate.now)) }
-    ensures line { IfOk result (λ line. line.items ≡ accepted_line program.now certificate.now.set (total costs.now certificate.now.set)) }
-    ensures refused { IfErr result (FaultIs program.now costs.now (claim_of certificate.now)) }
+    ensures headline { OnOk result (Headline (asked program.now shown.now) costs.now certificate.now.set) }
+    ensures valid { OnOk result (IsValidCertificate (asked program.now shown.now) costs.now (claim_of certificate.now)) }
+    ensures line { IfOk result (λ line. line.items ≡ accepted_line program.now shown.now certificate.now.set (total costs.now certificate.now.set)) }
+    ensures refused { IfErr result (FaultIs (asked program.now shown.now) costs.now (claim_of certificate.now)) }
 {
-    let accepted = check(alloc, program, costs, certificate)?;
-    match accepted_line(alloc, program, accepted.set, accepted.cost) {
+    let accepted = check(alloc, program, shown, costs, certificate)?;
+    match accepted_line(alloc, program, shown, accepted.set, accepted.cost) {
         Ok(line) => Ok(line),
         Err(_) => Err(CheckFault::OutOfMemory),
     }
@@ -116,7 +128,8 @@ pub fn judge(
         Ok(costs) => costs,
         Err(fault) => return Err(Refusal::Costs(fault)),
     };
-    match checked_line(alloc, &litmus.program, &costs, &certificate) {
+    let shown = handed_in(&litmus, &certificate.shown);
+    match checked_line(alloc, &litmus.program, &shown, &costs, &certificate) {
         Ok(line) => Ok(line),
         Err(fault) => Err(Refusal::Check(fault)),
     }

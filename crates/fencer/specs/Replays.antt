@@ -25,6 +25,7 @@ use Rattle.program_streams.specs.declared.files.TheConstants.{TEXT_LIMIT}
 use Rattle.program_streams.specs.Files.{AreOfFile, IsFileFault}
 use Rattle.program_streams.specs.Streams.{IsReadFault, TakesLine, TakesOfLine}
 use Rattle.program_streams.specs.Words.{words_of}
+use Rattle.tso_program.specs.declared.shown.Shown.TheVariants.{All}
 use Rattle.report.specs.Answers.{outcome_line, passed_line}
 use Rattle.report.specs.Faults.{file_line, litmus_line, replay_line, run_line}
 use Rattle.fencer_words.specs.declared.words.Job.{Job}
@@ -46,7 +47,7 @@ pub record PrintsRun (bytes : List ℕ) (model : Model) (labels : List ℕ) (lin
   pub run : IsRun litmus.program (unfenced litmus.program model) steps outcome
   pub passed : SetOfGaps
   pub passes : ArePassed litmus.program (unfenced litmus.program model) steps passed
-  pub printed : lines ≡ outcome_line litmus.names outcome ++ passed_line litmus.program passed
+  pub printed : lines ≡ outcome_line litmus.names All outcome ++ passed_line litmus.program passed
 
 -- label words as one text, each behind a space
 abbrev pub run_text : {Z : Type 0} → List (String Z) → List ℕ

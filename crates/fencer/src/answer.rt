@@ -10,7 +10,7 @@ use litmus_text::{Litmus, ReadFault, read_litmus};
 use report::{litmus_line, outcome_line, passed_line, replay_line, run_line};
 use std::alloc::{AllocError, Global};
 use tso_machine::{Ended, Label, Model, ReplayFault, RunFault, read_run, replay};
-use tso_program::Program;
+use tso_program::{Program, Shown};
 
 /// Why a text and labels have no replay.
 #[derive(Clone, Copy, PartialEq, Eq, Debug)]
@@ -63,9 +63,9 @@ fn ended_lines(
     litmus: &Litmus<Program>,
     ended: &Ended,
 ) -> Result<Vec<u8>, AllocError>
-    ensures { IfOk result (λ lines. lines.items ≡ outcome_line litmus.now.names ended.now.outcome ++ passed_line litmus.now.program ended.now.passed) }
+    ensures { IfOk result (λ lines. lines.items ≡ outcome_line litmus.now.names Shown.All ended.now.outcome ++ passed_line litmus.now.program ended.now.passed) }
 {
-    let mut lines = outcome_line(alloc, &litmus.names, &ended.outcome)?;
+    let mut lines = outcome_line(alloc, &litmus.names, &Shown::All, &ended.outcome)?;
     let passed = passed_line(alloc, &litmus.program, &ended.passed)?;
     lines.extend_from_slice(&passed)?;
     Ok(lines)

@@ -5,6 +5,7 @@ pub mod Meaning
 pub mod Faults
 pub mod Texts
 pub mod Outcomes
+pub mod Shown
 pub mod Filling
 pub mod Reading
 pub mod Laws

@@ -14,6 +14,7 @@ mod observed;
 mod outcome;
 mod program;
 mod reader;
+mod shown;
 
 pub use conditions::{Condition, holds};
 pub use fault::ReadFault;

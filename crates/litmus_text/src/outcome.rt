@@ -2,11 +2,11 @@
 ghost use Rattle.std.specs.Prelude.{◌≡◌, ◌++◌, [], IfOk, OnOk, length, slice_index_or};
 ghost use Rattle.std.specs.List.{join_with_byte};
 ghost use Rattle.litmus_text.specs.Filling.{texts};
-ghost use Rattle.litmus_text.specs.Outcomes.{register_name, register_item, location_item, named_item, thread_items, register_items, location_items, outcome_text};
+ghost use Rattle.litmus_text.specs.Outcomes.{register_name, register_item, location_item, named_item, thread_items, register_items, shown_item, location_items, outcome_text};
 
 use crate::names::NameTable;
 use std::alloc::{AllocError, Global};
-use tso_program::{Outcome, Reg};
+use tso_program::{Outcome, Reg, Shown};
 
 /// The register's name, in capitals.
 fn register_name(register: Reg) -> &'static str
@@ -56,18 +56,19 @@ fn location_item(alloc: Global, name: &[u8], value: u32) -> Result<Vec<u8>, Allo
     Ok(item)
 }
 
-/// The register with its value, if it is named.
+/// The register with its value, if it is shown and named.
 fn push_named(
     alloc: Global,
     items: &mut Vec<Vec<u8>>,
     names: &NameTable,
+    shown: &Shown,
     thread: usize,
     values: [u32; 6],
     register: Reg,
 ) -> Result<(), AllocError>
-    ensures { OnOk result (texts items.new.items ≡ texts items.old.items ++ named_item names.now thread values register) }
+    ensures { OnOk result (texts items.new.items ≡ texts items.old.items ++ named_item names.now shown.now thread values register) }
 {
-    if names.is_named(thread, register) {
+    if shown.shows_register(thread, register.index()) && names.is_named(thread, register) {
         let value = values[register.index()];
         items.push(register_item(alloc, thread, register, value)?)?;
     }
@@ -79,13 +80,14 @@ fn push_thread(
     alloc: Global,
     items: &mut Vec<Vec<u8>>,
     names: &NameTable,
+    shown: &Shown,
     thread: usize,
     values: [u32; 6],
 ) -> Result<(), AllocError>
-    ensures { OnOk result (texts items.new.items ≡ texts items.old.items ++ thread_items names.now thread values) }
+    ensures { OnOk result (texts items.new.items ≡ texts items.old.items ++ thread_items names.now shown.now thread values) }
 {
     for register in Reg::ALL {
-        push_named(alloc, items, names, thread, values, register)?;
+        push_named(alloc, items, names, shown, thread, values, register)?;
     }
     Ok(())
 }
@@ -94,12 +96,30 @@ fn push_threads(
     alloc: Global,
     items: &mut Vec<Vec<u8>>,
     names: &NameTable,
+    shown: &Shown,
     registers: &[[u32; 6]],
 ) -> Result<(), AllocError>
-    ensures { OnOk result (texts items.new.items ≡ texts items.old.items ++ register_items names.now registers.now (length registers.now)) }
+    ensures { OnOk result (texts items.new.items ≡ texts items.old.items ++ register_items names.now shown.now registers.now (length registers.now)) }
 {
     for (thread, values) in registers.iter().enumerate() {
-        push_thread(alloc, items, names, thread, *values)?;
+        push_thread(alloc, items, names, shown, thread, *values)?;
+    }
+    Ok(())
+}
+
+/// The location with its value, if it is shown.
+fn push_location(
+    alloc: Global,
+    items: &mut Vec<Vec<u8>>,
+    names: &NameTable,
+    shown: &Shown,
+    location: usize,
+    value: u32,
+) -> Result<(), AllocError>
+    ensures { OnOk result (texts items.new.items ≡ texts items.old.items ++ shown_item names.now shown.now location value) }
+{
+    if shown.shows_location(location) {
+        items.push(location_item(alloc, name_at(names, location), value)?)?;
     }
     Ok(())
 }
@@ -108,12 +128,13 @@ fn push_locations(
     alloc: Global,
     items: &mut Vec<Vec<u8>>,
     names: &NameTable,
+    shown: &Shown,
     memory: &[u32],
 ) -> Result<(), AllocError>
-    ensures { OnOk result (texts items.new.items ≡ texts items.old.items ++ location_items names.now memory.now (length memory.now)) }
+    ensures { OnOk result (texts items.new.items ≡ texts items.old.items ++ location_items names.now shown.now memory.now (length memory.now)) }
 {
     for (location, value) in memory.iter().enumerate() {
-        items.push(location_item(alloc, name_at(names, location), *value)?)?;
+        push_location(alloc, items, names, shown, location, *value)?;
     }
     Ok(())
 }
@@ -132,17 +153,24 @@ fn join(alloc: Global, items: &[Vec<u8>]) -> Result<Vec<u8>, AllocError>
     Ok(text)
 }
 
-/// An outcome as it is printed: `t:REG=n;` for each named register by thread and register order, then `x=n;` for each
+/// An outcome as it is printed, as far as it is shown: `t:REG=n;` for each named register by thread and register order, then `x=n;` for each
 /// location by number, with one space between two of them.
 pub fn write_outcome(
     alloc: Global,
     names: &NameTable,
+    shown: &Shown,
     outcome: &Outcome,
 ) -> Result<Vec<u8>, AllocError>
-    ensures { IfOk result (λ text. text.items ≡ outcome_text names.now outcome.now) }
+    ensures { IfOk result (λ text. text.items ≡ outcome_text names.now shown.now outcome.now) }
 {
     let mut items = Vec::new(alloc);
-    push_threads(alloc, &mut items, names, outcome.registers.as_slice())?;
-    push_locations(alloc, &mut items, names, outcome.memory.as_slice())?;
+    push_threads(
+        alloc,
+        &mut items,
+        names,
+        shown,
+        outcome.registers.as_slice(),
+    )?;
+    push_locations(alloc, &mut items, names, shown, outcome.memory.as_slice())?;
     join(alloc, items.as_slice())
 }

@@ -7,7 +7,7 @@ use crate::{candidates, machine};
 use exec_axioms::Mode;
 use litmus_text::{Litmus, NameTable, read_litmus, write_outcome};
 use std::alloc::{AllocError, Global};
-use tso_program::{Outcome, Program};
+use tso_program::{Outcome, Program, Shown};
 
 /// A list's heading and a line for each outcome.
 fn push_list(
@@ -20,7 +20,7 @@ fn push_list(
     printed.extend_from_slice(heading)?;
     for outcome in list {
         printed.extend_from_slice(b"outcome: ")?;
-        printed.extend_from_slice(&write_outcome(alloc, names, outcome)?)?;
+        printed.extend_from_slice(&write_outcome(alloc, names, &Shown::All, outcome)?)?;
         printed.extend_from_slice(b"\n")?;
     }
     Ok(())

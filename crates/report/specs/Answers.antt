@@ -3,6 +3,7 @@ use Rattle.std.specs.Prelude.{ℕ, List, [], ◌∷◌, ◌++◌, codes}
 use Rattle.gap_sets.specs.Gaps.{SetOfGaps}
 use Rattle.tso_program.specs.declared.listing.Listing.{Listing}
 use Rattle.tso_program.specs.declared.outcome.Outcome.{Outcome}
+use Rattle.tso_program.specs.declared.shown.Shown.{Shown}
 use Rattle.litmus_text.specs.Names.{Names}
 use Rattle.litmus_text.specs.Outcomes.{outcome_text}
 use Rattle.report.specs.Places.{gaps_text}
@@ -12,8 +13,8 @@ abbrev pub spaced : List ℕ → List ℕ
 spaced [] = []
 spaced (b ∷ bs) = 32 ∷ b ∷ bs
 
-abbrev pub outcome_line : Names → Outcome → List ℕ
-outcome_line names outcome = codes "outcome:" ++ spaced (outcome_text names outcome) ++ 10 ∷ []
+abbrev pub outcome_line : Names → Shown → Outcome → List ℕ
+outcome_line names shown outcome = codes "outcome:" ++ spaced (outcome_text names shown outcome) ++ 10 ∷ []
 
 -- the gaps by their places, ascending
 abbrev pub passed_line : Listing → SetOfGaps → List ℕ

@@ -7,17 +7,19 @@ use crate::places::push_gaps;
 use gap_sets::GapSet;
 use litmus_text::{NameTable, write_outcome};
 use std::alloc::{AllocError, Global};
-use tso_program::{Outcome, Program};
+use tso_program::{Outcome, Program, Shown};
 
-/// What a run leaves in the registers that the litmus text names and in all locations.
+/// What a run leaves in the registers that the litmus text names and in all locations, as far as it is
+/// shown.
 pub fn outcome_line(
     alloc: Global,
     names: &NameTable,
+    shown: &Shown,
     outcome: &Outcome,
 ) -> Result<Vec<u8>, AllocError>
-    ensures { IfOk result (λ line. line.items ≡ outcome_line names.now outcome.now) }
+    ensures { IfOk result (λ line. line.items ≡ outcome_line names.now shown.now outcome.now) }
 {
-    let items = write_outcome(alloc, names, outcome)?;
+    let items = write_outcome(alloc, names, shown, outcome)?;
     let mut line = Vec::from_slice(alloc, b"outcome:")?;
     if !items.is_empty() {
         line.push(b' ')?;

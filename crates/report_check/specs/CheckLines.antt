@@ -19,3 +19,4 @@ check_line (check.NotForeign run) = refused_at (codes "check 6 NotForeign") run
 check_line (check.FencedTree path) = refused_node (codes "check 7 FencedTree") path
 check_line (check.GapTree path) = refused_node (codes "check 8 GapTree") path
 check_line check.OutOfMemory = refused (codes "check 9 OutOfMemory")
+check_line check.Shown = refused (codes "check 10 Shown")

@@ -21,6 +21,7 @@ pub fn check_line(alloc: Global, fault: &CheckFault) -> Result<Vec<u8>, AllocErr
         CheckFault::FencedTree(path) => refused_node(alloc, "check 7 FencedTree", path),
         CheckFault::GapTree(path) => refused_node(alloc, "check 8 GapTree", path),
         CheckFault::OutOfMemory => Vec::from_slice(alloc, b"refused check 9 OutOfMemory\n"),
+        CheckFault::Shown => Vec::from_slice(alloc, b"refused check 10 Shown\n"),
     }
 }
 

@@ -3,7 +3,7 @@ use exec_axioms::{Event, Kind, Mode, Sketch, SketchFault};
 use gap_sets::GapSet;
 use std::alloc::{AllocError, Global};
 use std::test::Fail;
-use tso_program::{Instr, Items, Outcome, Program, Reg, Thread};
+use tso_program::{Instr, Items, Outcome, Program, Reg, Shown, Thread};
 
 fn thread(alloc: Global, code: &[Instr]) -> Result<Thread, AllocError> {
     Ok(Thread {
@@ -154,8 +154,8 @@ fn fences_make_it_so(rt: HostRuntime) -> Result<(), Fail> {
 fn it_ends_as_its_writes(rt: HostRuntime) -> Result<(), Fail> {
     let alloc = rt.alloc();
     let sketch = both_zero(alloc, Mode::Fenced(GapSet::empty()))?;
-    assert!(rt; sketch.must_end_as(&zeros_with(alloc, &[1, 1])?));
-    assert!(rt; !sketch.must_end_as(&zeros_with(alloc, &[1, 0])?));
+    assert!(rt; sketch.must_end_as(&Shown::All, &zeros_with(alloc, &[1, 1])?));
+    assert!(rt; !sketch.must_end_as(&Shown::All, &zeros_with(alloc, &[1, 0])?));
     Ok(())
 }
 
@@ -201,7 +201,7 @@ fn writes_are_put_in_order(rt: HostRuntime) -> Result<(), Fail> {
     assert!(rt; sketch.before(first, second) && !sketch.before(second, first));
     assert!(rt; sketch.choose_order(first, second) == Err(SketchFault::AlreadyChosen));
     assert!(rt; sketch.choose_order(second, first) == Err(SketchFault::AlreadyChosen));
-    assert!(rt; sketch.must_end_as(&zeros_with(alloc, &[2])?));
-    assert!(rt; !sketch.must_end_as(&zeros_with(alloc, &[1])?));
+    assert!(rt; sketch.must_end_as(&Shown::All, &zeros_with(alloc, &[2])?));
+    assert!(rt; !sketch.must_end_as(&Shown::All, &zeros_with(alloc, &[1])?));
     Ok(())
 }

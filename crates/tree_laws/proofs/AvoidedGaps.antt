@@ -5,6 +5,7 @@ use Rattle.std.specs.FinSet as set
 use Rattle.gap_sets.specs.Gaps.{SetOfGaps}
 use Rattle.tso_program.specs.declared.listing.Listing.{Listing}
 use Rattle.tso_program.specs.declared.outcome.Outcome.{Outcome}
+use Rattle.tso_program.specs.Shown.{Question}
 use Rattle.tso_program.specs.Listings.{gap_number}
 use Rattle.tso_program.specs.Fences.{gaps_in}
 use Rattle.tso_machine.specs.declared.label.Label.{Label}
@@ -29,11 +30,12 @@ module _ (p : Listing) (gaps : SetOfGaps) (labels : List Label) where
       by_number None e h = absurd cc
       by_number (Some gap) e h = by_test gap e h (passes p (Fenced no_gaps) (start p) labels t k) refl
 
-  pub leaves_outcome : (o : Outcome) → IsForeignRun p labels o → Avoids → LeavesOutcome p gaps
-  leaves_outcome o f avoids =
-      let (last, runs, ended, e) = f.is_run in
-      record {
-        outcome = o;
-        left = (labels, (last, run_fenced p (gaps_in p gaps) labels (start p) last runs (not_passed avoids), ended, e));
-        foreign = f.foreign;
-      }
+pub leaves_outcome : (q : Question) (gaps : SetOfGaps) (labels : List Label) (o : Outcome) → IsForeignRun q labels o → Avoids q.program gaps labels → LeavesOutcome q gaps
+leaves_outcome q gaps labels o f avoids =
+    let (whole, (last, runs, ended, e), shown) = f.is_run in
+    let p : Listing = q.program in
+    record {
+      outcome = o;
+      left = (labels, (whole, (last, run_fenced p (gaps_in p gaps) labels (start p) last runs (not_passed p gaps labels avoids), ended, e), shown));
+      foreign = f.foreign;
+    }

@@ -1,7 +1,7 @@
 -- The headline holds of the set of a valid certificate.
 use Rattle.std.proofs.Common.{ℕ, ◌≤◌, List, All}
 use Rattle.std.proofs.lemmas.List.Elements.{All-weaker}
-use Rattle.tso_program.specs.declared.listing.Listing.{Listing}
+use Rattle.tso_program.specs.Shown.{Question}
 use Rattle.tso_program.specs.declared.outcome.Outcome.{Outcome}
 use Rattle.tso_program.specs.Limits.{IsWithinLimits}
 use Rattle.tso_machine.specs.declared.label.Label.{Label}
@@ -14,25 +14,25 @@ use Rattle.tree_laws.proofs.ListedOutcomes.{sequential_list, fenced_tree_serves}
 use Rattle.tree_laws.proofs.NoBetterLeft.{no_better_left, root_has_every_set}
 
 -- what is outside of the list of sequential outcomes is foreign
-outside_is_foreign : (p : Listing) (outcomes : List Outcome) (labels : List Label) → IsSequentialList p outcomes → IsRunOutside p outcomes labels → IsForeign p labels
-outside_is_foreign p outcomes labels list (o, is_run, outside) = (o, record { is_run = is_run; foreign = λ sequential. outside ((list o).1 sequential) })
+outside_is_foreign : (q : Question) (outcomes : List Outcome) (labels : List Label) → IsSequentialList q outcomes → IsRunOutside q outcomes labels → IsForeign q labels
+outside_is_foreign q outcomes labels list (o, is_run, outside) = (o, record { is_run = is_run; foreign = λ sequential. outside ((list o).1 sequential) })
 
-module _ (p : Listing) (costs : List ℕ) (c : Certificate) (within : IsWithinLimits p.threads p.memory) (positive : All (λ cost. 1 ≤ cost) costs) (valid : IsValidCertificate p costs c) where
-  list : IsSequentialList p valid.outcomes
-  list = sequential_list p c.seq_runs valid.outcomes c.seq_tree within.shared.forward_jumps valid.replayed valid.sequential
+module _ (q : Question) (costs : List ℕ) (c : Certificate) (within : IsWithinLimits q.program.threads q.program.memory) (positive : All (λ cost. 1 ≤ cost) costs) (valid : IsValidCertificate q costs c) where
+  list : IsSequentialList q valid.outcomes
+  list = sequential_list q c.seq_runs valid.outcomes c.seq_tree within.shared.forward_jumps valid.replayed valid.sequential
 
-  foreign : All (IsForeign p) c.runs
-  foreign = All-weaker (IsRunOutside p valid.outcomes) (IsForeign p) (λ labels. outside_is_foreign p valid.outcomes labels list) c.runs valid.foreign
+  foreign : All (IsForeign q) c.runs
+  foreign = All-weaker (IsRunOutside q valid.outcomes) (IsForeign q) (λ labels. outside_is_foreign q valid.outcomes labels list) c.runs valid.foreign
 
-  is_answer : IsTheAnswer p costs c.gaps
+  is_answer : IsTheAnswer q costs c.gaps
   is_answer = record {
     of_program = valid.of_program;
-    serves = fenced_tree_serves p c.gaps valid.outcomes c.fenced_tree within.shared.forward_jumps list valid.fenced;
-    least = root_has_every_set p costs c.gaps
-        (no_better_left p costs c.gaps c.runs c.gap_tree root within (record { one_each = valid.one_cost_each; positive = positive }) foreign valid.least);
+    serves = fenced_tree_serves q c.gaps valid.outcomes c.fenced_tree within.shared.forward_jumps list valid.fenced;
+    least = root_has_every_set q costs c.gaps
+        (no_better_left q costs c.gaps c.runs c.gap_tree root within (record { one_each = valid.one_cost_each; positive = positive }) foreign valid.least);
   }
 
 pub certificate_proves : AValidCertificateProves
-certificate_proves p costs c within positive valid =
-    let answer : IsTheAnswer p costs c.gaps = is_answer p costs c within positive valid in
-    record { headline = (headline_is_the_answer p costs c.gaps).1 answer; answer = answer }
+certificate_proves q costs c within positive valid =
+    let answer : IsTheAnswer q costs c.gaps = is_answer q costs c within positive valid in
+    record { headline = (headline_is_the_answer q costs c.gaps).1 answer; answer = answer }

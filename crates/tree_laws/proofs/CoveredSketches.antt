@@ -2,6 +2,7 @@
 use Rattle.std.proofs.Common.{ℕ, List, [], ◌∷◌, Contains, map, sym, subst, inl, inr}
 use Rattle.tso_program.specs.declared.listing.Listing.{Listing}
 use Rattle.tso_program.specs.declared.outcome.Outcome.{Outcome}
+use Rattle.tso_program.specs.Shown.{Question}
 use Rattle.tso_program.specs.Limits.{JumpForward}
 use Rattle.tso_machine.specs.Machine.{Mode, Sequential, Fenced}
 use Rattle.candidate_executions.specs.declared.event.Event.{Event}
@@ -34,9 +35,12 @@ of_other p mode k j c is completes = record { is_candidate = is.is_candidate; co
 turned : (p : Listing) (mode : Mode) (k : Sketch) (d e : Event) → IsPair p mode k d e → IsPair p mode k e d
 turned p mode k d e (differ, (l, v, w, first, second, not_first, not_second)) = ((λ q. differ (sym q)), (l, w, v, second, first, not_second, not_first))
 
-module _ (p : Listing) (mode : Mode) (outcomes : List Outcome) (forward : JumpForward p.threads) where
+module _ (q : Question) (mode : Mode) (outcomes : List Outcome) (forward : JumpForward q.program.threads) where
+  abbrev p : Listing
+  p = q.program
+
   abbrev Covered : Sketch → Type 0
-  Covered k = IsSketch p mode k → IsCovered p mode outcomes k
+  Covered k = IsSketch p mode k → IsCovered q mode outcomes k
 
   -- each of the sketches is
   abbrev EachCovered : List Sketch → Type 0
@@ -66,11 +70,11 @@ module _ (p : Listing) (mode : Mode) (outcomes : List Outcome) (forward : JumpFo
   by_cycle k kind es known fits c is =
       absurd (no_cycle p mode c kind known.of_mode is.consistent es (known_cycle_is_a_cycle p mode k c kind es fits is.is_candidate is.completes known.cycle))
 
-  by_outcome : (k : Sketch) (number : ℕ) → MustEndAsNumber p mode outcomes k number → Covered k
+  by_outcome : (k : Sketch) (number : ℕ) → MustEndAsNumber q mode outcomes k number → Covered k
   by_outcome k number must fits c is = (
     must.outcome,
     found_is_here outcomes number must.outcome must.is_outcome,
-    each_ends_so p mode k c must.outcome forward fits is.is_candidate is.completes must.must_end,
+    each_ends_so q mode k c must.outcome forward fits is.is_candidate is.completes must.must_end,
   )
 
   -- the first of the sketches is covered, and each of the others
@@ -78,7 +82,7 @@ module _ (p : Listing) (mode : Mode) (outcomes : List Outcome) (forward : JumpFo
   one_more k ks first later j here = elim (first_or_later k ks j here) [ inl e ↦ subst Covered e first | inr there ↦ later j there ]
 
   mutual
-    covered : (tree : Cover) (k : Sketch) → IsValidCover p mode outcomes tree k → Covered k
+    covered : (tree : Cover) (k : Sketch) → IsValidCover q mode outcomes tree k → Covered k
     covered (Value t children) k (values, has, valid) = by_values k t values has (each_covered children (map (with_value k t) values) valid)
     covered (Source read children) k (sources, has, valid) =
         by_sources k (event_of read) sources has (each_covered children (map (with_source k (event_of read)) sources) valid)
@@ -89,11 +93,11 @@ module _ (p : Listing) (mode : Mode) (outcomes : List Outcome) (forward : JumpFo
     covered (Cycle kind events) k known = by_cycle k kind (map event_of events) known
     covered (Known number) k must = by_outcome k number must
 
-    each_covered : (trees : Covers) (ks : List Sketch) → AreValidCovers p mode outcomes trees ks → EachCovered ks
+    each_covered : (trees : Covers) (ks : List Sketch) → AreValidCovers q mode outcomes trees ks → EachCovered ks
     each_covered NoCover [] valid = λ j here. absurd (none_here j here)
     each_covered NoCover (k ∷ ks) valid = absurd valid
     each_covered (MoreCovers tree trees) [] valid = absurd valid
     each_covered (MoreCovers tree trees) (k ∷ ks) (now, later) = one_more k ks (covered tree k now) (each_covered trees ks later)
 
 pub valid_covers : AValidCoverCovers
-valid_covers p mode outcomes tree k forward fits valid = covered p mode outcomes forward tree k valid fits
+valid_covers q mode outcomes tree k forward fits valid = covered q mode outcomes forward tree k valid fits

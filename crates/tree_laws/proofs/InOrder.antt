@@ -3,11 +3,11 @@ use Rattle.std.proofs.Common.{[], ◌∷◌}
 use Rattle.tree_laws.specs.Laws.{CoversAreJudgedInOrder, GapsAreJudgedInOrder}
 
 pub covers_in_order : CoversAreJudgedInOrder
-covers_in_order p mode outcomes [] [] = ((λ valid. valid), (λ each. each))
-covers_in_order p mode outcomes [] (k ∷ ks) = ((λ valid. absurd valid), (λ each. absurd each))
-covers_in_order p mode outcomes (tree ∷ trees) [] = ((λ valid. absurd valid), (λ each. absurd each))
-covers_in_order p mode outcomes (tree ∷ trees) (k ∷ ks) =
-    let others = covers_in_order p mode outcomes trees ks in
+covers_in_order q mode outcomes [] [] = ((λ valid. valid), (λ each. each))
+covers_in_order q mode outcomes [] (k ∷ ks) = ((λ valid. absurd valid), (λ each. absurd each))
+covers_in_order q mode outcomes (tree ∷ trees) [] = ((λ valid. absurd valid), (λ each. absurd each))
+covers_in_order q mode outcomes (tree ∷ trees) (k ∷ ks) =
+    let others = covers_in_order q mode outcomes trees ks in
     ((λ valid. (valid.0, others.0 valid.1)), (λ each. (each.0, others.1 each.1)))
 
 pub gaps_in_order : GapsAreJudgedInOrder

@@ -1,12 +1,13 @@
 -- Where the empty sketch is covered the list has every outcome of the machine.
-use Rattle.std.proofs.Common.{List, [], ◌∷◌, Contains, subst, inl, inr}
-use Rattle.tso_program.specs.declared.listing.Listing.{Listing}
+use Rattle.std.proofs.Common.{List, [], ◌∷◌, Contains, sym, ap, ◌∙◌, subst, inl, inr, ◌≡◌}
 use Rattle.tso_program.specs.declared.outcome.Outcome.{Outcome}
+use Rattle.tso_program.specs.Shown.{Question, show}
+use Rattle.tso_program.proofs.Kept.{shown_twice}
 use Rattle.tso_program.specs.Fences.{gaps_in}
 use Rattle.tso_program.specs.Limits.{JumpForward}
 use Rattle.tso_machine.specs.declared.label.Label.{Label}
-use Rattle.tso_machine.specs.Machine.{Mode, Sequential, Fenced, IsRun}
-use Rattle.tso_machine.specs.Outcomes.{IsSequentialOutcome}
+use Rattle.tso_machine.specs.Machine.{Mode, Sequential, Fenced}
+use Rattle.tso_machine.specs.Outcomes.{IsShownRun, AllowsShown, IsSequentialOutcome}
 use Rattle.candidate_executions.specs.Sketches.{empty_sketch}
 use Rattle.candidate_executions.proofs.Choices.{empty_is_a_sketch}
 use Rattle.candidate_executions.proofs.RunsAreCandidates.{every_run_is_a_completion}
@@ -20,32 +21,40 @@ use Rattle.tree_laws.proofs.Lists.{none_here, first_or_later}
 use Rattle.tree_laws.proofs.CoveredSketches.{valid_covers}
 
 pub listed : ACoveredListHasEachOutcome
-listed p mode outcomes o forward covered (labels, is_run) =
-    let (c, completes, has) = every_run_is_a_completion p mode labels o forward is_run in
-    let (q, in_list, has_too) = covered c completes in
-    subst (λ (x : Outcome). Contains outcomes x) (outcomes_are_one p mode c q o completes.is_candidate has_too has) in_list
+listed q mode outcomes o forward are_shown covered (labels, (whole, is_run, shown)) =
+    let (c, completes, has) = every_run_is_a_completion q.program mode labels whole forward is_run in
+    let (known, in_list, (other, has_too, same)) = covered c completes in
+    let one : whole ≡ other = outcomes_are_one q.program mode c whole other completes.is_candidate has has_too in
+    subst (λ (x : Outcome). Contains outcomes x) (sym (shown ∙ ap (show q.shown) one ∙ same ∙ are_shown known in_list)) in_list
 
 -- a valid tree covers the sketch with no choice
-covered_from_nothing : (p : Listing) (mode : Mode) (outcomes : List Outcome) (tree : Cover) → JumpForward p.threads →
-    IsValidCover p mode outcomes tree empty_sketch → IsCovered p mode outcomes empty_sketch
-covered_from_nothing p mode outcomes tree forward valid = valid_covers p mode outcomes tree empty_sketch forward (empty_is_a_sketch p mode) valid
+covered_from_nothing : (q : Question) (mode : Mode) (outcomes : List Outcome) (tree : Cover) → JumpForward q.program.threads →
+    IsValidCover q mode outcomes tree empty_sketch → IsCovered q mode outcomes empty_sketch
+covered_from_nothing q mode outcomes tree forward valid = valid_covers q mode outcomes tree empty_sketch forward (empty_is_a_sketch q.program mode) valid
 
 -- the outcomes of sequential runs are sequential
-of_runs : (p : Listing) (runs : List (List Label)) (outcomes : List Outcome) (o : Outcome) → AreSequentialRuns p runs outcomes → Contains outcomes o → IsSequentialOutcome p o
-of_runs p [] [] o replayed here = absurd (none_here o here)
-of_runs p [] (q ∷ qs) o replayed here = absurd replayed
-of_runs p (labels ∷ runs) [] o replayed here = absurd replayed
-of_runs p (labels ∷ runs) (q ∷ qs) o (is_run, others) here = elim (first_or_later q qs o here) [
-  | inl e ↦ (labels, subst (λ (x : Outcome). IsRun p Sequential labels x) e is_run)
-  | inr later ↦ of_runs p runs qs o others later
+of_runs : (q : Question) (runs : List (List Label)) (outcomes : List Outcome) (o : Outcome) → AreSequentialRuns q runs outcomes → Contains outcomes o → IsSequentialOutcome q o
+of_runs q [] [] o replayed here = absurd (none_here o here)
+of_runs q [] (x ∷ xs) o replayed here = absurd replayed
+of_runs q (labels ∷ runs) [] o replayed here = absurd replayed
+of_runs q (labels ∷ runs) (x ∷ xs) o (is_run, others) here = elim (first_or_later x xs o here) [
+  | inl e ↦ (labels, subst (IsShownRun q Sequential labels) e is_run)
+  | inr later ↦ of_runs q runs xs o others later
 ]
 
+-- what a machine shows of an outcome shows all of itself
+allowed_is_shown : (q : Question) (mode : Mode) (o : Outcome) → AllowsShown q mode o → show q.shown o ≡ o
+allowed_is_shown q mode o (labels, (whole, is_run, shown)) = ap (show q.shown) shown ∙ shown_twice q.shown whole ∙ sym shown
+
 pub sequential_list : AValidTreeMakesTheSequentialList
-sequential_list p runs outcomes tree forward replayed valid o =
-    (of_runs p runs outcomes o replayed, listed p Sequential outcomes o forward (covered_from_nothing p Sequential outcomes tree forward valid))
+sequential_list q runs outcomes tree forward replayed valid o = (
+  of_runs q runs outcomes o replayed,
+  listed q Sequential outcomes o forward (λ x here. allowed_is_shown q Sequential x (of_runs q runs outcomes x replayed here)) (covered_from_nothing q Sequential outcomes tree forward valid),
+)
 
 pub fenced_tree_serves : AValidFencedTreeServes
-fenced_tree_serves p gaps outcomes tree forward list valid o = (
-  (λ allowed. (list o).0 (listed p (Fenced (gaps_in p gaps)) outcomes o forward (covered_from_nothing p (Fenced (gaps_in p gaps)) outcomes tree forward valid) allowed)),
-  sequential_is_allowed p (gaps_in p gaps) o,
-)
+fenced_tree_serves q gaps outcomes tree forward list valid o =
+    let mode : Mode = Fenced (gaps_in q.program gaps) in (
+      (λ allowed. (list o).0 (listed q mode outcomes o forward (λ x here. allowed_is_shown q Sequential x ((list x).0 here)) (covered_from_nothing q mode outcomes tree forward valid) allowed)),
+      sequential_is_allowed q (gaps_in q.program gaps) o,
+    )

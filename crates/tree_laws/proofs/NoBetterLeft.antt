@@ -3,6 +3,7 @@ use Rattle.std.proofs.Common.{◌≡◌, ℕ, true, false, List, [], ◌∷◌, 
 use Rattle.std.specs.FinSet as set
 use Rattle.gap_sets.specs.Gaps.{SetOfGaps}
 use Rattle.tso_program.specs.declared.listing.Listing.{Listing}
+use Rattle.tso_program.specs.Shown.{Question}
 use Rattle.tso_program.specs.Limits.{IsWithinLimits}
 use Rattle.tso_machine.specs.declared.label.Label.{Label}
 use Rattle.cert_forest.specs.Trees.{Gap, Split, Bound, Gaps, NoGap, MoreGaps}
@@ -13,13 +14,16 @@ use Rattle.tree_laws.proofs.AvoidedGaps.{Avoids, leaves_outcome}
 use Rattle.tree_laws.proofs.BetterSets.{still_better}
 use Rattle.tree_laws.proofs.Regions.{true_or_false, split_loses_no_set, in_root}
 
-module _ (p : Listing) (costs : List ℕ) (answer : SetOfGaps) where
+module _ (q : Question) (costs : List ℕ) (answer : SetOfGaps) where
+  abbrev p : Listing
+  p = q.program
+
   -- each of the nodes has what a valid tree means
   abbrev EachMeans : List Node → Type 0
-  EachMeans ns = (n : Node) → Contains ns n → EachBetterOfRegionLeavesOutcome p costs answer n
+  EachMeans ns = (n : Node) → Contains ns n → EachBetterOfRegionLeavesOutcome q costs answer n
 
-  one_more : (n : Node) (ns : List Node) → EachBetterOfRegionLeavesOutcome p costs answer n → EachMeans ns → EachMeans (n ∷ ns)
-  one_more n ns first later m here = elim (first_or_later n ns m here) [ inl e ↦ subst (EachBetterOfRegionLeavesOutcome p costs answer) e first | inr there ↦ later m there ]
+  one_more : (n : Node) (ns : List Node) → EachBetterOfRegionLeavesOutcome q costs answer n → EachMeans ns → EachMeans (n ∷ ns)
+  one_more n ns first later m here = elim (first_or_later n ns m here) [ inl e ↦ subst (EachBetterOfRegionLeavesOutcome q costs answer) e first | inr there ↦ later m there ]
 
   module _ (runs : List (List Label)) where
     -- what the run passes and the set has is one of the gaps of the split
@@ -30,17 +34,17 @@ module _ (p : Listing) (costs : List ℕ) (answer : SetOfGaps) where
       | inr free ↦ (let no : true ≡ false = sym there ∙ none gap ((split.exact gap).1 (passed, free)) in absurd cc)
     ]
 
-    by_split : All (IsForeign p) runs → (n : Node) (number : ℕ) (gaps : List ℕ) → IsSplitBy p runs n number gaps → EachMeans (children_of n gaps) →
-        EachBetterOfRegionLeavesOutcome p costs answer n
+    by_split : All (IsForeign q) runs → (n : Node) (number : ℕ) (gaps : List ℕ) → IsSplitBy p runs n number gaps → EachMeans (children_of n gaps) →
+        EachBetterOfRegionLeavesOutcome q costs answer n
     by_split foreign n number gaps split each other of_program inside better = elim (split_loses_no_set n gaps other inside) [
       | inl (child, here, in_child) ↦ each child here other of_program in_child better
-      | inr none ↦ (let (o, is_foreign) = found_has (IsForeign p) runs number split.labels split.is_run foreign in
-          leaves_outcome p other split.labels o is_foreign (passes_none_of n number gaps split other inside none))
+      | inr none ↦ (let (o, is_foreign) = found_has (IsForeign q) runs number split.labels split.is_run foreign in
+          leaves_outcome q other split.labels o is_foreign (passes_none_of n number gaps split other inside none))
     ]
 
-    module _ (within : IsWithinLimits p.threads p.memory) (have : HaveCosts p costs) (foreign : All (IsForeign p) runs) where
+    module _ (within : IsWithinLimits p.threads p.memory) (have : HaveCosts p costs) (foreign : All (IsForeign q) runs) where
       mutual
-        means : (tree : Gap) (n : Node) → IsValidGap p costs answer runs tree n → EachBetterOfRegionLeavesOutcome p costs answer n
+        means : (tree : Gap) (n : Node) → IsValidGap p costs answer runs tree n → EachBetterOfRegionLeavesOutcome q costs answer n
         means (Split number children) n (gaps, split, valid) = by_split foreign n number gaps split (each_means children (children_of n gaps) valid)
         means Bound n not_better = λ other of_program inside better. absurd (not_better (still_better p costs within have n.must other answer of_program inside.holds better))
 
@@ -51,12 +55,12 @@ module _ (p : Listing) (costs : List ℕ) (answer : SetOfGaps) where
         each_means (MoreGaps tree trees) (n ∷ ns) (now, later) = one_more n ns (means tree n now) (each_means trees ns later)
 
 pub no_better_left : AValidGapTreeLeavesNoBetter
-no_better_left p costs answer runs tree n within have foreign valid = means p costs answer runs within have foreign tree n valid
+no_better_left q costs answer runs tree n within have foreign valid = means q costs answer runs within have foreign tree n valid
 
 pub none_serves : SoNoServingSetIsBetter
-none_serves p costs answer n each other of_program inside serves better =
+none_serves q costs answer n each other of_program inside serves better =
     let left = each other of_program inside better in
     left.foreign ((serves left.outcome).0 left.left)
 
 pub root_has_every_set : TheRootHasEverySet
-root_has_every_set p costs answer each other of_program better = each other of_program (in_root other) better
+root_has_every_set q costs answer each other of_program better = each other of_program (in_root other) better

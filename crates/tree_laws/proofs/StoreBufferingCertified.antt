@@ -13,7 +13,7 @@ use Rattle.tree_laws.specs.Certificates.{IsValidCertificate}
 use Rattle.tree_laws.specs.StoreBuffering.{costs, certificate, StoreBufferingIsCertified}
 use Rattle.tree_laws.proofs.Regions.{new_or_old}
 use Rattle.tree_laws.proofs.CertificateIsProof.{certificate_proves}
-use Rattle.tree_laws.proofs.StoreBufferingCovered.{outcomes, cover_is_valid}
+use Rattle.tree_laws.proofs.StoreBufferingCovered.{question, outcomes, cover_is_valid}
 use Rattle.tree_laws.proofs.StoreBufferingCycles.{both_fenced, sequential_cycle, fenced_cycle}
 use Rattle.tree_laws.proofs.StoreBufferingRuns.{replayed, all_outside}
 use Rattle.tree_laws.proofs.StoreBufferingGaps.{both_gaps, not_empty, gap_tree_is_valid}
@@ -24,8 +24,9 @@ two_gaps gap there = elim (new_or_old (set.insert set.empty 1) 0 gap there) [
   | inr later ↦ elim (new_or_old set.empty 1 gap later) [ inl e ↦ omega arith | inr none ↦ absurd (not_empty gap none) ]
 ]
 
-valid : IsValidCertificate store_buffering costs certificate
+valid : IsValidCertificate question costs certificate
 valid = record {
+  shown = refl;
   of_program = two_gaps;
   one_cost_each = refl;
   cost = sym (total-these costs (0 ∷ 1 ∷ []));
@@ -44,4 +45,4 @@ each_costs : All (λ cost. 1 ≤ cost) costs
 each_costs = All-cons (λ cost. 1 ≤ cost) 1 (1 ∷ []) (omega arith) (All-cons (λ cost. 1 ≤ cost) 1 [] (omega arith) (All-nil (λ cost. 1 ≤ cost)))
 
 pub store_buffering_is_certified : StoreBufferingIsCertified
-store_buffering_is_certified = record { valid = valid; proved = certificate_proves store_buffering costs certificate within each_costs valid }
+store_buffering_is_certified = record { valid = valid; proved = certificate_proves question costs certificate within each_costs valid }

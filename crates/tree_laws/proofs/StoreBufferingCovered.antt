@@ -4,6 +4,8 @@ use Rattle.std.specs.List.{AllPairs}
 use Rattle.std.specs.List.Sorted.{IsStrictlyIncreasing}
 use Rattle.std.proofs.lemmas.Option.{same_Some}
 use Rattle.tso_program.specs.declared.outcome.Outcome.{Outcome}
+use Rattle.tso_program.specs.declared.shown.Shown.TheVariants.{All}
+use Rattle.tso_program.specs.Shown.{Question, asked}
 use Rattle.tso_machine.specs.Machine.{Mode}
 use Rattle.tso_machine.specs.Examples.{store_buffering, ends_with}
 use Rattle.candidate_executions.specs.declared.access.Access.{Access}
@@ -17,6 +19,10 @@ use Rattle.tree_laws.specs.CoverTrees.{event_of, MustEndAsNumber, HasNextValues,
 use Rattle.tree_laws.specs.StoreBuffering.{around, cover_of}
 use Rattle.tree_laws.proofs.Lists.{none_here, first_or_later, first_is_here}
 use Rattle.tree_laws.proofs.StoreBufferingValues.{zero_one, values, both, whole, writes_one, writes_initial}
+
+-- all is shown
+abbrev pub question : Question
+question = asked store_buffering All
 
 -- both threads' EAX in the end
 abbrev pub end_of : ℕ → ℕ → Outcome
@@ -65,7 +71,7 @@ module _ (mode : Mode) where
   last_writes a b l v (Initial m) h writes last =
       absurd (not_last a b l h (subst (λ (n : ℕ). MayBeLast store_buffering mode (both a b) l (Initial n)) (writes_initial mode a b m l v writes) last))
 
-  ends : (a b : ℕ) → MustEndAs store_buffering mode (both a b) (end_of a b)
+  ends : (a b : ℕ) → MustEndAs question mode (both a b) (end_of a b)
   ends a b = record { whole = whole mode a b; registers = refl; long = refl; memory = λ l v e h. last_writes a b l v e h }
 
   -- under both values 0, the one source of a read is the initial write of its location
@@ -154,7 +160,7 @@ module _ (mode : Mode) where
   abbrev pub read_twice : Sketch
   read_twice = with_source read_once (At 1 1) (Initial 0)
 
-  pub cover_is_valid : (kind : Kind) → IsKnownCycle store_buffering mode read_twice kind (map event_of around) → IsValidCover store_buffering mode outcomes (cover_of kind) empty_sketch
+  pub cover_is_valid : (kind : Kind) → IsKnownCycle store_buffering mode read_twice kind (map event_of around) → IsValidCover question mode outcomes (cover_of kind) empty_sketch
   cover_is_valid kind cycle = (
     zero_one,
     first_next,
@@ -164,5 +170,5 @@ module _ (mode : Mode) where
     ),
   )
     where
-      known : (number a b : ℕ) → slice_get outcomes number ≡ Some (end_of a b) → MustEndAsNumber store_buffering mode outcomes (both a b) number
+      known : (number a b : ℕ) → slice_get outcomes number ≡ Some (end_of a b) → MustEndAsNumber question mode outcomes (both a b) number
       known number a b e = record { outcome = end_of a b; is_outcome = e; must_end = ends a b }

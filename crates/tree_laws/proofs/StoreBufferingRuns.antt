@@ -15,7 +15,7 @@ use Rattle.tree_laws.specs.GapTrees.{PassesGap}
 use Rattle.tree_laws.specs.Certificates.{AreSequentialRuns, IsRunOutside}
 use Rattle.tree_laws.specs.StoreBuffering.{first_first, second_first, stores_first, sequential_runs, second_waits, first_waits}
 use Rattle.tree_laws.proofs.Lists.{none_here, first_or_later}
-use Rattle.tree_laws.proofs.StoreBufferingCovered.{end_of, outcomes}
+use Rattle.tree_laws.proofs.StoreBufferingCovered.{question, end_of, outcomes}
 
 -- a thread's next action and its waiting stores, at the end
 abbrev IsDone : State → ℕ → Type 0
@@ -39,10 +39,13 @@ ended_in_turn labels last runs first second t = (done t, ap (λ (f : ℕ → Lis
     done (suc zero) = second
     done (suc (suc t)) = no_action store_buffering (suc (suc t)) (last.locals (suc (suc t))) (omega arith)
 
-pub replayed : AreSequentialRuns store_buffering sequential_runs outcomes
+pub replayed : AreSequentialRuns question sequential_runs outcomes
 replayed = (
-  (_, refl, ended_in_turn first_first _ refl refl refl, refl),
-  ((_, refl, ended_in_turn second_first _ refl refl refl, refl), ((_, refl, ended_in_turn stores_first _ refl refl refl, refl), tt)),
+  (end_of 0 1, (_, refl, ended_in_turn first_first _ refl refl refl, refl), refl),
+  (
+    (end_of 1 0, (_, refl, ended_in_turn second_first _ refl refl refl, refl), refl),
+    ((end_of 1 1, (_, refl, ended_in_turn stores_first _ refl refl refl, refl), refl), tt),
+  ),
 )
 
 -- the sum of both EAX
@@ -68,11 +71,11 @@ outside here = elim (first_or_later {A = Outcome} (end_of 0 1) (end_of 1 0 ∷ e
 abbrev pub runs : List (List Label)
 runs = waiting_stores ∷ second_waits ∷ first_waits ∷ []
 
-pub all_outside : All (IsRunOutside store_buffering outcomes) runs
-all_outside = All-cons (IsRunOutside store_buffering outcomes) waiting_stores (second_waits ∷ first_waits ∷ []) (end_of 0 0, (_, refl, ended waiting_stores _ refl (refl, refl) (refl, refl), refl), outside)
-    (All-cons (IsRunOutside store_buffering outcomes) second_waits (first_waits ∷ []) (end_of 0 0, (_, refl, ended second_waits _ refl (refl, refl) (refl, refl), refl), outside)
-    (All-cons (IsRunOutside store_buffering outcomes) first_waits [] (end_of 0 0, (_, refl, ended first_waits _ refl (refl, refl) (refl, refl), refl), outside)
-    (All-nil (IsRunOutside store_buffering outcomes))))
+pub all_outside : All (IsRunOutside question outcomes) runs
+all_outside = All-cons (IsRunOutside question outcomes) waiting_stores (second_waits ∷ first_waits ∷ []) (end_of 0 0, (end_of 0 0, (_, refl, ended waiting_stores _ refl (refl, refl) (refl, refl), refl), refl), outside)
+    (All-cons (IsRunOutside question outcomes) second_waits (first_waits ∷ []) (end_of 0 0, (end_of 0 0, (_, refl, ended second_waits _ refl (refl, refl) (refl, refl), refl), refl), outside)
+    (All-cons (IsRunOutside question outcomes) first_waits [] (end_of 0 0, (end_of 0 0, (_, refl, ended first_waits _ refl (refl, refl) (refl, refl), refl), refl), outside)
+    (All-nil (IsRunOutside question outcomes))))
 
 -- there are two gaps
 pub passed_below : (labels : List Label) (gap : ℕ) → PassesGap store_buffering labels gap → gap < 2

@@ -4,6 +4,7 @@ use Rattle.std.specs.List.{AllPairs}
 use Rattle.std.specs.List.Sorted.{IsStrictlyIncreasing}
 use Rattle.tso_program.specs.declared.listing.Listing.{Listing}
 use Rattle.tso_program.specs.declared.outcome.Outcome.{Outcome}
+use Rattle.tso_program.specs.Shown.{Question}
 use Rattle.tso_machine.specs.Machine.{Mode}
 use Rattle.candidate_executions.specs.declared.access.Access.{Access}
 use Rattle.candidate_executions.specs.declared.event.Event.{Event}
@@ -11,7 +12,7 @@ use Rattle.candidate_executions.specs.declared.event.Event.TheVariants.{Access a
 use Rattle.candidate_executions.specs.declared.event.Kind.{Kind}
 use Rattle.candidate_executions.specs.Events.{ComesBefore}
 use Rattle.candidate_executions.specs.Values.{IsValueOf}
-use Rattle.candidate_executions.specs.Candidates.{Candidate, access_by, HasOutcome}
+use Rattle.candidate_executions.specs.Candidates.{Candidate, access_by, HasShownOutcome}
 use Rattle.candidate_executions.specs.Consistency.{IsOfMode, IsCycle}
 use Rattle.candidate_executions.specs.Sketches.{Sketch, IsConsistentCompletion, IsSourceOf, IsPair, with_value, with_source, with_pair, next_read, IsWhole, MustEndAs, KnownEdge}
 use Rattle.cert_forest.specs.declared.tree.AccessId.{AccessId}
@@ -49,25 +50,25 @@ module _ (p : Listing) (mode : Mode) where
     pub of_mode : IsOfMode mode kind
     pub cycle : IsCycle (KnownEdge p mode k kind) es
 
-module _ (p : Listing) (mode : Mode) (outcomes : List Outcome) where
+module _ (q : Question) (mode : Mode) (outcomes : List Outcome) where
   -- the sketch must end as the outcome of this number
   pub record MustEndAsNumber (k : Sketch) (number : ℕ) : Type 0 where
     pub outcome : Outcome
     pub is_outcome : slice_get outcomes number ≡ Some outcome
-    pub must_end : MustEndAs p mode k outcome
+    pub must_end : MustEndAs q mode k outcome
 
   abbrev mutual
     -- The tree is valid at the sketch: a child for each value or source, under that choice; a child for each order of two
     -- writes; a cycle of known edges; or an outcome as which the sketch must end.
     pub IsValidCover : Cover → Sketch → Type 0
-    IsValidCover (Value t children) k = (values : List ℕ) × HasNextValues p mode k t values × AreValidCovers children (map (with_value k t) values)
+    IsValidCover (Value t children) k = (values : List ℕ) × HasNextValues q.program mode k t values × AreValidCovers children (map (with_value k t) values)
     IsValidCover (Source read children) k =
-        (sources : List Event) × HasSources p mode k (event_of read) sources × AreValidCovers children (map (with_source k (event_of read)) sources)
+        (sources : List Event) × HasSources q.program mode k (event_of read) sources × AreValidCovers children (map (with_source k (event_of read)) sources)
     IsValidCover (Order first second first_before second_before) k =
-        HasNoOrder p mode k (event_of first) (event_of second)
+        HasNoOrder q.program mode k (event_of first) (event_of second)
         × IsValidCover first_before (with_pair k (event_of first) (event_of second))
         × IsValidCover second_before (with_pair k (event_of second) (event_of first))
-    IsValidCover (Cycle kind events) k = IsKnownCycle p mode k kind (map event_of events)
+    IsValidCover (Cycle kind events) k = IsKnownCycle q.program mode k kind (map event_of events)
     IsValidCover (Known number) k = MustEndAsNumber k number
 
     -- as many trees as sketches, each valid at its own
@@ -77,6 +78,6 @@ module _ (p : Listing) (mode : Mode) (outcomes : List Outcome) where
     AreValidCovers (MoreCovers tree trees) [] = ⊥
     AreValidCovers (MoreCovers tree trees) (k ∷ ks) = IsValidCover tree k × AreValidCovers trees ks
 
-  -- what a valid tree means: each consistent completion of the sketch has an outcome of the list
+  -- what a valid tree means: each consistent completion of the sketch has an outcome of the list, as far as it is shown
   abbrev pub IsCovered : Sketch → Type 0
-  IsCovered k = (c : Candidate) → IsConsistentCompletion p mode k c → (o : Outcome) × Contains outcomes o × HasOutcome p mode c o
+  IsCovered k = (c : Candidate) → IsConsistentCompletion q.program mode k c → (o : Outcome) × Contains outcomes o × HasShownOutcome q mode c o

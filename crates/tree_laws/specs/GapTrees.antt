@@ -5,6 +5,7 @@ use Rattle.std.specs.FinSet as set
 use Rattle.gap_sets.specs.Gaps.{SetOfGaps}
 use Rattle.gap_sets.specs.Order.{Better}
 use Rattle.tso_program.specs.declared.listing.Listing.{Listing}
+use Rattle.tso_program.specs.Shown.{Question}
 use Rattle.tso_program.specs.Listings.{gap_count}
 use Rattle.tso_machine.specs.declared.label.Label.{Label}
 use Rattle.tso_machine.specs.Machine.{Fenced, no_gaps, start}
@@ -66,15 +67,15 @@ module _ (p : Listing) (costs : List ℕ) (answer : SetOfGaps) (runs : List (Lis
     AreValidGaps (MoreGaps tree trees) [] = ⊥
     AreValidGaps (MoreGaps tree trees) (n ∷ ns) = IsValidGap tree n × AreValidGaps trees ns
 
-module _ (p : Listing) (costs : List ℕ) (answer : SetOfGaps) where
+module _ (q : Question) (costs : List ℕ) (answer : SetOfGaps) where
   -- what a valid tree means: each better set of the region leaves an outcome that no sequential run has
   abbrev pub EachBetterOfRegionLeavesOutcome : Node → Type 0
   EachBetterOfRegionLeavesOutcome n =
-      (other : SetOfGaps) → AreGapsOf p other → IsInRegion n other → Better costs other answer → LeavesOutcome p other
+      (other : SetOfGaps) → AreGapsOf q.program other → IsInRegion n other → Better costs other answer → LeavesOutcome q other
 
   -- so no serving set of the region is better
   abbrev pub NoServingSetIsBetter : Node → Type 0
-  NoServingSetIsBetter n = (other : SetOfGaps) → AreGapsOf p other → IsInRegion n other → Serves p other → ¬ Better costs other answer
+  NoServingSetIsBetter n = (other : SetOfGaps) → AreGapsOf q.program other → IsInRegion n other → Serves q other → ¬ Better costs other answer
 
 -- each gap of the program has a cost, and none is 0
 pub record HaveCosts (p : Listing) (costs : List ℕ) : Type 0 where

@@ -1,6 +1,8 @@
 -- The definitions at an example: a certificate of store buffering (Sewell et al., CACM 2010, section 2), whose answer has both gaps.
 use Rattle.std.specs.Prelude.{ℕ, List, [], ◌∷◌}
 use Rattle.gap_sets.specs.Laws.{these}
+use Rattle.tso_program.specs.declared.shown.Shown.TheVariants.{All}
+use Rattle.tso_program.specs.Shown.{asked}
 use Rattle.tso_machine.specs.declared.label.Label.{Label}
 use Rattle.tso_machine.specs.declared.label.Label.TheVariants.{Exec, Flush}
 use Rattle.tso_machine.specs.Examples.{store_buffering, waiting_stores}
@@ -62,6 +64,7 @@ costs = 1 ∷ 1 ∷ []
 
 abbrev pub certificate : Certificate
 certificate = record {
+  shown = All;
   gaps = these (0 ∷ 1 ∷ []);
   cost = 2;
   seq_runs = sequential_runs;
@@ -73,5 +76,5 @@ certificate = record {
 
 -- the certificate is valid, so both gaps are the answer
 pub record StoreBufferingIsCertified : Type 0 where
-  pub valid : IsValidCertificate store_buffering costs certificate
-  pub proved : IsProved store_buffering costs certificate
+  pub valid : IsValidCertificate (asked store_buffering All) costs certificate
+  pub proved : IsProved (asked store_buffering All) costs certificate

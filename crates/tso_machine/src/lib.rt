@@ -11,6 +11,7 @@ mod state;
 pub use ended::{Ended, ReplayFault, replay};
 pub use label::{Cause, Label, Model, Pending};
 pub use laws::{
-    examples_are_told, fences_are_avoided, runs_have_no_fault, the_first_fault_is_unique,
+    all_shown_are_the_outcomes, examples_are_told, fences_are_avoided, runs_have_no_fault,
+    the_first_fault_is_unique,
 };
 pub use run_text::{RunFault, read_run, write_run};

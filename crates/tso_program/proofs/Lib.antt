@@ -4,3 +4,5 @@ pub mod Gaps
 pub mod Located
 pub mod FencedPlaces
 pub mod FencedLimits
+pub mod Places
+pub mod Kept

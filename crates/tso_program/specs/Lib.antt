@@ -3,3 +3,5 @@ pub mod Actions
 pub mod Listings
 pub mod Limits
 pub mod Fences
+pub mod Names
+pub mod Shown

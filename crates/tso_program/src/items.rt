@@ -1,5 +1,5 @@
 //! A list that is kept in a vector, and that contracts see as a list.
-ghost use Rattle.std.specs.Prelude.{◌≡◌, ◌↔◌, length, IsTrue, OnOk, OnErr, IfOk, ◌++◌, ◌∷◌, []};
+ghost use Rattle.std.specs.Prelude.{◌≡◌, ◌↔◌, length, slice_set, ◌<◌, IsTrue, OnOk, OnErr, IfOk, ◌++◌, ◌∷◌, []};
 ghost use Rattle.std.specs.Cmp.Lexicographic.{pointwise, slice_cmp, slice_partial_cmp, lists_per, lists_equiv, lists_po, lists_total, lists_agrees, lists_ties};
 
 use std::alloc::{AllocError, Global};
@@ -76,6 +76,14 @@ impl<T: Copy> Items<T> {
         Ok(Items {
             items: Vec::from_slice(alloc, self.items.as_slice())?,
         })
+    }
+
+    /// Puts a value in the place of another.
+    pub(crate) fn set(&mut self, place: usize, value: T)
+        requires { place < length self.old }
+        ensures { self.new ≡ slice_set self.old place value }
+    {
+        self.items[place] = value;
     }
 }
 

@@ -13,6 +13,7 @@ mod limits;
 mod listing;
 mod outcome;
 mod program;
+mod shown;
 
 pub use action::{Action, Local};
 pub use fenced::{FenceFault, FencedProgram, fencing_stays_within_limits};
@@ -22,3 +23,4 @@ pub use limits::{ProgramFault, limits_are_the_refusals};
 pub use listing::{Listing, Thread};
 pub use outcome::Outcome;
 pub use program::Program;
+pub use shown::{Names, Shown};

@@ -1,7 +1,8 @@
 //! What a run leaves.
 ghost use Rattle.std.specs.Prelude.{◌≡◌, IfOk};
+ghost use Rattle.tso_program.specs.Shown.{show, show_registers, show_memory};
 
-use crate::Items;
+use crate::{Items, Shown};
 use std::alloc::{AllocError, Global};
 
 /// The final registers of each thread, and the final value of each location. Outcomes of one program
@@ -22,5 +23,31 @@ impl Outcome {
             registers: self.registers.copy(alloc)?,
             memory: self.memory.copy(alloc)?,
         })
+    }
+
+    /// Sets each value that isn't shown to 0.
+    pub fn show(&mut self, shown: &Shown)
+        ensures { self.new ≡ show shown.now self.old }
+    {
+        show_registers(&mut self.registers, shown);
+        show_memory(&mut self.memory, shown);
+    }
+}
+
+fn show_registers(registers: &mut Items<[u32; 6]>, shown: &Shown)
+    ensures { registers.new ≡ show_registers shown.now registers.old }
+{
+    for t in 0..registers.len() {
+        let held = registers.as_slice()[t];
+        registers.set(t, shown.registers(t, held));
+    }
+}
+
+fn show_memory(memory: &mut Items<u32>, shown: &Shown)
+    ensures { memory.new ≡ show_memory shown.now memory.old }
+{
+    for l in 0..memory.len() {
+        let held = memory.as_slice()[l];
+        memory.set(l, shown.value(l, held));
     }
 }

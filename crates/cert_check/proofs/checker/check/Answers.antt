@@ -1,3 +1,4 @@
+use Rattle.tso_program.specs.Shown.{asked}
 use Rattle.cert_check.specs.Claims.{claim_of}
 use Rattle.cert_check.proofs.FirstFaults.{valid_certificates_have_no_fault}
 use Rattle.cert_check.proofs.checker.check.Goals as goal
@@ -9,4 +10,4 @@ pub returns-in-Ok-clause-answer : goal.returns-in-Ok-clause-answer
 returns-in-Ok-clause-answer c = (c.what_is_proved.ensures (claim_of c.args.certificate.now) c.in-Ok.ensures.valid).answer
 
 pub returns-in-Err-clause-accepts : goal.returns-in-Err-clause-accepts
-returns-in-Err-clause-accepts c valid = valid_certificates_have_no_fault c.args.program.now c.args.costs.now (claim_of c.args.certificate.now) c.in-Err.fault valid c.in-Err.ensures.fault
+returns-in-Err-clause-accepts c valid = valid_certificates_have_no_fault (asked c.args.program.now c.args.shown.now) c.args.costs.now (claim_of c.args.certificate.now) c.in-Err.fault valid c.in-Err.ensures.fault

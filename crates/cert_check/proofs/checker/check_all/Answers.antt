@@ -1,4 +1,5 @@
 use Rattle.std.proofs.Common.{All, sym, subst}
+use Rattle.tso_program.specs.Shown.{asked}
 use Rattle.tso_program.specs.Fences.{gaps_in}
 use Rattle.tso_machine.specs.Machine.{Fenced}
 use Rattle.candidate_executions.specs.Sketches.{empty_sketch}
@@ -7,60 +8,60 @@ use Rattle.tree_laws.specs.GapTrees.{root, IsValidGap}
 use Rattle.tree_laws.specs.Certificates.{IsRunOutside, IsValidCertificate}
 use Rattle.cert_check.specs.Claims.{claim_of}
 use Rattle.cert_check.specs.Faults.{FaultIs, HasServingSet, HasForeignRuns, HasEachOutcome}
-use Rattle.cert_check.specs.Replays.{AreBufferedReplays, outcomes_of}
+use Rattle.cert_check.specs.Replays.{HavePassed, outcomes_of}
 use Rattle.cert_check.proofs.Answered.{err_up, on_ok}
-use Rattle.cert_check.proofs.Assembled.{assembled, each_is_run}
+use Rattle.cert_check.proofs.Assembled.{assembled, each_is_run, have_passed}
 use Rattle.cert_check.proofs.checker.check_all.Goals as goal
 
 pub returns-in_err-check_fenced-clause-fault : goal.returns-in_err-check_fenced-clause-fault
 returns-in_err-check_fenced-clause-fault c =
-    let p = c.args.program.now in
+    let q = asked c.args.program.now c.args.shown.now in
     let costs = c.args.costs.now in
     let claim = claim_of c.args.certificate.now in
     let outs = outcomes_of c.in_ok-listed.listed.items in
-    let complete : HasEachOutcome p costs claim outs =
-    record { listed = record { head = c.in_ok-check_set_and_cost.ensures.ok; replayed = c.in_ok-listed.ensures.replayed }; sequential = c.in_ok-listed.ensures.sequential } in
-    let foreign : HasForeignRuns p costs claim outs = record {
-      replayed = record { complete = complete; runs = each_is_run p claim.runs c.in_ok-runs.runs.items c.in_ok-runs.ensures.replays };
-      foreign = subst (λ xs. All (IsRunOutside p (outcomes_of xs)) claim.runs) c.deref.ensures.value c.in_ok-runs.ensures.foreign;
+    let complete : HasEachOutcome q costs claim outs =
+    record { listed = record { head = c.in_ok-check_head.ensures.ok; replayed = c.in_ok-listed.ensures.replayed }; sequential = c.in_ok-listed.ensures.sequential } in
+    let foreign : HasForeignRuns q costs claim outs = record {
+      replayed = record { complete = complete; runs = each_is_run q claim.runs c.in_ok-runs.runs.items c.in_ok-runs.ensures.replays };
+      foreign = subst (λ xs. All (IsRunOutside q (outcomes_of xs)) claim.runs) c.deref.ensures.value c.in_ok-runs.ensures.foreign;
     } in
-    err_up c.from_residual-in_err-check_fenced.result c.in_err-check_fenced.field-0.0 (FaultIs p costs claim) c.from_residual-in_err-check_fenced.ensures.1
-    (c.in_err-check_fenced.ensures.fault costs (subst (λ xs. HasForeignRuns p costs claim (outcomes_of xs)) (sym c.deref-2.ensures.value) foreign))
+    err_up c.from_residual-in_err-check_fenced.result c.in_err-check_fenced.field-0.0 (FaultIs q costs claim) c.from_residual-in_err-check_fenced.ensures.1
+    (c.in_err-check_fenced.ensures.fault costs (subst (λ xs. HasForeignRuns q costs claim (outcomes_of xs)) (sym c.deref-2.ensures.value) foreign))
 
 pub returns-clause-valid : goal.returns-clause-valid
 returns-clause-valid c =
-    let p = c.args.program.now in
+    let q = asked c.args.program.now c.args.shown.now in
     let costs = c.args.costs.now in
     let claim = claim_of c.args.certificate.now in
     let outs = outcomes_of c.in_ok-listed.listed.items in
-    let complete : HasEachOutcome p costs claim outs =
-    record { listed = record { head = c.in_ok-check_set_and_cost.ensures.ok; replayed = c.in_ok-listed.ensures.replayed }; sequential = c.in_ok-listed.ensures.sequential } in
-    let foreign : HasForeignRuns p costs claim outs = record {
-      replayed = record { complete = complete; runs = each_is_run p claim.runs c.in_ok-runs.runs.items c.in_ok-runs.ensures.replays };
-      foreign = subst (λ xs. All (IsRunOutside p (outcomes_of xs)) claim.runs) c.deref.ensures.value c.in_ok-runs.ensures.foreign;
+    let complete : HasEachOutcome q costs claim outs =
+    record { listed = record { head = c.in_ok-check_head.ensures.ok; replayed = c.in_ok-listed.ensures.replayed }; sequential = c.in_ok-listed.ensures.sequential } in
+    let foreign : HasForeignRuns q costs claim outs = record {
+      replayed = record { complete = complete; runs = each_is_run q claim.runs c.in_ok-runs.runs.items c.in_ok-runs.ensures.replays };
+      foreign = subst (λ xs. All (IsRunOutside q (outcomes_of xs)) claim.runs) c.deref.ensures.value c.in_ok-runs.ensures.foreign;
     } in
-    let serving : HasServingSet p costs claim outs = record {
+    let serving : HasServingSet q costs claim outs = record {
       runs = foreign;
-      fenced = subst (λ xs. IsValidCover p (Fenced (gaps_in p claim.gaps)) (outcomes_of xs) claim.fenced_tree empty_sketch) c.deref-2.ensures.value c.in_ok-check_fenced.ensures.fenced;
+      fenced = subst (λ xs. IsValidCover q (Fenced (gaps_in q.program claim.gaps)) (outcomes_of xs) claim.fenced_tree empty_sketch) c.deref-2.ensures.value c.in_ok-check_fenced.ensures.fenced;
     } in
-    let replays = subst (AreBufferedReplays p claim.runs) (sym c.deref-3.ensures.value) c.in_ok-runs.ensures.replays in
-    on_ok c.check_gaps.result (IsValidGap p costs claim.gaps claim.runs claim.gap_tree root) (IsValidCertificate p costs claim) (assembled p costs claim outs serving) (c.check_gaps.ensures.least p replays)
+    let passed = subst (HavePassed q.program claim.runs) (sym c.deref-3.ensures.value) (have_passed q claim.runs c.in_ok-runs.runs.items c.in_ok-runs.ensures.replays) in
+    on_ok c.check_gaps.result (IsValidGap q.program costs claim.gaps claim.runs claim.gap_tree root) (IsValidCertificate q costs claim) (assembled q costs claim outs serving) (c.check_gaps.ensures.least q.program passed)
 
 pub returns-clause-fault : goal.returns-clause-fault
 returns-clause-fault c =
-    let p = c.args.program.now in
+    let q = asked c.args.program.now c.args.shown.now in
     let costs = c.args.costs.now in
     let claim = claim_of c.args.certificate.now in
     let outs = outcomes_of c.in_ok-listed.listed.items in
-    let complete : HasEachOutcome p costs claim outs =
-    record { listed = record { head = c.in_ok-check_set_and_cost.ensures.ok; replayed = c.in_ok-listed.ensures.replayed }; sequential = c.in_ok-listed.ensures.sequential } in
-    let foreign : HasForeignRuns p costs claim outs = record {
-      replayed = record { complete = complete; runs = each_is_run p claim.runs c.in_ok-runs.runs.items c.in_ok-runs.ensures.replays };
-      foreign = subst (λ xs. All (IsRunOutside p (outcomes_of xs)) claim.runs) c.deref.ensures.value c.in_ok-runs.ensures.foreign;
+    let complete : HasEachOutcome q costs claim outs =
+    record { listed = record { head = c.in_ok-check_head.ensures.ok; replayed = c.in_ok-listed.ensures.replayed }; sequential = c.in_ok-listed.ensures.sequential } in
+    let foreign : HasForeignRuns q costs claim outs = record {
+      replayed = record { complete = complete; runs = each_is_run q claim.runs c.in_ok-runs.runs.items c.in_ok-runs.ensures.replays };
+      foreign = subst (λ xs. All (IsRunOutside q (outcomes_of xs)) claim.runs) c.deref.ensures.value c.in_ok-runs.ensures.foreign;
     } in
-    let serving : HasServingSet p costs claim outs = record {
+    let serving : HasServingSet q costs claim outs = record {
       runs = foreign;
-      fenced = subst (λ xs. IsValidCover p (Fenced (gaps_in p claim.gaps)) (outcomes_of xs) claim.fenced_tree empty_sketch) c.deref-2.ensures.value c.in_ok-check_fenced.ensures.fenced;
+      fenced = subst (λ xs. IsValidCover q (Fenced (gaps_in q.program claim.gaps)) (outcomes_of xs) claim.fenced_tree empty_sketch) c.deref-2.ensures.value c.in_ok-check_fenced.ensures.fenced;
     } in
-    let replays = subst (AreBufferedReplays p claim.runs) (sym c.deref-3.ensures.value) c.in_ok-runs.ensures.replays in
-    c.check_gaps.ensures.fault p outs replays serving
+    let passed = subst (HavePassed q.program claim.runs) (sym c.deref-3.ensures.value) (have_passed q claim.runs c.in_ok-runs.runs.items c.in_ok-runs.ensures.replays) in
+    c.check_gaps.ensures.fault q outs passed serving

@@ -7,4 +7,4 @@ use Rattle.cert_check.proofs.cover.+judge.Given as goal
 -- the children that are left decide
 abbrev pub invariant-judge_children-loop-number : goal.invariant-judge_children-loop-number
 invariant-judge_children-loop-number l =
-    IsLeft (outcomes_of l.ended) l.sketch (map cover l.trees) l.choices l.number (map cover (drop l.number l.trees)) (drop l.number l.choices)
+    IsLeft l.shown (outcomes_of l.ended) l.sketch (map cover l.trees) l.choices l.number (map cover (drop l.number l.trees)) (drop l.number l.choices)

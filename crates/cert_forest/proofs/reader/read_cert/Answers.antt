@@ -3,7 +3,7 @@ use Rattle.std.proofs.lemmas.Bool.{eqb-true}
 use Rattle.std.proofs.lemmas.List.{nil_from_length}
 use Rattle.cert_forest.specs.declared.fault.CertFault.TheVariants.{Trailing}
 use Rattle.cert_forest.specs.PartsViews.{parts_view}
-use Rattle.cert_forest.proofs.WholeLaws.{found_whole, only_whole, never_none, gaps_ascend, with_gaps, some_behind, has_more, left_behind, more_is_read}
+use Rattle.cert_forest.proofs.WholeLaws.{found_whole, only_whole, never_none, gaps_ascend, places_ascend, same_sets, with_sets, some_behind, has_more, left_behind, more_is_read}
 use Rattle.cert_forest.proofs.reader.read_cert.Goals as goal
 
 pub returns-then-not-is_empty-clause-only : goal.returns-then-not-is_empty-clause-only
@@ -13,14 +13,17 @@ returns-then-not-is_empty-clause-only c = λ d is.
 pub set_of-requires : goal.set_of-requires
 set_of-requires c = rw c.deref.ensures.value (gaps_ascend c.args.bytes.now c.in-Ok.rest.now (parts_view c.in-Ok.parts) c.in-Ok.ensures)
 
+pub shown_of-requires : goal.shown_of-requires
+shown_of-requires c = places_ascend c.args.bytes.now c.in-Ok.rest.now (parts_view c.in-Ok.parts) c.in-Ok.ensures
+
 pub returns-else-not-is_empty-clause-found : goal.returns-else-not-is_empty-clause-found
 returns-else-not-is_empty-clause-found c =
     let none : c.in-Ok.rest.now ≡ [] = nil_from_length c.in-Ok.rest.now (eqb-true _ _ (sym c.is_empty.ensures ∙ c.if-not-is_empty.false)) in
-    with_gaps (parts_view c.in-Ok.parts) _ c.args.bytes.now (c.set_of.ensures ∙ c.deref.ensures.value) (found_whole c.args.bytes.now c.in-Ok.rest.now (parts_view c.in-Ok.parts) c.in-Ok.ensures none)
+    with_sets (parts_view c.in-Ok.parts) _ _ c.args.bytes.now c.shown_of.ensures (c.set_of.ensures ∙ c.deref.ensures.value) (found_whole c.args.bytes.now c.in-Ok.rest.now (parts_view c.in-Ok.parts) c.in-Ok.ensures none)
 
 pub returns-else-not-is_empty-clause-only : goal.returns-else-not-is_empty-clause-only
 returns-else-not-is_empty-clause-only c = λ d is.
-    ap (λ gs. record (parts_view c.in-Ok.parts) { gaps = gs }) (c.set_of.ensures ∙ c.deref.ensures.value)
+    same_sets (parts_view c.in-Ok.parts) _ _ c.shown_of.ensures (c.set_of.ensures ∙ c.deref.ensures.value)
     ∙ (only_whole c.args.bytes.now c.in-Ok.rest.now (parts_view c.in-Ok.parts) d c.in-Ok.ensures is).0
 
 pub returns-in-Err-Refused-clause-only : goal.returns-in-Err-Refused-clause-only

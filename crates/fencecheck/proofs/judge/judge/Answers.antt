@@ -1,5 +1,18 @@
-use Rattle.std.proofs.Common.{refl}
+use Rattle.std.proofs.Common.{◌≡◌, refl, sym, subst}
+use Rattle.tso_program.specs.declared.listing.Listing.{Listing}
+use Rattle.tso_program.specs.declared.shown.Shown.{Shown}
+use Rattle.tso_program.specs.declared.shown.Shown.TheVariants.{All, Only}
+use Rattle.tso_program.specs.Shown.{asked}
+use Rattle.litmus_text.specs.declared.litmus.Litmus.{Litmus}
+use Rattle.cert_check.specs.Claims.{claim_of}
+use Rattle.cert_check.specs.Faults.{FaultIs}
+use Rattle.fencecheck.specs.Verdicts.{handed_in}
 use Rattle.fencecheck.proofs.judge.judge.Goals as goal
+
+-- what is handed in is what is asked
+asked_once : (litmus : Litmus Listing) (shown : Shown) → handed_in litmus (handed_in litmus shown) ≡ handed_in litmus shown
+asked_once litmus All = refl
+asked_once litmus (Only names) = refl
 
 pub returns-in-Err-costs_of-clause-refused : goal.returns-in-Err-costs_of-clause-refused
 returns-in-Err-costs_of-clause-refused c =
@@ -12,6 +25,8 @@ returns-in-Ok-checked_line-clause-accepted c = record {
     of_text = c.in-Ok.ensures.found;
     gap_costs = c.in-Ok-costs_of.costs;
     given = c.in-Ok-costs_of.ensures.costs;
+    shown = c.handed_in-shown.result;
+    as_asked = subst (λ shown. handed_in c.in-Ok.litmus shown ≡ shown) (sym c.handed_in-shown.ensures) (asked_once c.in-Ok.litmus c.in-Ok-read_cert.certificate.shown);
     gaps = c.in-Ok-read_cert.certificate.set;
     headline = c.in-Ok-checked_line.ensures.headline;
     printed = c.in-Ok-checked_line.ensures.line;
@@ -29,5 +44,5 @@ returns-clause-refused c = (
   c.in-Ok-costs_of.costs,
   record { of_program = c.in-Ok.ensures.found; of_certificate = c.in-Ok-read_cert.ensures.found },
   c.in-Ok-costs_of.ensures.costs,
-  c.in-Err-checked_line.ensures.refused,
+  subst (λ shown. FaultIs (asked c.in-Ok.litmus.program shown) c.in-Ok-costs_of.costs (claim_of c.in-Ok-read_cert.certificate) c.in-Err-checked_line.fault) c.handed_in-shown.ensures c.in-Err-checked_line.ensures.refused,
 )

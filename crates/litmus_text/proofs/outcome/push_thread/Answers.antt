@@ -8,7 +8,7 @@ use Rattle.litmus_text.proofs.outcome.push_thread.Goals as goal
 
 pub loop-register-preserved : goal.loop-register-preserved
 loop-register-preserved c =
-    let item = named_item c.args.names.now c.args.thread c.args.values in
+    let item = named_item c.args.names.now c.args.shown.now c.args.thread c.args.values in
     c.in_ok-push_named.ensures
     ∙ ap (λ (ts : List (List ℕ)). ts ++ item (get_or all_registers c.loop-register.register-index Eax)) c.loop-register.invariant
     ∙ flat_more item (texts c.args.items.now.items) all_registers c.loop-register.register-index Eax c.loop-register-test.true

@@ -7,4 +7,4 @@ use Rattle.litmus_text.proofs.outcome.push_thread.Given as goal
 
 -- the items of the registers so far
 abbrev pub invariant-loop-register : goal.invariant-loop-register
-invariant-loop-register l = texts l.items.items ≡ texts l.initial.items.items ++ flat_map (named_item l.names l.thread l.values) (take l.register-index all_registers)
+invariant-loop-register l = texts l.items.items ≡ texts l.initial.items.items ++ flat_map (named_item l.names l.shown l.thread l.values) (take l.register-index all_registers)

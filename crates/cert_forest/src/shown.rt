@@ -1,0 +1,255 @@
+//! The head of a certificate's text: its version, and what is shown.
+
+ghost use Rattle.std.specs.Prelude.{◌≡◌, ◌<◌, IfOk, IfSome, []};
+ghost use Rattle.gap_sets.specs.Gaps.{gaps_in};
+ghost use Rattle.cert_words.specs.Words.{Gives, GivesUnlessMemory};
+ghost use Rattle.cert_forest.specs.Certificates.{shown_places, listed};
+ghost use Rattle.cert_forest.specs.Limits.{PlacesFrom, ArePlaces};
+ghost use Rattle.cert_forest.specs.Reading.{digit_of, location_of, register_of, place_of, place_at, places_at, shown_line_at, version_at, header_at, shown_at};
+
+use crate::access::stop_len;
+use cert_words::{
+    Refusal, Stop, Wrong, are_digits, begins_word, end, name, plain_number, refused,
+    refused_unless_cut, refused_word, word,
+};
+use std::alloc::Global;
+use tso_program::{Names, Shown};
+
+/// How many registers and locations can be named.
+const MAX_PLACES: u8 = 56;
+/// How many registers can be named: their places come before those of locations.
+const MAX_REGISTERS: u8 = 48;
+
+/// The digit up to a limit that is written so.
+fn digit_of(limit: u8, byte: u8) -> Option<u8>
+    requires { limit < 10 }
+    ensures { result ≡ digit_of limit byte }
+{
+    if b'0' <= byte && byte <= b'0' + limit {
+        Some(byte - b'0')
+    } else {
+        None
+    }
+}
+
+/// `lN`.
+fn location_of(first: u8, digit: u8) -> Option<u8>
+    ensures value { result ≡ location_of first digit }
+    ensures within { IfSome result (λ place. place < 56) }
+{
+    if first != b'l' {
+        return None;
+    }
+    let location = digit_of(7, digit)?;
+    Some(MAX_REGISTERS + location)
+}
+
+/// `rT.R`.
+fn register_of(first: u8, thread: u8, stop: u8, register: u8) -> Option<u8>
+    ensures value { result ≡ register_of first thread stop register }
+    ensures within { IfSome result (λ place. place < 56) }
+{
+    if first != b'r' || stop != b'.' {
+        return None;
+    }
+    let thread = digit_of(7, thread)?;
+    let register = digit_of(5, register)?;
+    Some(6 * thread + register)
+}
+
+/// The place whose word this is.
+fn place_of(word: &[u8]) -> Option<u8>
+    ensures value { result ≡ place_of word.now }
+    ensures within { IfSome result (λ place. place < 56) }
+{
+    match word {
+        [first, digit] => location_of(*first, *digit),
+        [first, thread, stop, register] => register_of(*first, *thread, *stop, *register),
+        _ => None,
+    }
+}
+
+/// Whether a word that is cut can become that of a place from the least on.
+fn could_go_on(word: &[u8], least: u8) -> bool {
+    match word {
+        [] => true,
+        [b'l'] => least < MAX_PLACES,
+        [b'r'] => least < MAX_REGISTERS,
+        [b'r', thread] | [b'r', thread, b'.'] => match digit_of(7, *thread) {
+            Some(thread) => least <= 6 * thread + 5,
+            None => false,
+        },
+        _ => false,
+    }
+}
+
+/// Whether the bytes are digits, at least one.
+fn is_number(bytes: &[u8]) -> bool {
+    !bytes.is_empty() && are_digits(bytes)
+}
+
+/// What is wrong with a word that is that of no place.
+fn fault_of(word: &[u8], is_cut: bool) -> Wrong {
+    let is_numbered = match word {
+        [b'l', digits @ ..] => is_number(digits),
+        [b'r', names @ ..] => is_register(names, is_cut),
+        _ => false,
+    };
+    if is_numbered {
+        Wrong::Number
+    } else {
+        Wrong::Token
+    }
+}
+
+/// Whether these are a thread's and a register's number, or a thread's alone that is too large where the
+/// rest is cut.
+fn is_register(names: &[u8], is_cut: bool) -> bool {
+    let (thread, tail) = names.split_at(stop_len(names));
+    if !is_number(thread) {
+        return false;
+    }
+    match tail.split_first() {
+        Some((_, register)) => {
+            is_number(register)
+                || is_cut && register.is_empty() && plain_number(7, thread).is_none()
+        }
+        None => is_cut && plain_number(7, thread).is_none(),
+    }
+}
+
+/// A space, and the word of a place, which is to be the least or a later one.
+#[tactic(auto, unfolding(crate::specs::Reading::place_at))]
+fn place(least: u8, bytes: &[u8]) -> Result<(u8, &[u8]), Refusal>
+    ensures gives { Gives (λ x. (x.0, x.1.now)) result (place_at bytes.now) }
+    ensures below { IfOk result (λ x. x.0 < 56) }
+{
+    let (word, rest) = word(bytes)?;
+    match place_of(word) {
+        Some(place) => Ok((place, rest)),
+        None => {
+            let wrong = fault_of(word, rest.is_empty());
+            Err(refused_unless_cut(wrong, could_go_on(word, least), bytes, rest))
+        }
+    }
+}
+
+/// The places of what is shown, ascending, as long as words follow.
+fn places(alloc: Global, bytes: &[u8]) -> Result<(Vec<u8>, &[u8]), Stop>
+    ensures { GivesUnlessMemory (λ x. (x.0.items, x.1.now)) result (places_at 56 0 [] bytes.now) }
+{
+    let mut found = Vec::new(alloc);
+    let mut least: u8 = 0;
+    let mut rest = bytes;
+    for _ in 0..MAX_PLACES {
+        if !begins_word(rest) {
+            return Ok((found, rest));
+        }
+        let (place, after) = place(least, rest)?;
+        if place < least {
+            return Err(Stop::Refused(refused_word(Wrong::Token, rest)));
+        }
+        found.push(place)?;
+        least = place + 1;
+        rest = after;
+    }
+    if begins_word(rest) {
+        return Err(Stop::Refused(after_all(rest)));
+    }
+    Ok((found, rest))
+}
+
+/// What is wrong with a word behind 56 places.
+fn after_all(bytes: &[u8]) -> Refusal {
+    match place(MAX_PLACES, bytes) {
+        Ok(_) => refused_word(Wrong::Token, bytes),
+        Err(refusal) => refusal,
+    }
+}
+
+#[tactic(auto, unfolding(crate::specs::Reading::shown_line_at))]
+fn shown_line(alloc: Global, bytes: &[u8]) -> Result<(Vec<u8>, &[u8]), Stop>
+    ensures { GivesUnlessMemory (λ x. (x.0.items, x.1.now)) result (shown_line_at bytes.now) }
+{
+    let rest = name(b"shown", bytes)?;
+    let (places, rest) = places(alloc, rest)?;
+    let rest = end(rest)?;
+    Ok((places, rest))
+}
+
+/// The registers and locations at these places.
+fn names_at(places: &[u8]) -> Names
+    requires { PlacesFrom 0 places.now }
+    ensures { gaps_in result ≡ places.now }
+{
+    let mut names = Names::none();
+    for place in places {
+        names = names.with_place(*place);
+    }
+    names
+}
+
+/// The second word of the first line: whether a line of what is shown follows.
+#[tactic(auto, unfolding(crate::specs::Reading::version_at))]
+fn version(bytes: &[u8]) -> Result<(bool, &[u8]), Refusal>
+    ensures { Gives (λ x. (x.0, x.1.now)) result (version_at bytes.now) }
+{
+    let (word, rest) = word(bytes)?;
+    if word == b"1".as_slice() {
+        Ok((false, rest))
+    } else if word == b"2".as_slice() {
+        Ok((true, rest))
+    } else {
+        Err(refused_unless_cut(Wrong::Token, word.is_empty(), bytes, rest))
+    }
+}
+
+#[tactic(auto, unfolding(crate::specs::Reading::header_at))]
+fn first_line(bytes: &[u8]) -> Result<(bool, &[u8]), Refusal>
+    ensures { Gives (λ x. (x.0, x.1.now)) result (header_at bytes.now) }
+{
+    let rest = name(b"FENCECERT", bytes)?;
+    let (is_second, rest) = version(rest)?;
+    let rest = end(rest)?;
+    Ok((is_second, rest))
+}
+
+/// The first line, which says what the text is.
+fn header(bytes: &[u8]) -> Result<(bool, &[u8]), Refusal>
+    ensures { Gives (λ x. (x.0, x.1.now)) result (header_at bytes.now) }
+{
+    match first_line(bytes) {
+        Ok((is_second, rest)) => Ok((is_second, rest)),
+        Err(refusal) => {
+            if refusal.wrong == Wrong::Ended {
+                Err(refusal)
+            } else {
+                Err(refused(Wrong::Header, 0))
+            }
+        }
+    }
+}
+
+/// The first line, and in the second version the places of what is shown.
+#[tactic(auto, unfolding(crate::specs::Reading::shown_at))]
+pub(crate) fn head(alloc: Global, bytes: &[u8]) -> Result<(Option<Vec<u8>>, &[u8]), Stop>
+    ensures { GivesUnlessMemory (λ x. (listed x.0, x.1.now)) result (shown_at bytes.now) }
+{
+    let (is_second, rest) = header(bytes)?;
+    if !is_second {
+        return Ok((None, rest));
+    }
+    let (places, rest) = shown_line(alloc, rest)?;
+    Ok((Some(places), rest))
+}
+
+/// What is shown: the registers and locations at these places, or all.
+pub(crate) fn shown_of(places: &Option<Vec<u8>>) -> Shown
+    requires { ArePlaces (listed places.now) }
+    ensures { shown_places result ≡ listed places.now }
+{
+    match places {
+        Some(places) => Shown::Only(names_at(places)),
+        None => Shown::All,
+    }
+}

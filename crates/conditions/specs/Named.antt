@@ -1,0 +1,45 @@
+-- The registers and locations that a formula names.
+use Rattle.std.specs.Prelude.{ℕ, nat_lt, List, [], ◌∷◌, if◌then◌else◌}
+use Rattle.std.specs.Ordering.{nat_cmp}
+use Rattle.std.specs.FinSet as set
+use Rattle.tso_program.specs.Instructions.{number}
+use Rattle.tso_program.specs.Names.{register_place, location_place}
+use Rattle.conditions.specs.declared.atom.Atom.{Atom}
+use Rattle.conditions.specs.declared.atom.Atom.TheVariants as atom
+use Rattle.conditions.specs.declared.node.Node.{Node}
+use Rattle.conditions.specs.declared.node.Node.TheVariants as node
+use Rattle.conditions.specs.Tree.{Tree}
+use Rattle.conditions.specs.Tree as tree
+
+-- these and a register of a thread, or a location; a number past 7 names nothing
+abbrev pub with_register : set.FinSet nat_cmp → ℕ → ℕ → set.FinSet nat_cmp
+with_register names thread register = if nat_lt thread 8 then set.insert names (register_place thread register) else names
+
+abbrev pub with_location : set.FinSet nat_cmp → ℕ → set.FinSet nat_cmp
+with_location names location = if nat_lt location 8 then set.insert names (location_place location) else names
+
+-- these and what an atom names
+abbrev pub with_atom : set.FinSet nat_cmp → Atom → set.FinSet nat_cmp
+with_atom names (atom.Register thread register value) = with_register names thread (number register)
+with_atom names (atom.Location location value) = with_location names location
+
+-- these and what the atoms of a formula name
+abbrev pub with_named : set.FinSet nat_cmp → Tree Atom → set.FinSet nat_cmp
+with_named names (tree.Atom a) = with_atom names a
+with_named names (tree.Const b) = names
+with_named names (tree.Not f) = with_named names f
+with_named names (tree.And f g) = with_named (with_named names f) g
+with_named names (tree.Or f g) = with_named (with_named names f) g
+
+-- the same, node by node
+abbrev pub with_node : set.FinSet nat_cmp → Node → set.FinSet nat_cmp
+with_node names (node.Atom a) = with_atom names a
+with_node names (node.Const b) = names
+with_node names node.Not = names
+with_node names node.And = names
+with_node names node.Or = names
+with_node names node.End = names
+
+abbrev pub with_nodes : set.FinSet nat_cmp → List Node → set.FinSet nat_cmp
+with_nodes names [] = names
+with_nodes names (x ∷ xs) = with_nodes (with_node names x) xs

@@ -1,0 +1,25 @@
+-- What a litmus text asks to be shown: the registers and locations that its condition and its `locations` name.
+use Rattle.std.specs.Prelude.{List, [], ◌∷◌}
+use Rattle.std.specs.Ordering.{nat_cmp}
+use Rattle.std.specs.FinSet as set
+use Rattle.tso_program.specs.Instructions.{number}
+use Rattle.tso_program.specs.declared.shown.Shown.{Shown}
+use Rattle.tso_program.specs.declared.shown.Shown.TheVariants.{Only}
+use Rattle.conditions.specs.declared.atom.Atom.{Atom}
+use Rattle.conditions.specs.Tree.{Tree}
+use Rattle.conditions.specs.Named.{with_register, with_location, with_named}
+use Rattle.litmus_text.specs.declared.observed.Observed.{Observed}
+use Rattle.litmus_text.specs.declared.observed.Observed.TheVariants.{Location, Register}
+
+-- these and an observed place
+abbrev pub with_place : set.FinSet nat_cmp → Observed → set.FinSet nat_cmp
+with_place names (Location location) = with_location names location
+with_place names (Register thread register) = with_register names thread (number register)
+
+abbrev pub with_places : set.FinSet nat_cmp → List Observed → set.FinSet nat_cmp
+with_places names [] = names
+with_places names (place ∷ places) = with_places (with_place names place) places
+
+-- what a formula and observed places name
+abbrev pub shown_by : Tree Atom → List Observed → Shown
+shown_by formula observed = Only (with_places (with_named set.empty formula) observed)

@@ -1,0 +1,44 @@
+//! What a litmus text asks to be shown.
+ghost use Rattle.std.specs.Prelude.{◌≡◌};
+ghost use Rattle.litmus_text.specs.Shown.{with_place, with_places, shown_by};
+
+use crate::litmus::Litmus;
+use crate::observed::Observed;
+use conditions::{Formula, with_location, with_register};
+use tso_program::{Names, Shown};
+
+fn with_place(names: Names, place: Observed) -> Names
+    ensures { result ≡ with_place names place }
+{
+    match place {
+        Observed::Location(location) => with_location(names, location),
+        Observed::Register(thread, register) => with_register(names, thread, register),
+    }
+}
+
+fn with_places(names: Names, places: &[Observed]) -> Names
+    ensures { result ≡ with_places names places.now }
+{
+    let mut all = names;
+    for place in places {
+        all = with_place(all, *place);
+    }
+    all
+}
+
+/// What a formula and observed places name.
+fn shown_by(formula: &Formula, observed: &[Observed]) -> Shown
+    ensures { result ≡ shown_by formula.now observed.now }
+{
+    let names = formula.with_named(Names::none());
+    Shown::Only(with_places(names, observed))
+}
+
+impl<P> Litmus<P> {
+    /// The registers and locations that the condition and `locations` name. Takes no memory.
+    pub fn shown(&self) -> Shown
+        ensures { result ≡ shown_by self.now.condition.formula self.now.observed }
+    {
+        shown_by(&self.condition.formula, self.observed.as_slice())
+    }
+}

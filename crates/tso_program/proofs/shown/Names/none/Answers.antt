@@ -1,0 +1,7 @@
+use Rattle.std.proofs.Common.{sym, subst}
+use Rattle.tso_program.specs.Names.{ArePlaces}
+use Rattle.tso_program.proofs.Places.{none_placed}
+use Rattle.tso_program.proofs.shown.Names.none.Goals as goal
+
+pub invariant_of-result : goal.invariant_of-result
+invariant_of-result c = subst ArePlaces (sym c.empty.ensures) none_placed
