@@ -5,4 +5,5 @@ pub mod Located
 pub mod FencedPlaces
 pub mod FencedLimits
 pub mod Places
+pub mod PartsShown
 pub mod Kept
