@@ -11,3 +11,4 @@ pub mod Mapped
 pub mod Unwound
 pub mod CanonicalSigns
 pub mod NodesNamed
+pub mod Mentioned

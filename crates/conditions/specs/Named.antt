@@ -1,7 +1,8 @@
 -- The registers and locations that a formula names.
-use Rattle.std.specs.Prelude.{ℕ, nat_lt, List, [], ◌∷◌, if◌then◌else◌}
+use Rattle.std.specs.Prelude.{◌≡◌, ◌⊎◌, ℕ, nat_lt, List, [], ◌∷◌, if◌then◌else◌}
 use Rattle.std.specs.Ordering.{nat_cmp}
 use Rattle.std.specs.FinSet as set
+use Rattle.tso_program.specs.declared.instruction.Reg.{Reg}
 use Rattle.tso_program.specs.Instructions.{number}
 use Rattle.tso_program.specs.Names.{register_place, location_place}
 use Rattle.conditions.specs.declared.atom.Atom.{Atom}
@@ -43,3 +44,27 @@ with_node names node.End = names
 abbrev pub with_nodes : set.FinSet nat_cmp → List Node → set.FinSet nat_cmp
 with_nodes names [] = names
 with_nodes names (x ∷ xs) = with_nodes (with_node names x) xs
+
+-- an atom speaks of register r of thread t, or of a location
+abbrev pub SpeaksOfRegister : ℕ → Reg → Atom → Type 0
+SpeaksOfRegister t r (atom.Register thread register value) = (thread ≡ t) × (register ≡ r)
+SpeaksOfRegister t r (atom.Location location value) = ⊥
+
+abbrev pub SpeaksOfLocation : ℕ → Atom → Type 0
+SpeaksOfLocation l (atom.Register thread register value) = ⊥
+SpeaksOfLocation l (atom.Location location value) = location ≡ l
+
+-- some atom of a formula does
+abbrev pub SomeAtom : (Atom → Type 0) → Tree Atom → Type 0
+SomeAtom Speaks (tree.Atom a) = Speaks a
+SomeAtom Speaks (tree.Const b) = ⊥
+SomeAtom Speaks (tree.Not f) = SomeAtom Speaks f
+SomeAtom Speaks (tree.And f g) = SomeAtom Speaks f ⊎ SomeAtom Speaks g
+SomeAtom Speaks (tree.Or f g) = SomeAtom Speaks f ⊎ SomeAtom Speaks g
+
+-- a formula mentions register r of thread t, or a location
+abbrev pub MentionsRegister : Tree Atom → ℕ → Reg → Type 0
+MentionsRegister f t r = SomeAtom (SpeaksOfRegister t r) f
+
+abbrev pub MentionsLocation : Tree Atom → ℕ → Type 0
+MentionsLocation f l = SomeAtom (SpeaksOfLocation l) f

@@ -19,3 +19,4 @@ pub mod FencingIsTheMachine
 -- the answer
 pub mod OneAnswer
 pub mod HeadlineIsTheAnswer
+pub mod PartsServed

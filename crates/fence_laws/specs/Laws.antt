@@ -1,10 +1,14 @@
 -- What holds of every program, its runs and its fences.
-use Rattle.std.specs.Prelude.{◌≡◌, ◌↔◌, ℕ, ◌<◌, true, List}
+use Rattle.std.specs.Prelude.{◌≡◌, ◌↔◌, ℕ, ◌<◌, ◌≤◌, true, List}
 use Rattle.std.specs.FinSet as set
 use Rattle.gap_sets.specs.Gaps.{SetOfGaps}
+use Rattle.gap_sets.specs.Order.{total}
 use Rattle.tso_program.specs.declared.listing.Listing.{Listing}
 use Rattle.tso_program.specs.declared.outcome.Outcome.{Outcome}
-use Rattle.tso_program.specs.Shown.{Question}
+use Rattle.tso_program.specs.declared.shown.Shown.{Shown}
+use Rattle.tso_program.specs.declared.shown.Shown.TheVariants.{All}
+use Rattle.tso_program.specs.Shown.{Question, asked}
+use Rattle.tso_program.specs.Laws.{IsPartOf}
 use Rattle.tso_program.specs.Listings.{gap_count}
 use Rattle.tso_program.specs.Limits.{JumpForward, IsWithinLimits}
 use Rattle.tso_program.specs.Fences.{Gaps, gaps_in}
@@ -80,3 +84,16 @@ TheHeadlineIsTheAnswer = (q : Question) (costs : List ℕ) (gaps : SetOfGaps) �
 abbrev pub TheAnswerIsTheOnlyOne : Type 0
 TheAnswerIsTheOnlyOne = (q : Question) (costs : List ℕ) (one other : SetOfGaps) →
     IsWithinLimits q.program.threads q.program.memory → IsTheAnswer q costs one → IsTheAnswer q costs other → one ≡ other
+
+-- what serves where more is shown serves where a part of it is
+abbrev pub WhatServesServesEachPart : Type 0
+WhatServesServesEachPart = (p : Listing) (small large : Shown) (gaps : SetOfGaps) → IsPartOf small large → Serves (asked p large) gaps → Serves (asked p small) gaps
+
+-- so what serves where everything is shown serves whatever is shown
+abbrev pub WhatServesForAllServes : Type 0
+WhatServesForAllServes = (p : Listing) (shown : Shown) (gaps : SetOfGaps) → Serves (asked p All) gaps → Serves (asked p shown) gaps
+
+-- where a part is shown the answer costs no more than where more is
+abbrev pub AnObservedAnswerCostsNoMore : Type 0
+AnObservedAnswerCostsNoMore = (p : Listing) (small large : Shown) (costs : List ℕ) (part whole : SetOfGaps) → IsPartOf small large →
+    IsTheAnswer (asked p small) costs part → IsTheAnswer (asked p large) costs whole → total costs part ≤ total costs whole

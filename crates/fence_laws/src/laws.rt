@@ -1,5 +1,5 @@
 //! The laws: each function's contract is a theorem, and calling it does nothing.
-ghost use Rattle.fence_laws.specs.Laws.{SequentialRunsAreAllowed, FencedRunsPassNoGapOfTheSet, PassedGapsTellTheFencedRuns, ProgramsJumpForward, TheEmptySetFencesNothing, ARunThatPassesNothingIsSequential, ARunWithNothingPassedIsSequential, AllGapsServe, FencingIsTheMachineWithGaps, FencingKeepsSequentialOutcomes, TheAnswerIsTheOnlyOne, TheHeadlineIsTheAnswer};
+ghost use Rattle.fence_laws.specs.Laws.{SequentialRunsAreAllowed, FencedRunsPassNoGapOfTheSet, PassedGapsTellTheFencedRuns, ProgramsJumpForward, TheEmptySetFencesNothing, ARunThatPassesNothingIsSequential, ARunWithNothingPassedIsSequential, AllGapsServe, FencingIsTheMachineWithGaps, FencingKeepsSequentialOutcomes, TheAnswerIsTheOnlyOne, TheHeadlineIsTheAnswer, WhatServesServesEachPart, WhatServesForAllServes, AnObservedAnswerCostsNoMore};
 
 /// Each sequential outcome is a store buffer outcome, whatever gaps are fenced.
 pub fn sequential_runs_are_allowed()
@@ -44,4 +44,15 @@ pub fn the_answer_is_the_only_one()
 /// What is said of the fenced program's text is said of the set of gaps, and the other way round.
 pub fn the_headline_is_the_answer()
     ensures { TheHeadlineIsTheAnswer }
+{}
+
+/// A set of gaps that serves where more is shown serves where a part of it is.
+pub fn what_serves_serves_each_part()
+    ensures part { WhatServesServesEachPart }
+    ensures all { WhatServesForAllServes }
+{}
+
+/// Where a part is shown the answer costs no more than where more is.
+pub fn an_observed_answer_costs_no_more()
+    ensures { AnObservedAnswerCostsNoMore }
 {}

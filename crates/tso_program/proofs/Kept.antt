@@ -1,17 +1,21 @@
 -- What is shown, value by value.
-use Rattle.std.proofs.Common.{◌≡◌, ℕ, ◌<◌, Bool, true, false, List, [], get_or, length, refl, sym, ap, ◌∙◌, arith}
+use Rattle.std.proofs.Common.{◌≡◌, ℕ, ◌<◌, Bool, true, false, List, [], get_or, length, inl, inr, refl, sym, ap, ◌∙◌, arith}
+use Rattle.std.proofs.lemmas.Bool.{cases_lt}
 use Rattle.std.proofs.lemmas.Grind.{same_number_lists}
-use Rattle.std.proofs.lemmas.List.{ext_get_or}
+use Rattle.std.proofs.lemmas.List.{ext_get_or, get_or_past}
 use Rattle.std.proofs.lemmas.List.FromFn.{fill_by_all, get_or-map-range_with_len, length-map-range_with_len}
 use Rattle.tso_program.specs.declared.outcome.Outcome.{Outcome}
 use Rattle.tso_program.specs.declared.shown.Shown.{Shown}
 use Rattle.tso_program.specs.declared.shown.Shown.TheVariants.{All, Only}
+use Rattle.tso_program.specs.Laws.{IsPartOf, register_in, value_in, WhatIsShownIsAlike, ShownRegistersAreKept, ShownLocationsAreKept, OtherRegistersAreZero, OtherLocationsAreZero, APartIsShownOfTheWhole, ShowingTwiceIsShowingOnce, EverythingShownIsTheOutcome}
 use Rattle.tso_program.specs.Shown.{shows_register, shows_location, value_if, shown_registers, shown_value, show_registers, show_memory, show}
+use Rattle.tso_program.proofs.PartsShown.{any_register, part_of_itself}
 
--- a value that is 0 unless it is shown stays so
-twice : (b : Bool) (v : ℕ) → value_if b (value_if b v) ≡ value_if b v
-twice true v = refl
-twice false v = refl
+-- what a part shows of a value that the whole shows
+within : (small large : Bool) (v : ℕ) → (small ≡ true → large ≡ true) → value_if small (value_if large v) ≡ value_if small v
+within small true v h = refl
+within true false v h = let e = h refl in absurd cc
+within false false v h = refl
 
 -- ---- a thread's registers
 
@@ -28,11 +32,13 @@ pub registers_by : (shown : Shown) (t : ℕ) (held left : List ℕ) → length l
 registers_by All t held left long each = same_number_lists left held long (λ r h. each r (omega arith))
 registers_by (Only names) t held left long each = fill_by_all (λ r. value_if (shows_register (Only names) t r) (get_or held r 0)) left (length held) 0 long each
 
-registers_twice : (shown : Shown) (t : ℕ) (held : List ℕ) → shown_registers shown t (shown_registers shown t held) ≡ shown_registers shown t held
-registers_twice shown t held = sym (registers_by shown t (shown_registers shown t held) (shown_registers shown t held) refl
-    (λ r h. let long = registers_long shown t held in
-    let e = register_at shown t held r (omega arith) in
-    e ∙ sym (ap (value_if (shows_register shown t r)) e ∙ twice (shows_register shown t r) (get_or held r 0))))
+registers_within : (small large : Shown) → IsPartOf small large → (t : ℕ) (held : List ℕ) → shown_registers small t (shown_registers large t held) ≡ shown_registers small t held
+registers_within small large part t held =
+    registers_by small t held (shown_registers small t (shown_registers large t held)) (registers_long small t (shown_registers large t held) ∙ registers_long large t held)
+    (λ r h. let long = registers_long large t held in
+    register_at small t (shown_registers large t held) r (omega arith)
+    ∙ ap (value_if (shows_register small t r)) (register_at large t held r h)
+    ∙ within (shows_register small t r) (shows_register large t r) (get_or held r 0) (any_register small large part t r))
 
 -- ---- the memory
 
@@ -55,10 +61,10 @@ pub same_memory : (shown : Shown) (xs ys : List ℕ) → length xs ≡ length ys
 same_memory shown xs ys long each = memory_by shown ys (show_memory shown xs) (memory_long shown xs ∙ long)
     (λ l h. value_at shown xs l (omega arith) ∙ each l (omega arith))
 
-memory_twice : (shown : Shown) (memory : List ℕ) → show_memory shown (show_memory shown memory) ≡ show_memory shown memory
-memory_twice shown memory = same_memory shown (show_memory shown memory) memory (memory_long shown memory)
-    (λ l h. let long = memory_long shown memory in
-    ap (shown_value shown l) (value_at shown memory l (omega arith)) ∙ twice (shows_location shown l) (get_or memory l 0))
+memory_within : (small large : Shown) → IsPartOf small large → (memory : List ℕ) → show_memory small (show_memory large memory) ≡ show_memory small memory
+memory_within small large part memory = same_memory small (show_memory large memory) memory (memory_long large memory)
+    (λ l h. let long = memory_long large memory in
+    ap (shown_value small l) (value_at large memory l (omega arith)) ∙ within (shows_location small l) (shows_location large l) (get_or memory l 0) (part.locations l))
 
 -- ---- the registers of all threads
 
@@ -82,15 +88,80 @@ pub same_threads : (shown : Shown) (xs ys : List (List ℕ)) → length xs ≡ l
 same_threads shown xs ys long each = threads_by shown ys (show_registers shown xs) (threads_long shown xs ∙ long)
     (λ t h. thread_at shown xs t (omega arith) ∙ each t (omega arith))
 
-threads_twice : (shown : Shown) (registers : List (List ℕ)) → show_registers shown (show_registers shown registers) ≡ show_registers shown registers
-threads_twice shown registers = same_threads shown (show_registers shown registers) registers (threads_long shown registers)
-    (λ t h. let long = threads_long shown registers in
-    ap (shown_registers shown t) (thread_at shown registers t (omega arith)) ∙ registers_twice shown t (get_or registers t []))
+threads_within : (small large : Shown) → IsPartOf small large → (registers : List (List ℕ)) → show_registers small (show_registers large registers) ≡ show_registers small registers
+threads_within small large part registers = same_threads small (show_registers large registers) registers (threads_long large registers)
+    (λ t h. let long = threads_long large registers in
+    ap (shown_registers small t) (thread_at large registers t (omega arith)) ∙ registers_within small large part t (get_or registers t []))
 
--- ---- an outcome: what is shown of it shows all of itself
-pub shown_twice : (shown : Shown) (o : Outcome) → show shown (show shown o) ≡ show shown o
-shown_twice shown o = λ i. record { registers = threads_twice shown o.registers i; memory = memory_twice shown o.memory i }
+-- ---- an outcome
+
+-- what a part shows of what the whole shows
+pub shown_within : APartIsShownOfTheWhole
+shown_within small large o part = λ i. record { registers = threads_within small large part o.registers i; memory = memory_within small large part o.memory i }
+
+-- what is shown shows all of itself
+pub shown_twice : ShowingTwiceIsShowingOnce
+shown_twice shown o = shown_within shown shown o (part_of_itself shown)
 
 -- where all is shown, the outcome itself is
-all_is_shown : (o : Outcome) → show All o ≡ o
+pub all_is_shown : EverythingShownIsTheOutcome
 all_is_shown o = refl
+
+-- ---- value by value, with 0 where there is none
+
+abbrev registers_in : Outcome → ℕ → List ℕ
+registers_in o t = get_or o.registers t []
+
+none_kept : (shown : Shown) (t : ℕ) → shown_registers shown t [] ≡ []
+none_kept All t = refl
+none_kept (Only names) t = refl
+
+thread_kept : (shown : Shown) (o : Outcome) (t : ℕ) → registers_in (show shown o) t ≡ shown_registers shown t (registers_in o t)
+thread_kept shown o t = elim (cases_lt t (length o.registers)) [
+  | inl h ↦ thread_at shown o.registers t h
+  | inr h ↦ let long = threads_long shown o.registers in
+      get_or_past (show_registers shown o.registers) t [] (omega arith)
+      ∙ sym (ap (shown_registers shown t) (get_or_past o.registers t [] h) ∙ none_kept shown t)
+]
+
+hidden : (b : Bool) → value_if b 0 ≡ 0
+hidden true = refl
+hidden false = refl
+
+register_kept : (shown : Shown) (o : Outcome) (t r : ℕ) → register_in (show shown o) t r ≡ value_if (shows_register shown t r) (register_in o t r)
+register_kept shown o t r = ap (λ (held : List ℕ). get_or held r 0) (thread_kept shown o t) ∙ at_register (registers_in o t)
+  where
+    at_register : (held : List ℕ) → get_or (shown_registers shown t held) r 0 ≡ value_if (shows_register shown t r) (get_or held r 0)
+    at_register held = elim (cases_lt r (length held)) [
+      | inl h ↦ register_at shown t held r h
+      | inr h ↦ let long = registers_long shown t held in
+          get_or_past (shown_registers shown t held) r 0 (omega arith)
+          ∙ sym (ap (value_if (shows_register shown t r)) (get_or_past held r 0 h) ∙ hidden (shows_register shown t r))
+    ]
+
+value_kept : (shown : Shown) (o : Outcome) (l : ℕ) → value_in (show shown o) l ≡ value_if (shows_location shown l) (value_in o l)
+value_kept shown o l = elim (cases_lt l (length o.memory)) [
+  | inl h ↦ value_at shown o.memory l h
+  | inr h ↦ let long = memory_long shown o.memory in
+      get_or_past (show_memory shown o.memory) l 0 (omega arith)
+      ∙ sym (ap (shown_value shown l) (get_or_past o.memory l 0 h) ∙ hidden (shows_location shown l))
+]
+
+pub alike : WhatIsShownIsAlike
+alike shown o = record {
+  threads = threads_long shown o.registers;
+  registers = λ t. ap length (thread_kept shown o t) ∙ registers_long shown t (registers_in o t);
+  locations = memory_long shown o.memory;
+}
+
+pub registers_kept : ShownRegistersAreKept
+registers_kept shown o t r h = register_kept shown o t r ∙ ap (λ (b : Bool). value_if b (register_in o t r)) h
+
+pub locations_kept : ShownLocationsAreKept
+locations_kept shown o l h = value_kept shown o l ∙ ap (λ (b : Bool). value_if b (value_in o l)) h
+
+pub other_registers : OtherRegistersAreZero
+other_registers shown o t r h = register_kept shown o t r ∙ ap (λ (b : Bool). value_if b (register_in o t r)) h
+
+pub other_locations : OtherLocationsAreZero
+other_locations shown o l h = value_kept shown o l ∙ ap (λ (b : Bool). value_if b (value_in o l)) h

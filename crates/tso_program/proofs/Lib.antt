@@ -4,5 +4,7 @@ pub mod Gaps
 pub mod Located
 pub mod FencedPlaces
 pub mod FencedLimits
+pub mod Registers
 pub mod Places
+pub mod PartsShown
 pub mod Kept

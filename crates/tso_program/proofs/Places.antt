@@ -1,10 +1,13 @@
 -- The places of named registers and locations.
-use Rattle.std.proofs.Common.{◌≡◌, ◌⊎◌, ◌||◌, ℕ, ◌<◌, Bool, true, false, refl, sym, ◌∙◌, inl, inr, arith}
+use Rattle.std.proofs.Common.{◌≡◌, ◌⊎◌, ◌||◌, ℕ, ◌-◌, ◌/◌, ◌%◌, ◌<◌, Bool, true, false, refl, sym, ◌∙◌, inl, inr, arith}
 use Rattle.std.specs.Ordering.{nat_cmp, eq_by_cmp}
 use Rattle.std.specs.Cmp.{nat_cmp_total}
 use Rattle.std.specs.FinSet as set
+use Rattle.std.proofs.Math.Nat.{div-add-mod, mod-lt}
+use Rattle.std.proofs.lemmas.Bool.{cases_lt}
 use Rattle.std.proofs.lemmas.Bool.Decides.{nat_tests}
 use Rattle.tso_program.specs.Names.{register_place, ArePlaces}
+use Rattle.tso_program.specs.Laws.{RegisterPlacesAreDistinct, LocationPlacesAreDistinct, RegistersLieApartFromLocations, IsRegisterPlace, EachPlaceIsNamed}
 
 pub none_placed : ArePlaces set.empty
 none_placed place h = let no : true ≡ false = sym h ∙ set.contains-empty nat_cmp place in absurd cc
@@ -22,3 +25,31 @@ one_more_placed names new placed below place h =
 
 pub register_placed : (t r : ℕ) → t < 8 → r < 6 → register_place t r < 56
 register_placed t r thread register = omega arith
+
+-- ---- no two have one place
+
+pub registers_distinct : RegisterPlacesAreDistinct
+registers_distinct t r u s small other e = (omega arith, omega arith)
+
+pub locations_distinct : LocationPlacesAreDistinct
+locations_distinct l m e = omega arith
+
+pub lie_apart : RegistersLieApartFromLocations
+lie_apart t r l thread register e = omega arith
+
+-- ---- each place is a register's or a location's
+
+pub on_register : (place : ℕ) → place < 48 → IsRegisterPlace place
+on_register place h = let e = div-add-mod place 6 in let small = mod-lt place {m = 6} (omega arith) in record {
+  thread = place / 6;
+  register = place % 6;
+  few_threads = omega arith;
+  few_registers = small;
+  value = sym e;
+}
+
+pub each_named : EachPlaceIsNamed
+each_named place h = elim (cases_lt place 48) [
+  | inl below ↦ inl (on_register place below)
+  | inr above ↦ inr (record { location = place - 48; few_locations = omega arith; value = omega arith })
+]

@@ -5,3 +5,4 @@ pub mod Limits
 pub mod Fences
 pub mod Names
 pub mod Shown
+pub mod Laws

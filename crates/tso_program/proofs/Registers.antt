@@ -1,0 +1,29 @@
+-- The numbers of registers.
+use Rattle.std.proofs.Common.{◌≡◌, ◌==◌, ℕ, ◌<◌, refl, sym, ap, ◌∙◌, arith}
+use Rattle.std.specs.Prelude.{if◌then◌else◌}
+use Rattle.tso_program.specs.declared.instruction.Reg.{Reg}
+use Rattle.tso_program.specs.declared.instruction.Reg.TheVariants.{Eax, Ebx, Ecx, Edx, Esi, Edi}
+use Rattle.tso_program.specs.Instructions.{number}
+
+pub small_number : (r : Reg) → number r < 6
+small_number Eax = omega arith
+small_number Ebx = omega arith
+small_number Ecx = omega arith
+small_number Edx = omega arith
+small_number Esi = omega arith
+small_number Edi = omega arith
+
+reg_back : ℕ → Reg
+reg_back n = if n == 0 then Eax else if n == 1 then Ebx else if n == 2 then Ecx else if n == 3 then Edx else if n == 4 then Esi else Edi
+
+reg_again : (r : Reg) → reg_back (number r) ≡ r
+unfolding reg_back
+reg_again Eax = refl
+reg_again Ebx = refl
+reg_again Ecx = refl
+reg_again Edx = refl
+reg_again Esi = refl
+reg_again Edi = refl
+
+pub same_register : (r s : Reg) → number r ≡ number s → r ≡ s
+same_register r s e = sym (reg_again r) ∙ ap reg_back e ∙ reg_again s

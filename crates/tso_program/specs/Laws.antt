@@ -1,0 +1,89 @@
+-- What holds of every place of a register or a location, and of what is shown of every outcome.
+use Rattle.std.specs.Prelude.{◌≡◌, ◌≢◌, ◌⊎◌, ℕ, ◌<◌, true, false, [], length, slice_index, slice_index_or}
+use Rattle.tso_program.specs.declared.outcome.Outcome.{Outcome}
+use Rattle.tso_program.specs.declared.shown.Shown.{Shown}
+use Rattle.tso_program.specs.declared.shown.Shown.TheVariants.{All}
+use Rattle.tso_program.specs.Names.{register_place, location_place}
+use Rattle.tso_program.specs.Shown.{shows_register, shows_location, show}
+
+-- no two registers have one place
+abbrev pub RegisterPlacesAreDistinct : Type 0
+RegisterPlacesAreDistinct = (t r u s : ℕ) → r < 6 → s < 6 → register_place t r ≡ register_place u s → (t ≡ u) × (r ≡ s)
+
+-- no two locations have one place
+abbrev pub LocationPlacesAreDistinct : Type 0
+LocationPlacesAreDistinct = (l m : ℕ) → location_place l ≡ location_place m → l ≡ m
+
+-- no register of the first 8 threads has a location's place
+abbrev pub RegistersLieApartFromLocations : Type 0
+RegistersLieApartFromLocations = (t r l : ℕ) → t < 8 → r < 6 → register_place t r ≢ location_place l
+
+-- a register of the first 8 threads whose place this is
+pub record IsRegisterPlace (place : ℕ) : Type 0 where
+  pub thread : ℕ
+  pub register : ℕ
+  pub few_threads : thread < 8
+  pub few_registers : register < 6
+  pub value : place ≡ register_place thread register
+
+-- a location of the first 8 whose place this is
+pub record IsLocationPlace (place : ℕ) : Type 0 where
+  pub location : ℕ
+  pub few_locations : location < 8
+  pub value : place ≡ location_place location
+
+-- each place below 56 is a register's or a location's
+abbrev pub EachPlaceIsNamed : Type 0
+EachPlaceIsNamed = (place : ℕ) → place < 56 → IsRegisterPlace place ⊎ IsLocationPlace place
+
+-- register r of thread t in an outcome, and a location's value; 0 where there is none
+abbrev pub register_in : Outcome → ℕ → ℕ → ℕ
+register_in o t r = slice_index (slice_index_or o.registers t []) r
+
+abbrev pub value_in : Outcome → ℕ → ℕ
+value_in o l = slice_index o.memory l
+
+-- two outcomes have as many threads, as many registers of each thread, and as many locations
+pub record AreAlike (o other : Outcome) : Type 0 where
+  pub threads : length o.registers ≡ length other.registers
+  pub registers : (t : ℕ) → length (slice_index_or o.registers t []) ≡ length (slice_index_or other.registers t [])
+  pub locations : length o.memory ≡ length other.memory
+
+-- what is shown of an outcome has as many threads, registers and locations
+abbrev pub WhatIsShownIsAlike : Type 0
+WhatIsShownIsAlike = (shown : Shown) (o : Outcome) → AreAlike (show shown o) o
+
+-- a register and a location that are shown keep their values
+abbrev pub ShownRegistersAreKept : Type 0
+ShownRegistersAreKept = (shown : Shown) (o : Outcome) (t r : ℕ) → shows_register shown t r ≡ true → register_in (show shown o) t r ≡ register_in o t r
+
+abbrev pub ShownLocationsAreKept : Type 0
+ShownLocationsAreKept = (shown : Shown) (o : Outcome) (l : ℕ) → shows_location shown l ≡ true → value_in (show shown o) l ≡ value_in o l
+
+-- each other register and each other location is 0
+abbrev pub OtherRegistersAreZero : Type 0
+OtherRegistersAreZero = (shown : Shown) (o : Outcome) (t r : ℕ) → shows_register shown t r ≡ false → register_in (show shown o) t r ≡ 0
+
+abbrev pub OtherLocationsAreZero : Type 0
+OtherLocationsAreZero = (shown : Shown) (o : Outcome) (l : ℕ) → shows_location shown l ≡ false → value_in (show shown o) l ≡ 0
+
+-- each register and each location that the one shows, the other shows
+pub record IsPartOf (small large : Shown) : Type 0 where
+  pub registers : (t r : ℕ) → r < 6 → shows_register small t r ≡ true → shows_register large t r ≡ true
+  pub locations : (l : ℕ) → shows_location small l ≡ true → shows_location large l ≡ true
+
+-- where everything is shown, each other choice is a part of it
+abbrev pub EachIsPartOfAll : Type 0
+EachIsPartOfAll = (shown : Shown) → IsPartOf shown All
+
+-- what is shown of an outcome can be read off what more shows of it
+abbrev pub APartIsShownOfTheWhole : Type 0
+APartIsShownOfTheWhole = (small large : Shown) (o : Outcome) → IsPartOf small large → show small (show large o) ≡ show small o
+
+-- what is shown shows all of itself
+abbrev pub ShowingTwiceIsShowingOnce : Type 0
+ShowingTwiceIsShowingOnce = (shown : Shown) (o : Outcome) → show shown (show shown o) ≡ show shown o
+
+-- where everything is shown, the outcome itself is
+abbrev pub EverythingShownIsTheOutcome : Type 0
+EverythingShownIsTheOutcome = (o : Outcome) → show All o ≡ o

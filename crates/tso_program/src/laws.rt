@@ -1,0 +1,29 @@
+//! The laws of names and of what is shown: each function's contract is a theorem, and calling it does
+//! nothing.
+ghost use Rattle.tso_program.specs.Laws.{RegisterPlacesAreDistinct, LocationPlacesAreDistinct, RegistersLieApartFromLocations, EachPlaceIsNamed, WhatIsShownIsAlike, ShownRegistersAreKept, ShownLocationsAreKept, OtherRegistersAreZero, OtherLocationsAreZero, EachIsPartOfAll, APartIsShownOfTheWhole, ShowingTwiceIsShowingOnce, EverythingShownIsTheOutcome};
+
+/// No two registers or locations have one place, and each place below 56 is a register's or a location's.
+pub fn places_are_distinct()
+    ensures registers { RegisterPlacesAreDistinct }
+    ensures locations { LocationPlacesAreDistinct }
+    ensures apart { RegistersLieApartFromLocations }
+    ensures all { EachPlaceIsNamed }
+{}
+
+/// What is shown of an outcome keeps the registers and locations that are shown, and has 0 in place of
+/// each other one.
+pub fn what_is_shown_is_kept()
+    ensures alike { WhatIsShownIsAlike }
+    ensures registers { ShownRegistersAreKept }
+    ensures locations { ShownLocationsAreKept }
+    ensures other_registers { OtherRegistersAreZero }
+    ensures other_locations { OtherLocationsAreZero }
+{}
+
+/// What is shown of an outcome can be read off what more shows of it.
+pub fn a_part_is_shown_of_the_whole()
+    ensures part { APartIsShownOfTheWhole }
+    ensures of_all { EachIsPartOfAll }
+    ensures twice { ShowingTwiceIsShowingOnce }
+    ensures all { EverythingShownIsTheOutcome }
+{}
