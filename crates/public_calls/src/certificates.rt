@@ -8,6 +8,7 @@ use cert_forest::{read_cert, write_cert};
 use gap_sets::Costs;
 use litmus_text::read_litmus;
 use std::alloc::Global;
+use tso_program::Shown;
 
 /// The text of a certificate whose trees are copies.
 pub fn certificate(alloc: Global, text: &[u8]) -> Result<String, Refusal> {
@@ -27,12 +28,13 @@ fn split_texts(text: &[u8]) -> (&[u8], &[u8]) {
     text.split_at(start.unwrap_or(0))
 }
 
-/// What the checker says of a certificate, for a test and the costs that are given.
+/// What the checker says of a certificate, for a test of which everything is shown, and the costs that are given.
 pub fn checked(alloc: Global, words: &[&[u8]], text: &[u8]) -> Result<String, Refusal> {
     let (litmus, certificate) = split_texts(text);
     let program = read_litmus(alloc, litmus)?.program;
     let costs = Costs::new(alloc, &numbers_of(alloc, word_at(words, 1)?)?)?;
-    let accepted = check(alloc, &program, &costs, &read_cert(alloc, certificate)?)?;
+    let certificate = read_cert(alloc, certificate)?;
+    let accepted = check(alloc, &program, &Shown::All, &costs, &certificate)?;
     let mut printed = format!(in alloc; "accepted cost {} set ", accepted.cost)?;
     push_gaps(alloc, &accepted.set, &mut printed)?;
     Ok(printed)
