@@ -1,7 +1,6 @@
 -- What holds where more is shown holds where a part of it is.
-use Rattle.std.proofs.Common.{◌≡◌, ℕ, ◌<◌, ◌≤◌, List, refl, sym, ap, ◌∙◌, inl, inr, arith}
+use Rattle.std.proofs.Common.{◌≡◌, refl, sym, ap, ◌∙◌, inl, inr}
 use Rattle.std.proofs.lemmas.Bool.{cases_lt}
-use Rattle.gap_sets.specs.Gaps.{SetOfGaps}
 use Rattle.gap_sets.specs.Order.{total}
 use Rattle.tso_program.specs.declared.listing.Listing.{Listing}
 use Rattle.tso_program.specs.declared.outcome.Outcome.{Outcome}
@@ -13,7 +12,7 @@ use Rattle.tso_program.specs.Laws.{IsPartOf}
 use Rattle.tso_program.proofs.PartsShown.{part_of_all}
 use Rattle.tso_program.proofs.Kept.{shown_within}
 use Rattle.tso_machine.specs.Machine.{Mode, Sequential, Fenced}
-use Rattle.tso_machine.specs.Outcomes.{AllowsShown, Serves, LeavesOutcome, IsTheAnswer}
+use Rattle.tso_machine.specs.Outcomes.{AllowsShown, LeavesOutcome}
 use Rattle.fence_laws.specs.Laws.{WhatServesServesEachPart, WhatServesForAllServes, AnObservedAnswerCostsNoMore}
 
 module _ (p : Listing) (small large : Shown) (part : IsPartOf small large) where

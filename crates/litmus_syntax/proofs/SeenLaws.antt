@@ -1,6 +1,5 @@
 -- Places that stand already.
 use Rattle.std.proofs.Common.{◌≡◌, ◌∙◌, ◌==◌, ◌||◌, ◌&&◌, ℕ, Bool, true, false, cond, List, [], ◌∷◌, ◌++◌, refl, sym, ap, subst, arith}
-use Rattle.std.specs.Prelude.{if◌then◌else◌}
 use Rattle.std.specs.List.{list_any}
 use Rattle.std.specs.Str.{bytes_eq}
 use Rattle.std.specs.Global.{Vec}
@@ -9,25 +8,12 @@ use Rattle.litmus_syntax.specs.declared.seen.Seen.{Seen}
 use Rattle.std.proofs.lemmas.Bool.{eqb-true}
 use Rattle.std.proofs.lemmas.Bool.Decides.{nat_tests}
 use Rattle.std.proofs.lemmas.Slice.Eq.{bytes_eq-Decides}
-use Rattle.tso_program.specs.declared.instruction.Reg.{Reg}
-use Rattle.tso_program.specs.declared.instruction.Reg.TheVariants.{Eax, Ebx, Ecx, Edx, Esi, Edi}
 use Rattle.tso_program.specs.Instructions as instructions
+use Rattle.tso_program.proofs.Registers.{same_register}
 use Rattle.litmus_syntax.specs.Views.{PlaceView, Location, Register}
 use Rattle.litmus_syntax.specs.Places.{same_place, has}
 
 -- ---- whether two places are one
-
-reg_back : ℕ → Reg
-reg_back n = if n == 0 then Eax else if n == 1 then Ebx else if n == 2 then Ecx else if n == 3 then Edx else if n == 4 then Esi else Edi
-
-reg_again : (r : Reg) → reg_back (instructions.number r) ≡ r
-unfolding reg_back
-reg_again Eax = refl
-reg_again Ebx = refl
-reg_again Ecx = refl
-reg_again Edx = refl
-reg_again Esi = refl
-reg_again Edi = refl
 
 both : (a b : Bool) → (a && b) ≡ true → (a ≡ true) × (b ≡ true)
 both true b e = (refl, e)
@@ -40,7 +26,7 @@ same_place_is (Register t r) (Location y) e = absurd cc
 same_place_is (Register t r) (Register u s) e =
     let h = both (t == u) (instructions.number r == instructions.number s) e in
     let thread : t ≡ u = eqb-true t u h.0 in
-    let reg : r ≡ s = sym (reg_again r) ∙ ap reg_back (eqb-true (instructions.number r) (instructions.number s) h.1) ∙ reg_again s in
+    let reg : r ≡ s = same_register r s (eqb-true (instructions.number r) (instructions.number s) h.1) in
     ap (λ (n : ℕ). Register n r) thread ∙ ap (Register u) reg
 
 itself : (n : ℕ) → (n == n) ≡ true

@@ -14,3 +14,4 @@ pub mod Whole
 pub mod WholeTexts
 pub mod Meant
 pub mod ExampleLaws
+pub mod ShownPlaces

@@ -1,13 +1,15 @@
 -- What a litmus text asks to be shown: the registers and locations that its condition and its `locations` name.
-use Rattle.std.specs.Prelude.{List, [], ◌∷◌}
+use Rattle.std.specs.Prelude.{◌≡◌, ◌↔◌, ◌⊎◌, ℕ, ◌<◌, true, List, [], ◌∷◌, Contains}
 use Rattle.std.specs.Ordering.{nat_cmp}
 use Rattle.std.specs.FinSet as set
+use Rattle.tso_program.specs.declared.instruction.Reg.{Reg}
 use Rattle.tso_program.specs.Instructions.{number}
 use Rattle.tso_program.specs.declared.shown.Shown.{Shown}
 use Rattle.tso_program.specs.declared.shown.Shown.TheVariants.{Only}
+use Rattle.tso_program.specs.Shown.{shows_register, shows_location}
 use Rattle.conditions.specs.declared.atom.Atom.{Atom}
 use Rattle.conditions.specs.Tree.{Tree}
-use Rattle.conditions.specs.Named.{with_register, with_location, with_named}
+use Rattle.conditions.specs.Named.{with_register, with_location, with_named, MentionsRegister, MentionsLocation}
 use Rattle.litmus_text.specs.declared.observed.Observed.{Observed}
 use Rattle.litmus_text.specs.declared.observed.Observed.TheVariants.{Location, Register}
 
@@ -23,3 +25,13 @@ with_places names (place ∷ places) = with_places (with_place names place) plac
 -- what a formula and observed places name
 abbrev pub shown_by : Tree Atom → List Observed → Shown
 shown_by formula observed = Only (with_places (with_named set.empty formula) observed)
+
+-- register r of thread t is shown exactly where the formula mentions it or it is an observed place
+abbrev pub ShowsNamedRegisters : Tree Atom → List Observed → Shown → Type 0
+ShowsNamedRegisters formula observed shown = (t : ℕ) (r : Reg) → t < 8 →
+    (shows_register shown t (number r) ≡ true) ↔ (MentionsRegister formula t r ⊎ Contains observed (Register t r))
+
+-- a location is shown exactly where the formula mentions it or it is an observed place
+abbrev pub ShowsNamedLocations : Tree Atom → List Observed → Shown → Type 0
+ShowsNamedLocations formula observed shown = (l : ℕ) → l < 8 →
+    (shows_location shown l ≡ true) ↔ (MentionsLocation formula l ⊎ Contains observed (Location l))

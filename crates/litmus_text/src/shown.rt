@@ -1,6 +1,7 @@
 //! What a litmus text asks to be shown.
-ghost use Rattle.std.specs.Prelude.{◌≡◌};
-ghost use Rattle.litmus_text.specs.Shown.{with_place, with_places, shown_by};
+ghost use Rattle.std.specs.Prelude.{◌≡◌, ◌≢◌};
+ghost use Rattle.tso_program.specs.declared.shown.Shown.TheVariants.{All};
+ghost use Rattle.litmus_text.specs.Shown.{with_place, with_places, shown_by, ShowsNamedRegisters, ShowsNamedLocations};
 
 use crate::litmus::Litmus;
 use crate::observed::Observed;
@@ -37,7 +38,10 @@ fn shown_by(formula: &Formula, observed: &[Observed]) -> Shown
 impl<P> Litmus<P> {
     /// The registers and locations that the condition and `locations` name. Takes no memory.
     pub fn shown(&self) -> Shown
-        ensures { result ≡ shown_by self.now.condition.formula self.now.observed }
+        ensures value { result ≡ shown_by self.now.condition.formula self.now.observed }
+        ensures only { result ≢ All }
+        ensures registers { ShowsNamedRegisters self.now.condition.formula self.now.observed result }
+        ensures locations { ShowsNamedLocations self.now.condition.formula self.now.observed result }
     {
         shown_by(&self.condition.formula, self.observed.as_slice())
     }
