@@ -66,7 +66,7 @@ module _ (q : Question) (costs : List ℕ) (c : Certificate) where
       pub runs : HasForeignRuns
       pub fenced : IsValidCover q (Fenced (gaps_in q.program c.gaps)) outcomes c.fenced_tree empty_sketch
 
-  -- the fault is the first in their order, in which what is shown comes before the set; want of memory says nothing
+  -- the fault is the first in their order, in which what is shown comes before the set; `OutOfMemory` says nothing
   abbrev pub FaultIs : CheckFault → Type 0
   FaultIs fault.Shown = c.shown ≡ q.shown → ⊥
   FaultIs fault.Set = (c.shown ≡ q.shown) × (AreGapsOf q.program c.gaps → ⊥)

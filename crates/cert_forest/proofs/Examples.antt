@@ -1,11 +1,11 @@
--- The two certificates have their texts, and are within the limits.
+-- The three certificates have their texts, and are within the limits.
 use Rattle.std.proofs.Common.{◌≡◌, [], ◌∷◌, lit<, lit≤}
 use Rattle.std.specs.Fmt.{decimal}
 use Rattle.std.proofs.lemmas.Fmt.{decimal_digit}
 use Rattle.candidate_executions.specs.declared.event.Kind.{Kind}
 use Rattle.candidate_executions.specs.declared.event.Kind.TheVariants as kinds
 use Rattle.cert_forest.specs.Limits.{IsCoverTo, HasNumbers}
-use Rattle.cert_forest.specs.Laws.{TheExamplesAreCertificates, crossed}
+use Rattle.cert_forest.specs.Laws.{TheExamplesAreCertificates, crossed, either, observed_tree}
 
 -- single digits
 d0 : decimal 0 ≡ 48 ∷ []
@@ -57,6 +57,12 @@ crossed_numbers kind = (
 crossed_fits : (kind : Kind) → IsCoverTo 400 (crossed kind)
 crossed_fits kind = (lit≤ tt, crossed_numbers kind)
 
+either_numbers : HasNumbers either
+either_numbers = (lit< tt, lit≤ tt, (lit< tt, (lit< tt, tt)))
+
+observed_fits : IsCoverTo 400 observed_tree
+observed_fits = (lit≤ tt, (lit< tt, lit≤ tt, (either_numbers, (either_numbers, (either_numbers, tt)))))
+
 pub told : TheExamplesAreCertificates
 told = record {
   crossing = record {
@@ -106,6 +112,28 @@ told = record {
       seq_tree = (lit≤ tt, lit< tt);
       runs = (lit< tt, tt);
       fenced_tree = (lit≤ tt, lit< tt);
+      gap_tree = (lit≤ tt, tt);
+    };
+  };
+  observed = record {
+    spelled = simp (d0, d1, d2, d3, d4);
+    within = record {
+      shown = (lit≤ tt, lit< tt, tt);
+      gaps = tt;
+      cost = lit< tt;
+      seq_runs = (
+        lit< tt,
+        (
+          (lit≤ tt, (lit< tt, (lit< tt, (lit< tt, (lit< tt, (lit< tt, tt)))))),
+          (
+            (lit≤ tt, (lit< tt, (lit< tt, (lit< tt, (lit< tt, (lit< tt, tt)))))),
+            tt,
+          ),
+        ),
+      );
+      seq_tree = observed_fits;
+      runs = (lit< tt, tt);
+      fenced_tree = observed_fits;
       gap_tree = (lit≤ tt, tt);
     };
   };

@@ -1,8 +1,9 @@
--- Laws of certificates and their texts, and the definitions at two of them.
-use Rattle.std.specs.Prelude.{◌≡◌, ℕ, List, [], ◌∷◌, ◌++◌, None, codes}
+-- Laws of certificates and their texts, and the definitions at three of them.
+use Rattle.std.specs.Prelude.{◌≡◌, ℕ, List, [], ◌∷◌, ◌++◌, Some, None, codes}
 use Rattle.candidate_executions.specs.declared.event.Kind.{Kind}
 use Rattle.candidate_executions.specs.declared.event.Kind.TheVariants as kinds
 use Rattle.tso_machine.specs.declared.label.Label.TheVariants.{Exec, Flush}
+use Rattle.tso_program.specs.Names.{register_place}
 use Rattle.cert_forest.specs.declared.tree.AccessId.{AccessId}
 use Rattle.cert_forest.specs.Trees.{Cover, Value, Source, Cycle, Known, covers_of, Split, Bound, gaps_of}
 use Rattle.cert_forest.specs.Certificates.{Cert}
@@ -96,6 +97,44 @@ nothing_to_do_text =
     ++ (ended (codes "fenced K 0")
     ++ ended (codes "gaps B"))))))))
 
+-- ---- n6, of which register EBX of thread 0 is shown: what it ends with needs no fence
+
+-- the second read of thread 0 ends as the first outcome or as the second
+abbrev pub either : Cover
+either = Value 0 (covers_of (Known 0 ∷ (Known 1 ∷ [])))
+
+abbrev pub observed_tree : Cover
+observed_tree = Value 0 (covers_of (either ∷ (either ∷ (either ∷ []))))
+
+abbrev pub n6_observed : Cert
+n6_observed = record {
+  shown = Some (register_place 0 1 ∷ []);
+  gaps = [];
+  cost = 0;
+  seq_runs =
+      (Exec 0 ∷ (Exec 0 ∷ (Exec 0 ∷ (Exec 1 ∷ (Exec 1 ∷ [])))))
+      ∷ ((Exec 1 ∷ (Exec 1 ∷ (Exec 0 ∷ (Exec 0 ∷ (Exec 0 ∷ []))))) ∷ []);
+  seq_tree = observed_tree;
+  runs = [];
+  fenced_tree = observed_tree;
+  gap_tree = Bound;
+}
+
+abbrev pub n6_observed_text : List ℕ
+n6_observed_text =
+    ended (codes "FENCECERT 2")
+    ++ (ended (codes "shown r0.1")
+    ++ (ended (codes "set")
+    ++ (ended (codes "cost 0")
+    ++ (ended (codes "seq 2")
+    ++ (ended (codes "run e0 e0 e0 e1 e1")
+    ++ (ended (codes "run e1 e1 e0 e0 e0")
+    ++ (ended (codes "tree V 0 3 V 0 2 K 0 K 1 V 0 2 K 0 K 1 V 0 2 K 0 K 1")
+    ++ (ended (codes "runs 0")
+    ++ (ended (codes "fenced V 0 3 V 0 2 K 0 K 1 V 0 2 K 0 K 1 V 0 2 K 0 K 1")
+    ++ ended (codes "gaps B"))))))))))
+
 pub record TheExamplesAreCertificates : Type 0 where
   pub crossing : IsCertificate store_buffering_text store_buffering
   pub nothing : IsCertificate nothing_to_do_text nothing_to_do
+  pub observed : IsCertificate n6_observed_text n6_observed

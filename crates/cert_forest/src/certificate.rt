@@ -8,7 +8,7 @@ use tso_program::Shown;
 /// What shows that a set of gaps is the answer for a program.
 #[derive(Debug, Drop)]
 pub struct Certificate {
-    /// What is shown of outcomes: what this shows is shown of them alone.
+    /// What is shown of outcomes. What the certificate proves, it proves of that part of them alone.
     pub shown: Shown,
     pub set: GapSet,
     /// The set's cost.

@@ -9,14 +9,14 @@ use thiserror::Error;
 /// Why bytes are no certificate's text: the first fault from left to right. A place is a byte's offset, from 0.
 #[derive(Clone, Copy, Debug, PartialEq, Eq, Error)]
 pub enum CertFault {
-    /// The first line can't become `FENCECERT 1`.
+    /// The first line can't become `FENCECERT 1` or `FENCECERT 2`.
     #[error("1 Header")]
     Header,
-    /// The token or the separator at this place can't stand there, or is no token. A gap that isn't greater than the
-    /// one before can't.
+    /// The token or the separator at this place can't stand there, or is no token. A gap, or a register or
+    /// location that is shown, can't stand after one that isn't less.
     #[error("2 Token {0}")]
     Token(usize),
-    /// The number in the token at this place has a leading zero, or is past its limit.
+    /// A number in the token at this place has a leading zero, or is past its limit.
     #[error("3 Number {0}")]
     Number(usize),
     /// The node that begins at this place is deeper than its tree may be.

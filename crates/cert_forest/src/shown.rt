@@ -159,7 +159,7 @@ fn places(alloc: Global, bytes: &[u8]) -> Result<(Vec<u8>, &[u8]), Stop>
     Ok((found, rest))
 }
 
-/// What is wrong with a word behind 56 places.
+/// What is wrong with a word after 56 places.
 fn after_all(bytes: &[u8]) -> Refusal {
     match place(MAX_PLACES, bytes) {
         Ok(_) => refused_word(Wrong::Token, bytes),

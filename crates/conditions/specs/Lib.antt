@@ -4,6 +4,7 @@ pub mod Truth
 pub mod Tokens
 pub mod Nodes
 pub mod Named
+pub mod NamedNodes
 pub mod Reads
 pub mod Laws
 pub mod Canonical

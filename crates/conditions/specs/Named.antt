@@ -1,5 +1,5 @@
 -- The registers and locations that a formula names.
-use Rattle.std.specs.Prelude.{◌≡◌, ◌⊎◌, ℕ, nat_lt, List, [], ◌∷◌, if◌then◌else◌}
+use Rattle.std.specs.Prelude.{◌≡◌, ◌⊎◌, ℕ, nat_lt, if◌then◌else◌}
 use Rattle.std.specs.Ordering.{nat_cmp}
 use Rattle.std.specs.FinSet as set
 use Rattle.tso_program.specs.declared.instruction.Reg.{Reg}
@@ -7,8 +7,6 @@ use Rattle.tso_program.specs.Instructions.{number}
 use Rattle.tso_program.specs.Names.{register_place, location_place}
 use Rattle.conditions.specs.declared.atom.Atom.{Atom}
 use Rattle.conditions.specs.declared.atom.Atom.TheVariants as atom
-use Rattle.conditions.specs.declared.node.Node.{Node}
-use Rattle.conditions.specs.declared.node.Node.TheVariants as node
 use Rattle.conditions.specs.Tree.{Tree}
 use Rattle.conditions.specs.Tree as tree
 
@@ -31,19 +29,6 @@ with_named names (tree.Const b) = names
 with_named names (tree.Not f) = with_named names f
 with_named names (tree.And f g) = with_named (with_named names f) g
 with_named names (tree.Or f g) = with_named (with_named names f) g
-
--- the same, node by node
-abbrev pub with_node : set.FinSet nat_cmp → Node → set.FinSet nat_cmp
-with_node names (node.Atom a) = with_atom names a
-with_node names (node.Const b) = names
-with_node names node.Not = names
-with_node names node.And = names
-with_node names node.Or = names
-with_node names node.End = names
-
-abbrev pub with_nodes : set.FinSet nat_cmp → List Node → set.FinSet nat_cmp
-with_nodes names [] = names
-with_nodes names (x ∷ xs) = with_nodes (with_node names x) xs
 
 -- an atom speaks of register r of thread t, or of a location
 abbrev pub SpeaksOfRegister : ℕ → Reg → Atom → Type 0

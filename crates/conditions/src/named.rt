@@ -3,7 +3,8 @@ ghost use Rattle.std.specs.Prelude.{◌≡◌};
 ghost use Rattle.conditions.specs.Tree.{Tree};
 ghost use Rattle.conditions.specs.declared.atom.Atom.{Atom as AtomValue};
 ghost use Rattle.conditions.specs.Nodes.{nodes_of};
-ghost use Rattle.conditions.specs.Named.{with_register, with_location, with_atom, with_node, with_named};
+ghost use Rattle.conditions.specs.Named.{with_register, with_location, with_atom, with_named};
+ghost use Rattle.conditions.specs.NamedNodes.{with_node};
 ghost use Rattle.tso_program.specs.Instructions.{number};
 
 use crate::atom::Atom;
@@ -58,7 +59,7 @@ fn with_node(names: Names, node: Node) -> Names
 }
 
 /// These and what the formula of these nodes names.
-pub fn with_nodes(names: Names, nodes: &[Node]) -> Names
+pub(crate) fn with_nodes(names: Names, nodes: &[Node]) -> Names
     ensures { (f : Tree AtomValue) → nodes_of f ≡ nodes.now → result ≡ with_named names f }
 {
     let mut all = names;

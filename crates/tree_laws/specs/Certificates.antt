@@ -28,11 +28,11 @@ pub record Certificate : Type 0 where
   pub fenced_tree : Cover
   pub gap_tree : Gap
 
--- as many outcomes as runs, and each run of the sequential machine has its own
+-- as many outcomes as runs, and each is what is shown of the outcome of its run of the sequential machine
 abbrev pub AreSequentialRuns : Question → List (List Label) → List Outcome → Type 0
 AreSequentialRuns q runs outcomes = AllZip (IsShownRun q Sequential) runs outcomes
 
--- a run of the store buffer machine with no gap fenced, whose outcome is none of the list
+-- a run of the store buffer machine with no gap fenced, and what is shown of its outcome is not in the list
 abbrev pub IsRunOutside : Question → List Outcome → List Label → Type 0
 IsRunOutside q outcomes labels = (o : Outcome) × IsShownRun q (Fenced no_gaps) labels o × (¬ Contains outcomes o)
 

@@ -22,7 +22,7 @@ abbrev pub AValidCoverCovers : Type 0
 AValidCoverCovers = (q : Question) (mode : Mode) (outcomes : List Outcome) (tree : Cover) (k : Sketch) → JumpForward q.program.threads →
     IsSketch q.program mode k → IsValidCover q mode outcomes tree k → IsCovered q mode outcomes k
 
--- of each outcome of the list all of it is shown
+-- each outcome of the list is what is shown of itself
 abbrev pub AreShown : Question → List Outcome → Type 0
 AreShown q outcomes = (o : Outcome) → Contains outcomes o → show q.shown o ≡ o
 

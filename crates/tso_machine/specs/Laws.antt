@@ -4,6 +4,7 @@ use Rattle.std.specs.Prelude.{◌≡◌, ◌≢◌, ◌↔◌, ℕ, true, false,
 use Rattle.gap_sets.specs.Gaps.{SetOfGaps}
 use Rattle.tso_program.specs.declared.outcome.Outcome.{Outcome}
 use Rattle.tso_program.specs.declared.shown.Shown.TheVariants.{All}
+use Rattle.tso_program.specs.Shown.{asked}
 use Rattle.tso_machine.specs.declared.label.Label.{Label}
 use Rattle.tso_machine.specs.declared.label.Cause.{Cause}
 use Rattle.tso_machine.specs.declared.label.Model.{Model}
@@ -12,7 +13,7 @@ use Rattle.tso_machine.specs.declared.ended.ReplayFault.TheVariants as fault
 use Rattle.tso_machine.specs.Machine.{no_gaps, Mode, Fenced, State, start, step, run, IsRun, Allows, passes}
 use Rattle.tso_machine.specs.Modes.{mode_of}
 use Rattle.tso_machine.specs.Faults.{Applies, FaultIs}
-use Rattle.tso_machine.specs.Outcomes.{AllowsShown}
+use Rattle.tso_machine.specs.Outcomes.{IsShownRun, AllowsShown}
 use Rattle.tso_program.specs.declared.listing.Listing.{Listing}
 
 -- no fault but want of memory fits a run
@@ -37,7 +38,10 @@ FencesAreAvoided = (p : Listing) (gaps : Gaps) (labels : List Label) (last : Sta
     (run p (Fenced gaps) (start p) labels ≡ Some last)
     ↔ ((t k : ℕ) → gaps t k ≡ true → passes p (Fenced no_gaps) (start p) labels t k ≡ false)
 
--- where all is shown, what a machine shows are its outcomes
+-- where everything is shown, a run shows its outcome
+abbrev pub AllShownAreTheRuns : Type 0
+AllShownAreTheRuns = (p : Listing) (mode : Mode) (labels : List Label) (o : Outcome) → IsShownRun (asked p All) mode labels o ↔ IsRun p mode labels o
+
+-- so what a machine's runs show are its outcomes
 abbrev pub AllShownAreTheOutcomes : Type 0
-AllShownAreTheOutcomes = (p : Listing) (mode : Mode) (o : Outcome) →
-    AllowsShown (record { program = p; shown = All }) mode o ↔ Allows p mode o
+AllShownAreTheOutcomes = (p : Listing) (mode : Mode) (o : Outcome) → AllowsShown (asked p All) mode o ↔ Allows p mode o

@@ -1,5 +1,5 @@
 //! The laws of the machines: each function's contract is a theorem, and calling it does nothing.
-ghost use Rattle.tso_machine.specs.Laws.{RunsHaveNoFault, CausesStopSteps, TheFirstFaultIsUnique, FencesAreAvoided, AllShownAreTheOutcomes};
+ghost use Rattle.tso_machine.specs.Laws.{RunsHaveNoFault, CausesStopSteps, TheFirstFaultIsUnique, FencesAreAvoided, AllShownAreTheRuns, AllShownAreTheOutcomes};
 ghost use Rattle.tso_machine.specs.Examples.{StoreBufferingIsTold, RIsTold, N6IsTold, LockedExchangeIsTold};
 
 /// Labels that are a run have no fault but want of memory.
@@ -19,9 +19,10 @@ pub fn fences_are_avoided()
     ensures { FencesAreAvoided }
 {}
 
-/// Where all is shown, what a machine shows are its outcomes.
+/// Where everything is shown, a run shows its outcome, and what a machine's runs show are its outcomes.
 pub fn all_shown_are_the_outcomes()
-    ensures { AllShownAreTheOutcomes }
+    ensures runs { AllShownAreTheRuns }
+    ensures outcomes { AllShownAreTheOutcomes }
 {}
 
 /// The definitions at four programs of the literature, whose runs end as they say there.

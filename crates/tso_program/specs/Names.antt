@@ -7,7 +7,7 @@ use Rattle.std.specs.FinSet as set
 abbrev pub register_place : ℕ → ℕ → ℕ
 register_place t r = 6 * t + r
 
--- the place of a location, behind those of the registers
+-- the place of a location, after those of the registers
 abbrev pub location_place : ℕ → ℕ
 location_place l = 48 + l
 
