@@ -1,6 +1,6 @@
 -- A complete sketch without a cycle is a consistent candidate: the sources are those that are chosen, and an order of the accesses
 -- gives the ranks.
-use Rattle.std.proofs.Common.{◌≡◌, ◌≢◌, ℕ, zero, suc, ◌<◌, ◌≤◌, List, [], ◌∷◌, Option, Some, None, IsSome, Contains, slice_get, map, length, refl, sym, ap, ◌∙◌, subst, append-nil, inl, inr, arith}
+use Rattle.std.proofs.Common.{◌≡◌, ◌≢◌, ℕ, suc, ◌<◌, ◌≤◌, List, [], Some, IsSome, Contains, map, length, refl, sym, ap, ◌∙◌, subst, append-nil, inl, inr, arith}
 use Rattle.std.specs.Prelude.{slice_index}
 use Rattle.std.specs.List.{range_with_len}
 use Rattle.std.proofs.lemmas.Bool.{cases_lt}
@@ -19,16 +19,17 @@ use Rattle.candidate_executions.specs.declared.event.Kind.{Kind}
 use Rattle.candidate_executions.specs.declared.event.Kind.TheVariants as union
 use Rattle.candidate_executions.specs.Traces.{gaps_of}
 use Rattle.candidate_executions.specs.Candidates.{Candidate, Writes, IsCandidate, EndsWith, HasOutcome}
-use Rattle.candidate_executions.specs.Consistency.{IsOfMode, Relates, Edge, Leads, IsCycle, IsAcyclic, IsConsistent}
+use Rattle.candidate_executions.specs.Consistency.{IsOfMode, Relates, Edge, IsAcyclic, IsConsistent}
 use Rattle.candidate_executions.specs.Sketches.{Completes, IsBefore, KnownRelates, KnownFromReads, MayBeLast}
-use Rattle.candidate_executions.specs.Orders as orders
 use Rattle.candidate_executions.specs.Orders.{followed, along, IsOrder}
 use Rattle.candidate_executions.proofs.AcyclicIsOrdered.{In}
 use Rattle.candidate_executions.proofs.CandidatesAreRuns.{every_order}
 use Rattle.candidate_executions.proofs.LastWrites.{one_end, ends_with}
 use Rattle.candidate_executions.proofs.Linear.{contains_in, pairs_ordered}
+use Rattle.candidate_executions.proofs.Lists.{some_value}
 use Rattle.candidate_executions.proofs.MoreValues.{end_or_read}
 use Rattle.candidate_executions.proofs.StepsSuffice.{advance}
+use Rattle.candidate_executions.proofs.WiderRelations.{acyclic_narrower}
 use Rattle.exec_axioms.specs.Parts.{Parts, mode_in, sketch_of, given_to, trace_in, access_in}
 use Rattle.exec_axioms.specs.Kept.{IsLawful}
 use Rattle.exec_axioms.specs.Known.{IsKnownEdge, HasNoCycle, IsAccess}
@@ -47,14 +48,6 @@ of_followed (Fenced gaps) = tt
 consistent_by : (p : Listing) (m : Mode) (c : Candidate) → ((kind : Kind) → IsOfMode m kind → IsAcyclic (Edge p m c kind)) → IsConsistent p m c
 consistent_by p Sequential c each = each union.Sequential tt
 consistent_by p (Fenced gaps) c each = (each union.Location tt, each union.Global tt)
-
-leads_by : (R S : Event → Event → Type 0) → ((d e : Event) → R d e → S d e) → (es : List Event) (d z : Event) → Leads R d es z → Leads S d es z
-leads_by R S f [] d z h = f d z h
-leads_by R S f (e ∷ es) d z h = (f d e h.0, leads_by R S f es e z h.1)
-
-cycle_by : (R S : Event → Event → Type 0) → ((d e : Event) → R d e → S d e) → (es : List Event) → IsCycle R es → IsCycle S es
-cycle_by R S f [] h = h
-cycle_by R S f (e ∷ es) h = leads_by R S f es e e h
 
 module _ (s : Parts) (lawful : IsLawful s) (whole : IsComplete s) (acyclic : HasNoCycle s) (order : List Event) (is : IsKnownOrder s order) where
   abbrev p : Listing
@@ -98,10 +91,6 @@ module _ (s : Parts) (lawful : IsLawful s) (whole : IsComplete s) (acyclic : Has
           let edge : R (At t i) (At u j) = (of_followed mode, ((pair.1.3).0, (pair.1.4).0, (pair.1.3).1, (pair.1.4).1, known_before (followed mode) (At t i) (At u j) (pair.1.3).0 (pair.1.4).0 (inl h))) in
           let less = place_before R order (At t i) (At u j) (in_order (At t i) a) (in_order (At u j) b) (pairs_ordered R order is.forward) edge pair.0 in
           omega arith
-
-  some_value : (o : Option ℕ) → IsSome o → (v : ℕ) × (o ≡ Some v)
-  some_value None h = absurd cc
-  some_value (Some v) h = (v, refl)
 
   -- writes that rise are known to
   rises_known : (d e : Event) (x y : Access) → access_in s d ≡ Some x → access_in s e ≡ Some y → x.location ≡ y.location → IsSome x.written → IsSome y.written → rank d < rank e → IsBefore (sketch_of s) d e y
@@ -186,7 +175,7 @@ module _ (s : Parts) (lawful : IsLawful s) (whole : IsComplete s) (acyclic : Has
   known_edge kind of d e r = (of, (r.0, r.1, r.2, r.3, relates kind d e r.0 r.1 r.2 r.3 r.4))
 
   pub consistent : IsConsistent p mode become
-  consistent = consistent_by p mode become (λ kind of es h. acyclic kind es (cycle_by (Edge p mode become kind) (IsKnownEdge s kind) (known_edge kind of) es h))
+  consistent = consistent_by p mode become (λ kind of. acyclic_narrower (Edge p mode become kind) (IsKnownEdge s kind) (known_edge kind of) (acyclic kind))
 
   pub completes : Completes (sketch_of s) become
   completes = record {
@@ -198,28 +187,10 @@ module _ (s : Parts) (lawful : IsLawful s) (whole : IsComplete s) (acyclic : Has
   -- the order is one of the candidate's
   is_order : IsOrder p mode become order
   is_order = record {
-    accesses = λ e. (λ h. there e ((is.accesses e).0 h), λ h. (is.accesses e).1 (here e h));
+    accesses = is.accesses;
     distinct = is.distinct;
     forward = λ i j d a b r. is.forward i j d a b (known_edge (followed mode) (of_followed mode) _ _ r);
   }
-    where
-      get_some : (xs : List Access) (i : ℕ) → i < length xs → IsSome (slice_get xs i)
-      get_some [] i h = absurd (omega arith)
-      get_some (x ∷ xs) zero h = refl
-      get_some (x ∷ xs) (suc i) h = get_some xs i (omega arith)
-
-      some_within : (xs : List Access) (i : ℕ) → IsSome (slice_get xs i) → i < length xs
-      some_within [] i h = absurd cc
-      some_within (x ∷ xs) zero h = omega arith
-      some_within (x ∷ xs) (suc i) h = let z = some_within xs i h in omega arith
-
-      there : (e : Event) → IsAccess s e → orders.IsAccess p mode become e
-      there (Initial l) h = h
-      there (At t i) h = get_some (trace_in s t).accesses i h
-
-      here : (e : Event) → orders.IsAccess p mode become e → IsAccess s e
-      here (Initial l) h = h
-      here (At t i) h = some_within (trace_in s t).accesses i h
 
   -- how it ends
   abbrev pub end : Outcome
