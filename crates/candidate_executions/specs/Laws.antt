@@ -14,7 +14,7 @@ use Rattle.candidate_executions.specs.declared.event.Event.TheVariants.{Initial,
 use Rattle.candidate_executions.specs.declared.event.Kind.{Kind}
 use Rattle.candidate_executions.specs.Candidates.{Candidate, access, access_by, IsCandidate, HasOutcome, HasShownOutcome}
 use Rattle.candidate_executions.specs.Consistency.{IsKept, Edge, IsCycle, IsConsistent}
-use Rattle.candidate_executions.specs.Orders.{along, IsOrder}
+use Rattle.candidate_executions.specs.Orders.{labels_along, IsOrder}
 use Rattle.candidate_executions.specs.Paths.{path_of, LiesBetween}
 use Rattle.candidate_executions.specs.Values.{IsValueOf}
 use Rattle.candidate_executions.specs.Sketches.{Sketch, empty_sketch, Completes, IsConsistentCompletion, IsSketch, IsSourceOf, IsPair, with_value, with_source, with_pair, next_read, IsWhole, MustEndAs, KnownEdge}
@@ -36,7 +36,7 @@ EveryCandidateIsARun = (p : Listing) (mode : Mode) (c : Candidate) (o : Outcome)
 -- along each order of its accesses that the unions allow, a consistent candidate has a run with its outcome
 abbrev pub EveryOrderIsARun : Type 0
 EveryOrderIsARun = (p : Listing) (mode : Mode) (c : Candidate) (order : List Event) (o : Outcome) → IsCandidate p mode c → IsConsistent p mode c →
-    IsOrder p mode c order → HasOutcome p mode c o → IsRun p mode (along p mode c.given (λ t. 0) order) o
+    IsOrder p mode c order → HasOutcome p mode c o → IsRun p mode (labels_along p mode c.given (λ t. 0) order) o
 
 -- a run has at most two labels for each instruction, one that executes it and a flush
 abbrev pub EveryRunIsShort : Type 0

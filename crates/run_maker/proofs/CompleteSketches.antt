@@ -9,6 +9,7 @@ use Rattle.std.proofs.lemmas.Option.{same_Some, slice_get_within}
 use Rattle.tso_program.specs.declared.listing.Listing.{Listing}
 use Rattle.tso_program.specs.declared.outcome.Outcome.{Outcome}
 use Rattle.tso_program.specs.declared.shown.Shown.{Shown}
+use Rattle.tso_program.specs.declared.shown.Shown.TheVariants.{All}
 use Rattle.tso_program.specs.Shown.{shown_value}
 use Rattle.tso_program.specs.Listings.{action, start_of, code_of}
 use Rattle.tso_machine.specs.Machine.{Mode, Sequential, Fenced}
@@ -21,7 +22,7 @@ use Rattle.candidate_executions.specs.Traces.{gaps_of}
 use Rattle.candidate_executions.specs.Candidates.{Candidate, Writes, IsCandidate, EndsWith, HasOutcome}
 use Rattle.candidate_executions.specs.Consistency.{IsOfMode, Relates, Edge, IsAcyclic, IsConsistent}
 use Rattle.candidate_executions.specs.Sketches.{Completes, IsBefore, KnownRelates, KnownFromReads, MayBeLast}
-use Rattle.candidate_executions.specs.Orders.{followed, along, IsOrder}
+use Rattle.candidate_executions.specs.Orders.{followed_union, labels_along, IsOrder}
 use Rattle.candidate_executions.proofs.AcyclicIsOrdered.{In}
 use Rattle.candidate_executions.proofs.CandidatesAreRuns.{every_order}
 use Rattle.candidate_executions.proofs.LastWrites.{one_end, ends_with}
@@ -41,7 +42,7 @@ use Rattle.run_maker.specs.Orders.{IsKnownOrder}
 use Rattle.run_maker.proofs.Completeness.{first_there, second_there}
 use Rattle.run_maker.proofs.PlacesInOrder.{place, place_before, place_same, chosen, chosen_is}
 
-of_followed : (m : Mode) → IsOfMode m (followed m)
+of_followed : (m : Mode) → IsOfMode m (followed_union m)
 of_followed Sequential = tt
 of_followed (Fenced gaps) = tt
 
@@ -57,7 +58,7 @@ module _ (s : Parts) (lawful : IsLawful s) (whole : IsComplete s) (acyclic : Has
   mode = mode_in s
 
   abbrev R : Event → Event → Type 0
-  R = IsKnownEdge s (followed mode)
+  R = IsKnownEdge s (followed_union mode)
 
   abbrev W : Event → ℕ → ℕ → Type 0
   W = Writes (access_in s)
@@ -88,7 +89,7 @@ module _ (s : Parts) (lawful : IsLawful s) (whole : IsComplete s) (acyclic : Has
       rise (Initial l) e h pair a b = absurd a
       rise (At t i) (Initial l) h pair a b = absurd b
       rise (At t i) (At u j) h pair a b =
-          let edge : R (At t i) (At u j) = (of_followed mode, ((pair.1.3).0, (pair.1.4).0, (pair.1.3).1, (pair.1.4).1, known_before (followed mode) (At t i) (At u j) (pair.1.3).0 (pair.1.4).0 (inl h))) in
+          let edge : R (At t i) (At u j) = (of_followed mode, ((pair.1.3).0, (pair.1.4).0, (pair.1.3).1, (pair.1.4).1, known_before (followed_union mode) (At t i) (At u j) (pair.1.3).0 (pair.1.4).0 (inl h))) in
           let less = place_before R order (At t i) (At u j) (in_order (At t i) a) (in_order (At u j) b) (pairs_ordered R order is.forward) edge pair.0 in
           omega arith
 
@@ -189,7 +190,7 @@ module _ (s : Parts) (lawful : IsLawful s) (whole : IsComplete s) (acyclic : Has
   is_order = record {
     accesses = is.accesses;
     distinct = is.distinct;
-    forward = λ i j d a b r. is.forward i j d a b (known_edge (followed mode) (of_followed mode) _ _ r);
+    forward = λ i j d a b r. is.forward i j d a b (known_edge (followed_union mode) (of_followed mode) _ _ r);
   }
 
   -- how it ends
@@ -227,11 +228,11 @@ module _ (s : Parts) (lawful : IsLawful s) (whole : IsComplete s) (acyclic : Has
     memory = λ l v e h a may. ap (shown_value shown l) (one_end p mode become is_candidate l v (slice_index end.memory l) (e, a, is_last l v e a may) (has_outcome.memory l h));
   }
 
-  pub run_of : IsRunOf s (along p mode (given_to s.given) (λ t. 0) order)
+  pub run_of : IsRunOf s (labels_along p mode (given_to s.given) (λ t. 0) order)
   run_of = record {
     outcome = end;
     is_run = every_order p mode become order end is_candidate consistent is_order has_outcome;
     completed = (become, record { is_candidate = is_candidate; consistent = consistent; completes = completes }, has_outcome);
     must_end = must_end;
-    only = λ shown. ends_only s shown end lawful (must_end shown);
+    only = λ other has. ends_only s All end lawful (must_end All) has.0 other has.1 has.2;
   }
