@@ -1,9 +1,9 @@
 -- What ties candidate executions to the machines, and what shows how their definitions are to be read.
-use Rattle.std.specs.Prelude.{◌≡◌, ◌≢◌, ◌↔◌, ◌⊎◌, ℕ, ◌<◌, List, Some, None, IsSome, Contains}
+use Rattle.std.specs.Prelude.{◌≡◌, ◌≢◌, ◌↔◌, ◌⊎◌, ℕ, ◌<◌, ◌≤◌, ◌+◌, ◌*◌, List, Some, None, IsSome, Contains, length}
 use Rattle.tso_program.specs.declared.listing.Listing.{Listing}
 use Rattle.tso_program.specs.declared.outcome.Outcome.{Outcome}
 use Rattle.tso_program.specs.Shown.{Question}
-use Rattle.tso_program.specs.Listings.{action}
+use Rattle.tso_program.specs.Listings.{action, code_of}
 use Rattle.tso_program.specs.Limits.{JumpForward}
 use Rattle.tso_program.specs.Fences.{Gaps}
 use Rattle.tso_machine.specs.declared.label.Label.{Label}
@@ -14,6 +14,7 @@ use Rattle.candidate_executions.specs.declared.event.Event.TheVariants.{Initial,
 use Rattle.candidate_executions.specs.declared.event.Kind.{Kind}
 use Rattle.candidate_executions.specs.Candidates.{Candidate, access, access_by, IsCandidate, HasOutcome, HasShownOutcome}
 use Rattle.candidate_executions.specs.Consistency.{IsKept, Edge, IsCycle, IsConsistent}
+use Rattle.candidate_executions.specs.Orders.{labels_along, IsOrder}
 use Rattle.candidate_executions.specs.Paths.{path_of, LiesBetween}
 use Rattle.candidate_executions.specs.Values.{IsValueOf}
 use Rattle.candidate_executions.specs.Sketches.{Sketch, empty_sketch, Completes, IsConsistentCompletion, IsSketch, IsSourceOf, IsPair, with_value, with_source, with_pair, next_read, IsWhole, MustEndAs, KnownEdge}
@@ -31,6 +32,16 @@ EveryRunIsACandidate = (p : Listing) (mode : Mode) (labels : List Label) (o : Ou
 abbrev pub EveryCandidateIsARun : Type 0
 EveryCandidateIsARun = (p : Listing) (mode : Mode) (c : Candidate) (o : Outcome) → IsCandidate p mode c → IsConsistent p mode c →
     HasOutcome p mode c o → Allows p mode o
+
+-- along each order of its accesses that the unions allow, a consistent candidate has a run with its outcome
+abbrev pub EveryOrderIsARun : Type 0
+EveryOrderIsARun = (p : Listing) (mode : Mode) (c : Candidate) (order : List Event) (o : Outcome) → IsCandidate p mode c → IsConsistent p mode c →
+    IsOrder p mode c order → HasOutcome p mode c o → IsRun p mode (labels_along p mode c.given (λ t. 0) order) o
+
+-- a run has at most two labels for each instruction, one that executes it and a flush
+abbrev pub EveryRunIsShort : Type 0
+EveryRunIsShort = (p : Listing) (mode : Mode) (labels : List Label) (o : Outcome) (n : ℕ) → JumpForward p.threads →
+    ((t : ℕ) → length (code_of p.threads t) ≤ n) → IsRun p mode labels o → length labels ≤ length p.threads * (n + n)
 
 -- the candidate has these two accesses of thread t, the first before the second
 pub record AreInOrder (p : Listing) (gaps : Gaps) (c : Candidate) (t i j : ℕ) (x y : Access) : Type 0 where

@@ -1,6 +1,6 @@
 //! The laws of candidate executions: each function's contract is a theorem, and calling it does
 //! nothing.
-ghost use Rattle.candidate_executions.specs.Laws.{EveryRunIsACandidate, EveryRunIsACompletion, EveryCandidateIsARun, SectionsTellFences, KeptOrderIsTold, NoEdgeLeadsIntoInitial, CyclesAreOfAccesses, EveryCandidateCompletesEmpty, EmptyIsASketch, AValueKeepsASketch, ASourceKeepsASketch, APairKeepsASketch, EachCompletionHasAValue, EachCompletionHasTheValues, EachCompletionHasASource, EachCompletionHasAnOrder, EachCompletionEndsSo, OutcomesAreOne, AKnownEdgeIsAnEdge, AKnownCycleIsACycle, NoKnownEdgeLeadsIntoInitial, KnownCyclesAreOfAccesses};
+ghost use Rattle.candidate_executions.specs.Laws.{EveryRunIsACandidate, EveryRunIsACompletion, EveryCandidateIsARun, EveryOrderIsARun, EveryRunIsShort, SectionsTellFences, KeptOrderIsTold, NoEdgeLeadsIntoInitial, CyclesAreOfAccesses, EveryCandidateCompletesEmpty, EmptyIsASketch, AValueKeepsASketch, ASourceKeepsASketch, APairKeepsASketch, EachCompletionHasAValue, EachCompletionHasTheValues, EachCompletionHasASource, EachCompletionHasAnOrder, EachCompletionEndsSo, OutcomesAreOne, AKnownEdgeIsAnEdge, AKnownCycleIsACycle, NoKnownEdgeLeadsIntoInitial, KnownCyclesAreOfAccesses};
 ghost use Rattle.candidate_executions.specs.StoreBuffering.{StoreBufferingIsTold};
 
 /// Every run of a mode's machine is a consistent candidate execution with the run's outcome, and so a
@@ -14,6 +14,17 @@ pub fn every_run_is_a_candidate()
 /// Every consistent candidate execution of a mode has the outcome of a run of its machine.
 pub fn every_candidate_is_a_run()
     ensures { EveryCandidateIsARun }
+{}
+
+/// A consistent candidate has a run with its outcome along each order of its accesses that its unions
+/// allow: at each access the thread executes all up to and with it, and a plain store is then flushed.
+pub fn every_order_is_a_run()
+    ensures { EveryOrderIsARun }
+{}
+
+/// A run has at most two labels for each instruction of its program.
+pub fn every_run_is_short()
+    ensures { EveryRunIsShort }
 {}
 
 /// Sections and kept program order, in words of what lies between two accesses.

@@ -1,9 +1,10 @@
 //! What is printed for an input.
 
+use crate::candidates::{Candidates, candidates};
 use crate::fault::ListFault;
 use crate::input::{Request, request_of, split_at_byte};
+use crate::machine;
 use crate::repeats::{repeated, told};
-use crate::{candidates, machine};
 use exec_axioms::Mode;
 use litmus_text::{Litmus, NameTable, read_litmus, write_outcome};
 use std::alloc::{AllocError, Global};
@@ -26,13 +27,14 @@ fn push_list(
     Ok(())
 }
 
-/// Both lists, and whether they are the same.
+/// Both lists, whether they are the same, and how many runs were made of candidate executions.
 fn told_lists(
     alloc: Global,
     names: &NameTable,
-    chosen: &[Outcome],
+    found: &Candidates,
     reached: &[Outcome],
 ) -> Result<Vec<u8>, AllocError> {
+    let chosen = found.outcomes.as_slice();
     let mut printed = Vec::new(alloc);
     push_list(
         alloc,
@@ -48,13 +50,15 @@ fn told_lists(
         b"different\n"
     };
     printed.extend_from_slice(line)?;
+    let runs = told(format!(in alloc; "runs {}, all replayed\n", found.runs))?;
+    printed.extend_from_slice(&runs)?;
     Ok(printed)
 }
 
 /// The outcomes of candidate executions, and those of the machine.
 fn both_lists(alloc: Global, litmus: &Litmus<Program>, mode: &Mode) -> Result<Vec<u8>, ListFault> {
-    let chosen = candidates::outcomes(alloc, &litmus.program, *mode)?;
-    beside_the_machine(alloc, litmus, mode, chosen.as_slice())
+    let found = candidates(alloc, &litmus.program, *mode)?;
+    beside_the_machine(alloc, litmus, mode, &found)
 }
 
 /// The outcomes that were found, and those of the machine.
@@ -62,10 +66,10 @@ fn beside_the_machine(
     alloc: Global,
     litmus: &Litmus<Program>,
     mode: &Mode,
-    chosen: &[Outcome],
+    found: &Candidates,
 ) -> Result<Vec<u8>, ListFault> {
     let reached = machine::outcomes(alloc, &litmus.program, *mode)?;
-    Ok(told_lists(alloc, &litmus.names, chosen, reached.as_slice())?)
+    Ok(told_lists(alloc, &litmus.names, found, reached.as_slice())?)
 }
 
 fn answer_to(

@@ -1,8 +1,10 @@
 //! Outcomes of candidate executions.
+ghost use Rattle.exec_axioms.specs.Known.{HasNoCycle};
 
 use crate::choices::{Choice, chosen, further_choices, value_choices};
 use crate::events::{Course, Happening, course_of};
 use crate::fault::ListFault;
+use crate::runs::try_run;
 use exec_axioms::{Mode, Sketch};
 use std::alloc::{AllocError, Global};
 use tso_program::{Items, Outcome, Program};
@@ -57,13 +59,25 @@ pub fn step_of(alloc: Global, sketch: &Sketch) -> Result<Step, ListFault> {
     if !sketch.is_whole() {
         return Ok(Step::Choices(value_choices(alloc, sketch)?));
     }
-    if sketch.find_cycle()?.is_some() {
-        return Ok(Step::Choices(Vec::new(alloc)));
+    match sketch.find_cycle()? {
+        Some(_) => Ok(Step::Choices(Vec::new(alloc))),
+        None => further_step(alloc, sketch),
     }
+}
+
+/// What a sketch without a cycle leads to once each read has its value. Of a complete one the run is
+/// tried.
+fn further_step(alloc: Global, sketch: &Sketch) -> Result<Step, ListFault>
+    requires { HasNoCycle sketch.now }
+{
     let course = course_of(alloc, sketch)?;
     match further_choices(alloc, sketch, &course)? {
         Some(choices) => Ok(Step::Choices(choices)),
-        None => Ok(Step::Complete(outcome_of(alloc, sketch, course)?)),
+        None => {
+            let outcome = outcome_of(alloc, sketch, course)?;
+            try_run(alloc, sketch, &outcome)?;
+            Ok(Step::Complete(outcome))
+        }
     }
 }
 
@@ -79,20 +93,30 @@ pub fn push_chosen(
     Ok(())
 }
 
-/// The outcomes of all consistent candidate executions, ascending.
-pub fn outcomes(alloc: Global, program: &Program, mode: Mode) -> Result<Vec<Outcome>, ListFault> {
-    let mut found = Vec::new(alloc);
+/// What all consistent candidate executions have shown.
+#[derive(Drop)]
+pub struct Candidates {
+    /// Their outcomes, ascending.
+    pub outcomes: Vec<Outcome>,
+    /// How many there are, each with its run.
+    pub runs: usize,
+}
+
+/// The outcomes of all consistent candidate executions, whose runs are tried.
+pub fn candidates(alloc: Global, program: &Program, mode: Mode) -> Result<Candidates, ListFault> {
+    let mut outcomes = Vec::new(alloc);
     let mut open = Vec::new(alloc);
     open.push(Sketch::new(alloc, program, mode)?)?;
     for _ in 0..MOST_SKETCHES {
         let Some(sketch) = open.pop() else {
-            found.sort()?;
-            found.dedup();
-            return Ok(found);
+            let runs = outcomes.len();
+            outcomes.sort()?;
+            outcomes.dedup();
+            return Ok(Candidates { outcomes, runs });
         };
         match step_of(alloc, &sketch)? {
             Step::Choices(choices) => push_chosen(&sketch, choices.as_slice(), &mut open)?,
-            Step::Complete(outcome) => found.push(outcome)?,
+            Step::Complete(outcome) => outcomes.push(outcome)?,
         }
     }
     Err(ListFault::TooManySketches)

@@ -1,8 +1,10 @@
 //! Why there is no list.
 
 use exec_axioms::SketchFault;
+use run_maker::MakeFault;
 use std::alloc::{AllocError, AllocFailed};
 use thiserror::Error;
+use tso_machine::ReplayFault;
 
 /// Why there is no list of outcomes.
 #[derive(Clone, Copy, PartialEq, Eq, Debug, Error)]
@@ -18,6 +20,9 @@ pub enum ListFault {
     /// A sketch refused a choice that it had offered.
     #[error("4 ChoiceRefused")]
     ChoiceRefused,
+    /// What is made of a complete sketch is no run with the sketch's outcome.
+    #[error("5 OtherRun")]
+    OtherRun,
 }
 
 impl From<AllocError> for ListFault {
@@ -37,6 +42,24 @@ impl From<SketchFault> for ListFault {
         match fault {
             SketchFault::OutOfMemory => ListFault::OutOfMemory,
             _ => ListFault::ChoiceRefused,
+        }
+    }
+}
+
+impl From<MakeFault> for ListFault {
+    fn from(fault: MakeFault) -> ListFault {
+        match fault {
+            MakeFault::OutOfMemory => ListFault::OutOfMemory,
+            _ => ListFault::OtherRun,
+        }
+    }
+}
+
+impl From<ReplayFault> for ListFault {
+    fn from(fault: ReplayFault) -> ListFault {
+        match fault {
+            ReplayFault::OutOfMemory => ListFault::OutOfMemory,
+            _ => ListFault::OtherRun,
         }
     }
 }

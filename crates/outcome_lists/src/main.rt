@@ -3,7 +3,8 @@
 //! The first line of its input is a request, and a litmus text follows. `sequential` asks for the
 //! outcomes under sequential consistency, `buffered` with gap numbers for those under x86-TSO with
 //! these gaps fenced: it prints them first from candidate executions, then from the machine's states,
-//! and then whether both lists are the same. `repeat` with a number is for measurements: so many
+//! and then whether both lists are the same, and how many runs it made: one of each consistent
+//! candidate execution, which it replays to the same outcome. `repeat` with a number is for measurements: so many
 //! times the last choice of a candidate execution is made, and a cycle is looked for.
 #![tactic(auto)]
 
@@ -15,6 +16,7 @@ mod fault;
 mod input;
 mod machine;
 mod repeats;
+mod runs;
 mod state;
 
 use std::io::{self, Read, Write};

@@ -1,8 +1,10 @@
 //! Sketches of small programs, by hand.
 use exec_axioms::{Event, Kind, Mode, Sketch, SketchFault};
 use gap_sets::GapSet;
+use run_maker::{MakeFault, make_run};
 use std::alloc::{AllocError, Global};
 use std::test::Fail;
+use tso_machine::{Model, replay};
 use tso_program::{Instr, Items, Outcome, Program, Reg, Shown, Thread};
 
 fn thread(alloc: Global, code: &[Instr]) -> Result<Thread, AllocError> {
@@ -147,6 +149,35 @@ fn fences_make_it_so(rt: HostRuntime) -> Result<(), Fail> {
     let fenced = both_zero(alloc, Mode::Fenced(both))?;
     assert!(rt; fenced.is_cycle(Kind::Global, &all_accesses()));
     assert!(rt; fenced.find_cycle()?.is_some());
+    Ok(())
+}
+
+#[test]
+fn a_run_is_made_once_all_is_chosen(rt: HostRuntime) -> Result<(), Fail> {
+    let alloc = rt.alloc();
+    let mut sketch = Sketch::new(alloc, &store_buffering(alloc)?, Mode::Sequential)?;
+    give(&mut sketch, 0, 0)?;
+    give(&mut sketch, 1, 0)?;
+    match sketch.find_cycle()? {
+        Some(_) => assert!(rt; false),
+        None => assert!(rt; make_run(alloc, &sketch).err() == Some(MakeFault::NotComplete)),
+    }
+    Ok(())
+}
+
+#[test]
+fn both_zero_has_its_run(rt: HostRuntime) -> Result<(), Fail> {
+    let alloc = rt.alloc();
+    let empty = GapSet::empty();
+    let weak = both_zero(alloc, Mode::Fenced(empty))?;
+    match weak.find_cycle()? {
+        Some(_) => assert!(rt; false),
+        None => {
+            let labels = make_run(alloc, &weak)?;
+            let ended = replay(alloc, weak.program(), &empty, Model::Buffered, &labels)?;
+            assert!(rt; ended.outcome == zeros_with(alloc, &[1, 1])?);
+        }
+    }
     Ok(())
 }
 

@@ -11,13 +11,14 @@ use Rattle.candidate_executions.specs.declared.event.Kind.TheVariants as union
 use Rattle.candidate_executions.specs.Candidates.{Candidate}
 use Rattle.candidate_executions.specs.Consistency.{IsOfMode, Edge, IsAcyclic, IsConsistent}
 use Rattle.candidate_executions.specs.Sketches.{Sketch, Completes, IsConsistentCompletion, IsSketch, IsPair, with_value, with_source, with_pair}
+use Rattle.candidate_executions.proofs.Lists.{some_value}
 use Rattle.candidate_executions.proofs.Choices.{a_value_keeps_a_sketch, a_source_keeps_a_sketch, a_pair_keeps_a_sketch, each_has_a_value, each_has_a_source, each_has_an_order}
 use Rattle.candidate_executions.proofs.KnownEdges.{known_cycle_is_a_cycle}
 use Rattle.candidate_executions.proofs.MustEnd.{each_ends_so}
 use Rattle.cert_forest.specs.Trees.{Cover, Value, Source, Order, Cycle, Known, Covers, NoCover, MoreCovers}
 use Rattle.tree_laws.specs.CoverTrees.{event_of, HasNextValues, HasSources, HasNoOrder, IsKnownCycle, MustEndAsNumber, IsValidCover, AreValidCovers, IsCovered}
 use Rattle.tree_laws.specs.Laws.{AValidCoverCovers}
-use Rattle.tree_laws.proofs.Lists.{none_here, first_or_later, mapped, found_is_here, value_of}
+use Rattle.tree_laws.proofs.Lists.{none_here, first_or_later, mapped, found_is_here}
 
 -- a consistent candidate has no cycle of a union of its mode
 no_cycle : (p : Listing) (mode : Mode) (c : Candidate) (kind : Kind) → IsOfMode mode kind → IsConsistent p mode c → IsAcyclic (Edge p mode c kind)
@@ -54,7 +55,7 @@ module _ (q : Question) (mode : Mode) (outcomes : List Outcome) (forward : JumpF
 
   by_sources : (k : Sketch) (e : Event) (sources : List Event) → HasSources p mode k e sources → EachCovered (map (with_source k e) sources) → Covered k
   by_sources k e sources has each fits c is =
-      let (v, reads) = value_of has.access.read has.is_read in
+      let (v, reads) = some_value has.access.read has.is_read in
       let (is_source, completes) = each_has_a_source p mode k c e has.access v forward fits is.is_candidate is.completes has.whole has.is_access reads in
       each (with_source k e (c.source e)) (mapped (with_source k e) sources (c.source e) ((has.exact (c.source e)).1 is_source))
       (a_source_keeps_a_sketch p mode k e (c.source e) fits is_source) c (of_other p mode k (with_source k e (c.source e)) c is completes)

@@ -1,5 +1,5 @@
 -- Elements of lists.
-use Rattle.std.proofs.Common.{◌≡◌, ◌⊎◌, ℕ, zero, suc, List, [], ◌∷◌, Some, Option, None, IsSome, Contains, All, slice_get, map, refl, subst, inl, inr, arith}
+use Rattle.std.proofs.Common.{◌≡◌, ◌⊎◌, ℕ, zero, suc, List, [], ◌∷◌, Some, Contains, All, slice_get, map, refl, subst, inl, inr, arith}
 use Rattle.std.proofs.lemmas.Option.{slice_get_within, get_or_from_slice_get}
 
 pub none_here : {A : Type 0} (x : A) → ¬ Contains [] x
@@ -30,7 +30,3 @@ found_is_here xs n x e = (n, slice_get_within xs n x e, get_or_from_slice_get xs
 -- and has what each element has
 pub found_has : {A : Type 0} (P : A → Type 0) (xs : List A) (n : ℕ) (x : A) → slice_get xs n ≡ Some x → All P xs → P x
 found_has P xs n x e each = subst P (get_or_from_slice_get xs n x x e) (each n x (slice_get_within xs n x e))
-
-pub value_of : {A : Type 0} (o : Option A) → IsSome o → (v : A) × (o ≡ Some v)
-value_of None h = absurd cc
-value_of (Some v) h = (v, refl)

@@ -1,0 +1,42 @@
+-- Complete sketches, and the runs that are made of them.
+use Rattle.std.specs.Prelude.{◌≡◌, List}
+use Rattle.tso_program.specs.declared.outcome.Outcome.{Outcome}
+use Rattle.tso_program.specs.declared.shown.Shown.{Shown}
+use Rattle.tso_machine.specs.declared.label.Label.{Label}
+use Rattle.tso_machine.specs.Machine.{IsRun}
+use Rattle.candidate_executions.specs.declared.event.Event.{Event}
+use Rattle.exec_axioms.specs.Parts.{Parts, mode_in}
+use Rattle.exec_axioms.specs.Choices.{IsWhole, IsRead, HasSource, IsPair, IsOrdered}
+use Rattle.exec_axioms.specs.Completions.{HasCompletion, MustEnd}
+use Rattle.run_maker.specs.declared.fault.MakeFault.{MakeFault}
+use Rattle.run_maker.specs.declared.fault.MakeFault.TheVariants.{NotComplete, NoRun, OutOfMemory}
+
+-- a read has its source
+abbrev pub HasItsSource : Parts → Event → Type 0
+HasItsSource s e = IsRead s e → HasSource s e
+
+-- two writes to one location, neither of them initial, are in order
+abbrev pub IsOrderedWith : Parts → Event → Event → Type 0
+IsOrderedWith s d e = IsPair s d e → IsOrdered s d e
+
+-- nothing is left to choose: each read has its value and its source, and each two writes to one location, neither of them initial, are in order
+pub record IsComplete (s : Parts) : Type 0 where
+  pub whole : IsWhole s
+  pub sources : (e : Event) → HasItsSource s e
+  pub pairs : (d e : Event) → IsOrderedWith s d e
+
+-- the labels are a run of the sketch's machine, with the one outcome that its consistent completions have
+pub record IsRunOf (s : Parts) (labels : List Label) : Type 0 where
+  pub outcome : Outcome
+  pub is_run : IsRun s.program (mode_in s) labels outcome
+  -- some consistent completion has it, and none has another
+  pub completed : HasCompletion s outcome
+  pub only : (other : Outcome) → HasCompletion s other → other ≡ outcome
+  -- the sketch must end so, as far as any of it is shown
+  pub must_end : (shown : Shown) → MustEnd s shown outcome
+
+-- why no run is made; never because there is none
+abbrev pub FaultIs : Parts → MakeFault → Type 0
+FaultIs s NotComplete = IsComplete s → ⊥
+FaultIs s NoRun = ⊥
+FaultIs s OutOfMemory = Unit {0}
