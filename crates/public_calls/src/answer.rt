@@ -16,7 +16,6 @@ fn text_answer(
 ) -> Result<Option<String>, Refusal> {
     Ok(Some(match name {
         b"tokens" => tokens::tokens(alloc, words, text)?,
-        b"value" => tokens::value(alloc, words, text)?,
         b"plain-number" => tokens::plain_number(alloc, words, text)?,
         b"body" => syntax::body(alloc, text)?,
         b"ending" => syntax::ending(alloc, words, text)?,

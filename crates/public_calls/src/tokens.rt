@@ -3,7 +3,7 @@
 use crate::input::{number_of, word_at};
 use crate::refusal::Refusal;
 use std::alloc::Global;
-use text_tokens::{Bad, Token, lex, plain_number_up_to, value_up_to};
+use text_tokens::{Bad, Token, lex, plain_number_up_to};
 
 /// A letter for each kind of token: `w`, `n` and `m` for words, numbers and marks, and capitals for bad ones.
 fn kind(token: &Token) -> char {
@@ -30,15 +30,6 @@ pub fn tokens(alloc: Global, words: &[&[u8]], text: &[u8]) -> Result<String, Ref
     }
     printed.push('\n')?;
     Ok(printed)
-}
-
-/// The value of digits, up to a limit.
-pub fn value(alloc: Global, words: &[&[u8]], text: &[u8]) -> Result<String, Refusal> {
-    let limit = number_of(word_at(words, 1)?)?;
-    if !text.iter().all(|byte| byte.is_ascii_digit()) {
-        return Err(Refusal::Call);
-    }
-    Ok(format!(in alloc; "{:?}\n", value_up_to(limit, text))?)
 }
 
 /// The number up to a limit that a text spells without leading zeros.
