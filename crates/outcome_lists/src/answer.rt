@@ -1,10 +1,10 @@
 //! What is printed for an input.
 
-use crate::candidates::{Candidates, candidates};
+use crate::candidates::Listed;
 use crate::fault::ListFault;
 use crate::input::{Request, request_of, split_at_byte};
-use crate::machine;
 use crate::repeats::{repeated, told};
+use crate::{candidates, machine};
 use exec_axioms::Mode;
 use litmus_text::{Litmus, NameTable, read_litmus, write_outcome};
 use std::alloc::{AllocError, Global};
@@ -31,7 +31,7 @@ fn push_list(
 fn told_lists(
     alloc: Global,
     names: &NameTable,
-    found: &Candidates,
+    found: &Listed,
     reached: &[Outcome],
 ) -> Result<Vec<u8>, AllocError> {
     let chosen = found.outcomes.as_slice();
@@ -57,7 +57,7 @@ fn told_lists(
 
 /// The outcomes of candidate executions, and those of the machine.
 fn both_lists(alloc: Global, litmus: &Litmus<Program>, mode: &Mode) -> Result<Vec<u8>, ListFault> {
-    let found = candidates(alloc, &litmus.program, *mode)?;
+    let found = candidates::outcomes(alloc, &litmus.program, *mode)?;
     beside_the_machine(alloc, litmus, mode, &found)
 }
 
@@ -66,7 +66,7 @@ fn beside_the_machine(
     alloc: Global,
     litmus: &Litmus<Program>,
     mode: &Mode,
-    found: &Candidates,
+    found: &Listed,
 ) -> Result<Vec<u8>, ListFault> {
     let reached = machine::outcomes(alloc, &litmus.program, *mode)?;
     Ok(told_lists(alloc, &litmus.names, found, reached.as_slice())?)

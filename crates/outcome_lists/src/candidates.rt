@@ -93,9 +93,9 @@ pub fn push_chosen(
     Ok(())
 }
 
-/// What all consistent candidate executions have shown.
+/// What is listed of the consistent candidate executions.
 #[derive(Drop)]
-pub struct Candidates {
+pub struct Listed {
     /// Their outcomes, ascending.
     pub outcomes: Vec<Outcome>,
     /// How many there are, each with its run.
@@ -103,20 +103,23 @@ pub struct Candidates {
 }
 
 /// The outcomes of all consistent candidate executions, whose runs are tried.
-pub fn candidates(alloc: Global, program: &Program, mode: Mode) -> Result<Candidates, ListFault> {
-    let mut outcomes = Vec::new(alloc);
+pub fn outcomes(alloc: Global, program: &Program, mode: Mode) -> Result<Listed, ListFault> {
+    let mut found = Vec::new(alloc);
     let mut open = Vec::new(alloc);
     open.push(Sketch::new(alloc, program, mode)?)?;
     for _ in 0..MOST_SKETCHES {
         let Some(sketch) = open.pop() else {
-            let runs = outcomes.len();
-            outcomes.sort()?;
-            outcomes.dedup();
-            return Ok(Candidates { outcomes, runs });
+            let runs = found.len();
+            found.sort()?;
+            found.dedup();
+            return Ok(Listed {
+                outcomes: found,
+                runs,
+            });
         };
         match step_of(alloc, &sketch)? {
             Step::Choices(choices) => push_chosen(&sketch, choices.as_slice(), &mut open)?,
-            Step::Complete(outcome) => outcomes.push(outcome)?,
+            Step::Complete(outcome) => found.push(outcome)?,
         }
     }
     Err(ListFault::TooManySketches)

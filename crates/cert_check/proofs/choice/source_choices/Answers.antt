@@ -1,7 +1,7 @@
 use Rattle.std.proofs.Common.{sym, ap, ◌∙◌, map, arith}
 use Rattle.exec_axioms.specs.Parts.{mode_in, sketch_of}
 use Rattle.tree_laws.specs.CoverTrees.{HasSources}
-use Rattle.tree_laws.proofs.Lists.{value_of}
+use Rattle.candidate_executions.proofs.Lists.{some_value}
 use Rattle.cert_check.specs.declared.choice.Choice.TheVariants as choice
 use Rattle.cert_check.specs.Judged.{HasNoSources}
 use Rattle.cert_check.proofs.ChoicesJudged.{here, sources_are, sources_differ, no_source}
@@ -10,7 +10,7 @@ use Rattle.cert_check.proofs.choice.source_choices.Goals as goal
 
 pub returns-then-is_some-clause-wrong : goal.returns-then-is_some-clause-wrong
 returns-then-is_some-clause-wrong c =
-    let (source, e) = value_of c.source.result (sym c.is_some.ensures ∙ c.if-is_some.true) in
+    let (source, e) = some_value c.source.result (sym c.is_some.ensures ∙ c.if-is_some.true) in
     here (HasNoSources c.args.sketch.now c.args.read c.args.count) c.wrong_here.result c.wrong_here.ensures
     (λ sources has many. has.free source ((c.source.ensures source).0 e))
 
