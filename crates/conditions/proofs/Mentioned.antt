@@ -84,6 +84,7 @@ module _ (names : set.FinSet nat_cmp) (t : ℕ) (r : Reg) (few : t < 8) where
             let same = registers_distinct thread (number register) t (number r) (small_number register) (small_number r) e in
             inr (same.0, same_register register r same.1)
       ]
+
       from : Has names here ⊎ ((thread ≡ t) × (register ≡ r)) → Has (with_register names thread (number register)) here
       from (inl old) = old_is_there (nat_lt thread 8) names (register_place thread (number register)) here old
       from (inr (e, f)) =
@@ -107,6 +108,7 @@ module _ (names : set.FinSet nat_cmp) (l : ℕ) (few : l < 8) where
         | inl old ↦ inl old
         | inr (passes, e) ↦ inr (locations_distinct location l e)
       ]
+
       from : Has names (location_place l) ⊎ (location ≡ l) → Has (with_location names location) (location_place l)
       from (inl old) = old_is_there (nat_lt location 8) names (location_place location) (location_place l) old
       from (inr e) = new_is_there (nat_lt location 8) names (location_place location) (location_place l) (in_range location (omega arith)) (ap location_place e)
@@ -130,8 +132,10 @@ then_more One Other place names some all first second = (to, from)
   where
     before : Has some place → Has names place ⊎ (One ⊎ Other)
     before h = elim (first.0 h) [ inl old ↦ inl old | inr one ↦ inr (inl one) ]
+
     to : Has all place → Has names place ⊎ (One ⊎ Other)
     to h = elim (second.0 h) [ inl old ↦ before old | inr other ↦ inr (inr other) ]
+
     from : Has names place ⊎ (One ⊎ Other) → Has all place
     from (inl old) = second.1 (inl (first.1 (inl old)))
     from (inr (inl one)) = second.1 (inl (first.1 (inr one)))
