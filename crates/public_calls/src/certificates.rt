@@ -1,12 +1,12 @@
 //! Calls of `cert_forest` and `cert_check`.
 
 use crate::input::{numbers_of, push_bytes, word_at};
+use crate::programs::program_of;
 use crate::refusal::Refusal;
 use crate::sets::push_gaps;
 use cert_check::check;
 use cert_forest::{read_cert, write_cert};
 use gap_sets::Costs;
-use litmus_text::read_litmus;
 use std::alloc::Global;
 use tso_program::Shown;
 
@@ -31,7 +31,7 @@ fn split_texts(text: &[u8]) -> (&[u8], &[u8]) {
 /// What the checker says of a certificate, for a test of which everything is shown, and the costs that are given.
 pub fn checked(alloc: Global, words: &[&[u8]], text: &[u8]) -> Result<String, Refusal> {
     let (litmus, certificate) = split_texts(text);
-    let program = read_litmus(alloc, litmus)?.program;
+    let program = program_of(alloc, litmus)?;
     let costs = Costs::new(alloc, &numbers_of(alloc, word_at(words, 1)?)?)?;
     let certificate = read_cert(alloc, certificate)?;
     let accepted = check(alloc, &program, &Shown::All, &costs, &certificate)?;

@@ -1,9 +1,9 @@
 //! Calls of `tso_machine`, and the order of outcomes.
 
 use crate::input::{gap_set_of, numbers_of, push_bytes, split_line, word_at, words_of};
+use crate::programs::program_of;
 use crate::refusal::Refusal;
 use crate::sets::push_gaps;
-use litmus_text::read_litmus;
 use std::alloc::Global;
 use std::cmp::Ordering;
 use tso_machine::{Label, Model, read_run, replay, write_run};
@@ -28,7 +28,7 @@ fn labels_of(alloc: Global, words: &[&[u8]]) -> Result<Vec<Label>, Refusal> {
 
 /// The outcome of a run, and the gaps that it passed.
 pub fn replayed(alloc: Global, words: &[&[u8]], text: &[u8]) -> Result<String, Refusal> {
-    let program = read_litmus(alloc, text)?.program;
+    let program = program_of(alloc, text)?;
     let model = model_of(word_at(words, 1)?)?;
     let fenced = gap_set_of(alloc, word_at(words, 2)?)?;
     let labels = labels_of(alloc, words)?;

@@ -18,6 +18,11 @@ fn thread(alloc: Global, code: &[Instr]) -> Result<Thread, AllocError> {
     })
 }
 
+/// The program of a litmus text.
+pub fn program_of(alloc: Global, text: &[u8]) -> Result<Program, Refusal> {
+    Ok(read_litmus(alloc, text)?.program)
+}
+
 /// The threads of a program that no litmus text spells, over two locations.
 fn threads_of(alloc: Global, name: &[u8]) -> Result<Vec<Thread>, Refusal> {
     let code = match name {
@@ -42,7 +47,7 @@ pub fn program(alloc: Global, words: &[&[u8]]) -> Result<String, Refusal> {
 
 /// The gaps of a program, the number of a gap and the place of a gap, as a copy of the program has them.
 pub fn gaps(alloc: Global, words: &[&[u8]], text: &[u8]) -> Result<String, Refusal> {
-    let program = read_litmus(alloc, text)?.program.copy()?;
+    let program = program_of(alloc, text)?.copy()?;
     let thread = byte_of(word_at(words, 1)?)?;
     let instruction = byte_of(word_at(words, 2)?)?;
     let gap = byte_of(word_at(words, 3)?)?;
@@ -59,10 +64,7 @@ pub fn gaps(alloc: Global, words: &[&[u8]], text: &[u8]) -> Result<String, Refus
 /// A program with fences in some gaps, as a copy has it.
 pub fn fenced(alloc: Global, words: &[&[u8]], text: &[u8]) -> Result<String, Refusal> {
     let gaps = gap_set_of(alloc, word_at(words, 1)?)?;
-    let program = read_litmus(alloc, text)?
-        .program
-        .fenced(alloc, &gaps)?
-        .copy()?;
+    let program = program_of(alloc, text)?.fenced(alloc, &gaps)?.copy()?;
     Ok(format!(in alloc;
         "threads {:?}\nmemory {:?}\n",
         program.threads(),
@@ -72,7 +74,7 @@ pub fn fenced(alloc: Global, words: &[&[u8]], text: &[u8]) -> Result<String, Ref
 
 /// What a thread does next at a place, where its registers hold 0.
 pub fn action(alloc: Global, words: &[&[u8]], text: &[u8]) -> Result<String, Refusal> {
-    let program = read_litmus(alloc, text)?.program;
+    let program = program_of(alloc, text)?;
     let thread = byte_of(word_at(words, 1)?)?;
     let local = Local {
         place: byte_of(word_at(words, 2)?)?,
