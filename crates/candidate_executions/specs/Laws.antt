@@ -38,7 +38,7 @@ abbrev pub EveryOrderIsARun : Type 0
 EveryOrderIsARun = (p : Listing) (mode : Mode) (c : Candidate) (order : List Event) (o : Outcome) → IsCandidate p mode c → IsConsistent p mode c →
     IsOrder p mode c order → HasOutcome p mode c o → IsRun p mode (labels_along p mode c.given (λ t. 0) order) o
 
--- a run has at most two labels for each instruction, one that executes it and a flush
+-- a thread of at most n instructions has at most 2n labels in a run: each instruction is executed once, and each store is flushed once
 abbrev pub EveryRunIsShort : Type 0
 EveryRunIsShort = (p : Listing) (mode : Mode) (labels : List Label) (o : Outcome) (n : ℕ) → JumpForward p.threads →
     ((t : ℕ) → length (code_of p.threads t) ≤ n) → IsRun p mode labels o → length labels ≤ length p.threads * (n + n)

@@ -22,7 +22,7 @@ pub fn every_order_is_a_run()
     ensures { EveryOrderIsARun }
 {}
 
-/// A run has at most two labels for each instruction of its program.
+/// Where no thread has more than n instructions, a run has at most 2n labels for each thread.
 pub fn every_run_is_short()
     ensures { EveryRunIsShort }
 {}

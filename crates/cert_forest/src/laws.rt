@@ -12,7 +12,7 @@ pub fn no_text_begins_another()
     ensures { NoTextBeginsAnother }
 {}
 
-/// The definitions at two certificates: that of store buffering, and that of a program without instructions.
+/// The definitions at three certificates: of store buffering, of a program without instructions, and of n6 with one register shown.
 pub fn the_examples_are_certificates()
     ensures { TheExamplesAreCertificates }
 {}

@@ -36,7 +36,7 @@ pub fn fencing_is_the_machine_with_gaps()
     ensures sequential { FencingKeepsSequentialOutcomes }
 {}
 
-/// No two sets of gaps are both the answer for a program and its costs.
+/// No two sets of gaps are both the answer to a question with the same costs.
 pub fn the_answer_is_the_only_one()
     ensures { TheAnswerIsTheOnlyOne }
 {}
