@@ -7,7 +7,7 @@ use Rattle.tso_program.specs.Listings.{action, code_of}
 use Rattle.tso_program.specs.Limits.{JumpForward}
 use Rattle.tso_program.specs.Fences.{Gaps}
 use Rattle.tso_machine.specs.declared.label.Label.{Label}
-use Rattle.tso_machine.specs.Machine.{Mode, Fenced, IsRun, Allows}
+use Rattle.tso_machine.specs.Machine.{Mode, Fenced, IsRun}
 use Rattle.candidate_executions.specs.declared.access.Access.{Access}
 use Rattle.candidate_executions.specs.declared.event.Event.{Event}
 use Rattle.candidate_executions.specs.declared.event.Event.TheVariants.{Initial, Access as At}
@@ -15,28 +15,30 @@ use Rattle.candidate_executions.specs.declared.event.Kind.{Kind}
 use Rattle.candidate_executions.specs.Candidates.{Candidate, access, access_by, IsCandidate, HasOutcome, HasShownOutcome}
 use Rattle.candidate_executions.specs.Consistency.{IsKept, Edge, IsCycle, IsConsistent}
 use Rattle.candidate_executions.specs.Orders.{labels_along, IsOrder}
+use Rattle.candidate_executions.specs.RunCandidates.{IsCandidateOf}
 use Rattle.candidate_executions.specs.Paths.{path_of, LiesBetween}
 use Rattle.candidate_executions.specs.Values.{IsValueOf}
 use Rattle.candidate_executions.specs.Sketches.{Sketch, empty_sketch, Completes, IsConsistentCompletion, IsSketch, IsSourceOf, IsPair, with_value, with_source, with_pair, next_read, IsWhole, MustEndAs, KnownEdge}
 
--- some consistent candidate has the outcome
-abbrev pub HasConsistentCandidate : Listing → Mode → Outcome → Type 0
-HasConsistentCandidate p mode o = (c : Candidate) × IsCandidate p mode c × IsConsistent p mode c × HasOutcome p mode c o
+-- the labels have a consistent candidate, with the outcome
+abbrev pub HasItsCandidate : Listing → Mode → List Label → Outcome → Type 0
+HasItsCandidate p mode labels o = (c : Candidate) × IsCandidate p mode c × IsConsistent p mode c × HasOutcome p mode c o × IsCandidateOf p mode labels c
 
--- every run of a mode's machine is a consistent candidate with the run's outcome
+-- every run of a mode's machine is one of a consistent candidate, with its outcome
 abbrev pub EveryRunIsACandidate : Type 0
 EveryRunIsACandidate = (p : Listing) (mode : Mode) (labels : List Label) (o : Outcome) → JumpForward p.threads → IsRun p mode labels o →
-    HasConsistentCandidate p mode o
+    HasItsCandidate p mode labels o
 
--- every consistent candidate of a mode has the outcome of a run of its machine
+-- every consistent candidate of a mode is the candidate of a run of its machine, with its outcome
 abbrev pub EveryCandidateIsARun : Type 0
 EveryCandidateIsARun = (p : Listing) (mode : Mode) (c : Candidate) (o : Outcome) → IsCandidate p mode c → IsConsistent p mode c →
-    HasOutcome p mode c o → Allows p mode o
+    HasOutcome p mode c o → (labels : List Label) × IsRun p mode labels o × IsCandidateOf p mode labels c
 
--- along each order of its accesses that the unions allow, a consistent candidate has a run with its outcome
+-- of one run along each order of its accesses that the unions allow
 abbrev pub EveryOrderIsARun : Type 0
 EveryOrderIsARun = (p : Listing) (mode : Mode) (c : Candidate) (order : List Event) (o : Outcome) → IsCandidate p mode c → IsConsistent p mode c →
-    IsOrder p mode c order → HasOutcome p mode c o → IsRun p mode (labels_along p mode c.given (λ t. 0) order) o
+    IsOrder p mode c order → HasOutcome p mode c o →
+    IsRun p mode (labels_along p mode c.given (λ t. 0) order) o × IsCandidateOf p mode (labels_along p mode c.given (λ t. 0) order) c
 
 -- a thread of at most n instructions has at most 2n labels in a run: each instruction is executed once, and each store is flushed once
 abbrev pub EveryRunIsShort : Type 0

@@ -2,24 +2,32 @@
 //! nothing.
 ghost use Rattle.candidate_executions.specs.Laws.{EveryRunIsACandidate, EveryRunIsACompletion, EveryCandidateIsARun, EveryOrderIsARun, EveryRunIsShort, SectionsTellFences, KeptOrderIsTold, NoEdgeLeadsIntoInitial, CyclesAreOfAccesses, EveryCandidateCompletesEmpty, EmptyIsASketch, AValueKeepsASketch, ASourceKeepsASketch, APairKeepsASketch, EachCompletionHasAValue, EachCompletionHasTheValues, EachCompletionHasASource, EachCompletionHasAnOrder, EachCompletionEndsSo, OutcomesAreOne, AKnownEdgeIsAnEdge, AKnownCycleIsACycle, NoKnownEdgeLeadsIntoInitial, KnownCyclesAreOfAccesses};
 ghost use Rattle.candidate_executions.specs.StoreBuffering.{StoreBufferingIsTold};
+ghost use Rattle.candidate_executions.specs.ExampleRuns.{RunsShowTheirMarks};
 
-/// Every run of a mode's machine is a consistent candidate execution with the run's outcome, and so a
-/// completion of the sketch with which a search begins. Jumps lead forward, as they do in every
-/// program.
+/// Every run of a mode's machine is one of a consistent candidate execution with the run's outcome,
+/// which is a completion of the sketch with which a search begins: the run's reads take the
+/// candidate's values and find them in their sources, and its writes reach memory in the candidate's
+/// order. Jumps lead forward, as they do in every program.
 pub fn every_run_is_a_candidate()
     ensures candidate { EveryRunIsACandidate }
     ensures completion { EveryRunIsACompletion }
 {}
 
-/// Every consistent candidate execution of a mode has the outcome of a run of its machine.
+/// Every consistent candidate execution of a mode is that of a run of its machine, with the
+/// candidate's outcome.
 pub fn every_candidate_is_a_run()
     ensures { EveryCandidateIsARun }
 {}
 
-/// A consistent candidate has a run with its outcome along each order of its accesses that its unions
-/// allow: at each access the thread executes all up to and with it, and a plain store is then flushed.
+/// There is such a run along each order of a consistent candidate's accesses that its unions allow: at
+/// each access the thread executes all up to and with it, and a plain store is then flushed.
 pub fn every_order_is_a_run()
     ensures { EveryOrderIsARun }
+{}
+
+/// The definition of a run's candidate at four runs of the literature's programs.
+pub fn runs_show_their_marks()
+    ensures { RunsShowTheirMarks }
 {}
 
 /// Where no thread has more than n instructions, a run has at most 2n labels for each thread.

@@ -12,7 +12,7 @@ use Rattle.tso_program.specs.declared.shown.Shown.{Shown}
 use Rattle.tso_program.specs.declared.shown.Shown.TheVariants.{All}
 use Rattle.tso_program.specs.Shown.{shown_value}
 use Rattle.tso_program.specs.Listings.{action, start_of, code_of}
-use Rattle.tso_machine.specs.Machine.{Mode, Sequential, Fenced}
+use Rattle.tso_machine.specs.Machine.{Mode, Sequential, Fenced, IsRun}
 use Rattle.candidate_executions.specs.declared.access.Access.{Access}
 use Rattle.candidate_executions.specs.declared.event.Event.{Event}
 use Rattle.candidate_executions.specs.declared.event.Event.TheVariants.{Initial, Access as At}
@@ -23,6 +23,7 @@ use Rattle.candidate_executions.specs.Candidates.{Candidate, Writes, IsCandidate
 use Rattle.candidate_executions.specs.Consistency.{IsOfMode, Relates, Edge, IsAcyclic, IsConsistent}
 use Rattle.candidate_executions.specs.Sketches.{Completes, IsBefore, KnownRelates, KnownFromReads, MayBeLast}
 use Rattle.candidate_executions.specs.Orders.{followed_union, labels_along, IsOrder}
+use Rattle.candidate_executions.specs.RunCandidates.{IsCandidateOf}
 use Rattle.candidate_executions.proofs.AcyclicIsOrdered.{In}
 use Rattle.candidate_executions.proofs.CandidatesAreRuns.{every_order}
 use Rattle.candidate_executions.proofs.LastWrites.{one_end, ends_with}
@@ -228,11 +229,17 @@ module _ (s : Parts) (lawful : IsLawful s) (whole : IsComplete s) (acyclic : Has
     memory = λ l v e h a may. ap (shown_value shown l) (one_end p mode become is_candidate l v (slice_index end.memory l) (e, a, is_last l v e a may) (has_outcome.memory l h));
   }
 
+  runs_along : IsRun p mode (labels_along p mode (given_to s.given) (λ t. 0) order) end × IsCandidateOf p mode (labels_along p mode (given_to s.given) (λ t. 0) order) become
+  runs_along = every_order p mode become order end is_candidate consistent is_order has_outcome
+
   pub run_of : IsRunOf s (labels_along p mode (given_to s.given) (λ t. 0) order)
   run_of = record {
     outcome = end;
-    is_run = every_order p mode become order end is_candidate consistent is_order has_outcome;
-    completed = (become, record { is_candidate = is_candidate; consistent = consistent; completes = completes }, has_outcome);
+    is_run = runs_along.0;
+    completion = become;
+    is_completion = record { is_candidate = is_candidate; consistent = consistent; completes = completes };
+    has_outcome = has_outcome;
+    of_completion = runs_along.1;
     must_end = must_end;
     only = λ other has. ends_only s All end lawful (must_end All) has.0 other has.1 has.2;
   }

@@ -5,9 +5,11 @@ use Rattle.tso_program.specs.declared.shown.Shown.{Shown}
 use Rattle.tso_machine.specs.declared.label.Label.{Label}
 use Rattle.tso_machine.specs.Machine.{IsRun}
 use Rattle.candidate_executions.specs.declared.event.Event.{Event}
+use Rattle.candidate_executions.specs.Candidates.{Candidate, HasOutcome}
+use Rattle.candidate_executions.specs.RunCandidates.{IsCandidateOf}
 use Rattle.exec_axioms.specs.Parts.{Parts, mode_in}
 use Rattle.exec_axioms.specs.Choices.{IsWhole, IsRead, HasSource, IsPair, IsOrdered}
-use Rattle.exec_axioms.specs.Completions.{HasCompletion, MustEnd}
+use Rattle.exec_axioms.specs.Completions.{IsCompletion, HasCompletion, MustEnd}
 use Rattle.run_maker.specs.declared.fault.MakeFault.{MakeFault}
 use Rattle.run_maker.specs.declared.fault.MakeFault.TheVariants.{NotComplete, NoRun, OutOfMemory}
 
@@ -25,12 +27,15 @@ pub record IsComplete (s : Parts) : Type 0 where
   pub sources : (e : Event) → HasItsSource s e
   pub pairs : (d e : Event) → IsOrderedWith s d e
 
--- the labels are a run of the sketch's machine, with the one outcome that its consistent completions have
+-- the labels are a run of the sketch's machine, that of a consistent completion, with the one outcome that these have
 pub record IsRunOf (s : Parts) (labels : List Label) : Type 0 where
   pub outcome : Outcome
   pub is_run : IsRun s.program (mode_in s) labels outcome
-  -- some consistent completion has it, and none has another
-  pub completed : HasCompletion s outcome
+  -- the run is that of a consistent completion with the outcome, and none has another
+  pub completion : Candidate
+  pub is_completion : IsCompletion s completion
+  pub has_outcome : HasOutcome s.program (mode_in s) completion outcome
+  pub of_completion : IsCandidateOf s.program (mode_in s) labels completion
   pub only : (other : Outcome) → HasCompletion s other → other ≡ outcome
   -- the sketch must end so, as far as any of it is shown
   pub must_end : (shown : Shown) → MustEnd s shown outcome
