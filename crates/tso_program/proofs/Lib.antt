@@ -8,3 +8,4 @@ pub mod Registers
 pub mod Places
 pub mod PartsShown
 pub mod Kept
+pub mod OutcomesOrdered

@@ -6,3 +6,4 @@ pub mod Fences
 pub mod Names
 pub mod Shown
 pub mod Laws
+pub mod Ordered
