@@ -36,16 +36,14 @@ use Rattle.exec_axioms.specs.Parts.{Parts, mode_in, sketch_of, given_to, trace_i
 use Rattle.exec_axioms.specs.Kept.{IsLawful}
 use Rattle.exec_axioms.specs.Known.{IsKnownEdge, HasNoCycle, IsAccess}
 use Rattle.exec_axioms.specs.Choices.{IsPair}
-use Rattle.exec_axioms.specs.Completions.{MustEnd}
+use Rattle.exec_axioms.specs.Completions.{MustEnd, MustEndSo}
+use Rattle.exec_axioms.proofs.Chosen.{once}
 use Rattle.exec_axioms.proofs.Ends.{ends_only}
+use Rattle.exec_axioms.proofs.LastWrites.{of_followed, pair_edge}
 use Rattle.run_maker.specs.Complete.{IsComplete, IsRunOf}
 use Rattle.run_maker.specs.Orders.{IsKnownOrder}
 use Rattle.run_maker.proofs.Completeness.{first_there, second_there}
 use Rattle.run_maker.proofs.PlacesInOrder.{place, place_before, place_same, chosen, chosen_is}
-
-of_followed : (m : Mode) → IsOfMode m (followed_union m)
-of_followed Sequential = tt
-of_followed (Fenced gaps) = tt
 
 consistent_by : (p : Listing) (m : Mode) (c : Candidate) → ((kind : Kind) → IsOfMode m kind → IsAcyclic (Edge p m c kind)) → IsConsistent p m c
 consistent_by p Sequential c each = each union.Sequential tt
@@ -75,11 +73,6 @@ module _ (s : Parts) (lawful : IsLawful s) (whole : IsComplete s) (acyclic : Has
   in_order : (e : Event) → IsAccess s e → In e order
   in_order e h = contains_in order e ((is.accesses e).1 h)
 
-  known_before : (kind : Kind) (d e : Event) (x y : Access) → IsBefore (sketch_of s) d e y → KnownRelates (sketch_of s) kind d x e y
-  known_before union.Sequential d e x y h = inr (inr (inl h))
-  known_before union.Location d e x y h = inr (inr (inl h))
-  known_before union.Global d e x y h = inr (inr (inl h))
-
   -- pairs rise
   pair_rises : (d e : Event) → Contains s.pairs (d, e) → rank d < rank e
   pair_rises d e h =
@@ -90,7 +83,7 @@ module _ (s : Parts) (lawful : IsLawful s) (whole : IsComplete s) (acyclic : Has
       rise (Initial l) e h pair a b = absurd a
       rise (At t i) (Initial l) h pair a b = absurd b
       rise (At t i) (At u j) h pair a b =
-          let edge : R (At t i) (At u j) = (of_followed mode, ((pair.1.3).0, (pair.1.4).0, (pair.1.3).1, (pair.1.4).1, known_before (followed_union mode) (At t i) (At u j) (pair.1.3).0 (pair.1.4).0 (inl h))) in
+          let edge : R (At t i) (At u j) = pair_edge s (At t i) (At u j) lawful h in
           let less = place_before R order (At t i) (At u j) (in_order (At t i) a) (in_order (At u j) b) (pairs_ordered R order is.forward) edge pair.0 in
           omega arith
 
@@ -182,7 +175,7 @@ module _ (s : Parts) (lawful : IsLawful s) (whole : IsComplete s) (acyclic : Has
   pub completes : Completes (sketch_of s) become
   completes = record {
     given = λ t. ([], append-nil (given_to s.given t));
-    sources = λ e d h. lawful.once e (chosen s.sources e) d (chosen_is s.sources e d h) h;
+    sources = λ e d h. once s.sources lawful.one_source e (chosen s.sources e) d (chosen_is s.sources e d h) h;
     pairs = pair_rises;
   }
 
@@ -232,9 +225,8 @@ module _ (s : Parts) (lawful : IsLawful s) (whole : IsComplete s) (acyclic : Has
   runs_along : IsRun p mode (labels_along p mode (given_to s.given) (λ t. 0) order) end × IsCandidateOf p mode (labels_along p mode (given_to s.given) (λ t. 0) order) become
   runs_along = every_order p mode become order end is_candidate consistent is_order has_outcome
 
-  pub run_of : IsRunOf s (labels_along p mode (given_to s.given) (λ t. 0) order)
+  pub run_of : IsRunOf s (labels_along p mode (given_to s.given) (λ t. 0) order) end
   run_of = record {
-    outcome = end;
     is_run = runs_along.0;
     completion = become;
     is_completion = record { is_candidate = is_candidate; consistent = consistent; completes = completes };
@@ -243,3 +235,7 @@ module _ (s : Parts) (lawful : IsLawful s) (whole : IsComplete s) (acyclic : Has
     must_end = must_end;
     only = λ other has. ends_only s All end lawful (must_end All) has.0 other has.1 has.2;
   }
+
+  -- the same with the one outcome as which the sketch must end
+  pub run_with : (o : Outcome) → MustEndSo s All o → IsRunOf s (labels_along p mode (given_to s.given) (λ t. 0) order) o
+  run_with o so = subst (IsRunOf s (labels_along p mode (given_to s.given) (λ t. 0) order)) (so.only acyclic end (must_end All)) run_of

@@ -2,6 +2,7 @@
 use Rattle.std.specs.Prelude.{◌≡◌, List}
 use Rattle.tso_program.specs.declared.outcome.Outcome.{Outcome}
 use Rattle.tso_program.specs.declared.shown.Shown.{Shown}
+use Rattle.tso_program.specs.declared.shown.Shown.TheVariants.{All}
 use Rattle.tso_machine.specs.declared.label.Label.{Label}
 use Rattle.tso_machine.specs.Machine.{IsRun}
 use Rattle.candidate_executions.specs.declared.event.Event.{Event}
@@ -27,9 +28,8 @@ pub record IsComplete (s : Parts) : Type 0 where
   pub sources : (e : Event) → HasItsSource s e
   pub pairs : (d e : Event) → IsOrderedWith s d e
 
--- the labels are a run of the sketch's machine, that of a consistent completion, with the one outcome that these have
-pub record IsRunOf (s : Parts) (labels : List Label) : Type 0 where
-  pub outcome : Outcome
+-- the labels are a run of the sketch's machine with the outcome, that of a consistent completion
+pub record IsRunOf (s : Parts) (labels : List Label) (outcome : Outcome) : Type 0 where
   pub is_run : IsRun s.program (mode_in s) labels outcome
   -- the run is that of a consistent completion with the outcome, and none has another
   pub completion : Candidate
@@ -39,6 +39,10 @@ pub record IsRunOf (s : Parts) (labels : List Label) : Type 0 where
   pub only : (other : Outcome) → HasCompletion s other → other ≡ outcome
   -- the sketch must end so, as far as any of it is shown
   pub must_end : (shown : Shown) → MustEnd s shown outcome
+
+-- some outcome is the one as which the sketch must end
+abbrev pub HasEnd : Parts → Type 0
+HasEnd s = (o : Outcome) × MustEnd s All o
 
 -- why no run is made; never because there is none
 abbrev pub FaultIs : Parts → MakeFault → Type 0

@@ -1,0 +1,18 @@
+use Rattle.std.proofs.Common.{◌∙◌, sym, ap}
+use Rattle.std.proofs.lemmas.Option.{MatchOption-at_none}
+use Rattle.std.proofs.lemmas.Result.{IfOk-weaker}
+use Rattle.exec_axioms.specs.Parts.{Parts}
+use Rattle.exec_axioms.proofs.Lookups.{none_by}
+use Rattle.exec_axioms.proofs.Found.{none_sequential, none_fenced}
+use Rattle.exec_axioms.proofs.sketch.Sketch.first_cycle.Goals as goal
+
+pub returns-in-Sequential : goal.returns-in-Sequential
+returns-in-Sequential c =
+    let mode = sym (ap (λ (s : Parts). s.mode) c.self.view_is) ∙ c.in-Sequential.is in
+    IfOk-weaker c.find_cycle_of.result _ _ (λ found. none_by found _ _ _ (none_sequential c.args.self.now mode)) c.find_cycle_of.ensures
+
+pub returns-in-None : goal.returns-in-None
+returns-in-None c =
+    let mode = sym (ap (λ (s : Parts). s.mode) c.self.view_is) ∙ c.in-Fenced.is in
+    let location = MatchOption-at_none _ _ c.in-None.is c.in_ok-found-in-Fenced.ensures in
+    IfOk-weaker c.find_cycle_of-in-None.result _ _ (λ found. none_by found _ _ _ (none_fenced c.args.self.now c.in-Fenced.field-0 mode location)) c.find_cycle_of-in-None.ensures
