@@ -93,24 +93,70 @@ fn condition(
     condition.copy(alloc)
 }
 
+/// Whether a formula's tokens as a condition's spell it.
+fn is_read_again(alloc: Global, formula: &Formula, enclosed: &[Token]) -> Result<bool, Refusal> {
+    let again = Formula::read(alloc, enclosed)?;
+    Ok(formula.same(&again))
+}
+
+/// Whether a formula holds at that outcome, alone and as a condition's.
+fn push_held(alloc: Global, formula: &Formula, printed: &mut String) -> Result<(), AllocError> {
+    let outcome = outcome(alloc)?;
+    let condition = condition(alloc, Quantifier::Forall, formula)?;
+    write!(
+        printed,
+        "holds {} {:?} {}",
+        formula.holds(&outcome),
+        condition.quantifier,
+        holds(&condition, &outcome)
+    )
+}
+
+fn push_tokens(alloc: Global, formula: &Formula, printed: &mut String) -> Result<(), AllocError> {
+    push_line(formula.tokens(alloc)?.as_slice(), printed)
+}
+
+fn lines(
+    alloc: Global,
+    formula: &Formula,
+    enclosed: &[Token],
+    again: bool,
+) -> Result<String, AllocError> {
+    let mut printed = String::new(alloc);
+    push_held(alloc, formula, &mut printed)?;
+    write!(&mut printed, " again {again}\n")?;
+    push_tokens(alloc, formula, &mut printed)?;
+    push_line(enclosed, &mut printed)?;
+    Ok(printed)
+}
+
 /// Whether a formula holds at that outcome, as a condition's too; its tokens, alone and as a condition's, and whether
 /// the latter spell it.
 pub fn formula(alloc: Global, text: &[u8]) -> Result<String, Refusal> {
     let formula = formula_of(alloc, text)?;
-    let outcome = outcome(alloc)?;
-    let condition = condition(alloc, Quantifier::Forall, &formula)?;
     let enclosed = formula.enclosed_tokens(alloc)?;
-    let again = Formula::read(alloc, enclosed.as_slice())?;
-    let mut printed = format!(in alloc;
-        "holds {} {:?} {} again {}\n",
-        formula.holds(&outcome),
-        condition.quantifier,
-        holds(&condition, &outcome),
-        formula.same(&again)
-    )?;
-    push_line(formula.tokens(alloc)?.as_slice(), &mut printed)?;
-    push_line(enclosed.as_slice(), &mut printed)?;
-    Ok(printed)
+    let again = is_read_again(alloc, &formula, enclosed.as_slice())?;
+    Ok(lines(alloc, &formula, enclosed.as_slice(), again)?)
+}
+
+/// Whether the condition that a formula holds of some outcome is the same as another condition.
+fn is_same(
+    alloc: Global,
+    first: &Formula,
+    quantifier: Quantifier,
+    second: &Formula,
+) -> Result<bool, AllocError> {
+    let exists = condition(alloc, Quantifier::Exists, first)?;
+    Ok(exists.same(&condition(alloc, quantifier, second)?))
+}
+
+fn compared(alloc: Global, first: &Formula, second: &Formula) -> Result<String, AllocError> {
+    let conditions = is_same(alloc, first, Quantifier::Exists, second)?;
+    let quantifiers = is_same(alloc, first, Quantifier::NotExists, first)?;
+    format!(in alloc;
+        "formulas {} conditions {conditions} quantifiers {quantifiers}\n",
+        first.same(second)
+    )
 }
 
 /// Whether the formulas of two lines are the same, alone and as conditions; and the first with two quantifiers.
@@ -118,13 +164,5 @@ pub fn formulas(alloc: Global, text: &[u8]) -> Result<String, Refusal> {
     let (line, rest) = split_line(text);
     let first = formula_of(alloc, line)?;
     let second = formula_of(alloc, rest)?;
-    let exists = condition(alloc, Quantifier::Exists, &first)?;
-    let other = condition(alloc, Quantifier::Exists, &second)?;
-    let not_exists = condition(alloc, Quantifier::NotExists, &first)?;
-    Ok(format!(in alloc;
-        "formulas {} conditions {} quantifiers {}\n",
-        first.same(&second),
-        exists.same(&other),
-        exists.same(&not_exists)
-    )?)
+    Ok(compared(alloc, &first, &second)?)
 }

@@ -7,7 +7,12 @@ use text_tokens::plain_number_up_to;
 
 /// What stands before the first line feed, and what stands after it.
 pub fn split_line(bytes: &[u8]) -> (&[u8], &[u8]) {
-    match bytes.iter().position(|byte| *byte == b'\n') {
+    split_at_byte(bytes, b'\n')
+}
+
+/// What stands before the first such byte, and what stands after it.
+pub fn split_at_byte(bytes: &[u8], byte: u8) -> (&[u8], &[u8]) {
+    match bytes.iter().position(|other| *other == byte) {
         Some(end) => {
             let (line, rest) = bytes.split_at(end);
             (line, rest.split_at(1).1)
@@ -18,7 +23,12 @@ pub fn split_line(bytes: &[u8]) -> (&[u8], &[u8]) {
 
 /// The words of the first line, the call's name first.
 pub fn words_of(alloc: Global, line: &[u8]) -> Result<Vec<&[u8]>, AllocError> {
-    line.split(|byte| *byte == b' ').collect(alloc)
+    parts_of(alloc, line, b' ')
+}
+
+/// What stands between such bytes.
+pub fn parts_of(alloc: Global, word: &[u8], byte: u8) -> Result<Vec<&[u8]>, AllocError> {
+    word.split(|other| *other == byte).collect(alloc)
 }
 
 /// The word with this index.

@@ -4,9 +4,9 @@ use crate::input::{gap_set_of, numbers_of, push_bytes, split_line, word_at, word
 use crate::programs::program_of;
 use crate::refusal::Refusal;
 use crate::sets::push_gaps;
-use std::alloc::Global;
+use std::alloc::{AllocError, Global};
 use std::cmp::Ordering;
-use tso_machine::{Label, Model, read_run, replay, write_run};
+use tso_machine::{Ended, Label, Model, read_run, replay, write_run};
 use tso_program::{Items, Outcome};
 
 fn model_of(word: &[u8]) -> Result<Model, Refusal> {
@@ -26,20 +26,32 @@ fn labels_of(alloc: Global, words: &[&[u8]]) -> Result<Vec<Label>, Refusal> {
     Ok(labels)
 }
 
+/// The registers of each thread and the values of memory.
+pub fn push_outcome(outcome: &Outcome, printed: &mut String) -> Result<(), AllocError> {
+    write!(
+        printed,
+        "registers {:?}\nmemory {:?}",
+        outcome.registers.as_slice(),
+        outcome.memory.as_slice()
+    )
+}
+
+fn ending(alloc: Global, ended: &Ended) -> Result<String, AllocError> {
+    let mut printed = String::new(alloc);
+    push_outcome(&ended.outcome, &mut printed)?;
+    printed.push_str("\npassed ")?;
+    push_gaps(alloc, &ended.passed, &mut printed)?;
+    Ok(printed)
+}
+
 /// The outcome of a run, and the gaps that it passed.
 pub fn replayed(alloc: Global, words: &[&[u8]], text: &[u8]) -> Result<String, Refusal> {
-    let program = program_of(alloc, text)?;
     let model = model_of(word_at(words, 1)?)?;
     let fenced = gap_set_of(alloc, word_at(words, 2)?)?;
     let labels = labels_of(alloc, words)?;
+    let program = program_of(alloc, text)?;
     let ended = replay(alloc, &program, &fenced, model, labels.as_slice())?;
-    let mut printed = format!(in alloc;
-        "registers {:?}\nmemory {:?}\npassed ",
-        ended.outcome.registers.as_slice(),
-        ended.outcome.memory.as_slice()
-    )?;
-    push_gaps(alloc, &ended.passed, &mut printed)?;
-    Ok(printed)
+    Ok(ending(alloc, &ended)?)
 }
 
 /// The labels of a run text, and the text that is written for them.
@@ -52,10 +64,10 @@ pub fn run(alloc: Global, text: &[u8]) -> Result<String, Refusal> {
 }
 
 /// An outcome: a word of six numbers for each thread, and a word of the values of memory.
-fn outcome_of(alloc: Global, line: &[u8]) -> Result<Outcome, Refusal> {
+pub fn outcome_of(alloc: Global, words: &[&[u8]]) -> Result<Outcome, Refusal> {
     let mut registers = Vec::new(alloc);
     let mut memory = Vec::new(alloc);
-    for word in &words_of(alloc, line)? {
+    for word in words {
         let numbers = numbers_of(alloc, word)?;
         match numbers.as_slice() {
             [a, b, c, d, e, f] => registers.push([*a, *b, *c, *d, *e, *f])?,
@@ -68,16 +80,29 @@ fn outcome_of(alloc: Global, line: &[u8]) -> Result<Outcome, Refusal> {
     })
 }
 
-/// How the outcomes of two lines are ordered, and whether a copy of the first is the same.
-pub fn outcomes(alloc: Global, text: &[u8]) -> Result<String, Refusal> {
-    let (line, rest) = split_line(text);
-    let first = outcome_of(alloc, line)?;
-    let second = outcome_of(alloc, split_line(rest).0)?;
-    let order = match first.cmp(&second) {
+fn outcome_in(alloc: Global, line: &[u8]) -> Result<Outcome, Refusal> {
+    let words = words_of(alloc, line)?;
+    outcome_of(alloc, words.as_slice())
+}
+
+fn order_of(first: &Outcome, second: &Outcome) -> &'static str {
+    match first.cmp(second) {
         Ordering::Less => "less",
         Ordering::Equal => "equal",
         Ordering::Greater => "greater",
-    };
-    let same = first.copy(alloc)? == first;
+    }
+}
+
+fn is_copied(alloc: Global, outcome: &Outcome) -> Result<bool, AllocError> {
+    Ok(outcome.copy(alloc)? == *outcome)
+}
+
+/// How the outcomes of two lines are ordered, and whether a copy of the first is the same.
+pub fn outcomes(alloc: Global, text: &[u8]) -> Result<String, Refusal> {
+    let (line, rest) = split_line(text);
+    let first = outcome_in(alloc, line)?;
+    let second = outcome_in(alloc, split_line(rest).0)?;
+    let order = order_of(&first, &second);
+    let same = is_copied(alloc, &first)?;
     Ok(format!(in alloc; "{order}, copy the same {same}\n")?)
 }

@@ -1,4 +1,4 @@
-//! A program of the tests: it makes one public call of the libraries, and prints its answer.
+//! A program of the tests: it makes one public call of the libraries, or a script of calls of one sketch, and prints what they answer.
 //!
 //! The first line of its input names the call and gives its arguments, and the rest is the text that the call takes.
 //! `tests/calls.tsv` has one input in each line.
@@ -13,6 +13,7 @@ mod observations;
 mod programs;
 mod refusal;
 mod sets;
+mod sketches;
 mod syntax;
 mod texts;
 mod tokens;

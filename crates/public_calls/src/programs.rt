@@ -3,9 +3,10 @@
 use crate::input::{byte_of, gap_set_of, word_at};
 use crate::refusal::Refusal;
 use crate::sets::push_gaps;
+use gap_sets::GapSet;
 use litmus_text::read_litmus;
 use std::alloc::{AllocError, Global};
-use tso_program::{Instr, Items, Local, Program, Thread};
+use tso_program::{FencedProgram, Instr, Items, Local, Program, Thread};
 
 fn thread(alloc: Global, code: &[Instr]) -> Result<Thread, AllocError> {
     let mut list = Items::of(Vec::new(alloc));
@@ -45,41 +46,59 @@ pub fn program(alloc: Global, words: &[&[u8]]) -> Result<String, Refusal> {
     Ok(format!(in alloc; "threads {:?}\n", program.threads())?)
 }
 
-/// The gaps of a program, the number of a gap and the place of a gap, as a copy of the program has them.
-pub fn gaps(alloc: Global, words: &[&[u8]], text: &[u8]) -> Result<String, Refusal> {
-    let program = program_of(alloc, text)?.copy()?;
-    let thread = byte_of(word_at(words, 1)?)?;
-    let instruction = byte_of(word_at(words, 2)?)?;
-    let gap = byte_of(word_at(words, 3)?)?;
-    let mut printed = format!(in alloc;
+/// What a program says of the gap before an instruction of a thread, and of a gap.
+fn push_gap_lines(
+    program: &Program,
+    thread: u8,
+    instruction: u8,
+    gap: u8,
+    printed: &mut String,
+) -> Result<(), AllocError> {
+    write!(
+        printed,
         "gaps {}\nnumber {:?}\nplace {:?}\nall ",
         program.gaps(),
         program.gap_number(thread, instruction),
         program.gap_place(gap)
-    )?;
+    )
+}
+
+/// The gaps of a program, the number of a gap and the place of a gap, as a copy of the program has them.
+pub fn gaps(alloc: Global, words: &[&[u8]], text: &[u8]) -> Result<String, Refusal> {
+    let thread = byte_of(word_at(words, 1)?)?;
+    let instruction = byte_of(word_at(words, 2)?)?;
+    let gap = byte_of(word_at(words, 3)?)?;
+    let program = program_of(alloc, text)?.copy()?;
+    let mut printed = String::new(alloc);
+    push_gap_lines(&program, thread, instruction, gap, &mut printed)?;
     push_gaps(alloc, &program.all_gaps(), &mut printed)?;
     Ok(printed)
+}
+
+fn fenced_copy(alloc: Global, program: &Program, gaps: &GapSet) -> Result<FencedProgram, Refusal> {
+    Ok(program.fenced(alloc, gaps)?.copy()?)
+}
+
+fn listing(alloc: Global, threads: &[Thread], memory: &[u32]) -> Result<String, AllocError> {
+    format!(in alloc; "threads {threads:?}\nmemory {memory:?}\n")
 }
 
 /// A program with fences in some gaps, as a copy has it.
 pub fn fenced(alloc: Global, words: &[&[u8]], text: &[u8]) -> Result<String, Refusal> {
     let gaps = gap_set_of(alloc, word_at(words, 1)?)?;
-    let program = program_of(alloc, text)?.fenced(alloc, &gaps)?.copy()?;
-    Ok(format!(in alloc;
-        "threads {:?}\nmemory {:?}\n",
-        program.threads(),
-        program.memory()
-    )?)
+    let program = program_of(alloc, text)?;
+    let fenced = fenced_copy(alloc, &program, &gaps)?;
+    Ok(listing(alloc, fenced.threads(), fenced.memory())?)
 }
 
 /// What a thread does next at a place, where its registers hold 0.
 pub fn action(alloc: Global, words: &[&[u8]], text: &[u8]) -> Result<String, Refusal> {
-    let program = program_of(alloc, text)?;
     let thread = byte_of(word_at(words, 1)?)?;
     let local = Local {
         place: byte_of(word_at(words, 2)?)?,
         registers: [0; 6],
         flag: false,
     };
+    let program = program_of(alloc, text)?;
     Ok(format!(in alloc; "{:?}\n", program.action(thread, local))?)
 }

@@ -3,9 +3,11 @@
 use cert_check::CheckFault;
 use cert_forest::CertFault;
 use conditions::FormulaFault;
+use exec_axioms::SketchFault;
 use gap_sets::CostFault;
 use litmus_syntax::SyntaxFault;
 use litmus_text::ReadFault;
+use run_maker::MakeFault;
 use std::alloc::AllocError;
 use thiserror::Error;
 use tso_machine::{ReplayFault, RunFault};
@@ -28,6 +30,10 @@ pub enum Refusal {
     Run(#[from] RunFault),
     #[error("replay {0}")]
     Replay(#[from] ReplayFault),
+    #[error("sketch {0}")]
+    Sketch(#[from] SketchFault),
+    #[error("make {0}")]
+    Make(#[from] MakeFault),
     #[error("formula {0:?}")]
     Formula(#[from] FormulaFault),
     #[error("syntax {0:?}")]

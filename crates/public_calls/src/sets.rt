@@ -27,51 +27,95 @@ fn push_changed(
     Ok(())
 }
 
+/// What a set and a gap have to do with each other.
+fn push_set(alloc: Global, gaps: &GapSet, gap: u8, printed: &mut String) -> Result<(), AllocError> {
+    printed.push_str("gaps ")?;
+    push_gaps(alloc, gaps, printed)?;
+    let has = gaps.has(gap);
+    write!(
+        printed,
+        "length {} empty {} has {has}\n",
+        gaps.len(),
+        gaps.is_empty()
+    )?;
+    push_changed(alloc, gaps, gap, printed)
+}
+
+/// What two sets have to do with each other.
+fn push_pair(gaps: &GapSet, other: &GapSet, printed: &mut String) -> Result<(), AllocError> {
+    write!(
+        printed,
+        "meets {} holds all {} same {} {}\n",
+        gaps.meets(other),
+        gaps.holds_all(other),
+        gaps.same(other),
+        *gaps == *other
+    )
+}
+
 /// What a set, another set and a gap have to do with each other.
 pub fn sets(alloc: Global, words: &[&[u8]]) -> Result<String, Refusal> {
     let gaps = gap_set_of(alloc, word_at(words, 1)?)?;
     let other = gap_set_of(alloc, word_at(words, 2)?)?;
     let gap = byte_of(word_at(words, 3)?)?;
-    let mut printed = String::from_str(alloc, "gaps ")?;
-    push_gaps(alloc, &gaps, &mut printed)?;
-    write!(
-        &mut printed,
-        "length {} empty {} has {}\n",
-        gaps.len(),
-        gaps.is_empty(),
-        gaps.has(gap)
-    )?;
-    push_changed(alloc, &gaps, gap, &mut printed)?;
-    write!(
-        &mut printed,
-        "meets {} holds all {} same {} {}\n",
-        gaps.meets(&other),
-        gaps.holds_all(&other),
-        gaps.same(&other),
-        gaps == other
-    )?;
+    let mut printed = String::new(alloc);
+    push_set(alloc, &gaps, gap, &mut printed)?;
+    push_pair(&gaps, &other, &mut printed)?;
     Ok(printed)
 }
 
-/// What costs say of themselves, of other costs, of two sets and of a gap.
+/// The costs whose numbers the word with this index has.
+pub fn costs_of(alloc: Global, words: &[&[u8]], index: usize) -> Result<Costs, Refusal> {
+    let numbers = numbers_of(alloc, word_at(words, index)?)?;
+    Ok(Costs::new(alloc, &numbers)?)
+}
+
+/// What costs say of themselves and of other costs.
+fn push_costs(costs: &Costs, other: &Costs, printed: &mut String) -> Result<(), AllocError> {
+    write!(
+        printed,
+        "costs {:?} length {} empty {}\n",
+        costs.as_slice(),
+        costs.len(),
+        costs.is_empty()
+    )?;
+    let copy = costs.copy()?;
+    write!(
+        printed,
+        "copy {:?} same {} other {}\n",
+        copy.as_slice(),
+        copy.same(costs),
+        copy.same(other)
+    )
+}
+
+/// What costs say of two sets and of a gap.
+fn push_totals(
+    costs: &Costs,
+    first: &GapSet,
+    second: &GapSet,
+    gap: u8,
+    printed: &mut String,
+) -> Result<(), AllocError> {
+    write!(
+        printed,
+        "gap {:?} totals {} {} better {}\n",
+        costs.cost_of(gap),
+        costs.total(first),
+        costs.total(second),
+        costs.better(first, second)
+    )
+}
+
+/// What costs say of themselves, of other costs, of two sets and of a gap; of the latter a copy says it.
 pub fn costs(alloc: Global, words: &[&[u8]]) -> Result<String, Refusal> {
-    let costs = Costs::new(alloc, &numbers_of(alloc, word_at(words, 1)?)?)?;
-    let other = Costs::new(alloc, &numbers_of(alloc, word_at(words, 2)?)?)?;
     let first = gap_set_of(alloc, word_at(words, 3)?)?;
     let second = gap_set_of(alloc, word_at(words, 4)?)?;
     let gap = byte_of(word_at(words, 5)?)?;
-    let copy = costs.copy()?;
-    Ok(format!(in alloc;
-        "costs {:?} length {} empty {}\ncopy {:?} same {} other {}\ngap {:?} totals {} {} better {}\n",
-        costs.as_slice(),
-        costs.len(),
-        costs.is_empty(),
-        copy.as_slice(),
-        copy.same(&costs),
-        copy.same(&other),
-        copy.cost_of(gap),
-        copy.total(&first),
-        copy.total(&second),
-        copy.better(&first, &second)
-    )?)
+    let costs = costs_of(alloc, words, 1)?;
+    let other = costs_of(alloc, words, 2)?;
+    let mut printed = String::new(alloc);
+    push_costs(&costs, &other, &mut printed)?;
+    push_totals(&costs.copy()?, &first, &second, gap, &mut printed)?;
+    Ok(printed)
 }

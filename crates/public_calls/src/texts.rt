@@ -47,6 +47,45 @@ fn push_labels<P>(
     printed.push('\n')
 }
 
+fn push_program<P>(
+    litmus: &Litmus<P>,
+    threads: &[Thread],
+    memory: &[u32],
+    printed: &mut String,
+) -> Result<(), AllocError> {
+    printed.push_str("name ")?;
+    push_bytes(printed, litmus.name.as_slice())?;
+    write!(printed, "\nthreads {threads:?}\nmemory {memory:?}\n")
+}
+
+fn push_names<P>(
+    litmus: &Litmus<P>,
+    threads: usize,
+    printed: &mut String,
+) -> Result<(), AllocError> {
+    push_locations(&litmus.names, printed)?;
+    for thread in 0..threads {
+        push_registers(&litmus.names, thread, printed)?;
+        push_labels(litmus, thread, printed)?;
+    }
+    Ok(())
+}
+
+fn push_condition<P>(
+    alloc: Global,
+    litmus: &Litmus<P>,
+    printed: &mut String,
+) -> Result<(), AllocError> {
+    let observed = litmus.observed.as_slice();
+    let condition = &litmus.condition;
+    let tokens = condition.formula.tokens(alloc)?;
+    write!(
+        printed,
+        "observed {observed:?}\nquantifier {:?}\nformula {tokens:?}\n",
+        condition.quantifier
+    )
+}
+
 /// All that a test has, with the threads and the memory of its program.
 fn parts<P>(
     alloc: Global,
@@ -54,22 +93,10 @@ fn parts<P>(
     threads: &[Thread],
     memory: &[u32],
 ) -> Result<String, AllocError> {
-    let mut printed = String::from_str(alloc, "name ")?;
-    push_bytes(&mut printed, litmus.name.as_slice())?;
-    write!(&mut printed, "\nthreads {threads:?}\nmemory {memory:?}\n")?;
-    push_locations(&litmus.names, &mut printed)?;
-    for thread in 0..threads.len() {
-        push_registers(&litmus.names, thread, &mut printed)?;
-        push_labels(litmus, thread, &mut printed)?;
-    }
-    let condition = &litmus.condition;
-    write!(
-        &mut printed,
-        "observed {:?}\nquantifier {:?}\nformula {:?}\n",
-        litmus.observed.as_slice(),
-        condition.quantifier,
-        condition.formula.tokens(alloc)?
-    )?;
+    let mut printed = String::new(alloc);
+    push_program(litmus, threads, memory, &mut printed)?;
+    push_names(litmus, threads.len(), &mut printed)?;
+    push_condition(alloc, litmus, &mut printed)?;
     Ok(printed)
 }
 

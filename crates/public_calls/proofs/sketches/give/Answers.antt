@@ -2,7 +2,7 @@ use Rattle.std.proofs.Common.{Contains, ◌∙◌, sym, subst}
 use Rattle.std.proofs.lemmas.Bool.{eqb-true}
 use Rattle.std.proofs.lemmas.Option.{same_Some}
 use Rattle.candidate_executions.specs.Values.{IsValueOf}
-use Rattle.sketch_tests.proofs.tests.give.Goals as goal
+use Rattle.public_calls.proofs.sketches.give.Goals as goal
 
 pub give_value-requires-clause-value : goal.give_value-requires-clause-value
 give_value-requires-clause-value c =
