@@ -10,17 +10,16 @@ use Rattle.tso_program.specs.Shown.{Question, show}
 use Rattle.tso_machine.specs.declared.label.Label.{Label}
 use Rattle.tso_machine.specs.Machine.{Mode, Sequential, Fenced, no_gaps, outcome_at}
 use Rattle.tso_machine.specs.Outcomes.{IsShownRun}
-use Rattle.candidate_executions.specs.Sketches.{Sketch, with_value, with_source, with_pair}
-use Rattle.cert_forest.specs.Trees.{Cover, Value, Source, Order, Cycle, Known, Covers, NoCover, MoreCovers, Gap, Split, Bound, Gaps, NoGap, MoreGaps}
-use Rattle.cert_forest.specs.Texts.{count_covers, count_gaps}
-use Rattle.tree_laws.specs.CoverTrees.{event_of, IsValidCover, AreValidCovers}
+use Rattle.cert_forest.specs.Trees.{Gap, Split, Bound, Gaps, NoGap, MoreGaps}
+use Rattle.cert_forest.specs.Texts.{count_gaps}
+use Rattle.tree_laws.specs.CoverTrees.{IsValidCover}
 use Rattle.tree_laws.specs.GapTrees.{Node, children_of, IsValidGap, AreValidGaps}
 use Rattle.tree_laws.specs.Certificates.{Certificate, AreSequentialRuns, IsRunOutside, IsValidCertificate}
 use Rattle.tree_laws.proofs.Lists.{found_has}
-use Rattle.tree_laws.proofs.OneList.{one_list_of_values, one_list_of_sources, one_list_of_gaps}
+use Rattle.tree_laws.proofs.OneList.{one_list_of_gaps}
 use Rattle.cert_check.specs.declared.fault.CheckFault.{CheckFault}
 use Rattle.cert_check.specs.declared.fault.CheckFault.TheVariants as fault
-use Rattle.cert_check.specs.CoverDefects.{FirstWrongCover, FirstWrongChild}
+use Rattle.cover_judge.proofs.WrongNodes.{valid_is_not_wrong}
 use Rattle.cert_check.specs.GapDefects as gaps
 use Rattle.cert_check.specs.Faults.{IsRunOf, IsFirstWithout, FaultIs}
 use Rattle.cert_check.specs.Laws.{ValidCertificatesHaveNoFault}
@@ -44,46 +43,13 @@ one_list q (run ∷ runs) (o ∷ os) (x ∷ xs) left right =
     let rest = one_list q runs os xs left.1 right.1 in
     λ i. first i ∷ rest i
 
+-- runs outside a list are runs
+pub foreign_are_runs : (q : Question) (list : List Outcome) (runs : List (List Label)) → All (IsRunOutside q list) runs → All (IsRunOf q.program (Fenced no_gaps)) runs
+foreign_are_runs q list runs foreign k d h = (let (o, is_run, outside) = foreign k d h in of_shown q (Fenced no_gaps) _ o is_run)
+
 -- a value that has not the property contradicts that each has it
 pub none_without : {A : Type 0} (P : A → Type 0) (xs : List A) (n : ℕ) → All P xs → IsFirstWithout P xs n → ⊥
 none_without P xs n all first = first.without (found_has P xs n first.value first.there all)
-
-module _ (q : Question) (mode : Mode) (outcomes : List Outcome) where
-  many_covers : (trees : Covers) (ks : List Sketch) → AreValidCovers q mode outcomes trees ks → count_covers trees ≡ length ks
-  many_covers NoCover [] valid = refl
-  many_covers NoCover (k ∷ ks) valid = absurd valid
-  many_covers (MoreCovers tree trees) [] valid = absurd valid
-  many_covers (MoreCovers tree trees) (k ∷ ks) valid = ap suc (many_covers trees ks valid.1)
-
-  mutual
-    pub valid_is_not_wrong : (tree : Cover) (k : Sketch) (path : List ℕ) → IsValidCover q mode outcomes tree k → FirstWrongCover q mode outcomes tree k path → ⊥
-    valid_is_not_wrong (Value t children) k [] (values, has, valid) wrong =
-        wrong values has (many_covers children (map (with_value k t) values) valid ∙ length-map values (with_value k t))
-    valid_is_not_wrong (Value t children) k (n ∷ path) (values, has, valid) (others, has_too, many, wrong) =
-        valid_has_no_wrong children (map (with_value k t) others) n path
-        (subst (λ vs. AreValidCovers q mode outcomes children (map (with_value k t) vs)) (one_list_of_values q.program mode k t values others has has_too) valid) wrong
-    valid_is_not_wrong (Source read children) k [] (sources, has, valid) wrong =
-        wrong sources has (many_covers children (map (with_source k (event_of read)) sources) valid ∙ length-map sources (with_source k (event_of read)))
-    valid_is_not_wrong (Source read children) k (n ∷ path) (sources, has, valid) (others, has_too, many, wrong) =
-        valid_has_no_wrong children (map (with_source k (event_of read)) others) n path
-        (subst (λ es. AreValidCovers q mode outcomes children (map (with_source k (event_of read)) es)) (one_list_of_sources q.program mode k (event_of read) sources others has has_too) valid) wrong
-    valid_is_not_wrong (Order first second one other) k [] valid wrong = wrong valid.0
-    valid_is_not_wrong (Order first second one other) k (zero ∷ path) valid wrong =
-        valid_is_not_wrong one (with_pair k (event_of first) (event_of second)) path valid.1 wrong.1
-    valid_is_not_wrong (Order first second one other) k (suc zero ∷ path) valid wrong =
-        valid_is_not_wrong other (with_pair k (event_of second) (event_of first)) path valid.2 wrong.1.1
-    valid_is_not_wrong (Order first second one other) k (suc (suc n) ∷ path) valid wrong = wrong.1
-    valid_is_not_wrong (Cycle kind events) k [] valid wrong = wrong valid
-    valid_is_not_wrong (Cycle kind events) k (n ∷ path) valid wrong = wrong
-    valid_is_not_wrong (Known number) k [] valid wrong = wrong valid
-    valid_is_not_wrong (Known number) k (n ∷ path) valid wrong = wrong
-
-    valid_has_no_wrong : (trees : Covers) (ks : List Sketch) (n : ℕ) (path : List ℕ) → AreValidCovers q mode outcomes trees ks →
-        FirstWrongChild q mode outcomes trees ks n path → ⊥
-    valid_has_no_wrong NoCover ks n path valid wrong = wrong
-    valid_has_no_wrong (MoreCovers tree trees) [] n path valid wrong = wrong
-    valid_has_no_wrong (MoreCovers tree trees) (k ∷ ks) zero path valid wrong = valid_is_not_wrong tree k path valid.0 wrong
-    valid_has_no_wrong (MoreCovers tree trees) (k ∷ ks) (suc n) path valid wrong = valid_has_no_wrong trees ks n path valid.1 wrong.1
 
 module _ (p : Listing) (costs : List ℕ) (answer : SetOfGaps) (runs : List (List Label)) where
   long : (numbers : List ℕ) (n : Node) → length (children_of n numbers) ≡ length numbers
@@ -120,9 +86,6 @@ module _ (q : Question) (costs : List ℕ) (c : Certificate) (valid : IsValidCer
   same_list : (outcomes : List Outcome) → AreSequentialRuns q c.seq_runs outcomes → valid.outcomes ≡ outcomes
   same_list outcomes replayed = one_list q c.seq_runs valid.outcomes outcomes valid.replayed replayed
 
-  are_runs : All (IsRunOf p (Fenced no_gaps)) c.runs
-  are_runs k d h = (let (o, is_run, outside) = valid.foreign k d h in of_shown q (Fenced no_gaps) _ o is_run)
-
   no_fault : (why : CheckFault) → FaultIs q costs c why → why ≡ fault.OutOfMemory
   no_fault fault.Shown wrong = absurd (wrong valid.shown)
   no_fault fault.Set wrong = absurd (wrong.1 valid.of_program)
@@ -132,7 +95,7 @@ module _ (q : Question) (costs : List ℕ) (c : Certificate) (valid : IsValidCer
   no_fault (fault.SequentialTree path) (outcomes, has, wrong) =
       absurd (valid_is_not_wrong q Sequential outcomes c.seq_tree _ path
       (subst (λ os. IsValidCover q Sequential os c.seq_tree _) (same_list outcomes has.replayed) valid.sequential) wrong)
-  no_fault (fault.Run n) (outcomes, has, wrong) = absurd (none_without (IsRunOf p (Fenced no_gaps)) c.runs n are_runs wrong)
+  no_fault (fault.Run n) (outcomes, has, wrong) = absurd (none_without (IsRunOf p (Fenced no_gaps)) c.runs n (foreign_are_runs q valid.outcomes c.runs valid.foreign) wrong)
   no_fault (fault.NotForeign n) (outcomes, has, wrong) =
       absurd (none_without (IsRunOutside q outcomes) c.runs n
       (subst (λ os. All (IsRunOutside q os) c.runs) (same_list outcomes has.complete.listed.replayed) valid.foreign) wrong)

@@ -8,7 +8,8 @@ use Rattle.gap_sets.specs.Gaps.{SetOfGaps}
 use Rattle.gap_sets.specs.Order.{Better}
 use Rattle.tso_program.specs.declared.listing.Listing.{Listing}
 use Rattle.tso_machine.specs.declared.label.Label.{Label}
-use Rattle.tso_machine.specs.declared.ended.Ended.{Ended}
+use Rattle.tso_machine.specs.Machine.{Fenced, no_gaps}
+use Rattle.tso_machine.specs.Modes.{ArePassed}
 use Rattle.cert_forest.specs.Trees.{Gap, Split, Bound, gaps_of}
 use Rattle.cert_forest.proofs.TreeTexts.{gaps_count}
 use Rattle.tree_laws.specs.GapTrees.{PassesGap, IsSplitBy}
@@ -16,56 +17,56 @@ use Rattle.tree_laws.proofs.OneList.{one_list_of_gaps}
 use Rattle.cert_check.specs.declared.gap.Region.{Region}
 use Rattle.cert_check.specs.Regions.{node_of, IsValidIn, IsWrongIn, AreValidIn, IsWrongChildIn}
 use Rattle.cert_check.specs.GapDefects.{HasNoSplit}
-use Rattle.cert_check.specs.Replays.{HasPassed, HavePassed}
-use Rattle.cert_check.specs.Judged.{IsAtRoot, IsBelow}
+use Rattle.cert_check.specs.Replays.{HavePassed}
+use Rattle.cover_judge.specs.Judged.{IsAtRoot, IsBelow}
 
 -- what is found at a number goes with the labels of this number
-pub labels_at : (R : List Label → Ended → Type 0) (runs : List (List Label)) (ended : List Ended) (n : ℕ) (end : Ended) → AllZip R runs ended → slice_get ended n ≡ Some end →
-    (labels : List Label) × (slice_get runs n ≡ Some labels) × R labels end
-labels_at R [] [] n end each e = absurd cc
-labels_at R [] (x ∷ ended) n end each e = absurd each
-labels_at R (labels ∷ runs) [] n end each e = absurd cc
-labels_at R (labels ∷ runs) (x ∷ ended) zero end each e = (labels, refl, subst (R labels) (same_Some x end e) each.0)
-labels_at R (labels ∷ runs) (x ∷ ended) (suc n) end each e = labels_at R runs ended n end each.1 e
+pub labels_at : {B : Type 0} (R : List Label → B → Type 0) (runs : List (List Label)) (xs : List B) (n : ℕ) (x : B) → AllZip R runs xs → slice_get xs n ≡ Some x →
+    (labels : List Label) × (slice_get runs n ≡ Some labels) × R labels x
+labels_at R [] [] n x each e = absurd cc
+labels_at R [] (y ∷ xs) n x each e = absurd each
+labels_at R (labels ∷ runs) [] n x each e = absurd cc
+labels_at R (labels ∷ runs) (y ∷ xs) zero x each e = (labels, refl, subst (R labels) (same_Some y x e) each.0)
+labels_at R (labels ∷ runs) (y ∷ xs) (suc n) x each e = labels_at R runs xs n x each.1 e
 
 -- there is nothing where there are no labels
-pub nothing_at : (R : List Label → Ended → Type 0) (runs : List (List Label)) (ended : List Ended) (n : ℕ) (labels : List Label) → AllZip R runs ended → slice_get ended n ≡ None →
+pub nothing_at : {B : Type 0} (R : List Label → B → Type 0) (runs : List (List Label)) (xs : List B) (n : ℕ) (labels : List Label) → AllZip R runs xs → slice_get xs n ≡ None →
     slice_get runs n ≡ Some labels → ⊥
 nothing_at R [] [] n labels each e h = cc
-nothing_at R [] (x ∷ ended) n labels each e h = each
+nothing_at R [] (x ∷ xs) n labels each e h = each
 nothing_at R (run ∷ runs) [] n labels each e h = each
-nothing_at R (run ∷ runs) (x ∷ ended) zero labels each e h = cc
-nothing_at R (run ∷ runs) (x ∷ ended) (suc n) labels each e h = nothing_at R runs ended n labels each.1 e h
+nothing_at R (run ∷ runs) (x ∷ xs) zero labels each e h = cc
+nothing_at R (run ∷ runs) (x ∷ xs) (suc n) labels each e h = nothing_at R runs xs n labels each.1 e h
 
-module _ (p : Listing) (runs : List (List Label)) (ended : List Ended) (region : Region) (n : ℕ) (each : HavePassed p runs ended) where
+module _ (p : Listing) (runs : List (List Label)) (passed : List SetOfGaps) (region : Region) (n : ℕ) (each : HavePassed p runs passed) where
   -- no such run
-  pub not_there : slice_get ended n ≡ None → (count : ℕ) → HasNoSplit p runs (node_of region) n count
-  not_there none count gaps split e = nothing_at (HasPassed p) runs ended n split.labels each none split.is_run
+  pub not_there : slice_get passed n ≡ None → (count : ℕ) → HasNoSplit p runs (node_of region) n count
+  not_there none count gaps split e = nothing_at (ArePassed p (Fenced no_gaps)) runs passed n split.labels each none split.is_run
 
-  module _ (end : Ended) (there : slice_get ended n ≡ Some end) where
-    replay : (labels : List Label) × (slice_get runs n ≡ Some labels) × HasPassed p labels end
-    replay = labels_at (HasPassed p) runs ended n end each there
+  module _ (these : SetOfGaps) (there : slice_get passed n ≡ Some these) where
+    run : (labels : List Label) × (slice_get runs n ≡ Some labels) × ArePassed p (Fenced no_gaps) labels these
+    run = labels_at (ArePassed p (Fenced no_gaps)) runs passed n these each there
 
-    same_labels : (gaps : List ℕ) (split : IsSplitBy p runs (node_of region) n gaps) → replay.0 ≡ split.labels
-    same_labels gaps split = same_Some replay.0 split.labels (sym replay.1 ∙ split.is_run)
+    same_labels : (gaps : List ℕ) (split : IsSplitBy p runs (node_of region) n gaps) → run.0 ≡ split.labels
+    same_labels gaps split = same_Some run.0 split.labels (sym run.1 ∙ split.is_run)
 
     -- the run passes a gap that the sets must have
-    pub must_pass : (gap : ℕ) → set.contains end.passed gap ≡ true → set.contains region.must gap ≡ true → (count : ℕ) → HasNoSplit p runs (node_of region) n count
-    must_pass gap passed must count gaps split e =
-        split.passes_none gap must (subst (λ labels. PassesGap p labels gap) (same_labels gaps split) ((replay.2.passed gap).0 passed))
+    pub must_pass : (gap : ℕ) → set.contains these gap ≡ true → set.contains region.must gap ≡ true → (count : ℕ) → HasNoSplit p runs (node_of region) n count
+    must_pass gap passes must count gaps split e =
+        split.passes_none gap must (subst (λ labels. PassesGap p labels gap) (same_labels gaps split) ((run.2 gap).0 passes))
 
     -- the gaps that it passes and that the sets may have split the region
-    pub splits : (gaps : List ℕ) → ((gap : ℕ) → set.contains end.passed gap ≡ true → set.contains region.must gap ≡ true → ⊥) → IsStrictlyIncreasing gaps →
-        ((gap : ℕ) → Contains gaps gap ↔ ((set.contains end.passed gap ≡ true) × (set.contains region.never gap ≡ false))) →
+    pub splits : (gaps : List ℕ) → ((gap : ℕ) → set.contains these gap ≡ true → set.contains region.must gap ≡ true → ⊥) → IsStrictlyIncreasing gaps →
+        ((gap : ℕ) → Contains gaps gap ↔ ((set.contains these gap ≡ true) × (set.contains region.never gap ≡ false))) →
         IsSplitBy p runs (node_of region) n gaps
     splits gaps meets ascending exact = record {
-      labels = replay.0;
-      is_run = replay.1;
-      passes_none = λ gap must passes. meets gap ((replay.2.passed gap).1 passes) must;
+      labels = run.0;
+      is_run = run.1;
+      passes_none = λ gap must passes. meets gap ((run.2 gap).1 passes) must;
       ascending = ascending;
       exact = λ gap. (
-        (λ here. (let (passed, open_gap) = (exact gap).0 here in ((replay.2.passed gap).0 passed, open_gap))),
-        (λ (passes, open_gap). (exact gap).1 ((replay.2.passed gap).1 passes, open_gap)),
+        (λ here. (let (passes, open_gap) = (exact gap).0 here in ((run.2 gap).0 passes, open_gap))),
+        (λ (passes, open_gap). (exact gap).1 ((run.2 gap).1 passes, open_gap)),
       );
     }
 

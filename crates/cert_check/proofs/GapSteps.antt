@@ -6,10 +6,10 @@ use Rattle.tso_machine.specs.declared.label.Label.{Label}
 use Rattle.cert_forest.specs.declared.tree.GapTree.{GapTree}
 use Rattle.cert_forest.specs.Views.{gap}
 use Rattle.cert_forest.specs.Trees.{Gap}
-use Rattle.cert_check.proofs.Mapped.{left_from, mapped_from}
+use Rattle.cover_judge.proofs.Mapped.{left_from, mapped_from}
 use Rattle.cert_check.specs.declared.gap.Region.{Region}
 use Rattle.cert_check.specs.Regions.{with_gap, without_gap, IsValidIn, IsWrongIn, AreValidIn, IsWrongChildIn}
-use Rattle.cert_check.specs.Judged.{IsBelow}
+use Rattle.cover_judge.specs.Judged.{IsBelow}
 
 module _ (p : Listing) (costs : List ℕ) (answer : SetOfGaps) (runs : List (List Label)) (trees : List Gap) (region : Region) (gaps : List ℕ) where
   -- the children that are left decide of all, where so many were judged

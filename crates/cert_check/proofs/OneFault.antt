@@ -11,20 +11,21 @@ use Rattle.tso_program.specs.Shown.{Question}
 use Rattle.tso_machine.specs.declared.label.Label.{Label}
 use Rattle.tso_machine.specs.Machine.{Mode, Sequential, Fenced, no_gaps}
 use Rattle.tso_machine.specs.Outcomes.{IsShownRun, AreGapsOf}
-use Rattle.candidate_executions.specs.Sketches.{Sketch, empty_sketch, with_value, with_source, with_pair}
-use Rattle.cert_forest.specs.Trees.{Cover, Value, Source, Order, Cycle, Known, Covers, NoCover, MoreCovers, Gap, Split, Bound, Gaps, NoGap, MoreGaps}
-use Rattle.tree_laws.specs.CoverTrees.{event_of, IsValidCover}
+use Rattle.candidate_executions.specs.Sketches.{empty_sketch}
+use Rattle.cert_forest.specs.Trees.{Cover, Gap, Split, Bound, Gaps, NoGap, MoreGaps}
+use Rattle.tree_laws.specs.CoverTrees.{IsValidCover}
 use Rattle.tree_laws.specs.GapTrees.{Node, root, children_of}
 use Rattle.tree_laws.specs.Certificates.{Certificate, AreSequentialRuns, IsRunOutside}
-use Rattle.tree_laws.proofs.OneList.{one_list_of_values, one_list_of_sources, one_list_of_gaps}
+use Rattle.tree_laws.proofs.OneList.{one_list_of_gaps}
 use Rattle.cert_check.specs.declared.fault.CheckFault.{CheckFault}
 use Rattle.cert_check.specs.declared.fault.CheckFault.TheVariants as fault
-use Rattle.cert_check.specs.CoverDefects.{FirstWrongCover, FirstWrongChild}
+use Rattle.cover_judge.specs.CoverDefects.{FirstWrongCover}
+use Rattle.cover_judge.proofs.WrongNodes.{next_sibling, valid_is_not_wrong, one_wrong_node}
 use Rattle.cert_check.specs.GapDefects as gaps
 use Rattle.cert_check.specs.Faults.{IsRunOf, IsFirstWithout, HasRightCost, HasHead, HasOutcomes, HasEachOutcome, HasRuns, HasForeignRuns, HasServingSet, FaultIs}
 use Rattle.cert_check.specs.Laws.{TheFirstFaultIsUnique}
 use Rattle.cert_check.proofs.Replayed.{zip_left, of_shown}
-use Rattle.cert_check.proofs.FirstFaults.{one_list, none_without, valid_is_not_wrong, valid_gap_is_not_wrong}
+use Rattle.cert_check.proofs.FirstFaults.{one_list, none_without, valid_gap_is_not_wrong}
 
 -- what each value before a place has, one of them has
 has_before : {A : Type 0} (P : A → Type 0) (xs : List A) (n m : ℕ) (v : A) → n < m → slice_get xs n ≡ Some v → All P (take m xs) → P v
@@ -42,58 +43,6 @@ one_number P xs n m first also = elim (cases_lt n m) [
     | inr l ↦ omega arith
   ]
 ]
-
--- the path to the next sibling
-abbrev next_sibling : List ℕ → List ℕ
-next_sibling [] = []
-next_sibling (n ∷ path) = suc n ∷ path
-
-module _ (q : Question) (mode : Mode) (outcomes : List Outcome) where
-  mutual
-    -- one node of a cover tree is the first wrong one
-    pub one_wrong_node : (tree : Cover) (k : Sketch) (path other : List ℕ) → FirstWrongCover q mode outcomes tree k path → FirstWrongCover q mode outcomes tree k other → path ≡ other
-    one_wrong_node (Value t children) k [] [] wrong also = refl
-    one_wrong_node (Value t children) k [] (m ∷ other) wrong (values, has, many, below) = absurd (wrong values has many)
-    one_wrong_node (Value t children) k (n ∷ path) [] (values, has, many, below) wrong = absurd (wrong values has many)
-    one_wrong_node (Value t children) k (n ∷ path) (m ∷ other) (values, has, many, below) (others, has_too, many_too, below_too) =
-        one_wrong_child children (map (with_value k t) values) n m path other below
-        (subst (λ vs. FirstWrongChild q mode outcomes children (map (with_value k t) vs) m other) (one_list_of_values q.program mode k t others values has_too has) below_too)
-    one_wrong_node (Source read children) k [] [] wrong also = refl
-    one_wrong_node (Source read children) k [] (m ∷ other) wrong (sources, has, many, below) = absurd (wrong sources has many)
-    one_wrong_node (Source read children) k (n ∷ path) [] (sources, has, many, below) wrong = absurd (wrong sources has many)
-    one_wrong_node (Source read children) k (n ∷ path) (m ∷ other) (sources, has, many, below) (others, has_too, many_too, below_too) =
-        one_wrong_child children (map (with_source k (event_of read)) sources) n m path other below
-        (subst (λ es. FirstWrongChild q mode outcomes children (map (with_source k (event_of read)) es) m other)
-        (one_list_of_sources q.program mode k (event_of read) others sources has_too has) below_too)
-    one_wrong_node (Order first second one two) k [] [] wrong also = refl
-    one_wrong_node (Order first second one two) k [] (m ∷ other) wrong below = absurd (wrong below.0)
-    one_wrong_node (Order first second one two) k (n ∷ path) [] below wrong = absurd (wrong below.0)
-    one_wrong_node (Order first second one two) k (zero ∷ path) (zero ∷ other) wrong also =
-        ap (λ xs. zero ∷ xs) (one_wrong_node one (with_pair k (event_of first) (event_of second)) path other wrong.1 also.1)
-    one_wrong_node (Order first second one two) k (zero ∷ path) (suc zero ∷ other) wrong also =
-        absurd (valid_is_not_wrong q mode outcomes one (with_pair k (event_of first) (event_of second)) path also.1.0 wrong.1)
-    one_wrong_node (Order first second one two) k (zero ∷ path) (suc (suc m) ∷ other) wrong also = absurd also.1
-    one_wrong_node (Order first second one two) k (suc zero ∷ path) (zero ∷ other) wrong also =
-        absurd (valid_is_not_wrong q mode outcomes one (with_pair k (event_of first) (event_of second)) other wrong.1.0 also.1)
-    one_wrong_node (Order first second one two) k (suc zero ∷ path) (suc zero ∷ other) wrong also =
-        ap (λ xs. suc zero ∷ xs) (one_wrong_node two (with_pair k (event_of second) (event_of first)) path other wrong.1.1 also.1.1)
-    one_wrong_node (Order first second one two) k (suc zero ∷ path) (suc (suc m) ∷ other) wrong also = absurd also.1
-    one_wrong_node (Order first second one two) k (suc (suc n) ∷ path) (m ∷ other) wrong also = absurd wrong.1
-    one_wrong_node (Cycle kind events) k [] [] wrong also = refl
-    one_wrong_node (Cycle kind events) k [] (m ∷ other) wrong also = absurd also
-    one_wrong_node (Cycle kind events) k (n ∷ path) other wrong also = absurd wrong
-    one_wrong_node (Known number) k [] [] wrong also = refl
-    one_wrong_node (Known number) k [] (m ∷ other) wrong also = absurd also
-    one_wrong_node (Known number) k (n ∷ path) other wrong also = absurd wrong
-
-    one_wrong_child : (trees : Covers) (ks : List Sketch) (n m : ℕ) (path other : List ℕ) → FirstWrongChild q mode outcomes trees ks n path →
-        FirstWrongChild q mode outcomes trees ks m other → n ∷ path ≡ m ∷ other
-    one_wrong_child NoCover ks n m path other wrong also = absurd wrong
-    one_wrong_child (MoreCovers tree trees) [] n m path other wrong also = absurd wrong
-    one_wrong_child (MoreCovers tree trees) (k ∷ ks) zero zero path other wrong also = ap (λ xs. zero ∷ xs) (one_wrong_node tree k path other wrong also)
-    one_wrong_child (MoreCovers tree trees) (k ∷ ks) zero (suc m) path other wrong also = absurd (valid_is_not_wrong q mode outcomes tree k path also.0 wrong)
-    one_wrong_child (MoreCovers tree trees) (k ∷ ks) (suc n) zero path other wrong also = absurd (valid_is_not_wrong q mode outcomes tree k other wrong.0 also)
-    one_wrong_child (MoreCovers tree trees) (k ∷ ks) (suc n) (suc m) path other wrong also = ap next_sibling (one_wrong_child trees ks n m path other wrong.1 also.1)
 
 module _ (p : Listing) (costs : List ℕ) (answer : SetOfGaps) (runs : List (List Label)) where
   mutual

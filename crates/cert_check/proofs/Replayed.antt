@@ -76,29 +76,38 @@ zip_left R P f (x ∷ xs) (y ∷ ys) all (suc k) d h = zip_left R P f xs ys all.
 pub of_shown : (q : Question) (mode : Mode) (labels : List Label) (o : Outcome) → IsShownRun q mode labels o → IsRunOf q.program mode labels
 of_shown q mode labels o (whole, is_run, shown) = (whole, is_run)
 
+-- of one run more, at the next place of a list in step
+module _ {B : Type 0} (R : List Label → B → Type 0) (all : List (Vec Label)) (i : ℕ) (d : Vec Label) (h : i < length all) (labels : List Label) (same : labels ≡ (get_or all i d).items) where
+  step_more : (xs more : List B) (x : B) → AllZip R (labels_of (take i all)) xs → R labels x → more ≡ xs ++ x ∷ [] → AllZip R (labels_of (take (i + 1) all)) more
+  step_more xs more x each is pushed =
+      subst (λ labels. AllZip R labels more) (sym (map_more (λ (run : Vec Label). run.items) all i d h))
+      (subst (AllZip R (labels_of (take i all) ++ (get_or all i d).items ∷ [])) (sym pushed)
+      (zip_more R (labels_of (take i all)) xs (get_or all i d).items x each (subst (λ labels. R labels x) same is)))
+
 module _ (q : Question) (model : Model) (all : List (Vec Label)) where
   -- the replays so far, and one more
-  pub replays_more : (i : ℕ) (d : Vec Label) (labels : List Label) → labels ≡ (get_or all i d).items → (ended more : List Ended) (end : Ended) → i < length all → AreReplaysOf q model (labels_of (take i all)) ended →
-      IsReplayOf q model labels end → more ≡ ended ++ end ∷ [] → AreReplaysOf q model (labels_of (take (i + 1) all)) more
-  replays_more i d found same ended more end h each is pushed =
-      subst (λ labels. AreReplaysOf q model labels more) (sym (map_more (λ (run : Vec Label). run.items) all i d h))
-      (subst (AreReplaysOf q model (labels_of (take i all) ++ (get_or all i d).items ∷ [])) (sym pushed)
-      (zip_more (IsReplayOf q model) (labels_of (take i all)) ended (get_or all i d).items end each (subst (λ labels. IsReplayOf q model labels end) same is)))
+  pub replays_more : (i : ℕ) (d : Vec Label) (labels : List Label) → labels ≡ (get_or all i d).items → (outcomes more_outcomes : List Outcome) (passed more_passed : List SetOfGaps) (end : Ended) →
+      i < length all → AreReplaysOf q model (labels_of (take i all)) outcomes passed → IsReplayOf q model labels end → more_outcomes ≡ outcomes ++ end.outcome ∷ [] →
+      more_passed ≡ passed ++ end.passed ∷ [] → AreReplaysOf q model (labels_of (take (i + 1) all)) more_outcomes more_passed
+  replays_more i d labels same outcomes more_outcomes passed more_passed end h each is pushed pushed_too = record {
+    are_runs = step_more (IsShownRun q (machine_of model)) all i d h labels same outcomes more_outcomes end.outcome each.are_runs is.is_run pushed;
+    are_passed = step_more (ArePassed q.program (machine_of model)) all i d h labels same passed more_passed end.passed each.are_passed is.passed pushed_too;
+  }
 
   -- the first run that is none
-  pub first_no_run : (i : ℕ) (d : Vec Label) (ended : List Ended) → i < length all → AreReplaysOf q model (labels_of (take i all)) ended →
+  pub first_no_run : (i : ℕ) (d : Vec Label) (outcomes : List Outcome) (passed : List SetOfGaps) → i < length all → AreReplaysOf q model (labels_of (take i all)) outcomes passed →
       (IsRunOf q.program (machine_of model) (get_or all i d).items → ⊥) → IsFirstWithout (IsRunOf q.program (machine_of model)) (labels_of all) i
-  first_no_run i d ended h each none = record {
+  first_no_run i d outcomes passed h each none = record {
     value = (get_or all i d).items;
     there = slice_get-map (λ (run : Vec Label). run.items) all i ∙ ap (λ o. option_map (λ (run : Vec Label). run.items) o) (slice_get-get_or all i d h);
     without = none;
     before = subst (All (IsRunOf q.program (machine_of model))) (sym (take-map (λ (run : Vec Label). run.items) i all))
-        (zip_left (IsReplayOf q model) (IsRunOf q.program (machine_of model)) (λ labels end is. of_shown q (machine_of model) labels end.outcome is.is_run) (labels_of (take i all)) ended each);
+        (zip_left (IsShownRun q (machine_of model)) (IsRunOf q.program (machine_of model)) (of_shown q (machine_of model)) (labels_of (take i all)) outcomes each.are_runs);
   }
 
   -- the fault of the first run that is none
-  pub first_fault : (i : ℕ) (d : Vec Label) (ended : List Ended) (labels : List Label) → labels ≡ (get_or all i d).items → (fault : RunsFault) → i < length all → AreReplaysOf q model (labels_of (take i all)) ended →
-      IsNoRun q.program (machine_of model) labels i fault → RunsFaultIs q.program model (labels_of all) fault
-  first_fault i d ended labels same (runs.NoRun n) h each (at, none) = subst (IsFirstWithout (IsRunOf q.program (machine_of model)) (labels_of all)) (sym at)
-      (first_no_run i d ended h each (λ run. none (subst (IsRunOf q.program (machine_of model)) (sym same) run)))
-  first_fault i d ended labels same runs.OutOfMemory h each none = tt
+  pub first_fault : (i : ℕ) (d : Vec Label) (outcomes : List Outcome) (passed : List SetOfGaps) (labels : List Label) → labels ≡ (get_or all i d).items → (fault : RunsFault) → i < length all →
+      AreReplaysOf q model (labels_of (take i all)) outcomes passed → IsNoRun q.program (machine_of model) labels i fault → RunsFaultIs q.program model (labels_of all) fault
+  first_fault i d outcomes passed labels same (runs.NoRun n) h each (at, none) = subst (IsFirstWithout (IsRunOf q.program (machine_of model)) (labels_of all)) (sym at)
+      (first_no_run i d outcomes passed h each (λ run. none (subst (IsRunOf q.program (machine_of model)) (sym same) run)))
+  first_fault i d outcomes passed labels same runs.OutOfMemory h each none = tt

@@ -15,7 +15,7 @@ use Rattle.tree_laws.specs.GapTrees.{root}
 use Rattle.tree_laws.specs.Certificates.{Certificate, AreSequentialRuns, IsRunOutside}
 use Rattle.cert_check.specs.declared.fault.CheckFault.{CheckFault}
 use Rattle.cert_check.specs.declared.fault.CheckFault.TheVariants as fault
-use Rattle.cert_check.specs.CoverDefects.{FirstWrongCover}
+use Rattle.cover_judge.specs.CoverDefects.{FirstWrongCover}
 use Rattle.cert_check.specs.GapDefects.{FirstWrongGap}
 
 -- the value of this number has not the property, and each before it has

@@ -1,11 +1,6 @@
 pub mod Claims
-pub mod Paths
-pub mod CoverDefects
 pub mod GapDefects
 pub mod Faults
 pub mod Laws
-pub mod Choices
-pub mod Judged
-pub mod Ordered
 pub mod Replays
 pub mod Regions

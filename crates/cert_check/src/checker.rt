@@ -15,20 +15,21 @@ ghost use Rattle.tree_laws.specs.Certificates as trees;
 ghost use Rattle.tree_laws.specs.Certificates.{AreSequentialRuns, IsRunOutside, IsValidCertificate};
 ghost use Rattle.cert_check.specs.Claims.{claim_of};
 ghost use Rattle.cert_check.specs.Faults.{FaultIs, HasHead, HasEachOutcome, HasForeignRuns, HasServingSet};
-ghost use Rattle.cert_check.specs.Replays.{AreBufferedReplays, HavePassed, outcomes_of};
+ghost use Rattle.cert_check.specs.Replays.{HavePassed};
 
 use crate::CheckFault;
 use crate::cover::judge_from_start;
-use crate::fault::{RunsFault, TreeFault};
+use crate::fault::RunsFault;
 use crate::gap::{Bounds, Region, judge_gap};
 use crate::runs::{first_listed, replay_all};
 use cert_forest::Certificate;
+use cover_judge::TreeFault;
 use exec_axioms::Mode;
 use gap_sets::{Costs, GapSet};
 use std::alloc::Global;
 use tree_laws::a_valid_certificate_proves_the_headline;
-use tso_machine::{Ended, Model};
-use tso_program::{Program, Shown};
+use tso_machine::Model;
+use tso_program::{Outcome, Program, Shown};
 
 /// What a certificate shows: a set of gaps is the answer, and this is its cost.
 #[derive(Clone, Copy, Debug)]
@@ -95,9 +96,9 @@ fn check_all(
 {
     check_head(program, shown, costs, certificate)?;
     let listed = sequential_list(alloc, program, shown, certificate)?;
-    let runs = foreign_runs(alloc, program, shown, certificate, &listed)?;
+    let passed = foreign_runs(alloc, program, shown, certificate, &listed)?;
     check_fenced(alloc, program, shown, certificate, &listed)?;
-    check_gaps(alloc, costs, certificate, &runs)
+    check_gaps(alloc, costs, certificate, &passed)
 }
 
 /// Faults 10, 1 and 2.
@@ -125,15 +126,15 @@ fn check_head(
     Ok(())
 }
 
-/// Faults 3 and 4: the replays of the sequential runs, which have all sequential outcomes.
+/// Faults 3 and 4: what is shown of the outcomes of the sequential runs, which are all sequential ones.
 fn sequential_list(
     alloc: Global,
     program: &Program,
     shown: &Shown,
     certificate: &Certificate,
-) -> Result<Vec<Ended>, CheckFault>
-    ensures replayed { IfOk result (λ listed. AreSequentialRuns (asked program.now shown.now) (claim_of certificate.now).seq_runs (outcomes_of listed.items)) }
-    ensures sequential { IfOk result (λ listed. IsValidCover (asked program.now shown.now) Sequential (outcomes_of listed.items) (claim_of certificate.now).seq_tree empty_sketch) }
+) -> Result<Vec<Outcome>, CheckFault>
+    ensures replayed { IfOk result (λ listed. AreSequentialRuns (asked program.now shown.now) (claim_of certificate.now).seq_runs listed.items) }
+    ensures sequential { IfOk result (λ listed. IsValidCover (asked program.now shown.now) Sequential listed.items (claim_of certificate.now).seq_tree empty_sketch) }
     ensures fault { (costs : List ℕ) → HasHead (asked program.now shown.now) costs (claim_of certificate.now)
         → IfErr result (FaultIs (asked program.now shown.now) costs (claim_of certificate.now)) }
 {
@@ -144,7 +145,7 @@ fn sequential_list(
         Model::Sequential,
         &certificate.seq_runs,
     ) {
-        Ok(listed) => listed,
+        Ok(replays) => replays.outcomes,
         Err(RunsFault::NoRun(number)) => return Err(CheckFault::SequentialRun(number)),
         Err(RunsFault::OutOfMemory) => return Err(CheckFault::OutOfMemory),
     };
@@ -162,28 +163,28 @@ fn sequential_list(
     }
 }
 
-/// Faults 5 and 6: the replays of the other runs, whose outcomes are none of the list.
+/// Faults 5 and 6: the gaps that the other runs pass, whose outcomes are not in the list.
 fn foreign_runs(
     alloc: Global,
     program: &Program,
     shown: &Shown,
     certificate: &Certificate,
-    listed: &[Ended],
-) -> Result<Vec<Ended>, CheckFault>
-    ensures replays { IfOk result (λ runs. AreBufferedReplays (asked program.now shown.now) (claim_of certificate.now).runs runs.items) }
-    ensures foreign { OnOk result (All (IsRunOutside (asked program.now shown.now) (outcomes_of listed.now)) (claim_of certificate.now).runs) }
-    ensures fault { (costs : List ℕ) → HasEachOutcome (asked program.now shown.now) costs (claim_of certificate.now) (outcomes_of listed.now)
+    listed: &[Outcome],
+) -> Result<Vec<GapSet>, CheckFault>
+    ensures passed { IfOk result (λ passed. HavePassed program.now (claim_of certificate.now).runs passed.items) }
+    ensures foreign { OnOk result (All (IsRunOutside (asked program.now shown.now) listed.now) (claim_of certificate.now).runs) }
+    ensures fault { (costs : List ℕ) → HasEachOutcome (asked program.now shown.now) costs (claim_of certificate.now) listed.now
         → IfErr result (FaultIs (asked program.now shown.now) costs (claim_of certificate.now)) }
 {
-    let runs = match replay_all(alloc, program, shown, Model::Buffered, &certificate.runs) {
-        Ok(runs) => runs,
+    let replays = match replay_all(alloc, program, shown, Model::Buffered, &certificate.runs) {
+        Ok(replays) => replays,
         Err(RunsFault::NoRun(number)) => return Err(CheckFault::Run(number)),
         Err(RunsFault::OutOfMemory) => return Err(CheckFault::OutOfMemory),
     };
-    let known = first_listed(alloc, &runs, listed)?;
+    let known = first_listed(alloc, &replays.outcomes, listed)?;
     match known {
         Some(number) => Err(CheckFault::NotForeign(number)),
-        None => Ok(runs),
+        None => Ok(replays.passed),
     }
 }
 
@@ -193,10 +194,10 @@ fn check_fenced(
     program: &Program,
     shown: &Shown,
     certificate: &Certificate,
-    listed: &[Ended],
+    listed: &[Outcome],
 ) -> Result<(), CheckFault>
-    ensures fenced { OnOk result (IsValidCover (asked program.now shown.now) (Fenced (gaps_in program.now certificate.now.set)) (outcomes_of listed.now) (claim_of certificate.now).fenced_tree empty_sketch) }
-    ensures fault { (costs : List ℕ) → HasForeignRuns (asked program.now shown.now) costs (claim_of certificate.now) (outcomes_of listed.now)
+    ensures fenced { OnOk result (IsValidCover (asked program.now shown.now) (Fenced (gaps_in program.now certificate.now.set)) listed.now (claim_of certificate.now).fenced_tree empty_sketch) }
+    ensures fault { (costs : List ℕ) → HasForeignRuns (asked program.now shown.now) costs (claim_of certificate.now) listed.now
         → IfErr result (FaultIs (asked program.now shown.now) costs (claim_of certificate.now)) }
 {
     let mode = Mode::Fenced(certificate.set);
@@ -214,22 +215,22 @@ fn check_fenced(
     }
 }
 
-/// Fault 8, by the replays of the foreign runs.
+/// Fault 8, by the gaps that the foreign runs pass.
 fn check_gaps(
     alloc: Global,
     costs: &Costs,
     certificate: &Certificate,
-    runs: &[Ended],
+    passed: &[GapSet],
 ) -> Result<(), CheckFault>
-    ensures least { (p : Listing) → HavePassed p (claim_of certificate.now).runs runs.now
+    ensures least { (p : Listing) → HavePassed p (claim_of certificate.now).runs passed.now
         → OnOk result (IsValidGap p costs.now certificate.now.set (claim_of certificate.now).runs (claim_of certificate.now).gap_tree root) }
-    ensures fault { (q : Question) (outcomes : List Outcome) → HavePassed q.program (claim_of certificate.now).runs runs.now
+    ensures fault { (q : Question) (outcomes : List Outcome) → HavePassed q.program (claim_of certificate.now).runs passed.now
         → HasServingSet q costs.now (claim_of certificate.now) outcomes → IfErr result (FaultIs q costs.now (claim_of certificate.now)) }
 {
     let bounds = Bounds {
         costs,
         answer: certificate.set,
-        runs,
+        passed,
     };
     match judge_gap(alloc, &certificate.gap_tree, &Region::root(), &bounds) {
         Ok(()) => Ok(()),

@@ -1,11 +1,9 @@
 //! Why a certificate is refused.
-ghost use Rattle.cert_check.specs.declared.fault.TreeFault.TheVariants.{OutOfMemory};
 ghost use Rattle.cert_check.specs.declared.fault.RunsFault.TheVariants as runs;
 ghost use Rattle.cert_check.specs.declared.fault.CheckFault.TheVariants as check;
 ghost use Rattle.std.specs.Prelude.{◌≡◌};
-ghost use Rattle.cert_check.specs.Judged.{IsFrom};
 
-use crate::Path;
+use cover_judge::Path;
 use std::alloc::{AllocError, AllocFailed};
 use thiserror::Error;
 
@@ -49,44 +47,6 @@ impl From<AllocError> for CheckFault {
 
     fn from(_error: AllocError) -> CheckFault {
         CheckFault::OutOfMemory
-    }
-}
-
-/// Why a tree isn't valid: its first wrong node.
-#[derive(Debug, Drop)]
-pub(crate) enum TreeFault {
-    Wrong(Path),
-    OutOfMemory,
-}
-
-impl TreeFault {
-    /// The same fault, from the parent of the tree as its child of this number.
-    pub(crate) fn from_parent(self, number: usize) -> TreeFault
-        ensures { IsFrom number self result }
-    {
-        match self {
-            TreeFault::Wrong(path) => match path.from_parent(number) {
-                Ok(path) => TreeFault::Wrong(path),
-                Err(_) => TreeFault::OutOfMemory,
-            },
-            TreeFault::OutOfMemory => TreeFault::OutOfMemory,
-        }
-    }
-}
-
-impl From<AllocError> for TreeFault {
-    ghost from_gives = { λ _ fault. fault ≡ OutOfMemory };
-
-    fn from(_error: AllocError) -> TreeFault {
-        TreeFault::OutOfMemory
-    }
-}
-
-impl<T: Drop> From<AllocFailed<T>> for TreeFault {
-    ghost from_gives = { λ _ fault. fault ≡ OutOfMemory };
-
-    fn from(_error: AllocFailed<T>) -> TreeFault {
-        TreeFault::OutOfMemory
     }
 }
 

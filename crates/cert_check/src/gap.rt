@@ -9,16 +9,14 @@ ghost use Rattle.cert_forest.specs.Views.{gap};
 ghost use Rattle.tree_laws.specs.GapTrees.{root, IsSplitBy, IsValidGap};
 ghost use Rattle.cert_check.specs.Replays.{HavePassed};
 ghost use Rattle.cert_check.specs.GapDefects.{HasNoSplit, FirstWrongGap};
-ghost use Rattle.cert_check.specs.Judged.{IfWrong, IsAtRoot, IsBelow};
+ghost use Rattle.cover_judge.specs.Judged.{IfWrong, IsAtRoot, IsBelow};
 ghost use Rattle.cert_check.specs.Regions.{node_of, with_gap, without_gap, IsValidIn, IsWrongIn, AreValidIn, IsWrongChildIn};
 
-use crate::choice::wrong_here;
-use crate::fault::TreeFault;
-use crate::runs::replay_of;
+use crate::runs::passed_by;
 use cert_forest::GapTree;
+use cover_judge::TreeFault;
 use gap_sets::{Costs, GapSet};
 use std::alloc::{AllocError, Global};
-use tso_machine::Ended;
 
 /// The sets that hold `must` and avoid `never`.
 #[derive(Clone, Copy, Debug)]
@@ -61,12 +59,13 @@ impl Region {
     }
 }
 
-/// What gap trees are judged by: the costs, the set that is to be the answer, and the foreign runs.
+/// What gap trees are judged by: the costs, the set that is to be the answer, and the gaps that each foreign
+/// run passes.
 #[derive(Clone, Copy)]
 pub(crate) struct Bounds<'a> {
     pub(crate) costs: &'a Costs,
     pub(crate) answer: GapSet,
-    pub(crate) runs: &'a [Ended],
+    pub(crate) passed: &'a [GapSet],
 }
 
 /// Judges a tree for a region. It recurses as deep as the tree is.
@@ -77,15 +76,15 @@ pub(crate) fn judge_gap(
     region: &Region,
     bounds: &Bounds,
 ) -> Result<(), TreeFault>
-    ensures valid { (p : Listing) (runs : List (List Label)) → HavePassed p runs bounds.now.runs.now
+    ensures valid { (p : Listing) (runs : List (List Label)) → HavePassed p runs bounds.now.passed.now
         → OnOk result (IsValidIn p bounds.now.costs.now bounds.now.answer runs (gap tree.now) region.now) }
-    ensures wrong { (p : Listing) (runs : List (List Label)) → HavePassed p runs bounds.now.runs.now
+    ensures wrong { (p : Listing) (runs : List (List Label)) → HavePassed p runs bounds.now.passed.now
         → IfErr result (IfWrong (IsWrongIn p bounds.now.costs.now bounds.now.answer runs (gap tree.now) region.now)) }
 {
     match tree {
         GapTree::Bound => judge_bound(alloc, region, bounds),
         GapTree::Split { run, children } => {
-            let gaps = split_gaps(alloc, *run, region, children.len(), bounds.runs)?;
+            let gaps = split_gaps(alloc, *run, region, children.len(), bounds.passed)?;
             judge_gaps(alloc, children, region, &gaps, bounds)
         }
     }
@@ -102,9 +101,9 @@ fn judge_gaps(
 ) -> Result<(), TreeFault>
     requires below { All (λ gap. gap < 64) gaps.now }
     requires as_many { length trees.now ≡ length gaps.now }
-    ensures valid { (p : Listing) (runs : List (List Label)) → HavePassed p runs bounds.now.runs.now
+    ensures valid { (p : Listing) (runs : List (List Label)) → HavePassed p runs bounds.now.passed.now
         → OnOk result (AreValidIn p bounds.now.costs.now bounds.now.answer runs (map gap trees.now) region.now gaps.now) }
-    ensures wrong { (p : Listing) (runs : List (List Label)) → HavePassed p runs bounds.now.runs.now
+    ensures wrong { (p : Listing) (runs : List (List Label)) → HavePassed p runs bounds.now.passed.now
         → IfErr result (IfWrong (IsBelow (IsWrongChildIn p bounds.now.costs.now bounds.now.answer runs (map gap trees.now) region.now gaps.now))) }
 {
     let mut rest = *region;
@@ -126,9 +125,9 @@ fn judge_gap_child(
     number: usize,
     bounds: &Bounds,
 ) -> Result<(), TreeFault>
-    ensures valid { (p : Listing) (runs : List (List Label)) → HavePassed p runs bounds.now.runs.now
+    ensures valid { (p : Listing) (runs : List (List Label)) → HavePassed p runs bounds.now.passed.now
         → OnOk result (IsValidIn p bounds.now.costs.now bounds.now.answer runs (gap tree.now) region.now) }
-    ensures wrong { (p : Listing) (runs : List (List Label)) → HavePassed p runs bounds.now.runs.now
+    ensures wrong { (p : Listing) (runs : List (List Label)) → HavePassed p runs bounds.now.passed.now
         → IfErr result (IfWrong (IsBelow (λ n path. (n ≡ number)
         × IsWrongIn p bounds.now.costs.now bounds.now.answer runs (gap tree.now) region.now path))) }
 {
@@ -144,7 +143,7 @@ fn judge_bound(alloc: Global, region: &Region, bounds: &Bounds) -> Result<(), Tr
     ensures wrong { IfErr result (IfWrong (IsAtRoot (Better bounds.now.costs.now region.now.must bounds.now.answer))) }
 {
     if bounds.costs.better(&region.must, &bounds.answer) {
-        Err(wrong_here(alloc))
+        Err(TreeFault::at_root(alloc))
     } else {
         Ok(())
     }
@@ -157,24 +156,24 @@ fn split_gaps(
     run: u64,
     region: &Region,
     count: usize,
-    runs: &[Ended],
+    passed: &[GapSet],
 ) -> Result<Vec<u8>, TreeFault>
-    ensures split { (p : Listing) (labels : List (List Label)) → HavePassed p labels runs.now
+    ensures split { (p : Listing) (labels : List (List Label)) → HavePassed p labels passed.now
         → IfOk result (λ gaps. IsSplitBy p labels (node_of region.now) run gaps.items) }
     ensures as_many { IfOk result (λ gaps. count ≡ length gaps.items) }
     ensures below { IfOk result (λ gaps. All (λ gap. gap < 64) gaps.items) }
-    ensures wrong { (p : Listing) (labels : List (List Label)) → HavePassed p labels runs.now
+    ensures wrong { (p : Listing) (labels : List (List Label)) → HavePassed p labels passed.now
         → IfErr result (IfWrong (IsAtRoot (HasNoSplit p labels (node_of region.now) run count))) }
 {
-    let Some(end) = replay_of(runs, run) else {
-        return Err(wrong_here(alloc));
+    let Some(passed) = passed_by(passed, run) else {
+        return Err(TreeFault::at_root(alloc));
     };
-    if end.passed.meets(&region.must) {
-        return Err(wrong_here(alloc));
+    if passed.meets(&region.must) {
+        return Err(TreeFault::at_root(alloc));
     }
-    let gaps = open_gaps(alloc, end.passed, region.never)?;
+    let gaps = open_gaps(alloc, passed, region.never)?;
     if gaps.len() != count {
-        return Err(wrong_here(alloc));
+        return Err(TreeFault::at_root(alloc));
     }
     Ok(gaps)
 }

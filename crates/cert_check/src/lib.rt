@@ -3,15 +3,13 @@
 #![tactic(auto)]
 
 mod checker;
-mod choice;
 mod cover;
 mod fault;
 mod gap;
 mod laws;
-mod path;
 mod runs;
 
 pub use checker::{Accepted, check};
+pub use cover_judge::Path;
 pub use fault::CheckFault;
 pub use laws::{the_first_fault_is_unique, valid_certificates_have_no_fault};
-pub use path::Path;

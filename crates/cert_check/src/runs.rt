@@ -1,14 +1,12 @@
 //! The runs of a certificate, replayed.
 ghost use Rattle.std.specs.Prelude.{◌≡◌, ◌↔◌, IsTrue, IfOk, IfErr, MatchOption, All, Contains, slice_get};
-ghost use Rattle.std.specs.Option.{option_copied};
 ghost use Rattle.cert_forest.specs.Certificates.{labels_of};
 ghost use Rattle.std.specs.BTreeSet.{contains};
 ghost use Rattle.std.specs.Borrow.{Bor};
 ghost use Rattle.tso_program.specs.declared.outcome.Outcome.{Outcome};
 ghost use Rattle.tso_program.specs.Shown.{show, asked};
 ghost use Rattle.cert_check.specs.Faults.{IsFirstWithout};
-ghost use Rattle.cert_check.specs.Ordered.{borrowed_cmp};
-ghost use Rattle.cert_check.specs.Replays.{machine_of, IsReplayOf, AreReplaysOf, outcomes_of, IsOutside, IsNoRun, IsFaultFrom, RunsFaultIs};
+ghost use Rattle.cert_check.specs.Replays.{machine_of, IsReplayOf, AreReplaysOf, borrowed_cmp, IsOutside, IsNoRun, IsFaultFrom, RunsFaultIs};
 
 use crate::fault::RunsFault;
 use gap_sets::GapSet;
@@ -17,6 +15,15 @@ use std::collections::BTreeSet;
 use tso_machine::{Ended, Label, Model, ReplayFault, replay};
 use tso_program::{Outcome, Program, Shown};
 
+/// What the replays of runs leave, by the numbers of the runs.
+#[derive(Drop)]
+pub(crate) struct Replays {
+    /// What is shown of the outcomes.
+    pub(crate) outcomes: Vec<Outcome>,
+    /// The gaps that the runs pass.
+    pub(crate) passed: Vec<GapSet>,
+}
+
 /// Replays runs in turn, with no gap fenced, and keeps of their outcomes what is shown.
 pub(crate) fn replay_all(
     alloc: Global,
@@ -24,16 +31,18 @@ pub(crate) fn replay_all(
     shown: &Shown,
     model: Model,
     runs: &[Vec<Label>],
-) -> Result<Vec<Ended>, RunsFault>
-    ensures replays { IfOk result (λ ended. AreReplaysOf (asked program.now shown.now) model (labels_of runs.now) ended.items) }
+) -> Result<Replays, RunsFault>
+    ensures replays { IfOk result (λ replays. AreReplaysOf (asked program.now shown.now) model (labels_of runs.now) replays.outcomes.items replays.passed.items) }
     ensures fault { IfErr result (RunsFaultIs program.now model (labels_of runs.now)) }
 {
-    let mut ended = Vec::new(alloc);
+    let mut outcomes = Vec::new(alloc);
+    let mut passed = Vec::new(alloc);
     for (number, run) in runs.iter().enumerate() {
         let end = replay_one(alloc, program, shown, model, number, run)?;
-        ended.push(end)?;
+        outcomes.push(end.outcome)?;
+        passed.push(end.passed)?;
     }
-    Ok(ended)
+    Ok(Replays { outcomes, passed })
 }
 
 /// Replays the run of this number with no gap fenced, and keeps of its outcome what is shown.
@@ -73,40 +82,37 @@ fn runs_fault(fault: ReplayFault, number: usize) -> RunsFault
     }
 }
 
-/// The replay of this number, from 0.
-pub(crate) fn replay_of(ended: &[Ended], number: u64) -> Option<&Ended>
-    ensures { option_copied result ≡ slice_get ended.now number }
+/// The gaps that the run of this number passes, from 0.
+pub(crate) fn passed_by(passed: &[GapSet], number: u64) -> Option<GapSet>
+    ensures { result ≡ slice_get passed.now number }
 {
-    ended.get(number as usize)
+    passed.get(number as usize).copied()
 }
 
-/// The first replay whose outcome is one of the list's.
+/// The first of the outcomes that is in the list.
 pub(crate) fn first_listed(
     alloc: Global,
-    ended: &[Ended],
-    list: &[Ended],
+    outcomes: &[Outcome],
+    list: &[Outcome],
 ) -> Result<Option<usize>, AllocError>
-    ensures { IfOk result (λ first. MatchOption first (All (IsOutside (outcomes_of list.now)) ended.now) (IsFirstWithout (IsOutside (outcomes_of list.now)) ended.now)) }
+    ensures { IfOk result (λ first. MatchOption first (All (IsOutside list.now) outcomes.now) (IsFirstWithout (IsOutside list.now) outcomes.now)) }
 {
-    let listed = outcomes_in_order(alloc, list)?;
-    for (number, end) in ended.iter().enumerate() {
-        if listed.contains(&&end.outcome) {
+    let listed = in_order(alloc, list)?;
+    for (number, outcome) in outcomes.iter().enumerate() {
+        if listed.contains(&outcome) {
             return Ok(Some(number));
         }
     }
     Ok(None)
 }
 
-/// The outcomes of replays, to look one up.
-fn outcomes_in_order<'a>(
-    alloc: Global,
-    list: &'a [Ended],
-) -> Result<BTreeSet<&'a Outcome>, AllocError>
-    ensures { IfOk result (λ set. (o : Bor Outcome) → IsTrue (contains borrowed_cmp set o) ↔ Contains (outcomes_of list.now) o.now) }
+/// The outcomes of a list, to look one up.
+fn in_order<'a>(alloc: Global, list: &'a [Outcome]) -> Result<BTreeSet<&'a Outcome>, AllocError>
+    ensures { IfOk result (λ set. (o : Bor Outcome) → IsTrue (contains borrowed_cmp set o) ↔ Contains list.now o.now) }
 {
     let mut outcomes = BTreeSet::new(alloc);
-    for end in list {
-        outcomes.insert(&end.outcome)?;
+    for outcome in list {
+        outcomes.insert(outcome)?;
     }
     Ok(outcomes)
 }

@@ -40,27 +40,27 @@ module _ (q : Question) (mode : Mode) (outcomes : List Outcome) (forward : JumpF
   abbrev p : Listing
   p = q.program
 
-  abbrev Covered : Sketch → Type 0
+  abbrev pub Covered : Sketch → Type 0
   Covered k = IsSketch p mode k → IsCovered q mode outcomes k
 
   -- each of the sketches is
-  abbrev EachCovered : List Sketch → Type 0
+  abbrev pub EachCovered : List Sketch → Type 0
   EachCovered ks = (k : Sketch) → Contains ks k → Covered k
 
-  by_values : (k : Sketch) (t : ℕ) (values : List ℕ) → HasNextValues p mode k t values → EachCovered (map (with_value k t) values) → Covered k
+  pub by_values : (k : Sketch) (t : ℕ) (values : List ℕ) → HasNextValues p mode k t values → EachCovered (map (with_value k t) values) → Covered k
   by_values k t values has each fits c is =
       let (v, is_value, completes) = each_has_a_value p mode k c t has.location forward fits is.is_candidate is.completes has.next in
       each (with_value k t v) (mapped (with_value k t) values v ((has.exact v).1 is_value))
       (a_value_keeps_a_sketch p mode k t has.location v forward fits has.next) c (of_other p mode k (with_value k t v) c is completes)
 
-  by_sources : (k : Sketch) (e : Event) (sources : List Event) → HasSources p mode k e sources → EachCovered (map (with_source k e) sources) → Covered k
+  pub by_sources : (k : Sketch) (e : Event) (sources : List Event) → HasSources p mode k e sources → EachCovered (map (with_source k e) sources) → Covered k
   by_sources k e sources has each fits c is =
       let (v, reads) = some_value has.access.read has.is_read in
       let (is_source, completes) = each_has_a_source p mode k c e has.access v forward fits is.is_candidate is.completes has.whole has.is_access reads in
       each (with_source k e (c.source e)) (mapped (with_source k e) sources (c.source e) ((has.exact (c.source e)).1 is_source))
       (a_source_keeps_a_sketch p mode k e (c.source e) fits is_source) c (of_other p mode k (with_source k e (c.source e)) c is completes)
 
-  by_order : (k : Sketch) (d e : Event) → HasNoOrder p mode k d e → Covered (with_pair k d e) → Covered (with_pair k e d) → Covered k
+  pub by_order : (k : Sketch) (d e : Event) → HasNoOrder p mode k d e → Covered (with_pair k d e) → Covered (with_pair k e d) → Covered k
   by_order k d e has first second fits c is =
       elim (each_has_an_order p mode k c d e fits is.is_candidate is.completes has.is_pair) [
         | inl before ↦ first (a_pair_keeps_a_sketch p mode k d e fits has.is_pair) c (of_other p mode k (with_pair k d e) c is before)

@@ -43,7 +43,7 @@ of_runs q (labels ∷ runs) (x ∷ xs) o (is_run, others) here = elim (first_or_
 ]
 
 -- what a machine shows of an outcome shows all of itself
-allowed_is_shown : (q : Question) (mode : Mode) (o : Outcome) → AllowsShown q mode o → show q.shown o ≡ o
+pub allowed_is_shown : (q : Question) (mode : Mode) (o : Outcome) → AllowsShown q mode o → show q.shown o ≡ o
 allowed_is_shown q mode o (labels, (whole, is_run, shown)) = ap (show q.shown) shown ∙ shown_twice q.shown whole ∙ sym shown
 
 pub sequential_list : AValidTreeMakesTheSequentialList

@@ -35,7 +35,7 @@ module _ {A : Type 0} (R : A → A → Type 0) (one_way : (x y : A) → R x y �
     | inr later ↦ later
   ]
 
-  one_list : (xs ys : List A) → AllPairs R xs → AllPairs R ys → ((z : A) → Contains xs z → Contains ys z) → ((z : A) → Contains ys z → Contains xs z) → xs ≡ ys
+  pub one_list : (xs ys : List A) → AllPairs R xs → AllPairs R ys → ((z : A) → Contains xs z → Contains ys z) → ((z : A) → Contains ys z → Contains xs z) → xs ≡ ys
   one_list [] [] left right there back = refl
   one_list [] (y ∷ ys) left right there back = absurd (none_here y (back y (first_is_here y ys)))
   one_list (x ∷ xs) [] left right there back = absurd (none_here x (there x (first_is_here x xs)))

@@ -3,3 +3,4 @@ pub mod GapTrees
 pub mod Certificates
 pub mod Laws
 pub mod StoreBuffering
+pub mod CoverCodes

@@ -8,9 +8,10 @@ use Rattle.tree_laws.specs.GapTrees.{root, IsValidGap}
 use Rattle.tree_laws.specs.Certificates.{IsRunOutside, IsValidCertificate}
 use Rattle.cert_check.specs.Claims.{claim_of}
 use Rattle.cert_check.specs.Faults.{FaultIs, HasServingSet, HasForeignRuns, HasEachOutcome}
-use Rattle.cert_check.specs.Replays.{HavePassed, outcomes_of}
-use Rattle.cert_check.proofs.Answered.{err_up, on_ok}
-use Rattle.cert_check.proofs.Assembled.{assembled, each_is_run, have_passed}
+use Rattle.cert_check.specs.Replays.{HavePassed}
+use Rattle.cover_judge.proofs.Answered.{err_up, on_ok}
+use Rattle.cert_check.proofs.Assembled.{assembled}
+use Rattle.cert_check.proofs.FirstFaults.{foreign_are_runs}
 use Rattle.cert_check.proofs.checker.check_all.Goals as goal
 
 pub returns-in_err-check_fenced-clause-fault : goal.returns-in_err-check_fenced-clause-fault
@@ -18,33 +19,35 @@ returns-in_err-check_fenced-clause-fault c =
     let q = asked c.args.program.now c.args.shown.now in
     let costs = c.args.costs.now in
     let claim = claim_of c.args.certificate.now in
-    let outs = outcomes_of c.in_ok-listed.listed.items in
+    let outs = c.in_ok-listed.listed.items in
     let complete : HasEachOutcome q costs claim outs =
     record { listed = record { head = c.in_ok-check_head.ensures.ok; replayed = c.in_ok-listed.ensures.replayed }; sequential = c.in_ok-listed.ensures.sequential } in
+    let foreign_runs : All (IsRunOutside q outs) claim.runs = subst (λ xs. All (IsRunOutside q xs) claim.runs) c.deref.ensures.value c.in_ok-passed.ensures.foreign in
     let foreign : HasForeignRuns q costs claim outs = record {
-      replayed = record { complete = complete; runs = each_is_run q claim.runs c.in_ok-runs.runs.items c.in_ok-runs.ensures.replays };
-      foreign = subst (λ xs. All (IsRunOutside q (outcomes_of xs)) claim.runs) c.deref.ensures.value c.in_ok-runs.ensures.foreign;
+      replayed = record { complete = complete; runs = foreign_are_runs q outs claim.runs foreign_runs };
+      foreign = foreign_runs;
     } in
     err_up c.from_residual-in_err-check_fenced.result c.in_err-check_fenced.field-0.0 (FaultIs q costs claim) c.from_residual-in_err-check_fenced.ensures.1
-    (c.in_err-check_fenced.ensures.fault costs (subst (λ xs. HasForeignRuns q costs claim (outcomes_of xs)) (sym c.deref-2.ensures.value) foreign))
+    (c.in_err-check_fenced.ensures.fault costs (subst (λ xs. HasForeignRuns q costs claim xs) (sym c.deref-2.ensures.value) foreign))
 
 pub returns-clause-valid : goal.returns-clause-valid
 returns-clause-valid c =
     let q = asked c.args.program.now c.args.shown.now in
     let costs = c.args.costs.now in
     let claim = claim_of c.args.certificate.now in
-    let outs = outcomes_of c.in_ok-listed.listed.items in
+    let outs = c.in_ok-listed.listed.items in
     let complete : HasEachOutcome q costs claim outs =
     record { listed = record { head = c.in_ok-check_head.ensures.ok; replayed = c.in_ok-listed.ensures.replayed }; sequential = c.in_ok-listed.ensures.sequential } in
+    let foreign_runs : All (IsRunOutside q outs) claim.runs = subst (λ xs. All (IsRunOutside q xs) claim.runs) c.deref.ensures.value c.in_ok-passed.ensures.foreign in
     let foreign : HasForeignRuns q costs claim outs = record {
-      replayed = record { complete = complete; runs = each_is_run q claim.runs c.in_ok-runs.runs.items c.in_ok-runs.ensures.replays };
-      foreign = subst (λ xs. All (IsRunOutside q (outcomes_of xs)) claim.runs) c.deref.ensures.value c.in_ok-runs.ensures.foreign;
+      replayed = record { complete = complete; runs = foreign_are_runs q outs claim.runs foreign_runs };
+      foreign = foreign_runs;
     } in
     let serving : HasServingSet q costs claim outs = record {
       runs = foreign;
-      fenced = subst (λ xs. IsValidCover q (Fenced (gaps_in q.program claim.gaps)) (outcomes_of xs) claim.fenced_tree empty_sketch) c.deref-2.ensures.value c.in_ok-check_fenced.ensures.fenced;
+      fenced = subst (λ xs. IsValidCover q (Fenced (gaps_in q.program claim.gaps)) xs claim.fenced_tree empty_sketch) c.deref-2.ensures.value c.in_ok-check_fenced.ensures.fenced;
     } in
-    let passed = subst (HavePassed q.program claim.runs) (sym c.deref-3.ensures.value) (have_passed q claim.runs c.in_ok-runs.runs.items c.in_ok-runs.ensures.replays) in
+    let passed = subst (HavePassed q.program claim.runs) (sym c.deref-3.ensures.value) c.in_ok-passed.ensures.passed in
     on_ok c.check_gaps.result (IsValidGap q.program costs claim.gaps claim.runs claim.gap_tree root) (IsValidCertificate q costs claim) (assembled q costs claim outs serving) (c.check_gaps.ensures.least q.program passed)
 
 pub returns-clause-fault : goal.returns-clause-fault
@@ -52,16 +55,17 @@ returns-clause-fault c =
     let q = asked c.args.program.now c.args.shown.now in
     let costs = c.args.costs.now in
     let claim = claim_of c.args.certificate.now in
-    let outs = outcomes_of c.in_ok-listed.listed.items in
+    let outs = c.in_ok-listed.listed.items in
     let complete : HasEachOutcome q costs claim outs =
     record { listed = record { head = c.in_ok-check_head.ensures.ok; replayed = c.in_ok-listed.ensures.replayed }; sequential = c.in_ok-listed.ensures.sequential } in
+    let foreign_runs : All (IsRunOutside q outs) claim.runs = subst (λ xs. All (IsRunOutside q xs) claim.runs) c.deref.ensures.value c.in_ok-passed.ensures.foreign in
     let foreign : HasForeignRuns q costs claim outs = record {
-      replayed = record { complete = complete; runs = each_is_run q claim.runs c.in_ok-runs.runs.items c.in_ok-runs.ensures.replays };
-      foreign = subst (λ xs. All (IsRunOutside q (outcomes_of xs)) claim.runs) c.deref.ensures.value c.in_ok-runs.ensures.foreign;
+      replayed = record { complete = complete; runs = foreign_are_runs q outs claim.runs foreign_runs };
+      foreign = foreign_runs;
     } in
     let serving : HasServingSet q costs claim outs = record {
       runs = foreign;
-      fenced = subst (λ xs. IsValidCover q (Fenced (gaps_in q.program claim.gaps)) (outcomes_of xs) claim.fenced_tree empty_sketch) c.deref-2.ensures.value c.in_ok-check_fenced.ensures.fenced;
+      fenced = subst (λ xs. IsValidCover q (Fenced (gaps_in q.program claim.gaps)) xs claim.fenced_tree empty_sketch) c.deref-2.ensures.value c.in_ok-check_fenced.ensures.fenced;
     } in
-    let passed = subst (HavePassed q.program claim.runs) (sym c.deref-3.ensures.value) (have_passed q claim.runs c.in_ok-runs.runs.items c.in_ok-runs.ensures.replays) in
+    let passed = subst (HavePassed q.program claim.runs) (sym c.deref-3.ensures.value) c.in_ok-passed.ensures.passed in
     c.check_gaps.ensures.fault q outs passed serving

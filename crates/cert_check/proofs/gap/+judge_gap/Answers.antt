@@ -5,12 +5,12 @@ use Rattle.cert_forest.specs.declared.tree.GapTree.TheViews.{the_lemmas}
 use Rattle.cert_forest.specs.declared.tree.GapTree.TheFolds.{fold-roll-GapTree, fold_out-GapTree}
 use Rattle.cert_forest.specs.Views.{gap, gap_node}
 use Rattle.cert_forest.specs.Trees.{Gap, Split, gaps_of}
-use Rattle.cert_check.specs.declared.fault.TreeFault.{TreeFault}
-use Rattle.cert_check.specs.Judged.{IfWrong, IsAtRoot, IsBelow}
+use Rattle.cover_judge.specs.declared.fault.TreeFault.{TreeFault}
+use Rattle.cover_judge.specs.Judged.{IfWrong, IsAtRoot, IsBelow}
 use Rattle.cert_check.specs.GapDefects.{HasNoSplit}
 use Rattle.cert_check.specs.Regions.{node_of, IsWrongIn, IsWrongChildIn}
-use Rattle.cert_check.proofs.Answered.{err_up, if_err}
-use Rattle.cert_check.proofs.ChoicesJudged.{if_wrong}
+use Rattle.cover_judge.proofs.Answered.{err_up, if_err}
+use Rattle.cover_judge.proofs.ChoicesJudged.{if_wrong}
 use Rattle.cert_check.proofs.GapNodes.{split_here, split_below}
 use Rattle.cert_check.proofs.GapSteps.{go_on, stop_here}
 use Rattle.cert_check.proofs.gap.+judge_gap.Goals as goal

@@ -8,5 +8,5 @@ use Rattle.cert_check.proofs.gap.+judge_gap.Given as goal
 
 -- the children that are left decide
 abbrev pub invariant-judge_gaps-loop-number : goal.invariant-judge_gaps-loop-number
-invariant-judge_gaps-loop-number l = (p : Listing) (runs : List (List Label)) → HavePassed p runs l.bounds.runs.now →
+invariant-judge_gaps-loop-number l = (p : Listing) (runs : List (List Label)) → HavePassed p runs l.bounds.passed.now →
     IsLeft p l.bounds.costs.now l.bounds.answer runs (map gap l.trees) l.region l.gaps l.number (map gap (drop l.number l.trees)) l.rest (drop l.number l.gaps)

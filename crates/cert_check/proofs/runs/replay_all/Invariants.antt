@@ -6,4 +6,4 @@ use Rattle.cert_check.proofs.runs.replay_all.Given as goal
 
 -- the replays of the runs so far
 abbrev pub invariant-loop-number : goal.invariant-loop-number
-invariant-loop-number l = AreReplaysOf (asked l.program l.shown) l.model (labels_of (take l.number l.runs)) l.ended.items
+invariant-loop-number l = AreReplaysOf (asked l.program l.shown) l.model (labels_of (take l.number l.runs)) l.outcomes.items l.passed.items

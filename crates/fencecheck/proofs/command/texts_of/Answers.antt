@@ -1,4 +1,4 @@
-use Rattle.cert_check.proofs.Answered.{err_up}
+use Rattle.cover_judge.proofs.Answered.{err_up}
 use Rattle.fencecheck.specs.Names.{names_of}
 use Rattle.fencecheck.specs.Replies.{IsFilesFault, no_certificate, no_costs}
 use Rattle.fencecheck.proofs.command.texts_of.Goals as goal

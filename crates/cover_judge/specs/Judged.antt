@@ -1,0 +1,60 @@
+-- What the functions that judge trees answer.
+use Rattle.std.specs.Prelude.{◌≡◌, ℕ, List, [], ◌∷◌, Option, Some, map, length}
+use Rattle.std.specs.Global.{Vec}
+use Rattle.tso_program.specs.declared.outcome.Outcome.{Outcome}
+use Rattle.tso_program.specs.declared.shown.Shown.{Shown}
+use Rattle.tso_program.specs.Shown.{asked}
+use Rattle.candidate_executions.specs.Sketches as sketches
+use Rattle.exec_axioms.specs.Parts.{Parts, mode_in, sketch_of}
+use Rattle.cert_forest.specs.Trees.{Cover, covers_of}
+use Rattle.tree_laws.specs.CoverTrees.{IsValidCover, AreValidCovers}
+use Rattle.cover_judge.specs.declared.choice.Choice.{Choice}
+use Rattle.cover_judge.specs.declared.fault.TreeFault.{TreeFault}
+use Rattle.cover_judge.specs.declared.fault.TreeFault.TheVariants.{Wrong, OutOfMemory}
+use Rattle.cover_judge.specs.CoverDefects as covers
+use Rattle.cover_judge.specs.Choices.{after}
+
+-- the path of the fault has the property; out of memory says nothing
+abbrev pub IfWrong : (List ℕ → Type 0) → TreeFault → Type 0
+IfWrong P (Wrong path) = P path
+IfWrong P OutOfMemory = Unit {0}
+
+-- the root is wrong
+abbrev pub IsAtRoot : Type 0 → List ℕ → Type 0
+IsAtRoot P path = (path ≡ []) × P
+
+-- the path leads through a child
+abbrev pub IsBelow : (ℕ → List ℕ → Type 0) → List ℕ → Type 0
+IsBelow P [] = ⊥
+IsBelow P (number ∷ path) = P number path
+
+-- the same path, from the parent
+abbrev pub IsFrom : ℕ → TreeFault → TreeFault → Type 0
+IsFrom number (Wrong path) (Wrong other) = other ≡ number ∷ path
+IsFrom number OutOfMemory (Wrong other) = ⊥
+IsFrom number fault OutOfMemory = Unit {0}
+
+module _ (shown : Shown) (outcomes : List Outcome) (s : Parts) where
+  -- the tree is valid at the sketch after a choice
+  abbrev pub IsValidAfter : Cover → sketches.Sketch → Type 0
+  IsValidAfter tree k = IsValidCover (asked s.program shown) (mode_in s) outcomes tree k
+
+  abbrev pub IsWrongAt : Cover → sketches.Sketch → List ℕ → Type 0
+  IsWrongAt tree k path = covers.FirstWrongCover (asked s.program shown) (mode_in s) outcomes tree k path
+
+  -- the trees are valid at the sketches after these choices, in order
+  abbrev pub AreValidAfter : List Cover → List Choice → Type 0
+  AreValidAfter trees choices = AreValidCovers (asked s.program shown) (mode_in s) outcomes (covers_of trees) (map (after (sketch_of s)) choices)
+
+  abbrev pub IsWrongChild : List Cover → List Choice → ℕ → List ℕ → Type 0
+  IsWrongChild trees choices number path =
+      covers.FirstWrongChild (asked s.program shown) (mode_in s) outcomes (covers_of trees) (map (after (sketch_of s)) choices) number path
+
+-- what was found are these choices, and they are as many as this
+pub record AreSoMany (found : Option (Vec Choice)) (count : ℕ) (choices : Vec Choice) : Type 0 where
+  pub found_are : found ≡ Some choices
+  pub many : count ≡ length choices.items
+
+-- no choices were found, or they are not as many as this
+abbrev pub AreNotSoMany : Option (Vec Choice) → ℕ → Type 0
+AreNotSoMany found count = (choices : Vec Choice) → AreSoMany found count choices → ⊥

@@ -1,0 +1,4 @@
+pub mod Choices
+pub mod Paths
+pub mod CoverDefects
+pub mod Judged

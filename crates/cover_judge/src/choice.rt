@@ -1,0 +1,132 @@
+//! What branches in a sketch.
+ghost use Rattle.std.specs.Prelude.{◌≡◌, ◌↔◌, IsTrue, IfOk, IfSome, MatchOption, map};
+ghost use Rattle.exec_axioms.specs.Parts.{sketch_of};
+ghost use Rattle.exec_axioms.specs.Choices.{IsOrdered};
+ghost use Rattle.tree_laws.specs.CoverTrees as trees;
+ghost use Rattle.cover_judge.specs.Choices.{after, parts_after, MayChoose, MayChooseEach, IsValueOpen, IsSourceOpen, AreValueChoices, AreSourceChoices};
+
+use candidate_executions::Event;
+use cert_forest::AccessId;
+use exec_axioms::{Sketch, SketchFault};
+use std::alloc::{AllocError, Global};
+
+/// A choice in a sketch.
+#[derive(Clone, Copy, Debug)]
+pub enum Choice {
+    /// The next read of a thread takes a value.
+    Value(u8, u32),
+    /// A read takes a source.
+    Source(AccessId, Event),
+    /// The first write comes before the second.
+    Order(AccessId, AccessId),
+}
+
+/// The access as an event.
+pub fn event_of(access: AccessId) -> Event
+    ensures { result ≡ trees.event_of access }
+{
+    Event::Access(access.thread, access.access)
+}
+
+/// The sketch with one more choice.
+pub fn chosen(sketch: &Sketch, choice: Choice) -> Result<Sketch, AllocError>
+    requires { MayChoose sketch.now choice }
+    ensures parts { IfOk result (λ next. next ≡ parts_after sketch.now choice) }
+    ensures after { IfOk result (λ next. sketch_of next ≡ after (sketch_of sketch.now) choice) }
+{
+    // For the proof alone: what holds of every sketch is known where its program is read.
+    let _ = sketch.program();
+    with_choice(sketch, choice)
+}
+
+fn with_choice(sketch: &Sketch, choice: Choice) -> Result<Sketch, AllocError>
+    requires { MayChoose sketch.now choice }
+    ensures { IfOk result (λ next. next ≡ parts_after sketch.now choice) }
+{
+    let mut next = sketch.copy()?;
+    let taken = match choice {
+        Choice::Value(t, value) => next.give_value(t, value),
+        Choice::Source(read, source) => next.choose_source(event_of(read), source),
+        Choice::Order(first, second) => next.choose_order(event_of(first), event_of(second)),
+    };
+    match taken {
+        Ok(()) => Ok(next),
+        Err(_) => Err(AllocError),
+    }
+}
+
+/// The values of a thread's next read, ascending. `None` if the thread has no next read.
+pub fn value_choices(
+    alloc: Global,
+    sketch: &Sketch,
+    t: u8,
+) -> Result<Option<Vec<Choice>>, AllocError>
+    ensures values { IfOk result (λ found. MatchOption found (IsValueOpen sketch.now t → ⊥) (λ choices. AreValueChoices sketch.now t choices.items)) }
+    ensures may { IfOk result (λ found. IfSome found (λ choices. MayChooseEach sketch.now choices.items)) }
+{
+    let Some(location) = sketch.next_read(t) else {
+        return Ok(None);
+    };
+    let values = sketch.values_for(location)?;
+    Ok(Some(each_value(alloc, t, &values)?))
+}
+
+fn each_value(alloc: Global, t: u8, values: &[u32]) -> Result<Vec<Choice>, AllocError>
+    ensures { IfOk result (λ choices. choices.items ≡ map (Choice.Value t) values.now) }
+{
+    values
+        .iter()
+        .map(|value| Choice::Value(t, *value))
+        .collect(alloc)
+}
+
+/// The sources of a read that has none yet: the initial write first, then by thread and access. `None` if
+/// the access is no read without a source, or if some read has no value yet.
+pub fn source_choices(
+    alloc: Global,
+    sketch: &Sketch,
+    read: AccessId,
+) -> Result<Option<Vec<Choice>>, AllocError>
+    ensures sources { IfOk result (λ found. MatchOption found (IsSourceOpen sketch.now read → ⊥) (λ choices. AreSourceChoices sketch.now read choices.items)) }
+    ensures may { IfOk result (λ found. IfSome found (λ choices. MayChooseEach sketch.now choices.items)) }
+{
+    if sketch.source(event_of(read)).is_some() {
+        return Ok(None);
+    }
+    match sketch.sources_of(event_of(read)) {
+        Ok(sources) => Ok(Some(each_source(alloc, read, &sources)?)),
+        Err(SketchFault::OutOfMemory) => Err(AllocError),
+        Err(_) => Ok(None),
+    }
+}
+
+fn each_source(alloc: Global, read: AccessId, sources: &[Event]) -> Result<Vec<Choice>, AllocError>
+    ensures { IfOk result (λ choices. choices.items ≡ map (Choice.Source read) sources.now) }
+{
+    sources
+        .iter()
+        .map(|source| Choice::Source(read, *source))
+        .collect(alloc)
+}
+
+/// Whether two accesses are writes to one location in no order yet, and each read has its value.
+pub fn is_order_open(sketch: &Sketch, first: AccessId, second: AccessId) -> bool
+    ensures order { IsTrue result ↔ MayChoose sketch.now (Choice.Order first second) }
+    ensures reverse { IsTrue result → MayChoose sketch.now (Choice.Order second first) }
+{
+    let (first, second) = (event_of(first), event_of(second));
+    if !sketch.is_whole() {
+        return false;
+    }
+    if !sketch.is_pair(first, second) {
+        return false;
+    }
+    !is_ordered(sketch, first, second)
+}
+
+/// Whether two writes are in order, one way or the other.
+fn is_ordered(sketch: &Sketch, first: Event, second: Event) -> bool
+    ensures { IsTrue result ↔ IsOrdered sketch.now first second }
+{
+    sketch.before(first, second) || sketch.before(second, first)
+}

@@ -1,0 +1,254 @@
+//! Cover trees, judged node by node.
+ghost use Rattle.std.specs.Prelude.{◌≡◌, OnOk, IfOk, IfErr, IsOkUnless, length, map, slice_get};
+ghost use Rattle.std.specs.Option.{option_copied};
+ghost use Rattle.tso_program.specs.Shown.{asked};
+ghost use Rattle.cert_forest.specs.Views.{cover};
+ghost use Rattle.cert_forest.specs.Trees.{Value, Source, covers_of};
+ghost use Rattle.exec_axioms.specs.Parts.{mode_in, sketch_of};
+ghost use Rattle.tree_laws.specs.CoverTrees as trees;
+ghost use Rattle.cover_judge.specs.Choices.{after, MayChoose, MayChooseEach};
+ghost use Rattle.cover_judge.specs.CoverDefects.{FirstWrongCover};
+ghost use Rattle.cover_judge.specs.Judged.{IfWrong, IsAtRoot, IsBelow, IsValidAfter, IsWrongAt, AreValidAfter, IsWrongChild, AreSoMany, AreNotSoMany};
+
+use crate::choice::{Choice, chosen, event_of, is_order_open, source_choices, value_choices};
+use crate::fault::TreeFault;
+use candidate_executions::{Event, Kind};
+use cert_forest::{AccessId, CoverTree};
+use exec_axioms::Sketch;
+use std::alloc::{AllocError, Global};
+use tso_program::{Outcome, Shown};
+
+/// Judges a tree at a sketch, over a list of outcomes: `Known` nodes have their numbers in it. It recurses
+/// as deep as the tree is.
+pub fn judge_cover(
+    alloc: Global,
+    tree: &CoverTree,
+    sketch: &Sketch,
+    shown: &Shown,
+    outcomes: &[Outcome],
+) -> Result<(), TreeFault>
+    ensures valid { OnOk result (trees.IsValidCover (asked sketch.now.program shown.now) (mode_in sketch.now) outcomes.now (cover tree.now) (sketch_of sketch.now)) }
+
+    // A valid tree is accepted if memory is there, any other is refused by its first wrong node.
+    ensures accepts { trees.IsValidCover (asked sketch.now.program shown.now) (mode_in sketch.now) outcomes.now (cover tree.now) (sketch_of sketch.now) → IsOkUnless result TreeFault.OutOfMemory }
+    ensures wrong { IfErr result (IfWrong (FirstWrongCover (asked sketch.now.program shown.now) (mode_in sketch.now) outcomes.now (cover tree.now) (sketch_of sketch.now))) }
+{
+    judge(alloc, tree, sketch, shown, outcomes)
+}
+
+/// Judges a tree at a sketch.
+#[cycle(judge)]
+fn judge(
+    alloc: Global,
+    tree: &CoverTree,
+    sketch: &Sketch,
+    shown: &Shown,
+    outcomes: &[Outcome],
+) -> Result<(), TreeFault>
+    ensures valid { OnOk result (IsValidAfter shown.now outcomes.now sketch.now (cover tree.now) (sketch_of sketch.now)) }
+    ensures wrong { IfErr result (IfWrong (IsWrongAt shown.now outcomes.now sketch.now (cover tree.now) (sketch_of sketch.now))) }
+{
+    match tree {
+        CoverTree::Value { thread, children } => {
+            judge_values(alloc, *thread, children, sketch, shown, outcomes)
+        }
+        CoverTree::Source { read, children } => {
+            judge_sources(alloc, *read, children, sketch, shown, outcomes)
+        }
+        CoverTree::Order {
+            first,
+            second,
+            first_before,
+            second_before,
+        } => {
+            judge_order(alloc, sketch, *first, *second)?;
+            let choice = Choice::Order(*first, *second);
+            judge_child(alloc, first_before, sketch, choice, 0, shown, outcomes)?;
+            let choice = Choice::Order(*second, *first);
+            judge_child(alloc, second_before, sketch, choice, 1, shown, outcomes)
+        }
+        CoverTree::Cycle { kind, events } => judge_cycle(alloc, sketch, *kind, events),
+        CoverTree::Known { run } => judge_known(alloc, sketch, *run, shown, outcomes),
+    }
+}
+
+/// Judges a node whose children are for the values of a thread's next read.
+#[cycle(judge)]
+fn judge_values(
+    alloc: Global,
+    thread: u8,
+    children: &[CoverTree],
+    sketch: &Sketch,
+    shown: &Shown,
+    outcomes: &[Outcome],
+) -> Result<(), TreeFault>
+    ensures valid { OnOk result (IsValidAfter shown.now outcomes.now sketch.now (Value thread (covers_of (map cover children.now))) (sketch_of sketch.now)) }
+    ensures wrong { IfErr result (IfWrong (IsWrongAt shown.now outcomes.now sketch.now (Value thread (covers_of (map cover children.now))) (sketch_of sketch.now))) }
+{
+    let found = value_choices(alloc, sketch, thread)?;
+    let choices = so_many(alloc, found, children.len())?;
+    judge_children(alloc, children, sketch, &choices, shown, outcomes)
+}
+
+/// Judges a node whose children are for the sources of a read.
+#[cycle(judge)]
+fn judge_sources(
+    alloc: Global,
+    read: AccessId,
+    children: &[CoverTree],
+    sketch: &Sketch,
+    shown: &Shown,
+    outcomes: &[Outcome],
+) -> Result<(), TreeFault>
+    ensures valid { OnOk result (IsValidAfter shown.now outcomes.now sketch.now (Source read (covers_of (map cover children.now))) (sketch_of sketch.now)) }
+    ensures wrong { IfErr result (IfWrong (IsWrongAt shown.now outcomes.now sketch.now (Source read (covers_of (map cover children.now))) (sketch_of sketch.now))) }
+{
+    let found = source_choices(alloc, sketch, read)?;
+    let choices = so_many(alloc, found, children.len())?;
+    judge_children(alloc, children, sketch, &choices, shown, outcomes)
+}
+
+/// The choices that were found, where there are as many as this: the root is wrong where they are not.
+fn so_many(
+    alloc: Global,
+    found: Option<Vec<Choice>>,
+    count: usize,
+) -> Result<Vec<Choice>, TreeFault>
+    ensures many { IfOk result (AreSoMany found count) }
+    ensures wrong { IfErr result (IfWrong (IsAtRoot (AreNotSoMany found count))) }
+{
+    match found {
+        Some(choices) => {
+            if choices.len() != count {
+                return Err(TreeFault::at_root(alloc));
+            }
+            Ok(choices)
+        }
+        None => Err(TreeFault::at_root(alloc)),
+    }
+}
+
+/// Judges the children of a node in order, each at the sketch after its choice.
+#[cycle(judge)]
+fn judge_children(
+    alloc: Global,
+    trees: &[CoverTree],
+    sketch: &Sketch,
+    choices: &[Choice],
+    shown: &Shown,
+    outcomes: &[Outcome],
+) -> Result<(), TreeFault>
+    requires may { MayChooseEach sketch.now choices.now }
+    requires as_many { length trees.now ≡ length choices.now }
+    ensures valid { OnOk result (AreValidAfter shown.now outcomes.now sketch.now (map cover trees.now) choices.now) }
+    ensures wrong { IfErr result (IfWrong (IsBelow (IsWrongChild shown.now outcomes.now sketch.now (map cover trees.now) choices.now))) }
+{
+    for (number, tree) in trees.iter().enumerate() {
+        judge_child(
+            alloc,
+            tree,
+            sketch,
+            choices[number],
+            number,
+            shown,
+            outcomes,
+        )?;
+    }
+    Ok(())
+}
+
+/// Judges the child of this number, at the sketch after its choice.
+#[cycle(judge)]
+fn judge_child(
+    alloc: Global,
+    tree: &CoverTree,
+    sketch: &Sketch,
+    choice: Choice,
+    number: usize,
+    shown: &Shown,
+    outcomes: &[Outcome],
+) -> Result<(), TreeFault>
+    requires { MayChoose sketch.now choice }
+    ensures valid { OnOk result (IsValidAfter shown.now outcomes.now sketch.now (cover tree.now) (after (sketch_of sketch.now) choice)) }
+    ensures wrong { IfErr result (IfWrong (IsBelow (λ n path. (n ≡ number) × IsWrongAt shown.now outcomes.now sketch.now (cover tree.now) (after (sketch_of sketch.now) choice) path))) }
+{
+    let next = chosen(sketch, choice)?;
+    match judge(alloc, tree, &next, shown, outcomes) {
+        Ok(()) => Ok(()),
+        Err(fault) => Err(fault.from_parent(number)),
+    }
+}
+
+/// Judges that two writes to one location are in no order yet.
+fn judge_order(
+    alloc: Global,
+    sketch: &Sketch,
+    first: AccessId,
+    second: AccessId,
+) -> Result<(), TreeFault>
+    ensures may { OnOk result (MayChoose sketch.now (Choice.Order first second) × MayChoose sketch.now (Choice.Order second first)) }
+    ensures wrong { IfErr result (IfWrong (IsAtRoot (trees.HasNoOrder sketch.now.program (mode_in sketch.now) (sketch_of sketch.now) (trees.event_of first) (trees.event_of second) → ⊥))) }
+{
+    if is_order_open(sketch, first, second) {
+        Ok(())
+    } else {
+        Err(TreeFault::at_root(alloc))
+    }
+}
+
+/// Judges that the events are a cycle of known edges.
+fn judge_cycle(
+    alloc: Global,
+    sketch: &Sketch,
+    kind: Kind,
+    accesses: &[AccessId],
+) -> Result<(), TreeFault>
+    ensures cycle { OnOk result (trees.IsKnownCycle sketch.now.program (mode_in sketch.now) (sketch_of sketch.now) kind (map trees.event_of accesses.now)) }
+    ensures wrong { IfErr result (IfWrong (IsAtRoot (trees.IsKnownCycle sketch.now.program (mode_in sketch.now) (sketch_of sketch.now) kind (map trees.event_of accesses.now) → ⊥))) }
+{
+    let events = events_of(alloc, accesses)?;
+    if sketch.is_cycle(kind, &events) {
+        Ok(())
+    } else {
+        Err(TreeFault::at_root(alloc))
+    }
+}
+
+fn events_of(alloc: Global, accesses: &[AccessId]) -> Result<Vec<Event>, AllocError>
+    ensures { IfOk result (λ events. events.items ≡ map trees.event_of accesses.now) }
+{
+    accesses
+        .iter()
+        .map(|access| event_of(*access))
+        .collect(alloc)
+}
+
+/// Judges that the sketch must end as the outcome of this number.
+fn judge_known(
+    alloc: Global,
+    sketch: &Sketch,
+    number: u64,
+    shown: &Shown,
+    outcomes: &[Outcome],
+) -> Result<(), TreeFault>
+    ensures known { OnOk result (trees.MustEndAsNumber (asked sketch.now.program shown.now) (mode_in sketch.now) outcomes.now (sketch_of sketch.now) number) }
+    ensures wrong { IfErr result (IfWrong (IsAtRoot (trees.MustEndAsNumber (asked sketch.now.program shown.now) (mode_in sketch.now) outcomes.now (sketch_of sketch.now) number → ⊥))) }
+{
+    match outcome_of(outcomes, number) {
+        Some(outcome) => {
+            if sketch.must_end_as(shown, outcome) {
+                Ok(())
+            } else {
+                Err(TreeFault::at_root(alloc))
+            }
+        }
+        None => Err(TreeFault::at_root(alloc)),
+    }
+}
+
+/// The outcome of this number, from 0.
+fn outcome_of(outcomes: &[Outcome], number: u64) -> Option<&Outcome>
+    ensures { option_copied result ≡ slice_get outcomes.now number }
+{
+    outcomes.get(number as usize)
+}
