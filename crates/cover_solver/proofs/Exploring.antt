@@ -1,0 +1,132 @@
+-- What a search for outcomes has listed, choice by choice.
+use Rattle.std.proofs.Common.{◌≡◌, ℕ, suc, ◌+◌, ◌-◌, ◌*◌, ◌<◌, ◌≤◌, List, [], ◌∷◌, Contains, All, map, ap, ◌∙◌, subst, inl, inr, arith}
+use Rattle.std.specs.Prelude.{Result, Ok, Err, OnOk}
+use Rattle.tso_program.specs.declared.outcome.Outcome.{Outcome}
+use Rattle.tso_program.specs.declared.shown.Shown.{Shown}
+use Rattle.tso_program.specs.declared.listing.Listing.{Listing}
+use Rattle.tso_program.specs.Shown.{Question, asked}
+use Rattle.tso_program.specs.Limits.{JumpForward}
+use Rattle.tso_machine.specs.Machine.{Mode}
+use Rattle.tso_machine.specs.Outcomes.{IsShownRun}
+use Rattle.candidate_executions.specs.Sketches.{Sketch, with_value, with_source}
+use Rattle.candidate_executions.proofs.MustEnd.{each_ends_so}
+use Rattle.exec_axioms.specs.Parts.{Parts, mode_in, sketch_of}
+use Rattle.exec_axioms.specs.Kept.{IsLawful}
+use Rattle.exec_axioms.specs.Completions.{MustEnd}
+use Rattle.exec_axioms.specs.Sizes.{choice_count, most_choices}
+use Rattle.exec_axioms.proofs.ChoicesCounted.{value_counted, source_counted, pair_counted}
+use Rattle.cert_forest.specs.Trees.{Cover}
+use Rattle.tree_laws.specs.CoverTrees.{event_of, IsCovered}
+use Rattle.tree_laws.proofs.Lists.{none_here, first_or_later}
+use Rattle.tree_laws.proofs.CoveredSketches.{valid_covers, by_values, by_sources, by_order}
+use Rattle.cover_judge.specs.declared.choice.Choice.{Choice}
+use Rattle.cover_judge.specs.declared.choice.Choice.TheVariants as choice
+use Rattle.cover_judge.specs.Choices.{after, parts_after, MayChoose}
+use Rattle.cover_judge.proofs.ChoicesJudged.{no_order}
+use Rattle.cover_judge.proofs.SketchesAfter.{reads_there, moved}
+use Rattle.cover_solver.specs.declared.choices_left.OpenChoice.{OpenChoice}
+use Rattle.cover_solver.specs.declared.choices_left.OpenChoice.TheVariants.{Value, Source, Order}
+use Rattle.cover_solver.specs.declared.found.Found.{Found}
+use Rattle.cover_solver.specs.Choices.{IsOpen, AreChoicesOf}
+use Rattle.cover_solver.specs.Found.{IsInOrder, HasRuns, Keeps}
+use Rattle.cover_solver.specs.Explored.{Grows, IsListed, Explores}
+use Rattle.cover_solver.specs.Covers.{IsLeafAt}
+use Rattle.cover_solver.specs.Runs.{IsShownRunOf}
+use Rattle.run_maker.specs.declared.run.MadeRun.{MadeRun}
+
+-- jumps of a lawful sketch's program lead forward
+pub forward_in : (s : Parts) → IsLawful s → JumpForward s.program.threads
+forward_in s lawful = lawful.within.shared.forward_jumps
+
+-- nothing new
+pub grows_none : (s : Parts) (shown : Shown) (found : Found) → IsInOrder found → Grows s shown found found
+grows_none s shown found in_order = record { in_order = in_order; keeps = λ o here. here; runs = λ are. are }
+
+-- one search after another
+pub grows_twice : (s : Parts) (shown : Shown) (old mid new : Found) → Grows s shown old mid → Grows s shown mid new → Grows s shown old new
+grows_twice s shown old mid new first second = record {
+  in_order = second.in_order;
+  keeps = λ o here. second.keeps o (first.keeps o here);
+  runs = λ are. second.runs (first.runs are);
+}
+
+-- what is listed stays so
+pub listed_still : (s : Parts) (shown : Shown) (old new : List Outcome) (k : Sketch) → Keeps old new → IsListed s shown old k → IsListed s shown new k
+listed_still s shown old new k keeps listed c is = (let (o, here, has) = listed c is in (o, keeps o here, has))
+
+-- a leaf closes a sketch
+pub closed_by : (s : Parts) (shown : Shown) (found : Found) (tree : Cover) → IsLawful s → IsInOrder found → IsLeafAt s shown found.outcomes.items tree → Explores s shown found found
+closed_by s shown found tree lawful in_order leaf = record {
+  grows = grows_none s shown found in_order;
+  listed = valid_covers (asked s.program shown) (mode_in s) found.outcomes.items tree (sketch_of s) (forward_in s lawful) lawful.is_sketch leaf.valid;
+}
+
+-- a sketch that must end as an outcome of the list
+pub listed_end : (s : Parts) (shown : Shown) (outcomes : List Outcome) (o : Outcome) → IsLawful s → MustEnd s shown o → Contains outcomes o → IsListed s shown outcomes (sketch_of s)
+listed_end s shown outcomes o lawful must here c is =
+    (o, here, each_ends_so (asked s.program shown) (mode_in s) (sketch_of s) c o (forward_in s lawful) lawful.is_sketch is.is_candidate is.completes must)
+
+-- what holds of each image under one function, of the images under another
+each_mapped : {A B C : Type 0} (P : B → Type 0) (Q : C → Type 0) (g : A → B) (f : A → C) → ((x : A) → P (g x) → Q (f x)) → (xs : List A) → All P (map g xs) → (y : C) → Contains (map f xs) y → Q y
+each_mapped P Q g f step [] all y here = absurd (none_here y here)
+each_mapped P Q g f step (x ∷ xs) all y here = elim (first_or_later (f x) (map f xs) y here) [
+  | inl e ↦ subst Q e (step x (all 0 (g x) (omega arith)))
+  | inr later ↦ each_mapped P Q g f step xs (λ k d h. all (suc k) d (omega arith)) y later
+]
+
+-- where the completions with each choice are listed, all are
+pub listed_by_choices : (s : Parts) (shown : Shown) (outcomes : List Outcome) (next : OpenChoice) (choices : List Choice) → IsLawful s → IsOpen s next → AreChoicesOf s next choices →
+    All (λ c. IsListed s shown outcomes (after (sketch_of s) c)) choices → IsListed s shown outcomes (sketch_of s)
+listed_by_choices s shown outcomes (Value t) choices lawful is_open are each =
+    by_values (asked s.program shown) (mode_in s) outcomes (forward_in s lawful) (sketch_of s) t are.values are.next
+    (λ k here fits. each_mapped (λ c. IsListed s shown outcomes (after (sketch_of s) c)) (λ j. IsListed s shown outcomes j) (choice.Value t) (with_value (sketch_of s) t) (λ v h. h) are.values
+    (subst (All (λ c. IsListed s shown outcomes (after (sketch_of s) c))) are.each each) k here) lawful.is_sketch
+listed_by_choices s shown outcomes (Source read) choices lawful is_open are each =
+    by_sources (asked s.program shown) (mode_in s) outcomes (forward_in s lawful) (sketch_of s) (event_of read) are.sources are.next
+    (λ k here fits. each_mapped (λ c. IsListed s shown outcomes (after (sketch_of s) c)) (λ j. IsListed s shown outcomes j) (choice.Source read) (with_source (sketch_of s) (event_of read)) (λ v h. h)
+    are.sources (subst (All (λ c. IsListed s shown outcomes (after (sketch_of s) c))) are.each each) k here) lawful.is_sketch
+listed_by_choices s shown outcomes (Order first second) choices lawful may are each =
+    let both = subst (All (λ c. IsListed s shown outcomes (after (sketch_of s) c))) are each in
+    by_order (asked s.program shown) (mode_in s) outcomes (forward_in s lawful) (sketch_of s) (event_of first) (event_of second) (no_order s (event_of first) (event_of second) may)
+    (λ fits. both 0 (choice.Order first second) (omega arith)) (λ fits. both 1 (choice.Order first second) (omega arith)) lawful.is_sketch
+
+-- a choice is one more
+pub counted_after : (s : Parts) (c : Choice) → IsLawful s → MayChoose s c → choice_count (parts_after s c) ≡ choice_count s + 1
+counted_after s (choice.Value t v) lawful may = value_counted s t v (let there = reads_there s t may.0 may.1 in let each = lawful.each_thread in omega arith)
+counted_after s (choice.Source read source) lawful may = source_counted s (event_of read) source
+counted_after s (choice.Order first second) lawful may = pair_counted s (event_of first) (event_of second)
+
+-- how many steps a search has left, one function of it in another
+abbrev pub rounds : Parts → ℕ
+rounds s = 4 * (most_choices + 1 - choice_count s)
+
+fewer : (m n : ℕ) → n ≡ m + 1 → m ≤ 336 → 4 * (337 - n) + 3 < 4 * (337 - m)
+fewer m n e h = omega arith
+
+pub fewer_rounds : (s next : Parts) (c : Choice) → IsLawful s → choice_count s ≤ most_choices → MayChoose s c → next ≡ parts_after s c → rounds next + 3 < rounds s
+fewer_rounds s next c lawful few may same = fewer (choice_count s) (choice_count next) (ap choice_count same ∙ counted_after s c lawful may) few
+
+-- the search at the sketch after a choice
+module _ (s next : Parts) (shown : Shown) (c : Choice) (old new : Found) (same : next ≡ parts_after s c) (moves : sketch_of next ≡ after (sketch_of s) c) (explores : Explores next shown old new) where
+  pub grows_after : Grows s shown old new
+  grows_after = record {
+    in_order = explores.grows.in_order;
+    keeps = explores.grows.keeps;
+    runs = moved (λ p mode k. HasRunsOf p mode) s next c same moves explores.grows.runs;
+  }
+    where
+      HasRunsOf : Listing → Mode → Type 0
+      HasRunsOf p mode = HasRuns (asked p shown) mode old → HasRuns (asked p shown) mode new
+
+  pub listed_after : IsListed s shown new.outcomes.items (after (sketch_of s) c)
+  listed_after = moved (λ p mode k. IsCovered (asked p shown) mode new.outcomes.items k) s next c same moves explores.listed
+
+-- an outcome is put to those found, with its run
+pub added : {E : Type 0} (s : Parts) (shown : Shown) (old new : Found) (run : MadeRun) (r : Result (Unit {0}) E) → IsLawful s → IsShownRunOf s shown run → OnOk r (IsInOrder new) →
+    OnOk r (Contains new.outcomes.items run.outcome) → OnOk r (Keeps old.outcomes.items new.outcomes.items) →
+    OnOk r ((q : Question) (mode : Mode) → HasRuns q mode old → IsShownRun q mode run.labels.items run.outcome → HasRuns q mode new) → OnOk r (Explores s shown old new)
+added s shown old new run (Ok v) lawful is in_order has keeps runs = record {
+  grows = record { in_order = in_order; keeps = keeps; runs = λ are. runs (asked s.program shown) (mode_in s) are is.is_run };
+  listed = listed_end s shown new.outcomes.items run.outcome lawful is.must_end has;
+}
+added s shown old new run (Err e) lawful is in_order has keeps runs = tt

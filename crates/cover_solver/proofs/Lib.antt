@@ -1,0 +1,10 @@
+pub mod NothingLeft
+pub mod Inserted
+pub mod Exploring
+pub mod Ends
+pub mod AccessesNamed
+pub mod Leaves
+pub mod Listing
+pub mod Nodes
+pub mod Neat
+pub mod Tables

@@ -1,0 +1,116 @@
+-- What trees and runs say of tables, sets and foreign runs.
+use Rattle.std.proofs.Common.{◌≡◌, ◌↔◌, ℕ, Bool, true, false, IsTrue, List, Some, Contains, slice_get, sym, ap, ◌∙◌, subst}
+use Rattle.std.specs.Prelude.{Result, Ok, Err, IfOk, IfErr, is_ok}
+use Rattle.std.specs.FinSet as set
+use Rattle.std.proofs.lemmas.Option.{same_Some}
+use Rattle.gap_sets.specs.Gaps.{SetOfGaps}
+use Rattle.tso_program.specs.declared.listing.Listing.{Listing}
+use Rattle.tso_program.specs.declared.outcome.Outcome.{Outcome}
+use Rattle.tso_program.specs.declared.shown.Shown.{Shown}
+use Rattle.tso_program.specs.Shown.{Question, show, asked}
+use Rattle.tso_program.specs.Limits.{JumpForward}
+use Rattle.tso_program.specs.Fences.{gaps_in}
+use Rattle.tso_machine.specs.declared.label.Label.{Label}
+use Rattle.tso_machine.specs.declared.label.Model.TheVariants as models
+use Rattle.tso_machine.specs.declared.ended.ReplayFault.{ReplayFault}
+use Rattle.tso_machine.specs.declared.ended.ReplayFault.TheVariants as replays
+use Rattle.tso_machine.specs.Faults.{FaultIs}
+use Rattle.tso_machine.proofs.Refused.{no_fault}
+use Rattle.tree_laws.proofs.Lists.{found_is_here}
+use Rattle.cover_solver.specs.declared.fault.ForeignFault.TheVariants as foreign
+use Rattle.cover_solver.specs.ForeignFaults.{ForeignFaultIs, of_replay}
+use Rattle.tso_machine.specs.Machine.{Mode, Sequential, Fenced, no_gaps, outcome_at, IsRun}
+use Rattle.tso_machine.specs.Modes.{mode_of, ArePassed}
+use Rattle.tso_machine.specs.Outcomes.{IsShownRun, IsForeignRun}
+use Rattle.fence_laws.proofs.GapsAvoided.{empty_fences_nothing, fenced_runs_avoid}
+use Rattle.cert_forest.specs.Trees.{Cover}
+use Rattle.tree_laws.proofs.ListedOutcomes.{fenced_tree_serves}
+use Rattle.cover_solver.specs.Covers.{IsWholeCover}
+use Rattle.cover_solver.specs.Facts.{IsTable, IsListOf, IsServing}
+use Rattle.cover_solver.specs.Found.{AreRunsOf}
+use Rattle.tso_program.specs.Ordered.{outcome_cmp}
+use Rattle.cover_solver.specs.Ordered.{BelongsAt}
+use Rattle.tree_laws.proofs.OneList.{one_list}
+use Rattle.cover_solver.proofs.Inserted.{not_there}
+use Rattle.tso_program.proofs.OutcomesOrdered.{one_way}
+use Rattle.std.specs.declared.cmp.Ordering.TheVariants.{Less}
+
+-- a question by its parts
+pub same_question : (q : Question) (p : Listing) (shown : Shown) → p ≡ q.program → shown ≡ q.shown → asked p shown ≡ q
+same_question q p shown program is = λ i. record { program = program i; shown = is i }
+
+-- the table of all sequential outcomes
+pub table_is : (q : Question) (outcomes : List Outcome) (runs : List (List Label)) (tree : Cover) → IsListOf q outcomes → AreRunsOf q Sequential runs outcomes → IsWholeCover q Sequential outcomes tree →
+    IsTable (record { question = q; outcomes = outcomes; runs = runs; tree = tree })
+table_is q outcomes runs tree list are is = record { listed = list; runs = are; tree = is }
+
+-- a list of all sequential outcomes lacks no run's outcome
+pub none_new : (q : Question) (outcomes : List Outcome) (labels : List Label) (o : Outcome) → IsListOf q outcomes → IsShownRun q Sequential labels o → (Contains outcomes o → ⊥) → ⊥
+none_new q outcomes labels o list is_run new = new ((list.exact o).1 (labels, is_run))
+
+-- there is one list of a question's sequential outcomes
+pub one_list_of_outcomes : (q : Question) (xs ys : List Outcome) → IsListOf q xs → IsListOf q ys → xs ≡ ys
+one_list_of_outcomes q xs ys left right =
+    one_list (λ a b. outcome_cmp a b ≡ Less) one_way xs ys left.ascend right.ascend (λ o has. (right.exact o).1 ((left.exact o).0 has)) (λ o has. (left.exact o).1 ((right.exact o).0 has))
+
+-- a set with a tree over the sequential outcomes serves
+pub serving_is : (q : Question) (gaps : SetOfGaps) (outcomes : List Outcome) (tree : Cover) → JumpForward q.program.threads → IsListOf q outcomes →
+    IsWholeCover q (Fenced (gaps_in q.program gaps)) outcomes tree → IsServing (record { question = q; gaps = gaps; tree = tree })
+serving_is q gaps outcomes tree forward list is = record {
+  serves = fenced_tree_serves q gaps outcomes tree forward list.exact is.valid;
+  tree = λ others are. subst (λ os. IsWholeCover q (Fenced (gaps_in q.program gaps)) os tree) (one_list_of_outcomes q outcomes others list are) is;
+}
+
+-- with the empty set fenced the machine is the one with no gap fenced
+pub no_gap : (p : Listing) (empty : SetOfGaps) → empty ≡ set.empty → mode_of p empty models.Buffered ≡ Fenced no_gaps
+no_gap p empty same = ap (λ gaps. Fenced (gaps_in p gaps)) same ∙ ap Fenced (empty_fences_nothing p)
+
+-- a run has one outcome
+pub one_end : (p : Listing) (mode : Mode) (labels : List Label) (a b : Outcome) → IsRun p mode labels a → IsRun p mode labels b → a ≡ b
+one_end p mode labels a b (last, run, ends, is) (other, again, finished, same) =
+    is ∙ ap (outcome_at p) (same_Some last other (sym run ∙ again)) ∙ sym same
+
+-- and so one thing is shown of it
+pub one_outcome : (q : Question) (mode : Mode) (labels : List Label) (a b : Outcome) → IsShownRun q mode labels a → IsShownRun q mode labels b → a ≡ b
+one_outcome q mode labels a b (whole, is_run, shown) (other, again, same) = shown ∙ ap (show q.shown) (one_end q.program mode labels whole other is_run again) ∙ sym same
+
+-- a run with the set fenced is one with no gap fenced
+unfenced_run : (q : Question) (gaps : SetOfGaps) (labels : List Label) (o : Outcome) → IsShownRun q (Fenced (gaps_in q.program gaps)) labels o → IsShownRun q (Fenced no_gaps) labels o
+unfenced_run q gaps labels o (whole, is_run, shown) = (whole, ((fenced_runs_avoid q.program gaps labels whole).0 is_run).0, shown)
+
+-- a run with the set fenced, replayed with no gap fenced
+module _ (q : Question) (gaps : SetOfGaps) (outcomes : List Outcome) (labels : List Label) (o found : Outcome) (passed : SetOfGaps) (list : IsListOf q outcomes)
+    (is_run : IsShownRun q (Fenced (gaps_in q.program gaps)) labels o) (new : Contains outcomes o → ⊥) (again : IsShownRun q (Fenced no_gaps) labels found) where
+  pub foreign_again : IsForeignRun q labels found
+  foreign_again = record {
+    is_run = again;
+    foreign = λ sequential. new (subst (Contains outcomes) (one_outcome q (Fenced no_gaps) labels found o again (unfenced_run q gaps labels o is_run)) ((list.exact found).1 sequential));
+  }
+
+  pub passes_none : ArePassed q.program (Fenced no_gaps) labels passed → (gap : ℕ) → set.contains passed gap ≡ true → set.contains gaps gap ≡ true → ⊥
+  passes_none are gap passes held = ((fenced_runs_avoid q.program gaps labels is_run.0).0 is_run.1).1 gap held ((are gap).0 passes)
+
+-- an outcome has a place in a list exactly if it is one of it
+pub found_by : (outcomes : List Outcome) (o : Outcome) (place : Result ℕ ℕ) (b : Bool) → IfOk place (λ n. slice_get outcomes n ≡ Some o) → IfErr place (BelongsAt outcomes o) → b ≡ is_ok place →
+    IsTrue b ↔ Contains outcomes o
+found_by outcomes o (Ok n) b at none is = ((λ yes. found_is_here outcomes n o at), (λ has. is))
+found_by outcomes o (Err n) b at belongs is = ((λ yes. (let no : false ≡ true = sym is ∙ yes in absurd cc)), (λ has. absurd (not_there outcomes o n belongs has)))
+
+-- what a replay that is refused says of a foreign run
+pub fault_of_foreign : (q : Question) (labels : List Label) (why : ReplayFault) → FaultIs q.program (Fenced no_gaps) labels why → ForeignFaultIs q labels (of_replay why)
+fault_of_foreign q labels (replays.NoSuchThread n) h = (h, (λ same. absurd cc))
+fault_of_foreign q labels (replays.AtEnd n) h = (h, (λ same. absurd cc))
+fault_of_foreign q labels (replays.BufferEmpty n) h = (h, (λ same. absurd cc))
+fault_of_foreign q labels (replays.FenceWaits n) h = (h, (λ same. absurd cc))
+fault_of_foreign q labels (replays.NotEnded n) h = (h, (λ same. absurd cc))
+fault_of_foreign q labels replays.OutOfMemory h = tt
+
+-- a foreign run is refused for want of memory alone
+pub no_fault_of_foreign : (q : Question) (labels : List Label) (why : ReplayFault) (o : Outcome) → FaultIs q.program (Fenced no_gaps) labels why → IsForeignRun q labels o → of_replay why ≡ foreign.OutOfMemory
+no_fault_of_foreign q labels why o h run = ap of_replay (no_fault q.program (Fenced no_gaps) labels run.is_run.0 why run.is_run.1 h)
+
+-- a run with the set fenced replays with no gap fenced: nothing but out of memory refuses
+pub replays_unfenced : (q : Question) (gaps : SetOfGaps) (labels : List Label) (o : Outcome) (why : ReplayFault) → IsShownRun q (Fenced (gaps_in q.program gaps)) labels o →
+    FaultIs q.program (Fenced no_gaps) labels why → why ≡ replays.OutOfMemory
+replays_unfenced q gaps labels o why is_run fault =
+    let again = unfenced_run q gaps labels o is_run in no_fault q.program (Fenced no_gaps) labels again.0 why again.1 fault

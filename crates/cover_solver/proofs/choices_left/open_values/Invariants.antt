@@ -1,0 +1,12 @@
+use Rattle.std.proofs.Common.{◌≡◌, ℕ, ◌<◌, [], None, All}
+use Rattle.candidate_executions.specs.Sketches as sketches
+use Rattle.exec_axioms.specs.Parts.{mode_in, sketch_of}
+use Rattle.cover_solver.specs.Choices.{IsOpen}
+use Rattle.cover_solver.proofs.choices_left.open_values.Given as goal
+
+-- each of these is open, and where there is none the threads so far have no next read
+abbrev pub invariant-loop-t : goal.invariant-loop-t
+invariant-loop-t l = record {
+  each : All (IsOpen l.sketch) l.left.items;
+  none : l.left.items ≡ [] → (k : ℕ) → k < l.t → sketches.next_read l.sketch.program (mode_in l.sketch) (sketch_of l.sketch) k ≡ None;
+}

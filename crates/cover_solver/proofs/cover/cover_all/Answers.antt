@@ -1,0 +1,15 @@
+use Rattle.tso_program.specs.Shown.{asked}
+use Rattle.exec_axioms.specs.Parts.{machine_mode}
+use Rattle.cert_forest.specs.Views.{cover}
+use Rattle.cover_solver.specs.Covers.{IsCoverAt, IsWholeCover}
+use Rattle.cover_judge.proofs.Answered.{if_ok}
+use Rattle.cover_solver.proofs.Nodes.{cover_first}
+use Rattle.cover_solver.proofs.cover.cover_all.Goals as goal
+
+pub returns-clause-tree : goal.returns-clause-tree
+returns-clause-tree c =
+    let p = c.args.program.now in
+    let shown = c.args.shown.now in
+    let outcomes = c.args.outcomes.now in
+    if_ok c.cover_from.result (λ tree. IsCoverAt c.in_ok-sketch.sketch shown outcomes (cover tree)) (λ tree. IsWholeCover (asked p shown) (machine_mode p c.args.mode) outcomes (cover tree))
+    (λ tree is. cover_first p c.args.mode c.in_ok-sketch.sketch shown outcomes (cover tree) c.in_ok-sketch.ensures.empty is) c.cover_from.ensures.tree

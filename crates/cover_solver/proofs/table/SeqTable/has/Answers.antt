@@ -1,0 +1,17 @@
+use Rattle.std.proofs.Common.{◌↔◌, IsTrue, List, Some, slice_get, ◌≡◌, ap, subst}
+use Rattle.std.specs.Prelude.{IfOk, IfErr}
+use Rattle.tso_program.specs.declared.outcome.Outcome.{Outcome}
+use Rattle.tso_machine.specs.Outcomes.{IsSequentialOutcome}
+use Rattle.cover_solver.specs.Facts.{Table}
+use Rattle.cover_solver.specs.Ordered.{BelongsAt}
+use Rattle.cover_solver.proofs.Tables.{found_by}
+use Rattle.cover_solver.proofs.table.SeqTable.has.Goals as goal
+
+pub returns : goal.returns
+returns c =
+    let o = c.args.outcome.now in
+    let found = found_by c.self.inside.outcomes.items o c.place_of.result c.is_ok.result
+    (subst (λ (os : List Outcome). IfOk c.place_of.result (λ n. slice_get os n ≡ Some o)) c.deref.ensures.value c.place_of.ensures.there)
+    (subst (λ (os : List Outcome). IfErr c.place_of.result (BelongsAt os o)) c.deref.ensures.value c.place_of.ensures.belongs) c.is_ok.ensures.value in
+    let exact = c.self.invariant.listed.exact o in
+    subst (λ q. IsTrue c.is_ok.result ↔ IsSequentialOutcome q o) (ap (λ (t : Table). t.question) c.self.view_is) ((λ yes. exact.0 (found.0 yes)), (λ sequential. found.1 (exact.1 sequential)))

@@ -1,0 +1,21 @@
+-- Accesses, as trees name them.
+use Rattle.std.specs.Prelude.{◌≡◌, List, Contains}
+use Rattle.candidate_executions.specs.declared.event.Event.{Event}
+use Rattle.candidate_executions.specs.declared.event.Event.TheVariants.{Initial, Access as At}
+use Rattle.exec_axioms.specs.Parts.{Parts}
+use Rattle.exec_axioms.specs.Known.{IsAccess}
+use Rattle.cert_forest.specs.declared.tree.AccessId.{AccessId}
+use Rattle.tree_laws.specs.CoverTrees.{event_of}
+
+-- no initial write
+abbrev pub IsOfThread : Event → Type 0
+IsOfThread (Initial l) = ⊥
+IsOfThread (At t i) = Unit {0}
+
+-- one of these is the event
+abbrev pub Names : List AccessId → Event → Type 0
+Names accesses e = (a : AccessId) × Contains accesses a × (event_of a ≡ e)
+
+-- each access of the sketch is one of these
+abbrev pub HasAccesses : Parts → List AccessId → Type 0
+HasAccesses s accesses = (e : Event) → IsAccess s e → Names accesses e

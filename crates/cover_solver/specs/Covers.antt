@@ -1,0 +1,115 @@
+-- What the search for a tree makes: valid trees within the limits of a certificate.
+use Rattle.std.specs.Prelude.{◌≡◌, ◌≢◌, ◌+◌, ◌≤◌, ℕ, List, [], ◌∷◌, Contains, map}
+use Rattle.std.specs.List.{AllPairs}
+use Rattle.tso_program.specs.declared.outcome.Outcome.{Outcome}
+use Rattle.tso_program.specs.declared.shown.Shown.{Shown}
+use Rattle.tso_program.specs.Shown.{Question, asked, show}
+use Rattle.tso_machine.specs.Machine.{Mode}
+use Rattle.tso_machine.specs.Outcomes.{IsShownRun}
+use Rattle.candidate_executions.specs.Sketches.{empty_sketch}
+use Rattle.exec_axioms.specs.Parts.{Parts, mode_in, sketch_of}
+use Rattle.exec_axioms.specs.Completions.{MustEnd}
+use Rattle.exec_axioms.specs.Known.{HasNoCycle}
+use Rattle.exec_axioms.specs.Sizes.{choice_count, most_choices}
+use Rattle.cert_forest.specs.Trees.{Cover, Value, Source, Order, Cycle, Known, Covers, NoCover, MoreCovers, covers_of}
+use Rattle.cert_forest.specs.Limits.{cover_depth, covers_depth, HasNumbers, HaveNumbers}
+use Rattle.cert_forest.specs.Views.{cover}
+use Rattle.tree_laws.specs.CoverTrees.{IsValidCover, AreValidCovers}
+use Rattle.cover_judge.specs.declared.choice.Choice.{Choice}
+use Rattle.cover_judge.specs.Choices.{after}
+use Rattle.cover_solver.specs.declared.choices_left.OpenChoice.{OpenChoice}
+use Rattle.cover_solver.specs.declared.choices_left.OpenChoice.TheVariants as left
+use Rattle.cover_solver.specs.declared.cover.Children.{Children}
+use Rattle.cover_solver.specs.declared.cover.Children.TheVariants as children
+use Rattle.cover_solver.specs.declared.fault.Stop.{Stop}
+use Rattle.cover_solver.specs.declared.fault.Stop.TheVariants as stop
+
+-- no cycle of the tree has an event twice
+abbrev mutual
+  pub HasSimpleCycles : Cover → Type 0
+  HasSimpleCycles (Value t trees) = HaveSimpleCycles trees
+  HasSimpleCycles (Source read trees) = HaveSimpleCycles trees
+  HasSimpleCycles (Order first second one other) = HasSimpleCycles one × HasSimpleCycles other
+  HasSimpleCycles (Cycle kind events) = AllPairs (λ a b. a ≢ b) events
+  HasSimpleCycles (Known number) = Unit {0}
+
+  pub HaveSimpleCycles : Covers → Type 0
+  HaveSimpleCycles NoCover = Unit {0}
+  HaveSimpleCycles (MoreCovers tree trees) = HasSimpleCycles tree × HaveSimpleCycles trees
+
+-- the tree's numbers are those of a certificate's text, and no cycle has an event twice
+pub record IsNeat (tree : Cover) : Type 0 where
+  pub numbers : HasNumbers tree
+  pub simple : HasSimpleCycles tree
+
+-- the same of several trees
+pub record AreNeat (trees : Covers) : Type 0 where
+  pub numbers : HaveNumbers trees
+  pub simple : HaveSimpleCycles trees
+
+-- what is shown of no outcome as which the sketch must end is in the list
+abbrev pub IsEndNotListed : Parts → Shown → List Outcome → Type 0
+IsEndNotListed s shown outcomes = HasNoCycle s → (o : Outcome) → MustEnd s shown o → Contains outcomes (show shown o) → ⊥
+
+-- neither an outcome of the list nor a cycle closes the sketch
+pub record IsUnsettled (s : Parts) (shown : Shown) (outcomes : List Outcome) : Type 0 where
+  pub not_listed : IsEndNotListed s shown outcomes
+  pub acyclic : HasNoCycle s
+
+-- the tree is valid at the sketch
+abbrev pub IsValidAt : Parts → Shown → List Outcome → Cover → Type 0
+IsValidAt s shown outcomes tree = IsValidCover (asked s.program shown) (mode_in s) outcomes tree (sketch_of s)
+
+-- a valid leaf at the sketch
+pub record IsLeafAt (s : Parts) (shown : Shown) (outcomes : List Outcome) (tree : Cover) : Type 0 where
+  pub valid : IsValidAt s shown outcomes tree
+  pub neat : IsNeat tree
+  pub leaf : cover_depth tree ≡ 1
+
+-- a valid tree at the sketch, which has one level for each choice that is left at most, and one for its leaves
+pub record IsCoverAt (s : Parts) (shown : Shown) (outcomes : List Outcome) (tree : Cover) : Type 0 where
+  pub valid : IsValidAt s shown outcomes tree
+  pub neat : IsNeat tree
+  pub shallow : cover_depth tree + choice_count s ≤ most_choices + 1
+
+-- the same at the sketch after a choice
+pub record IsCoverAfter (s : Parts) (shown : Shown) (outcomes : List Outcome) (choice : Choice) (tree : Cover) : Type 0 where
+  pub valid : IsValidCover (asked s.program shown) (mode_in s) outcomes tree (after (sketch_of s) choice)
+  pub neat : IsNeat tree
+  pub shallow : cover_depth tree + choice_count s ≤ most_choices
+
+-- the same of a tree for each choice
+pub record AreCoversAfter (s : Parts) (shown : Shown) (outcomes : List Outcome) (choices : List Choice) (trees : List Cover) : Type 0 where
+  pub valid : AreValidCovers (asked s.program shown) (mode_in s) outcomes (covers_of trees) (map (after (sketch_of s)) choices)
+  pub neat : AreNeat (covers_of trees)
+  pub shallow : covers_depth (covers_of trees) + choice_count s ≤ most_choices
+
+-- a tree for each choice, or one that needs none
+abbrev pub AreChildren : Parts → Shown → List Outcome → List Choice → Children → Type 0
+AreChildren s shown outcomes choices (children.Each trees) = AreCoversAfter s shown outcomes choices (map cover trees.items)
+AreChildren s shown outcomes choices (children.One tree) = IsCoverAt s shown outcomes (cover tree)
+
+-- the node over these trees
+abbrev pub node_of : OpenChoice → List Cover → Cover
+node_of (left.Value t) trees = Value t (covers_of trees)
+node_of (left.Source read) trees = Source read (covers_of trees)
+node_of (left.Order first second) [] = Known 0
+node_of (left.Order first second) (one ∷ []) = Known 0
+node_of (left.Order first second) (one ∷ (other ∷ trees)) = Order first second one other
+
+-- an order has two trees
+abbrev pub IsArity : OpenChoice → ℕ → Type 0
+IsArity (left.Value t) n = Unit {0}
+IsArity (left.Source read) n = Unit {0}
+IsArity (left.Order first second) n = n ≡ 2
+
+-- a valid tree at the sketch with no choice
+pub record IsWholeCover (q : Question) (mode : Mode) (outcomes : List Outcome) (tree : Cover) : Type 0 where
+  pub valid : IsValidCover q mode outcomes tree empty_sketch
+  pub neat : IsNeat tree
+  pub shallow : cover_depth tree ≤ most_choices + 1
+
+-- why no tree is found: a run has an outcome that isn't in the list
+abbrev pub StopIs : Question → Mode → List Outcome → Stop → Type 0
+StopIs q mode outcomes (stop.New run) = IsShownRun q mode run.labels.items run.outcome × (Contains outcomes run.outcome → ⊥)
+StopIs q mode outcomes stop.OutOfMemory = Unit {0}

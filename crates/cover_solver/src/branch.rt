@@ -1,0 +1,62 @@
+//! Branches: what is chosen next, and its choices.
+ghost use Rattle.std.specs.Prelude.{◌≡◌, IfOk, MatchOption, [], ◌∷◌};
+ghost use Rattle.run_maker.specs.Complete.{IsComplete};
+ghost use Rattle.cover_judge.specs.Choices.{MayChooseEach};
+ghost use Rattle.cover_solver.specs.Choices.{IsOpen, AreChoicesOf};
+ghost use Rattle.cover_solver.specs.Ordered.{Ascend};
+
+use crate::choices_left::{OpenChoice, open_choices};
+use crate::preference::preferred;
+use cert_forest::AccessId;
+use cover_judge::{Choice, source_choices, value_choices};
+use exec_axioms::Sketch;
+use std::alloc::{AllocError, Global};
+use tso_program::{Outcome, Shown};
+
+/// What is chosen next. `None` if the sketch is complete.
+pub(crate) fn next_choice(
+    alloc: Global,
+    sketch: &Sketch,
+    shown: &Shown,
+    outcomes: &[Outcome],
+) -> Result<Option<OpenChoice>, AllocError>
+    requires { Ascend outcomes.now }
+    ensures { IfOk result (λ next. MatchOption next (IsComplete sketch.now) (IsOpen sketch.now)) }
+{
+    let left = open_choices(alloc, sketch)?;
+    if left.is_empty() {
+        return Ok(None);
+    }
+    let number = preferred(alloc, sketch, shown, outcomes, &left)?;
+    Ok(Some(left[number]))
+}
+
+/// The choices that there are.
+pub(crate) fn choices_of(
+    alloc: Global,
+    sketch: &Sketch,
+    next: OpenChoice,
+) -> Result<Vec<Choice>, AllocError>
+    requires { IsOpen sketch.now next }
+    ensures choices { IfOk result (λ choices. AreChoicesOf sketch.now next choices.items) }
+    ensures may { IfOk result (λ choices. MayChooseEach sketch.now choices.items) }
+{
+    match next {
+        OpenChoice::Value(thread) => match value_choices(alloc, sketch, thread)? {
+            Some(choices) => Ok(choices),
+            None => unreachable!(),
+        },
+        OpenChoice::Source(read) => match source_choices(alloc, sketch, read)? {
+            Some(choices) => Ok(choices),
+            None => unreachable!(),
+        },
+        OpenChoice::Order(first, second) => both_orders(alloc, first, second),
+    }
+}
+
+fn both_orders(alloc: Global, first: AccessId, second: AccessId) -> Result<Vec<Choice>, AllocError>
+    ensures { IfOk result (λ choices. choices.items ≡ Choice.Order first second ∷ Choice.Order second first ∷ []) }
+{
+    let orders = [Choice::Order(first, second), Choice::Order(second, first)];
+    Vec::from_slice(alloc, orders.as_slice())
+}

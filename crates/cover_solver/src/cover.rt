@@ -1,0 +1,147 @@
+//! The search for a cover tree over a list of outcomes.
+ghost use Rattle.std.specs.Prelude.{◌≡◌, IfOk, IfErr, IsTrue, map, length};
+ghost use Rattle.tso_program.specs.Shown.{asked};
+ghost use Rattle.exec_axioms.specs.Parts.{machine_mode, mode_in};
+ghost use Rattle.cert_forest.specs.Views.{cover};
+ghost use Rattle.cover_judge.specs.Choices.{MayChooseEach};
+ghost use Rattle.cover_solver.specs.Ordered.{Ascend};
+ghost use Rattle.cover_solver.specs.Covers.{IsCoverAt, IsValidAt, AreChildren, IsWholeCover, node_of, IsArity, StopIs};
+
+use crate::branch::{choices_of, next_choice};
+use crate::choices_left::OpenChoice;
+use crate::fault::Stop;
+use crate::leaf::leaf;
+use crate::run::shown_run;
+use cert_forest::CoverTree;
+use cover_judge::{Choice, TreeFault, chosen, judge_cover};
+use exec_axioms::{Mode, Sketch};
+use std::alloc::{AllocError, Global};
+use tso_program::{Outcome, Program, Shown};
+
+/// What the choices at a node lead to.
+enum Children {
+    /// A tree for each choice.
+    Each(Vec<CoverTree>),
+    /// A tree for one of the choices that is valid without it.
+    One(CoverTree),
+}
+
+/// A tree for the sketch with no choice.
+pub(crate) fn cover_all(
+    alloc: Global,
+    program: &Program,
+    shown: &Shown,
+    mode: Mode,
+    outcomes: &[Outcome],
+) -> Result<CoverTree, Stop>
+    requires { Ascend outcomes.now }
+    ensures tree { IfOk result (λ tree. IsWholeCover (asked program.now shown.now) (machine_mode program.now mode) outcomes.now (cover tree)) }
+    ensures stop { IfErr result (StopIs (asked program.now shown.now) (machine_mode program.now mode) outcomes.now) }
+{
+    let sketch = Sketch::new(alloc, program, mode)?;
+    cover_from(alloc, &sketch, shown, outcomes)
+}
+
+/// A tree for a sketch.
+#[cycle(cover)]
+fn cover_from(
+    alloc: Global,
+    sketch: &Sketch,
+    shown: &Shown,
+    outcomes: &[Outcome],
+) -> Result<CoverTree, Stop>
+    requires { Ascend outcomes.now }
+    ensures tree { IfOk result (λ tree. IsCoverAt sketch.now shown.now outcomes.now (cover tree)) }
+    ensures stop { IfErr result (StopIs (asked sketch.now.program shown.now) (mode_in sketch.now) outcomes.now) }
+{
+    // For the proof alone: what holds of every sketch is known where its program is read.
+    let _ = sketch.program();
+    if let Some(tree) = leaf(alloc, sketch, shown, outcomes)? {
+        return Ok(tree);
+    }
+    match next_choice(alloc, sketch, shown, outcomes)? {
+        Some(next) => {
+            let choices = choices_of(alloc, sketch, next)?;
+            match cover_each(alloc, sketch, shown, &choices, outcomes)? {
+                Children::Each(trees) => Ok(node_over(alloc, next, trees)?),
+                Children::One(tree) => Ok(tree),
+            }
+        }
+        None => Err(Stop::New(shown_run(alloc, sketch, shown)?)),
+    }
+}
+
+/// A tree for the sketch after each of the choices, up to one that is valid without its choice: then no
+/// other is needed.
+#[cycle(cover)]
+fn cover_each(
+    alloc: Global,
+    sketch: &Sketch,
+    shown: &Shown,
+    choices: &[Choice],
+    outcomes: &[Outcome],
+) -> Result<Children, Stop>
+    requires ascend { Ascend outcomes.now }
+    requires may { MayChooseEach sketch.now choices.now }
+    ensures children { IfOk result (AreChildren sketch.now shown.now outcomes.now choices.now) }
+    ensures stop { IfErr result (StopIs (asked sketch.now.program shown.now) (mode_in sketch.now) outcomes.now) }
+{
+    // For the proof alone: what holds of every sketch is known where its program is read.
+    let _ = sketch.program();
+    let mut trees = Vec::new(alloc);
+    for choice in choices {
+        let next = chosen(sketch, *choice)?;
+        let tree = cover_from(alloc, &next, shown, outcomes)?;
+        if is_valid(alloc, &tree, sketch, shown, outcomes)? {
+            return Ok(Children::One(tree));
+        }
+        trees.push(tree)?;
+    }
+    Ok(Children::Each(trees))
+}
+
+/// Whether a tree is valid at a sketch in which each read has its value.
+fn is_valid(
+    alloc: Global,
+    tree: &CoverTree,
+    sketch: &Sketch,
+    shown: &Shown,
+    outcomes: &[Outcome],
+) -> Result<bool, AllocError>
+    ensures { IfOk result (λ valid. IsTrue valid → IsValidAt sketch.now shown.now outcomes.now (cover tree.now)) }
+{
+    if !sketch.is_whole() {
+        return Ok(false);
+    }
+    match judge_cover(alloc, tree, sketch, shown, outcomes) {
+        Ok(()) => Ok(true),
+        Err(TreeFault::Wrong(_)) => Ok(false),
+        Err(TreeFault::OutOfMemory) => Err(AllocError),
+    }
+}
+
+/// The node over a tree for each choice.
+fn node_over(
+    alloc: Global,
+    next: OpenChoice,
+    children: Vec<CoverTree>,
+) -> Result<CoverTree, AllocError>
+    requires { IsArity next (length children.items) }
+    ensures { IfOk result (λ tree. cover tree ≡ node_of next (map cover children.items)) }
+{
+    match next {
+        OpenChoice::Value(thread) => Ok(CoverTree::Value { thread, children }),
+        OpenChoice::Source(read) => Ok(CoverTree::Source { read, children }),
+        OpenChoice::Order(first, second) => {
+            let mut children = children;
+            let second_before = Box::new(alloc, children.remove(1))?;
+            let first_before = Box::new(alloc, children.remove(0))?;
+            Ok(CoverTree::Order {
+                first,
+                second,
+                first_before,
+                second_before,
+            })
+        }
+    }
+}

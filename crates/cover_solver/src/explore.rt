@@ -1,0 +1,123 @@
+//! The search for all outcomes.
+ghost use Rattle.std.specs.Prelude.{◌≡◌, ◌↔◌, IfOk, OnOk, IsTrue, false, Contains};
+ghost use Rattle.tso_program.specs.declared.outcome.Outcome.{Outcome};
+ghost use Rattle.tso_program.specs.Shown.{asked};
+ghost use Rattle.tso_machine.specs.Outcomes.{AllowsShown};
+ghost use Rattle.exec_axioms.specs.Known.{HasNoCycle};
+ghost use Rattle.exec_axioms.specs.Parts.{machine_mode};
+ghost use Rattle.run_maker.specs.Complete.{IsComplete};
+ghost use Rattle.cover_judge.specs.Choices.{MayChooseEach};
+ghost use Rattle.cover_solver.specs.Found.{IsInOrder, HasRuns};
+ghost use Rattle.cover_solver.specs.Explored.{Explores, ExploresEach};
+
+use crate::branch::{choices_of, next_choice};
+use crate::found::Found;
+use crate::leaf::leaf;
+use crate::run::shown_run;
+use cover_judge::{Choice, chosen};
+use exec_axioms::{Mode, Sketch};
+use std::alloc::{AllocError, Global};
+use tso_program::{Program, Shown};
+
+/// All outcomes of the machine of a mode, as far as they are shown, ascending, each with a run.
+pub(crate) fn explore_all(
+    alloc: Global,
+    program: &Program,
+    shown: &Shown,
+    mode: Mode,
+) -> Result<Found, AllocError>
+    ensures in_order { IfOk result IsInOrder }
+    ensures runs { IfOk result (HasRuns (asked program.now shown.now) (machine_mode program.now mode)) }
+    ensures exact { IfOk result (λ found. (o : Outcome) → Contains found.outcomes.items o ↔ AllowsShown (asked program.now shown.now) (machine_mode program.now mode) o) }
+{
+    // For the proof alone: what holds of every program is known where its threads are read.
+    let _ = program.threads();
+    let mut found = Found::none(alloc);
+    let sketch = Sketch::new(alloc, program, mode)?;
+    explore(alloc, &sketch, shown, &mut found)?;
+    Ok(found)
+}
+
+/// Puts the outcome of each consistent completion of the sketch to those found.
+#[cycle(explore)]
+fn explore(
+    alloc: Global,
+    sketch: &Sketch,
+    shown: &Shown,
+    found: &mut Found,
+) -> Result<(), AllocError>
+    requires { IsInOrder found.old }
+    ensures { OnOk result (Explores sketch.now shown.now found.old found.new) }
+{
+    // For the proof alone: what holds of every sketch is known where its program is read.
+    let _ = sketch.program();
+    if is_closed(alloc, sketch, shown, found)? {
+        return Ok(());
+    }
+    match next_choice(alloc, sketch, shown, &found.outcomes)? {
+        Some(next) => {
+            let choices = choices_of(alloc, sketch, next)?;
+            explore_each(alloc, sketch, shown, &choices, found)
+        }
+        None => add_end(alloc, sketch, shown, found),
+    }
+}
+
+/// The same of the completions with each of the choices.
+#[cycle(explore)]
+fn explore_each(
+    alloc: Global,
+    sketch: &Sketch,
+    shown: &Shown,
+    choices: &[Choice],
+    found: &mut Found,
+) -> Result<(), AllocError>
+    requires in_order { IsInOrder found.old }
+    requires may { MayChooseEach sketch.now choices.now }
+    ensures { OnOk result (ExploresEach sketch.now shown.now choices.now found.old found.new) }
+{
+    // For the proof alone: what holds of every sketch is known where its program is read.
+    let _ = sketch.program();
+    for choice in choices {
+        let next = chosen(sketch, *choice)?;
+        explore(alloc, &next, shown, found)?;
+    }
+    Ok(())
+}
+
+/// Whether an outcome that is found, or a cycle, closes the sketch.
+fn is_closed(
+    alloc: Global,
+    sketch: &Sketch,
+    shown: &Shown,
+    found: &Found,
+) -> Result<bool, AllocError>
+    requires { IsInOrder found.now }
+    ensures closed { IfOk result (λ closed. IsTrue closed → Explores sketch.now shown.now found.now found.now) }
+    ensures acyclic { IfOk result (λ closed. closed ≡ false → HasNoCycle sketch.now) }
+{
+    // For the proof alone: what holds of every sketch is known where its program is read.
+    let _ = sketch.program();
+    match leaf(alloc, sketch, shown, &found.outcomes)? {
+        Some(_) => Ok(true),
+        None => Ok(false),
+    }
+}
+
+/// Puts the outcome of a complete sketch to those found.
+fn add_end(
+    alloc: Global,
+    sketch: &Sketch,
+    shown: &Shown,
+    found: &mut Found,
+) -> Result<(), AllocError>
+    requires in_order { IsInOrder found.old }
+    requires complete { IsComplete sketch.now }
+    requires acyclic { HasNoCycle sketch.now }
+    ensures { OnOk result (Explores sketch.now shown.now found.old found.new) }
+{
+    // For the proof alone: what holds of every sketch is known where its program is read.
+    let _ = sketch.program();
+    let run = shown_run(alloc, sketch, shown)?;
+    found.add(run.outcome, run.labels)
+}

@@ -1,0 +1,49 @@
+//! What a search for outcomes has found.
+ghost use Rattle.std.specs.Prelude.{◌≡◌, OnOk, Contains, []};
+ghost use Rattle.tso_program.specs.Shown.{Question};
+ghost use Rattle.tso_machine.specs.Machine.{Mode};
+ghost use Rattle.tso_machine.specs.Outcomes.{IsShownRun};
+ghost use Rattle.cover_solver.specs.Found.{IsInOrder, HasRuns, Keeps};
+
+use crate::ordered::place_of;
+use std::alloc::{AllocError, Global};
+use tso_machine::Label;
+use tso_program::Outcome;
+
+/// Outcomes, ascending, each with a run.
+#[derive(Debug, Drop)]
+pub(crate) struct Found {
+    pub(crate) outcomes: Vec<Outcome>,
+    pub(crate) runs: Vec<Vec<Label>>,
+}
+
+impl Found {
+    /// No outcome yet.
+    pub(crate) fn none(alloc: Global) -> Found
+        ensures outcomes { result.outcomes.items ≡ [] }
+        ensures runs { result.runs.items ≡ [] }
+    {
+        Found {
+            outcomes: Vec::new(alloc),
+            runs: Vec::new(alloc),
+        }
+    }
+
+    /// Puts an outcome with its run to its place, if it is new.
+    pub(crate) fn add(&mut self, outcome: Outcome, labels: Vec<Label>) -> Result<(), AllocError>
+        requires { IsInOrder self.old }
+        ensures in_order { OnOk result (IsInOrder self.new) }
+        ensures has { OnOk result (Contains self.new.outcomes.items outcome) }
+        ensures keeps { OnOk result (Keeps self.old.outcomes.items self.new.outcomes.items) }
+        ensures runs { OnOk result ((q : Question) (mode : Mode) → HasRuns q mode self.old → IsShownRun q mode labels.items outcome → HasRuns q mode self.new) }
+    {
+        match place_of(&self.outcomes, &outcome) {
+            Ok(_) => Ok(()),
+            Err(place) => {
+                self.outcomes.insert(place, outcome)?;
+                self.runs.insert(place, labels)?;
+                Ok(())
+            }
+        }
+    }
+}

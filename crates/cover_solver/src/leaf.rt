@@ -1,0 +1,72 @@
+//! What closes a sketch at once.
+ghost use Rattle.std.specs.Prelude.{◌≡◌, IfOk, MatchOption, List};
+ghost use Rattle.tso_program.specs.declared.outcome.Outcome.{Outcome};
+ghost use Rattle.tso_program.specs.declared.shown.Shown.{Shown};
+ghost use Rattle.tso_program.specs.Shown.{asked};
+ghost use Rattle.exec_axioms.specs.Parts.{mode_in, sketch_of};
+ghost use Rattle.exec_axioms.specs.Known.{HasNoCycle};
+ghost use Rattle.exec_axioms.specs.Search.{IsSimpleCycle, AreFewAccesses};
+ghost use Rattle.cert_forest.specs.Views.{cover};
+ghost use Rattle.tree_laws.specs.CoverTrees.{MustEndAsNumber};
+ghost use Rattle.cover_solver.specs.Ordered.{Ascend};
+ghost use Rattle.cover_solver.specs.Covers.{IsLeafAt, IsUnsettled, IsEndNotListed};
+
+use crate::accesses::accesses_of;
+use crate::ordered::place_of;
+use candidate_executions::{Event, Kind};
+use cert_forest::CoverTree;
+use exec_axioms::Sketch;
+use std::alloc::{AllocError, Global};
+use tso_program::{Outcome, Shown};
+
+/// The leaf of a sketch that must end as an outcome of the list, or has a cycle.
+pub(crate) fn leaf(
+    alloc: Global,
+    sketch: &Sketch,
+    shown: &Shown,
+    outcomes: &[Outcome],
+) -> Result<Option<CoverTree>, AllocError>
+    requires { Ascend outcomes.now }
+    ensures { IfOk result (λ leaf. MatchOption leaf (IsUnsettled sketch.now shown.now outcomes.now) (λ tree. IsLeafAt sketch.now shown.now outcomes.now (cover tree))) }
+{
+    if let Some(number) = known(sketch, shown, outcomes)? {
+        return Ok(Some(CoverTree::Known { run: number as u64 }));
+    }
+    match sketch.find_cycle()? {
+        Some((kind, events)) => Ok(Some(cycle(alloc, sketch, kind, &events)?)),
+        None => Ok(None),
+    }
+}
+
+/// The number of the outcome as which the sketch must end.
+fn known(sketch: &Sketch, shown: &Shown, outcomes: &[Outcome]) -> Result<Option<usize>, AllocError>
+    requires { Ascend outcomes.now }
+    ensures { IfOk result (λ number. MatchOption number (IsEndNotListed sketch.now shown.now outcomes.now) (MustEndAsNumber (asked sketch.now.program shown.now) (mode_in sketch.now) outcomes.now (sketch_of sketch.now))) }
+{
+    match sketch.must_end(shown)? {
+        Some(end) => match place_of(outcomes, &end) {
+            Ok(number) => Ok(Some(number)),
+            Err(_) => Ok(None),
+        },
+        None => Ok(None),
+    }
+}
+
+/// The leaf of a cycle.
+fn cycle(
+    alloc: Global,
+    sketch: &Sketch,
+    kind: Kind,
+    events: &[Event],
+) -> Result<CoverTree, AllocError>
+    requires cycle { IsSimpleCycle sketch.now kind events.now }
+    requires accesses { AreFewAccesses sketch.now events.now }
+    ensures { IfOk result (λ tree. (shown : Shown) (outcomes : List Outcome) → IsLeafAt sketch.now shown outcomes (cover tree)) }
+{
+    // For the proof alone: what holds of every sketch is known where its program is read.
+    let _ = sketch.program();
+    Ok(CoverTree::Cycle {
+        kind,
+        events: accesses_of(alloc, events)?,
+    })
+}

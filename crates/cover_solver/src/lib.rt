@@ -1,0 +1,30 @@
+//! The solver: it lists the outcomes of a program and finds, for a set of gaps, a run that leaves an
+//! outcome which no sequential run has, or a tree that shows that the set serves.
+//!
+//! It goes through the candidate executions of a mode by choices in a sketch. A choice closes where a
+//! known outcome is the only one that is left, or where a cycle leaves none.
+#![tactic(auto)]
+
+mod accesses;
+mod branch;
+mod choices_left;
+mod cover;
+mod explore;
+mod fault;
+mod foreign;
+mod found;
+mod leaf;
+mod list;
+mod oracle;
+mod ordered;
+mod preference;
+mod run;
+mod served;
+mod table;
+
+pub use fault::{ForeignFault, SolveFault};
+pub use foreign::ForeignRun;
+pub use list::outcomes;
+pub use oracle::{Oracle, Solver, Verdict};
+pub use served::Served;
+pub use table::{SeqTable, sequential};

@@ -1,0 +1,92 @@
+//! Which choice is made first. The size of a tree depends on it, and nothing that is proved of the tree
+//! does.
+ghost use Rattle.std.specs.Prelude.{◌<◌, IfOk, All, length};
+ghost use Rattle.cover_judge.specs.Choices.{MayChooseEach};
+ghost use Rattle.cover_solver.specs.Choices.{IsOpen};
+ghost use Rattle.cover_solver.specs.Ordered.{Ascend};
+
+use crate::branch::choices_of;
+use crate::choices_left::OpenChoice;
+use crate::leaf::leaf;
+use cover_judge::{Choice, chosen};
+use exec_axioms::Sketch;
+use std::alloc::{AllocError, Global};
+use tso_program::{Outcome, Shown};
+
+/// How many children stay open after a choice, how many there are, and whether it is an order: the
+/// least is the best.
+#[derive(Clone, Copy, PartialEq, Eq, PartialOrd, Ord)]
+struct Merit {
+    open: usize,
+    children: usize,
+    is_order: bool,
+}
+
+/// The number of the choice that is made first.
+pub(crate) fn preferred(
+    alloc: Global,
+    sketch: &Sketch,
+    shown: &Shown,
+    outcomes: &[Outcome],
+    left: &[OpenChoice],
+) -> Result<usize, AllocError>
+    requires ascend { Ascend outcomes.now }
+    requires each { All (IsOpen sketch.now) left.now }
+    requires some { 0 < length left.now }
+    ensures { IfOk result (λ number. number < length left.now) }
+{
+    let mut best: usize = 0;
+    let mut merit = merit_of(alloc, sketch, shown, outcomes, left[0])?;
+    for (number, next) in left.iter().enumerate() {
+        let other = merit_of(alloc, sketch, shown, outcomes, *next)?;
+        if other < merit {
+            best = number;
+            merit = other;
+        }
+    }
+    Ok(best)
+}
+
+fn merit_of(
+    alloc: Global,
+    sketch: &Sketch,
+    shown: &Shown,
+    outcomes: &[Outcome],
+    next: OpenChoice,
+) -> Result<Merit, AllocError>
+    requires ascend { Ascend outcomes.now }
+    requires is_open { IsOpen sketch.now next }
+{
+    let choices = choices_of(alloc, sketch, next)?;
+    let open = match next {
+        OpenChoice::Value(_) => choices.len(),
+        _ => count_open(alloc, sketch, shown, outcomes, &choices)?,
+    };
+    Ok(Merit {
+        open,
+        children: choices.len(),
+        is_order: matches!(next, OpenChoice::Order(..)),
+    })
+}
+
+/// After how many of the choices the sketch stays open: neither an outcome of the list nor a cycle
+/// closes it.
+fn count_open(
+    alloc: Global,
+    sketch: &Sketch,
+    shown: &Shown,
+    outcomes: &[Outcome],
+    choices: &[Choice],
+) -> Result<usize, AllocError>
+    requires ascend { Ascend outcomes.now }
+    requires may { MayChooseEach sketch.now choices.now }
+{
+    let mut count: usize = 0;
+    for choice in choices {
+        let after = chosen(sketch, *choice)?;
+        if leaf(alloc, &after, shown, outcomes)?.is_none() {
+            count = count.saturating_add(1);
+        }
+    }
+    Ok(count)
+}

@@ -1,0 +1,135 @@
+//! The sequential outcomes of a program.
+ghost use Rattle.std.specs.Prelude.{◌≡◌, ◌↔◌, IfOk, IfErr, IsTrue};
+ghost use Rattle.tso_program.specs.Shown.{asked};
+ghost use Rattle.tso_machine.specs.Outcomes.{IsSequentialOutcome};
+ghost use Rattle.tso_machine.specs.Machine.{Sequential};
+ghost use Rattle.cert_forest.specs.Certificates.{labels_of};
+ghost use Rattle.cert_forest.specs.Views.{cover};
+ghost use Rattle.cover_solver.specs.Covers.{IsWholeCover};
+ghost use Rattle.cover_solver.specs.Facts.{IsTable, IsListOf};
+
+use crate::cover::cover_all;
+use crate::explore::explore_all;
+use crate::fault::{SolveFault, Stop};
+use crate::ordered::place_of;
+use cert_forest::CoverTree;
+use exec_axioms::Mode;
+use std::alloc::{AllocError, Global};
+use std::marker::Model;
+use tso_machine::Label;
+use tso_program::{Outcome, Program, Shown};
+
+/// The sequential outcomes of a program, as far as they are shown, ascending and each of them once, with
+/// a run of each and a cover tree that shows that there are no others.
+#[derive(Drop)]
+pub struct SeqTable {
+    program: Program,
+    shown: Shown,
+    outcomes: Vec<Outcome>,
+    runs: Vec<Vec<Label>>,
+    tree: CoverTree,
+}
+
+impl Model for SeqTable {
+    ghost use Rattle.cover_solver.specs.Facts.{Table};
+
+    ghost Value = { Table };
+
+    ghost use Rattle.tso_program.specs.contracts.shown.Names as names;
+    ghost use Rattle.std.specs.Coded.{codes};
+    ghost use Rattle.tree_laws.specs.CoverCodes.{coded_cover};
+
+    ghost coded = { Prim.hlevel (codes, names.the_row.coded, coded_cover) };
+
+    ghost use Rattle.cert_forest.specs.Certificates.{labels_of};
+    ghost use Rattle.cert_forest.specs.Views.{cover};
+    ghost use Rattle.cover_solver.specs.Facts.{IsTable};
+    ghost use Rattle.tso_program.specs.Shown.{asked};
+
+    ghost view = { λ t. record { question = asked t.program t.shown; outcomes = t.outcomes.items; runs = labels_of t.runs.items; tree = cover t.tree } };
+
+    ghost invariant = { λ t. IsTable (record { question = asked t.program t.shown; outcomes = t.outcomes.items; runs = labels_of t.runs.items; tree = cover t.tree }) };
+}
+
+/// The sequential outcomes of a program, as far as they are shown. They are found first; the tree is then
+/// made over the whole list.
+pub fn sequential(alloc: Global, program: &Program, shown: &Shown) -> Result<SeqTable, SolveFault>
+    ensures question { IfOk result (λ table. table.question ≡ asked program.now shown.now) }
+    ensures table { IfOk result IsTable }
+    ensures fault { IfErr result (λ fault. fault ≡ SolveFault.OutOfMemory) }
+{
+    // For the proof alone: what holds of every program is known where its threads are read.
+    let _ = program.threads();
+    let found = explore_all(alloc, program, shown, Mode::Sequential)?;
+    let tree = cover_sequential(alloc, program, shown, &found.outcomes)?;
+    Ok(SeqTable {
+        program: program.copy()?,
+        shown: *shown,
+        outcomes: found.outcomes,
+        runs: found.runs,
+        tree,
+    })
+}
+
+/// A tree over all sequential outcomes.
+fn cover_sequential(
+    alloc: Global,
+    program: &Program,
+    shown: &Shown,
+    outcomes: &[Outcome],
+) -> Result<CoverTree, AllocError>
+    requires { IsListOf (asked program.now shown.now) outcomes.now }
+    ensures { IfOk result (λ tree. IsWholeCover (asked program.now shown.now) Sequential outcomes.now (cover tree)) }
+{
+    match cover_all(alloc, program, shown, Mode::Sequential, outcomes) {
+        Ok(tree) => Ok(tree),
+        Err(Stop::OutOfMemory) => Err(AllocError),
+        Err(Stop::New(_)) => unreachable!(),
+    }
+}
+
+impl SeqTable {
+    /// The program.
+    pub fn program(&self) -> &Program
+        ensures value { result.now ≡ self.now.question.program }
+        ensures table { IsTable self.now }
+    {
+        &self.program
+    }
+
+    /// What is shown of the outcomes.
+    pub fn shown(&self) -> &Shown
+        ensures { result.now ≡ self.now.question.shown }
+    {
+        &self.shown
+    }
+
+    /// The outcomes, ascending.
+    pub fn outcomes(&self) -> &[Outcome]
+        ensures { result.now ≡ self.now.outcomes }
+    {
+        &self.outcomes
+    }
+
+    /// A run of each outcome, in the order of the outcomes.
+    pub fn runs(&self) -> &[Vec<Label>]
+        ensures { labels_of result.now ≡ self.now.runs }
+    {
+        &self.runs
+    }
+
+    /// A tree that shows that there are no other sequential outcomes. Its numbers are those of the
+    /// outcomes.
+    pub fn tree(&self) -> &CoverTree
+        ensures { cover result.now ≡ self.now.tree }
+    {
+        &self.tree
+    }
+
+    /// Whether an outcome is sequential.
+    pub(crate) fn has(&self, outcome: &Outcome) -> bool
+        ensures { IsTrue result ↔ IsSequentialOutcome self.now.question outcome.now }
+    {
+        place_of(&self.outcomes, outcome).is_ok()
+    }
+}
