@@ -9,7 +9,7 @@ use Rattle.program_streams.specs.declared.files.TheConstants.{TEXT_LIMIT}
 use Rattle.fencer_words.specs.CommandLines.{IsNoCommand}
 use Rattle.program_streams.specs.Streams.{IsReadFault, TakesOfLine}
 use Rattle.program_streams.specs.Words.{IsUtf8Refusal}
-use Rattle.fencer.specs.Replays.{HasTooLongLine, IsReply, IsReplyToInput, IsOutput, no_command}
+use Rattle.fencer.specs.Answers.{HasTooLongLine, IsReply, IsReplyToInput, IsOutput, no_command}
 
 not_zero : (n : ℕ) → (suc n == 0) ≡ true → ⊥
 not_zero n e = grind (arith, nat_tests)

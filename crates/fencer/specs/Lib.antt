@@ -1,2 +1,7 @@
 pub mod Lines
+pub mod Machines
+pub mod Refusals
+pub mod TextAnswers
 pub mod Replays
+pub mod Outcomes
+pub mod Answers

@@ -3,19 +3,19 @@
 ghost use Rattle.std.specs.Prelude.{IfOk, map, string_bytes};
 ghost use Rattle.program_streams.specs.Streams.{Prints};
 ghost use Rattle.fencer.specs.Lines.{EndsLine};
-ghost use Rattle.fencer.specs.Replays.{run_text, IsReplay, IsAnswer, IsReply, IsOutput};
+ghost use Rattle.fencer.specs.Answers.{IsAnswer, IsReply, IsOutput};
 
-use crate::answer::{refusal_line, replay_lines};
+use crate::outcomes::run_outcomes;
+use crate::replays::run_replay;
 use clap::Error;
 use clap::error::ErrorKind;
 use fencer_words::{Job, read_words};
 use program_streams::{
-    FileStore, LineFault, TEXT_LIMIT, line_words, named_bytes, read_line_up_to, refuse_words, say,
+    FileStore, LineFault, TEXT_LIMIT, line_words, read_line_up_to, refuse_words, say,
 };
 use report::file_line;
 use std::alloc::{AllocError, Global};
 use std::io::{Read, Write};
-use tso_machine::Model;
 
 /// What `clap` tells of words that are no command: why, or the help that they call for.
 fn error_text(alloc: Global, error: &Error) -> Result<Vec<u8>, AllocError>
@@ -25,28 +25,6 @@ fn error_text(alloc: Global, error: &Error) -> Result<Vec<u8>, AllocError>
     let mut text = Vec::from_slice(alloc, told.trim_end().as_bytes())?;
     text.push(b'\n')?;
     Ok(text)
-}
-
-/// Replays label words on the program of a litmus file, tells the answer, and answers the status.
-fn run_replay<S: FileStore, R: Read, W: Write>(
-    alloc: Global,
-    files: &S,
-    model: Model,
-    litmus: &str,
-    labels: &[String],
-    input: &mut R,
-    output: &mut W,
-) -> u8
-    ensures { Prints (IsReplay model litmus.now (run_text labels.now) (R.remaining input.old) (S.held files.now)) (W.contents output.old) (W.contents output.new) result }
-{
-    let bytes = match named_bytes(alloc, files, litmus, input, TEXT_LIMIT) {
-        Ok(bytes) => bytes,
-        Err(fault) => return say(output, file_line(alloc, fault), 1),
-    };
-    match replay_lines(alloc, &bytes, model, labels) {
-        Ok(lines) => say(output, Ok(lines), 0),
-        Err(refusal) => say(output, refusal_line(alloc, refusal), 1),
-    }
 }
 
 /// Does a job, and answers the status.
@@ -70,6 +48,19 @@ fn run_job<S: FileStore, R: Read, W: Write>(
             *model,
             litmus.as_str(),
             labels.as_slice(),
+            input,
+            output,
+        ),
+        Job::Outcomes {
+            model,
+            observed,
+            litmus,
+        } => run_outcomes(
+            alloc,
+            files,
+            *model,
+            *observed,
+            litmus.as_str(),
             input,
             output,
         ),

@@ -1,8 +1,10 @@
 //! The program `fencer`.
 #![tactic(auto)]
 
-mod answer;
 mod command;
+mod outcomes;
+mod refusals;
+mod replays;
 
 use program_streams::SystemFiles;
 use std::process::ExitCode;

@@ -1,10 +1,9 @@
--- Words in which `clap` finds no fault name the subcommand.
-use Rattle.std.proofs.Common.{◌≡◌, ◌&&◌, ◌⊎◌, ◌∙◌, Bool, true, false, not, List, [], ◌∷◌, Option, Some, None, is_some, option_map, refl, sym, ap, subst, inl, inr}
-use Rattle.std.specs.Prelude.{codes, Box}
-use Rattle.std.specs.Box.{box_value}
+-- Words in which `clap` finds no fault name a command.
+use Rattle.std.proofs.Common.{◌≡◌, ◌&&◌, ◌⊎◌, ◌∙◌, Bool, true, false, not, List, [], ◌∷◌, Option, Some, None, Contains, find, is_some, map, option_map, refl, sym, ap, subst, inl, inr}
 use Rattle.std.specs.List.{list_any}
-use Rattle.clap.specs.Words.{App, Row, Shape, Text, fault_of, is_simple, is_simple_and_free, kind_of, subcommand_name_of, subcommand_of, subcommand_rows, subcommand_rows_of, HasKind, HasMatchesOf, IsAmong, Kinds}
-use Rattle.clap.specs.Simple.{built, built_leaf, inherited, entered, label_of, names_of, rows_at, argument_words}
+use Rattle.std.proofs.lemmas.List.Elements.{Contains-append_left, Contains-append_right, Contains-push}
+use Rattle.clap.specs.Words.{App, Row, Shape, Text, fault_of, is_simple, is_simple_and_free, kind_of, subcommand_of, subcommand_rows_of, HasKind, HasMatchesOf, IsAmong, Kinds}
+use Rattle.clap.specs.Simple.{built, entered, label_of, names_of, rows_at, argument_words}
 use Rattle.clap.specs.Walk.{answers_to, finished, settled, walk, walk_from, Held, nothing_held}
 use Rattle.clap.specs.Facts.{explicit_source}
 use Rattle.clap.specs.Kinds.{check_kinds, or_else}
@@ -12,11 +11,9 @@ use Rattle.clap.specs.Takes.{is_given}
 use Rattle.clap.specs.Faults.{built_fault, walk_fault, entered_fault, settle_fault, defaults_fault, check_fault}
 use Rattle.clap.specs.declared.error.Error.{Error}
 use Rattle.clap.specs.declared.error.kind.ErrorKind.TheVariants.{OutOfMemory}
-use Rattle.clap.specs.declared.builder.value_parser.ValueParser.{ValueParser}
 use Rattle.clap.specs.declared.parser.matches.ArgMatches.{ArgMatches}
-use Rattle.clap.specs.declared.parser.matches.SubCommand.{SubCommand}
-use Rattle.clap.specs.declared.parser.matches.ArgMatches.TheViews.{out-ArgMatches, out-SubCommand}
-use Rattle.fencer_words.specs.CommandLines.{fencer_app, replay_app, IsModelParser, IsNoCommand, faulty}
+use Rattle.fencer_words.specs.CommandLines.{Names, AreModels, command_names, fencer_app, IsNoCommand, faulty}
+use Rattle.fencer_words.specs.Commands.{MeetsNoCommand}
 
 -- where neither of two has a fault, the second has none
 second : (a b : Kinds) → or_else a b ≡ [] → b ≡ []
@@ -59,61 +56,64 @@ module _ (a : App) (h : Held) (words : List Text) where
 pub true_is_false : true ≡ false → ⊥
 true_is_false e = cc
 
-abbrev one : Shape → Shape → App
-one top s = record { top = top; subs = s ∷ [] }
+-- a subcommand that is found is one of them
+abbrev FoundAmong : (Shape → Bool) → List Shape → Type 0
+FoundAmong test subs = is_some (find test subs) ≡ true → (s : Shape) × Contains (map (λ (s : Shape). s.name) subs) s.name × (find test subs ≡ Some s)
 
--- where there is one subcommand, it is the one that is entered
-only_one : (top s : Shape) (stop : Option (Text × List Text)) → is_some (entered (one top s) stop) ≡ true → (rows : List Row) × (entered (one top s) stop ≡ Some (s.name, rows))
-only_one top s None some = absurd cc
-only_one top s (Some p) some = go (answers_to p.0 (label_of s)) refl some
+found_next : (test : Shape → Bool) (s : Shape) (subs : List Shape) → FoundAmong test subs → (b : Bool) → test s ≡ b → FoundAmong test (s ∷ subs)
+found_next test s subs rest true e some = (s, Contains-append_left (s.name ∷ []) (map (λ (s : Shape). s.name) subs) s.name (Contains-push [] s.name), rw e refl)
+found_next test s subs rest false e some =
+    let same : find test (s ∷ subs) ≡ find test subs = rw e refl in
+    let found = rest (subst (λ (o : Option Shape). is_some o ≡ true) same some) in
+    (found.0, Contains-append_right (s.name ∷ []) (map (λ (s : Shape). s.name) subs) found.0.name found.1, same ∙ found.2)
+
+found_among : (test : Shape → Bool) (subs : List Shape) → FoundAmong test subs
+found_among test [] some = absurd cc
+found_among test (s ∷ subs) some = found_next test s subs (found_among test subs) (test s) refl some
+
+-- a command that is entered is one of them
+entered_among : (a : App) (stop : Option (Text × List Text)) → is_some (entered a stop) ≡ true
+    → (name : Text) × (rows : List Row) × Contains (map (λ (s : Shape). s.name) a.subs) name × (entered a stop ≡ Some (name, rows))
+entered_among a None some = absurd cc
+entered_among a (Some p) some =
+    let one = found_among (λ s. answers_to p.0 (label_of s)) a.subs (found_is (find (λ s. answers_to p.0 (label_of s)) a.subs) some) in
+    (one.0.name, (rows_at one.0 p.1).1, one.1, ap (λ (s : Option Shape). option_map (λ s. rows_at s p.1) s) one.2)
   where
-    go : (b : Bool) → answers_to p.0 (label_of s) ≡ b → is_some (entered (one top s) (Some p)) ≡ true → (rows : List Row) × (entered (one top s) (Some p) ≡ Some (s.name, rows))
-    go true e some = ((rows_at s p.1).1, rw e refl)
-    go false e some = absurd (let none : is_some (entered (one top s) (Some p)) ≡ false = rw e refl in true_is_false (sym some ∙ none))
+    found_is : (s : Option Shape) → is_some (option_map (λ s. rows_at s p.1) s) ≡ true → is_some s ≡ true
+    found_is None none = absurd cc
+    found_is (Some s) some = refl
 
--- the subcommand as it is built
-abbrev leaf : ValueParser → Shape
-leaf models = built_leaf (inherited (fencer_app models).top (replay_app models).top)
-
--- the words name `replay`
-names_replay : (models : ValueParser) (words : List Text) → fault_of (fencer_app models) words ≡ []
-    → (rows : List Row) × (subcommand_of (fencer_app models) words ≡ Some (codes "replay", rows))
-names_replay models words none =
-    only_one (built (fencer_app models)).top (leaf models) (stop (built (fencer_app models)) nothing_held (argument_words (fencer_app models) words))
+-- words without a fault name a command
+names_command : (models : Names) (words : List Text) → fault_of (fencer_app models) words ≡ []
+    → (name : Text) × (rows : List Row) × Contains command_names name × (subcommand_of (fencer_app models) words ≡ Some (name, rows))
+names_command models words none =
+    entered_among (built (fencer_app models)) (stop (built (fencer_app models)) nothing_held (argument_words (fencer_app models) words))
     (enters (built (fencer_app models)) nothing_held (argument_words (fencer_app models) words) refl none)
 
 -- where `clap` fails, memory was wanting or the words are no command
-pub no_command : (app : App) (models : ValueParser) (words : List Text) (error : Error) → IsModelParser models → app ≡ fencer_app models → (is_simple_and_free app ≡ true → HasKind (fault_of app words) error)
+pub no_command : (app : App) (models : Names) (words : List Text) (error : Error) → AreModels models → app ≡ fencer_app models → (is_simple_and_free app ≡ true → HasKind (fault_of app words) error)
     → (kind_of error ≡ OutOfMemory) ⊎ IsNoCommand words
-no_command app models words error are_names is kinds =
+no_command app models words error are_models is kinds =
     elim (subst (λ (a : App). HasKind (fault_of a words) error) is (kinds (rw is refl))) [
       | inl memory ↦ inl memory
-      | inr among ↦ inr (faulty models are_names (λ none. subst (IsAmong (kind_of error)) none among))
+      | inr among ↦ inr (faulty models are_models (λ none. subst (IsAmong (kind_of error)) none among))
     ]
 
 -- where it succeeds, there is no fault
-pub no_fault : (app : App) (models : ValueParser) (words : List Text) → app ≡ fencer_app models → (is_simple_and_free app ≡ true → fault_of app words ≡ []) → fault_of (fencer_app models) words ≡ []
+pub no_fault : (app : App) (models : Names) (words : List Text) → app ≡ fencer_app models → (is_simple_and_free app ≡ true → fault_of app words ≡ []) → fault_of (fencer_app models) words ≡ []
 no_fault app models words is none = subst (λ (a : App). fault_of a words ≡ []) is (none (rw is refl))
 
-name_of : {Z : Type 0} (inner : Option (Box SubCommand Z)) (name : Text) (rows : List Row) → subcommand_rows inner ≡ Some (name, rows) → option_map (λ b. (out-SubCommand (box_value b)).name.now) inner ≡ Some name
-name_of None name rows is = absurd cc
-name_of (Some b) name rows is = ap (option_map (λ (p : Text × List Row). p.0)) is
-
-simple : (app : App) (models : ValueParser) → app ≡ fencer_app models → is_simple app ≡ true
+simple : (app : App) (models : Names) → app ≡ fencer_app models → is_simple app ≡ true
 simple app models is = subst (λ (a : App). is_simple a ≡ true) (sym is) refl
 
--- and its matches are those of `replay`
-module _ (app : App) (models : ValueParser) (words : List Text) (m : ArgMatches) (is : app ≡ fencer_app models) (none : fault_of (fencer_app models) words ≡ []) (matches : HasMatchesOf app words m) where
-  abbrev named : List Row
-  named = (names_replay models words none).0
+-- and its matches are those of a command
+module _ (app : App) (models : Names) (words : List Text) (m : ArgMatches) (is : app ≡ fencer_app models) (none : fault_of (fencer_app models) words ≡ []) (matches : HasMatchesOf app words m) where
+  matched : subcommand_rows_of m ≡ subcommand_of (fencer_app models) words
+  matched = (matches (simple app models is)).1 ∙ ap (λ (a : App). subcommand_of a words) is
 
-  found : subcommand_rows_of m ≡ Some (codes "replay", named)
-  found = (matches (simple app models is)).1 ∙ ap (λ (a : App). subcommand_of a words) is ∙ (names_replay models words none).1
+  -- by its name and its rows
+  pub reads : (name : Text) (rows : List Row) → subcommand_rows_of m ≡ Some (name, rows) → subcommand_of (fencer_app models) words ≡ Some (name, rows)
+  reads name rows found = sym matched ∙ found
 
-  pub reads : (rows : List Row) → option_map (λ p. p.1) (subcommand_rows_of m) ≡ Some rows → subcommand_of (fencer_app models) words ≡ Some (codes "replay", rows)
-  reads rows rows_are =
-      let same : Some named ≡ Some rows = sym (ap (option_map (λ (p : Text × List Row). p.1)) found) ∙ rows_are in
-      (names_replay models words none).1 ∙ ap (option_map (λ (r : List Row). (codes "replay", r))) same
-
-  pub names : subcommand_name_of m ≡ Some (codes "replay")
-  names = name_of (out-ArgMatches m).subcommand (codes "replay") named found
+  pub meets_one : MeetsNoCommand m → ⊥
+  meets_one none_met = let one = names_command models words none in none_met one.0 one.1 (matched ∙ one.3) one.2

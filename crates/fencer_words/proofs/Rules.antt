@@ -8,18 +8,19 @@ use Rattle.clap.specs.Simple.{app_of_fields, on_top}
 use Rattle.clap.specs.declared.builder.command.Command.{Command}
 use Rattle.clap.specs.declared.builder.command.Command.TheOpen.{Command-F}
 use Rattle.clap.specs.declared.builder.command.Command.TheViews.{out-Command}
-use Rattle.clap.specs.declared.builder.action.ArgAction.TheVariants.{Append}
+use Rattle.clap.specs.declared.builder.action.ArgAction.TheVariants.{Append, SetTrue}
 use Rattle.clap.specs.declared.builder.arg.Arg.{Arg}
 use Rattle.clap.specs.declared.builder.range.ValueRange.{ValueRange}
 use Rattle.clap.specs.declared.builder.texts.Texts.TheVariants.{One}
 use Rattle.clap.specs.declared.builder.value_parser.ValueParser.{ValueParser}
-use Rattle.fencer_words.specs.CommandLines.{model_rule, label_rule}
+use Rattle.clap.specs.declared.builder.value_parser.ValueParser.TheVariants as parser
+use Rattle.fencer_words.specs.CommandLines.{Names, model_rule, label_rule, observed_rule}
 
 -- an argument with a long name, a parser and a default value
-pub model_rule_of : (new long parsed done : Arg) (name value : Bor Text) (models : ValueParser)
+pub model_rule_of : (new long parsed done : Arg) (name value : Bor Text) (models : Names)
     → rule_of new ≡ new_rule (codes "model")
     → long ≡ record new { long = Some name } → name.now ≡ codes "model"
-    → parsed ≡ record long { value_parser = parsed.value_parser } → parsed.value_parser ≡ Some models
+    → parsed ≡ record long { value_parser = parsed.value_parser } → parsed.value_parser ≡ Some (parser.Names models)
     → done ≡ record parsed { default_vals = One value } → value.now ≡ codes "buffered"
     → rule_of done ≡ model_rule models
 model_rule_of new long parsed done name value models new_is long_is name_is parsed_is models_is done_is value_is =
@@ -43,6 +44,17 @@ label_rule_of new ranged done new_is ranged_is range_is done_is =
     ∙ ap (λ (r : Rule). let s : Rule = record r { action = Some Append } in s)
     (ap (λ (a : Arg). rule_of a) ranged_is
     ∙ ap₂ (λ (r : Rule) (v : Option ValueRange). let s : Rule = record r { range = v } in s) new_is range_is)
+
+-- an argument with a long name and an action
+pub observed_rule_of : (new long done : Arg) (name : Bor Text) → rule_of new ≡ new_rule (codes "observed")
+    → long ≡ record new { long = Some name } → name.now ≡ codes "observed"
+    → done ≡ record long { action = Some SetTrue }
+    → rule_of done ≡ observed_rule
+observed_rule_of new long done name new_is long_is name_is done_is =
+    ap (λ (a : Arg). rule_of a) done_is
+    ∙ ap (λ (r : Rule). let s : Rule = record r { action = Some SetTrue } in s)
+    (ap (λ (a : Arg). rule_of a) long_is
+    ∙ ap₂ (λ (r : Rule) (t : Text). let s : Rule = record r { long = Some t } in s) new_is name_is)
 
 pub neither : (a b c : Bool) → c ≡ (a || b) → a ≡ false → b ≡ false → c ≡ false
 neither a b c is no_a no_b = is ∙ ap₂ (λ (x y : Bool). x || y) no_a no_b

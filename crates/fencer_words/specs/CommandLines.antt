@@ -1,33 +1,36 @@
 -- What command lines ask for. `clap` reads them: its `subcommand_of` gives the subcommand that words name, with the rows
 -- of its values.
-use Rattle.std.specs.Prelude.{◌≡◌, ◌≢◌, true, List, [], ◌∷◌, Option, Some, None, Contains, codes, map, string_bytes, unwrap_or, if◌then◌else◌}
+use Rattle.std.specs.Prelude.{◌≡◌, ◌≢◌, Bool, true, false, List, [], ◌∷◌, Some, Contains, codes, map, string_bytes, unwrap_or, if◌then◌else◌}
+use Rattle.std.specs.Option.{option_map_or}
 use Rattle.std.specs.Str.{IsUtf8, bytes_eq}
 use Rattle.std.specs.Borrow.{Bor}
 use Rattle.clap.specs.Lexer.{usize_max}
 use Rattle.clap.specs.Words.{App, Row, Rule, Text, all_of, fault_of, first_of, new_app, new_rule, subcommand_of, with_rule, with_subcommand}
 use Rattle.clap.specs.Simple.{on_top}
-use Rattle.clap.specs.declared.builder.action.ArgAction.TheVariants.{Append}
-use Rattle.clap.specs.declared.builder.value_parser.ValueParser.{ValueParser}
+use Rattle.clap.specs.declared.builder.action.ArgAction.TheVariants.{Append, SetTrue}
 use Rattle.clap.specs.declared.builder.value_parser.ValueParser.TheVariants as parser
 use Rattle.tso_machine.specs.declared.label.Model.{Model}
 use Rattle.tso_machine.specs.declared.label.Model.TheVariants.{Buffered, Sequential}
-use Rattle.fencer_words.specs.declared.words.Job.{Job}
-use Rattle.fencer_words.specs.declared.words.Job.TheVariants.{Replay}
+use Rattle.fencer_words.specs.declared.job.Job.{Job}
+use Rattle.fencer_words.specs.declared.job.Job.TheVariants.{Replay, Outcomes}
 
--- a value is one of the names of the two models
-pub data IsModelParser : ValueParser → Type 0 where
-  names : (these : Bor (List (Bor Text))) → map (λ (name : Bor Text). name.now) these.now ≡ codes "buffered" ∷ codes "sequential" ∷ [] → IsModelParser (parser.Names these)
+-- ---- arguments
+
+-- names among which a value is chosen, as `clap` keeps them
+abbrev pub Names : Type 0
+Names = Bor (List (Bor Text))
+
+-- the names of the two models
+abbrev pub AreModels : Names → Type 0
+AreModels names = map (λ (name : Bor Text). name.now) names.now ≡ codes "buffered" ∷ codes "sequential" ∷ []
 
 -- `--model MODEL`
-abbrev pub model_rule : ValueParser → Rule
+abbrev pub model_rule : Names → Rule
 model_rule models = record (new_rule (codes "model")) {
   long = Some (codes "model");
-  parser = Some models;
+  parser = Some (parser.Names models);
   defaults = codes "buffered" ∷ [];
 }
-
-abbrev pub IsModelRule : Rule → Type 0
-IsModelRule rule = (models : ValueParser) × IsModelParser models × (rule ≡ model_rule models)
 
 -- `LITMUS`
 abbrev pub litmus_rule : Rule
@@ -40,37 +43,83 @@ label_rule = record (new_rule (codes "label")) {
   range = Some (record { start_inclusive = 0; end_inclusive = usize_max });
 }
 
+-- `--observed`
+abbrev pub observed_rule : Rule
+observed_rule = record (new_rule (codes "observed")) {
+  long = Some (codes "observed");
+  action = Some SetTrue;
+}
+
+-- ---- commands
+
 -- `replay [--model MODEL] LITMUS [LABEL..]`
-abbrev pub replay_app : ValueParser → App
+abbrev pub replay_app : Names → App
 replay_app models = with_rule (with_rule (with_rule (new_app (codes "replay")) (model_rule models)) litmus_rule) label_rule
 
+-- `outcomes [--model MODEL] [--observed] LITMUS`
+abbrev pub outcomes_app : Names → App
+outcomes_app models = with_rule (with_rule (with_rule (new_app (codes "outcomes")) (model_rule models)) observed_rule) litmus_rule
+
+-- a command line is one of these commands, and nothing before it
+abbrev pub commands_app : App
+commands_app = on_top (λ s. record s { no_binary_name = true; subcommand_required = true; disable_help_subcommand = true }) (new_app (codes "fencer"))
+
 -- the program's whole command line, after its name
-abbrev pub fencer_app : ValueParser → App
-fencer_app models =
-    with_subcommand (on_top (λ s. record s { no_binary_name = true; subcommand_required = true; disable_help_subcommand = true }) (new_app (codes "fencer"))) (replay_app models).top
+abbrev pub fencer_app : Names → App
+fencer_app models = with_subcommand (with_subcommand commands_app (replay_app models).top) (outcomes_app models).top
 
--- the model of this name
-abbrev pub model_named : Option Text → Model
-model_named None = Buffered
-model_named (Some name) = if bytes_eq name (codes "sequential") then Sequential else Buffered
+-- the names of the commands
+abbrev pub command_names : List Text
+command_names = codes "replay" ∷ codes "outcomes" ∷ []
 
--- the rows are those of a job
-abbrev pub AreRowsOf : Job → List Row → Type 0
-AreRowsOf (Replay model litmus labels) rows =
-    (model ≡ model_named (first_of (codes "model") rows))
-    × (string_bytes litmus ≡ unwrap_or (first_of (codes "litmus") rows) [])
-    × (map string_bytes labels.items ≡ unwrap_or (all_of (codes "label") rows) [])
+-- ---- values
+
+-- the value of an argument that must be given
+abbrev pub text_in : Text → List Row → Text
+text_in argument rows = unwrap_or (first_of argument rows) []
+
+-- all values of an argument
+abbrev pub texts_in : Text → List Row → List Text
+texts_in argument rows = unwrap_or (all_of argument rows) []
+
+-- whether an argument has this value
+abbrev pub has_value : Text → Text → List Row → Bool
+has_value argument wanted rows = option_map_or (λ value. bytes_eq value wanted) (first_of argument rows) false
+
+-- whether a flag is given: its value is then `true`, and `false` otherwise
+abbrev pub is_flagged : Text → List Row → Bool
+is_flagged flag rows = has_value flag (codes "true") rows
+
+-- the model that is named
+abbrev pub model_in : List Row → Model
+model_in rows = if has_value (codes "model") (codes "sequential") rows then Sequential else Buffered
+
+-- ---- jobs
+
+-- the job that the command of this name asks for, by the rows of its values
+abbrev pub IsJobOf : Text → List Row → Job → Type 0
+IsJobOf name rows (Replay model litmus labels) =
+    (name ≡ codes "replay")
+    × (model ≡ model_in rows)
+    × (string_bytes litmus ≡ text_in (codes "litmus") rows)
+    × (map string_bytes labels.items ≡ texts_in (codes "label") rows)
+IsJobOf name rows (Outcomes model observed litmus) =
+    (name ≡ codes "outcomes")
+    × (model ≡ model_in rows)
+    × (observed ≡ is_flagged (codes "observed") rows)
+    × (string_bytes litmus ≡ text_in (codes "litmus") rows)
 
 -- the words after the program's name ask for the job: `clap` finds no fault in them
 pub record AsksFor (words : List Text) (job : Job) : Type 0 where
-  pub models : ValueParser
-  pub are_names : IsModelParser models
+  pub models : Names
+  pub are_models : AreModels models
+  pub name : Text
   pub rows : List Row
   pub no_fault : fault_of (fencer_app models) words ≡ []
-  pub read : subcommand_of (fencer_app models) words ≡ Some (codes "replay", rows)
-  pub asked : AreRowsOf job rows
+  pub read : subcommand_of (fencer_app models) words ≡ Some (name, rows)
+  pub asked : IsJobOf name rows job
 
 -- the words are no command: one of them is no UTF-8, or `clap` finds a fault in them, as which it takes a call for help
 pub data IsNoCommand (words : List Text) : Type 0 where
   no_utf8 : (word : Text) → Contains words word → (IsUtf8 word → ⊥) → IsNoCommand words
-  faulty : (models : ValueParser) → IsModelParser models → fault_of (fencer_app models) words ≢ [] → IsNoCommand words
+  faulty : (models : Names) → AreModels models → fault_of (fencer_app models) words ≢ [] → IsNoCommand words

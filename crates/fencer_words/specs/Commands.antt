@@ -1,20 +1,30 @@
 -- The commands that are built for `clap`.
-use Rattle.std.specs.Prelude.{◌≡◌, false}
-use Rattle.clap.specs.Words.{App, app_of}
+use Rattle.std.specs.Prelude.{◌≡◌, false, List, Contains, Some}
+use Rattle.clap.specs.Words.{App, Row, Text, app_of, subcommand_rows_of}
 use Rattle.clap.specs.declared.builder.command.Command.{Command}
 use Rattle.clap.specs.declared.builder.command.Command.TheViews.{out-Command}
-use Rattle.clap.specs.declared.builder.value_parser.ValueParser.{ValueParser}
-use Rattle.fencer_words.specs.CommandLines.{IsModelParser, replay_app, fencer_app}
+use Rattle.clap.specs.declared.parser.matches.ArgMatches.{ArgMatches}
+use Rattle.fencer_words.specs.declared.job.Job.{Job}
+use Rattle.fencer_words.specs.CommandLines.{Names, AreModels, IsJobOf, command_names, fencer_app}
 
--- the command is one of these, for the names of the models, and has no argument that its subcommands share
-pub record IsBuiltAs (app : ValueParser → App) (command : Command) : Type 0 where
-  pub models : ValueParser
-  pub are_names : IsModelParser models
-  pub shape : app_of command ≡ app models
+-- the command is this one, and has no argument that its subcommands share
+pub record IsBuiltAs (app : App) (command : Command) : Type 0 where
+  pub shape : app_of command ≡ app
   pub no_globals : (out-Command command).has_globals ≡ false
 
-abbrev pub IsReplayCommand : Command → Type 0
-IsReplayCommand command = IsBuiltAs replay_app command
+-- the command is the program's whole command line, with the names of the models
+pub record IsFencerCommand (command : Command) : Type 0 where
+  pub models : Names
+  pub are_models : AreModels models
+  pub built : IsBuiltAs (fencer_app models) command
 
-abbrev pub IsFencerCommand : Command → Type 0
-IsFencerCommand command = IsBuiltAs fencer_app command
+-- the parse met a subcommand, and the job is its job
+pub record IsJobMet (matches : ArgMatches) (job : Job) : Type 0 where
+  pub name : Text
+  pub rows : List Row
+  pub met : subcommand_rows_of matches ≡ Some (name, rows)
+  pub asked : IsJobOf name rows job
+
+-- the parse met none of the commands
+abbrev pub MeetsNoCommand : ArgMatches → Type 0
+MeetsNoCommand matches = (name : Text) (rows : List Row) → subcommand_rows_of matches ≡ Some (name, rows) → Contains command_names name → ⊥

@@ -1,6 +1,11 @@
 //! The command lines of `fencer`.
 #![tactic(auto)]
 
+mod arguments;
+mod job;
+mod outcomes;
+mod replay;
 mod words;
 
-pub use words::{Job, read_words};
+pub use job::Job;
+pub use words::read_words;

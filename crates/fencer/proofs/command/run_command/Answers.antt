@@ -3,7 +3,7 @@ use Rattle.std.specs.Prelude.{string_bytes}
 use Rattle.report.specs.Faults.{file_line}
 use Rattle.program_streams.specs.Words.{words_of, IsUtf8Refusal}
 use Rattle.fencer_words.specs.CommandLines.{no_utf8}
-use Rattle.fencer.specs.Replays.{IsReply, IsOutput, by_line, no_line}
+use Rattle.fencer.specs.Answers.{IsReply, IsOutput, by_line, no_line}
 use Rattle.program_streams.proofs.Printed.{prints_line, prints_more, prints_nothing}
 use Rattle.fencer.proofs.Served.{of_words, of_input, line_fault, utf8_reply}
 use Rattle.fencer.proofs.command.run_command.Goals as goal

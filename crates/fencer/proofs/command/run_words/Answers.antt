@@ -1,7 +1,7 @@
 use Rattle.std.proofs.Common.{◌∙◌, map}
 use Rattle.std.specs.Prelude.{string_bytes}
 use Rattle.std.proofs.lemmas.Result.{IfOk-weaker}
-use Rattle.fencer.specs.Replays.{answer, no_command, IsAnswer, IsReply}
+use Rattle.fencer.specs.Answers.{answer, no_command, IsAnswer, IsReply}
 use Rattle.program_streams.proofs.Printed.{prints_made, prints_more, prints_nothing}
 use Rattle.fencer.proofs.Served.{other}
 use Rattle.fencer.proofs.command.run_words.Goals as goal

@@ -1,7 +1,0 @@
-use Rattle.std.proofs.Common.{◌≡◌, take}
-use Rattle.fencer.specs.Replays.{run_text}
-use Rattle.fencer.proofs.answer.run_text.Given as goal
-
--- the words so far are written
-abbrev pub invariant-loop-word : goal.invariant-loop-word
-invariant-loop-word l = l.text.items ≡ run_text (take l.word-index l.words)

@@ -1,0 +1,34 @@
+-- Why there is no answer, and how an answer is told.
+use Rattle.std.specs.Prelude.{◌≡◌, ℕ, List, Result, Ok, Err, codes}
+use Rattle.std.specs.Global.{Vec}
+use Rattle.tso_program.specs.declared.listing.Listing.{Listing}
+use Rattle.litmus_text.specs.declared.litmus.Litmus.{Litmus}
+use Rattle.litmus_text.specs.declared.fault.ReadFault.{ReadFault}
+use Rattle.litmus_text.specs.declared.fault.ReadFault.TheVariants as read_fault
+use Rattle.litmus_text.specs.Texts.{IsLitmus, Refuses}
+use Rattle.cover_solver.specs.declared.fault.SolveFault.{SolveFault}
+use Rattle.cover_solver.specs.declared.fault.SolveFault.TheVariants as solve
+use Rattle.report.specs.Faults.{refused, litmus_line, replay_line, run_line}
+use Rattle.fencer.specs.declared.refusals.Refusal.{Refusal}
+use Rattle.fencer.specs.declared.refusals.Refusal.TheVariants as refusal
+
+-- why bytes are no litmus text: what the fault says of them, and that they are none, want of memory aside
+pub record IsNoLitmus (bytes : List ℕ) (fault : ReadFault) : Type 0 where
+  pub why : Refuses bytes fault
+  pub none : (litmus : Litmus Listing) → IsLitmus bytes litmus → fault ≡ read_fault.OutOfMemory
+
+abbrev pub solve_line : SolveFault → List ℕ
+solve_line solve.NoRun = refused (codes "solve 1 NoRun")
+solve_line solve.OutOfMemory = refused (codes "solve 2 OutOfMemory")
+
+-- the line of a refusal
+abbrev pub refusal_line : Refusal → List ℕ
+refusal_line (refusal.Litmus fault) = litmus_line fault
+refusal_line (refusal.Run fault) = run_line fault
+refusal_line (refusal.Replay fault) = replay_line fault
+refusal_line (refusal.Solve fault) = solve_line fault
+
+-- what is told, with its status: the lines of an answer, or the line of a refusal
+abbrev pub IsTold : Result (Vec ℕ) Refusal → ℕ → List ℕ → Type 0
+IsTold (Ok lines) status text = (status ≡ 0) × (text ≡ lines.items)
+IsTold (Err why) status text = (status ≡ 1) × (text ≡ refusal_line why)

@@ -1,0 +1,91 @@
+//! Why there is no answer, and how an answer is told.
+
+ghost use Rattle.std.specs.Prelude.{◌≡◌, IfOk};
+ghost use Rattle.program_streams.specs.Streams.{Prints};
+ghost use Rattle.fencer.specs.declared.refusals.Refusal.TheVariants as refusal;
+ghost use Rattle.fencer.specs.Refusals.{refusal_line, solve_line, IsTold};
+
+use cover_solver::SolveFault;
+use litmus_text::ReadFault;
+use program_streams::say;
+use report::{litmus_line, replay_line, run_line};
+use std::alloc::{AllocError, Global};
+use std::io::Write;
+use tso_machine::{ReplayFault, RunFault};
+
+/// Why there is no answer.
+#[derive(Clone, Copy, PartialEq, Eq, Debug)]
+pub enum Refusal {
+    /// The text isn't a litmus text.
+    Litmus(ReadFault),
+    /// The labels aren't those of a run.
+    Run(RunFault),
+    /// The labels aren't a run of the program.
+    Replay(ReplayFault),
+    /// The outcomes of the program aren't found.
+    Solve(SolveFault),
+}
+
+impl From<ReadFault> for Refusal {
+    ghost from_gives = { λ fault why. why ≡ refusal.Litmus fault };
+
+    fn from(fault: ReadFault) -> Refusal {
+        Refusal::Litmus(fault)
+    }
+}
+
+impl From<RunFault> for Refusal {
+    ghost from_gives = { λ fault why. why ≡ refusal.Run fault };
+
+    fn from(fault: RunFault) -> Refusal {
+        Refusal::Run(fault)
+    }
+}
+
+impl From<ReplayFault> for Refusal {
+    ghost from_gives = { λ fault why. why ≡ refusal.Replay fault };
+
+    fn from(fault: ReplayFault) -> Refusal {
+        Refusal::Replay(fault)
+    }
+}
+
+impl From<SolveFault> for Refusal {
+    ghost from_gives = { λ fault why. why ≡ refusal.Solve fault };
+
+    fn from(fault: SolveFault) -> Refusal {
+        Refusal::Solve(fault)
+    }
+}
+
+/// Why the outcomes of a program aren't found.
+fn solve_line(alloc: Global, fault: SolveFault) -> Result<Vec<u8>, AllocError>
+    ensures { IfOk result (λ line. line.items ≡ solve_line fault) }
+{
+    match fault {
+        SolveFault::NoRun => Vec::from_slice(alloc, b"refused solve 1 NoRun\n"),
+        SolveFault::OutOfMemory => Vec::from_slice(alloc, b"refused solve 2 OutOfMemory\n"),
+    }
+}
+
+/// The line of a refusal.
+fn refusal_line(alloc: Global, why: Refusal) -> Result<Vec<u8>, AllocError>
+    ensures { IfOk result (λ line. line.items ≡ refusal_line why) }
+{
+    match why {
+        Refusal::Litmus(fault) => litmus_line(alloc, fault),
+        Refusal::Run(fault) => run_line(alloc, fault),
+        Refusal::Replay(fault) => replay_line(alloc, fault),
+        Refusal::Solve(fault) => solve_line(alloc, fault),
+    }
+}
+
+/// Tells the lines of an answer, or why there is none, and answers the status.
+pub fn tell<W: Write>(alloc: Global, answer: Result<Vec<u8>, Refusal>, output: &mut W) -> u8
+    ensures { Prints (IsTold answer) (W.contents output.old) (W.contents output.new) result }
+{
+    match answer {
+        Ok(lines) => say(output, Ok(lines), 0),
+        Err(why) => say(output, refusal_line(alloc, why), 1),
+    }
+}

@@ -1,0 +1,92 @@
+//! Replays: the lines of a run, or why there is none.
+
+ghost use Rattle.std.specs.Prelude.{◌≡◌, ◌++◌, IfOk, IfErr};
+ghost use Rattle.tso_machine.specs.RunTexts.{IsRunText, RunFaultIs};
+ghost use Rattle.report.specs.Answers.{outcome_line, passed_line};
+ghost use Rattle.program_streams.specs.Streams.{Prints};
+ghost use Rattle.fencer.specs.Replays.{run_text, PrintsRun, HasNoRun, IsReplay};
+
+use crate::refusals::{Refusal, tell};
+use gap_sets::GapSet;
+use litmus_text::{Litmus, read_litmus};
+use program_streams::{FileStore, TEXT_LIMIT, named_bytes, say};
+use report::{file_line, outcome_line, passed_line};
+use std::alloc::{AllocError, Global};
+use std::io::{Read, Write};
+use tso_machine::{Ended, Label, Model, ReplayFault, RunFault, read_run, replay};
+use tso_program::{Program, Shown};
+
+/// The label words, each behind a space.
+fn run_text(alloc: Global, words: &[String]) -> Result<Vec<u8>, AllocError>
+    ensures { IfOk result (λ text. text.items ≡ run_text words.now) }
+{
+    let mut text = Vec::new(alloc);
+    for word in words {
+        text.push(b' ')?;
+        text.extend_from_slice(word.as_bytes())?;
+    }
+    Ok(text)
+}
+
+/// The steps that label words spell.
+fn steps_of(alloc: Global, words: &[String]) -> Result<Vec<Label>, RunFault>
+    ensures found { IfOk result (λ steps. IsRunText (run_text words.now) steps.items) }
+    ensures err { IfErr result (RunFaultIs (run_text words.now)) }
+{
+    match run_text(alloc, words) {
+        Ok(text) => read_run(alloc, &text),
+        Err(_) => Err(RunFault::OutOfMemory),
+    }
+}
+
+/// The outcome line and the passed line.
+fn ended_lines(
+    alloc: Global,
+    litmus: &Litmus<Program>,
+    ended: &Ended,
+) -> Result<Vec<u8>, AllocError>
+    ensures { IfOk result (λ lines. lines.items ≡ outcome_line litmus.now.names Shown.All ended.now.outcome ++ passed_line litmus.now.program ended.now.passed) }
+{
+    let mut lines = outcome_line(alloc, &litmus.names, &Shown::All, &ended.outcome)?;
+    let passed = passed_line(alloc, &litmus.program, &ended.passed)?;
+    lines.extend_from_slice(&passed)?;
+    Ok(lines)
+}
+
+/// The lines of the run that label words spell in the program that a text spells. The text is judged
+/// before the labels, and these before the replay.
+fn replay_lines(
+    alloc: Global,
+    bytes: &[u8],
+    model: Model,
+    labels: &[String],
+) -> Result<Vec<u8>, Refusal>
+    ensures run { IfOk result (λ lines. PrintsRun model (run_text labels.now) bytes.now lines.items) }
+    ensures refused { IfErr result (HasNoRun model (run_text labels.now) bytes.now) }
+{
+    let litmus = read_litmus(alloc, bytes)?;
+    let steps = steps_of(alloc, labels)?;
+    let ended = replay(alloc, &litmus.program, &GapSet::empty(), model, &steps)?;
+    match ended_lines(alloc, &litmus, &ended) {
+        Ok(lines) => Ok(lines),
+        Err(_) => Err(Refusal::Replay(ReplayFault::OutOfMemory)),
+    }
+}
+
+/// Replays label words on the program of a litmus file, tells the answer, and answers the status.
+pub fn run_replay<S: FileStore, R: Read, W: Write>(
+    alloc: Global,
+    files: &S,
+    model: Model,
+    litmus: &str,
+    labels: &[String],
+    input: &mut R,
+    output: &mut W,
+) -> u8
+    ensures { Prints (IsReplay model (run_text labels.now) litmus.now (R.remaining input.old) (S.held files.now)) (W.contents output.old) (W.contents output.new) result }
+{
+    match named_bytes(alloc, files, litmus, input, TEXT_LIMIT) {
+        Ok(bytes) => tell(alloc, replay_lines(alloc, &bytes, model, labels), output),
+        Err(fault) => say(output, file_line(alloc, fault), 1),
+    }
+}

@@ -1,9 +1,0 @@
-use Rattle.std.proofs.Common.{rules, ◌≡◌, Some}
-use Rattle.clap.specs.Lexer.{usize_max}
-use Rattle.fencer_words.proofs.Rules.{label_rule_of}
-use Rattle.fencer_words.proofs.words.label_arg.Goals as goal
-
-pub returns-clause-rule : goal.returns-clause-rule
-returns-clause-rule c =
-    let range_is : c.num_args.result.num_vals ≡ Some (record { start_inclusive = 0; end_inclusive = usize_max }) = search rules in
-    label_rule_of c.new.result c.num_args.result c.action.result c.new.ensures.rule c.num_args.ensures.0 range_is c.action.ensures

@@ -1,0 +1,87 @@
+//! Arguments, each for every command that takes it, and their values.
+
+ghost use Rattle.std.specs.Prelude.{◌≡◌, false, IfOk, codes, map, option_map, string_bytes, unwrap_or};
+ghost use Rattle.clap.specs.Words.{all_of, first_of, found_of, rows_of, rule_of};
+ghost use Rattle.fencer_words.specs.CommandLines.{model_rule, litmus_rule, observed_rule, has_value, is_flagged, model_in, text_in};
+
+use clap::{Arg, ArgAction, ArgMatches};
+use std::alloc::{AllocError, Global};
+use tso_machine::Model;
+
+/// `--model MODEL`, of models with these names.
+pub fn model_arg<'a>(alloc: Global, names: &'a [&'a str]) -> Arg<'a>
+    ensures rule { rule_of result ≡ model_rule names.entry }
+    ensures own { result.global ≡ false }
+{
+    Arg::new(alloc, "model")
+        .long("model")
+        .value_parser(names)
+        .default_value("buffered")
+}
+
+/// `LITMUS`
+pub fn litmus_arg<'a>(alloc: Global) -> Arg<'a>
+    ensures rule { rule_of result ≡ litmus_rule }
+    ensures own { result.global ≡ false }
+{
+    Arg::new(alloc, "litmus").required(true)
+}
+
+/// `--observed`
+pub fn observed_arg<'a>(alloc: Global) -> Arg<'a>
+    ensures rule { rule_of result ≡ observed_rule }
+    ensures own { result.global ≡ false }
+{
+    Arg::new(alloc, "observed")
+        .long("observed")
+        .action(ArgAction::SetTrue)
+}
+
+/// The first value of an argument.
+fn value_of<'a>(matches: &ArgMatches<'a>, id: &str) -> Option<&'a str>
+    ensures { option_map (λ value. value.now) result ≡ first_of id.now (rows_of (found_of matches.now)) }
+{
+    matches.get_str(id)
+}
+
+/// All values of an argument.
+pub fn values_of<'m, 'a>(matches: &'m ArgMatches<'a>, id: &str) -> Option<&'m [&'a str]>
+    ensures { option_map (λ values. map (λ value. value.now) values.now) result ≡ all_of id.now (rows_of (found_of matches.now)) }
+{
+    matches.get_strs(id)
+}
+
+/// The value of an argument that must be given.
+pub fn text_in(alloc: Global, matches: &ArgMatches<'_>, id: &str) -> Result<String, AllocError>
+    ensures { IfOk result (λ text. string_bytes text ≡ text_in id.now (rows_of (found_of matches.now))) }
+{
+    String::from_str(alloc, value_of(matches, id).unwrap_or(""))
+}
+
+/// Whether an argument has this value.
+fn has_value(matches: &ArgMatches<'_>, id: &str, wanted: &str) -> bool
+    ensures { result ≡ has_value id.now wanted.now (rows_of (found_of matches.now)) }
+{
+    match value_of(matches, id) {
+        Some(value) => value == wanted,
+        None => false,
+    }
+}
+
+/// Whether a flag is given.
+pub fn is_flagged(matches: &ArgMatches<'_>, id: &str) -> bool
+    ensures { result ≡ is_flagged id.now (rows_of (found_of matches.now)) }
+{
+    has_value(matches, id, "true")
+}
+
+/// The model that is named.
+pub fn model_in(matches: &ArgMatches<'_>) -> Model
+    ensures { result ≡ model_in (rows_of (found_of matches.now)) }
+{
+    if has_value(matches, "model", "sequential") {
+        Model::Sequential
+    } else {
+        Model::Buffered
+    }
+}

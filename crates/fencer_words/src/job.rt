@@ -1,0 +1,22 @@
+//! Jobs.
+
+use std::alloc::Global;
+use tso_machine::Model;
+
+/// What a command line asks for. `-` as LITMUS is the program's input.
+#[derive(Debug, Drop)]
+pub enum Job {
+    /// Replay labels on the program of a litmus file.
+    Replay {
+        model: Model,
+        litmus: String,
+        labels: Vec<String>,
+    },
+    /// List the outcomes of the program of a litmus file.
+    Outcomes {
+        model: Model,
+        /// Show only what the condition and `locations` name.
+        observed: bool,
+        litmus: String,
+    },
+}

@@ -1,0 +1,59 @@
+//! `replay [--model MODEL] LITMUS [LABEL..]`
+
+ghost use Rattle.std.specs.Prelude.{◌≡◌, false, IfOk, codes, map, string_bytes};
+ghost use Rattle.clap.specs.Words.{found_of, rows_of, rule_of};
+ghost use Rattle.fencer_words.specs.CommandLines.{label_rule, replay_app, texts_in, IsJobOf};
+ghost use Rattle.fencer_words.specs.Commands.{IsBuiltAs};
+
+use crate::arguments::{litmus_arg, model_arg, model_in, text_in, values_of};
+use crate::job::Job;
+use clap::{Arg, ArgAction, ArgMatches, Command};
+use std::alloc::{AllocError, Global};
+
+/// `[LABEL..]`
+fn label_arg<'a>(alloc: Global) -> Arg<'a>
+    ensures rule { rule_of result ≡ label_rule }
+    ensures own { result.global ≡ false }
+{
+    Arg::new(alloc, "label")
+        .num_args(0..)
+        .action(ArgAction::Append)
+}
+
+pub fn replay_command<'a>(alloc: Global, models: &'a [&'a str]) -> Result<Command<'a>, AllocError>
+    ensures { IfOk result (IsBuiltAs (replay_app models.entry)) }
+{
+    Command::new(alloc, "replay")
+        .arg(model_arg(alloc, models))?
+        .arg(litmus_arg(alloc))?
+        .arg(label_arg(alloc))
+}
+
+fn owned(alloc: Global, words: &[&str]) -> Result<Vec<String>, AllocError>
+    ensures { IfOk result (λ all. map string_bytes all.items ≡ map (λ word. word.now) words.now) }
+{
+    let mut all = Vec::new(alloc);
+    for word in words {
+        all.push(String::from_str(alloc, word)?)?;
+    }
+    Ok(all)
+}
+
+fn labels_in(alloc: Global, matches: &ArgMatches<'_>) -> Result<Vec<String>, AllocError>
+    ensures { IfOk result (λ labels. map string_bytes labels.items ≡ texts_in (codes "label") (rows_of (found_of matches.now))) }
+{
+    match values_of(matches, "label") {
+        Some(words) => owned(alloc, words),
+        None => Ok(Vec::new(alloc)),
+    }
+}
+
+pub fn replay_job(alloc: Global, matches: &ArgMatches<'_>) -> Result<Job, AllocError>
+    ensures { IfOk result (IsJobOf (codes "replay") (rows_of (found_of matches.now))) }
+{
+    Ok(Job::Replay {
+        model: model_in(matches),
+        litmus: text_in(alloc, matches, "litmus")?,
+        labels: labels_in(alloc, matches)?,
+    })
+}
