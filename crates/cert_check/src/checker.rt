@@ -1,5 +1,6 @@
 //! The checker.
 ghost use Rattle.std.specs.Prelude.{◌≡◌, ℕ, List, OnOk, IfOk, IfErr, IsOkUnless, All};
+ghost use Rattle.gap_sets.specs.Gaps.{SetOfGaps};
 ghost use Rattle.gap_sets.specs.Order.{total};
 ghost use Rattle.tso_program.specs.declared.listing.Listing.{Listing};
 ghost use Rattle.tso_program.specs.declared.outcome.Outcome.{Outcome};
@@ -13,6 +14,7 @@ ghost use Rattle.tree_laws.specs.GapTrees.{root, IsValidGap};
 ghost use Rattle.tree_laws.specs.Laws.{IsProved};
 ghost use Rattle.tree_laws.specs.Certificates as trees;
 ghost use Rattle.tree_laws.specs.Certificates.{AreSequentialRuns, IsRunOutside, IsValidCertificate};
+ghost use Rattle.the_answer.specs.Answers.{the_answer, least_cost};
 ghost use Rattle.cert_check.specs.Claims.{claim_of};
 ghost use Rattle.cert_check.specs.Faults.{FaultIs, HasHead, HasEachOutcome, HasForeignRuns, HasServingSet};
 ghost use Rattle.cert_check.specs.Replays.{HavePassed};
@@ -27,6 +29,7 @@ use cover_judge::TreeFault;
 use exec_axioms::Mode;
 use gap_sets::{Costs, GapSet};
 use std::alloc::Global;
+use the_answer::the_headline_tells_the_answer;
 use tree_laws::a_valid_certificate_proves_the_headline;
 use tso_machine::Model;
 use tso_program::{Outcome, Program, Shown};
@@ -55,6 +58,10 @@ pub fn check(
     ensures cost { IfOk result (λ accepted. accepted.cost ≡ total costs.now accepted.set) }
     ensures set { IfOk result (λ accepted. accepted.set ≡ certificate.now.set) }
 
+    // There is always an answer, which a definition computes: the set is that one, at the least cost.
+    ensures best { IfOk result (λ accepted. accepted.set ≡ the_answer (asked program.now shown.now) costs.now) }
+    ensures least { IfOk result (λ accepted. accepted.cost ≡ least_cost (asked program.now shown.now) costs.now) }
+
     // A valid certificate is accepted if memory is there, any other is refused by its first fault.
     ensures valid { OnOk result (IsValidCertificate (asked program.now shown.now) costs.now (claim_of certificate.now)) }
     ensures accepts { IsValidCertificate (asked program.now shown.now) costs.now (claim_of certificate.now) → IsOkUnless result CheckFault.OutOfMemory }
@@ -72,15 +79,18 @@ pub fn check(
     }
 }
 
-/// A valid certificate for a program and the costs of its gaps proves the headline. Calling it does
-/// nothing.
+/// A valid certificate for a program and the costs of its gaps proves the headline, which tells the
+/// answer. Calling it does nothing.
 fn what_is_proved(program: &Program, shown: &Shown, costs: &Costs)
-    ensures { (c : trees.Certificate) → IsValidCertificate (asked program.now shown.now) costs.now c → IsProved (asked program.now shown.now) costs.now c }
+    ensures valid { (c : trees.Certificate) → IsValidCertificate (asked program.now shown.now) costs.now c → IsProved (asked program.now shown.now) costs.now c }
+    ensures told { (gaps : SetOfGaps) (cost : ℕ) → Headline (asked program.now shown.now) costs.now gaps → cost ≡ total costs.now gaps
+        → (gaps ≡ the_answer (asked program.now shown.now) costs.now) × (cost ≡ least_cost (asked program.now shown.now) costs.now) }
 {
     // For the proof alone: what holds of every program and of all costs is known where they are called.
     let _ = program.threads();
     let _ = costs.len();
     a_valid_certificate_proves_the_headline();
+    the_headline_tells_the_answer();
 }
 
 /// Looks for the first fault.

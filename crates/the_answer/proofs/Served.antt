@@ -1,0 +1,86 @@
+-- The test of a set of gaps tells whether it serves.
+use Rattle.std.proofs.Common.{◌≡◌, Bool, true, false, List, Contains, sym, ◌∙◌, inl, inr}
+use Rattle.std.specs.List.{list_any}
+use Rattle.std.specs.Ordering.{eq_by_cmp}
+use Rattle.std.proofs.lemmas.Bool.{cases_Bool}
+use Rattle.std.proofs.lemmas.Cmp.{eq_by_cmp_equiv}
+use Rattle.std.proofs.lemmas.Map.Views.{Contains-from_any, list_any-from_Contains}
+use Rattle.gap_sets.specs.Gaps.{SetOfGaps}
+use Rattle.tso_program.specs.declared.outcome.Outcome.{Outcome}
+use Rattle.tso_program.specs.Ordered.{outcome_cmp}
+use Rattle.tso_program.specs.Shown.{Question}
+use Rattle.tso_program.specs.Limits.{JumpForward}
+use Rattle.tso_program.specs.Fences.{gaps_in}
+use Rattle.tso_program.proofs.OutcomesOrdered.{outcomes_ordered, same_by_order}
+use Rattle.tso_machine.specs.Machine.{Sequential, Fenced}
+use Rattle.tso_machine.specs.Outcomes.{Serves, LeavesOutcome}
+use Rattle.fence_laws.proofs.SequentialIsBuffered.{sequential_is_allowed}
+use Rattle.the_answer.specs.OutcomeLists.{outcomes_of}
+use Rattle.the_answer.specs.Answers.{does_serve}
+use Rattle.the_answer.specs.Laws.{EachOutcomeIsAllowedOrNot, TheTestTellsWhatServes, EachSetServesOrLeavesAnOutcome}
+use Rattle.the_answer.proofs.Lists.{each_passes, all_pass, one_fails}
+use Rattle.the_answer.proofs.RunsListed.{outcomes_listed}
+
+-- whether an outcome is in a list
+abbrev is_in : List Outcome → Outcome → Bool
+is_in outcomes o = list_any (eq_by_cmp outcome_cmp o) outcomes
+
+found_is_here : (o : Outcome) (outcomes : List Outcome) → is_in outcomes o ≡ true → Contains outcomes o
+found_is_here o outcomes e = Contains-from_any (λ x y found. (same_by_order x y).0 found) o outcomes e
+
+here_is_found : (o : Outcome) (outcomes : List Outcome) → Contains outcomes o → is_in outcomes o ≡ true
+here_is_found o outcomes here = list_any-from_Contains (eq_by_cmp_equiv outcomes_ordered) o outcomes here
+
+-- so a machine shows an outcome or does not
+pub allowed_or_not : EachOutcomeIsAllowedOrNot
+allowed_or_not q mode o forward = elim (cases_Bool (is_in (outcomes_of q mode) o)) [
+  | inl e ↦ inl ((outcomes_listed q mode o forward).0 (found_is_here o (outcomes_of q mode) e))
+  | inr e ↦ inr (λ allowed. (let no : false ≡ true = sym e ∙ here_is_found o (outcomes_of q mode) ((outcomes_listed q mode o forward).1 allowed) in cc))
+]
+
+module _ (q : Question) (gaps : SetOfGaps) (forward : JumpForward q.program.threads) where
+  abbrev left : List Outcome
+  left = outcomes_of q (Fenced (gaps_in q.program gaps))
+
+  abbrev sequential : List Outcome
+  sequential = outcomes_of q Sequential
+
+  -- where the test passes each outcome is sequential
+  passes_serves : does_serve q gaps ≡ true → Serves q gaps
+  unfolding does_serve
+  passes_serves e o = (
+    (λ allowed.
+        let here = (outcomes_listed q (Fenced (gaps_in q.program gaps)) o forward).1 allowed in
+        (outcomes_listed q Sequential o forward).0 (found_is_here o sequential (each_passes (is_in sequential) left o e here))),
+    sequential_is_allowed q (gaps_in q.program gaps) o,
+  )
+
+  serves_passes : Serves q gaps → does_serve q gaps ≡ true
+  unfolding does_serve
+  serves_passes serves = all_pass (is_in sequential) left (λ o here.
+      here_is_found o sequential ((outcomes_listed q Sequential o forward).1 ((serves o).0 ((outcomes_listed q (Fenced (gaps_in q.program gaps)) o forward).0 here))))
+
+  -- where it fails an outcome is found that is not
+  fails_leaves : does_serve q gaps ≡ false → LeavesOutcome q gaps
+  unfolding does_serve
+  fails_leaves e =
+      let (o, here, fails) = one_fails (is_in sequential) left e in
+      record {
+        outcome = o;
+        left = (outcomes_listed q (Fenced (gaps_in q.program gaps)) o forward).0 here;
+        foreign = λ allowed. (let no : false ≡ true = sym fails ∙ here_is_found o sequential ((outcomes_listed q Sequential o forward).1 allowed) in cc);
+      }
+
+  -- an outcome that is left makes the test fail
+  leaves_fails : LeavesOutcome q gaps → does_serve q gaps ≡ false
+  leaves_fails l = elim (cases_Bool (does_serve q gaps)) [ inl e ↦ absurd (l.foreign ((passes_serves e l.outcome).0 l.left)) | inr e ↦ e ]
+
+pub test_tells : TheTestTellsWhatServes
+test_tells q gaps forward = record {
+  serves = (passes_serves q gaps forward, serves_passes q gaps forward);
+  leaves = (fails_leaves q gaps forward, leaves_fails q gaps forward);
+}
+
+-- one or the other
+pub serves_or_leaves : EachSetServesOrLeavesAnOutcome
+serves_or_leaves q gaps forward = elim (cases_Bool (does_serve q gaps)) [ inl e ↦ inl (passes_serves q gaps forward e) | inr e ↦ inr (fails_leaves q gaps forward e) ]
