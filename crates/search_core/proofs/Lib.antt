@@ -1,0 +1,14 @@
+pub mod Places
+pub mod OpenGaps
+pub mod Sets
+pub mod OfProgram
+pub mod Changes
+pub mod NoneLost
+pub mod Kept
+pub mod Answered
+pub mod OneNode
+pub mod Steps
+pub mod Opening
+pub mod Moves
+pub mod Working
+pub mod WorkLaws

@@ -1,0 +1,48 @@
+-- Sets of a program's gaps: their totals, and what serves.
+use Rattle.std.proofs.Common.{◌≡◌, ℕ, ◌<◌, ◌≤◌, Bool, true, false, List, length, refl, sym, ap, ◌∙◌, inl, inr, arith}
+use Rattle.std.specs.Cmp.{nat_cmp_total}
+use Rattle.std.specs.FinSet as set
+use Rattle.gap_sets.specs.Gaps.{SetOfGaps, IsGapSet, have_same_gaps}
+use Rattle.gap_sets.specs.Order.{total, Better}
+use Rattle.gap_sets.specs.SameGaps.{have_same_gaps-same}
+use Rattle.gap_sets.proofs.Subsets.{cheaper}
+use Rattle.tso_program.specs.declared.listing.Listing.{Listing}
+use Rattle.tso_program.specs.Shown.{Question}
+use Rattle.tso_program.specs.Listings.{gap_count}
+use Rattle.tso_program.specs.Limits.{IsWithinLimits}
+use Rattle.tso_program.proofs.Gaps.{gap_below}
+use Rattle.tso_machine.specs.Outcomes.{Serves, LeavesOutcome, AreGapsOf}
+use Rattle.tree_laws.specs.GapTrees.{HaveCosts}
+use Rattle.cover_solver.specs.Facts.{Foreign, IsForeign}
+
+-- a set that serves leaves no outcome
+pub unserved : (q : Question) (gaps : SetOfGaps) → LeavesOutcome q gaps → Serves q gaps → ⊥
+unserved q gaps left serves = left.foreign ((serves left.outcome).0 left.left)
+
+-- what a foreign run passes are gaps of its program
+pub passed_gaps : (f : Foreign) → IsForeign f → AreGapsOf f.question.program f.passed
+passed_gaps f is gap there = let p = (is.passed gap).0 there in gap_below f.question.program.threads p.0 p.1 gap p.2
+
+module _ (p : Listing) (within : IsWithinLimits p.threads p.memory) where
+  pub gap_set : (gaps : SetOfGaps) → AreGapsOf p gaps → IsGapSet gaps
+  gap_set gaps of gap there = let below : gap < gap_count p.threads = of gap there in let few : gap_count p.threads ≤ 64 = within.few_gaps in omega arith
+
+  module _ (costs : List ℕ) (have : HaveCosts p costs) where
+    -- a subset is no dearer
+    pub no_dearer : (part whole : SetOfGaps) → AreGapsOf p whole → ((gap : ℕ) → set.contains part gap ≡ true → set.contains whole gap ≡ true) → total costs part ≤ total costs whole
+    no_dearer part whole of held = by_test (have_same_gaps part whole) refl
+      where
+        by_better : Better costs part whole → total costs part ≤ total costs whole
+        by_better (inl less) = omega arith
+        by_better (inr d) = let e : total costs part ≡ total costs whole = d.0 in omega arith
+
+        by_test : (b : Bool) → have_same_gaps part whole ≡ b → total costs part ≤ total costs whole
+        by_test true e = let same : total costs part ≡ total costs whole = ap (total costs) ((have_same_gaps-same part whole).0 e) in omega arith
+        by_test false e = by_better (cheaper costs part whole have.positive (gap_set whole of)
+            (λ gap there. let below : gap < gap_count p.threads = of gap there in let each : length costs ≡ gap_count p.threads = have.one_each in omega arith)
+            (set.contains-is_subset nat_cmp_total part whole held) (λ q. let no : true ≡ false = sym ((have_same_gaps-same part whole).1 q) ∙ e in cc))
+
+-- a dearer set is not better
+pub not_better : (costs : List ℕ) (a b : SetOfGaps) → total costs b < total costs a → ¬ Better costs a b
+not_better costs a b dear (inl less) = omega arith
+not_better costs a b dear (inr d) = let e : total costs a ≡ total costs b = d.0 in omega arith

@@ -1,0 +1,220 @@
+-- The children of a node decide more gaps, and all their sets together are fewer.
+use Rattle.std.proofs.Common.{◌≡◌, ◌≢◌, ℕ, zero, suc, ◌+◌, ◌*◌, ◌^◌, ◌<◌, ◌≤◌, Bool, true, false, ◌&&◌, ◌||◌, not, List, [], ◌∷◌, ◌++◌, Some, Contains, sum_by, map, refl, sym, ap, ◌∙◌, if◌then◌else◌, subst, inl, inr, arith, length, get_or, set as set_at}
+use Rattle.std.specs.Prelude.{slice_get}
+use Rattle.std.specs.List.{filter, range_with_len}
+use Rattle.std.specs.FinSet as set
+use Rattle.std.specs.Ordering.{nat_cmp, eq_by_cmp}
+use Rattle.std.specs.Cmp.{nat_cmp_total}
+use Rattle.std.proofs.lemmas.Bool.Decides.{nat_tests}
+use Rattle.std.proofs.lemmas.Option.{same_Some, none-some, slice_get_within, get_or_from_slice_get}
+use Rattle.std.proofs.lemmas.List.Kept.{AllPairs-from_increasing}
+use Rattle.std.specs.List.{AllPairs}
+use Rattle.std.proofs.Math.Pow.{pow_mono}
+use Rattle.std.proofs.Math.Nat.{one-le-pow, two-pow-succ}
+use Rattle.std.proofs.lemmas.List.FromFn.{length-range_with_len}
+use Rattle.std.proofs.lemmas.List.Sums.{sum_by-cons, sum_by-le, length-filter, count_by-le-length, sum_by-set, sum_by-append}
+use Rattle.gap_sets.specs.Gaps.{SetOfGaps, IsGapSet}
+use Rattle.gap_sets.proofs.Ranges.{sum-lt}
+use Rattle.tree_laws.specs.GapTrees.{children_of}
+use Rattle.tree_laws.specs.GapTrees as trees
+use Rattle.tree_laws.proofs.Regions.{new_or_old, true_or_false}
+use Rattle.tree_laws.proofs.Lists.{first_is_here, later_is_here}
+use Rattle.search_core.specs.declared.node.Node.{Node}
+use Rattle.search_core.specs.declared.entry.Entry.{Entry}
+use Rattle.search_core.specs.declared.entry.Status.TheVariants.{Open}
+use Rattle.search_core.specs.Nodes.{region_of, node_of, open_gaps, children}
+use Rattle.search_core.specs.Entries.{entry, is_live}
+use Rattle.search_core.specs.Events.{opened}
+use Rattle.search_core.specs.Work.{is_undecided, undecided, work_of, live_work, work_left}
+use Rattle.search_core.proofs.Places.{Each}
+use Rattle.search_core.proofs.OpenGaps.{open_exact, open_ascending}
+
+-- a set has what it had, and the new gap
+kept_old : (s : SetOfGaps) (gap q : ℕ) → set.contains s q ≡ true → set.contains (set.insert s gap) q ≡ true
+kept_old s gap q h = set.contains-insert nat_cmp_total s gap q ∙ by_or (eq_by_cmp nat_cmp q gap) (set.contains s q) h
+  where
+    by_or : (a b : Bool) → b ≡ true → (a || b) ≡ true
+    by_or true b e = refl
+    by_or false b e = e
+
+has_new : (s : SetOfGaps) (gap : ℕ) → set.contains (set.insert s gap) gap ≡ true
+has_new s gap = set.contains-insert nat_cmp_total s gap gap ∙ by_or (eq_by_cmp nat_cmp gap gap) (set.contains s gap) (grind (arith, nat_tests))
+  where
+    by_or : (a b : Bool) → a ≡ true → (a || b) ≡ true
+    by_or true b e = refl
+    by_or false b e = absurd cc
+
+-- what is undecided is in neither set
+both : (a b : Bool) → (not a && not b) ≡ true → (a ≡ false) × (b ≡ false)
+both true b h = absurd cc
+both false true h = absurd cc
+both false false h = (refl, refl)
+
+neither : (a b : Bool) → a ≡ false → b ≡ false → (not a && not b) ≡ true
+neither true b e f = absurd cc
+neither false true e f = absurd cc
+neither false false e f = refl
+
+left_in : (a b : Bool) → a ≡ true → (not a && not b) ≡ false
+left_in true b e = refl
+left_in false b e = absurd cc
+
+right_in : (a b : Bool) → b ≡ true → (not a && not b) ≡ false
+right_in true b e = refl
+right_in false true e = refl
+right_in false false e = absurd cc
+
+outside : (a b : Bool) → (a ≡ true → b ≡ true) → b ≡ false → a ≡ false
+outside true b h e = let no : true ≡ false = sym (h refl) ∙ e in no
+outside false b h e = refl
+
+module _ (n : trees.Node) (gap : ℕ) (low : gap < 64) (open_gap : is_undecided n gap ≡ true) where
+  abbrev with_it : trees.Node
+  with_it = record n { must = set.insert n.must gap }
+
+  abbrev without_it : trees.Node
+  without_it = record n { never = set.insert n.never gap }
+
+  with_less : undecided with_it < undecided n
+  with_less = sum-lt (λ (q : ℕ). 1) (is_undecided with_it) (is_undecided n) 0 64 gap
+      (λ q h. let p = both (set.contains with_it.must q) (set.contains with_it.never q) h in
+      neither (set.contains n.must q) (set.contains n.never q) (outside (set.contains n.must q) (set.contains with_it.must q) (kept_old n.must gap q) p.0) p.1)
+      (omega arith) (omega arith) (left_in (set.contains with_it.must gap) (set.contains with_it.never gap) (has_new n.must gap)) open_gap (omega arith)
+
+  without_less : undecided without_it < undecided n
+  without_less = sum-lt (λ (q : ℕ). 1) (is_undecided without_it) (is_undecided n) 0 64 gap
+      (λ q h. let p = both (set.contains without_it.must q) (set.contains without_it.never q) h in
+      neither (set.contains n.must q) (set.contains n.never q) p.0 (outside (set.contains n.never q) (set.contains without_it.never q) (kept_old n.never gap q) p.1))
+      (omega arith) (omega arith) (right_in (set.contains without_it.must gap) (set.contains without_it.never gap) (has_new n.never gap)) open_gap (omega arith)
+
+  -- another gap stays undecided
+  still_open : (q : ℕ) → gap ≢ q → is_undecided n q ≡ true → is_undecided without_it q ≡ true
+  still_open q differ h =
+      let p = both (set.contains n.must q) (set.contains n.never q) h in
+      neither (set.contains n.must q) (set.contains without_it.never q) p.0
+      (elim (true_or_false (set.contains without_it.never q)) [
+        | inr missing ↦ missing
+        | inl there ↦ elim (new_or_old n.never gap q there) [ inl same ↦ absurd (differ same) | inr old ↦ (let bad : true ≡ false = sym old ∙ p.1 in absurd cc) ]
+      ])
+
+-- two halves
+halves : (a b c : ℕ) → a < c → b < c → 2 ^ a + 2 ^ b ≤ 2 ^ c
+halves a b zero h i = absurd (omega arith)
+halves a b (suc d) h i =
+    let p : 2 ^ a ≤ 2 ^ d = pow_mono (omega arith) in
+    let q : 2 ^ b ≤ 2 ^ d = pow_mono (omega arith) in
+    let e : 2 ^ suc d ≡ 2 ^ d + 2 ^ d = two-pow-succ d in
+    omega arith
+
+-- each gap is below 64, and undecided
+abbrev pub AreUndecided : trees.Node → List ℕ → Type 0
+AreUndecided n gaps = (gap : ℕ) → Contains gaps gap → (gap < 64) × (is_undecided n gap ≡ true)
+
+-- the first of ascending numbers is none of the others
+not_again : (x : ℕ) (xs : List ℕ) → AllPairs (λ a b. a < b) (x ∷ xs) → (q : ℕ) → Contains xs q → x ≢ q
+not_again x xs up q here same =
+    let less : x < get_or xs here.0 q = up 0 (suc here.0) q (omega arith) (let h = here.1 in omega arith) in
+    let is : get_or xs here.0 q ≡ q = here.2 in omega arith
+
+later : (x : ℕ) (xs : List ℕ) → AllPairs (λ a b. a < b) (x ∷ xs) → AllPairs (λ a b. a < b) xs
+later x xs up i j d h l = up (suc i) (suc j) d (omega arith) (omega arith)
+
+-- of the others
+after_first : (n : trees.Node) (gap : ℕ) (gaps : List ℕ) → AllPairs (λ a b. a < b) (gap ∷ gaps) → AreUndecided n (gap ∷ gaps) → AreUndecided (record n { never = set.insert n.never gap }) gaps
+after_first n gap gaps up each q here =
+    let first = each gap (first_is_here gap gaps) in
+    let old = each q (later_is_here gap gaps q here) in
+    (old.0, still_open n gap first.0 first.1 q (not_again gap gaps up q here) old.1)
+
+-- the children's work together is less
+pub kids_work : (n : trees.Node) (gaps : List ℕ) → AllPairs (λ a b. a < b) gaps → AreUndecided n gaps → sum_by work_of (children_of n gaps) < work_of n
+kids_work n [] up each = one-le-pow (undecided n) 2 (omega arith)
+kids_work n (gap ∷ gaps) up each =
+    let first = each gap (first_is_here gap gaps) in
+    let child = record n { must = set.insert n.must gap } in
+    let rest = record n { never = set.insert n.never gap } in
+    let others : sum_by work_of (children_of rest gaps) < work_of rest = kids_work rest gaps (later gap gaps up) (after_first n gap gaps up each) in
+    let parts : sum_by work_of (child ∷ children_of rest gaps) ≡ work_of child + sum_by work_of (children_of rest gaps) = sum_by-cons work_of child (children_of rest gaps) in
+    let two : work_of child + work_of rest ≤ work_of n = halves (undecided child) (undecided rest) (undecided n) (with_less n gap first.0 first.1) (without_less n gap first.0 first.1) in
+    omega arith
+
+-- and each decides more
+pub kids_less : (n : trees.Node) (gaps : List ℕ) → AllPairs (λ a b. a < b) gaps → AreUndecided n gaps → Each (λ (c : trees.Node). undecided c < undecided n) (children_of n gaps)
+kids_less n [] up each k c e = absurd (none-some c e)
+kids_less n (gap ∷ gaps) up each zero c e =
+    let first = each gap (first_is_here gap gaps) in
+    subst (λ (d : trees.Node). undecided d < undecided n) (same_Some (record n { must = set.insert n.must gap }) c e) (with_less n gap first.0 first.1)
+kids_less n (gap ∷ gaps) up each (suc k) c e =
+    let first = each gap (first_is_here gap gaps) in
+    let rest = record n { never = set.insert n.never gap } in
+    let below : undecided c < undecided rest = kids_less rest gaps (later gap gaps up) (after_first n gap gaps up each) k c e in
+    let less : undecided rest < undecided n = without_less n gap first.0 first.1 in
+    omega arith
+
+-- at most 64 gaps are undecided
+few : (p : ℕ → Bool) → sum_by (λ (gap : ℕ). 1) (filter p (range_with_len 0 64)) ≤ 64
+few p =
+    let a : sum_by (λ (gap : ℕ). 1) (filter p (range_with_len 0 64)) ≤ length (filter p (range_with_len 0 64)) * 1 = sum_by-le (λ (gap : ℕ). 1) 1 (filter p (range_with_len 0 64)) (λ k d h. omega arith) in
+    omega (arith, length-filter p (range_with_len 0 64), count_by-le-length p (range_with_len 0 64), length-range_with_len 0 64)
+
+pub few_undecided : (n : trees.Node) → undecided n ≤ 64
+few_undecided n = few (is_undecided n)
+
+-- no gap is in both sets
+abbrev pub AreApart : SetOfGaps → SetOfGaps → Type 0
+AreApart passed must = (gap : ℕ) → set.contains passed gap ≡ true → set.contains must gap ≡ true → ⊥
+
+-- what is open for a split is undecided
+pub open_undecided : (passed : SetOfGaps) (n : Node) → IsGapSet passed → AreApart passed n.must → AreUndecided (region_of n) (open_gaps passed n.never)
+open_undecided passed n small apart gap here =
+    let both = (open_exact passed n.never small gap).0 here in
+    (small gap both.0, neither (set.contains n.must gap) (set.contains n.never gap) (not_there (set.contains n.must gap) refl both.0) both.1)
+  where
+    not_there : (b : Bool) → set.contains n.must gap ≡ b → set.contains passed gap ≡ true → b ≡ false
+    not_there true e there = absurd (apart gap there e)
+    not_there false e there = refl
+
+-- the work of nodes that are opened
+opened_work : (seat : ℕ) (cs : List trees.Node) → work_left (opened seat (map node_of cs)) ≡ sum_by work_of cs
+opened_work seat [] = refl
+opened_work seat (c ∷ cs) =
+    let e = entry (node_of c) seat Open in
+    sum_by-cons live_work e (opened seat (map node_of cs)) ∙ ap (λ (k : ℕ). work_of c + k) (opened_work seat cs) ∙ sym (sum_by-cons work_of c cs)
+
+pub split_work : (seat : ℕ) (passed : SetOfGaps) (n : Node) → IsGapSet passed → AreApart passed n.must → work_left (opened seat (children n passed)) < work_of (region_of n)
+split_work seat passed n small apart =
+    let gaps = open_gaps passed n.never in
+    let less : sum_by work_of (children_of (region_of n) gaps) < work_of (region_of n) =
+    kids_work (region_of n) gaps (AllPairs-from_increasing gaps (open_ascending passed n.never)) (open_undecided passed n small apart) in
+    let same : work_left (opened seat (children n passed)) ≡ sum_by work_of (children_of (region_of n) gaps) = opened_work seat (children_of (region_of n) gaps) in
+    omega arith
+
+-- a live node changes, and others are opened
+module _ (es : List Entry) (place : ℕ) (e x : Entry) (there : slice_get es place ≡ Some e) where
+  change_work : (more : List Entry) → work_left (set_at es place x ++ more) + live_work e ≡ work_left es + live_work x + work_left more
+  change_work more =
+      let a : sum_by live_work (set_at es place x) + live_work (get_or es place e) ≡ work_left es + live_work x = sum_by-set live_work es place x e (slice_get_within es place e there) in
+      let b : live_work (get_or es place e) ≡ live_work e = ap live_work (get_or_from_slice_get es place e e there) in
+      let c : work_left (set_at es place x ++ more) ≡ sum_by live_work (set_at es place x) + work_left more = sum_by-append live_work (set_at es place x) more in
+      omega arith
+
+  live_is : is_live e ≡ true → live_work e ≡ work_of (region_of e.node)
+  live_is live = ap (λ (b : Bool). if b then work_of (region_of e.node) else 0) live
+
+  dead_is : is_live x ≡ false → live_work x ≡ 0
+  dead_is dead = ap (λ (b : Bool). if b then work_of (region_of x.node) else 0) dead
+
+  pub settled_work : (more : List Entry) → is_live e ≡ true → is_live x ≡ false → work_left more < work_of (region_of e.node) → work_left (set_at es place x ++ more) < work_left es
+  settled_work more live dead less =
+      let a = change_work more in
+      let b : live_work e ≡ work_of (region_of e.node) = live_is live in
+      let c : live_work x ≡ 0 = dead_is dead in
+      omega arith
+
+  pub moved_work : is_live e ≡ true → is_live x ≡ true → x.node ≡ e.node → work_left (set_at es place x) ≡ work_left es
+  moved_work live too same =
+      let a : sum_by live_work (set_at es place x) + live_work (get_or es place e) ≡ work_left es + live_work x = sum_by-set live_work es place x e (slice_get_within es place e there) in
+      let b : live_work (get_or es place e) ≡ live_work e = ap live_work (get_or_from_slice_get es place e e there) in
+      let c : live_work e ≡ work_of (region_of e.node) = live_is live in
+      let d : live_work x ≡ work_of (region_of e.node) = ap (λ (b : Bool). if b then work_of (region_of x.node) else 0) too ∙ ap (λ (n : Node). work_of (region_of n)) same in
+      omega arith

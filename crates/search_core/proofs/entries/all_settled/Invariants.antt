@@ -1,0 +1,9 @@
+use Rattle.std.proofs.Common.{◌≡◌, ℕ, ◌<◌, Some, false}
+use Rattle.std.specs.Prelude.{slice_get}
+use Rattle.search_core.specs.declared.entry.Entry.{Entry}
+use Rattle.search_core.specs.Entries.{is_live}
+use Rattle.search_core.proofs.entries.all_settled.Given as goal
+
+-- each so far is settled
+abbrev pub invariant-loop-entry : goal.invariant-loop-entry
+invariant-loop-entry l = (j : ℕ) (e : Entry) → j < l.entry-index → slice_get l.entries j ≡ Some e → is_live e ≡ false

@@ -1,0 +1,23 @@
+use Rattle.std.proofs.Common.{refl, subst}
+use Rattle.search_core.specs.contracts.tree.SearchTree.{the_view}
+use Rattle.search_core.specs.States.{State}
+use Rattle.search_core.specs.Events.{GivesBack, gives_back}
+use Rattle.search_core.specs.Histories.{goes_on}
+use Rattle.search_core.proofs.Moves.{seated, holds_nothing, held_within, give_event}
+use Rattle.search_core.proofs.tree.SearchTree.give_back.Goals as goal
+
+pub returns-in_default-clause-fault : goal.returns-in_default-clause-fault
+returns-in_default-clause-fault c = (refl, holds_nothing (the_view c.self.inside) c.args.self.now c.self.view_is c.deref.result.now c.deref.ensures.value c.args.seat c.in_default.ensures)
+
+pub mark-requires : goal.mark-requires
+mark-requires c = held_within (the_view c.self.inside) c.args.self.now c.self.view_is c.deref.result.now c.deref.ensures.value c.args.seat c.in-Some.place c.in-Some.node c.in-Some.ensures
+
+event : (c : goal.After-mark) → GivesBack (the_view c.self.inside) (record (the_view c.self.inside) { entries = c.mark.new.entries.items }) c.args.seat
+event c = give_event (the_view c.self.inside) c.args.self.now c.self.view_is c.deref.result.now c.deref.ensures.value c.mark.new.entries.items c.args.seat c.in-Some.place c.in-Some.node
+    c.in-Some.ensures c.mark.ensures
+
+pub invariant_of-self : goal.invariant_of-self
+invariant_of-self c = goes_on (the_view c.self.inside) (record (the_view c.self.inside) { entries = c.mark.new.entries.items }) c.args.seat c.self.invariant (seated (the_view c.self.inside) c.args.self.now c.self.view_is c.args.seat c.requires) (gives_back (event c))
+
+pub returns-clause-given : goal.returns-clause-given
+returns-clause-given c = subst (λ (s : State). GivesBack s (record (the_view c.self.inside) { entries = c.mark.new.entries.items }) c.args.seat) c.self.view_is (event c)

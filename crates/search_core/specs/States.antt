@@ -1,0 +1,79 @@
+-- The state of a search.
+use Rattle.std.specs.Prelude.{◌≡◌, ◌≤◌, ℕ, true, false, List, [], ◌∷◌, Option, Some, None, slice_get, slice_set}
+use Rattle.std.specs.FinSet as set
+use Rattle.tso_program.specs.Shown.{Question}
+use Rattle.tso_program.specs.Limits.{IsWithinLimits}
+use Rattle.tree_laws.specs.GapTrees.{HaveCosts}
+use Rattle.cover_solver.specs.Facts.{Serving}
+use Rattle.search_core.specs.declared.node.Node.{Node}
+use Rattle.search_core.specs.declared.entry.Entry.{Entry}
+use Rattle.search_core.specs.declared.entry.Status.TheVariants.{Open}
+use Rattle.search_core.specs.Nodes.{node}
+use Rattle.search_core.specs.Entries.{entry, is_open, is_held_by, is_live}
+
+-- a question, the costs of its program's gaps, how many seats there are, the nodes with what became of them, and the best confirmed set
+pub record State : Type 0 where
+  pub question : Question
+  pub costs : List ℕ
+  pub seats : ℕ
+  pub entries : List Entry
+  pub best : Option Serving
+
+-- at this place stands this node, open
+pub record IsOpenAt (entries : List Entry) (place : ℕ) (n : Node) : Type 0 where
+  pub before : Entry
+  pub there : slice_get entries place ≡ Some before
+  pub open_there : is_open before ≡ true
+  pub is_node : before.node ≡ n
+
+-- at this place stands this node, which the seat holds
+pub record IsHeldAt (entries : List Entry) (seat place : ℕ) (n : Node) : Type 0 where
+  pub before : Entry
+  pub there : slice_get entries place ≡ Some before
+  pub held_there : is_held_by seat before ≡ true
+  pub is_node : before.node ≡ n
+
+-- the seat holds the node
+abbrev pub Holds : State → ℕ → Node → Type 0
+Holds s seat n = (place : ℕ) × IsHeldAt s.entries seat place n
+
+abbrev pub HoldsNothing : State → ℕ → Type 0
+HoldsNothing s seat = (n : Node) → ¬ Holds s seat n
+
+-- the seat holds this node and no other
+pub record HoldsOnly (s : State) (seat : ℕ) (n : Node) : Type 0 where
+  pub held : Holds s seat n
+  pub only : (m : Node) → Holds s seat m → m ≡ n
+
+abbrev pub HasNoOpen : State → Type 0
+HasNoOpen s = (place : ℕ) (n : Node) → ¬ IsOpenAt s.entries place n
+
+-- no node is open or held
+abbrev pub IsDone : State → Type 0
+IsDone s = (place : ℕ) (e : Entry) → slice_get s.entries place ≡ Some e → is_live e ≡ false
+
+-- the same entries, but this one at its place
+abbrev pub put_at : State → ℕ → Entry → State
+put_at s place e = record s { entries = slice_set s.entries place e }
+
+-- the node of all sets
+abbrev pub root_node : Node
+root_node = node set.empty set.empty
+
+-- a search of the same question, costs and seats
+pub record IsSameSearch (s after : State) : Type 0 where
+  pub question : after.question ≡ s.question
+  pub costs : after.costs ≡ s.costs
+  pub seats : after.seats ≡ s.seats
+
+-- a search has 1 to 32 seats
+abbrev pub IsSeatCount : ℕ → Type 0
+IsSeatCount seats = (1 ≤ seats) × (seats ≤ 32)
+
+-- only the root is there, and it is open
+pub record IsStart (s : State) : Type 0 where
+  pub within : IsWithinLimits s.question.program.threads s.question.program.memory
+  pub have_costs : HaveCosts s.question.program s.costs
+  pub seats : IsSeatCount s.seats
+  pub only_root : s.entries ≡ entry root_node 0 Open ∷ []
+  pub no_best : s.best ≡ None

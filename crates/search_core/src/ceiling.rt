@@ -1,0 +1,88 @@
+//! Costs that a serving set doesn't pass, and why a node is cut.
+ghost use Rattle.std.specs.Prelude.{◌≡◌, ◌<◌, Some, None, IfSome, MatchOption, length};
+ghost use Rattle.gap_sets.specs.Order.{total};
+ghost use Rattle.tso_program.specs.Listings.{gap_count};
+ghost use Rattle.search_core.specs.Ceilings.{IsBound};
+
+use cover_solver::Served;
+use gap_sets::Costs;
+use std::marker::Model;
+use std::snapshot::Snapshot;
+use tso_program::{Program, Shown};
+
+/// None, or a cost that some serving set of a program doesn't pass. It takes no memory.
+#[derive(Drop)]
+pub struct Ceiling {
+    limit: Option<Limit>,
+}
+
+/// A cost, for a program, what is shown of its outcomes, and the costs of its gaps.
+#[derive(Drop)]
+struct Limit {
+    cost: u64,
+    program: Snapshot<Program>,
+    shown: Shown,
+    costs: Snapshot<Costs>,
+}
+
+impl Model for Ceiling {
+    ghost use Rattle.std.specs.Prelude.{Option, IfSome};
+    ghost use Rattle.search_core.specs.Ceilings.{Bound, IsBound};
+
+    ghost Value = { Option Bound };
+
+    ghost use Rattle.gap_sets.specs.contracts.gap_set.GapSet as gap_set;
+    ghost use Rattle.std.specs.Coded.{codes};
+
+    ghost coded = { Prim.hlevel (codes, gap_set.the_row.coded) };
+
+    ghost use Rattle.search_core.specs.Limits.{bound_of};
+
+    ghost view = { λ c. bound_of c.limit };
+
+    ghost invariant = { λ c. IfSome (bound_of c.limit) IsBound };
+}
+
+impl Ceiling {
+    /// No ceiling, of every program and all costs.
+    pub fn none() -> Ceiling
+        ensures { result ≡ None }
+    {
+        Ceiling { limit: None }
+    }
+
+    /// What a serving set costs.
+    pub fn of(served: &Served, costs: &Costs) -> Ceiling
+        requires { length costs.now ≡ gap_count served.now.question.program.threads }
+        ensures { result ≡ Some (record { question = served.now.question; costs = costs.now; cost = total costs.now served.now.gaps }) }
+    {
+        Ceiling {
+            limit: Some(Limit {
+                cost: costs.total(&served.set()),
+                program: Snapshot::of(served.program()),
+                shown: *served.shown(),
+                costs: Snapshot::of(costs),
+            }),
+        }
+    }
+
+    /// The cost.
+    pub fn cost(&self) -> Option<u64>
+        ensures value { MatchOption self.now (result ≡ None) (λ bound. result ≡ Some bound.cost) }
+        ensures bound { IfSome self.now IsBound }
+    {
+        match &self.limit {
+            Some(limit) => Some(limit.cost),
+            None => None,
+        }
+    }
+}
+
+/// Why a node is cut.
+#[derive(Drop)]
+pub enum Reason {
+    /// There is a best set, and what the node's sets must have isn't better.
+    Best,
+    /// What the node's sets must have costs more.
+    Ceiling(Ceiling),
+}

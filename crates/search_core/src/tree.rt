@@ -1,0 +1,288 @@
+//! The search as events.
+ghost use Rattle.std.specs.Prelude.{◌≡◌, ◌↔◌, ◌<◌, ℕ, Some, IfSome, IfNone, IfOk, IfErr, OnOk, OnErr, IsTrue, MatchOption, length};
+ghost use Rattle.tso_program.specs.Listings.{gap_count};
+ghost use Rattle.tso_machine.specs.Outcomes.{AreGapsOf, IsTheAnswer};
+ghost use Rattle.search_core.specs.declared.node.Node.{Node};
+ghost use Rattle.search_core.specs.States.{HoldsNothing, HoldsOnly, Holds, IsDone, IsSameSearch, IsSeatCount, IsStart};
+ghost use Rattle.search_core.specs.Events.{Takes, GivesBack, Splits, Cuts, Confirms};
+ghost use Rattle.search_core.specs.Faults.{IsReasonOf, IsCutBy, TakeFaultIs, SplitFaultIs, CutFaultIs, IsWithoutNode};
+ghost use Rattle.search_core.specs.Histories.{IsReached};
+ghost use Rattle.search_core.specs.Records.{state_of};
+
+use crate::best::{cuts, is_better};
+use crate::entries::{all_settled, best_open, find_held, mark, open_children};
+use crate::entry::{Entry, Status};
+use crate::{Finished, Node, Reason, TreeFault};
+use cover_solver::{ForeignRun, SeqTable, Served};
+use gap_sets::{Costs, GapSet};
+use std::alloc::Global;
+use std::marker::Model;
+use tso_program::{Program, Shown};
+
+/// The most seats that a search may have.
+pub const MAX_SEATS: u8 = 32;
+
+/// A search whose state some history of events reaches. It keeps the allocator that it was made with.
+#[derive(Drop)]
+pub struct SearchTree {
+    alloc: Global,
+    program: Program,
+    shown: Shown,
+    costs: Costs,
+    seats: u8,
+    entries: Vec<Entry>,
+    best: Option<Served>,
+}
+
+impl Model for SearchTree {
+    ghost use Rattle.search_core.specs.States.{State};
+
+    ghost Value = { State };
+
+    ghost use Rattle.gap_sets.specs.contracts.gap_set.GapSet as gap_set;
+    ghost use Rattle.std.specs.Coded.{codes};
+    ghost use Rattle.tree_laws.specs.CoverCodes.{coded_cover};
+
+    ghost coded = { Prim.hlevel (codes, gap_set.the_row.coded, coded_cover) };
+
+    ghost use Rattle.tso_program.specs.Shown.{asked};
+    ghost use Rattle.search_core.specs.Histories.{IsReached};
+
+    ghost view = { λ t. record { question = asked t.program t.shown; costs = t.costs; seats = t.seats; entries = t.entries.items; best = t.best } };
+
+    ghost invariant = { λ t. IsReached (record { question = asked t.program t.shown; costs = t.costs; seats = t.seats; entries = t.entries.items; best = t.best }) };
+}
+
+impl SearchTree {
+    /// A search for the best set of gaps of the table's program, by so many seats: only the node of all
+    /// sets is there.
+    pub fn new(
+        alloc: Global,
+        table: &SeqTable,
+        costs: &Costs,
+        seats: u8,
+    ) -> Result<SearchTree, TreeFault>
+        requires one_each { length costs.now ≡ gap_count table.now.question.program.threads }
+        requires seats { IsSeatCount seats }
+        ensures start { IfOk result IsStart }
+        ensures parts { IfOk result (λ tree. (tree.question ≡ table.now.question) × (tree.costs ≡ costs.now) × (tree.seats ≡ seats)) }
+        ensures refused { IfErr result (λ fault. fault ≡ TreeFault.OutOfMemory) }
+    {
+        // For the proof alone: what holds of every program and of every list of costs is known where the
+        // threads, and how many costs there are, are read.
+        let program = table.program();
+        let _ = program.threads();
+        let _ = costs.len();
+        let mut entries = Vec::new(alloc);
+        let node = Node {
+            must: GapSet::empty(),
+            never: GapSet::empty(),
+        };
+        entries.push(Entry {
+            node,
+            seat: 0,
+            status: Status::Open,
+        })?;
+        Ok(SearchTree {
+            alloc,
+            program: program.copy()?,
+            shown: *table.shown(),
+            costs: costs.copy()?,
+            seats,
+            entries,
+            best: None,
+        })
+    }
+
+    /// The program.
+    pub fn program(&self) -> &Program
+        ensures value { result.now ≡ self.now.question.program }
+        ensures reached { IsReached self.now }
+    {
+        &self.program
+    }
+
+    /// What is shown of outcomes.
+    pub fn shown(&self) -> &Shown
+        ensures value { result.now ≡ self.now.question.shown }
+        ensures reached { IsReached self.now }
+    {
+        &self.shown
+    }
+
+    /// What each gap costs.
+    pub fn costs(&self) -> &Costs
+        ensures value { result.now ≡ self.now.costs }
+        ensures reached { IsReached self.now }
+    {
+        &self.costs
+    }
+
+    /// The node that the seat holds.
+    pub fn held(&self, seat: u8) -> Option<Node>
+        requires { seat < self.now.seats }
+        ensures value { MatchOption result (HoldsNothing self.now seat) (HoldsOnly self.now seat) }
+        ensures of_program { IfSome result (λ node. AreGapsOf self.now.question.program node.must) }
+    {
+        let (_, node) = find_held(&self.entries, seat)?;
+        Some(node)
+    }
+
+    /// The seat takes an open node: the one whose `must` is best, the first of equals.
+    pub fn take(&mut self, seat: u8) -> Result<Node, TreeFault>
+        requires { seat < self.old.seats }
+        ensures taken { IfOk result (Takes self.old self.new seat) }
+        ensures holds { IfOk result (HoldsOnly self.new seat) }
+        ensures of_program { IfOk result (λ node. AreGapsOf self.old.question.program node.must) }
+        ensures same { IsSameSearch self.old self.new }
+        ensures unchanged { OnErr result (self.new ≡ self.old) }
+        ensures fault { IfErr result (TakeFaultIs self.old seat) }
+    {
+        let held = self.held(seat);
+        if held.is_some() {
+            return Err(TreeFault::SeatHolds);
+        }
+        let Some((place, node)) = best_open(&self.costs, &self.entries) else {
+            return Err(TreeFault::NothingOpen);
+        };
+        mark(&mut self.entries, place, &node, seat, Status::Held);
+        Ok(node)
+    }
+
+    /// The seat's node is open again.
+    pub fn give_back(&mut self, seat: u8) -> Result<(), TreeFault>
+        requires { seat < self.old.seats }
+        ensures given { OnOk result (GivesBack self.old self.new seat) }
+        ensures same { IsSameSearch self.old self.new }
+        ensures unchanged { OnErr result (self.new ≡ self.old) }
+        ensures fault { IfErr result (IsWithoutNode self.old seat) }
+    {
+        let Some((place, node)) = find_held(&self.entries, seat) else {
+            return Err(TreeFault::SeatHoldsNothing);
+        };
+        mark(&mut self.entries, place, &node, seat, Status::Open);
+        Ok(())
+    }
+
+    /// The seat's node is split by a run that passes no gap that its sets must have: its children are
+    /// open.
+    pub fn split(&mut self, seat: u8, run: &ForeignRun) -> Result<(), TreeFault>
+        requires seat { seat < self.old.seats }
+        requires of_question { run.now.question ≡ self.old.question }
+        ensures split { OnOk result (Splits self.old self.new seat run.now) }
+        ensures same { IsSameSearch self.old self.new }
+        ensures unchanged { OnErr result (self.new ≡ self.old) }
+        ensures fault { IfErr result (SplitFaultIs self.old seat run.now.passed) }
+    {
+        let Some((place, node)) = find_held(&self.entries, seat) else {
+            return Err(TreeFault::SeatHoldsNothing);
+        };
+        // For the proof alone: what holds of every run is known where its program is read.
+        let _ = run.program();
+        let passed = run.passed();
+        if passed.meets(&node.must) {
+            return Err(TreeFault::Hit);
+        }
+        let kept = run.copy(self.alloc)?;
+        let mut opened = open_children(self.alloc, &node, seat, passed)?;
+        let first = self.entries.len();
+        self.entries.append(&mut opened)?;
+        let status = Status::Split(kept, first);
+        mark(&mut self.entries, place, &node, seat, status);
+        Ok(())
+    }
+
+    /// The seat's node is cut, if the reason cuts it.
+    pub fn cut(&mut self, seat: u8, reason: Reason) -> Result<(), TreeFault>
+        requires seat { seat < self.old.seats }
+        requires of_search { IsReasonOf self.old reason }
+        ensures cut { OnOk result (Cuts self.old self.new seat) }
+        ensures lawful { OnOk result (IsCutBy self.old seat reason) }
+        ensures same { IsSameSearch self.old self.new }
+        ensures unchanged { OnErr result (self.new ≡ self.old) }
+        ensures fault { IfErr result (CutFaultIs self.old seat reason) }
+    {
+        let Some((place, node)) = find_held(&self.entries, seat) else {
+            return Err(TreeFault::SeatHoldsNothing);
+        };
+        if !cuts(&self.costs, &self.best, &reason, &node.must) {
+            return Err(TreeFault::StillBetter);
+        }
+        mark(&mut self.entries, place, &node, seat, Status::Cut);
+        Ok(())
+    }
+
+    /// What the sets of the seat's node must have serves.
+    pub fn confirm(&mut self, seat: u8, served: Served) -> Result<(), TreeFault>
+        requires seat { seat < self.old.seats }
+        requires of_question { served.question ≡ self.old.question }
+        requires of_node { (node : Node) → Holds self.old seat node → served.gaps ≡ node.must }
+        ensures confirmed { OnOk result (Confirms self.old self.new seat served) }
+        ensures same { IsSameSearch self.old self.new }
+        ensures unchanged { OnErr result (self.new ≡ self.old) }
+        ensures fault { IfErr result (IsWithoutNode self.old seat) }
+    {
+        let Some((place, node)) = find_held(&self.entries, seat) else {
+            return Err(TreeFault::SeatHoldsNothing);
+        };
+        let better = is_better(&self.costs, &self.best, &served);
+        mark(&mut self.entries, place, &node, seat, Status::Confirmed);
+        if !better {
+            return Ok(());
+        }
+        self.best = Some(served);
+        Ok(())
+    }
+
+    /// Whether no node is open or held.
+    pub fn is_done(&self) -> bool
+        ensures { IsTrue result ↔ IsDone self.now }
+    {
+        all_settled(&self.entries)
+    }
+
+    /// The best set that serves, once the search is done.
+    pub fn answer(&self) -> Option<&Served>
+        ensures some { IfSome result (λ served. IsDone self.now × (self.now.best ≡ Some served.now)) }
+        ensures answer { IfSome result (λ served. (served.now.question ≡ self.now.question) × IsTheAnswer self.now.question self.now.costs served.now.gaps) }
+        ensures none { IfNone result (¬ IsDone self.now) }
+    {
+        if self.is_done() {
+            self.best.as_ref()
+        } else {
+            None
+        }
+    }
+
+    /// What the search leaves, once it is done; else the search as it is.
+    pub fn finish(self) -> Result<Finished, SearchTree>
+        ensures ok { IfOk result (λ finished. state_of finished ≡ self) }
+        ensures done { OnOk result (IsDone self) }
+        ensures err { IfErr result (λ tree. tree ≡ self) }
+        ensures not_done { OnErr result (¬ IsDone self) }
+    {
+        if !self.is_done() {
+            return Err(self);
+        }
+        let SearchTree {
+            alloc: _,
+            program,
+            shown,
+            costs,
+            seats,
+            entries,
+            best,
+        } = self;
+        match best {
+            Some(served) => Ok(Finished {
+                program,
+                shown,
+                costs,
+                seats,
+                entries,
+                served,
+            }),
+            None => unreachable!(),
+        }
+    }
+}
