@@ -1,0 +1,11 @@
+pub mod FewOpen
+pub mod PassedGaps
+pub mod Bounds
+pub mod GapTreeValid
+pub mod Recording
+pub mod GapTreeSmall
+pub mod Ascending
+pub mod ShortRuns
+pub mod CertificateMade
+pub mod Splitting
+pub mod Settling

@@ -1,0 +1,176 @@
+-- What the record says of each node, and the runs of its splits.
+use Rattle.std.proofs.Common.{◌≡◌, ◌≢◌, ◌⊎◌, Contains, ℕ, zero, suc, ◌+◌, ◌<◌, true, List, [], ◌∷◌, ◌++◌, Some, length, get_or, take, refl, sym, ap, ◌∙◌, subst, inl, inr, arith}
+use Rattle.std.specs.Prelude.{slice_get}
+use Rattle.std.proofs.lemmas.Option.{same_Some, none-some, slice_get_within}
+use Rattle.std.proofs.lemmas.List.{length-map, map-append, take_more}
+use Rattle.std.proofs.lemmas.List.Elements.{Contains-get_or, Contains-push_cases}
+use Rattle.std.proofs.lemmas.List.Quantifiers.{all_pairs_push}
+use Rattle.tso_machine.specs.declared.label.Label.{Label}
+use Rattle.std.specs.Global.{Vec}
+use Rattle.cert_forest.specs.Certificates.{labels_of}
+use Rattle.cert_forest.specs.Trees.{Gap, gaps_of}
+use Rattle.tree_laws.specs.GapTrees.{children_of}
+use Rattle.cover_solver.specs.Facts.{Foreign}
+use Rattle.search_core.specs.declared.entry.Entry.{Entry}
+use Rattle.search_core.specs.declared.entry.Status.{Status}
+use Rattle.search_core.specs.declared.entry.Status.TheVariants as status
+use Rattle.search_core.specs.declared.finished.Event.{Event}
+use Rattle.search_core.specs.declared.finished.Event.TheVariants as event
+use Rattle.search_core.specs.declared.finished.Settled.{Settled}
+use Rattle.search_core.specs.Nodes.{region_of, node_of, open_gaps, children}
+use Rattle.search_core.specs.Entries.{is_closed_status}
+use Rattle.search_core.specs.Records.{Outcome, state_of, IsOutcome, IsEventOf, IsSettledAs, IsFirstChild}
+use Rattle.search_core.proofs.Places.{get_longer, get_behind, get_mapped}
+use Rattle.std.proofs.lemmas.Option.{slice_get_read}
+use Rattle.search_core.proofs.Kept.{facts_of}
+use Rattle.fence_place.specs.Recorded.{AreNumbersOf, AreRunsOf, AreDistinct, Lists, is_there, is_new, ListsEvent, IsRecorded, AreRecorded}
+use Rattle.fence_place.proofs.GapTreeValid.{as_many}
+
+-- the record of a split says which run it was
+pub split_event : (s : Status) (v : Event) (run : _) → v ≡ event.Split run → IsEventOf s v → (f : Foreign) × (first : ℕ) × (s ≡ status.Split f first) × (run.now ≡ f)
+split_event s v run e h = by_status s (subst (λ (u : Event). IsEventOf s u) e h)
+  where
+    by_status : (t : Status) → IsEventOf t (event.Split run) → (f : Foreign) × (first : ℕ) × (t ≡ status.Split f first) × (run.now ≡ f)
+    by_status status.Open h = absurd h
+    by_status status.Held h = absurd h
+    by_status (status.Split f first) h = (f, first, refl, h)
+    by_status status.Cut h = absurd h
+    by_status status.Confirmed h = absurd h
+
+-- any other says that the node is closed
+pub other_event : (s : Status) (v : Event) → ((run : _) → v ≡ event.Split run → ⊥) → IsEventOf s v → is_closed_status s ≡ true
+other_event status.Open v other h = absurd h
+other_event status.Held v other h = absurd h
+other_event (status.Split f first) (event.Split run) other h = absurd (other run refl)
+other_event (status.Split f first) event.Cut other h = absurd h
+other_event (status.Split f first) event.Confirmed other h = absurd h
+other_event status.Cut v other h = refl
+other_event status.Confirmed v other h = refl
+
+-- in the front, or the last
+get_last : {A : Type 0} (l : List A) (x : A) (k : ℕ) (a : A) → slice_get (l ++ x ∷ []) k ≡ Some a → (slice_get l k ≡ Some a) ⊎ ((k ≡ length l) × (x ≡ a))
+get_last [] x zero a e = inr (refl, same_Some x a e)
+get_last [] x (suc k) a e = absurd (none-some a e)
+get_last (y ∷ ys) x zero a e = inl e
+get_last (y ∷ ys) x (suc k) a e = elim (get_last ys x k a e) [ inl h ↦ inl h | inr h ↦ inr ((let q : k ≡ length ys = h.0 in omega arith), h.1) ]
+
+some_there : {A : Type 0} (l : List A) (i : ℕ) → i < length l → (a : A) × (slice_get l i ≡ Some a)
+some_there [] i h = absurd (omega arith)
+some_there (x ∷ xs) zero h = (x, refl)
+some_there (x ∷ xs) (suc i) h = some_there xs i (omega arith)
+
+-- where the children of a split node stand
+pub kids_there : (o : Outcome) → IsOutcome o → (place first : ℕ) (e : Entry) (f : Foreign) → slice_get o.entries place ≡ Some e → e.status ≡ status.Split f first →
+    (place < first) × ((i : ℕ) → i < length (open_gaps f.passed e.node.never) → first + i < length o.entries)
+kids_there o is place first e f there split =
+    let at = (facts_of (state_of o) is.reached).split place e f first there split in
+    let long : length (children e.node f.passed) ≡ length (open_gaps f.passed e.node.never) =
+    length-map (children_of (region_of e.node) (open_gaps f.passed e.node.never)) node_of ∙ as_many (region_of e.node) (open_gaps f.passed e.node.never) in (
+      at.later,
+      λ i h. (let kid = some_there (children e.node f.passed) i (omega arith) in
+          let has = at.kids i kid.0 kid.1 in slice_get_within o.entries (first + i) has.here has.there),
+    )
+
+-- one tree more
+pub recorded_more : (entries : List Entry) (numbers : List ℕ) (ts : List Gap) (t : Gap) (first i : ℕ) → AreRecorded entries numbers (gaps_of ts) first i → IsRecorded entries numbers t (first + i) →
+    AreRecorded entries numbers (gaps_of (ts ++ t ∷ [])) first (i + 1)
+recorded_more entries numbers [] t first zero so h = (subst (IsRecorded entries numbers t) (omega arith) h, tt)
+recorded_more entries numbers [] t first (suc i) so h = absurd so
+recorded_more entries numbers (x ∷ xs) t first zero so h = absurd so
+recorded_more entries numbers (x ∷ xs) t first (suc i) so h =
+    let e : suc i + 1 ≡ suc (i + 1) = omega arith in
+    subst (λ n. AreRecorded entries numbers (gaps_of (x ∷ xs ++ t ∷ [])) first n) (sym e)
+    (so.0, recorded_more entries numbers xs t (first + 1) i so.1 (subst (IsRecorded entries numbers t) (omega arith) h))
+
+module _ (labels : List Label) (number : ℕ) (runs after : List (List Label)) where
+  -- the runs so far stay
+  stays : Lists labels number runs after → (k : ℕ) (l : List Label) → slice_get runs k ≡ Some l → slice_get after k ≡ Some l
+  stays (is_there at same) k l h = subst (λ (r : List (List Label)). slice_get r k ≡ Some l) (sym same) h
+  stays (is_new fresh last same) k l h = subst (λ (r : List (List Label)). slice_get r k ≡ Some l) (sym same) (get_longer runs (labels ∷ []) k l h)
+
+  -- the run has its number
+  has_number : Lists labels number runs after → slice_get after number ≡ Some labels
+  has_number (is_there at same) = subst (λ (r : List (List Label)). slice_get r number ≡ Some labels) (sym same) at
+  has_number (is_new fresh last same) =
+      let behind : number ≡ length runs + 0 = omega arith in
+      subst (λ (r : List (List Label)). slice_get r number ≡ Some labels) (sym same) (ap (slice_get (runs ++ labels ∷ [])) behind ∙ get_behind runs (labels ∷ []) 0)
+
+  -- no other is new
+  no_other : Lists labels number runs after → (k : ℕ) (l : List Label) → slice_get after k ≡ Some l → (slice_get runs k ≡ Some l) ⊎ (labels ≡ l)
+  no_other (is_there at same) k l h = inl (subst (λ (r : List (List Label)). slice_get r k ≡ Some l) same h)
+  no_other (is_new fresh last same) k l h =
+      elim (get_last runs labels k l (subst (λ (r : List (List Label)). slice_get r k ≡ Some l) same h)) [ inl old ↦ inl old | inr new ↦ inr new.1 ]
+
+  -- none is there twice
+  once_more : Lists labels number runs after → AreDistinct runs → AreDistinct after
+  once_more (is_there at same) once = subst AreDistinct (sym same) once
+  once_more (is_new fresh last same) once =
+      subst AreDistinct (sym same) (all_pairs_push (λ a b. a ≢ b) runs labels once (λ k d within is. fresh (subst (Contains runs) is (Contains-get_or runs k d within))))
+
+-- a run that is looked up among others, and is none of those so far
+pub none_more : (runs : List (Vec Label)) (n : ℕ) (run : Vec Label) (labels : List Label) → n < length runs → run ≡ get_or runs n run → (run.items ≡ labels → ⊥) → ¬ Contains (labels_of (take n runs)) labels →
+    ¬ Contains (labels_of (take (n + 1) runs)) labels
+none_more runs n run labels within is other none has =
+    let e : take (n + 1) runs ≡ take n runs ++ run ∷ [] = take_more runs n run within ∙ ap (λ (r : Vec Label). take n runs ++ r ∷ []) (sym is) in
+    let f : labels_of (take (n + 1) runs) ≡ labels_of (take n runs) ++ run.items ∷ [] = ap labels_of e ∙ map-append (λ (r : Vec Label). r.items) (take n runs) (run ∷ []) in
+    elim (Contains-push_cases (labels_of (take n runs)) run.items labels (subst (λ l. Contains l labels) f has)) [ inl old ↦ none old | inr new ↦ other new ]
+
+-- the labels of a run that stands there
+pub there_as : (runs : List (Vec Label)) (n : ℕ) (run : Vec Label) (labels : List Label) → n < length runs → run ≡ get_or runs n run → run.items ≡ labels → slice_get (labels_of runs) n ≡ Some labels
+there_as runs n run labels within is same =
+    get_mapped (λ (r : Vec Label). r.items) runs n run (slice_get_read runs (length runs) n run refl within is) ∙ ap (λ (l : List Label). Some l) same
+
+-- a node that is not split has any number
+pub not_listed : (v : Event) (number : ℕ) (runs : List (List Label)) → ((run : _) → v ≡ event.Split run → ⊥) → ListsEvent v number runs runs
+not_listed (event.Split run) number runs other = absurd (other run refl)
+not_listed event.Cut number runs other = refl
+not_listed event.Confirmed number runs other = refl
+
+pub still_distinct : (v : Event) (number : ℕ) (runs after : List (List Label)) → ListsEvent v number runs after → AreDistinct runs → AreDistinct after
+still_distinct (event.Split run) number runs after h once = once_more run.now.labels number runs after h once
+still_distinct event.Cut number runs after h once = subst AreDistinct (sym h) once
+still_distinct event.Confirmed number runs after h once = subst AreDistinct (sym h) once
+
+module _ (entries : List Entry) (runs after : List (List Label)) (numbers : List ℕ) (number : ℕ) (e : Entry) (settled : Settled) (there : slice_get entries (length numbers) ≡ Some e) (is : IsSettledAs e settled)
+    (listed : ListsEvent settled.event number runs after) where
+  event_stays : (v : Event) → ListsEvent v number runs after → (k : ℕ) (l : List Label) → slice_get runs k ≡ Some l → slice_get after k ≡ Some l
+  event_stays (event.Split run) h k l at = stays run.now.labels number runs after h k l at
+  event_stays event.Cut h k l at = subst (λ (r : List (List Label)). slice_get r k ≡ Some l) (sym h) at
+  event_stays event.Confirmed h k l at = subst (λ (r : List (List Label)). slice_get r k ≡ Some l) (sym h) at
+
+  here_now : (s : Status) (v : Event) → ListsEvent v number runs after → IsEventOf s v → (f : Foreign) (first : ℕ) → s ≡ status.Split f first → slice_get after number ≡ Some f.labels
+  here_now s (event.Split run) lists h f first split = let g : run.now ≡ f = subst (λ (t : Status). IsEventOf t (event.Split run)) split h in
+      has_number run.now.labels number runs after lists ∙ ap (λ (x : Foreign). Some x.labels) g
+  here_now s event.Cut lists h f first split = absurd (subst (λ (t : Status). IsEventOf t event.Cut) split h)
+  here_now s event.Confirmed lists h f first split = absurd (subst (λ (t : Status). IsEventOf t event.Confirmed) split h)
+
+  pub numbered_more : AreNumbersOf entries runs numbers → AreNumbersOf entries after (numbers ++ number ∷ [])
+  numbered_more so place k at = elim (get_last numbers number place k at) [
+    | inl old ↦ record { runs_at = λ x f first h split. event_stays settled.event listed k f.labels ((so place k old).runs_at x f first h split) }
+    | inr new ↦ record {
+      runs_at = λ x f first h split. (let same : e ≡ x = same_Some e x (sym there ∙ ap (slice_get entries) (sym new.0) ∙ h) in
+          subst (λ n. slice_get after n ≡ Some f.labels) new.1 (here_now e.status settled.event listed is.is_event f first (ap (λ (y : Entry). y.status) same ∙ split)));
+    }
+  ]
+
+  pub of_nodes_more : AreRunsOf entries runs → AreRunsOf entries after
+  of_nodes_more so = by_event settled.event listed is.is_event
+    where
+      by_event : (v : Event) → ListsEvent v number runs after → IsEventOf e.status v → AreRunsOf entries after
+      by_event (event.Split run) lists h = λ k labels at. elim (no_other run.now.labels number runs after lists k labels at) [
+        | inl old ↦ so k labels old
+        | inr new ↦ (let s = split_event e.status (event.Split run) run refl h in
+            (length numbers, e, s.0, s.1, there, s.2, ap (λ (g : Foreign). g.labels) (sym s.3) ∙ new))
+      ]
+      by_event event.Cut lists h = subst (AreRunsOf entries) (sym lists) so
+      by_event event.Confirmed lists h = subst (AreRunsOf entries) (sym lists) so
+
+-- what the readers say of a split node
+pub split_facts : (o : Outcome) (place first : ℕ) (settled : Settled) (run : _) → (x : Entry) × (slice_get o.entries place ≡ Some x) × IsSettledAs x settled → settled.event ≡ event.Split run → IsFirstChild o.entries place first →
+    (e : Entry) × (f : Foreign) × (slice_get o.entries place ≡ Some e) × (e.status ≡ status.Split f first) × (run.now ≡ f) × (settled.node ≡ e.node)
+split_facts o place first settled run (e, there, is) split (e2, there2, f2, status2) =
+    let s = split_event e.status settled.event run split is.is_event in
+    let same : e2 ≡ e = same_Some e2 e (sym there2 ∙ there) in
+    let both : status.Split s.0 s.1 ≡ status.Split f2 first = sym s.2 ∙ ap (λ (x : Entry). x.status) (sym same) ∙ status2 in
+    let at : s.1 ≡ first = cc in
+    (e, s.0, there, s.2 ∙ ap (status.Split s.0) at, s.3, is.same_node)

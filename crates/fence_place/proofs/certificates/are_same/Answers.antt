@@ -1,0 +1,8 @@
+use Rattle.std.proofs.Common.{◌≡◌, Decides, rules}
+use Rattle.std.proofs.lemmas.Slice.Eq.{slice_eq-Decides}
+use Rattle.fence_place.proofs.certificates.are_same.Goals as goal
+
+pub returns : goal.returns
+returns c =
+    let decides : Decides c.eq.result (c.args.run.now ≡ c.args.labels.now) = slice_eq-Decides (λ a b. search rules) c.args.run.now c.args.labels.now c.eq.result c.eq.ensures in
+    search rules

@@ -1,0 +1,41 @@
+use Rattle.std.proofs.Common.{◌≡◌, ◌∙◌, ◌<◌, ◌≤◌, ℕ, zero, suc, List, [], ◌∷◌, ◌++◌, Some, None, length, length-append, sym, ap, subst, arith}
+use Rattle.std.specs.Prelude.{slice_get}
+use Rattle.std.proofs.lemmas.Option.{slice_get_within}
+use Rattle.cert_forest.specs.Certificates.{labels_of}
+use Rattle.fence_place.specs.Recorded.{AreNumbersOf}
+use Rattle.fence_place.proofs.Recording.{numbered_more, of_nodes_more, still_distinct}
+use Rattle.fence_place.proofs.certificates.listed_runs.Goals as goal
+
+none_past : {A : Type 0} (l : List A) (k : ℕ) → slice_get l k ≡ None → length l ≤ k
+none_past [] k e = omega arith
+none_past (x ∷ xs) zero e = absurd cc
+none_past (x ∷ xs) (suc k) e = let h = none_past xs k e in omega arith
+
+longer : (l : List ℕ) (x : ℕ) (n : ℕ) → length l < n → length (l ++ x ∷ []) ≤ n
+longer l x n h = omega (arith, length-append l (x ∷ []))
+
+pub loop-settled-preserved : goal.loop-settled-preserved
+loop-settled-preserved c =
+    let entries = c.args.finished.now.entries in
+    let numbers = c.loop-settled.numbers.items in
+    let runs = labels_of c.loop-settled.runs.items in
+    let after = labels_of c.run_number.new.runs.items in
+    let many : c.len.result ≡ length numbers = let a = c.loop-settled.numbers.ok.0 in let b = c.len.ensures in omega arith in
+    let (e, found, is) = c.in-Some.ensures in
+    let there : slice_get entries (length numbers) ≡ Some e = ap (slice_get entries) (sym many) ∙ found in
+    let number = c.in_ok-number.number in
+    let listed = c.in_ok-number.ensures in
+    record {
+      within = subst (λ l. length l ≤ length entries) (sym c.in_ok-push.ensures.items) (longer numbers number (length entries) (slice_get_within entries (length numbers) e there));
+      numbered = subst (AreNumbersOf entries after) (sym c.in_ok-push.ensures.items) (numbered_more entries runs after numbers number e c.in-Some.settled there is listed c.loop-settled.invariant.numbered);
+      of_nodes = of_nodes_more entries runs after numbers number e c.in-Some.settled there is listed c.loop-settled.invariant.of_nodes;
+      once = still_distinct c.in-Some.settled.event number runs after listed c.loop-settled.invariant.once;
+    }
+
+pub returns-clause-as_many : goal.returns-clause-as_many
+returns-clause-as_many c =
+    let past : length c.args.finished.now.entries ≤ c.len.result = none_past c.args.finished.now.entries c.len.result c.in_default.ensures in
+    let within : length c.loop-settled.numbers.items ≤ length c.args.finished.now.entries = c.loop-settled.invariant.within in
+    let a = c.loop-settled.numbers.ok.0 in
+    let b = c.len.ensures in
+    omega arith

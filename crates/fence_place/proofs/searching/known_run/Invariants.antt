@@ -1,0 +1,9 @@
+use Rattle.std.proofs.Common.{◌≡◌, Some}
+use Rattle.std.specs.Prelude.{slice_get, IfSome}
+use Rattle.cover_solver.specs.Facts.{Foreign}
+use Rattle.cover_solver.specs.Verdicts.{PassesNoneOf}
+use Rattle.fence_place.proofs.searching.known_run.Given as goal
+
+-- the best so far is one of them, and passes none of these gaps
+abbrev pub invariant-loop-place : goal.invariant-loop-place
+invariant-loop-place l = IfSome l.best (λ place. (run : Foreign) × (slice_get l.known place ≡ Some run) × PassesNoneOf l.node.must run)

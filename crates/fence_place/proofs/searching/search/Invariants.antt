@@ -1,0 +1,17 @@
+use Rattle.std.proofs.Common.{◌≡◌, ◌<◌}
+use Rattle.search_core.specs.Work.{work_left}
+use Rattle.fence_place.specs.Searches.{AreOf, NothingIsHeld}
+use Rattle.fence_place.proofs.searching.search.Given as goal
+
+-- no seat holds a node between two of them
+abbrev pub invariant-loop-known : goal.invariant-loop-known
+invariant-loop-known g l = record {
+  question : l.tree.question ≡ l.table.question;
+  costs : l.tree.costs ≡ l.costs;
+  seats : 0 < l.tree.seats;
+  known : AreOf l.table.question l.known.items;
+  unheld : NothingIsHeld l.tree;
+}
+
+abbrev pub decreases-loop-known : goal.decreases-loop-known
+decreases-loop-known g l = work_left l.tree.entries

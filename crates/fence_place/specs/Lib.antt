@@ -1,0 +1,5 @@
+pub mod Recorded
+pub mod Proofs
+pub mod Placements
+pub mod Faults
+pub mod Searches

@@ -1,0 +1,182 @@
+//! The certificate of a search that is done.
+ghost use Rattle.std.specs.Prelude.{◌≡◌, ◌↔◌, ◌<◌, ◌+◌, ℕ, IfOk, IsTrue, MatchOption, Some, Contains, length, slice_get, map};
+ghost use Rattle.cert_forest.specs.Certificates.{labels_of, shown_places};
+ghost use Rattle.cert_forest.specs.Limits.{ArePlaces};
+ghost use Rattle.cert_forest.specs.Trees.{gaps_of};
+ghost use Rattle.cert_forest.specs.Views.{gap};
+ghost use Rattle.fence_place.specs.Recorded.{AreNumbersOf, AreRunsOf, AreDistinct, ListsEvent, IsRecorded, AreRecorded};
+ghost use Rattle.fence_place.specs.Proofs.{IsProof};
+
+use crate::gaps::count_open;
+use cert_forest::{Certificate, GapTree};
+use cover_solver::SeqTable;
+use search_core::{Event, Finished};
+use std::alloc::{AllocError, Global};
+use tso_machine::Label;
+use tso_program::Shown;
+
+/// The certificate of the answer: the table's runs with their tree, the tree with the set's gaps fenced,
+/// and the record as a gap tree, where a split node is a split and a cut or confirmed one a bound.
+pub fn certify(
+    alloc: Global,
+    table: &SeqTable,
+    finished: &Finished,
+) -> Result<Certificate, AllocError>
+    requires { table.now.question ≡ finished.now.question }
+    ensures set { IfOk result (λ certificate. certificate.set ≡ finished.now.served.gaps) }
+    ensures proof { IfOk result (IsProof finished.now.question finished.now.costs) }
+    ensures once { IfOk result (λ certificate. AreDistinct (labels_of certificate.runs.items)) }
+{
+    let served = finished.served();
+    let shown = table.shown();
+    // For the proof alone: what holds of every table, of each set that serves and of all names is known
+    // where these are read.
+    let _ = table.program();
+    let _ = served.program();
+    its_places_ascend(shown);
+    let (runs, numbers) = listed_runs(alloc, finished)?;
+    let gap_tree = gap_tree(alloc, finished, &numbers, 0)?;
+    let set = served.set();
+    Ok(Certificate {
+        shown: *shown,
+        set,
+        cost: finished.costs().total(&set),
+        seq_runs: run_copies(alloc, table.runs())?,
+        seq_tree: table.tree().copy(alloc)?,
+        runs,
+        fenced_tree: served.tree().copy(alloc)?,
+        gap_tree,
+    })
+}
+
+/// The places of what is shown have a text. Calling it does nothing.
+fn its_places_ascend(shown: &Shown)
+    ensures { ArePlaces (shown_places shown.now) }
+{
+    // For the proof alone: what holds of all names is known where their places are asked for.
+    if let Shown::Only(names) = shown {
+        let _ = names.places();
+    }
+}
+
+/// The runs that split nodes, each of them once, and for each node a number: that of its run, where it was
+/// split.
+fn listed_runs(
+    alloc: Global,
+    finished: &Finished,
+) -> Result<(Vec<Vec<Label>>, Vec<usize>), AllocError>
+    ensures numbers { IfOk result (λ found. AreNumbersOf finished.now.entries (labels_of found.0.items) found.1.items) }
+    ensures as_many { IfOk result (λ found. length found.1.items ≡ length finished.now.entries) }
+    ensures runs { IfOk result (λ found. AreRunsOf finished.now.entries (labels_of found.0.items)) }
+    ensures once { IfOk result (λ found. AreDistinct (labels_of found.0.items)) }
+{
+    let mut runs = Vec::new(alloc);
+    let mut numbers = Vec::new(alloc);
+    while let Some(settled) = finished.settled(numbers.len()) {
+        let number = run_number(alloc, &mut runs, settled.event)?;
+        numbers.push(number)?;
+    }
+    Ok((runs, numbers))
+}
+
+/// The number of the run of a split, which is put after the others where none of them is equal to it. A
+/// node that isn't split has any number.
+fn run_number(
+    alloc: Global,
+    runs: &mut Vec<Vec<Label>>,
+    event: Event<'_>,
+) -> Result<usize, AllocError>
+    ensures { IfOk result (λ number. ListsEvent event.entry number (labels_of runs.old.items) (labels_of runs.new.items)) }
+{
+    let Event::Split(run) = event else {
+        return Ok(0);
+    };
+    if let Some(number) = place_of(runs, run.labels()) {
+        return Ok(number);
+    }
+    let number = runs.len();
+    runs.push(Vec::from_slice(alloc, run.labels())?)?;
+    Ok(number)
+}
+
+/// The number of the run with these labels, from 0.
+fn place_of(runs: &[Vec<Label>], labels: &[Label]) -> Option<usize>
+    ensures { MatchOption result (¬ Contains (labels_of runs.now) labels.now) (λ number. slice_get (labels_of runs.now) number ≡ Some labels.now) }
+{
+    for (number, run) in runs.iter().enumerate() {
+        if are_same(run, labels) {
+            return Some(number);
+        }
+    }
+    None
+}
+
+/// Whether the two are the same steps.
+fn are_same(run: &[Label], labels: &[Label]) -> bool
+    ensures { IsTrue result ↔ (run.now ≡ labels.now) }
+{
+    run == labels
+}
+
+/// What became of the node of this number and of its descendants. It recurses as deep as a tree of gaps
+/// may be.
+#[cycle(gap_tree)]
+fn gap_tree(
+    alloc: Global,
+    finished: &Finished,
+    numbers: &[usize],
+    number: usize,
+) -> Result<GapTree, AllocError>
+    requires as_many { length numbers.now ≡ length finished.now.entries }
+    requires there { number < length numbers.now }
+    ensures { IfOk result (λ tree. IsRecorded finished.now.entries numbers.now (gap tree) number) }
+{
+    let _ = finished.program();
+    let Some(settled) = finished.settled(number) else {
+        unreachable!()
+    };
+    let Event::Split(run) = settled.event else {
+        return Ok(GapTree::Bound);
+    };
+    let Some(first) = finished.first_child(number) else {
+        unreachable!()
+    };
+    let count = count_open(run.passed(), settled.node.never);
+    let children = gap_trees(alloc, finished, numbers, first, count)?;
+    Ok(GapTree::Split {
+        run: numbers[number] as u64,
+        children,
+    })
+}
+
+/// The same of so many nodes from this number on.
+#[cycle(gap_tree)]
+fn gap_trees(
+    alloc: Global,
+    finished: &Finished,
+    numbers: &[usize],
+    first: usize,
+    count: usize,
+) -> Result<Vec<GapTree>, AllocError>
+    requires as_many { length numbers.now ≡ length finished.now.entries }
+    requires there { (i : ℕ) → i < count → first + i < length numbers.now }
+    ensures { IfOk result (λ trees. AreRecorded finished.now.entries numbers.now (gaps_of (map gap trees.items)) first count) }
+{
+    let mut trees = Vec::new(alloc);
+    for i in 0..count {
+        let tree = gap_tree(alloc, finished, numbers, first + i)?;
+        trees.push(tree)?;
+    }
+    Ok(trees)
+}
+
+/// Equal runs.
+fn run_copies(alloc: Global, runs: &[Vec<Label>]) -> Result<Vec<Vec<Label>>, AllocError>
+    ensures { IfOk result (λ copies. labels_of copies.items ≡ labels_of runs.now) }
+{
+    let mut copies = Vec::new(alloc);
+    for run in runs {
+        copies.push(Vec::from_slice(alloc, run)?)?;
+    }
+    Ok(copies)
+}
