@@ -1,4 +1,5 @@
 pub mod CostLines
 pub mod CostTexts
+pub mod GivenCosts
 pub mod LineReading
 pub mod TextReading

@@ -5,8 +5,10 @@
 #![tactic(auto)]
 
 mod fault;
+mod given;
 mod line;
 mod reader;
 
 pub use fault::CostTextFault;
+pub use given::given_costs;
 pub use reader::read_costs;

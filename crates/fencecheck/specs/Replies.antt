@@ -2,7 +2,7 @@
 use Rattle.std.specs.Prelude.{◌≡◌, ℕ, ◌+◌, List, [], ◌∷◌, ◌++◌, Option, Some, None, codes}
 use Rattle.program_streams.specs.declared.fault.FileFault.{FileFault}
 use Rattle.program_streams.specs.declared.fault.FileFault.TheVariants as file
-use Rattle.program_streams.specs.Files.{AreOfFile, AreWithin, IsFileFault, IsTooLong}
+use Rattle.program_streams.specs.Files.{AreOfFile, AreOfFileIfNamed, AreWithin, IsFileFault, IsNamedFileFault, IsTooLong}
 use Rattle.program_streams.specs.Streams.{Holds, IsReadFault}
 use Rattle.report.specs.Faults.{file_line}
 use Rattle.program_streams.specs.declared.files.TheConstants.{TEXT_LIMIT}
@@ -26,23 +26,11 @@ pub record FileNames : Type 0 where
   pub certificate : List ℕ
   pub costs : Option (List ℕ)
 
--- the costs are those of the file of this name, where one is named
-abbrev pub AreOfCosts : (List ℕ → Option (List ℕ)) → Option (List ℕ) → Option (List ℕ) → Type 0
-AreOfCosts files None costs = costs ≡ None
-AreOfCosts files (Some name) None = ⊥
-AreOfCosts files (Some name) (Some costs) = AreWithin TEXT_LIMIT (files name) costs
-
--- why the costs aren't read: a file of them is named, and this is why it isn't read
-pub record IsCostsFault (files : List ℕ → Option (List ℕ)) (named : Option (List ℕ)) (why : FileFault) : Type 0 where
-  pub name : List ℕ
-  pub is_named : named ≡ Some name
-  pub is_fault : IsReadFault (IsTooLong TEXT_LIMIT (files name)) why
-
 -- what the files of these names hold; `-` as the litmus file is the input
 pub record AreOfFiles (names : FileNames) (input : Option (List ℕ)) (files : List ℕ → Option (List ℕ)) (litmus certificate : List ℕ) (costs : Option (List ℕ)) : Type 0 where
   pub of_litmus : AreOfFile TEXT_LIMIT names.litmus input files litmus
   pub of_certificate : AreWithin CERTIFICATE_LIMIT (files names.certificate) certificate
-  pub of_costs : AreOfCosts files names.costs costs
+  pub of_costs : AreOfFileIfNamed TEXT_LIMIT names.costs files costs
 
 -- why a file isn't read: the first that isn't, where those before it are
 pub data IsFilesFault (names : FileNames) (input : Option (List ℕ)) (files : List ℕ → Option (List ℕ)) (why : FileFault) : Type 0 where
@@ -50,7 +38,7 @@ pub data IsFilesFault (names : FileNames) (input : Option (List ℕ)) (files : L
   no_certificate : (litmus : List ℕ) → AreOfFile TEXT_LIMIT names.litmus input files litmus
       → IsReadFault (IsTooLong CERTIFICATE_LIMIT (files names.certificate)) why → IsFilesFault names input files why
   no_costs : (litmus certificate : List ℕ) → AreOfFile TEXT_LIMIT names.litmus input files litmus
-      → AreWithin CERTIFICATE_LIMIT (files names.certificate) certificate → IsCostsFault files names.costs why → IsFilesFault names input files why
+      → AreWithin CERTIFICATE_LIMIT (files names.certificate) certificate → IsNamedFileFault TEXT_LIMIT names.costs files why → IsFilesFault names input files why
 
 -- the reply to files
 pub data IsReplyToFiles (names : FileNames) (input : Option (List ℕ)) (files : List ℕ → Option (List ℕ)) : ℕ → List ℕ → Type 0 where

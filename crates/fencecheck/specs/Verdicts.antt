@@ -1,9 +1,8 @@
 -- What the texts of a program, a certificate and costs are told.
-use Rattle.std.specs.Prelude.{◌≡◌, ℕ, List, Option, Some, None, replicate}
+use Rattle.std.specs.Prelude.{◌≡◌, ℕ, List, Option}
 use Rattle.gap_sets.specs.Gaps.{SetOfGaps}
 use Rattle.gap_sets.specs.Order.{total}
 use Rattle.tso_program.specs.declared.listing.Listing.{Listing}
-use Rattle.tso_program.specs.Listings.{gap_count}
 use Rattle.tso_program.specs.declared.shown.Shown.{Shown}
 use Rattle.tso_program.specs.declared.shown.Shown.TheVariants.{All, Only}
 use Rattle.tso_program.specs.Shown.{asked}
@@ -18,9 +17,7 @@ use Rattle.cert_forest.specs.declared.fault.CertFault.{CertFault}
 use Rattle.cert_forest.specs.declared.fault.CertFault.TheVariants as cert_fault
 use Rattle.cert_forest.specs.Certificates as certificates
 use Rattle.cert_forest.specs.Limits.{IsCertificate}
-use Rattle.cost_text.specs.declared.fault.CostTextFault.{CostTextFault}
-use Rattle.cost_text.specs.declared.fault.CostTextFault.TheVariants as cost_fault
-use Rattle.cost_text.specs.CostTexts as cost_texts
+use Rattle.cost_text.specs.GivenCosts.{AreGiven, AreNotGiven}
 use Rattle.tree_laws.specs.Certificates.{IsValidCertificate}
 use Rattle.cert_check.specs.Claims.{claim_of}
 use Rattle.cert_check.specs.Faults.{FaultIs}
@@ -29,11 +26,6 @@ use Rattle.report_check.specs.Lines.{accepted_line, certificate_line}
 use Rattle.report_check.specs.CheckLines.{check_line}
 use Rattle.fencecheck.specs.declared.judge.Refusal.{Refusal}
 use Rattle.fencecheck.specs.declared.judge.Refusal.TheVariants as refusal
-
--- the costs of a program's gaps: those that the text gives, or 1 each without a text
-abbrev pub AreCosts : Listing → Option (List ℕ) → List ℕ → Type 0
-AreCosts p None costs = costs ≡ replicate (gap_count p.threads) 1
-AreCosts p (Some text) costs = cost_texts.IsCostText text p.threads costs
 
 -- the first text is a program's, and the second this certificate's
 pub record Spell (litmus certificate : List ℕ) (program : Litmus Listing) (claimed : Certificate) : Type 0 where
@@ -51,7 +43,7 @@ pub record Tells (litmus : List ℕ) (costs : Option (List ℕ)) (line : List �
   pub program : Litmus Listing
   pub of_text : litmus_texts.IsLitmus litmus program
   pub gap_costs : List ℕ
-  pub given : AreCosts program.program costs gap_costs
+  pub given : AreGiven program.program costs gap_costs
   pub shown : Shown
   pub as_asked : handed_in program shown ≡ shown
   pub gaps : SetOfGaps
@@ -75,11 +67,6 @@ pub record IsNoLitmus (text : List ℕ) (fault : ReadFault) : Type 0 where
 abbrev pub IsNoCertificate : List ℕ → CertFault → Type 0
 IsNoCertificate text fault = (c : certificates.Cert) → IsCertificate text c → fault ≡ cert_fault.OutOfMemory
 
--- why there are no costs; without a text only for want of memory
-abbrev pub AreNoCosts : Listing → Option (List ℕ) → CostTextFault → Type 0
-AreNoCosts p None fault = fault ≡ cost_fault.OutOfMemory
-AreNoCosts p (Some text) fault = cost_texts.Refuses text p.threads fault
-
 -- Why a certificate is refused: the litmus text is judged first, then the certificate's text, the costs, and what the
 -- certificate shows.
 abbrev pub IsRefused : List ℕ → List ℕ → Option (List ℕ) → Refusal → Type 0
@@ -87,10 +74,10 @@ IsRefused litmus certificate costs (refusal.Litmus fault) = IsNoLitmus litmus fa
 IsRefused litmus certificate costs (refusal.Certificate fault) =
     (program : Litmus Listing) × litmus_texts.IsLitmus litmus program × IsNoCertificate certificate fault
 IsRefused litmus certificate costs (refusal.Costs fault) =
-    (program : Litmus Listing) × (claimed : Certificate) × Spell litmus certificate program claimed × AreNoCosts program.program costs fault
+    (program : Litmus Listing) × (claimed : Certificate) × Spell litmus certificate program claimed × AreNotGiven program.program costs fault
 IsRefused litmus certificate costs (refusal.Check fault) =
     (program : Litmus Listing) × (claimed : Certificate) × (gap_costs : List ℕ) × Spell litmus certificate program claimed
-    × AreCosts program.program costs gap_costs × FaultIs (asked program.program (handed_in program claimed.shown)) gap_costs (claim_of claimed) fault
+    × AreGiven program.program costs gap_costs × FaultIs (asked program.program (handed_in program claimed.shown)) gap_costs (claim_of claimed) fault
 
 -- the line of a refusal
 abbrev pub refusal_line : Refusal → List ℕ

@@ -3,12 +3,14 @@
 ghost use Rattle.std.specs.Prelude.{◌≡◌, ◌==◌, ◌||◌, IfOk, IfErr, ⊤, length, map, nat_lt, option_map, string_bytes};
 ghost use Rattle.program_streams.specs.Streams.{Prints};
 ghost use Rattle.fencecheck.specs.Verdicts.{IsVerdict};
-ghost use Rattle.fencecheck.specs.Replies.{usage_line, AreOfCosts, IsCostsFault, AreOfFiles, IsFilesFault, IsReplyToInput, IsReplyToFiles, IsOutput};
+ghost use Rattle.fencecheck.specs.Replies.{usage_line, AreOfFiles, IsFilesFault, IsReplyToInput, IsReplyToFiles, IsOutput};
 ghost use Rattle.fencecheck.specs.Names.{names_of};
 
 use crate::judge::{judge, refusal_line};
 use crate::parts::{CERTIFICATE_LIMIT, parts_of};
-use program_streams::{FileFault, FileStore, TEXT_LIMIT, named_bytes, read_up_to, say};
+use program_streams::{
+    FileFault, FileStore, TEXT_LIMIT, bytes_if_named, named_bytes, read_up_to, say,
+};
 use report::file_line;
 use std::alloc::{AllocError, Global};
 use std::io::{Read, Write};
@@ -66,21 +68,6 @@ struct Texts {
     costs: Option<Vec<u8>>,
 }
 
-/// The bytes of a cost file, if there is one.
-fn costs_text<S: FileStore>(
-    alloc: Global,
-    files: &S,
-    name: Option<&str>,
-) -> Result<Option<Vec<u8>>, FileFault>
-    ensures costs { IfOk result (λ costs. AreOfCosts (S.held files.now) (option_map (λ name. name.now) name.entry) (option_map (λ text. text.items) costs)) }
-    ensures err { IfErr result (IsCostsFault (S.held files.now) (option_map (λ name. name.now) name.entry)) }
-{
-    match name {
-        Some(name) => Ok(Some(files.file_bytes(alloc, name, TEXT_LIMIT)?)),
-        None => Ok(None),
-    }
-}
-
 /// The bytes of files. The litmus file is read first, then the certificate, and then the costs.
 fn texts_of<S: FileStore, R: Read>(
     alloc: Global,
@@ -93,7 +80,7 @@ fn texts_of<S: FileStore, R: Read>(
 {
     let litmus = named_bytes(alloc, files, names.litmus, input, TEXT_LIMIT)?;
     let certificate = files.file_bytes(alloc, names.certificate, CERTIFICATE_LIMIT)?;
-    let costs = costs_text(alloc, files, names.costs)?;
+    let costs = bytes_if_named(alloc, files, names.costs, TEXT_LIMIT)?;
     Ok(Texts {
         litmus,
         certificate,

@@ -1,19 +1,19 @@
 //! What the texts of a program, a certificate and costs are told.
 
-ghost use Rattle.std.specs.Prelude.{◌≡◌, IfOk, IfErr, IsOkUnless, OnOk, option_map, replicate};
+ghost use Rattle.std.specs.Prelude.{◌≡◌, IfOk, IfErr, OnOk, option_map};
 ghost use Rattle.gap_sets.specs.Order.{total};
-ghost use Rattle.tso_program.specs.Listings.{gap_count};
 ghost use Rattle.tso_program.specs.Shown.{asked};
 ghost use Rattle.tso_machine.specs.Outcomes.{Headline};
+ghost use Rattle.cost_text.specs.GivenCosts.{AreGiven, AreNotGiven};
 ghost use Rattle.tree_laws.specs.Certificates.{IsValidCertificate};
 ghost use Rattle.cert_check.specs.Claims.{claim_of};
 ghost use Rattle.cert_check.specs.Faults.{FaultIs};
 ghost use Rattle.report_check.specs.Lines.{accepted_line};
-ghost use Rattle.fencecheck.specs.Verdicts.{handed_in, AreCosts, AreNoCosts, IsAccepted, IsRefused, refusal_line};
+ghost use Rattle.fencecheck.specs.Verdicts.{handed_in, IsAccepted, IsRefused, refusal_line};
 
 use cert_check::{CheckFault, check};
 use cert_forest::{CertFault, Certificate, read_cert};
-use cost_text::{CostTextFault, read_costs};
+use cost_text::{CostTextFault, given_costs};
 use gap_sets::Costs;
 use litmus_text::{Litmus, ReadFault, read_litmus};
 use report::{costs_line, litmus_line};
@@ -46,32 +46,14 @@ pub fn refusal_line(alloc: Global, refusal: &Refusal) -> Result<Vec<u8>, AllocEr
     }
 }
 
-fn equal_list(alloc: Global, program: &Program) -> Result<Vec<u32>, AllocError>
-    ensures { IfOk result (λ list. list.items ≡ replicate (gap_count program.now.threads) 1) }
-{
-    vec![in alloc; 1; program.gaps() as usize]
-}
-
-/// The costs where each gap costs 1.
-fn equal_costs(alloc: Global, program: &Program) -> Result<Costs, CostTextFault>
-    ensures costs { IfOk result (λ costs. costs ≡ replicate (gap_count program.now.threads) 1) }
-    ensures err { IsOkUnless result CostTextFault.OutOfMemory }
-{
-    let list = equal_list(alloc, program)?;
-    match Costs::new(alloc, &list) {
-        Ok(costs) => Ok(costs),
-        Err(_) => Err(CostTextFault::OutOfMemory),
-    }
-}
-
 /// The costs that a text gives a program's gaps; 1 each without a text.
 fn costs_of(alloc: Global, program: &Program, text: Option<Vec<u8>>) -> Result<Costs, CostTextFault>
-    ensures costs { IfOk result (AreCosts program.now (option_map (λ text. text.items) text)) }
-    ensures none { IfErr result (AreNoCosts program.now (option_map (λ text. text.items) text)) }
+    ensures costs { IfOk result (AreGiven program.now (option_map (λ text. text.items) text)) }
+    ensures none { IfErr result (AreNotGiven program.now (option_map (λ text. text.items) text)) }
 {
     match text {
-        Some(text) => read_costs(alloc, &text, program),
-        None => equal_costs(alloc, program),
+        Some(text) => given_costs(alloc, Some(&text), program),
+        None => given_costs(alloc, None, program),
     }
 }
 

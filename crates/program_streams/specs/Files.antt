@@ -1,5 +1,5 @@
 -- The bytes of a file by its name, where `-` is an input.
-use Rattle.std.specs.Prelude.{◌≡◌, ◌≢◌, ℕ, ◌+◌, ◌≤◌, List, Option, codes, length}
+use Rattle.std.specs.Prelude.{◌≡◌, ◌≢◌, ℕ, ◌+◌, ◌≤◌, List, Option, Some, None, codes, length}
 use Rattle.program_streams.specs.declared.fault.FileFault.{FileFault}
 use Rattle.program_streams.specs.Streams.{Holds, IsReadFault, Takes}
 
@@ -24,3 +24,19 @@ pub record IsLongFile (limit : ℕ) (name : List ℕ) (input : Option (List ℕ)
 -- why that file isn't read
 abbrev pub IsFileFault : ℕ → List ℕ → Option (List ℕ) → (List ℕ → Option (List ℕ)) → FileFault → Type 0
 IsFileFault limit name input files = IsReadFault (IsLongFile limit name input files)
+
+-- the bytes of the file of a name that may be given, no more than the limit
+abbrev pub AreOfFileIfNamed : ℕ → Option (List ℕ) → (List ℕ → Option (List ℕ)) → Option (List ℕ) → Type 0
+AreOfFileIfNamed limit None files bytes = bytes ≡ None
+AreOfFileIfNamed limit (Some name) files None = ⊥
+AreOfFileIfNamed limit (Some name) files (Some bytes) = AreWithin limit (files name) bytes
+
+-- why that file isn't read: a name is given, and this is why the file of that name isn't read
+pub record IsNamedFileFault (limit : ℕ) (named : Option (List ℕ)) (files : List ℕ → Option (List ℕ)) (why : FileFault) : Type 0 where
+  pub name : List ℕ
+  pub is_named : named ≡ Some name
+  pub is_fault : IsReadFault (IsTooLong limit (files name)) why
+
+-- the files hold what they held, but maybe the one of this name
+abbrev pub KeepOthers : List ℕ → (List ℕ → Option (List ℕ)) → (List ℕ → Option (List ℕ)) → Type 0
+KeepOthers name old new = (other : List ℕ) → other ≢ name → new other ≡ old other

@@ -1,12 +1,13 @@
 //! Files by their names.
 
-ghost use Rattle.std.specs.Prelude.{◌+◌, ◌<◌, ◌^◌, ℕ, List, Option, None, IfOk, IfErr};
-ghost use Rattle.program_streams.specs.Streams.{IsReadFault};
-ghost use Rattle.program_streams.specs.Files.{AreWithin, IsTooLong, AreOfFile, IsFileFault};
+ghost use Rattle.std.specs.Prelude.{◌≡◌, ◌+◌, ◌<◌, ◌^◌, ℕ, List, Option, None, IfOk, IfErr, OnOk, option_map};
+ghost use Rattle.program_streams.specs.Streams.{Holds, IsReadFault};
+ghost use Rattle.program_streams.specs.Files.{AreWithin, IsTooLong, AreOfFile, IsFileFault, AreOfFileIfNamed, IsNamedFileFault, KeepOthers};
 
 use crate::fault::FileFault;
 use crate::streams::read_up_to;
 use std::alloc::Global;
+use std::fs;
 use std::fs::File;
 use std::io::Read;
 use std::rt::Files;
@@ -25,6 +26,17 @@ pub trait FileStore {
         requires { limit + 1 < 2 ^ 64 }
         ensures whole { IfOk result (λ bytes. AreWithin limit (held self.now name.now) bytes.items) }
         ensures err { IfErr result (IsReadFault (IsTooLong limit (held self.now name.now))) };
+}
+
+/// Where files are written by their names, too.
+pub trait WritableFileStore: FileStore {
+    /// Writes all of the bytes to a file, which is made where there is none; what it held before is
+    /// gone. `Write` comes where the file can't be made or a write fails, and says nothing of what the
+    /// file then holds.
+    fn write_file(&mut self, name: &str, bytes: &[u8]) -> Result<(), FileFault>
+        ensures written { OnOk result (Holds (Self.held self.new name.now) bytes.now) }
+        ensures others { KeepOthers name.now (Self.held self.old) (Self.held self.new) }
+        ensures fault { IfErr result (λ fault. fault ≡ FileFault.Write) };
 }
 
 /// The files of the system. No contract knows what they hold.
@@ -52,6 +64,15 @@ impl<F: Files> FileStore for SystemFiles<'_, F> {
     }
 }
 
+impl<F: Files> WritableFileStore for SystemFiles<'_, F> {
+    fn write_file(&mut self, name: &str, bytes: &[u8]) -> Result<(), FileFault> {
+        match fs::write(self.files, name, bytes) {
+            Ok(()) => Ok(()),
+            Err(_) => Err(FileFault::Write),
+        }
+    }
+}
+
 /// The bytes of a file, or of the reader where the file's name is `-`, if they are no more than the limit.
 pub fn named_bytes<S: FileStore, R: Read>(
     alloc: Global,
@@ -68,5 +89,22 @@ pub fn named_bytes<S: FileStore, R: Read>(
         read_up_to(alloc, input, limit)
     } else {
         files.file_bytes(alloc, name, limit)
+    }
+}
+
+/// The bytes of a file that may be named, if they are no more than the limit.
+pub fn bytes_if_named<S: FileStore>(
+    alloc: Global,
+    files: &S,
+    name: Option<&str>,
+    limit: usize,
+) -> Result<Option<Vec<u8>>, FileFault>
+    requires { limit + 1 < 2 ^ 64 }
+    ensures whole { IfOk result (λ bytes. AreOfFileIfNamed limit (option_map (λ name. name.now) name.entry) (S.held files.now) (option_map (λ bytes. bytes.items) bytes)) }
+    ensures err { IfErr result (IsNamedFileFault limit (option_map (λ name. name.now) name.entry) (S.held files.now)) }
+{
+    match name {
+        Some(name) => Ok(Some(files.file_bytes(alloc, name, limit)?)),
+        None => Ok(None),
     }
 }

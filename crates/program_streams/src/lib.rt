@@ -1,4 +1,4 @@
-//! What the programs read and write: whole inputs up to a limit, the words of a line, and answers with their status.
+//! What the programs read and write: whole inputs up to a limit, whole files, the words of a line, and answers with their status.
 #![tactic(auto)]
 
 mod fault;
@@ -8,7 +8,9 @@ mod streams;
 mod words;
 
 pub use fault::FileFault;
-pub use files::{FileStore, SystemFiles, TEXT_LIMIT, named_bytes};
+pub use files::{
+    FileStore, SystemFiles, TEXT_LIMIT, WritableFileStore, bytes_if_named, named_bytes,
+};
 pub use output::{refuse_words, say};
 pub use streams::{read_line_up_to, read_up_to, write_bytes};
 pub use words::{LineFault, line_words};

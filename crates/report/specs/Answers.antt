@@ -1,9 +1,11 @@
--- The lines of a run, byte for byte.
+-- The lines of runs and of answers, byte for byte.
 use Rattle.std.specs.Prelude.{ℕ, List, [], ◌∷◌, ◌++◌, codes}
+use Rattle.std.specs.Fmt.{decimal}
 use Rattle.gap_sets.specs.Gaps.{SetOfGaps}
 use Rattle.tso_program.specs.declared.listing.Listing.{Listing}
 use Rattle.tso_program.specs.declared.outcome.Outcome.{Outcome}
 use Rattle.tso_program.specs.declared.shown.Shown.{Shown}
+use Rattle.tso_program.specs.declared.shown.Shown.TheVariants.{All, Only}
 use Rattle.litmus_text.specs.Names.{Names}
 use Rattle.litmus_text.specs.Outcomes.{outcome_text}
 use Rattle.report.specs.Places.{gaps_text}
@@ -19,3 +21,16 @@ outcome_line names shown outcome = codes "outcome:" ++ spaced (outcome_text name
 -- the gaps by their places, ascending
 abbrev pub passed_line : Listing → SetOfGaps → List ℕ
 passed_line p gaps = codes "passed" ++ gaps_text p.threads gaps ++ 10 ∷ []
+
+-- what says that not all is shown
+abbrev pub observed : Shown → List ℕ
+observed All = []
+observed (Only names) = codes "observed "
+
+-- a set of gaps by their places, ascending, and its cost, behind a word that says what the set is
+abbrev pub set_line : List ℕ → Listing → Shown → SetOfGaps → ℕ → List ℕ
+set_line word p shown gaps cost = word ++ 32 ∷ observed shown ++ codes "cost " ++ decimal cost ++ codes " set" ++ gaps_text p.threads gaps ++ 10 ∷ []
+
+-- the set that is the answer
+abbrev pub answer_line : Listing → Shown → SetOfGaps → ℕ → List ℕ
+answer_line = set_line (codes "answer")

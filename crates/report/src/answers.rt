@@ -1,7 +1,7 @@
-//! The lines of a run.
+//! The lines of runs and of answers.
 
-ghost use Rattle.std.specs.Prelude.{◌≡◌, IfOk};
-ghost use Rattle.report.specs.Answers.{outcome_line, passed_line};
+ghost use Rattle.std.specs.Prelude.{◌≡◌, IfOk, codes};
+ghost use Rattle.report.specs.Answers.{outcome_line, passed_line, observed, set_line, answer_line};
 
 use crate::places::push_gaps;
 use gap_sets::GapSet;
@@ -37,4 +37,46 @@ pub fn passed_line(alloc: Global, program: &Program, passed: &GapSet) -> Result<
     push_gaps(&mut line, program, passed)?;
     line.push('\n')?;
     Ok(line.into_bytes())
+}
+
+/// What says that not all is shown.
+fn observed(shown: &Shown) -> &'static str
+    ensures { result.now ≡ observed shown.now }
+{
+    match shown {
+        Shown::All => "",
+        Shown::Only(_) => "observed ",
+    }
+}
+
+/// A set of gaps by their places and what it costs, behind a word that says what the set is.
+pub fn set_line(
+    alloc: Global,
+    word: &str,
+    program: &Program,
+    shown: &Shown,
+    set: GapSet,
+    cost: u64,
+) -> Result<Vec<u8>, AllocError>
+    ensures { IfOk result (λ line. line.items ≡ set_line word.now program.now shown.now set cost) }
+{
+    let observed = observed(shown);
+    let mut line = format!(in alloc; "{word} {observed}cost {cost} set")?;
+    push_gaps(&mut line, program, &set)?;
+    line.push('\n')?;
+    Ok(line.into_bytes())
+}
+
+/// The set of gaps that is the program's answer, as far as its outcomes are shown, by their places, and
+/// what it costs.
+pub fn answer_line(
+    alloc: Global,
+    program: &Program,
+    shown: &Shown,
+    set: GapSet,
+    cost: u64,
+) -> Result<Vec<u8>, AllocError>
+    ensures { IfOk result (λ line. line.items ≡ answer_line program.now shown.now set cost) }
+{
+    set_line(alloc, "answer", program, shown, set, cost)
 }

@@ -4,20 +4,14 @@ use Rattle.std.specs.Fmt.{decimal}
 use Rattle.gap_sets.specs.Gaps.{SetOfGaps}
 use Rattle.tso_program.specs.declared.listing.Listing.{Listing}
 use Rattle.tso_program.specs.declared.shown.Shown.{Shown}
-use Rattle.tso_program.specs.declared.shown.Shown.TheVariants.{All, Only}
 use Rattle.cert_forest.specs.declared.fault.CertFault.{CertFault}
 use Rattle.cert_forest.specs.declared.fault.CertFault.TheVariants as certificate
 use Rattle.report.specs.Faults.{refused, refused_at}
-use Rattle.report.specs.Places.{gaps_text}
+use Rattle.report.specs.Answers.{set_line}
 
--- what says that not all is shown
-abbrev pub observed : Shown → List ℕ
-observed All = []
-observed (Only names) = codes "observed "
-
--- a set of gaps by their places, ascending, and its cost
+-- the set that is accepted
 abbrev pub accepted_line : Listing → Shown → SetOfGaps → ℕ → List ℕ
-accepted_line p shown gaps cost = codes "accepted " ++ observed shown ++ codes "cost " ++ decimal cost ++ codes " set" ++ gaps_text p.threads gaps ++ 10 ∷ []
+accepted_line = set_line (codes "accepted")
 
 abbrev pub certificate_line : CertFault → List ℕ
 certificate_line certificate.Header = refused (codes "certificate 1 Header")

@@ -1,4 +1,4 @@
-use Rattle.std.proofs.Common.{◌≡◌, ◌∙◌, ◌==◌, ℕ, List, ap, length, map, nat_lt, sym}
+use Rattle.std.proofs.Common.{◌∙◌, ◌==◌, ℕ, List, ap, length, map, nat_lt, sym}
 use Rattle.std.specs.List.{slice_split}
 use Rattle.std.specs.Borrow.{Bor}
 use Rattle.std.proofs.lemmas.Result.{err_from_is_err_and}
