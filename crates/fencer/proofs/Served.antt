@@ -9,7 +9,7 @@ use Rattle.program_streams.specs.declared.files.TheConstants.{TEXT_LIMIT}
 use Rattle.fencer_words.specs.CommandLines.{IsNoCommand}
 use Rattle.program_streams.specs.Streams.{IsReadFault, TakesOfLine}
 use Rattle.program_streams.specs.Words.{IsUtf8Refusal}
-use Rattle.fencer.specs.Answers.{HasTooLongLine, IsReply, IsReplyToInput, IsOutput, no_command}
+use Rattle.fencer.specs.Answers.{HasTooLongLine, IsReply, IsReplyToInput, IsOutput, KeepFilesOf, KeepOtherFiles, LineAsksToWrite, no_command}
 
 not_zero : (n : ℕ) → (suc n == 0) ≡ true → ⊥
 not_zero n e = grind (arith, nat_tests)
@@ -17,16 +17,27 @@ not_zero n e = grind (arith, nat_tests)
 zero_is : (0 == 0) ≡ false → ⊥
 zero_is e = grind (arith, nat_tests)
 
-module _ {W : Type 0} (text : W → Text) (input : Option (List ℕ)) (files : List ℕ → Option (List ℕ)) (status : ℕ) (out : List ℕ) where
+module _ {W : Type 0} (text : W → Text) (input : Option (List ℕ)) (files left : List ℕ → Option (List ℕ)) (status : ℕ) (out : List ℕ) where
   -- words that are given count
-  pub of_words : (words : List W) → (length words == 0) ≡ false → IsReply (map text words) input files status out → IsOutput (map text words) input files status out
+  pub of_words : (words : List W) → (length words == 0) ≡ false → IsReply (map text words) input files left status out → IsOutput (map text words) input files left status out
   of_words [] some reply = absurd (zero_is some)
   of_words (word ∷ words) some reply = reply
 
   -- and with no words the input
-  pub of_input : (words : List W) → (length words == 0) ≡ true → IsReplyToInput input files status out → IsOutput (map text words) input files status out
+  pub of_input : (words : List W) → (length words == 0) ≡ true → IsReplyToInput input files left status out → IsOutput (map text words) input files left status out
   of_input [] none reply = reply
   of_input (word ∷ words) none reply = absurd (not_zero (length words) none)
+
+module _ {W : Type 0} (text : W → Text) (input : Option (List ℕ)) (files left : List ℕ → Option (List ℕ)) where
+  -- what words keep
+  pub kept_by_words : (words : List W) → (length words == 0) ≡ false → KeepFilesOf (map text words) files left → KeepOtherFiles (map text words) input files left
+  kept_by_words [] some kept = absurd (zero_is some)
+  kept_by_words (word ∷ words) some kept = kept
+
+  -- and what an input does
+  pub kept_by_input : (words : List W) → (length words == 0) ≡ true → ((name : List ℕ) → (LineAsksToWrite input name → ⊥) → left name ≡ files name) → KeepOtherFiles (map text words) input files left
+  kept_by_input [] none kept = kept
+  kept_by_input (word ∷ words) none kept = absurd (not_zero (length words) none)
 
 -- one of two, where the first is not
 pub other : {P Q : Type 0} → P ⊎ Q → (P → ⊥) → Q
@@ -40,5 +51,5 @@ line_fault old new file.Write is = absurd is
 line_fault old new file.TooLong is = (new, is)
 
 -- words that are not UTF-8 are told to be no command
-pub utf8_reply : (words : List Text) (input : Option (List ℕ)) (files : List ℕ → Option (List ℕ)) (status : ℕ) (out : List ℕ) → IsNoCommand words → IsUtf8Refusal status out → IsReply words input files status out
-utf8_reply words input files status out refused is = subst (λ (s : ℕ). IsReply words input files s out) (sym is.0) (no_command out refused (codes "error: the command line is not UTF-8", is.1))
+pub utf8_reply : (words : List Text) (input : Option (List ℕ)) (files left : List ℕ → Option (List ℕ)) (status : ℕ) (out : List ℕ) → IsNoCommand words → IsUtf8Refusal status out → IsReply words input files left status out
+utf8_reply words input files left status out refused is = subst (λ (s : ℕ). IsReply words input files left s out) (sym is.0) (no_command out refused (codes "error: the command line is not UTF-8", is.1))

@@ -1,5 +1,6 @@
--- What the program prints for a command line and an input, and with which status.
-use Rattle.std.specs.Prelude.{ℕ, ◌+◌, ◌≤◌, List, [], ◌∷◌, Option, length, string_bytes}
+-- What the program prints for a command line and an input, and with which status. `files` says what files held before, and `left`
+-- what they hold afterwards, where that is known.
+use Rattle.std.specs.Prelude.{◌≡◌, ℕ, ◌+◌, ◌≤◌, List, [], ◌∷◌, Option, Some, None, length, option_map, string_bytes}
 use Rattle.clap.specs.Words.{Text}
 use Rattle.program_streams.specs.declared.fault.FileFault.{FileFault}
 use Rattle.program_streams.specs.declared.files.TheConstants.{TEXT_LIMIT}
@@ -7,32 +8,72 @@ use Rattle.program_streams.specs.Streams.{IsReadFault, TakesLine, TakesOfLine}
 use Rattle.program_streams.specs.Words.{words_of}
 use Rattle.report.specs.Faults.{file_line}
 use Rattle.fencer_words.specs.declared.job.Job.{Job}
-use Rattle.fencer_words.specs.declared.job.Job.TheVariants.{Replay, Outcomes}
+use Rattle.fencer_words.specs.declared.job.Job.TheVariants.{Replay, Outcomes, Place}
 use Rattle.fencer_words.specs.CommandLines.{AsksFor, IsNoCommand}
 use Rattle.fencer.specs.Lines.{EndsLine}
 use Rattle.fencer.specs.Outcomes.{AreOutcomes}
+use Rattle.fencer.specs.Placements.{IsPlaced}
 use Rattle.fencer.specs.Replays.{IsReplay, run_text}
 
+-- ---- what is printed
+
 -- the answer to a job
-abbrev pub IsAnswer : Job → Option (List ℕ) → (List ℕ → Option (List ℕ)) → ℕ → List ℕ → Type 0
-IsAnswer (Replay model litmus labels) = IsReplay model (run_text labels.items) (string_bytes litmus)
-IsAnswer (Outcomes model observed litmus) = AreOutcomes model observed (string_bytes litmus)
+abbrev pub IsAnswer : Job → Option (List ℕ) → (List ℕ → Option (List ℕ)) → (List ℕ → Option (List ℕ)) → ℕ → List ℕ → Type 0
+IsAnswer (Replay model litmus labels) input files left = IsReplay model (run_text labels.items) (string_bytes litmus) input files
+IsAnswer (Outcomes model observed litmus) input files left = AreOutcomes model observed (string_bytes litmus) input files
+IsAnswer (Place costs workers certificate observed litmus) input files left = IsPlaced (record {
+  costs = option_map string_bytes costs;
+  workers = workers;
+  certificate = option_map string_bytes certificate;
+  observed = observed;
+  litmus = string_bytes litmus;
+}) input files left
 
 -- the first line of the input has more bytes than the limit
 abbrev pub HasTooLongLine : Option (List ℕ) → Type 0
 HasTooLongLine input = (rest : Option (List ℕ)) × TakesOfLine input rest (TEXT_LIMIT + 1)
 
 -- the reply to words: the answer to the job that they ask for; or, where they are no command, lines that tell so
-pub data IsReply (words : List Text) (input : Option (List ℕ)) (files : List ℕ → Option (List ℕ)) : ℕ → List ℕ → Type 0 where
-  answer : (job : Job) (status : ℕ) (text : List ℕ) → AsksFor words job → IsAnswer job input files status text → IsReply words input files status text
-  no_command : (text : List ℕ) → IsNoCommand words → EndsLine text → IsReply words input files 2 text
+pub data IsReply (words : List Text) (input : Option (List ℕ)) (files left : List ℕ → Option (List ℕ)) : ℕ → List ℕ → Type 0 where
+  answer : (job : Job) (status : ℕ) (text : List ℕ) → AsksFor words job → IsAnswer job input files left status text → IsReply words input files left status text
+  no_command : (text : List ℕ) → IsNoCommand words → EndsLine text → IsReply words input files left 2 text
 
 -- the reply to an input alone: its first line has the words, and what is behind it is the input
-pub data IsReplyToInput (input : Option (List ℕ)) (files : List ℕ → Option (List ℕ)) : ℕ → List ℕ → Type 0 where
-  by_line : (line : List ℕ) (rest : Option (List ℕ)) (status : ℕ) (text : List ℕ) → TakesLine input rest line → length line ≤ TEXT_LIMIT → IsReply (words_of line) rest files status text → IsReplyToInput input files status text
-  no_line : (why : FileFault) → IsReadFault (HasTooLongLine input) why → IsReplyToInput input files 1 (file_line why)
+pub data IsReplyToInput (input : Option (List ℕ)) (files left : List ℕ → Option (List ℕ)) : ℕ → List ℕ → Type 0 where
+  by_line : (line : List ℕ) (rest : Option (List ℕ)) (status : ℕ) (text : List ℕ) → TakesLine input rest line → length line ≤ TEXT_LIMIT → IsReply (words_of line) rest files left status text → IsReplyToInput input files left status text
+  no_line : (why : FileFault) → IsReadFault (HasTooLongLine input) why → IsReplyToInput input files left 1 (file_line why)
 
 -- what the program prints for the words after its name, an input and files, with which status
-abbrev pub IsOutput : List Text → Option (List ℕ) → (List ℕ → Option (List ℕ)) → ℕ → List ℕ → Type 0
-IsOutput [] input files = IsReplyToInput input files
-IsOutput (word ∷ words) input files = IsReply (word ∷ words) input files
+abbrev pub IsOutput : List Text → Option (List ℕ) → (List ℕ → Option (List ℕ)) → (List ℕ → Option (List ℕ)) → ℕ → List ℕ → Type 0
+IsOutput [] input files left = IsReplyToInput input files left
+IsOutput (word ∷ words) input files left = IsReply (word ∷ words) input files left
+
+-- ---- what is written
+
+-- the file to which a job writes a certificate
+abbrev pub certificate_of : Job → Option (List ℕ)
+certificate_of (Replay model litmus labels) = None
+certificate_of (Outcomes model observed litmus) = None
+certificate_of (Place costs workers certificate observed litmus) = option_map string_bytes certificate
+
+-- the words ask for a certificate in the file of this name
+pub record AsksToWrite (words : List Text) (name : List ℕ) : Type 0 where
+  pub job : Job
+  pub asked : AsksFor words job
+  pub named : certificate_of job ≡ Some name
+
+-- each file in which the words ask for no certificate holds what it held
+abbrev pub KeepFilesOf : List Text → (List ℕ → Option (List ℕ)) → (List ℕ → Option (List ℕ)) → Type 0
+KeepFilesOf words files left = (name : List ℕ) → (AsksToWrite words name → ⊥) → left name ≡ files name
+
+-- the words of the input's first line ask for a certificate in the file of this name
+pub record LineAsksToWrite (input : Option (List ℕ)) (name : List ℕ) : Type 0 where
+  pub line : List ℕ
+  pub rest : Option (List ℕ)
+  pub taken : TakesLine input rest line
+  pub asked : AsksToWrite (words_of line) name
+
+-- the same of what the words after the program's name ask for, or of what the input does where there are none
+abbrev pub KeepOtherFiles : List Text → Option (List ℕ) → (List ℕ → Option (List ℕ)) → (List ℕ → Option (List ℕ)) → Type 0
+KeepOtherFiles [] input files left = (name : List ℕ) → (LineAsksToWrite input name → ⊥) → left name ≡ files name
+KeepOtherFiles (word ∷ words) input files left = KeepFilesOf (word ∷ words) files left

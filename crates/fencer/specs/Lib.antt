@@ -4,4 +4,6 @@ pub mod Refusals
 pub mod TextAnswers
 pub mod Replays
 pub mod Outcomes
+pub mod Placements
+pub mod Requests
 pub mod Answers

@@ -1,20 +1,19 @@
 -- What is printed for the outcomes of a program.
-use Rattle.std.specs.Prelude.{◌≡◌, ◌↔◌, ℕ, Bool, true, false, List, [], ◌∷◌, ◌++◌, Contains, Option, codes, length}
+use Rattle.std.specs.Prelude.{◌≡◌, ◌↔◌, ℕ, Bool, List, [], ◌∷◌, ◌++◌, Contains, Option, codes, length}
 use Rattle.std.specs.Fmt.{decimal}
 use Rattle.std.specs.List.{flat_map}
 use Rattle.tso_program.specs.declared.listing.Listing.{Listing}
 use Rattle.tso_program.specs.declared.outcome.Outcome.{Outcome}
 use Rattle.tso_program.specs.declared.shown.Shown.{Shown}
-use Rattle.tso_program.specs.declared.shown.Shown.TheVariants.{All}
-use Rattle.tso_program.specs.Shown.{Question, asked}
+use Rattle.tso_program.specs.Shown.{Question}
 use Rattle.tso_machine.specs.declared.label.Model.{Model}
 use Rattle.tso_machine.specs.Machine.{Mode}
 use Rattle.tso_machine.specs.Outcomes.{AllowsShown}
 use Rattle.litmus_text.specs.declared.litmus.Litmus.{Litmus}
-use Rattle.litmus_text.specs.Shown.{shown_by}
 use Rattle.litmus_text.specs.Texts.{IsLitmus}
 use Rattle.cover_solver.specs.declared.fault.SolveFault.TheVariants as solve
 use Rattle.cover_solver.specs.Ordered.{Ascend}
+use Rattle.placed_text.specs.Questions.{shown_as, question_of}
 use Rattle.report.specs.Answers.{outcome_line}
 use Rattle.report.specs.Observations.{observation_line, condition_line}
 use Rattle.fencer.specs.declared.refusals.Refusal.{Refusal}
@@ -22,11 +21,6 @@ use Rattle.fencer.specs.declared.refusals.Refusal.TheVariants as refusal
 use Rattle.fencer.specs.Machines.{unfenced}
 use Rattle.fencer.specs.Refusals.{IsNoLitmus}
 use Rattle.fencer.specs.TextAnswers.{IsAnswerTo}
-
--- what is shown of outcomes: all, or of observed ones what the condition and `locations` name
-abbrev pub shown_as : Litmus Listing → Bool → Shown
-shown_as litmus false = All
-shown_as litmus true = shown_by litmus.condition.formula litmus.observed
 
 -- the list ascends, and has exactly the outcomes that the machine of the mode allows, as far as they are shown
 pub record ListsOutcomes (q : Question) (mode : Mode) (outcomes : List Outcome) : Type 0 where
@@ -46,7 +40,7 @@ pub record PrintsOutcomes (model : Model) (observed : Bool) (bytes lines : List 
   pub litmus : Litmus Listing
   pub spelled : IsLitmus bytes litmus
   pub outcomes : List Outcome
-  pub listed : ListsOutcomes (asked litmus.program (shown_as litmus observed)) (unfenced litmus.program model) outcomes
+  pub listed : ListsOutcomes (question_of litmus observed) (unfenced litmus.program model) outcomes
   pub printed : lines ≡ list_text litmus (shown_as litmus observed) outcomes
 
 -- why there is no list: the text is no litmus text, or memory was wanting

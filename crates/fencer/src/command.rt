@@ -3,19 +3,23 @@
 ghost use Rattle.std.specs.Prelude.{IfOk, map, string_bytes};
 ghost use Rattle.program_streams.specs.Streams.{Prints};
 ghost use Rattle.fencer.specs.Lines.{EndsLine};
-ghost use Rattle.fencer.specs.Answers.{IsAnswer, IsReply, IsOutput};
+ghost use Rattle.fencer.specs.Placements.{KeepFiles};
+ghost use Rattle.fencer.specs.Answers.{certificate_of, IsAnswer, IsReply, IsOutput, KeepFilesOf, KeepOtherFiles};
 
 use crate::outcomes::run_outcomes;
+use crate::place::{Request, run_place};
 use crate::replays::run_replay;
 use clap::Error;
 use clap::error::ErrorKind;
 use fencer_words::{Job, read_words};
 use program_streams::{
-    FileStore, LineFault, TEXT_LIMIT, line_words, read_line_up_to, refuse_words, say,
+    LineFault, TEXT_LIMIT, WritableFileStore, line_words, read_line_up_to, refuse_words, say,
 };
 use report::file_line;
 use std::alloc::{AllocError, Global};
 use std::io::{Read, Write};
+use std::sync::Wait;
+use std::thread::Threads;
 
 /// What `clap` tells of words that are no command: why, or the help that they call for.
 fn error_text(alloc: Global, error: &Error) -> Result<Vec<u8>, AllocError>
@@ -28,14 +32,17 @@ fn error_text(alloc: Global, error: &Error) -> Result<Vec<u8>, AllocError>
 }
 
 /// Does a job, and answers the status.
-fn run_job<S: FileStore, R: Read, W: Write>(
+fn run_job<T: Threads + Sync, U: Wait + Sync, S: WritableFileStore, R: Read, W: Write>(
+    rt: &T,
+    wait: &U,
     alloc: Global,
-    files: &S,
+    files: &mut S,
     job: &Job,
     input: &mut R,
     output: &mut W,
 ) -> u8
-    ensures { Prints (IsAnswer job.now (R.remaining input.old) (S.held files.now)) (W.contents output.old) (W.contents output.new) result }
+    ensures told { Prints (IsAnswer job.now (R.remaining input.old) (S.held files.old) (S.held files.new)) (W.contents output.old) (W.contents output.new) result }
+    ensures others { KeepFiles (certificate_of job.now) (S.held files.old) (S.held files.new) }
 {
     match job {
         Job::Replay {
@@ -44,7 +51,7 @@ fn run_job<S: FileStore, R: Read, W: Write>(
             labels,
         } => run_replay(
             alloc,
-            files,
+            &*files,
             *model,
             litmus.as_str(),
             labels.as_slice(),
@@ -57,28 +64,47 @@ fn run_job<S: FileStore, R: Read, W: Write>(
             litmus,
         } => run_outcomes(
             alloc,
-            files,
+            &*files,
             *model,
             *observed,
             litmus.as_str(),
             input,
             output,
         ),
+        Job::Place {
+            costs,
+            workers,
+            certificate,
+            observed,
+            litmus,
+        } => {
+            let request = Request {
+                costs: costs.as_deref(),
+                workers: *workers,
+                certificate: certificate.as_deref(),
+                observed: *observed,
+                litmus: litmus.as_str(),
+            };
+            run_place(rt, wait, alloc, files, request, input, output)
+        }
     }
 }
 
 /// Does what words ask for, and answers the status.
-fn run_words<S: FileStore, R: Read, W: Write>(
+fn run_words<T: Threads + Sync, U: Wait + Sync, S: WritableFileStore, R: Read, W: Write>(
+    rt: &T,
+    wait: &U,
     alloc: Global,
-    files: &S,
+    files: &mut S,
     words: &[String],
     input: &mut R,
     output: &mut W,
 ) -> u8
-    ensures { Prints (IsReply (map string_bytes words.now) (R.remaining input.old) (S.held files.now)) (W.contents output.old) (W.contents output.new) result }
+    ensures told { Prints (IsReply (map string_bytes words.now) (R.remaining input.old) (S.held files.old) (S.held files.new)) (W.contents output.old) (W.contents output.new) result }
+    ensures others { KeepFilesOf (map string_bytes words.now) (S.held files.old) (S.held files.new) }
 {
     match read_words(alloc, words) {
-        Ok(job) => run_job(alloc, files, &job, input, output),
+        Ok(job) => run_job(rt, wait, alloc, files, &job, input, output),
         Err(error) => match error.kind() {
             ErrorKind::OutOfMemory => 1,
             _ => say(output, error_text(alloc, &error), 2),
@@ -89,27 +115,33 @@ fn run_words<S: FileStore, R: Read, W: Write>(
 /// The program: it does what the words after its name ask for, and answers its status. With no words
 /// they are those of the input's first line, separated by spaces, and the rest of the input is `-`.
 ///
+/// The certificate of a placement is written to the file that the words name, before anything is told of
+/// the placement; no other file is changed. Only a placement uses `rt` and `wait`.
+///
 /// Status 0 means that the whole answer is written. Status 1 is a refusal, told by one line, a writer
 /// that fails or takes no byte, and want of memory for the words or for that line, with nothing
 /// written. Status 2 is a bad command line or a call for help, told on the writer too.
-pub fn run_command<S: FileStore, R: Read, W: Write>(
+pub fn run_command<T: Threads + Sync, U: Wait + Sync, S: WritableFileStore, R: Read, W: Write>(
+    rt: &T,
+    wait: &U,
     alloc: Global,
-    files: &S,
+    files: &mut S,
     words: &[String],
     input: &mut R,
     output: &mut W,
 ) -> u8
-    ensures { Prints (IsOutput (map string_bytes words.now) (R.remaining input.old) (S.held files.now)) (W.contents output.old) (W.contents output.new) result }
+    ensures told { Prints (IsOutput (map string_bytes words.now) (R.remaining input.old) (S.held files.old) (S.held files.new)) (W.contents output.old) (W.contents output.new) result }
+    ensures others { KeepOtherFiles (map string_bytes words.now) (R.remaining input.old) (S.held files.old) (S.held files.new) }
 {
     if !words.is_empty() {
-        return run_words(alloc, files, words, input, output);
+        return run_words(rt, wait, alloc, files, words, input, output);
     }
     let line = match read_line_up_to(alloc, input, TEXT_LIMIT) {
         Ok(line) => line,
         Err(fault) => return say(output, file_line(alloc, fault), 1),
     };
     match line_words(alloc, &line) {
-        Ok(words) => run_words(alloc, files, words.as_slice(), input, output),
+        Ok(words) => run_words(rt, wait, alloc, files, words.as_slice(), input, output),
         Err(LineFault::NotUtf8) => refuse_words(alloc, output),
         Err(LineFault::OutOfMemory) => 1,
     }

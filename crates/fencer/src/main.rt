@@ -3,6 +3,7 @@
 
 mod command;
 mod outcomes;
+mod place;
 mod refusals;
 mod replays;
 
@@ -20,10 +21,12 @@ fn main(rt: HostRuntime) -> ExitCode {
     let mut output = rt.stdout();
     let status = match given_words(&rt) {
         Ok(words) => {
-            let files = SystemFiles::new(&rt);
+            let mut files = SystemFiles::new(&rt);
             command::run_command(
+                &rt,
+                &rt,
                 rt.alloc(),
-                &files,
+                &mut files,
                 words.as_slice(),
                 &mut input,
                 &mut output,

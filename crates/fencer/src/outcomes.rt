@@ -2,24 +2,18 @@
 
 ghost use Rattle.std.specs.Prelude.{◌≡◌, IfOk, IfErr};
 ghost use Rattle.program_streams.specs.Streams.{Prints};
-ghost use Rattle.fencer.specs.Outcomes.{shown_as, list_text, PrintsOutcomes, HasNoList, AreOutcomes};
+ghost use Rattle.fencer.specs.Outcomes.{list_text, PrintsOutcomes, HasNoList, AreOutcomes};
 
 use crate::refusals::{Refusal, tell};
 use cover_solver::{SolveFault, outcomes};
 use litmus_text::{Litmus, read_litmus};
+use placed_text::shown_as;
 use program_streams::{FileStore, TEXT_LIMIT, named_bytes, say};
 use report::{condition_line, file_line, observation_line, outcome_line};
 use std::alloc::{AllocError, Global};
 use std::io::{Read, Write};
 use tso_machine::Model;
 use tso_program::{Outcome, Program, Shown};
-
-/// What is shown of outcomes: all, or what the litmus text names.
-fn shown_as(litmus: &Litmus<Program>, observed: bool) -> Shown
-    ensures { result ≡ shown_as litmus.now observed }
-{
-    if observed { litmus.shown() } else { Shown::All }
-}
 
 /// How many outcomes there are, each of them as far as it is shown, and what they show of the condition.
 fn list_lines(

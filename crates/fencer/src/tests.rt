@@ -4,7 +4,9 @@ use failing_streams::{FailingReader, FailingWriter, is_lawful};
 use program_streams::{SystemFiles, line_words};
 use std::process::Abort;
 use std::rt::Files;
+use std::sync::Wait;
 use std::test::Fail;
+use std::thread::Threads;
 
 const TEXT: &str =
     "X86 SB\n{ }\nP0 | P1 ;\nMOV [x],$1 | MOV [y],$1 ;\nMOV EAX,[y] | MOV EAX,[x] ;\nexists (0:EAX=0 /\\ 1:EAX=0)\n";
@@ -13,7 +15,7 @@ const WORDS: &str = "replay - e0 e1 e0 e1 f0 f1";
 
 /// What the program prints for an input whose reader fails at a call, with the status and whether the failure was met.
 fn run_over_reader(
-    rt: &(impl Files + AllocGlobal),
+    rt: &(impl Files + AllocGlobal + Threads + Wait + Sync),
     input: &[u8],
     fails_at: usize,
 ) -> (Vec<u8>, u8, bool) {
@@ -21,8 +23,10 @@ fn run_over_reader(
     let mut output = Vec::new(rt.alloc());
     let none: Vec<String> = Vec::new(rt.alloc());
     let status = run_command(
+        rt,
+        rt,
         rt.alloc(),
-        &SystemFiles::new(rt),
+        &mut SystemFiles::new(rt),
         none.as_slice(),
         &mut reader,
         &mut output,
@@ -45,7 +49,7 @@ fn a_reader_fails(rt: HostRuntime) -> Result<(), Fail> {
 }
 
 /// Runs the program over a writer that fails at each call in turn, until it meets no failure.
-fn writer_fails<R: Files + AllocGlobal + Abort>(
+fn writer_fails<R: Files + AllocGlobal + Abort + Threads + Wait + Sync>(
     rt: &R,
     line: &str,
     takes_none: bool,
@@ -54,8 +58,10 @@ fn writer_fails<R: Files + AllocGlobal + Abort>(
     let words = line_words(rt.alloc(), line.as_bytes())?;
     let mut whole = Vec::new(rt.alloc());
     let status = run_command(
+        rt,
+        rt,
         rt.alloc(),
-        &SystemFiles::new(rt),
+        &mut SystemFiles::new(rt),
         words.as_slice(),
         &mut TEXT.as_bytes(),
         &mut whole,
@@ -64,8 +70,10 @@ fn writer_fails<R: Files + AllocGlobal + Abort>(
     for fails_at in 0..1_000 {
         let mut writer = FailingWriter::new(rt.alloc(), fails_at, takes_none);
         let status = run_command(
+            rt,
+            rt,
             rt.alloc(),
-            &SystemFiles::new(rt),
+            &mut SystemFiles::new(rt),
             words.as_slice(),
             &mut TEXT.as_bytes(),
             &mut writer,
@@ -81,6 +89,7 @@ fn writer_fails<R: Files + AllocGlobal + Abort>(
 #[test]
 fn a_writer_fails(rt: HostRuntime) -> Result<(), Fail> {
     writer_fails(&rt, WORDS, false, 0)?;
+    writer_fails(&rt, "place -", false, 0)?;
     writer_fails(&rt, "replay - e0", false, 1)?;
     writer_fails(&rt, "replay --fast", false, 2)
 }
@@ -89,4 +98,22 @@ fn a_writer_fails(rt: HostRuntime) -> Result<(), Fail> {
 fn a_writer_takes_none(rt: HostRuntime) -> Result<(), Fail> {
     writer_fails(&rt, WORDS, true, 0)?;
     writer_fails(&rt, "--help", true, 2)
+}
+
+#[test]
+fn a_certificate_is_not_written(rt: HostRuntime) -> Result<(), Fail> {
+    let words = line_words(rt.alloc(), b"place --certificate . -")?;
+    let mut output = Vec::new(rt.alloc());
+    let status = run_command(
+        &rt,
+        &rt,
+        rt.alloc(),
+        &mut SystemFiles::new(&rt),
+        words.as_slice(),
+        &mut TEXT.as_bytes(),
+        &mut output,
+    );
+    assert_eq!(rt; status, 1);
+    assert_eq!(rt; output.as_slice(), b"refused file 2 Write\n".as_slice());
+    Ok(())
 }

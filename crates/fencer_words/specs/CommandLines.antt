@@ -1,18 +1,20 @@
 -- What command lines ask for. `clap` reads them: its `subcommand_of` gives the subcommand that words name, with the rows
 -- of its values.
-use Rattle.std.specs.Prelude.{◌≡◌, ◌≢◌, Bool, true, false, List, [], ◌∷◌, Some, Contains, codes, map, string_bytes, unwrap_or, if◌then◌else◌}
+use Rattle.std.specs.Prelude.{◌≡◌, ◌≢◌, ℕ, ◌≤◌, Bool, true, false, List, [], ◌∷◌, Some, Contains, codes, map, option_map, string_bytes, unwrap_or, if◌then◌else◌}
 use Rattle.std.specs.Option.{option_map_or}
 use Rattle.std.specs.Str.{IsUtf8, bytes_eq}
+use Rattle.std.specs.Str.Parse.{digits_value, without_leading_plus}
 use Rattle.std.specs.Borrow.{Bor}
 use Rattle.clap.specs.Lexer.{usize_max}
-use Rattle.clap.specs.Words.{App, Row, Rule, Text, all_of, fault_of, first_of, new_app, new_rule, subcommand_of, with_rule, with_subcommand}
+use Rattle.clap.specs.Words.{App, Row, Rule, Text, IsUnsignedIn, all_of, fault_of, first_of, new_app, new_rule, subcommand_of, with_rule, with_subcommand}
 use Rattle.clap.specs.Simple.{on_top}
 use Rattle.clap.specs.declared.builder.action.ArgAction.TheVariants.{Append, SetTrue}
 use Rattle.clap.specs.declared.builder.value_parser.ValueParser.TheVariants as parser
 use Rattle.tso_machine.specs.declared.label.Model.{Model}
 use Rattle.tso_machine.specs.declared.label.Model.TheVariants.{Buffered, Sequential}
 use Rattle.fencer_words.specs.declared.job.Job.{Job}
-use Rattle.fencer_words.specs.declared.job.Job.TheVariants.{Replay, Outcomes}
+use Rattle.fencer_words.specs.declared.job.Job.TheVariants.{Replay, Outcomes, Place}
+use Rattle.fencer_words.specs.declared.place.TheConstants.{MAX_WORKERS}
 
 -- ---- arguments
 
@@ -50,6 +52,18 @@ observed_rule = record (new_rule (codes "observed")) {
   action = Some SetTrue;
 }
 
+-- `--NAME FILE`
+abbrev pub file_rule : Text → Rule
+file_rule name = record (new_rule name) { long = Some name }
+
+-- `--workers N`
+abbrev pub workers_rule : Rule
+workers_rule = record (new_rule (codes "workers")) {
+  long = Some (codes "workers");
+  parser = Some (parser.Unsigned 1 MAX_WORKERS);
+  defaults = codes "1" ∷ [];
+}
+
 -- ---- commands
 
 -- `replay [--model MODEL] LITMUS [LABEL..]`
@@ -60,17 +74,21 @@ replay_app models = with_rule (with_rule (with_rule (new_app (codes "replay")) (
 abbrev pub outcomes_app : Names → App
 outcomes_app models = with_rule (with_rule (with_rule (new_app (codes "outcomes")) (model_rule models)) observed_rule) litmus_rule
 
+-- `place [--costs FILE] [--workers N] [--certificate FILE] [--observed] LITMUS`
+abbrev pub place_app : App
+place_app = with_rule (with_rule (with_rule (with_rule (with_rule (new_app (codes "place")) (file_rule (codes "costs"))) workers_rule) (file_rule (codes "certificate"))) observed_rule) litmus_rule
+
 -- a command line is one of these commands, and nothing before it
 abbrev pub commands_app : App
 commands_app = on_top (λ s. record s { no_binary_name = true; subcommand_required = true; disable_help_subcommand = true }) (new_app (codes "fencer"))
 
 -- the program's whole command line, after its name
 abbrev pub fencer_app : Names → App
-fencer_app models = with_subcommand (with_subcommand commands_app (replay_app models).top) (outcomes_app models).top
+fencer_app models = with_subcommand (with_subcommand (with_subcommand commands_app (replay_app models).top) (outcomes_app models).top) place_app.top
 
 -- the names of the commands
 abbrev pub command_names : List Text
-command_names = codes "replay" ∷ codes "outcomes" ∷ []
+command_names = codes "replay" ∷ codes "outcomes" ∷ codes "place" ∷ []
 
 -- ---- values
 
@@ -94,6 +112,12 @@ is_flagged flag rows = has_value flag (codes "true") rows
 abbrev pub model_in : List Row → Model
 model_in rows = if has_value (codes "model") (codes "sequential") rows then Sequential else Buffered
 
+-- how many workers a text asks for, from 1 to the most; `clap` refuses a text that is no such number
+pub record AreWorkers (text : Text) (workers : ℕ) : Type 0 where
+  pub least : 1 ≤ workers
+  pub most : workers ≤ MAX_WORKERS
+  pub named : IsUnsignedIn 1 MAX_WORKERS text → workers ≡ digits_value 10 (without_leading_plus text)
+
 -- ---- jobs
 
 -- the job that the command of this name asks for, by the rows of its values
@@ -106,6 +130,13 @@ IsJobOf name rows (Replay model litmus labels) =
 IsJobOf name rows (Outcomes model observed litmus) =
     (name ≡ codes "outcomes")
     × (model ≡ model_in rows)
+    × (observed ≡ is_flagged (codes "observed") rows)
+    × (string_bytes litmus ≡ text_in (codes "litmus") rows)
+IsJobOf name rows (Place costs workers certificate observed litmus) =
+    (name ≡ codes "place")
+    × (option_map string_bytes costs ≡ first_of (codes "costs") rows)
+    × AreWorkers (text_in (codes "workers") rows) workers
+    × (option_map string_bytes certificate ≡ first_of (codes "certificate") rows)
     × (observed ≡ is_flagged (codes "observed") rows)
     × (string_bytes litmus ≡ text_in (codes "litmus") rows)
 

@@ -51,11 +51,32 @@ pub fn values_of<'m, 'a>(matches: &'m ArgMatches<'a>, id: &str) -> Option<&'m [&
     matches.get_strs(id)
 }
 
+/// The value of an argument that has one.
+pub fn value_in<'a>(matches: &ArgMatches<'a>, id: &str) -> &'a str
+    ensures { result.now ≡ text_in id.now (rows_of (found_of matches.now)) }
+{
+    value_of(matches, id).unwrap_or("")
+}
+
 /// The value of an argument that must be given.
 pub fn text_in(alloc: Global, matches: &ArgMatches<'_>, id: &str) -> Result<String, AllocError>
     ensures { IfOk result (λ text. string_bytes text ≡ text_in id.now (rows_of (found_of matches.now))) }
 {
-    String::from_str(alloc, value_of(matches, id).unwrap_or(""))
+    String::from_str(alloc, value_in(matches, id))
+}
+
+/// The value of an argument that may be given.
+pub fn text_given(
+    alloc: Global,
+    matches: &ArgMatches<'_>,
+    id: &str,
+) -> Result<Option<String>, AllocError>
+    ensures { IfOk result (λ text. option_map string_bytes text ≡ first_of id.now (rows_of (found_of matches.now))) }
+{
+    match value_of(matches, id) {
+        Some(value) => Ok(Some(String::from_str(alloc, value)?)),
+        None => Ok(None),
+    }
 }
 
 /// Whether an argument has this value.

@@ -19,4 +19,16 @@ pub enum Job {
         observed: bool,
         litmus: String,
     },
+    /// Place fences in the program of a litmus file.
+    Place {
+        /// The file of the gaps' costs; without one each gap costs 1.
+        costs: Option<String>,
+        /// How many workers search: 1 to `MAX_WORKERS`.
+        workers: u8,
+        /// The file to which the certificate is written.
+        certificate: Option<String>,
+        /// Tell apart only what the condition and `locations` name.
+        observed: bool,
+        litmus: String,
+    },
 }

@@ -4,8 +4,10 @@
 mod arguments;
 mod job;
 mod outcomes;
+mod place;
 mod replay;
 mod words;
 
 pub use job::Job;
+pub use place::MAX_WORKERS;
 pub use words::read_words;

@@ -7,6 +7,7 @@ ghost use Rattle.fencer_words.specs.Commands.{IsFencerCommand, IsJobMet, MeetsNo
 
 use crate::job::Job;
 use crate::outcomes::{outcomes_command, outcomes_job};
+use crate::place::{place_command, place_job};
 use crate::replay::{replay_command, replay_job};
 use clap::error::ErrorKind;
 use clap::{ArgMatches, Command, Error};
@@ -24,7 +25,8 @@ fn command<'a>(alloc: Global) -> Result<Command<'a>, AllocError>
         .subcommand_required(true)
         .disable_help_subcommand(true)
         .subcommand(replay_command(alloc, models)?)?
-        .subcommand(outcomes_command(alloc, models)?)
+        .subcommand(outcomes_command(alloc, models)?)?
+        .subcommand(place_command(alloc)?)
 }
 
 /// The job of the command of this name, where there is such a command.
@@ -35,6 +37,7 @@ fn job_of(alloc: Global, name: &str, matches: &ArgMatches<'_>) -> Result<Option<
     match name {
         "replay" => Ok(Some(replay_job(alloc, matches)?)),
         "outcomes" => Ok(Some(outcomes_job(alloc, matches)?)),
+        "place" => Ok(Some(place_job(alloc, matches)?)),
         _ => Ok(None),
     }
 }

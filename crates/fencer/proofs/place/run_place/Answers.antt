@@ -1,0 +1,13 @@
+use Rattle.std.specs.Prelude.{option_map}
+use Rattle.program_streams.proofs.Printed.{prints_line, prints_more}
+use Rattle.report.specs.Faults.{file_line}
+use Rattle.fencer.specs.Placements.{of_texts, no_texts}
+use Rattle.fencer.proofs.place.run_place.Goals as goal
+
+pub returns-in-Ok-clause-told : goal.returns-in-Ok-clause-told
+returns-in-Ok-clause-told g c =
+    prints_more _ _ _ _ c.place_texts.result (λ status text is. of_texts c.in-Ok.texts.litmus.items (option_map (λ text. text.items) c.in-Ok.texts.costs) status text c.in-Ok.ensures.texts is) c.place_texts.ensures.told
+
+pub returns-in-Err-clause-told : goal.returns-in-Err-clause-told
+returns-in-Err-clause-told g c =
+    prints_line c.file_line.result 1 (file_line c.in-Err.fault) _ _ _ c.say.result (no_texts c.in-Err.fault c.in-Err.ensures.err) c.file_line.ensures c.say.ensures

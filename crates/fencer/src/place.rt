@@ -1,0 +1,198 @@
+//! Placements: the answer of a program and its text with fences, or why there is none.
+
+ghost use Rattle.std.specs.Prelude.{◌≡◌, ◌++◌, IfErr, IfOk, IsOkUnless, IsSome, OnErr, OnOk, option_map};
+ghost use Rattle.program_streams.specs.Streams.{Prints};
+ghost use Rattle.placed_text.specs.TextFaults.{HasNoPlacedText};
+ghost use Rattle.fencer.specs.Placements.{place_line, text_fault_line, PrintsPlacement, HoldsCertificate, KeepFiles, IsDelivered, IsJudged, AreTexts, HasNoTexts, IsPlaced};
+ghost use Rattle.fencer.specs.Requests.{request_of, name_of};
+
+use fence_place::PlaceFault;
+use placed_text::{PlacedText, TextFault, place_text};
+use program_streams::{
+    FileFault, FileStore, TEXT_LIMIT, WritableFileStore, bytes_if_named, named_bytes, say,
+};
+use report::{costs_line, file_line, litmus_line};
+use std::alloc::{AllocError, Global};
+use std::io::{Read, Write};
+use std::sync::Wait;
+use std::thread::Threads;
+
+/// What a placement is asked for, and its files by their names.
+#[derive(Clone, Copy, Debug)]
+pub struct Request<'a> {
+    pub costs: Option<&'a str>,
+    pub workers: u8,
+    pub certificate: Option<&'a str>,
+    pub observed: bool,
+    pub litmus: &'a str,
+}
+
+/// What the files hold that are read.
+#[derive(Debug, Drop)]
+struct Texts {
+    litmus: Vec<u8>,
+    costs: Option<Vec<u8>>,
+}
+
+/// What is printed for what is placed, and its certificate.
+#[derive(Debug, Drop)]
+struct Answer {
+    lines: Vec<u8>,
+    certificate: Vec<u8>,
+}
+
+/// Why nothing is placed.
+fn place_line(alloc: Global, fault: PlaceFault) -> Result<Vec<u8>, AllocError>
+    ensures { IfOk result (λ line. line.items ≡ place_line fault) }
+{
+    match fault {
+        PlaceFault::Workers => Vec::from_slice(alloc, b"refused place 1 Workers\n"),
+        PlaceFault::Costs => Vec::from_slice(alloc, b"refused place 2 Costs\n"),
+        PlaceFault::NotCertified => Vec::from_slice(alloc, b"refused place 3 NotCertified\n"),
+        PlaceFault::Board => Vec::from_slice(alloc, b"refused place 4 Board\n"),
+        PlaceFault::OutOfMemory => Vec::from_slice(alloc, b"refused place 5 OutOfMemory\n"),
+    }
+}
+
+/// Why nothing is placed in the program of a text.
+fn text_fault_line(alloc: Global, fault: TextFault) -> Result<Vec<u8>, AllocError>
+    ensures { IfOk result (λ line. line.items ≡ text_fault_line fault) }
+{
+    match fault {
+        TextFault::Read(why) => litmus_line(alloc, why),
+        TextFault::CostText(why) => costs_line(alloc, why),
+        TextFault::Place(why) => place_line(alloc, why),
+        TextFault::OutOfMemory => place_line(alloc, PlaceFault::OutOfMemory),
+    }
+}
+
+/// The texts of a litmus file, which is read first, and of a cost file, where one is named.
+fn read_texts<S: FileStore, R: Read>(
+    alloc: Global,
+    files: &S,
+    request: Request<'_>,
+    input: &mut R,
+) -> Result<Texts, FileFault>
+    ensures texts { IfOk result (λ texts. AreTexts (request_of request.entry) (R.remaining input.old) (S.held files.now) texts.litmus.items (option_map (λ text. text.items) texts.costs)) }
+    ensures err { IfErr result (HasNoTexts (request_of request.entry) (R.remaining input.old) (S.held files.now)) }
+{
+    let litmus = named_bytes(alloc, files, request.litmus, input, TEXT_LIMIT)?;
+    let costs = bytes_if_named(alloc, files, request.costs, TEXT_LIMIT)?;
+    Ok(Texts { litmus, costs })
+}
+
+/// The answer line with the program's text behind it.
+fn joined(texts: PlacedText) -> Result<Answer, TextFault>
+    ensures lines { IfOk result (λ answer. answer.lines.items ≡ texts.answer.items ++ texts.program.items) }
+    ensures certificate { IfOk result (λ answer. answer.certificate.items ≡ texts.certificate.items) }
+    ensures err { IsOkUnless result TextFault.OutOfMemory }
+{
+    let PlacedText {
+        program,
+        answer,
+        certificate,
+    } = texts;
+    let mut lines = answer;
+    match lines.extend_from_slice(&program) {
+        Ok(()) => Ok(Answer { lines, certificate }),
+        Err(_) => Err(TextFault::OutOfMemory),
+    }
+}
+
+/// What is placed in the program of a text.
+fn answer_of<T: Threads + Sync, U: Wait + Sync>(
+    rt: &T,
+    wait: &U,
+    alloc: Global,
+    request: Request<'_>,
+    texts: &Texts,
+) -> Result<Answer, TextFault>
+    ensures placed { IfOk result (λ answer. PrintsPlacement texts.now.litmus.items (option_map (λ text. text.items) texts.now.costs) request.entry.observed answer.lines.items answer.certificate.items) }
+    ensures fault { IfErr result (HasNoPlacedText texts.now.litmus.items (option_map (λ text. text.items) texts.now.costs) request.entry.workers) }
+{
+    let costs = texts.costs.as_deref();
+    let placed = place_text(
+        rt,
+        wait,
+        alloc,
+        &texts.litmus,
+        costs,
+        request.observed,
+        request.workers,
+    )?;
+    joined(placed)
+}
+
+/// Writes a certificate to its file, where one is named.
+fn keep_certificate<S: WritableFileStore>(
+    files: &mut S,
+    name: Option<&str>,
+    certificate: &[u8],
+) -> Result<(), FileFault>
+    ensures kept { OnOk result (HoldsCertificate (name_of name.entry) (S.held files.new) certificate.now) }
+    ensures others { KeepFiles (name_of name.entry) (S.held files.old) (S.held files.new) }
+    ensures named { OnErr result (IsSome (name_of name.entry)) }
+    ensures fault { IfErr result (λ fault. fault ≡ FileFault.Write) }
+{
+    match name {
+        Some(name) => files.write_file(name, certificate),
+        None => Ok(()),
+    }
+}
+
+/// Writes the certificate, then tells the answer, and answers the status.
+fn deliver<S: WritableFileStore, W: Write>(
+    alloc: Global,
+    files: &mut S,
+    name: Option<&str>,
+    answer: Answer,
+    output: &mut W,
+) -> u8
+    ensures told { Prints (IsDelivered (name_of name.entry) (S.held files.new) answer.lines.items answer.certificate.items) (W.contents output.old) (W.contents output.new) result }
+    ensures others { KeepFiles (name_of name.entry) (S.held files.old) (S.held files.new) }
+{
+    let Answer { lines, certificate } = answer;
+    match keep_certificate(files, name, &certificate) {
+        Ok(()) => say(output, Ok(lines), 0),
+        Err(fault) => say(output, file_line(alloc, fault), 1),
+    }
+}
+
+/// Judges texts, tells what is placed, and answers the status.
+fn place_texts<T: Threads + Sync, U: Wait + Sync, S: WritableFileStore, W: Write>(
+    rt: &T,
+    wait: &U,
+    alloc: Global,
+    files: &mut S,
+    request: Request<'_>,
+    texts: &Texts,
+    output: &mut W,
+) -> u8
+    ensures told { Prints (IsJudged (request_of request.entry) texts.now.litmus.items (option_map (λ text. text.items) texts.now.costs) (S.held files.new)) (W.contents output.old) (W.contents output.new) result }
+    ensures others { KeepFiles (name_of request.entry.certificate) (S.held files.old) (S.held files.new) }
+{
+    match answer_of(rt, wait, alloc, request, texts) {
+        Ok(answer) => deliver(alloc, files, request.certificate, answer, output),
+        Err(fault) => say(output, text_fault_line(alloc, fault), 1),
+    }
+}
+
+/// Places fences in the program of a litmus file, writes the certificate, tells the answer, and answers
+/// the status.
+pub fn run_place<T: Threads + Sync, U: Wait + Sync, S: WritableFileStore, R: Read, W: Write>(
+    rt: &T,
+    wait: &U,
+    alloc: Global,
+    files: &mut S,
+    request: Request<'_>,
+    input: &mut R,
+    output: &mut W,
+) -> u8
+    ensures told { Prints (IsPlaced (request_of request.entry) (R.remaining input.old) (S.held files.old) (S.held files.new)) (W.contents output.old) (W.contents output.new) result }
+    ensures others { KeepFiles (name_of request.entry.certificate) (S.held files.old) (S.held files.new) }
+{
+    match read_texts(alloc, &*files, request, input) {
+        Ok(texts) => place_texts(rt, wait, alloc, files, request, &texts, output),
+        Err(fault) => say(output, file_line(alloc, fault), 1),
+    }
+}

@@ -1,0 +1,67 @@
+//! `place [--costs FILE] [--workers N] [--certificate FILE] [--observed] LITMUS`
+
+ghost use Rattle.std.specs.Prelude.{◌≡◌, false, IfOk, codes};
+ghost use Rattle.clap.specs.Words.{found_of, rows_of, rule_of};
+ghost use Rattle.fencer_words.specs.CommandLines.{file_rule, workers_rule, place_app, AreWorkers, IsJobOf};
+ghost use Rattle.fencer_words.specs.Commands.{IsBuiltAs};
+
+use crate::arguments::{is_flagged, litmus_arg, observed_arg, text_given, text_in, value_in};
+use crate::job::Job;
+use clap::builder::ValueParser;
+use clap::{Arg, ArgMatches, Command};
+use std::alloc::{AllocError, Global};
+
+/// The most workers that may search.
+pub const MAX_WORKERS: u8 = 32;
+
+/// `--NAME FILE`
+fn file_arg<'a>(alloc: Global, name: &'a str) -> Arg<'a>
+    ensures rule { rule_of result ≡ file_rule name.entry.now }
+    ensures own { result.global ≡ false }
+{
+    Arg::new(alloc, name).long(name)
+}
+
+/// `--workers N`
+fn workers_arg<'a>(alloc: Global) -> Arg<'a>
+    ensures rule { rule_of result ≡ workers_rule }
+    ensures own { result.global ≡ false }
+{
+    Arg::new(alloc, "workers")
+        .long("workers")
+        .value_parser(ValueParser::unsigned(1, MAX_WORKERS as u64))
+        .default_value("1")
+}
+
+pub fn place_command<'a>(alloc: Global) -> Result<Command<'a>, AllocError>
+    ensures { IfOk result (IsBuiltAs place_app) }
+{
+    Command::new(alloc, "place")
+        .arg(file_arg(alloc, "costs"))?
+        .arg(workers_arg(alloc))?
+        .arg(file_arg(alloc, "certificate"))?
+        .arg(observed_arg(alloc))?
+        .arg(litmus_arg(alloc))
+}
+
+/// The number that a text names, among those of workers.
+fn workers_of(text: &str) -> u8
+    ensures { AreWorkers text.now result }
+{
+    match text.parse::<u8>() {
+        Ok(workers) => workers.clamp(1, MAX_WORKERS),
+        Err(_) => 1,
+    }
+}
+
+pub fn place_job(alloc: Global, matches: &ArgMatches<'_>) -> Result<Job, AllocError>
+    ensures { IfOk result (IsJobOf (codes "place") (rows_of (found_of matches.now))) }
+{
+    Ok(Job::Place {
+        costs: text_given(alloc, matches, "costs")?,
+        workers: workers_of(value_in(matches, "workers")),
+        certificate: text_given(alloc, matches, "certificate")?,
+        observed: is_flagged(matches, "observed"),
+        litmus: text_in(alloc, matches, "litmus")?,
+    })
+}

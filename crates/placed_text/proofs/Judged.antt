@@ -1,0 +1,68 @@
+-- What a text is told, from what its parts are.
+use Rattle.std.proofs.Common.{◌≡◌, ◌∙◌, ℕ, Bool, List, Option, Some, None, ap, length, subst}
+use Rattle.std.specs.Prelude.{unwrap_or}
+use Rattle.std.proofs.lemmas.List.{length-replicate}
+use Rattle.std.proofs.lemmas.List.FromFn.{length-map-range_with_len}
+use Rattle.tso_program.specs.declared.listing.Listing.{Listing}
+use Rattle.tso_program.specs.Listings.{gap_count}
+use Rattle.litmus_text.specs.declared.litmus.Litmus.{Litmus}
+use Rattle.litmus_text.specs.Texts.{IsLitmus}
+use Rattle.cost_text.specs.CostTexts.{said_of}
+use Rattle.cost_text.specs.GivenCosts.{AreGiven}
+use Rattle.report.specs.Answers.{answer_line}
+use Rattle.fence_place.specs.declared.placing.Placed.{Placed}
+use Rattle.fence_place.specs.Placements.{IsPlacement}
+use Rattle.placed_text.specs.declared.fault.TextFault.{TextFault}
+use Rattle.placed_text.specs.declared.fault.TextFault.TheVariants as fault
+use Rattle.placed_text.specs.declared.writing.PlacedText.{PlacedText}
+use Rattle.placed_text.specs.Questions.{shown_as, question_of}
+use Rattle.placed_text.specs.PlacedTexts.{IsPlacedText, IsWritten}
+use Rattle.placed_text.specs.TextFaults.{HasNoProgram, HasNoCosts, HasNoPlacement, HasNoPlacedText}
+
+-- each gap has a cost
+pub one_each : (p : Listing) (text : Option (List ℕ)) (costs : List ℕ) → AreGiven p text costs → length costs ≡ gap_count p.threads
+one_each p None costs is = ap length is ∙ length-replicate (gap_count p.threads) 1
+one_each p (Some text) costs is = ap length is.costs_are ∙ length-map-range_with_len (λ gap. unwrap_or (said_of is.entries gap) 1) 0 (gap_count p.threads)
+
+module _ (litmus : List ℕ) (costs : Option (List ℕ)) where
+  pub placed_text : (observed : Bool) (texts : PlacedText) (source : Litmus Listing) (gap_costs : List ℕ) (placed : Placed) → IsLitmus litmus source → AreGiven source.program costs gap_costs
+      → IsPlacement (question_of source observed) gap_costs placed → IsWritten source (shown_as source observed) placed texts → IsPlacedText litmus costs observed texts
+  placed_text observed texts source gap_costs placed of_text given is written = record {
+    source = source;
+    of_text = of_text;
+    gap_costs = gap_costs;
+    given = given;
+    gaps = placed.set;
+    answer = is.answer;
+    headline = is.headline;
+    program = written.program;
+    line = subst (λ (cost : ℕ). texts.answer.items ≡ answer_line source.program (shown_as source observed) placed.set cost) is.cost written.line;
+    certificate = record {
+      claimed = placed.certificate;
+      of_text = record { spelled = written.certificate; within = is.proof.within };
+      claims = is.same_set;
+      valid = is.proof.valid;
+    };
+  }
+
+  module _ (workers : ℕ) where
+    -- the litmus text is no such text
+    pub no_program : (why : TextFault) → HasNoProgram litmus why → HasNoPlacedText litmus costs workers why
+    no_program (fault.Read why) is = is
+    no_program (fault.CostText why) is = absurd is
+    no_program (fault.Place why) is = absurd is
+    no_program fault.OutOfMemory is = tt
+
+    -- the costs are none
+    pub no_costs : (source : Litmus Listing) (why : TextFault) → IsLitmus litmus source → HasNoCosts source.program costs why → HasNoPlacedText litmus costs workers why
+    no_costs source (fault.Read why) of_text is = absurd is
+    no_costs source (fault.CostText why) of_text is = (source, of_text, is)
+    no_costs source (fault.Place why) of_text is = absurd is
+    no_costs source fault.OutOfMemory of_text is = tt
+
+    -- the number of workers is none
+    pub no_placement : (source : Litmus Listing) (gap_costs : List ℕ) (why : TextFault) → IsLitmus litmus source → AreGiven source.program costs gap_costs → HasNoPlacement workers why → HasNoPlacedText litmus costs workers why
+    no_placement source gap_costs (fault.Read why) of_text given is = absurd is
+    no_placement source gap_costs (fault.CostText why) of_text given is = absurd is
+    no_placement source gap_costs (fault.Place why) of_text given is = (source, gap_costs, of_text, given, is)
+    no_placement source gap_costs fault.OutOfMemory of_text given is = tt

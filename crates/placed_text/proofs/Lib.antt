@@ -1,0 +1,2 @@
+pub mod GapsThere
+pub mod Judged

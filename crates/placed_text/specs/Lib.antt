@@ -1,0 +1,3 @@
+pub mod Questions
+pub mod PlacedTexts
+pub mod TextFaults

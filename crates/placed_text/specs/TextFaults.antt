@@ -1,0 +1,60 @@
+-- Why nothing is placed in the program of a text. Want of memory comes anywhere, and only as the fault of that name.
+use Rattle.std.specs.Prelude.{◌≡◌, ℕ, List, Option, Some, ⊤}
+use Rattle.tso_program.specs.declared.listing.Listing.{Listing}
+use Rattle.litmus_text.specs.declared.litmus.Litmus.{Litmus}
+use Rattle.litmus_text.specs.declared.fault.ReadFault.{ReadFault}
+use Rattle.litmus_text.specs.Texts as litmus_texts
+use Rattle.cost_text.specs.declared.fault.CostTextFault.{CostTextFault}
+use Rattle.cost_text.specs.CostTexts as cost_texts
+use Rattle.cost_text.specs.GivenCosts.{AreGiven}
+use Rattle.fence_place.specs.declared.fault.PlaceFault.{PlaceFault}
+use Rattle.fence_place.specs.declared.fault.PlaceFault.TheVariants as place
+use Rattle.fence_place.specs.Faults.{AreTooFewOrMany}
+use Rattle.placed_text.specs.declared.fault.TextFault.{TextFault}
+use Rattle.placed_text.specs.declared.fault.TextFault.TheVariants as fault
+
+-- the text is no litmus text, and what the fault says of it
+pub record IsNoLitmus (text : List ℕ) (why : ReadFault) : Type 0 where
+  pub refused : litmus_texts.Refuses text why
+  pub none : (litmus : Litmus Listing) → litmus_texts.IsLitmus text litmus → ⊥
+
+abbrev pub HasNoProgram : List ℕ → TextFault → Type 0
+HasNoProgram text (fault.Read why) = IsNoLitmus text why
+HasNoProgram text (fault.CostText why) = ⊥
+HasNoProgram text (fault.Place why) = ⊥
+HasNoProgram text fault.OutOfMemory = ⊤
+
+-- a text of costs is given that gives the gaps of the program none, and what the fault says of it
+pub record AreNoCosts (p : Listing) (costs : Option (List ℕ)) (why : CostTextFault) : Type 0 where
+  pub text : List ℕ
+  pub is_given : costs ≡ Some text
+  pub refused : cost_texts.Refuses text p.threads why
+  pub none : (given : List ℕ) → cost_texts.IsCostText text p.threads given → ⊥
+
+abbrev pub HasNoCosts : Listing → Option (List ℕ) → TextFault → Type 0
+HasNoCosts p costs (fault.Read why) = ⊥
+HasNoCosts p costs (fault.CostText why) = AreNoCosts p costs why
+HasNoCosts p costs (fault.Place why) = ⊥
+HasNoCosts p costs fault.OutOfMemory = ⊤
+
+-- of the faults of the placer only the number of workers is left
+abbrev pub IsNoPlacement : ℕ → PlaceFault → Type 0
+IsNoPlacement workers place.Workers = AreTooFewOrMany workers
+IsNoPlacement workers place.Costs = ⊥
+IsNoPlacement workers place.NotCertified = ⊥
+IsNoPlacement workers place.Board = ⊥
+IsNoPlacement workers place.OutOfMemory = ⊥
+
+abbrev pub HasNoPlacement : ℕ → TextFault → Type 0
+HasNoPlacement workers (fault.Read why) = ⊥
+HasNoPlacement workers (fault.CostText why) = ⊥
+HasNoPlacement workers (fault.Place why) = IsNoPlacement workers why
+HasNoPlacement workers fault.OutOfMemory = ⊤
+
+-- Why there are no texts: the litmus text is judged first, then the costs, then the number of workers.
+abbrev pub HasNoPlacedText : List ℕ → Option (List ℕ) → ℕ → TextFault → Type 0
+HasNoPlacedText litmus costs workers (fault.Read why) = IsNoLitmus litmus why
+HasNoPlacedText litmus costs workers (fault.CostText why) = (source : Litmus Listing) × litmus_texts.IsLitmus litmus source × AreNoCosts source.program costs why
+HasNoPlacedText litmus costs workers (fault.Place why) =
+    (source : Litmus Listing) × (gap_costs : List ℕ) × litmus_texts.IsLitmus litmus source × AreGiven source.program costs gap_costs × IsNoPlacement workers why
+HasNoPlacedText litmus costs workers fault.OutOfMemory = ⊤

@@ -1,0 +1,23 @@
+//! Why nothing is placed in the program of a text.
+
+use cost_text::CostTextFault;
+use fence_place::PlaceFault;
+use litmus_text::ReadFault;
+use thiserror::Error;
+
+/// Why nothing is placed in the program of a text. Want of memory is `OutOfMemory`, wherever it comes:
+/// no inner fault tells of it.
+#[derive(Clone, Copy, Debug, PartialEq, Eq, Error)]
+pub enum TextFault {
+    /// The text isn't a litmus text.
+    #[error("1 Read: {0}")]
+    Read(ReadFault),
+    /// The text of costs isn't one for the program.
+    #[error("2 CostText: {0}")]
+    CostText(CostTextFault),
+    /// There is no such number of workers.
+    #[error("3 Place: {0}")]
+    Place(PlaceFault),
+    #[error("4 OutOfMemory")]
+    OutOfMemory,
+}

@@ -1,0 +1,78 @@
+//! Fences placed in the program of a text.
+ghost use Rattle.std.specs.Prelude.{◌≡◌, IfErr, IfOk, OnOk, length, option_map};
+ghost use Rattle.tso_program.specs.Listings.{gap_count};
+ghost use Rattle.tso_program.specs.Shown.{asked};
+ghost use Rattle.fence_place.specs.Faults.{AreTooFewOrMany};
+ghost use Rattle.fence_place.specs.Placements.{IsPlacement};
+ghost use Rattle.placed_text.specs.PlacedTexts.{IsPlacedText};
+ghost use Rattle.placed_text.specs.TextFaults.{HasNoPlacement, HasNoPlacedText};
+
+use crate::TextFault;
+use crate::reading::{read_gap_costs, read_program, shown_as};
+use crate::writing::{PlacedText, write_placed};
+use cover_solver::{SolveFault, Solver, sequential};
+use fence_place::{PlaceFault, Placed, place};
+use gap_sets::Costs;
+use std::alloc::Global;
+use std::sync::Wait;
+use std::thread::Threads;
+use tso_program::{Program, Shown};
+
+/// Finds the best set of a program's gaps that serves, by a solver of its own.
+fn place_gaps<R: Threads + Sync, W: Wait + Sync>(
+    rt: &R,
+    wait: &W,
+    alloc: Global,
+    program: &Program,
+    shown: &Shown,
+    costs: &Costs,
+    workers: u8,
+) -> Result<Placed, TextFault>
+    requires { length costs.now ≡ gap_count program.now.threads }
+    ensures placed { IfOk result (IsPlacement (asked program.now shown.now) costs.now) }
+    ensures workers { OnOk result (¬ AreTooFewOrMany workers) }
+    ensures fault { IfErr result (HasNoPlacement workers) }
+{
+    let table = match sequential(alloc, program, shown) {
+        Ok(table) => table,
+        Err(SolveFault::NoRun) => return Err(TextFault::Place(PlaceFault::NotCertified)),
+        Err(SolveFault::OutOfMemory) => return Err(TextFault::OutOfMemory),
+    };
+    let Ok(solver) = Solver::new(alloc, program, &table) else {
+        return Err(TextFault::OutOfMemory);
+    };
+    match place(rt, wait, alloc, &solver, &table, costs, workers) {
+        Ok(placed) => Ok(placed),
+        Err(PlaceFault::OutOfMemory) => Err(TextFault::OutOfMemory),
+        Err(fault) => Err(TextFault::Place(fault)),
+    }
+}
+
+/// Places fences in the program of a litmus text, where its gaps cost what a text of costs says, and 1
+/// each without one: the best set of gaps after which the program has its sequential outcomes and no
+/// others. If `observed`, only what the condition and `locations` name tells outcomes apart.
+///
+/// The litmus text is judged first, then the costs, then the number of workers. They search on `rt`, and
+/// wait for one another by `wait`.
+pub fn place_text<R: Threads + Sync, W: Wait + Sync>(
+    rt: &R,
+    wait: &W,
+    alloc: Global,
+    litmus: &[u8],
+    costs: Option<&[u8]>,
+    observed: bool,
+    workers: u8,
+) -> Result<PlacedText, TextFault>
+    ensures placed { IfOk result (IsPlacedText litmus.now (option_map (λ text. text.now) costs.entry) observed) }
+    ensures workers { OnOk result (¬ AreTooFewOrMany workers) }
+    ensures fault { IfErr result (HasNoPlacedText litmus.now (option_map (λ text. text.now) costs.entry) workers) }
+{
+    let source = read_program(alloc, litmus)?;
+    let costs = read_gap_costs(alloc, costs, &source.program)?;
+    let shown = shown_as(&source, observed);
+    let placed = place_gaps(rt, wait, alloc, &source.program, &shown, &costs, workers)?;
+    match write_placed(alloc, &source, &shown, &placed) {
+        Ok(texts) => Ok(texts),
+        Err(_) => Err(TextFault::OutOfMemory),
+    }
+}

@@ -1,0 +1,50 @@
+//! What the texts stand for.
+ghost use Rattle.std.specs.Prelude.{◌≡◌, IfErr, IfOk, option_map};
+ghost use Rattle.litmus_text.specs.Texts.{IsLitmus};
+ghost use Rattle.cost_text.specs.GivenCosts.{AreGiven};
+ghost use Rattle.placed_text.specs.TextFaults.{HasNoProgram, HasNoCosts};
+ghost use Rattle.placed_text.specs.Questions.{shown_as};
+
+use crate::TextFault;
+use cost_text::{CostTextFault, given_costs};
+use gap_sets::Costs;
+use litmus_text::{Litmus, ReadFault, read_litmus};
+use std::alloc::Global;
+use tso_program::{Program, Shown};
+
+/// What is shown of outcomes: all, or what the litmus text names.
+pub fn shown_as(litmus: &Litmus<Program>, observed: bool) -> Shown
+    ensures { result ≡ shown_as litmus.now observed }
+{
+    if observed { litmus.shown() } else { Shown::All }
+}
+
+/// What a litmus text stands for.
+pub(crate) fn read_program(alloc: Global, text: &[u8]) -> Result<Litmus<Program>, TextFault>
+    ensures found { IfOk result (IsLitmus text.now) }
+    ensures refused { IfErr result (HasNoProgram text.now) }
+{
+    match read_litmus(alloc, text) {
+        Ok(litmus) => Ok(litmus),
+        Err(ReadFault::OutOfMemory) => Err(TextFault::OutOfMemory),
+        Err(fault) => Err(TextFault::Read(fault)),
+    }
+}
+
+/// The costs that a text gives a program's gaps; 1 each without a text.
+pub(crate) fn read_gap_costs(
+    alloc: Global,
+    text: Option<&[u8]>,
+    program: &Program,
+) -> Result<Costs, TextFault>
+    ensures given { IfOk result (AreGiven program.now (option_map (λ text. text.now) text.entry)) }
+    ensures refused { IfErr result (HasNoCosts program.now (option_map (λ text. text.now) text.entry)) }
+{
+    match given_costs(alloc, text, program) {
+        Ok(costs) => Ok(costs),
+        Err(fault) => match fault {
+            CostTextFault::OutOfMemory => Err(TextFault::OutOfMemory),
+            _ => Err(TextFault::CostText(fault)),
+        },
+    }
+}

@@ -1,0 +1,45 @@
+//! The texts of what is placed.
+ghost use Rattle.std.specs.Prelude.{◌≡◌, None, IfOk};
+ghost use Rattle.tso_program.specs.Fences.{first_missing};
+ghost use Rattle.placed_text.specs.PlacedTexts.{IsWritten};
+
+use canonical_text::write_litmus;
+use cert_forest::write_cert;
+use fence_place::Placed;
+use litmus_text::Litmus;
+use report::answer_line;
+use std::alloc::{AllocError, Global};
+use tso_program::{FenceFault, Program, Shown};
+
+/// The texts of what is placed.
+#[derive(Debug, Drop)]
+pub struct PlacedText {
+    /// The program with its fences, in canonical text.
+    pub program: Vec<u8>,
+    /// The line of the answer.
+    pub answer: Vec<u8>,
+    /// The certificate of the answer.
+    pub certificate: Vec<u8>,
+}
+
+/// Writes what is placed.
+pub(crate) fn write_placed(
+    alloc: Global,
+    litmus: &Litmus<Program>,
+    shown: &Shown,
+    placed: &Placed,
+) -> Result<PlacedText, AllocError>
+    requires { first_missing litmus.now.program placed.now.set ≡ None }
+    ensures { IfOk result (IsWritten litmus.now shown.now placed.now) }
+{
+    let program = match write_litmus(alloc, litmus, &placed.set) {
+        Ok(program) => program,
+        Err(FenceFault::NoSuchGap(_)) => unreachable!(),
+        Err(FenceFault::OutOfMemory) => return Err(AllocError),
+    };
+    Ok(PlacedText {
+        program,
+        answer: answer_line(alloc, &litmus.program, shown, placed.set, placed.cost)?,
+        certificate: write_cert(alloc, &placed.certificate)?,
+    })
+}
