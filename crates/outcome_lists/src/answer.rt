@@ -4,10 +4,12 @@ use crate::candidates::Listed;
 use crate::fault::ListFault;
 use crate::input::{Request, request_of, split_at_byte};
 use crate::repeats::{repeated, told};
-use crate::{candidates, machine};
+use crate::{candidates, machine, solver};
 use exec_axioms::Mode;
 use litmus_text::{Litmus, NameTable, read_litmus, write_outcome};
 use std::alloc::{AllocError, Global};
+use std::sync::Wait;
+use std::thread::Threads;
 use tso_program::{Outcome, Program, Shown};
 
 /// A list's heading and a line for each outcome.
@@ -83,12 +85,8 @@ fn answer_to(
     }
 }
 
-/// What is printed for an input.
-pub fn answer(alloc: Global, input: &[u8]) -> Result<Vec<u8>, AllocError> {
-    let (line, text) = split_at_byte(input, b'\n');
-    let Some(request) = request_of(line) else {
-        return Vec::from_slice(alloc, b"refused request\n");
-    };
+/// What is printed for a request.
+fn listed(alloc: Global, request: Request, text: &[u8]) -> Result<Vec<u8>, AllocError> {
     let litmus = match read_litmus(alloc, text) {
         Ok(litmus) => litmus,
         Err(fault) => return told(format!(in alloc; "refused litmus {fault}\n")),
@@ -96,5 +94,19 @@ pub fn answer(alloc: Global, input: &[u8]) -> Result<Vec<u8>, AllocError> {
     match answer_to(alloc, &litmus, request) {
         Ok(printed) => Ok(printed),
         Err(fault) => told(format!(in alloc; "refused {fault}\n")),
+    }
+}
+
+/// What is printed for an input.
+pub fn answer<R: Threads + Sync, W: Wait + Sync>(
+    rt: &R,
+    wait: &W,
+    alloc: Global,
+    input: &[u8],
+) -> Result<Vec<u8>, AllocError> {
+    let (line, text) = split_at_byte(input, b'\n');
+    match request_of(line) {
+        Some(request) => listed(alloc, request, text),
+        None => solver::answer(rt, wait, alloc, line, text),
     }
 }

@@ -3,7 +3,8 @@
 use crate::input::{split_line, word_at, words_of};
 use crate::refusal::Refusal;
 use crate::{
-    certificates, formulas, machines, observations, programs, sets, sketches, syntax, texts, tokens,
+    certificates, fences, formulas, machines, observations, programs, sets, sketches, syntax,
+    texts, tokens,
 };
 use std::alloc::{AllocError, Global};
 
@@ -44,6 +45,7 @@ fn named_answer(
         b"body" => syntax::body(alloc, text),
         b"ending" => syntax::ending(alloc, words, text),
         b"read" => texts::read(alloc, text),
+        b"canonical" => fences::canonical(alloc, words, text),
         b"read-fenced" => texts::read_with_fences(alloc, text),
         b"formula" => formulas::formula(alloc, text),
         b"formulas" => formulas::formulas(alloc, text),

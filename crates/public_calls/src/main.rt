@@ -6,12 +6,14 @@
 
 mod answer;
 mod certificates;
+mod fences;
 mod formulas;
 mod input;
 mod machines;
 mod observations;
 mod programs;
 mod refusal;
+mod same;
 mod sets;
 mod sketches;
 mod syntax;

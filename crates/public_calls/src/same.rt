@@ -4,8 +4,6 @@ use gap_sets::GapSet;
 use litmus_text::{Label, Litmus, NameTable};
 use tso_program::{FencedProgram, Items, Program, Reg};
 
-const REGISTERS: [Reg; 6] = [Reg::Eax, Reg::Ebx, Reg::Ecx, Reg::Edx, Reg::Esi, Reg::Edi];
-
 fn same_locations(one: &NameTable, other: &NameTable) -> bool {
     for number in 0..one.locations() {
         if one.location(number) != other.location(number) {
@@ -17,7 +15,7 @@ fn same_locations(one: &NameTable, other: &NameTable) -> bool {
 
 /// Whether both name the same registers of a thread.
 fn same_registers(one: &NameTable, other: &NameTable, thread: usize) -> bool {
-    REGISTERS.iter().all(|register| one.is_named(thread, *register)
+    Reg::ALL.iter().all(|register| one.is_named(thread, *register)
         == other.is_named(thread, *register))
 }
 

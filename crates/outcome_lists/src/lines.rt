@@ -3,8 +3,10 @@
 use crate::trees::size_of;
 use cert_forest::CoverTree;
 use cover_solver::{ForeignRun, SeqTable};
+use gap_sets::GapSet;
 use litmus_text::NameTable;
 use report::{outcome_line, passed_line};
+use search_core::Node;
 use std::alloc::{AllocError, Global};
 use tso_machine::{Label, write_run};
 use tso_program::{Outcome, Shown};
@@ -73,4 +75,29 @@ pub fn serving_lines(alloc: Global, tree: &CoverTree) -> Result<Vec<u8>, AllocEr
     let mut lines = Vec::from_slice(alloc, b"serves\n")?;
     lines.extend_from_slice(&tree_line(alloc, tree)?)?;
     Ok(lines)
+}
+
+fn push_gaps(alloc: Global, gaps: &GapSet, line: &mut Vec<u8>) -> Result<(), AllocError> {
+    for gap in gaps.iter() {
+        line.extend_from_slice(format!(in alloc; " {gap}")?.as_bytes())?;
+    }
+    Ok(())
+}
+
+/// The numbers of the gaps of a set.
+pub fn set_line(alloc: Global, set: &GapSet) -> Result<Vec<u8>, AllocError> {
+    let mut line = Vec::from_slice(alloc, b"set")?;
+    push_gaps(alloc, set, &mut line)?;
+    line.push(b'\n')?;
+    Ok(line)
+}
+
+/// The gaps that a node's sets must have, and those that they never have.
+pub fn node_line(alloc: Global, node: &Node) -> Result<Vec<u8>, AllocError> {
+    let mut line = Vec::from_slice(alloc, b"must")?;
+    push_gaps(alloc, &node.must, &mut line)?;
+    line.extend_from_slice(b" never")?;
+    push_gaps(alloc, &node.never, &mut line)?;
+    line.push(b'\n')?;
+    Ok(line)
 }

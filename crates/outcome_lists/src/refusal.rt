@@ -1,7 +1,10 @@
 //! Why a call has no other answer.
 
 use cover_solver::{ForeignFault, SolveFault};
+use fence_place::PlaceFault;
+use gap_sets::CostFault;
 use litmus_text::ReadFault;
+use search_core::TreeFault;
 use std::alloc::AllocError;
 use thiserror::Error;
 use tso_machine::RunFault;
@@ -24,4 +27,10 @@ pub enum Refusal {
     Solve(#[from] SolveFault),
     #[error("foreign {0}")]
     Foreign(#[from] ForeignFault),
+    #[error("cost {0}")]
+    Cost(#[from] CostFault),
+    #[error("tree {0}")]
+    Tree(#[from] TreeFault),
+    #[error("place {0}")]
+    Place(#[from] PlaceFault),
 }

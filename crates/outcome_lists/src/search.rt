@@ -1,0 +1,177 @@
+//! A search by its events, one for each word of a script.
+ghost use Rattle.std.specs.Prelude.{◌≡◌, ◌<◌};
+ghost use Rattle.search_core.specs.States.{IsSameSearch};
+
+use crate::input::split_at_byte;
+use crate::lines::{node_line, set_line};
+use crate::placing::costs_of;
+use crate::refusal::Refusal;
+use cover_solver::{ForeignRun, Oracle, SeqTable, Solver, Verdict};
+use search_core::{Reason, SearchTree};
+use std::alloc::{AllocError, Global};
+use tso_machine::read_run;
+
+/// How many seats the search has.
+const SEATS: u8 = 2;
+
+/// The seat takes a node.
+fn take(alloc: Global, tree: &mut SearchTree, seat: u8) -> Result<Vec<u8>, Refusal>
+    requires { seat < tree.old.seats }
+    ensures { IsSameSearch tree.old tree.new }
+{
+    let node = tree.take(seat)?;
+    Ok(node_line(alloc, &node)?)
+}
+
+/// The seat's node is split by the run of these labels.
+fn split(
+    alloc: Global,
+    table: &SeqTable,
+    tree: &mut SearchTree,
+    seat: u8,
+    labels: &[u8],
+) -> Result<Vec<u8>, Refusal>
+    requires seat { seat < tree.old.seats }
+    requires of_table { tree.old.question ≡ table.now.question }
+    ensures { IsSameSearch tree.old tree.new }
+{
+    let labels = with_spaces(alloc, labels)?;
+    let labels = read_run(alloc, &labels)?;
+    let run = ForeignRun::new(alloc, table, &labels)?;
+    tree.split(seat, &run)?;
+    Ok(Vec::from_slice(alloc, b"split\n")?)
+}
+
+/// The seat's node is cut by the best set so far.
+fn cut(alloc: Global, tree: &mut SearchTree, seat: u8) -> Result<Vec<u8>, Refusal>
+    requires { seat < tree.old.seats }
+    ensures { IsSameSearch tree.old tree.new }
+{
+    tree.cut(seat, Reason::Best)?;
+    Ok(Vec::from_slice(alloc, b"cut\n")?)
+}
+
+/// The seat's node is confirmed, if the gaps that its sets must have serve.
+fn confirm(
+    alloc: Global,
+    table: &SeqTable,
+    tree: &mut SearchTree,
+    seat: u8,
+) -> Result<Vec<u8>, Refusal>
+    requires seat { seat < tree.old.seats }
+    requires of_table { tree.old.question ≡ table.now.question }
+    ensures { IsSameSearch tree.old tree.new }
+{
+    let Some(node) = tree.held(seat) else {
+        return Err(Refusal::Call);
+    };
+    let solver = Solver::new(alloc, table.program(), table)?;
+    let Verdict::Serves(served) = solver.ask(&node.must)? else {
+        return Err(Refusal::Call);
+    };
+    tree.confirm(seat, served)?;
+    Ok(Vec::from_slice(alloc, b"confirmed\n")?)
+}
+
+/// The seat's node is open again.
+fn give_back(alloc: Global, tree: &mut SearchTree, seat: u8) -> Result<Vec<u8>, Refusal>
+    requires { seat < tree.old.seats }
+    ensures { IsSameSearch tree.old tree.new }
+{
+    tree.give_back(seat)?;
+    Ok(Vec::from_slice(alloc, b"given back\n")?)
+}
+
+/// The answer, if the search is done.
+fn answer(alloc: Global, tree: &SearchTree) -> Result<Vec<u8>, AllocError> {
+    match tree.answer() {
+        Some(served) => set_line(alloc, &served.set()),
+        None => Vec::from_slice(alloc, b"not done\n"),
+    }
+}
+
+/// The event of this name, by this seat.
+fn event(
+    alloc: Global,
+    table: &SeqTable,
+    tree: &mut SearchTree,
+    name: &[u8],
+    seat: u8,
+    labels: &[u8],
+) -> Result<Vec<u8>, Refusal>
+    requires seat { seat < tree.old.seats }
+    requires of_table { tree.old.question ≡ table.now.question }
+    ensures { IsSameSearch tree.old tree.new }
+{
+    match name {
+        b"take" => take(alloc, tree, seat),
+        b"split" => split(alloc, table, tree, seat, labels),
+        b"cut" => cut(alloc, tree, seat),
+        b"confirm" => confirm(alloc, table, tree, seat),
+        b"give" => give_back(alloc, tree, seat),
+        _ => Err(Refusal::Call),
+    }
+}
+
+/// Does what a word names: the event, the seat's number as its last digit, and labels after a colon,
+/// each two of them joined by a comma.
+fn step(
+    alloc: Global,
+    table: &SeqTable,
+    tree: &mut SearchTree,
+    word: &[u8],
+) -> Result<Vec<u8>, Refusal>
+    requires seats { tree.old.seats ≡ 2 }
+    requires of_table { tree.old.question ≡ table.now.question }
+    ensures { IsSameSearch tree.old tree.new }
+{
+    let (named, labels) = split_at_byte(word, b':');
+    let Some((last, name)) = named.split_last() else {
+        return Err(Refusal::Call);
+    };
+    let seat = last.wrapping_sub(b'0');
+    if seat >= SEATS {
+        return Err(Refusal::Call);
+    }
+    event(alloc, table, tree, name, seat, labels)
+}
+
+/// The lines of a word: the answer, or what became of an event.
+fn word_lines(
+    alloc: Global,
+    table: &SeqTable,
+    tree: &mut SearchTree,
+    word: &[u8],
+) -> Result<Vec<u8>, AllocError>
+    requires seats { tree.old.seats ≡ 2 }
+    requires of_table { tree.old.question ≡ table.now.question }
+    ensures { IsSameSearch tree.old tree.new }
+{
+    if word == b"answer".as_slice() {
+        return answer(alloc, tree);
+    }
+    match step(alloc, table, tree, word) {
+        Ok(line) => Ok(line),
+        Err(refusal) => Ok(format!(in alloc; "refused {refusal}\n")?.into_bytes()),
+    }
+}
+
+/// The bytes with a space in place of each comma.
+fn with_spaces(alloc: Global, bytes: &[u8]) -> Result<Vec<u8>, AllocError> {
+    let mut spaced = Vec::new(alloc);
+    for byte in bytes {
+        spaced.push(if *byte == b',' { b' ' } else { *byte })?;
+    }
+    Ok(spaced)
+}
+
+/// The lines of a script over the search for the best set of gaps, each of which costs 1.
+pub fn searched(alloc: Global, table: &SeqTable, script: &[u8]) -> Result<Vec<u8>, Refusal> {
+    let costs = costs_of(alloc, table)?;
+    let mut tree = SearchTree::new(alloc, table, &costs, SEATS)?;
+    let mut lines = Vec::new(alloc);
+    for word in script.split(|byte| *byte == b' ') {
+        lines.extend_from_slice(&word_lines(alloc, table, &mut tree, word)?)?;
+    }
+    Ok(lines)
+}
