@@ -24,9 +24,10 @@ IsLabel (Flush t) = t < 256
 abbrev pub words : List ℕ → List (List ℕ)
 words text = filter (λ w. nat_lt 0 (length w)) (slice_split is_blank text)
 
--- the words of the text are the labels'
-abbrev pub IsRunText : List ℕ → List Label → Type 0
-IsRunText text labels = words text ≡ map spelling labels
+-- the threads of the labels are in range, and the words of the text are the labels'
+pub record IsRunText (text : List ℕ) (labels : List Label) : Type 0 where
+  pub fits : AllByRecursion IsLabel labels
+  pub spelled : words text ≡ map spelling labels
 
 -- one space between two labels
 abbrev pub run_text : List Label → List ℕ

@@ -1,8 +1,10 @@
 //! Replay of a run.
-ghost use Rattle.std.specs.Prelude.{◌≡◌, ℕ, IfOk, IfErr, IfSome, ◌<◌, false};
+ghost use Rattle.std.specs.Prelude.{◌≡◌, ℕ, IfOk, IfErr, IfSome, MatchResult, ◌<◌, false};
 ghost use Rattle.std.specs.Option.{option_map_or};
 ghost use Rattle.std.specs.FinSet as set;
+ghost use Rattle.tso_program.specs.declared.outcome.Outcome.{Outcome};
 ghost use Rattle.tso_machine.specs.declared.label.Model.TheVariants as models;
+ghost use Rattle.tso_machine.specs.declared.ended.ReplayFault.TheVariants.{OutOfMemory};
 ghost use Rattle.tso_machine.specs.Machine.{IsRun};
 ghost use Rattle.tso_machine.specs.Modes.{mode_of, ArePassed};
 ghost use Rattle.tso_machine.specs.Faults.{FaultIs, fault_of};
@@ -47,7 +49,8 @@ pub enum ReplayFault {
 
 /// Replays labels on a program from its start. Where stores wait, the gaps of the set are fenced; those
 /// that the program hasn't are ignored. The sequential model has no use for the set, and no store waits
-/// there: the flush of a thread that the program has is refused as `BufferEmpty`.
+/// there: the flush of a thread that the program has is refused as `BufferEmpty`. A run is refused for
+/// nothing but memory.
 pub fn replay(
     alloc: Global,
     program: &Program,
@@ -58,6 +61,7 @@ pub fn replay(
     ensures run { IfOk result (λ ended. IsRun program.now (mode_of program.now fenced.now model) labels.now ended.outcome) }
     ensures passed { IfOk result (λ ended. ArePassed program.now (mode_of program.now fenced.now model) labels.now ended.passed) }
     ensures sequential { IfOk result (λ ended. model ≡ models.Sequential → (gap : ℕ) → set.contains ended.passed gap ≡ false) }
+    ensures accepts { (outcome : Outcome) → IsRun program.now (mode_of program.now fenced.now model) labels.now outcome → MatchResult result (λ ended. ended.outcome ≡ outcome) (λ fault. fault ≡ OutOfMemory) }
     ensures fault { IfErr result (FaultIs program.now (mode_of program.now fenced.now model) labels.now) }
 {
     let Ok(mut state) = State::start(alloc, program) else {

@@ -1,6 +1,6 @@
 //! The text of a run.
 ghost use Rattle.std.specs.Prelude.{◌≡◌, List, IfOk, IfErr, OnOk, map, ◌++◌, string_bytes};
-ghost use Rattle.std.specs.List.{AllByRecursion, slice_split};
+ghost use Rattle.std.specs.List.{slice_split};
 ghost use Rattle.text_tokens.specs.Bytes.{is_blank};
 ghost use Rattle.text_tokens.specs.Numbers.{plain_number_at};
 ghost use Rattle.tso_machine.specs.declared.label.Label.{Label};
@@ -68,7 +68,7 @@ fn label_of(word: &[u8]) -> Option<Label>
 /// space.
 pub fn read_run(alloc: Global, bytes: &[u8]) -> Result<Vec<Label>, RunFault>
     ensures found { IfOk result (λ labels. IsRunText bytes.now labels.items) }
-    ensures only { (labels : List Label) → AllByRecursion IsLabel labels → IsRunText bytes.now labels → Gives result labels }
+    ensures only { (labels : List Label) → IsRunText bytes.now labels → Gives result labels }
     ensures fault { IfErr result (RunFaultIs bytes.now) }
 {
     let parts = parts_of(alloc, bytes)?;

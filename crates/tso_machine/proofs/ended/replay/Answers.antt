@@ -7,6 +7,7 @@ use Rattle.tso_machine.specs.Modes.{mode_of}
 use Rattle.tso_machine.specs.Faults.{IsUnfinished}
 use Rattle.tso_machine.specs.Cores.{Cores, state_of, Fits}
 use Rattle.tso_machine.proofs.Link.{state_of_first, first_fits, outcome_is}
+use Rattle.tso_machine.proofs.Refused.{no_fault, one_outcome}
 use Rattle.tso_machine.proofs.Runs.{run_on, passed_on, none_passed, faulted, no_stores_by, none_sequential, match_some, match_none}
 use Rattle.tso_machine.proofs.ended.replay.Goals as goal
 
@@ -25,6 +26,10 @@ pub returns-in-Err-clause-fault : goal.returns-in-Err-clause-fault
 returns-in-Err-clause-fault c =
     rw c.fault_at.ensures (faulted c.args.program.now (mode_of c.args.program.now c.args.fenced.now c.args.model) c.args.labels.now c.loop-n.n (Exec 0) (state_of c.loop-n.state) c.in-Err.fault (omega arith) c.loop-n.invariant.reached c.in-Err.ensures.err)
 
+pub returns-in-Err-clause-accepts : goal.returns-in-Err-clause-accepts
+returns-in-Err-clause-accepts c = λ outcome is_run.
+    no_fault c.args.program.now (mode_of c.args.program.now c.args.fenced.now c.args.model) c.args.labels.now outcome c.fault_at.result is_run (returns-in-Err-clause-fault c)
+
 pub loop-n-preserved : goal.loop-n-preserved
 loop-n-preserved c =
     let p : Listing = c.args.program.now in
@@ -42,12 +47,20 @@ returns-then-is_some-clause-fault c =
     let (t, u) = match_some c.unfinished.result (HasEnded p (state_of c.loop-n.state)) (IsUnfinished p (state_of c.loop-n.state)) c.unfinished.ensures (sym c.is_some.ensures ∙ c.if-is_some.true) in
     record { all = refl; last = state_of c.loop-n.state; reached = rw all at c.loop-n.invariant.reached; thread = t; unfinished = u }
 
+pub returns-then-is_some-clause-accepts : goal.returns-then-is_some-clause-accepts
+returns-then-is_some-clause-accepts c = λ outcome is_run.
+    no_fault c.args.program.now (mode_of c.args.program.now c.args.fenced.now c.args.model) c.args.labels.now outcome _ is_run (returns-then-is_some-clause-fault c)
+
 pub returns-in-Ok-outcome-clause-run : goal.returns-in-Ok-outcome-clause-run
 returns-in-Ok-outcome-clause-run c =
     let p : Listing = c.args.program.now in
     let all : take c.loop-n.n c.args.labels.now ≡ c.args.labels.now = take_all c.loop-n.n c.args.labels.now (omega arith) in
     let ended = match_none c.unfinished.result (HasEnded p (state_of c.loop-n.state)) (IsUnfinished p (state_of c.loop-n.state)) c.unfinished.ensures (sym c.is_some.ensures ∙ c.if-is_some.false) in
     (state_of c.loop-n.state, rw all at c.loop-n.invariant.reached, ended, outcome_is p c.loop-n.state c.in-Ok-outcome.outcome c.loop-n.invariant.fits c.in-Ok-outcome.ensures.registers c.in-Ok-outcome.ensures.memory)
+
+pub returns-in-Ok-outcome-clause-accepts : goal.returns-in-Ok-outcome-clause-accepts
+returns-in-Ok-outcome-clause-accepts c = λ outcome is_run.
+    one_outcome c.args.program.now (mode_of c.args.program.now c.args.fenced.now c.args.model) c.args.labels.now c.in-Ok-outcome.outcome outcome (returns-in-Ok-outcome-clause-run c) is_run
 
 pub returns-in-Ok-outcome-clause-sequential : goal.returns-in-Ok-outcome-clause-sequential
 returns-in-Ok-outcome-clause-sequential c =

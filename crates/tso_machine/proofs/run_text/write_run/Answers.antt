@@ -25,4 +25,7 @@ returns-clause-read_back c =
     let all : take c.loop-i.i c.args.labels.now ≡ c.args.labels.now = grind (arith, common_steps) in
     let fits : All IsLabel c.args.labels.now = rw all at c.loop-i.invariant.fits in
     let text : c.into_bytes.result.items ≡ run_text c.args.labels.now = grind (arith, common_steps) in
-    rw text (read_again c.args.labels.now (recursion_from_All IsLabel c.args.labels.now fits))
+    record {
+      fits = recursion_from_All IsLabel c.args.labels.now fits;
+      spelled = rw text (read_again c.args.labels.now (recursion_from_All IsLabel c.args.labels.now fits));
+    }
