@@ -36,6 +36,12 @@ pub same_place_itself : (p : PlaceView) → same_place p p ≡ true
 same_place_itself (Location x) = (bytes_eq-Decides x x).1 refl
 same_place_itself (Register t r) = rw (itself t, itself (instructions.number r)) refl
 
+-- ---- the empty set
+
+pub nothing_seen : (seen : Seen) → seen.names.keys ≡ [] → seen.registers.keys ≡ [] → (p : PlaceView) → has seen p ≡ false
+nothing_seen seen names registers (Location x) = rw names refl
+nothing_seen seen names registers (Register t r) = rw registers refl
+
 -- ---- adding a place to the set
 
 absorbed : (a b : Bool) → (b ≡ true → a ≡ true) → a ≡ (a || b)

@@ -1,9 +1,10 @@
 //! Initial values.
 
-ghost use Rattle.std.specs.Prelude.{◌<◌, ◌≡◌, length, IfOk, map};
+ghost use Rattle.std.specs.Prelude.{◌<◌, ◌≡◌, false, length, IfOk, map};
 ghost use Rattle.text_tokens.specs.Tokens.{toks};
 ghost use Rattle.litmus_syntax.specs.Grammar.{IsInitial};
-ghost use Rattle.litmus_syntax.specs.Views.{entry_view};
+ghost use Rattle.litmus_syntax.specs.Views.{PlaceView, entry_view};
+ghost use Rattle.litmus_syntax.specs.Places.{has};
 ghost use Rattle.litmus_syntax.specs.Exact.{Reads};
 ghost use Rattle.litmus_syntax.specs.Reading.{Gives, entry_value_at};
 
@@ -34,15 +35,16 @@ fn read_entry_value<'t>(tokens: &'t [Token]) -> Result<(u32, &'t [Token]), Refus
     Ok((value, rest))
 }
 
-/// The initial values in their braces. A place that stands twice is refused at its second entry's first token.
-pub fn read_initial_values<'t>(
+/// The initial values in their braces, whose places are put into an empty set.
+fn read_entries<'t>(
     alloc: Global,
+    seen: &mut Seen,
     tokens: &'t [Token],
 ) -> Result<(Vec<Entry<'t>>, &'t [Token]), SyntaxFault>
+    requires { (p : PlaceView) → has seen.old p ≡ false }
     ensures { Reads IsInitial (λ x. map entry_view x.0.items) (λ x. toks x.1.now) result (toks tokens.now) }
 {
     let mut entries = Vec::new(alloc);
-    let mut seen = Seen::new(alloc);
     let mut rest = mark(tokens, Mark::OpenBrace, Part::Header)?;
     while !begins(rest, Mark::CloseBrace) {
         let (place, after) = read_place(rest, Part::Initial)?;
@@ -56,4 +58,15 @@ pub fn read_initial_values<'t>(
     }
     let end = mark(rest, Mark::CloseBrace, Part::Initial)?;
     Ok((entries, end))
+}
+
+/// The initial values in their braces. A place that stands twice is refused at its second entry's first token.
+pub fn read_initial_values<'t>(
+    alloc: Global,
+    tokens: &'t [Token],
+) -> Result<(Vec<Entry<'t>>, &'t [Token]), SyntaxFault>
+    ensures { Reads IsInitial (λ x. map entry_view x.0.items) (λ x. toks x.1.now) result (toks tokens.now) }
+{
+    let mut seen = Seen::new(alloc);
+    read_entries(alloc, &mut seen, tokens)
 }

@@ -1,6 +1,6 @@
 //! Labels.
 
-ghost use Rattle.std.specs.Prelude.{◌<◌, ◌≡◌, length, map, IfOk, MatchOption};
+ghost use Rattle.std.specs.Prelude.{◌<◌, ◌≡◌, [], length, map, IfOk, MatchOption};
 ghost use Rattle.text_tokens.specs.Tokens.{toks};
 ghost use Rattle.litmus_syntax.specs.Words.{is_label};
 ghost use Rattle.litmus_syntax.specs.Views.{label_view};
@@ -15,7 +15,7 @@ use std::alloc::{AllocError, Global};
 use text_tokens::{Mark, Token, begins};
 
 /// A label of a thread, and where it stands.
-#[derive(Clone, Copy, Debug)]
+#[derive(Clone, Copy)]
 pub(crate) struct LabelAt<'t> {
     pub thread: usize,
     pub name: &'t [u8],
@@ -35,9 +35,9 @@ fn is_label(word: &[u8]) -> bool
 pub(crate) fn begins_label(tokens: &[Token]) -> bool
     ensures { result ≡ begins_label (toks tokens.now) }
 {
-    match tokens.split_first() {
-        Some((Token::Word(_), rest)) => begins(rest, Mark::Colon),
-        _ => false,
+    match text_tokens::word(tokens) {
+        Some((_, rest)) => begins(rest, Mark::Colon),
+        None => false,
     }
 }
 
@@ -55,11 +55,15 @@ pub(crate) fn read_label<'t>(tokens: &'t [Token]) -> Result<(&'t [u8], &'t [Toke
     Ok((name, rest))
 }
 
-/// The tokens left at the first label that stands in its thread already.
-pub(crate) fn repeated(alloc: Global, labels: &[LabelAt<'_>]) -> Result<Option<usize>, AllocError>
+/// The tokens left at the first label that stands in its thread already. The labels before it are put into an empty set.
+fn first_repeated(
+    alloc: Global,
+    seen: &mut IndexSet<(usize, Vec<u8>)>,
+    labels: &[LabelAt<'_>],
+) -> Result<Option<usize>, AllocError>
+    requires { seen.old.keys ≡ [] }
     ensures { IfOk result (λ repeated. MatchOption repeated (NoneTwice (map label_view labels.now)) (λ left. NoneTwice (map label_view labels.now) → ⊥)) }
 {
-    let mut seen: IndexSet<(usize, Vec<u8>)> = IndexSet::new(alloc);
     for label in labels {
         let name = Vec::from_slice(alloc, label.name)?;
         if !seen.insert((label.thread, name))? {
@@ -67,4 +71,12 @@ pub(crate) fn repeated(alloc: Global, labels: &[LabelAt<'_>]) -> Result<Option<u
         }
     }
     Ok(None)
+}
+
+/// The tokens left at the first label that stands in its thread already.
+pub(crate) fn repeated(alloc: Global, labels: &[LabelAt<'_>]) -> Result<Option<usize>, AllocError>
+    ensures { IfOk result (λ repeated. MatchOption repeated (NoneTwice (map label_view labels.now)) (λ left. NoneTwice (map label_view labels.now) → ⊥)) }
+{
+    let mut seen = IndexSet::new(alloc);
+    first_repeated(alloc, &mut seen, labels)
 }

@@ -3,8 +3,10 @@
 ghost use Rattle.std.specs.Prelude.{◌≡◌};
 ghost use Rattle.litmus_syntax.specs.Words.{mnemonic_of};
 
+use crate::parts::is_either;
+
 /// The first word of an instruction.
-#[derive(Clone, Copy, Debug)]
+#[derive(Clone, Copy)]
 pub(crate) enum Mnemonic {
     Mov,
     Xchg,
@@ -20,19 +22,19 @@ pub(crate) enum Mnemonic {
 pub(crate) fn mnemonic_of(word: &[u8]) -> Option<Mnemonic>
     ensures { result ≡ mnemonic_of word.now }
 {
-    if word == b"MOV".as_slice() || word == b"mov".as_slice() {
+    if is_either(word, b"MOV", b"mov") {
         Some(Mnemonic::Mov)
-    } else if word == b"XCHG".as_slice() || word == b"xchg".as_slice() {
+    } else if is_either(word, b"XCHG", b"xchg") {
         Some(Mnemonic::Xchg)
-    } else if word == b"MFENCE".as_slice() || word == b"mfence".as_slice() {
+    } else if is_either(word, b"MFENCE", b"mfence") {
         Some(Mnemonic::Mfence)
-    } else if word == b"CMP".as_slice() || word == b"cmp".as_slice() {
+    } else if is_either(word, b"CMP", b"cmp") {
         Some(Mnemonic::Cmp)
-    } else if word == b"JE".as_slice() || word == b"je".as_slice() {
+    } else if is_either(word, b"JE", b"je") {
         Some(Mnemonic::Je)
-    } else if word == b"JNE".as_slice() || word == b"jne".as_slice() {
+    } else if is_either(word, b"JNE", b"jne") {
         Some(Mnemonic::Jne)
-    } else if word == b"JMP".as_slice() || word == b"jmp".as_slice() {
+    } else if is_either(word, b"JMP", b"jmp") {
         Some(Mnemonic::Jmp)
     } else {
         None

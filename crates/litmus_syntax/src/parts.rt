@@ -1,6 +1,7 @@
 //! Single tokens at the front of a list, and what is refused there.
 
-ghost use Rattle.std.specs.Prelude.{◌<◌, ◌≤◌, ◌≡◌, length, IfOk, is_some};
+ghost use Rattle.std.specs.Prelude.{◌<◌, ◌≤◌, ◌≡◌, ◌||◌, length, IfOk, is_some};
+ghost use Rattle.std.specs.Str.{bytes_eq};
 ghost use Rattle.text_tokens.specs.Tokens.{toks};
 ghost use Rattle.text_tokens.specs.Parts.{word_at, number_at, mark_at};
 ghost use Rattle.litmus_syntax.specs.Phrases.{begins_with_word};
@@ -66,17 +67,24 @@ pub fn mark<'t>(tokens: &'t [Token], mark: Mark, part: Part) -> Result<&'t [Toke
 pub fn begins_any_word(tokens: &[Token]) -> bool
     ensures { result ≡ is_some (word_at (toks tokens.now)) }
 {
-    matches!(tokens.first(), Some(Token::Word(_)))
+    text_tokens::word(tokens).is_some()
 }
 
 /// Whether this word comes first.
 pub fn begins_word(tokens: &[Token], word: &[u8]) -> bool
     ensures { result ≡ begins_with_word word.now (toks tokens.now) }
 {
-    match tokens.first() {
-        Some(Token::Word(first)) => first.as_slice() == word,
-        _ => false,
+    match text_tokens::word(tokens) {
+        Some((first, _)) => first == word,
+        None => false,
     }
+}
+
+/// Whether the word is one of these two.
+pub fn is_either(word: &[u8], one: &[u8], other: &[u8]) -> bool
+    ensures { result ≡ (bytes_eq word.now one.now || bytes_eq word.now other.now) }
+{
+    word == one || word == other
 }
 
 /// The tokens after this word, which comes first.
@@ -84,8 +92,8 @@ pub fn keyword<'t>(tokens: &'t [Token], word: &[u8], part: Part) -> Result<&'t [
     ensures gives { Gives (λ rest. toks rest.now) result (keyword_at word.now (toks tokens.now)) }
     ensures shorter { IfOk result (λ rest. length rest.now < length tokens.now) }
 {
-    match tokens.split_first() {
-        Some((Token::Word(first), rest)) if first.as_slice() == word => Ok(rest),
+    match text_tokens::word(tokens) {
+        Some((first, rest)) if first == word => Ok(rest),
         _ => Err(refused(tokens, part)),
     }
 }

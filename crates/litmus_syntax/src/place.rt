@@ -7,7 +7,7 @@ ghost use Rattle.litmus_syntax.specs.Views.{place_view};
 ghost use Rattle.litmus_syntax.specs.Reading.{Gives, register_at, name_at, memory_at, thread_register_at, place_at, names_missing, place_among_at, value_at};
 
 use crate::fault::{Part, Refusal};
-use crate::parts::{mark, number, refused, refused_number, word};
+use crate::parts::{is_either, mark, number, refused, refused_number, word};
 use text_tokens::{Mark, Token, begins, begins_number};
 use tso_program::Reg;
 
@@ -23,17 +23,17 @@ pub enum Place<'t> {
 fn reg_of(word: &[u8]) -> Option<Reg>
     ensures { result ≡ reg_of word.now }
 {
-    if word == b"EAX".as_slice() || word == b"eax".as_slice() {
+    if is_either(word, b"EAX", b"eax") {
         Some(Reg::Eax)
-    } else if word == b"EBX".as_slice() || word == b"ebx".as_slice() {
+    } else if is_either(word, b"EBX", b"ebx") {
         Some(Reg::Ebx)
-    } else if word == b"ECX".as_slice() || word == b"ecx".as_slice() {
+    } else if is_either(word, b"ECX", b"ecx") {
         Some(Reg::Ecx)
-    } else if word == b"EDX".as_slice() || word == b"edx".as_slice() {
+    } else if is_either(word, b"EDX", b"edx") {
         Some(Reg::Edx)
-    } else if word == b"ESI".as_slice() || word == b"esi".as_slice() {
+    } else if is_either(word, b"ESI", b"esi") {
         Some(Reg::Esi)
-    } else if word == b"EDI".as_slice() || word == b"edi".as_slice() {
+    } else if is_either(word, b"EDI", b"edi") {
         Some(Reg::Edi)
     } else {
         None
@@ -151,9 +151,9 @@ pub fn read_place<'t>(tokens: &'t [Token], part: Part) -> Result<(Place<'t>, &'t
 fn names_missing(tokens: &[Token], threads: usize) -> bool
     ensures { result ≡ names_missing threads (toks tokens.now) }
 {
-    match tokens.first() {
-        Some(Token::Number(thread)) => *thread as usize >= threads,
-        _ => false,
+    match text_tokens::number(tokens) {
+        Some((thread, _)) => thread as usize >= threads,
+        None => false,
     }
 }
 

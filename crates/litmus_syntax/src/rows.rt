@@ -18,9 +18,9 @@ use text_tokens::{Mark, Token, begins};
 fn ends_rows(tokens: &[Token]) -> bool
     ensures { result ≡ ends_rows (toks tokens.now) }
 {
-    match tokens.first() {
-        Some(Token::Word(word)) => opens_condition(word.as_slice()),
-        _ => begins(tokens, Mark::Tilde),
+    match text_tokens::word(tokens) {
+        Some((word, _)) => opens_condition(word),
+        None => begins(tokens, Mark::Tilde),
     }
 }
 

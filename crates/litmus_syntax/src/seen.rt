@@ -19,10 +19,9 @@ impl Seen {
     pub fn new(alloc: Global) -> Seen
         ensures { (p : PlaceView) → has result p ≡ false }
     {
-        Seen {
-            names: IndexSet::new(alloc),
-            registers: IndexSet::new(alloc),
-        }
+        let names = IndexSet::new(alloc);
+        let registers = IndexSet::new(alloc);
+        Seen { names, registers }
     }
 
     /// Adds a place, and says whether it is new.

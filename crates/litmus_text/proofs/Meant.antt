@@ -20,7 +20,7 @@ use Rattle.litmus_text.specs.Filling.{byte_in, byte_at, listing_by}
 use Rattle.litmus_text.specs.Labels.{position_in, all_labels}
 use Rattle.tso_program.specs.Limits.{first_long}
 use Rattle.litmus_lines.specs.SkippedLines.{AreSkipped}
-use Rattle.litmus_text.specs.Texts.{Means, StandsFor}
+use Rattle.litmus_text.specs.Texts.{Means, StandsFor, StandsForNothing}
 use Rattle.litmus_text.specs.Reading.{IsReadOf}
 use Rattle.litmus_text.proofs.NamesOnce.{in_order_once, entries_stand}
 use Rattle.litmus_text.proofs.FirstValues.{listing_filled}
@@ -138,8 +138,8 @@ module _ (text : List ℕ) (read : Litmus Listing) (is : IsReadOf text read) whe
         match_memory fault ⊥ (λ limit. first read.program.threads read.program.memory ≡ Some limit) ⊤ ⊥ (λ x. x) not_broken (λ x. x) h
 
     pub broken : (fault : ReadFault) → MatchFault fault ⊥ (λ limit. first read.program.threads read.program.memory ≡ Some limit) ⊤ ⊥
-        → MatchFault fault (IsUtf8 text → ⊥) (λ limit. (litmus : Litmus Listing) × StandsFor text litmus × (first litmus.program.threads litmus.program.memory ≡ Some limit)) ⊤ ⊤
+        → MatchFault fault (IsUtf8 text → ⊥) (λ limit. (litmus : Litmus Listing) × StandsFor text litmus × (first litmus.program.threads litmus.program.memory ≡ Some limit)) ⊤ (StandsForNothing text)
     broken fault h =
         match_map fault ⊥ (IsUtf8 text → ⊥) (λ limit. first read.program.threads read.program.memory ≡ Some limit)
-        (λ limit. (litmus : Litmus Listing) × StandsFor text litmus × (first litmus.program.threads litmus.program.memory ≡ Some limit)) ⊤ ⊤ ⊥ ⊤
+        (λ limit. (litmus : Litmus Listing) × StandsFor text litmus × (first litmus.program.threads litmus.program.memory ≡ Some limit)) ⊤ ⊤ ⊥ (StandsForNothing text)
         (λ x. absurd x) (λ limit e. (meant, stands, sym same_first ∙ e)) (λ x. x) (λ x. absurd x) h

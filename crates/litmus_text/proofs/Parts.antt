@@ -1,6 +1,6 @@
 -- The parts that are read are those of the tokens, and no others.
 use Rattle.std.proofs.Common.{◌≡◌, ℕ, List, [], length, map, Option, Some, None, refl, sym, subst}
-use Rattle.std.specs.Prelude.{MatchOption, ⊤, Err}
+use Rattle.std.specs.Prelude.{⊤, Err}
 use Rattle.text_tokens.specs.Tokens.{Tok}
 use Rattle.tso_program.specs.declared.listing.Listing.{Listing}
 use Rattle.conditions.specs.declared.atom.Atom.{Atom}
@@ -22,21 +22,9 @@ use Rattle.litmus_text.specs.Places.{names_of}
 use Rattle.litmus_text.specs.Labels.{all_labels, JumpsAreFound}
 use Rattle.litmus_text.specs.Meaning.{sign_of, numbered_atom, quantifier_of, observed_of}
 use Rattle.litmus_text.specs.Filling.{byte_in, byte_at, listing_by}
-use Rattle.litmus_text.specs.Reading.{numbered_signs, IsRead, IsSyntaxFault, HasNoParts}
+use Rattle.litmus_text.specs.Reading.{numbered_signs, ReadsOne, Found, IsRead, IsSyntaxFault, HasNoParts}
 use Rattle.litmus_text.specs.Texts.{AreParts}
 use Rattle.litmus_text.proofs.Faults.{match_map}
-
--- what was read of an ending: it, and nothing else; or none is there
-abbrev pub ReadsOne : Option Refusal → ℕ → EndingView → List Tok → Type 0
-ReadsOne refusal threads ending others =
-    MatchOption refusal (IsEnding threads ending others × ((e : EndingView) → IsEnding threads e others → e ≡ ending)) (λ _. (e : EndingView) → IsEnding threads e others → ⊥)
-
--- what the readers of body and ending found
-pub record Found (tokens : List Tok) (body : BodyView) (refusal : Option Refusal) (ending : EndingView) : Type 0 where
-  pub others : List Tok
-  pub begins : IsBody body tokens others
-  pub begins_only : (b : BodyView) (rest : List Tok) → IsBody b tokens rest → (b ≡ body) × (rest ≡ others)
-  pub ends : ReadsOne refusal body.threads ending others
 
 ending_is : (refusal : Option Refusal) (threads : ℕ) (ending e : EndingView) (others : List Tok) → ReadsOne refusal threads ending others → IsEnding threads e others → (e ≡ ending) × (refusal ≡ None)
 ending_is None threads ending e others h is = (h.1 e is, refl)

@@ -13,7 +13,7 @@ use Rattle.litmus_text.specs.Faults.{MatchFault, of_lines}
 use Rattle.litmus_lines.specs.declared.fault.LineFault.{LineFault}
 use Rattle.litmus_lines.specs.FirstLine.{IsFirstLine}
 use Rattle.litmus_lines.specs.SkippedLines.{AreSkipped}
-use Rattle.litmus_text.specs.Texts.{Means, StandsFor}
+use Rattle.litmus_text.specs.Texts.{Means, StandsFor, StandsForNothing}
 use Rattle.litmus_text.specs.Reading.{IsRead, IsReadOf, HasNoParts}
 use Rattle.litmus_text.proofs.Faults.{match_map, match_memory, match_lines}
 use Rattle.litmus_text.proofs.Whole.{parts_whole}
@@ -45,11 +45,7 @@ text_read text name other lines others tokens litmus split e h =
       read = h.1;
     }
 
--- the text stands for nothing
-abbrev pub StandsForNothing : List ℕ → Type 0
-StandsForNothing text = (litmus : Litmus Listing) → StandsFor text litmus → ⊥
-
-no_parts : (text name lines others : List ℕ) (tokens : List Tok) → Split text name lines others tokens → HasNoParts tokens → StandsForNothing text
+no_parts : (text name lines others : List ℕ) (tokens : List Tok) → Split text name lines others tokens → HasNoParts tokens → (litmus : Litmus Listing) → StandsFor text litmus → ⊥
 no_parts text name lines others tokens split none litmus st =
     let p = split.first_only litmus.name st.lines st.first_line in
     let skipped : AreSkipped lines st.others = subst (λ (l : List ℕ). AreSkipped l st.others) (sym p.1) st.skipped in
@@ -61,17 +57,17 @@ no_parts text name lines others tokens split none litmus st =
 pub tokens_refused : (text name lines others : List ℕ) (tokens : List Tok) (fault : ReadFault) → Split text name lines others tokens → MatchFault fault ⊥ (λ _. ⊥) ⊤ (HasNoParts tokens)
     → MatchFault fault (IsUtf8 text → ⊥) (λ _. ⊥) ⊤ (StandsForNothing text)
 tokens_refused text name lines others tokens fault split h =
-    match_map fault ⊥ (IsUtf8 text → ⊥) (λ _. ⊥) (λ _. ⊥) ⊤ ⊤ (HasNoParts tokens) (StandsForNothing text) (λ x. absurd x) (λ _ x. x) (λ x. x) (no_parts text name lines others tokens split) h
+    match_map fault ⊥ (IsUtf8 text → ⊥) (λ _. ⊥) (λ _. ⊥) ⊤ ⊤ (HasNoParts tokens) (StandsForNothing text) (λ x. absurd x) (λ _ x. x) (λ x. x) (λ none. (split.utf8, no_parts text name lines others tokens split none)) h
 
-pub first_line_refused : (text : List ℕ) (fault : LineFault) → ((name rest : List ℕ) → IsFirstLine text name rest → ⊥)
+pub first_line_refused : (text : List ℕ) (fault : LineFault) → IsUtf8 text → ((name rest : List ℕ) → IsFirstLine text name rest → ⊥)
     → MatchFault (of_lines fault) (IsUtf8 text → ⊥) (λ _. ⊥) ⊤ (StandsForNothing text)
-first_line_refused text fault none = match_lines fault (IsUtf8 text → ⊥) (λ _. ⊥) ⊤ (StandsForNothing text) (λ litmus st. none litmus.name st.lines st.first_line)
+first_line_refused text fault utf8 none = match_lines fault (IsUtf8 text → ⊥) (λ _. ⊥) ⊤ (StandsForNothing text) (utf8, λ litmus st. none litmus.name st.lines st.first_line)
 
-pub skipped_lines_refused : (text name lines : List ℕ) (fault : LineFault) → ((n rest : List ℕ) → IsFirstLine text n rest → (name ≡ n) × (lines ≡ rest))
+pub skipped_lines_refused : (text name lines : List ℕ) (fault : LineFault) → IsUtf8 text → ((n rest : List ℕ) → IsFirstLine text n rest → (name ≡ n) × (lines ≡ rest))
     → ((rest : List ℕ) → AreSkipped lines rest → ⊥) → MatchFault (of_lines fault) (IsUtf8 text → ⊥) (λ _. ⊥) ⊤ (StandsForNothing text)
-skipped_lines_refused text name lines fault first_only none =
+skipped_lines_refused text name lines fault utf8 first_only none =
     match_lines fault (IsUtf8 text → ⊥) (λ _. ⊥) ⊤ (StandsForNothing text)
-    (λ litmus st. none st.others (subst (λ (l : List ℕ). AreSkipped l st.others) (sym (first_only litmus.name st.lines st.first_line).1) st.skipped))
+    (utf8, λ litmus st. none st.others (subst (λ (l : List ℕ). AreSkipped l st.others) (sym (first_only litmus.name st.lines st.first_line).1) st.skipped))
 
 pub bytes_refused : (text : List ℕ) (fault : ReadFault) → MatchFault fault (IsUtf8 text → ⊥) (λ _. ⊥) ⊥ ⊥ → MatchFault fault (IsUtf8 text → ⊥) (λ _. ⊥) ⊤ (StandsForNothing text)
 bytes_refused text fault h =
@@ -80,9 +76,9 @@ bytes_refused text fault h =
 -- ---- a reader of texts within limits, where nothing is read
 
 pub nothing_only : (text : List ℕ) (fault : ReadFault) (other : Litmus Listing) → MatchFault fault (IsUtf8 text → ⊥) (λ _. ⊥) ⊤ (StandsForNothing text) → StandsFor text other → fault ≡ OutOfMemory
-nothing_only text fault other h st = match_memory fault (IsUtf8 text → ⊥) (λ _. ⊥) ⊤ (StandsForNothing text) (λ none. none st.utf8) (λ _ x. x) (λ none. none other st) h
+nothing_only text fault other h st = match_memory fault (IsUtf8 text → ⊥) (λ _. ⊥) ⊤ (StandsForNothing text) (λ none. none st.utf8) (λ _ x. x) (λ none. none.1 other st) h
 
 pub nothing_refused : (text : List ℕ) (fault : ReadFault) (Breaks : ProgramFault → Type 0) → MatchFault fault (IsUtf8 text → ⊥) (λ _. ⊥) ⊤ (StandsForNothing text)
-    → MatchFault fault (IsUtf8 text → ⊥) Breaks ⊤ ⊤
+    → MatchFault fault (IsUtf8 text → ⊥) Breaks ⊤ (StandsForNothing text)
 nothing_refused text fault Breaks h =
-    match_map fault (IsUtf8 text → ⊥) (IsUtf8 text → ⊥) (λ _. ⊥) Breaks ⊤ ⊤ (StandsForNothing text) ⊤ (λ x. x) (λ _ x. absurd x) (λ x. x) (λ _. tt) h
+    match_map fault (IsUtf8 text → ⊥) (IsUtf8 text → ⊥) (λ _. ⊥) Breaks ⊤ ⊤ (StandsForNothing text) (StandsForNothing text) (λ x. x) (λ _ x. absurd x) (λ x. x) (λ x. x) h

@@ -1,5 +1,5 @@
 -- What the parts of the reader answer.
-use Rattle.std.specs.Prelude.{◌≡◌, ℕ, ⊤, List, map, length, Option, Some, None, Result, Ok, Err}
+use Rattle.std.specs.Prelude.{◌≡◌, ℕ, ⊤, List, map, length, Option, Some, None, Result, Ok, Err, MatchOption}
 use Rattle.std.specs.Str.{IsUtf8}
 use Rattle.tso_program.specs.declared.listing.Listing.{Listing}
 use Rattle.tso_program.specs.Limits.{IsWithinLimits, IsWithinFencedLimits, first_fault, first_fenced_fault}
@@ -13,6 +13,7 @@ use Rattle.litmus_syntax.specs.declared.fault.Refusal.{Refusal}
 use Rattle.litmus_syntax.specs.declared.fault.SyntaxFault.{SyntaxFault}
 use Rattle.litmus_syntax.specs.declared.fault.SyntaxFault.TheVariants.{Refused, OutOfMemory as NoMemory}
 use Rattle.litmus_syntax.specs.Views.{PlaceView, BodyView, SignView, EndingView}
+use Rattle.litmus_syntax.specs.Grammar.{IsBody, IsEnding}
 use Rattle.litmus_text.specs.declared.litmus.Litmus.{Litmus}
 use Rattle.litmus_text.specs.declared.fault.ReadFault.{ReadFault}
 use Rattle.litmus_text.specs.Faults.{MatchFault}
@@ -22,7 +23,7 @@ use Rattle.litmus_text.specs.Places.{names_of}
 use Rattle.litmus_text.specs.Labels.{all_labels}
 use Rattle.litmus_text.specs.Meaning.{sign_of, numbered_atom, condition_of, observed_of}
 use Rattle.litmus_text.specs.Filling.{byte_in, byte_at, listing_by}
-use Rattle.litmus_text.specs.Texts.{AreParts, StandsFor}
+use Rattle.litmus_text.specs.Texts.{AreParts, StandsForNothing}
 
 -- ---- the condition
 
@@ -36,6 +37,18 @@ ReadsFormula refusal signs (Ok f) = (refusal ≡ None) × SpellsOnly signs f
 ReadsFormula refusal signs (Err fault) = MatchFault fault ⊥ (λ _. ⊥) ⊤ (refusal ≡ None → SpellsNone signs)
 
 -- ---- the tokens
+
+-- what was read of an ending: it, and nothing else; or none is there
+abbrev pub ReadsOne : Option Refusal → ℕ → EndingView → List Tok → Type 0
+ReadsOne refusal threads ending others =
+    MatchOption refusal (IsEnding threads ending others × ((e : EndingView) → IsEnding threads e others → e ≡ ending)) (λ _. (e : EndingView) → IsEnding threads e others → ⊥)
+
+-- what the readers of body and ending found
+pub record Found (tokens : List Tok) (body : BodyView) (refusal : Option Refusal) (ending : EndingView) : Type 0 where
+  pub others : List Tok
+  pub begins : IsBody body tokens others
+  pub begins_only : (b : BodyView) (rest : List Tok) → IsBody b tokens rest → (b ≡ body) × (rest ≡ others)
+  pub ends : ReadsOne refusal body.threads ending others
 
 -- What was read of tokens: their parts, which are the only ones, with the numbers of locations and the positions of labels as bytes.
 pub record IsRead (tokens : List Tok) (litmus : Litmus Listing) : Type 0 where
@@ -81,7 +94,7 @@ pub record IsReadOf (text : List ℕ) (litmus : Litmus Listing) : Type 0 where
 -- with the line of the header row; or the text stands for nothing
 abbrev pub ReadsText : List ℕ → Result (Litmus Listing × ℕ) ReadFault → Type 0
 ReadsText text (Ok read) = IsReadOf text read.0
-ReadsText text (Err fault) = MatchFault fault (IsUtf8 text → ⊥) (λ _. ⊥) ⊤ ((litmus : Litmus Listing) → StandsFor text litmus → ⊥)
+ReadsText text (Err fault) = MatchFault fault (IsUtf8 text → ⊥) (λ _. ⊥) ⊤ (StandsForNothing text)
 
 -- ---- the program
 

@@ -13,6 +13,7 @@ use Rattle.litmus_syntax.specs.Views.{PlaceView, BodyView, EndingView}
 use Rattle.litmus_syntax.specs.Grammar.{IsBody, IsEnding}
 use Rattle.litmus_text.specs.declared.litmus.Litmus.{Litmus}
 use Rattle.litmus_text.specs.declared.fault.ReadFault.{ReadFault}
+use Rattle.litmus_text.specs.declared.fault.ReadFault.TheVariants.{OutOfMemory}
 use Rattle.litmus_text.specs.Faults.{MatchFault}
 use Rattle.litmus_text.specs.Names.{number_in}
 use Rattle.litmus_text.specs.Places.{names_of}
@@ -66,12 +67,21 @@ IsFencedLitmus text litmus = StandsFor text litmus × IsWithinFencedLimits litmu
 abbrev pub BreaksFirst : (List Thread → List ℕ → Option ProgramFault) → List ℕ → ProgramFault → Type 0
 BreaksFirst first text limit = (litmus : Litmus Listing) × StandsFor text litmus × (first litmus.program.threads litmus.program.memory ≡ Some limit)
 
--- What a fault says of a text: it is no UTF-8; or its program breaks that limit first.
+-- The text is UTF-8 and stands for no program, whatever its size.
+abbrev pub StandsForNothing : List ℕ → Type 0
+StandsForNothing text = IsUtf8 text × ((litmus : Litmus Listing) → StandsFor text litmus → ⊥)
+
+-- What a fault says of a text: it is not UTF-8; its program breaks that limit first; or it is UTF-8 and stands for no program.
 abbrev pub RefusesBy : (List Thread → List ℕ → Option ProgramFault) → List ℕ → ReadFault → Type 0
-RefusesBy first text fault = MatchFault fault (IsUtf8 text → ⊥) (BreaksFirst first text) ⊤ ⊤
+RefusesBy first text fault = MatchFault fault (IsUtf8 text → ⊥) (BreaksFirst first text) ⊤ (StandsForNothing text)
 
 abbrev pub Refuses : List ℕ → ReadFault → Type 0
 Refuses text fault = RefusesBy first_fault text fault
+
+-- why bytes are not a litmus text: what the fault says of them, and that they stand for no program, unless memory ran out
+pub record IsNoLitmus (text : List ℕ) (fault : ReadFault) : Type 0 where
+  pub why : Refuses text fault
+  pub none : (litmus : Litmus Listing) → IsLitmus text litmus → fault ≡ OutOfMemory
 
 -- the same by the limits of a fenced program
 abbrev pub RefusesFenced : List ℕ → ReadFault → Type 0

@@ -2,7 +2,7 @@
 ghost use Rattle.std.specs.Prelude.{◌≡◌, OnOk, IfOk, map, fold};
 ghost use Rattle.std.specs.List.{flat_map};
 ghost use Rattle.litmus_syntax.specs.Views.{place_view, ending_view, entry_view, code_view, cell_view, row_view, body_view, sign_view, sign_at_view};
-ghost use Rattle.litmus_text.specs.Filling.{noted};
+ghost use Rattle.litmus_text.specs.Filling.{no_names, noted};
 ghost use Rattle.litmus_text.specs.Places.{names_of, entry_place, code_places, cell_places, row_places, sign_places};
 
 use crate::names::NameTable;
@@ -118,6 +118,23 @@ fn note_places(alloc: Global, names: &mut NameTable, places: &[Place<'_>]) -> Re
     Ok(())
 }
 
+/// Each name of a text is named.
+fn note_all(
+    alloc: Global,
+    names: &mut NameTable,
+    body: &Body<'_>,
+    ending: &Ending<'_>,
+) -> Result<(), AllocError>
+    requires { names.old ≡ no_names body.now.threads }
+    ensures { OnOk result (names.new ≡ names_of (body_view body.now) (ending_view ending.now)) }
+{
+    note_entries(alloc, names, body.entries.as_slice())?;
+    note_rows(alloc, names, body.rows.as_slice())?;
+    note_places(alloc, names, ending.observed.as_slice())?;
+    note_signs(alloc, names, ending.signs.signs.as_slice())?;
+    Ok(())
+}
+
 /// The names of a text: of its initial values, of its rows, behind `locations`, of its condition.
 pub(crate) fn names_of(
     alloc: Global,
@@ -127,9 +144,6 @@ pub(crate) fn names_of(
     ensures { IfOk result (λ names. names ≡ names_of (body_view body.now) (ending_view ending.now)) }
 {
     let mut names = NameTable::new(alloc, body.threads)?;
-    note_entries(alloc, &mut names, body.entries.as_slice())?;
-    note_rows(alloc, &mut names, body.rows.as_slice())?;
-    note_places(alloc, &mut names, ending.observed.as_slice())?;
-    note_signs(alloc, &mut names, ending.signs.signs.as_slice())?;
+    note_all(alloc, &mut names, body, ending)?;
     Ok(names)
 }

@@ -4,12 +4,12 @@ ghost use Rattle.std.specs.Str.{IsUtf8};
 ghost use Rattle.tso_program.specs.declared.listing.Listing.{Listing};
 ghost use Rattle.litmus_text.specs.declared.litmus.Litmus.{Litmus as LitmusValue};
 ghost use Rattle.litmus_text.specs.declared.fault.ReadFault.TheVariants.{OutOfMemory};
-ghost use Rattle.litmus_syntax.specs.Views.{body_view};
+ghost use Rattle.litmus_syntax.specs.Views.{body_view, ending_view};
 ghost use Rattle.litmus_text.specs.Faults.{MatchFault};
 ghost use Rattle.litmus_text.specs.Labels.{all_labels, JumpsAreFound};
 ghost use Rattle.litmus_text.specs.Filling.{byte_in, byte_at, listing_by};
 ghost use Rattle.litmus_text.specs.Texts.{IsLitmus, IsFencedLitmus, Refuses, RefusesFenced};
-ghost use Rattle.litmus_text.specs.Reading.{IsSyntaxFault, ReadsTokens, ReadsText};
+ghost use Rattle.litmus_text.specs.Reading.{Found, IsSyntaxFault, ReadsTokens, ReadsText};
 
 use crate::condition::{quantifier, read_formula};
 use crate::fault::ReadFault;
@@ -23,7 +23,7 @@ use crate::observed::all_observed;
 use crate::program::{fenced_program_of, listing_of, program_of};
 use conditions::Condition;
 use litmus_lines::{line_number, read_first_line, skip_lines};
-use litmus_syntax::{Body, Part, Refusal, SyntaxFault, read_body, read_ending};
+use litmus_syntax::{Body, Ending, Part, Refusal, SyntaxFault, read_body, read_ending};
 use std::alloc::Global;
 use std::str;
 use text_tokens::{Tokens, lex};
@@ -72,6 +72,35 @@ fn jumping(
     Ok(listing_of(alloc, names, targets.as_slice(), body)?)
 }
 
+/// What a body and an ending that were read from tokens stand for, in a text of the given name.
+fn litmus_of(
+    alloc: Global,
+    name: Items<u8>,
+    tokens: &Tokens,
+    body: &Body<'_>,
+    ending: &Ending<'_>,
+) -> Result<Litmus<Listing>, ReadFault>
+    requires { Found tokens.now (body_view body.now) ending.now.signs.refusal (ending_view ending.now) }
+    ensures { ReadsTokens name tokens.now result }
+{
+    let names = names_of(alloc, body, ending)?;
+    let formula = read_formula(alloc, tokens, &names, &ending.signs)?;
+    let labels = all_labels(alloc, body)?;
+    let program = jumping(alloc, tokens, &names, body, labels.as_slice())?;
+    let observed = all_observed(alloc, &names, ending.observed.as_slice())?;
+    Ok(Litmus {
+        name,
+        program,
+        names,
+        condition: Condition {
+            quantifier: quantifier(ending.quantifier),
+            formula,
+        },
+        observed: Items::of(observed),
+        labels: Items::of(labels),
+    })
+}
+
 /// What the tokens from `{` on stand for, in a text of the given name, whatever limits the program breaks. Locations have
 /// the number 255 from the 256th on, and so have positions of labels.
 fn read_tokens(
@@ -85,26 +114,10 @@ fn read_tokens(
         Ok(parts) => parts,
         Err(fault) => return Err(syntax_fault(tokens, fault)),
     };
-    let ending = match read_ending(alloc, rest, body.threads) {
-        Ok(ending) => ending,
-        Err(fault) => return Err(syntax_fault(tokens, fault)),
-    };
-    let names = names_of(alloc, &body, &ending)?;
-    let formula = read_formula(alloc, tokens, &names, &ending.signs)?;
-    let labels = all_labels(alloc, &body)?;
-    let program = jumping(alloc, tokens, &names, &body, labels.as_slice())?;
-    let observed = all_observed(alloc, &names, ending.observed.as_slice())?;
-    Ok(Litmus {
-        name,
-        program,
-        names,
-        condition: Condition {
-            quantifier: quantifier(ending.quantifier),
-            formula,
-        },
-        observed: Items::of(observed),
-        labels: Items::of(labels),
-    })
+    match read_ending(alloc, rest, body.threads) {
+        Ok(ending) => litmus_of(alloc, name, tokens, &body, &ending),
+        Err(fault) => Err(syntax_fault(tokens, fault)),
+    }
 }
 
 /// What a text stands for, whatever limits its program breaks, and the line of its header row.

@@ -1,7 +1,7 @@
 //! What a litmus text asks to be shown.
 ghost use Rattle.std.specs.Prelude.{◌≡◌, ◌≢◌};
 ghost use Rattle.tso_program.specs.declared.shown.Shown.TheVariants.{All};
-ghost use Rattle.litmus_text.specs.Shown.{with_place, with_places, shown_by, ShowsNamedRegisters, ShowsNamedLocations};
+ghost use Rattle.litmus_text.specs.Shown.{with_place, with_places, shown_as, shown_by, ShowsNamedRegisters, ShowsNamedLocations};
 
 use crate::litmus::Litmus;
 use crate::observed::Observed;
@@ -44,5 +44,12 @@ impl<P> Litmus<P> {
         ensures locations { ShowsNamedLocations self.now.condition.formula self.now.observed result }
     {
         shown_by(&self.condition.formula, self.observed.as_slice())
+    }
+
+    /// What is shown of outcomes: all of them, or of observed ones what [`Litmus::shown`] gives. Takes no memory.
+    pub fn shown_as(&self, observed: bool) -> Shown
+        ensures { result ≡ shown_as self.now observed }
+    {
+        if observed { self.shown() } else { Shown::All }
     }
 }

@@ -3,12 +3,18 @@ use Rattle.std.proofs.lemmas.Result.{err_from_is_err_and}
 use Rattle.tso_program.specs.declared.listing.Thread.{Thread}
 use Rattle.tso_program.specs.Limits.{IsWithinFencedLimits, first_fenced_fault}
 use Rattle.litmus_text.proofs.Numbered.{fenced_program_limits}
-use Rattle.litmus_text.proofs.WholeTexts.{nothing_only}
+use Rattle.litmus_text.specs.Texts.{BreaksFirst}
+use Rattle.litmus_text.proofs.WholeTexts.{nothing_only, nothing_refused}
 use Rattle.litmus_text.proofs.Meant.{found, found_only, broken, broken_only}
 use Rattle.litmus_text.proofs.reader.read_fenced.Goals as goal
 
 abbrev Within : List Thread → List ℕ → Type 0
 Within threads memory = IsWithinFencedLimits threads memory
+
+pub returns-in_err-read-clause-refused : goal.returns-in_err-read-clause-refused
+returns-in_err-read-clause-refused c =
+    let p = err_from_is_err_and c.from_residual.result c.from_residual.ensures.1 in
+    rw (p.1, p.2) (nothing_refused c.args.bytes.now c.in_err-read.field-0.0 (BreaksFirst first_fenced_fault c.args.bytes.now) c.in_err-read.ensures)
 
 pub returns-in_err-read-clause-only : goal.returns-in_err-read-clause-only
 returns-in_err-read-clause-only c litmus is =

@@ -6,12 +6,12 @@ use Rattle.litmus_text.proofs.reader.read_text.Goals as goal
 pub returns-in_err-name : goal.returns-in_err-name
 returns-in_err-name c =
     let p = err_from_is_err_and c.from_residual-in_err-name.result c.from_residual-in_err-name.ensures.1 in
-    rw (p.1, p.2) (first_line_refused c.args.bytes.now c.in_err-name.field-0.0 c.in_err-name.ensures.only)
+    rw (p.1, p.2) (first_line_refused c.args.bytes.now c.in_err-name.field-0.0 c.in_ok-check_utf8.ensures.ok c.in_err-name.ensures.only)
 
 pub returns-in_err-others : goal.returns-in_err-others
 returns-in_err-others c =
     let p = err_from_is_err_and c.from_residual-in_err-others.result c.from_residual-in_err-others.ensures.1 in
-    rw (p.1, p.2) (skipped_lines_refused c.args.bytes.now c.in_ok-name.name.now c.in_ok-name.lines.now c.in_err-others.field-0.0 c.in_ok-name.ensures.only c.in_err-others.ensures.only)
+    rw (p.1, p.2) (skipped_lines_refused c.args.bytes.now c.in_ok-name.name.now c.in_ok-name.lines.now c.in_err-others.field-0.0 c.in_ok-check_utf8.ensures.ok c.in_ok-name.ensures.only c.in_err-others.ensures.only)
 
 pub returns-in_err-litmus : goal.returns-in_err-litmus
 returns-in_err-litmus c =

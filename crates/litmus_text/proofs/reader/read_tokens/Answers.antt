@@ -1,11 +1,6 @@
-use Rattle.std.proofs.Common.{◌≡◌, map, refl, ap, ◌∙◌, List}
-use Rattle.std.proofs.lemmas.Result.{err_from_is_err_and}
 use Rattle.text_tokens.specs.Tokens.{toks}
-use Rattle.litmus_syntax.specs.declared.place.Place.{Place}
-use Rattle.litmus_syntax.specs.Views.{place_view, body_view, ending_view}
-use Rattle.litmus_text.specs.Meaning.{observed_of}
-use Rattle.litmus_text.specs.Filling.{byte_in}
-use Rattle.litmus_text.proofs.Parts.{found_of, refused_body, refused_ending, refused_formula, refused_jump, parts_read}
+use Rattle.litmus_syntax.specs.Views.{body_view, ending_view}
+use Rattle.litmus_text.proofs.Parts.{found_of, refused_body, refused_ending}
 use Rattle.litmus_text.proofs.reader.read_tokens.Goals as goal
 
 pub returns-in-Err : goal.returns-in-Err
@@ -16,29 +11,7 @@ pub returns-in-Err-read_ending : goal.returns-in-Err-read_ending
 returns-in-Err-read_ending c =
     refused_ending c.args.tokens.now (toks c.as_slice.result.now) (toks c.in-Ok.parts.1.now) (body_view c.in-Ok.parts.0) c.in-Err-read_ending.fault c.syntax_fault-in-Err-read_ending.result c.as_slice.ensures c.in-Ok.ensures c.in-Err-read_ending.ensures c.syntax_fault-in-Err-read_ending.ensures
 
-pub returns-in_err-formula : goal.returns-in_err-formula
-returns-in_err-formula c =
-    let body = body_view c.in-Ok.parts.0 in
+pub litmus_of-requires : goal.litmus_of-requires
+litmus_of-requires c =
     let ending = c.in-Ok-read_ending.ending in
-    let found = found_of c.args.tokens.now (toks c.as_slice.result.now) (toks c.in-Ok.parts.1.now) body ending.signs.refusal (ending_view ending) c.as_slice.ensures c.in-Ok.ensures c.in-Ok-read_ending.ensures in
-    let p = err_from_is_err_and c.from_residual-in_err-formula.result c.from_residual-in_err-formula.ensures.1 in
-    rw (p.1, p.2) (refused_formula c.args.tokens.now body ending.signs.refusal (ending_view ending) (byte_in c.in_ok-names.names.locations) c.in_err-formula.field-0.0 found c.in_err-formula.ensures)
-
-pub returns-in_err-program : goal.returns-in_err-program
-returns-in_err-program c =
-    let body = body_view c.in-Ok.parts.0 in
-    let ending = c.in-Ok-read_ending.ending in
-    let found = found_of c.args.tokens.now (toks c.as_slice.result.now) (toks c.in-Ok.parts.1.now) body ending.signs.refusal (ending_view ending) c.as_slice.ensures c.in-Ok.ensures c.in-Ok-read_ending.ensures in
-    let p = err_from_is_err_and c.from_residual-in_err-program.result c.from_residual-in_err-program.ensures.1 in
-    rw (p.1, p.2) (refused_jump c.args.tokens.now body ending.signs.refusal (ending_view ending) c.in_err-program.field-0.0 found c.in_err-program.ensures.lost)
-
-pub returns : goal.returns
-returns c =
-    let body = body_view c.in-Ok.parts.0 in
-    let ending = c.in-Ok-read_ending.ending in
-    let found = found_of c.args.tokens.now (toks c.as_slice.result.now) (toks c.in-Ok.parts.1.now) body ending.signs.refusal (ending_view ending) c.as_slice.ensures c.in-Ok.ensures c.in-Ok-read_ending.ensures in
-    let observed = c.of.ensures ∙ c.in_ok-observed.ensures ∙ ap (λ (places : List Place). map (observed_of (byte_in c.in_ok-names.names.locations)) (map place_view places)) c.as_slice-3.ensures.value in (
-      refl,
-      parts_read c.args.tokens.now body ending.signs.refusal (ending_view ending) _ found c.in_ok-program.ensures.found c.in_ok-names.ensures c.quantifier.ensures c.in_ok-formula.ensures c.in_ok-program.ensures.made observed
-          (c.of-2.ensures ∙ c.in_ok-labels.ensures),
-    )
+    found_of c.args.tokens.now (toks c.as_slice.result.now) (toks c.in-Ok.parts.1.now) (body_view c.in-Ok.parts.0) ending.signs.refusal (ending_view ending) c.as_slice.ensures c.in-Ok.ensures c.in-Ok-read_ending.ensures

@@ -1,5 +1,5 @@
 use Rattle.litmus_syntax.proofs.LabelLaws.{LabelsOnce}
-use Rattle.litmus_syntax.proofs.label.repeated.Given as goal
+use Rattle.litmus_syntax.proofs.label.first_repeated.Given as goal
 
 abbrev pub invariant-loop-label : goal.invariant-loop-label
 invariant-loop-label l = LabelsOnce l.labels l.label-index l.seen.keys

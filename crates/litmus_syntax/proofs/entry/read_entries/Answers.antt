@@ -6,7 +6,7 @@ use Rattle.text_tokens.specs.Tokens.{toks}
 use Rattle.litmus_syntax.specs.Views.{place_view, entry_view}
 use Rattle.litmus_syntax.proofs.Options.{mark_is_there}
 use Rattle.litmus_syntax.proofs.EntryLaws.{no_entry_yet, no_brace, one_more_entry, place_again_stands, no_place_stands, no_value_stands, entries_end}
-use Rattle.litmus_syntax.proofs.entry.read_initial_values.Goals as goal
+use Rattle.litmus_syntax.proofs.entry.read_entries.Goals as goal
 
 pub returns-in_err-rest : goal.returns-in_err-rest
 returns-in_err-rest c =
@@ -14,7 +14,7 @@ returns-in_err-rest c =
     rw (p.1, p.2) (no_brace (toks c.args.tokens.now) c.in_err-rest.ensures.gives)
 
 pub loop-alloc-init : goal.loop-alloc-init
-loop-alloc-init c = rw c.new-entries.ensures.items (no_entry_yet (toks c.args.tokens.now) (toks c.in_ok-rest.rest.now) c.new-seen.result c.in_ok-rest.ensures.gives c.new-seen.ensures)
+loop-alloc-init c = rw c.new-entries.ensures.items (no_entry_yet (toks c.args.tokens.now) (toks c.in_ok-rest.rest.now) c.args.seen.now c.in_ok-rest.ensures.gives c.requires)
 
 pub returns-in_err-place : goal.returns-in_err-place
 returns-in_err-place c =

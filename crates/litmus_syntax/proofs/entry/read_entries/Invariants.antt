@@ -2,7 +2,7 @@ use Rattle.std.proofs.Common.{map, length}
 use Rattle.text_tokens.specs.Tokens.{toks}
 use Rattle.litmus_syntax.specs.Views.{entry_view}
 use Rattle.litmus_syntax.proofs.EntryLaws.{EntriesSoFar}
-use Rattle.litmus_syntax.proofs.entry.read_initial_values.Given as goal
+use Rattle.litmus_syntax.proofs.entry.read_entries.Given as goal
 
 abbrev pub invariant-loop-alloc : goal.invariant-loop-alloc
 invariant-loop-alloc l = EntriesSoFar (toks l.tokens) (map entry_view l.entries.items) (toks l.rest) l.seen

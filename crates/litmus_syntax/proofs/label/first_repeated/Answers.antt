@@ -1,6 +1,6 @@
 use Rattle.std.proofs.Common.{◌∙◌, sym}
 use Rattle.litmus_syntax.proofs.LabelLaws.{label_twice, next_label, not_false, not_true, chosen_second}
-use Rattle.litmus_syntax.proofs.label.repeated.Goals as goal
+use Rattle.litmus_syntax.proofs.label.first_repeated.Goals as goal
 
 pub returns-then-not-branch : goal.returns-then-not-branch
 returns-then-not-branch c =
