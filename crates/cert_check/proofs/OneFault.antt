@@ -227,6 +227,24 @@ module _ (q : Question) (costs : List ℕ) (c : Certificate) where
   of_a_part (fault.GapTree path) known (outcomes, has, wrong) = after_fenced (fault.GapTree path) outcomes has (inl (path, wrong, refl))
   of_a_part fault.OutOfMemory known wrong = absurd (known refl)
 
+-- a fault is out of memory, or another one
+memory_or_not : (why : CheckFault) → (why ≡ fault.OutOfMemory) ⊎ (why ≢ fault.OutOfMemory)
+memory_or_not fault.Shown = inr (λ e. cc)
+memory_or_not fault.Set = inr (λ e. cc)
+memory_or_not fault.Cost = inr (λ e. cc)
+memory_or_not (fault.SequentialRun n) = inr (λ e. cc)
+memory_or_not (fault.SequentialTree path) = inr (λ e. cc)
+memory_or_not (fault.Run n) = inr (λ e. cc)
+memory_or_not (fault.NotForeign n) = inr (λ e. cc)
+memory_or_not (fault.FencedTree path) = inr (λ e. cc)
+memory_or_not (fault.GapTree path) = inr (λ e. cc)
+memory_or_not fault.OutOfMemory = inl refl
+
 pub the_first_fault_is_unique : TheFirstFaultIsUnique
-the_first_fault_is_unique q costs c why other known known_too wrong also =
-    one_of_shown q costs c why other (of_a_part q costs c why known wrong) (of_a_part q costs c other known_too also)
+the_first_fault_is_unique q costs c why other wrong also = elim (memory_or_not why) [
+  | inl memory ↦ inr (inl memory, subst (FaultIs q costs c) memory wrong)
+  | inr known ↦ elim (memory_or_not other) [
+    | inl memory ↦ inr (inr memory, subst (FaultIs q costs c) memory also)
+    | inr known_too ↦ inl (one_of_shown q costs c why other (of_a_part q costs c why known wrong) (of_a_part q costs c other known_too also))
+  ]
+]

@@ -66,7 +66,8 @@ module _ (q : Question) (costs : List ℕ) (c : Certificate) where
       pub runs : HasForeignRuns
       pub fenced : IsValidCover q (Fenced (gaps_in q.program c.gaps)) outcomes c.fenced_tree empty_sketch
 
-  -- the fault is the first in their order, in which what is shown comes before the set; `OutOfMemory` says nothing
+  -- The fault is the first in their order, in which what is shown comes before the set. `OutOfMemory` says that these, the set and the cost
+  -- are right: they are judged without memory.
   abbrev pub FaultIs : CheckFault → Type 0
   FaultIs fault.Shown = c.shown ≡ q.shown → ⊥
   FaultIs fault.Set = (c.shown ≡ q.shown) × (AreGapsOf q.program c.gaps → ⊥)
@@ -78,4 +79,4 @@ module _ (q : Question) (costs : List ℕ) (c : Certificate) where
   FaultIs (fault.FencedTree path) =
       (outcomes : List Outcome) × HasForeignRuns outcomes × FirstWrongCover q (Fenced (gaps_in q.program c.gaps)) outcomes c.fenced_tree empty_sketch path
   FaultIs (fault.GapTree path) = (outcomes : List Outcome) × HasServingSet outcomes × FirstWrongGap q.program costs c.gaps c.runs c.gap_tree root path
-  FaultIs fault.OutOfMemory = Unit {0}
+  FaultIs fault.OutOfMemory = HasHead

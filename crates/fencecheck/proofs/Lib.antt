@@ -1,2 +1,3 @@
-pub mod InputFaults
+pub mod Joined
 pub mod Usage
+pub mod Certified

@@ -1,10 +1,12 @@
--- An input with a litmus text and a certificate behind it.
-use Rattle.std.specs.Prelude.{◌≡◌, ◌⊎◌, ℕ, ◌<◌, ◌≤◌, List, [], ◌∷◌, ◌++◌, IsTrue, codes, drop, length, nat_eq, take}
+-- An input with a litmus text and a certificate after it.
+use Rattle.std.specs.Prelude.{◌≡◌, ◌⊎◌, ℕ, ◌+◌, ◌<◌, ◌≤◌, List, [], ◌∷◌, ◌++◌, Option, IsTrue, codes, drop, length, nat_eq, take}
 use Rattle.std.specs.List.{starts_with}
+use Rattle.std.specs.Io.KnownBytes.{Consumes}
+use Rattle.program_streams.specs.Streams.{Holds}
 use Rattle.program_streams.specs.declared.files.TheConstants.{TEXT_LIMIT}
-use Rattle.fencecheck.specs.declared.parts.TheConstants.{CERTIFICATE_LIMIT}
+use Rattle.fencecheck.specs.declared.parts.TheConstants.{CERTIFICATE_LIMIT, FRONT_LIMIT}
 
--- behind these bytes a line begins: there are none, or the last is LF
+-- after these bytes a line begins: there are none, or the last is LF
 abbrev pub BeginsLine : List ℕ → Type 0
 BeginsLine before = (before ≡ []) ⊎ ((front : List ℕ) × (before ≡ front ++ 10 ∷ []))
 
@@ -28,9 +30,26 @@ pub record ArePartsOf (bytes litmus certificate : List ℕ) : Type 0 where
   pub litmus_within : length litmus ≤ TEXT_LIMIT
   pub certificate_within : length certificate ≤ CERTIFICATE_LIMIT
 
--- one of them is not
-pub record HasTooLongPart (bytes : List ℕ) : Type 0 where
+-- the litmus text is longer than its limit: there are more bytes, and no certificate starts within the limit or at its end
+pub record HasLongLitmus (bytes : List ℕ) : Type 0 where
+  pub longer : TEXT_LIMIT < length bytes
+  pub no_start : (place : ℕ) → place ≤ TEXT_LIMIT → StartsAt bytes place → ⊥
+
+-- the certificate is longer than its limit, and the litmus text isn't
+pub record HasLongCertificate (bytes : List ℕ) : Type 0 where
   pub litmus : List ℕ
   pub certificate : List ℕ
   pub parts : AreJoined bytes litmus certificate
-  pub too_long : (TEXT_LIMIT < length litmus) ⊎ (CERTIFICATE_LIMIT < length certificate)
+  pub litmus_within : length litmus ≤ TEXT_LIMIT
+  pub longer : CERTIFICATE_LIMIT < length certificate
+
+-- one of the two is, in what the reader had, where that is known
+abbrev pub IsTooLongInput : Option (List ℕ) → Type 0
+IsTooLongInput input = (bytes : List ℕ) × Holds input bytes × (HasLongLitmus bytes ⊎ HasLongCertificate bytes)
+
+-- What is read of an input: as many bytes at most as show that no certificate starts within the limit of the litmus text or at
+-- its end. Where one starts there, its limit and one byte more at most, from its start on.
+pub record ReadsEnough (old new : Option (List ℕ)) : Type 0 where
+  pub bytes : List ℕ
+  pub taken : Consumes old new bytes
+  pub few : (length bytes ≤ FRONT_LIMIT) ⊎ ((start : ℕ) × (start ≤ TEXT_LIMIT) × IsStart bytes start × (length bytes ≤ start + CERTIFICATE_LIMIT + 1))

@@ -1,24 +1,23 @@
 -- What the program prints for a command line and an input, and with which status.
-use Rattle.std.specs.Prelude.{◌≡◌, ℕ, ◌+◌, List, [], ◌∷◌, ◌++◌, Option, Some, None, codes}
+use Rattle.std.specs.Prelude.{◌≡◌, ℕ, List, [], ◌∷◌, ◌++◌, Option, Some, None, codes}
 use Rattle.program_streams.specs.declared.fault.FileFault.{FileFault}
-use Rattle.program_streams.specs.declared.fault.FileFault.TheVariants as file
 use Rattle.program_streams.specs.Files.{AreOfFile, AreOfFileIfNamed, AreWithin, IsFileFault, IsNamedFileFault, IsTooLong}
 use Rattle.program_streams.specs.Streams.{Holds, IsReadFault}
 use Rattle.report.specs.Faults.{file_line}
 use Rattle.program_streams.specs.declared.files.TheConstants.{TEXT_LIMIT}
 use Rattle.fencecheck.specs.declared.parts.TheConstants.{CERTIFICATE_LIMIT}
-use Rattle.fencecheck.specs.Inputs.{ArePartsOf, HasTooLongPart}
+use Rattle.fencecheck.specs.Inputs.{ArePartsOf, IsTooLongInput}
 use Rattle.fencecheck.specs.Verdicts.{IsVerdict}
 
 abbrev pub usage_line : List ℕ
 usage_line = codes "usage: fencecheck LITMUS CERTIFICATE [COSTS]" ++ 10 ∷ []
 
--- the reply to an input alone: a litmus text and a certificate behind it, with each gap of cost 1
+-- The reply to an input alone: a litmus text and a certificate after it, with each gap of cost 1. An input with a part that is too
+-- long is refused, whatever comes after the bytes that show it.
 pub data IsReplyToInput (input : Option (List ℕ)) : ℕ → List ℕ → Type 0 where
   judged : (bytes litmus certificate : List ℕ) (status : ℕ) (text : List ℕ) → Holds input bytes → ArePartsOf bytes litmus certificate
       → IsVerdict litmus certificate None status text → IsReplyToInput input status text
-  too_long : (bytes : List ℕ) → Holds input bytes → HasTooLongPart bytes → IsReplyToInput input 1 (file_line file.TooLong)
-  no_input : (why : FileFault) → IsReadFault (IsTooLong (TEXT_LIMIT + CERTIFICATE_LIMIT) input) why → IsReplyToInput input 1 (file_line why)
+  no_input : (why : FileFault) → IsReadFault (IsTooLongInput input) why → IsReplyToInput input 1 (file_line why)
 
 -- the names of a litmus file, of a certificate's and maybe of one of costs
 pub record FileNames : Type 0 where

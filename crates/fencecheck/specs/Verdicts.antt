@@ -1,5 +1,5 @@
 -- What the texts of a program, a certificate and costs are told.
-use Rattle.std.specs.Prelude.{◌≡◌, ℕ, List, Option}
+use Rattle.std.specs.Prelude.{◌≡◌, ◌⊎◌, ℕ, List, Option}
 use Rattle.gap_sets.specs.Gaps.{SetOfGaps}
 use Rattle.gap_sets.specs.Order.{total}
 use Rattle.tso_program.specs.declared.listing.Listing.{Listing}
@@ -9,14 +9,13 @@ use Rattle.tso_program.specs.Shown.{asked}
 use Rattle.tso_machine.specs.Outcomes.{Headline}
 use Rattle.litmus_text.specs.Shown.{shown_by}
 use Rattle.litmus_text.specs.declared.litmus.Litmus.{Litmus}
-use Rattle.litmus_text.specs.declared.fault.ReadFault.{ReadFault}
-use Rattle.litmus_text.specs.declared.fault.ReadFault.TheVariants as read_fault
 use Rattle.litmus_text.specs.Texts as litmus_texts
 use Rattle.cert_forest.specs.declared.certificate.Certificate.{Certificate}
 use Rattle.cert_forest.specs.declared.fault.CertFault.{CertFault}
 use Rattle.cert_forest.specs.declared.fault.CertFault.TheVariants as cert_fault
 use Rattle.cert_forest.specs.Certificates as certificates
 use Rattle.cert_forest.specs.Limits.{IsCertificate}
+use Rattle.cert_forest.specs.Exact.{HasMore}
 use Rattle.cost_text.specs.GivenCosts.{AreGiven, AreNotGiven}
 use Rattle.tree_laws.specs.Certificates.{IsValidCertificate}
 use Rattle.cert_check.specs.Claims.{claim_of}
@@ -58,19 +57,16 @@ pub record IsAccepted (litmus certificate : List ℕ) (costs : Option (List ℕ)
   pub claims : claimed.set ≡ told.gaps
   pub valid : IsValidCertificate (asked told.program.program told.shown) told.gap_costs (claim_of claimed)
 
--- why bytes are no litmus text: what the fault says of them, and that they are none, want of memory aside
-pub record IsNoLitmus (text : List ℕ) (fault : ReadFault) : Type 0 where
-  pub why : litmus_texts.Refuses text fault
-  pub none : (program : Litmus Listing) → litmus_texts.IsLitmus text program → fault ≡ read_fault.OutOfMemory
-
--- the bytes are no certificate's text, want of memory aside
-abbrev pub IsNoCertificate : List ℕ → CertFault → Type 0
-IsNoCertificate text fault = (c : certificates.Cert) → IsCertificate text c → fault ≡ cert_fault.OutOfMemory
+-- why bytes are not a certificate's text: what the fault says of them, and that no certificate has this text, out of memory aside
+pub record IsNoCertificate (text : List ℕ) (fault : CertFault) : Type 0 where
+  pub trailing : (place : ℕ) → fault ≡ cert_fault.Trailing place → HasMore text place
+  pub more : (place : ℕ) → HasMore text place → (fault ≡ cert_fault.Trailing place) ⊎ (fault ≡ cert_fault.OutOfMemory)
+  pub none : (c : certificates.Cert) → IsCertificate text c → fault ≡ cert_fault.OutOfMemory
 
 -- Why a certificate is refused: the litmus text is judged first, then the certificate's text, the costs, and what the
 -- certificate shows.
 abbrev pub IsRefused : List ℕ → List ℕ → Option (List ℕ) → Refusal → Type 0
-IsRefused litmus certificate costs (refusal.Litmus fault) = IsNoLitmus litmus fault
+IsRefused litmus certificate costs (refusal.Litmus fault) = litmus_texts.IsNoLitmus litmus fault
 IsRefused litmus certificate costs (refusal.Certificate fault) =
     (program : Litmus Listing) × litmus_texts.IsLitmus litmus program × IsNoCertificate certificate fault
 IsRefused litmus certificate costs (refusal.Costs fault) =

@@ -1,16 +1,15 @@
 //! A whole run of the program, over a reader and a writer.
 
-ghost use Rattle.std.specs.Prelude.{◌≡◌, ◌==◌, ◌||◌, IfOk, IfErr, ⊤, length, map, nat_lt, option_map, string_bytes};
+ghost use Rattle.std.specs.Prelude.{◌≡◌, ◌==◌, ◌||◌, [], IfOk, IfErr, ⊤, length, map, nat_lt, option_map, string_bytes};
 ghost use Rattle.program_streams.specs.Streams.{Prints};
 ghost use Rattle.fencecheck.specs.Verdicts.{IsVerdict};
 ghost use Rattle.fencecheck.specs.Replies.{usage_line, AreOfFiles, IsFilesFault, IsReplyToInput, IsReplyToFiles, IsOutput};
+ghost use Rattle.fencecheck.specs.Inputs.{ReadsEnough};
 ghost use Rattle.fencecheck.specs.Names.{names_of};
 
 use crate::judge::{judge, refusal_line};
-use crate::parts::{CERTIFICATE_LIMIT, parts_of};
-use program_streams::{
-    FileFault, FileStore, TEXT_LIMIT, bytes_if_named, named_bytes, read_up_to, say,
-};
+use crate::parts::{CERTIFICATE_LIMIT, read_joined};
+use program_streams::{FileFault, FileStore, TEXT_LIMIT, bytes_if_named, named_bytes, say};
 use report::file_line;
 use std::alloc::{AllocError, Global};
 use std::io::{Read, Write};
@@ -38,17 +37,17 @@ fn tell<W: Write>(
     }
 }
 
-/// Judges what the reader gives: a litmus text, and behind it a certificate.
+/// Judges what the reader gives: a litmus text, and after it a certificate.
 fn run_input<R: Read, W: Write>(alloc: Global, input: &mut R, output: &mut W) -> u8
-    ensures { Prints (IsReplyToInput (R.remaining input.old)) (W.contents output.old) (W.contents output.new) result }
+    ensures printed { Prints (IsReplyToInput (R.remaining input.old)) (W.contents output.old) (W.contents output.new) result }
+    ensures read { ReadsEnough (R.remaining input.old) (R.remaining input.new) }
 {
-    let bytes = match read_up_to(alloc, input, TEXT_LIMIT + CERTIFICATE_LIMIT) {
-        Ok(bytes) => bytes,
-        Err(fault) => return say(output, file_line(alloc, fault), 1),
-    };
-    match parts_of(&bytes) {
-        Some((litmus, certificate)) => tell(alloc, litmus, certificate, None, output),
-        None => say(output, file_line(alloc, FileFault::TooLong), 1),
+    match read_joined(alloc, input) {
+        Ok(joined) => {
+            let (litmus, certificate) = joined.bytes.split_at(joined.start);
+            tell(alloc, litmus, certificate, None, output)
+        }
+        Err(fault) => say(output, file_line(alloc, fault), 1),
     }
 }
 
@@ -136,7 +135,9 @@ pub fn run_command<S: FileStore, R: Read, W: Write>(
     input: &mut R,
     output: &mut W,
 ) -> u8
-    ensures { Prints (IsOutput (map string_bytes words.now) (R.remaining input.old) (S.held files.now)) (W.contents output.old) (W.contents output.new) result }
+    ensures printed { Prints (IsOutput (map string_bytes words.now) (R.remaining input.old) (S.held files.now)) (W.contents output.old) (W.contents output.new) result }
+    // With no words no more is read than shows that a part of the input is too long.
+    ensures read { words.now ≡ [] → ReadsEnough (R.remaining input.old) (R.remaining input.new) }
 {
     if is_misused(words) {
         return say(output, usage_line(alloc), 2);

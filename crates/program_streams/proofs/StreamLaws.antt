@@ -1,9 +1,9 @@
 -- What several reads or writes do to known bytes.
-use Rattle.std.proofs.Common.{ℕ, ◌+◌, List, [], ◌++◌, Option, Some, None, take, drop, refl, sym, ap, ◌∙◌, append_assoc}
+use Rattle.std.proofs.Common.{◌≡◌, ℕ, ◌+◌, ◌-◌, ◌≤◌, List, [], ◌++◌, Option, Some, None, take, drop, length, refl, sym, ap, ◌∙◌, append_assoc, arith}
 use Rattle.std.specs.Io.KnownBytes.{Appends, Consumes, IsAtEnd, Keeps}
-use Rattle.std.proofs.lemmas.List.{append-nil}
+use Rattle.std.proofs.lemmas.List.{append-nil, length-append}
 use Rattle.std.proofs.Math.Seq.{take-add}
-use Rattle.program_streams.specs.Streams.{Holds}
+use Rattle.program_streams.specs.Streams.{Holds, Takes, TakesUpTo, ReadsOn, AppendsRest}
 
 -- no read gives no byte
 pub none_read : (a : Option (List ℕ)) → Consumes a a []
@@ -17,11 +17,34 @@ reads_more (Some x) None c xs ys p q = absurd p
 reads_more (Some x) (Some y) None xs ys p q = absurd q
 reads_more (Some x) (Some y) (Some z) xs ys p q = p ∙ ap (λ (w : List ℕ). xs ++ w) q ∙ sym (append_assoc xs ys z)
 
+-- bytes are read on, and then a part of what there is room for
+pub takes_more : (a b c : Option (List ℕ)) (before after part : List ℕ) (most room : ℕ) → ReadsOn a b before after → Consumes b c part → length after + length part ≤ most → room ≡ most - length before → TakesUpTo a c room
+takes_more a b c before after part most room (bytes, taken, is) next within at =
+    (bytes ++ part, reads_more a b c bytes part taken next, omega (arith, ap length is, length-append before bytes, length-append bytes part, within, at))
+
+-- no more than some is no more than more
+pub takes_fewer : (a b : Option (List ℕ)) (n m : ℕ) → TakesUpTo a b n → n ≤ m → TakesUpTo a b m
+takes_fewer a b n m (bytes, taken, few) more = (bytes, taken, omega (arith, few, more))
+
+-- the same of two reads
+pub takes_both : (a b c : Option (List ℕ)) (n m k : ℕ) → TakesUpTo a b n → TakesUpTo b c m → n + m ≤ k → TakesUpTo a c k
+takes_both a b c n m k (bytes, taken, few) (more, next, few_too) within =
+    (bytes ++ more, reads_more a b c bytes more taken next, omega (arith, few, few_too, within, length-append bytes more))
+
+-- bytes are read on up to a limit, and then as many as make n
+pub takes_past : (a b c : Option (List ℕ)) (before after : List ℕ) (m n : ℕ) → ReadsOn a b before after → Takes b c m → length after + m ≡ length before + n → Takes a c n
+takes_past a b c before after m n (bytes, taken, is) (more, next, count) at =
+    (bytes ++ more, reads_more a b c bytes more taken next, omega (arith, ap length is, length-append before bytes, length-append bytes more, count, at))
+
 -- a reader that is at its end has given all that it had
 pub read_all : (a b : Option (List ℕ)) (xs : List ℕ) → Consumes a b xs → IsAtEnd b → Holds a xs
 read_all None b xs p q = tt
 read_all (Some x) None xs p q = absurd p
 read_all (Some x) (Some y) xs p q = p ∙ ap (λ (w : List ℕ). xs ++ w) q ∙ append-nil xs
+
+-- so what was read on is all of it
+pub rest_read : (a b : Option (List ℕ)) (before after : List ℕ) → ReadsOn a b before after → IsAtEnd b → AppendsRest a before after
+rest_read a b before after (bytes, taken, is) end = (bytes, read_all a b bytes taken end, is)
 
 -- no write takes no byte
 pub none_written : (a : Option (List ℕ)) → Appends a a []

@@ -1,5 +1,5 @@
 -- What a reader gives and what a writer takes, where their bytes are known.
-use Rattle.std.specs.Prelude.{◌≡◌, ◌≢◌, ◌⊎◌, ℕ, ◌<◌, List, [], ◌∷◌, ◌++◌, Option, Some, None, Result, IsOkAnd, take, length, All, ⊤}
+use Rattle.std.specs.Prelude.{◌≡◌, ◌≢◌, ◌⊎◌, ℕ, ◌<◌, ◌≤◌, List, [], ◌∷◌, ◌++◌, Option, Some, None, Result, IsOkAnd, take, length, All, ⊤}
 use Rattle.std.specs.Global.{Vec}
 use Rattle.std.specs.Io.KnownBytes.{Appends, Consumes, IsAtEnd}
 use Rattle.program_streams.specs.declared.fault.FileFault.{FileFault}
@@ -13,6 +13,18 @@ Holds (Some xs) bytes = xs ≡ bytes
 -- the reader gave so many bytes
 abbrev pub Takes : Option (List ℕ) → Option (List ℕ) → ℕ → Type 0
 Takes old new n = (bytes : List ℕ) × Consumes old new bytes × (length bytes ≡ n)
+
+-- the reader gave no more than so many bytes
+abbrev pub TakesUpTo : Option (List ℕ) → Option (List ℕ) → ℕ → Type 0
+TakesUpTo old new n = (bytes : List ℕ) × Consumes old new bytes × (length bytes ≤ n)
+
+-- the bytes that the reader gave stand after those before
+abbrev pub ReadsOn : Option (List ℕ) → Option (List ℕ) → List ℕ → List ℕ → Type 0
+ReadsOn old new before after = (bytes : List ℕ) × Consumes old new bytes × (after ≡ before ++ bytes)
+
+-- the bytes that the reader had, where they are known, stand after those before
+abbrev pub AppendsRest : Option (List ℕ) → List ℕ → List ℕ → Type 0
+AppendsRest old before after = (bytes : List ℕ) × Holds old bytes × (after ≡ before ++ bytes)
 
 -- the reader gave a line: up to its first line feed, or all that it had
 pub record TakesLine (old new : Option (List ℕ)) (line : List ℕ) : Type 0 where

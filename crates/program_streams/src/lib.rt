@@ -1,16 +1,18 @@
 //! What the programs read and write: whole inputs up to a limit, whole files, the words of a line, and answers with their status.
 #![tactic(auto)]
 
+mod command_line;
 mod fault;
 mod files;
 mod output;
 mod streams;
 mod words;
 
+pub use command_line::given_words;
 pub use fault::FileFault;
 pub use files::{
     FileStore, SystemFiles, TEXT_LIMIT, WritableFileStore, bytes_if_named, named_bytes,
 };
 pub use output::{refuse_words, say};
-pub use streams::{read_line_up_to, read_up_to, write_bytes};
+pub use streams::{read_line_up_to, read_on, read_rest_up_to, read_up_to, write_bytes};
 pub use words::{LineFault, line_words};

@@ -1,14 +1,18 @@
-use Rattle.std.proofs.Common.{◌∙◌, map, refl, sym}
-use Rattle.std.specs.Prelude.{string_bytes}
+use Rattle.std.proofs.Common.{◌≡◌, ◌∙◌, ◌==◌, ◌||◌, true, false, length, map, refl, sym, ap}
+use Rattle.std.specs.Prelude.{nat_lt, string_bytes}
 use Rattle.program_streams.proofs.Printed.{prints_more, prints_line}
 use Rattle.fencecheck.specs.Replies.{IsOutput, IsUsage, usage_line}
 use Rattle.fencecheck.proofs.Usage.{usage_output}
 use Rattle.fencecheck.proofs.command.run_command.Goals as goal
 
-pub returns-then-is_misused : goal.returns-then-is_misused
-returns-then-is_misused g c =
+pub returns-then-is_misused-clause-printed : goal.returns-then-is_misused-clause-printed
+returns-then-is_misused-clause-printed g c =
     let input = g.R.Read.remaining c.args.input.now in
     let files = g.S.FileStore.held c.args.files.now in
     prints_more IsUsage (IsOutput (map string_bytes c.args.words.now) input files) _ _ c.say.result
     (λ status out is. usage_output string_bytes c.args.words.now input files status out (sym c.is_misused.ensures ∙ c.if-is_misused.true) is)
     (prints_line c.usage_line.result 2 usage_line IsUsage _ _ c.say.result (refl, refl) c.usage_line.ensures c.say.ensures)
+
+pub returns-then-is_misused-clause-read : goal.returns-then-is_misused-clause-read
+returns-then-is_misused-clause-read g c none =
+    let used : true ≡ false = sym c.if-is_misused.true ∙ c.is_misused.ensures ∙ ap (λ words. length words == 1 || nat_lt 3 (length words)) none in cc

@@ -14,6 +14,11 @@ asked_once : (litmus : Litmus Listing) (shown : Shown) → handed_in litmus (han
 asked_once litmus All = refl
 asked_once litmus (Only names) = refl
 
+pub returns-in-Err-read_cert-clause-refused : goal.returns-in-Err-read_cert-clause-refused
+returns-in-Err-read_cert-clause-refused c =
+    let why = c.in-Err-read_cert.ensures in
+    (c.in-Ok.litmus, c.in-Ok.ensures.found, record { trailing = why.trailing; more = why.more; none = why.only })
+
 pub returns-in-Err-costs_of-clause-refused : goal.returns-in-Err-costs_of-clause-refused
 returns-in-Err-costs_of-clause-refused c =
     (c.in-Ok.litmus, c.in-Ok-read_cert.certificate, record { of_program = c.in-Ok.ensures.found; of_certificate = c.in-Ok-read_cert.ensures.found }, c.in-Err-costs_of.ensures.none)

@@ -1,0 +1,44 @@
+-- What an accepted input is.
+use Rattle.std.proofs.Common.{◌≡◌, ℕ, List, None, Some, refl, sym, ap, ◌∙◌, subst, arith}
+use Rattle.gap_sets.specs.Order.{total}
+use Rattle.tso_program.specs.Shown.{asked}
+use Rattle.tree_laws.specs.Certificates.{IsValidCertificate}
+use Rattle.cert_check.specs.Claims.{claim_of}
+use Rattle.report_check.specs.Lines.{accepted_line}
+use Rattle.fencecheck.specs.Inputs.{ArePartsOf}
+use Rattle.fencecheck.specs.Verdicts.{IsVerdict, accepted, refused, IsAccepted, handed_in}
+use Rattle.fencecheck.specs.Replies.{IsReplyToInput, judged, no_input}
+use Rattle.fencecheck.specs.Laws.{IsCertified, AcceptedInputsAreCertified}
+
+certified : (bytes litmus certificate line : List ℕ) → ArePartsOf bytes litmus certificate → IsAccepted litmus certificate None line → IsCertified bytes line
+certified bytes litmus certificate line parts is =
+    let told = is.told in
+    let p = told.program.program in
+    let claimed = is.claimed in
+    let same_shown = is.valid.shown in
+    let as_asked = ap (handed_in told.program) same_shown ∙ told.as_asked in record {
+      litmus = litmus;
+      certificate = certificate;
+      joined = parts.parts.joined;
+      program = told.program;
+      of_litmus = told.of_text;
+      claimed = claimed;
+      of_certificate = is.of_certificate;
+      valid = subst (λ costs. IsValidCertificate (asked p (handed_in told.program claimed.shown)) costs (claim_of claimed)) told.given
+          (subst (λ shown. IsValidCertificate (asked p shown) told.gap_costs (claim_of claimed)) (sym as_asked) is.valid);
+      printed = told.printed ∙ ap (λ shown. accepted_line p shown told.gaps (total told.gap_costs told.gaps)) (sym same_shown)
+          ∙ ap (λ gaps. accepted_line p claimed.shown gaps (total told.gap_costs gaps)) (sym is.claims)
+          ∙ ap (accepted_line p claimed.shown claimed.set) (sym is.valid.cost);
+    }
+
+of_verdict : (bytes litmus certificate line : List ℕ) (status : ℕ) → ArePartsOf bytes litmus certificate → IsVerdict litmus certificate None status line → status ≡ 0 → IsCertified bytes line
+of_verdict bytes litmus certificate _ _ parts (accepted line is) zero = certified bytes litmus certificate line parts is
+of_verdict bytes litmus certificate _ _ parts (refused why is) zero = absurd (omega (arith, zero))
+
+of_reply : (bytes line : List ℕ) (status : ℕ) → IsReplyToInput (Some bytes) status line → status ≡ 0 → IsCertified bytes line
+of_reply bytes _ _ (judged held litmus certificate status line holds parts is) zero =
+    of_verdict bytes litmus certificate line status (subst (λ (xs : List ℕ). ArePartsOf xs litmus certificate) (sym holds) parts) is zero
+of_reply bytes _ _ (no_input why is) zero = absurd (omega (arith, zero))
+
+pub accepted_inputs_are_certified : AcceptedInputsAreCertified
+accepted_inputs_are_certified bytes line is = of_reply bytes line 0 is refl
