@@ -14,7 +14,7 @@ pub enum PlaceFault {
     /// There isn't one cost for each gap.
     #[error("2 Costs")]
     Costs,
-    /// The oracle lacks a run.
+    /// The oracle lacks a run, as it says that it may.
     #[error("3 NotCertified")]
     NotCertified,
     /// The record of the search doesn't close. No call of this crate answers this.

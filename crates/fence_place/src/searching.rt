@@ -2,8 +2,8 @@
 //!
 //! A split needs a run that passes no gap of the node's `must`, and any such run will do. So before it
 //! asks, the search looks for one among the runs that it knows: a node costs an ask only where each of
-//! these passes a gap of `must`. The tree gives out the node with the best `must` first, so the first set
-//! that serves is the answer, and no further ask finds one.
+//! these passes a gap of `must`. The tree prefers the node with the best `must`, so the first set that
+//! serves is the answer, and no further ask finds one: how often it asks is tested, and no clause says it.
 ghost use Rattle.std.specs.Prelude.{◌≡◌, ◌<◌, true, false, IfSome, IfOk, IfErr, OnOk, IsTrue, Some, slice_get, length};
 ghost use Rattle.tso_program.specs.Listings.{gap_count};
 ghost use Rattle.tso_machine.specs.Outcomes.{AreGapsOf};

@@ -1,6 +1,6 @@
 -- What the program prints for a command line and an input, and with which status. `files` says what files held before, and `left`
 -- what they hold afterwards, where that is known.
-use Rattle.std.specs.Prelude.{◌≡◌, ℕ, ◌+◌, ◌≤◌, List, [], ◌∷◌, Option, Some, None, length, option_map, string_bytes}
+use Rattle.std.specs.Prelude.{◌≡◌, ℕ, ◌+◌, ◌≤◌, List, [], ◌∷◌, Option, Some, None, length, string_bytes}
 use Rattle.clap.specs.Words.{Text}
 use Rattle.program_streams.specs.declared.fault.FileFault.{FileFault}
 use Rattle.program_streams.specs.declared.files.TheConstants.{TEXT_LIMIT}
@@ -12,7 +12,7 @@ use Rattle.fencer_words.specs.declared.job.Job.TheVariants.{Replay, Outcomes, Pl
 use Rattle.fencer_words.specs.CommandLines.{AsksFor, IsNoCommand}
 use Rattle.fencer.specs.Lines.{EndsLine}
 use Rattle.fencer.specs.Outcomes.{AreOutcomes}
-use Rattle.fencer.specs.Placements.{IsPlaced}
+use Rattle.fencer.specs.Placements.{name_of, IsPlaced}
 use Rattle.fencer.specs.Replays.{IsReplay, run_text}
 
 -- ---- what is printed
@@ -21,13 +21,7 @@ use Rattle.fencer.specs.Replays.{IsReplay, run_text}
 abbrev pub IsAnswer : Job → Option (List ℕ) → (List ℕ → Option (List ℕ)) → (List ℕ → Option (List ℕ)) → ℕ → List ℕ → Type 0
 IsAnswer (Replay model litmus labels) input files left = IsReplay model (run_text labels.items) (string_bytes litmus) input files
 IsAnswer (Outcomes model observed litmus) input files left = AreOutcomes model observed (string_bytes litmus) input files
-IsAnswer (Place costs workers certificate observed litmus) input files left = IsPlaced (record {
-  costs = option_map string_bytes costs;
-  workers = workers;
-  certificate = option_map string_bytes certificate;
-  observed = observed;
-  litmus = string_bytes litmus;
-}) input files left
+IsAnswer (Place asked) input files left = IsPlaced asked input files left
 
 -- the first line of the input has more bytes than the limit
 abbrev pub HasTooLongLine : Option (List ℕ) → Type 0
@@ -54,7 +48,7 @@ IsOutput (word ∷ words) input files left = IsReply (word ∷ words) input file
 abbrev pub certificate_of : Job → Option (List ℕ)
 certificate_of (Replay model litmus labels) = None
 certificate_of (Outcomes model observed litmus) = None
-certificate_of (Place costs workers certificate observed litmus) = option_map string_bytes certificate
+certificate_of (Place asked) = name_of asked.certificate
 
 -- the words ask for a certificate in the file of this name
 pub record AsksToWrite (words : List Text) (name : List ℕ) : Type 0 where

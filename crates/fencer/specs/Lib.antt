@@ -5,5 +5,4 @@ pub mod TextAnswers
 pub mod Replays
 pub mod Outcomes
 pub mod Placements
-pub mod Requests
 pub mod Answers

@@ -10,16 +10,15 @@ use Rattle.tso_machine.specs.declared.label.Model.{Model}
 use Rattle.tso_machine.specs.Machine.{Mode}
 use Rattle.tso_machine.specs.Outcomes.{AllowsShown}
 use Rattle.litmus_text.specs.declared.litmus.Litmus.{Litmus}
-use Rattle.litmus_text.specs.Texts.{IsLitmus}
+use Rattle.litmus_text.specs.Texts.{IsLitmus, IsNoLitmus}
 use Rattle.cover_solver.specs.declared.fault.SolveFault.TheVariants as solve
 use Rattle.cover_solver.specs.Ordered.{Ascend}
-use Rattle.placed_text.specs.Questions.{shown_as, question_of}
+use Rattle.litmus_text.specs.Shown.{shown_as, question_of}
 use Rattle.report.specs.Answers.{outcome_line}
 use Rattle.report.specs.Observations.{observation_line, condition_line}
 use Rattle.fencer.specs.declared.refusals.Refusal.{Refusal}
 use Rattle.fencer.specs.declared.refusals.Refusal.TheVariants as refusal
 use Rattle.fencer.specs.Machines.{unfenced}
-use Rattle.fencer.specs.Refusals.{IsNoLitmus}
 use Rattle.fencer.specs.TextAnswers.{IsAnswerTo}
 
 -- the list ascends, and has exactly the outcomes that the machine of the mode allows, as far as they are shown

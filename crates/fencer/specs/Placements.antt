@@ -1,11 +1,13 @@
 -- What is printed for a placement, and what its certificate file holds. `files` says what files hold before it, and `left` what
 -- they hold afterwards, where that is known.
-use Rattle.std.specs.Prelude.{◌≡◌, ℕ, Bool, List, ◌++◌, Option, Some, None, IsSome, codes, ⊤}
+use Rattle.std.specs.Prelude.{◌≡◌, ℕ, Bool, List, ◌++◌, Option, Some, None, IsSome, codes, option_map, string_bytes, ⊤}
+use Rattle.std.specs.declared.string.String.{String}
 use Rattle.program_streams.specs.declared.fault.FileFault.{FileFault}
 use Rattle.program_streams.specs.declared.fault.FileFault.TheVariants as file
 use Rattle.program_streams.specs.declared.files.TheConstants.{TEXT_LIMIT}
 use Rattle.program_streams.specs.Files.{AreOfFile, AreOfFileIfNamed, IsFileFault, IsNamedFileFault}
 use Rattle.program_streams.specs.Streams.{Holds}
+use Rattle.fencer_words.specs.declared.job.Placement.{Placement}
 use Rattle.fence_place.specs.declared.fault.PlaceFault.{PlaceFault}
 use Rattle.fence_place.specs.declared.fault.PlaceFault.TheVariants as place
 use Rattle.placed_text.specs.declared.fault.TextFault.{TextFault}
@@ -15,13 +17,9 @@ use Rattle.placed_text.specs.PlacedTexts.{IsPlacedText}
 use Rattle.placed_text.specs.TextFaults.{HasNoPlacedText}
 use Rattle.report.specs.Faults.{refused, litmus_line, costs_line, file_line}
 
--- what a placement is asked for, and its files by their names
-pub record Asked : Type 0 where
-  pub costs : Option (List ℕ)
-  pub workers : ℕ
-  pub certificate : Option (List ℕ)
-  pub observed : Bool
-  pub litmus : List ℕ
+-- the name of a file, where one is given
+abbrev pub name_of : {Z : Type 0} → Option (String Z) → Option (List ℕ)
+name_of name = option_map string_bytes name
 
 -- ---- lines
 
@@ -52,20 +50,24 @@ pub record PrintsPlacement (litmus : List ℕ) (costs : Option (List ℕ)) (obse
 abbrev pub KeepFiles : Option (List ℕ) → (List ℕ → Option (List ℕ)) → (List ℕ → Option (List ℕ)) → Type 0
 KeepFiles named files left = (name : List ℕ) → (named ≡ Some name → ⊥) → left name ≡ files name
 
+-- each file holds what it held
+abbrev pub KeepAllFiles : (List ℕ → Option (List ℕ)) → (List ℕ → Option (List ℕ)) → Type 0
+KeepAllFiles files left = (name : List ℕ) → left name ≡ files name
+
 -- the certificate file, where one is named, holds this text
 abbrev pub HoldsCertificate : Option (List ℕ) → (List ℕ → Option (List ℕ)) → List ℕ → Type 0
 HoldsCertificate None left certificate = ⊤
 HoldsCertificate (Some name) left certificate = Holds (left name) certificate
 
 -- what the files hold that are read; `-` as the litmus file is the input
-pub record AreTexts (q : Asked) (input : Option (List ℕ)) (files : List ℕ → Option (List ℕ)) (litmus : List ℕ) (costs : Option (List ℕ)) : Type 0 where
-  pub of_litmus : AreOfFile TEXT_LIMIT q.litmus input files litmus
-  pub of_costs : AreOfFileIfNamed TEXT_LIMIT q.costs files costs
+pub record AreTexts (q : Placement) (input : Option (List ℕ)) (files : List ℕ → Option (List ℕ)) (litmus : List ℕ) (costs : Option (List ℕ)) : Type 0 where
+  pub of_litmus : AreOfFile TEXT_LIMIT (string_bytes q.litmus) input files litmus
+  pub of_costs : AreOfFileIfNamed TEXT_LIMIT (name_of q.costs) files costs
 
 -- why one of them isn't read; the litmus file comes first
-pub data HasNoTexts (q : Asked) (input : Option (List ℕ)) (files : List ℕ → Option (List ℕ)) (why : FileFault) : Type 0 where
-  no_litmus : IsFileFault TEXT_LIMIT q.litmus input files why → HasNoTexts q input files why
-  no_costs : (litmus : List ℕ) → AreOfFile TEXT_LIMIT q.litmus input files litmus → IsNamedFileFault TEXT_LIMIT q.costs files why → HasNoTexts q input files why
+pub data HasNoTexts (q : Placement) (input : Option (List ℕ)) (files : List ℕ → Option (List ℕ)) (why : FileFault) : Type 0 where
+  no_litmus : IsFileFault TEXT_LIMIT (string_bytes q.litmus) input files why → HasNoTexts q input files why
+  no_costs : (litmus : List ℕ) → AreOfFile TEXT_LIMIT (string_bytes q.litmus) input files litmus → IsNamedFileFault TEXT_LIMIT (name_of q.costs) files why → HasNoTexts q input files why
 
 -- ---- answers, each with its status
 
@@ -74,14 +76,14 @@ pub data IsDelivered (named : Option (List ℕ)) (left : List ℕ → Option (Li
   kept : HoldsCertificate named left certificate → IsDelivered named left lines certificate 0 lines
   not_kept : IsSome named → IsDelivered named left lines certificate 1 (file_line file.Write)
 
--- the answer to texts
-pub data IsJudged (q : Asked) (litmus : List ℕ) (costs : Option (List ℕ)) (left : List ℕ → Option (List ℕ)) : ℕ → List ℕ → Type 0 where
+-- the answer to texts; or why there is none, and then no file is changed
+pub data IsJudged (q : Placement) (litmus : List ℕ) (costs : Option (List ℕ)) (files left : List ℕ → Option (List ℕ)) : ℕ → List ℕ → Type 0 where
   placed : (lines certificate : List ℕ) (status : ℕ) (text : List ℕ) → PrintsPlacement litmus costs q.observed lines certificate
-      → IsDelivered q.certificate left lines certificate status text → IsJudged q litmus costs left status text
-  refused_for : (why : TextFault) → HasNoPlacedText litmus costs q.workers why → IsJudged q litmus costs left 1 (text_fault_line why)
+      → IsDelivered (name_of q.certificate) left lines certificate status text → IsJudged q litmus costs files left status text
+  refused_for : (why : TextFault) → HasNoPlacedText litmus costs q.workers why → KeepAllFiles files left → IsJudged q litmus costs files left 1 (text_fault_line why)
 
--- the answer to what is asked, or why a file isn't read
-pub data IsPlaced (q : Asked) (input : Option (List ℕ)) (files left : List ℕ → Option (List ℕ)) : ℕ → List ℕ → Type 0 where
+-- the answer to what is asked; or why a file isn't read, and then no file is changed
+pub data IsPlaced (q : Placement) (input : Option (List ℕ)) (files left : List ℕ → Option (List ℕ)) : ℕ → List ℕ → Type 0 where
   of_texts : (litmus : List ℕ) (costs : Option (List ℕ)) (status : ℕ) (text : List ℕ) → AreTexts q input files litmus costs
-      → IsJudged q litmus costs left status text → IsPlaced q input files left status text
-  no_texts : (why : FileFault) → HasNoTexts q input files why → IsPlaced q input files left 1 (file_line why)
+      → IsJudged q litmus costs files left status text → IsPlaced q input files left status text
+  no_texts : (why : FileFault) → HasNoTexts q input files why → KeepAllFiles files left → IsPlaced q input files left 1 (file_line why)

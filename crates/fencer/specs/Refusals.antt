@@ -1,21 +1,11 @@
 -- Why there is no answer, and how an answer is told.
 use Rattle.std.specs.Prelude.{◌≡◌, ℕ, List, Result, Ok, Err, codes}
 use Rattle.std.specs.Global.{Vec}
-use Rattle.tso_program.specs.declared.listing.Listing.{Listing}
-use Rattle.litmus_text.specs.declared.litmus.Litmus.{Litmus}
-use Rattle.litmus_text.specs.declared.fault.ReadFault.{ReadFault}
-use Rattle.litmus_text.specs.declared.fault.ReadFault.TheVariants as read_fault
-use Rattle.litmus_text.specs.Texts.{IsLitmus, Refuses}
 use Rattle.cover_solver.specs.declared.fault.SolveFault.{SolveFault}
 use Rattle.cover_solver.specs.declared.fault.SolveFault.TheVariants as solve
 use Rattle.report.specs.Faults.{refused, litmus_line, replay_line, run_line}
 use Rattle.fencer.specs.declared.refusals.Refusal.{Refusal}
 use Rattle.fencer.specs.declared.refusals.Refusal.TheVariants as refusal
-
--- why bytes are no litmus text: what the fault says of them, and that they are none, want of memory aside
-pub record IsNoLitmus (bytes : List ℕ) (fault : ReadFault) : Type 0 where
-  pub why : Refuses bytes fault
-  pub none : (litmus : Litmus Listing) → IsLitmus bytes litmus → fault ≡ read_fault.OutOfMemory
 
 abbrev pub solve_line : SolveFault → List ℕ
 solve_line solve.NoRun = refused (codes "solve 1 NoRun")

@@ -14,12 +14,11 @@ use Rattle.tso_machine.specs.Modes.{ArePassed}
 use Rattle.tso_machine.specs.Faults.{FaultIs}
 use Rattle.tso_machine.specs.RunTexts.{IsRunText, RunFaultIs}
 use Rattle.litmus_text.specs.declared.litmus.Litmus.{Litmus}
-use Rattle.litmus_text.specs.Texts.{IsLitmus}
+use Rattle.litmus_text.specs.Texts.{IsLitmus, IsNoLitmus}
 use Rattle.report.specs.Answers.{outcome_line, passed_line}
 use Rattle.fencer.specs.declared.refusals.Refusal.{Refusal}
 use Rattle.fencer.specs.declared.refusals.Refusal.TheVariants as refusal
 use Rattle.fencer.specs.Machines.{unfenced}
-use Rattle.fencer.specs.Refusals.{IsNoLitmus}
 use Rattle.fencer.specs.TextAnswers.{IsAnswerTo}
 
 -- label words as one text, each behind a space

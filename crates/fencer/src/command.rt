@@ -7,7 +7,7 @@ ghost use Rattle.fencer.specs.Placements.{KeepFiles};
 ghost use Rattle.fencer.specs.Answers.{certificate_of, IsAnswer, IsReply, IsOutput, KeepFilesOf, KeepOtherFiles};
 
 use crate::outcomes::run_outcomes;
-use crate::place::{Request, run_place};
+use crate::place::run_place;
 use crate::replays::run_replay;
 use clap::Error;
 use clap::error::ErrorKind;
@@ -71,22 +71,7 @@ fn run_job<T: Threads + Sync, U: Wait + Sync, S: WritableFileStore, R: Read, W: 
             input,
             output,
         ),
-        Job::Place {
-            costs,
-            workers,
-            certificate,
-            observed,
-            litmus,
-        } => {
-            let request = Request {
-                costs: costs.as_deref(),
-                workers: *workers,
-                certificate: certificate.as_deref(),
-                observed: *observed,
-                litmus: litmus.as_str(),
-            };
-            run_place(rt, wait, alloc, files, request, input, output)
-        }
+        Job::Place(asked) => run_place(rt, wait, alloc, files, asked, input, output),
     }
 }
 
@@ -115,12 +100,12 @@ fn run_words<T: Threads + Sync, U: Wait + Sync, S: WritableFileStore, R: Read, W
 /// The program: it does what the words after its name ask for, and answers its status. With no words
 /// they are those of the input's first line, separated by spaces, and the rest of the input is `-`.
 ///
-/// The certificate of a placement is written to the file that the words name, before anything is told of
-/// the placement; no other file is changed. Only a placement uses `rt` and `wait`.
+/// Wherever any of a placement's answer is printed, the file that the words name holds its certificate; no
+/// other file is changed. `rt` and `wait` are handed to a placement, which uses neither yet.
 ///
-/// Status 0 means that the whole answer is written. Status 1 is a refusal, told by one line, a writer
-/// that fails or takes no byte, and want of memory for the words or for that line, with nothing
-/// written. Status 2 is a bad command line or a call for help, told on the writer too.
+/// Status 0 means that the whole answer is written. Status 1 is a refusal, reported by one line, a writer
+/// that fails or takes no byte, and out of memory for the words or for that line, with nothing
+/// written. Status 2 is a bad command line or a call for help, reported on the writer too.
 pub fn run_command<T: Threads + Sync, U: Wait + Sync, S: WritableFileStore, R: Read, W: Write>(
     rt: &T,
     wait: &U,

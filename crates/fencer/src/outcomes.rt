@@ -7,7 +7,6 @@ ghost use Rattle.fencer.specs.Outcomes.{list_text, PrintsOutcomes, HasNoList, Ar
 use crate::refusals::{Refusal, tell};
 use cover_solver::{SolveFault, outcomes};
 use litmus_text::{Litmus, read_litmus};
-use placed_text::shown_as;
 use program_streams::{FileStore, TEXT_LIMIT, named_bytes, say};
 use report::{condition_line, file_line, observation_line, outcome_line};
 use std::alloc::{AllocError, Global};
@@ -46,7 +45,7 @@ fn outcomes_lines(
     ensures refused { IfErr result (HasNoList bytes.now) }
 {
     let litmus = read_litmus(alloc, bytes)?;
-    let shown = shown_as(&litmus, observed);
+    let shown = litmus.shown_as(observed);
     let list = outcomes(alloc, &litmus.program, model, &shown)?;
     match list_lines(alloc, &litmus, &shown, &list) {
         Ok(lines) => Ok(lines),

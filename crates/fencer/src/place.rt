@@ -3,10 +3,10 @@
 ghost use Rattle.std.specs.Prelude.{◌≡◌, ◌++◌, IfErr, IfOk, IsOkUnless, IsSome, OnErr, OnOk, option_map};
 ghost use Rattle.program_streams.specs.Streams.{Prints};
 ghost use Rattle.placed_text.specs.TextFaults.{HasNoPlacedText};
-ghost use Rattle.fencer.specs.Placements.{place_line, text_fault_line, PrintsPlacement, HoldsCertificate, KeepFiles, IsDelivered, IsJudged, AreTexts, HasNoTexts, IsPlaced};
-ghost use Rattle.fencer.specs.Requests.{request_of, name_of};
+ghost use Rattle.fencer.specs.Placements.{name_of, place_line, text_fault_line, PrintsPlacement, HoldsCertificate, KeepFiles, IsDelivered, IsJudged, AreTexts, HasNoTexts, IsPlaced};
 
 use fence_place::PlaceFault;
+use fencer_words::Placement;
 use placed_text::{PlacedText, TextFault, place_text};
 use program_streams::{
     FileFault, FileStore, TEXT_LIMIT, WritableFileStore, bytes_if_named, named_bytes, say,
@@ -16,16 +16,6 @@ use std::alloc::{AllocError, Global};
 use std::io::{Read, Write};
 use std::sync::Wait;
 use std::thread::Threads;
-
-/// What a placement is asked for, and its files by their names.
-#[derive(Clone, Copy, Debug)]
-pub struct Request<'a> {
-    pub costs: Option<&'a str>,
-    pub workers: u8,
-    pub certificate: Option<&'a str>,
-    pub observed: bool,
-    pub litmus: &'a str,
-}
 
 /// What the files hold that are read.
 #[derive(Debug, Drop)]
@@ -70,14 +60,14 @@ fn text_fault_line(alloc: Global, fault: TextFault) -> Result<Vec<u8>, AllocErro
 fn read_texts<S: FileStore, R: Read>(
     alloc: Global,
     files: &S,
-    request: Request<'_>,
+    asked: &Placement,
     input: &mut R,
 ) -> Result<Texts, FileFault>
-    ensures texts { IfOk result (λ texts. AreTexts (request_of request.entry) (R.remaining input.old) (S.held files.now) texts.litmus.items (option_map (λ text. text.items) texts.costs)) }
-    ensures err { IfErr result (HasNoTexts (request_of request.entry) (R.remaining input.old) (S.held files.now)) }
+    ensures texts { IfOk result (λ texts. AreTexts asked.now (R.remaining input.old) (S.held files.now) texts.litmus.items (option_map (λ text. text.items) texts.costs)) }
+    ensures err { IfErr result (HasNoTexts asked.now (R.remaining input.old) (S.held files.now)) }
 {
-    let litmus = named_bytes(alloc, files, request.litmus, input, TEXT_LIMIT)?;
-    let costs = bytes_if_named(alloc, files, request.costs, TEXT_LIMIT)?;
+    let litmus = named_bytes(alloc, files, asked.litmus.as_str(), input, TEXT_LIMIT)?;
+    let costs = bytes_if_named(alloc, files, asked.costs.as_deref(), TEXT_LIMIT)?;
     Ok(Texts { litmus, costs })
 }
 
@@ -104,11 +94,11 @@ fn answer_of<T: Threads + Sync, U: Wait + Sync>(
     rt: &T,
     wait: &U,
     alloc: Global,
-    request: Request<'_>,
+    asked: &Placement,
     texts: &Texts,
 ) -> Result<Answer, TextFault>
-    ensures placed { IfOk result (λ answer. PrintsPlacement texts.now.litmus.items (option_map (λ text. text.items) texts.now.costs) request.entry.observed answer.lines.items answer.certificate.items) }
-    ensures fault { IfErr result (HasNoPlacedText texts.now.litmus.items (option_map (λ text. text.items) texts.now.costs) request.entry.workers) }
+    ensures placed { IfOk result (λ answer. PrintsPlacement texts.now.litmus.items (option_map (λ text. text.items) texts.now.costs) asked.now.observed answer.lines.items answer.certificate.items) }
+    ensures fault { IfErr result (HasNoPlacedText texts.now.litmus.items (option_map (λ text. text.items) texts.now.costs) asked.now.workers) }
 {
     let costs = texts.costs.as_deref();
     let placed = place_text(
@@ -117,8 +107,8 @@ fn answer_of<T: Threads + Sync, U: Wait + Sync>(
         alloc,
         &texts.litmus,
         costs,
-        request.observed,
-        request.workers,
+        asked.observed,
+        asked.workers,
     )?;
     joined(placed)
 }
@@ -129,9 +119,9 @@ fn keep_certificate<S: WritableFileStore>(
     name: Option<&str>,
     certificate: &[u8],
 ) -> Result<(), FileFault>
-    ensures kept { OnOk result (HoldsCertificate (name_of name.entry) (S.held files.new) certificate.now) }
-    ensures others { KeepFiles (name_of name.entry) (S.held files.old) (S.held files.new) }
-    ensures named { OnErr result (IsSome (name_of name.entry)) }
+    ensures kept { OnOk result (HoldsCertificate (option_map (λ name. name.now) name.entry) (S.held files.new) certificate.now) }
+    ensures others { KeepFiles (option_map (λ name. name.now) name.entry) (S.held files.old) (S.held files.new) }
+    ensures named { OnErr result (IsSome (option_map (λ name. name.now) name.entry)) }
     ensures fault { IfErr result (λ fault. fault ≡ FileFault.Write) }
 {
     match name {
@@ -148,8 +138,8 @@ fn deliver<S: WritableFileStore, W: Write>(
     answer: Answer,
     output: &mut W,
 ) -> u8
-    ensures told { Prints (IsDelivered (name_of name.entry) (S.held files.new) answer.lines.items answer.certificate.items) (W.contents output.old) (W.contents output.new) result }
-    ensures others { KeepFiles (name_of name.entry) (S.held files.old) (S.held files.new) }
+    ensures told { Prints (IsDelivered (option_map (λ name. name.now) name.entry) (S.held files.new) answer.lines.items answer.certificate.items) (W.contents output.old) (W.contents output.new) result }
+    ensures others { KeepFiles (option_map (λ name. name.now) name.entry) (S.held files.old) (S.held files.new) }
 {
     let Answer { lines, certificate } = answer;
     match keep_certificate(files, name, &certificate) {
@@ -164,15 +154,15 @@ fn place_texts<T: Threads + Sync, U: Wait + Sync, S: WritableFileStore, W: Write
     wait: &U,
     alloc: Global,
     files: &mut S,
-    request: Request<'_>,
+    asked: &Placement,
     texts: &Texts,
     output: &mut W,
 ) -> u8
-    ensures told { Prints (IsJudged (request_of request.entry) texts.now.litmus.items (option_map (λ text. text.items) texts.now.costs) (S.held files.new)) (W.contents output.old) (W.contents output.new) result }
-    ensures others { KeepFiles (name_of request.entry.certificate) (S.held files.old) (S.held files.new) }
+    ensures told { Prints (IsJudged asked.now texts.now.litmus.items (option_map (λ text. text.items) texts.now.costs) (S.held files.old) (S.held files.new)) (W.contents output.old) (W.contents output.new) result }
+    ensures others { KeepFiles (name_of asked.now.certificate) (S.held files.old) (S.held files.new) }
 {
-    match answer_of(rt, wait, alloc, request, texts) {
-        Ok(answer) => deliver(alloc, files, request.certificate, answer, output),
+    match answer_of(rt, wait, alloc, asked, texts) {
+        Ok(answer) => deliver(alloc, files, asked.certificate.as_deref(), answer, output),
         Err(fault) => say(output, text_fault_line(alloc, fault), 1),
     }
 }
@@ -184,15 +174,15 @@ pub fn run_place<T: Threads + Sync, U: Wait + Sync, S: WritableFileStore, R: Rea
     wait: &U,
     alloc: Global,
     files: &mut S,
-    request: Request<'_>,
+    asked: &Placement,
     input: &mut R,
     output: &mut W,
 ) -> u8
-    ensures told { Prints (IsPlaced (request_of request.entry) (R.remaining input.old) (S.held files.old) (S.held files.new)) (W.contents output.old) (W.contents output.new) result }
-    ensures others { KeepFiles (name_of request.entry.certificate) (S.held files.old) (S.held files.new) }
+    ensures told { Prints (IsPlaced asked.now (R.remaining input.old) (S.held files.old) (S.held files.new)) (W.contents output.old) (W.contents output.new) result }
+    ensures others { KeepFiles (name_of asked.now.certificate) (S.held files.old) (S.held files.new) }
 {
-    match read_texts(alloc, &*files, request, input) {
-        Ok(texts) => place_texts(rt, wait, alloc, files, request, &texts, output),
+    match read_texts(alloc, &*files, asked, input) {
+        Ok(texts) => place_texts(rt, wait, alloc, files, asked, &texts, output),
         Err(fault) => say(output, file_line(alloc, fault), 1),
     }
 }

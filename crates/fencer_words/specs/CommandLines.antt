@@ -132,13 +132,13 @@ IsJobOf name rows (Outcomes model observed litmus) =
     × (model ≡ model_in rows)
     × (observed ≡ is_flagged (codes "observed") rows)
     × (string_bytes litmus ≡ text_in (codes "litmus") rows)
-IsJobOf name rows (Place costs workers certificate observed litmus) =
+IsJobOf name rows (Place asked) =
     (name ≡ codes "place")
-    × (option_map string_bytes costs ≡ first_of (codes "costs") rows)
-    × AreWorkers (text_in (codes "workers") rows) workers
-    × (option_map string_bytes certificate ≡ first_of (codes "certificate") rows)
-    × (observed ≡ is_flagged (codes "observed") rows)
-    × (string_bytes litmus ≡ text_in (codes "litmus") rows)
+    × (option_map string_bytes asked.costs ≡ first_of (codes "costs") rows)
+    × AreWorkers (text_in (codes "workers") rows) asked.workers
+    × (option_map string_bytes asked.certificate ≡ first_of (codes "certificate") rows)
+    × (asked.observed ≡ is_flagged (codes "observed") rows)
+    × (string_bytes asked.litmus ≡ text_in (codes "litmus") rows)
 
 -- the words after the program's name ask for the job: `clap` finds no fault in them
 pub record AsksFor (words : List Text) (job : Job) : Type 0 where

@@ -3,6 +3,20 @@
 use std::alloc::Global;
 use tso_machine::Model;
 
+/// A placement of fences that is asked for. Files are given by their names.
+#[derive(Debug, Drop)]
+pub struct Placement {
+    /// The file of the gaps' costs; without one each gap costs 1.
+    pub costs: Option<String>,
+    /// How many workers search: 1 to `MAX_WORKERS`.
+    pub workers: u8,
+    /// The file to which the certificate is written.
+    pub certificate: Option<String>,
+    /// Tell apart only what the condition and `locations` name.
+    pub observed: bool,
+    pub litmus: String,
+}
+
 /// What a command line asks for. `-` as LITMUS is the program's input.
 #[derive(Debug, Drop)]
 pub enum Job {
@@ -20,15 +34,5 @@ pub enum Job {
         litmus: String,
     },
     /// Place fences in the program of a litmus file.
-    Place {
-        /// The file of the gaps' costs; without one each gap costs 1.
-        costs: Option<String>,
-        /// How many workers search: 1 to `MAX_WORKERS`.
-        workers: u8,
-        /// The file to which the certificate is written.
-        certificate: Option<String>,
-        /// Tell apart only what the condition and `locations` name.
-        observed: bool,
-        litmus: String,
-    },
+    Place(Placement),
 }

@@ -8,6 +8,6 @@ mod place;
 mod replay;
 mod words;
 
-pub use job::Job;
+pub use job::{Job, Placement};
 pub use place::MAX_WORKERS;
 pub use words::read_words;

@@ -6,7 +6,7 @@ ghost use Rattle.fencer_words.specs.CommandLines.{file_rule, workers_rule, place
 ghost use Rattle.fencer_words.specs.Commands.{IsBuiltAs};
 
 use crate::arguments::{is_flagged, litmus_arg, observed_arg, text_given, text_in, value_in};
-use crate::job::Job;
+use crate::job::{Job, Placement};
 use clap::builder::ValueParser;
 use clap::{Arg, ArgMatches, Command};
 use std::alloc::{AllocError, Global};
@@ -57,11 +57,11 @@ fn workers_of(text: &str) -> u8
 pub fn place_job(alloc: Global, matches: &ArgMatches<'_>) -> Result<Job, AllocError>
     ensures { IfOk result (IsJobOf (codes "place") (rows_of (found_of matches.now))) }
 {
-    Ok(Job::Place {
+    Ok(Job::Place(Placement {
         costs: text_given(alloc, matches, "costs")?,
         workers: workers_of(value_in(matches, "workers")),
         certificate: text_given(alloc, matches, "certificate")?,
         observed: is_flagged(matches, "observed"),
         litmus: text_in(alloc, matches, "litmus")?,
-    })
+    }))
 }

@@ -15,7 +15,7 @@ use Rattle.fence_place.specs.Placements.{IsPlacement}
 use Rattle.placed_text.specs.declared.fault.TextFault.{TextFault}
 use Rattle.placed_text.specs.declared.fault.TextFault.TheVariants as fault
 use Rattle.placed_text.specs.declared.writing.PlacedText.{PlacedText}
-use Rattle.placed_text.specs.Questions.{shown_as, question_of}
+use Rattle.litmus_text.specs.Shown.{shown_as, question_of}
 use Rattle.placed_text.specs.PlacedTexts.{IsPlacedText, IsWritten}
 use Rattle.placed_text.specs.TextFaults.{HasNoProgram, HasNoCosts, HasNoPlacement, HasNoPlacedText}
 
@@ -36,6 +36,7 @@ module _ (litmus : List ℕ) (costs : Option (List ℕ)) where
     answer = is.answer;
     headline = is.headline;
     program = written.program;
+    again = written.again litmus of_text;
     line = subst (λ (cost : ℕ). texts.answer.items ≡ answer_line source.program (shown_as source observed) placed.set cost) is.cost written.line;
     certificate = record {
       claimed = placed.certificate;

@@ -1,3 +1,2 @@
-pub mod Questions
 pub mod PlacedTexts
 pub mod TextFaults

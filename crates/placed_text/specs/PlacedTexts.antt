@@ -7,7 +7,7 @@ use Rattle.tso_program.specs.declared.shown.Shown.{Shown}
 use Rattle.tso_program.specs.Shown.{Question}
 use Rattle.tso_machine.specs.Outcomes.{Headline, IsTheAnswer}
 use Rattle.litmus_text.specs.declared.litmus.Litmus.{Litmus}
-use Rattle.litmus_text.specs.Texts.{IsLitmus}
+use Rattle.litmus_text.specs.Texts.{IsLitmus, IsFencedLitmus}
 use Rattle.canonical_text.specs.Canonical.{canonical_text, fenced_at}
 use Rattle.cost_text.specs.GivenCosts.{AreGiven}
 use Rattle.cert_forest.specs.declared.certificate.Certificate.{Certificate}
@@ -19,7 +19,7 @@ use Rattle.cert_check.specs.Claims.{claim_of}
 use Rattle.report.specs.Answers.{answer_line}
 use Rattle.fence_place.specs.declared.placing.Placed.{Placed}
 use Rattle.placed_text.specs.declared.writing.PlacedText.{PlacedText}
-use Rattle.placed_text.specs.Questions.{shown_as, question_of}
+use Rattle.litmus_text.specs.Shown.{shown_as, question_of}
 
 -- the text is that of a certificate which claims these gaps, and which the checker accepts, since it is valid
 pub record IsCertificateOf (q : Question) (costs : List ℕ) (gaps : SetOfGaps) (text : List ℕ) : Type 0 where
@@ -29,8 +29,8 @@ pub record IsCertificateOf (q : Question) (costs : List ℕ) (gaps : SetOfGaps) 
   pub valid : IsValidCertificate q costs (claim_of claimed)
 
 -- What the texts tell: the litmus text stands for this program, its gaps have these costs, these gaps are the answer, so that
--- the headline holds of them; the program's text is the canonical one with an MFENCE in each of them, the line is made of them
--- and of their total, and the certificate is one of them.
+-- the headline holds of them; the program's text is the canonical one with an MFENCE in each of them, and is read as that
+-- program; the line is made of them and of their total, and the certificate is one of them.
 pub record IsPlacedText (litmus : List ℕ) (costs : Option (List ℕ)) (observed : Bool) (texts : PlacedText) : Type 0 where
   pub source : Litmus Listing
   pub of_text : IsLitmus litmus source
@@ -40,11 +40,13 @@ pub record IsPlacedText (litmus : List ℕ) (costs : Option (List ℕ)) (observe
   pub answer : IsTheAnswer (question_of source observed) gap_costs gaps
   pub headline : Headline (question_of source observed) gap_costs gaps
   pub program : texts.program.items ≡ canonical_text (fenced_at gaps source)
+  pub again : IsFencedLitmus texts.program.items (fenced_at gaps source)
   pub line : texts.answer.items ≡ answer_line source.program (shown_as source observed) gaps (total gap_costs gaps)
   pub certificate : IsCertificateOf (question_of source observed) gap_costs gaps texts.certificate.items
 
 -- the texts of what is placed
 pub record IsWritten (source : Litmus Listing) (shown : Shown) (placed : Placed) (texts : PlacedText) : Type 0 where
   pub program : texts.program.items ≡ canonical_text (fenced_at placed.set source)
+  pub again : (text : List ℕ) → IsLitmus text source → IsFencedLitmus texts.program.items (fenced_at placed.set source)
   pub line : texts.answer.items ≡ answer_line source.program shown placed.set placed.cost
   pub certificate : texts.certificate.items ≡ certificate_text (certificate placed.certificate)

@@ -1,10 +1,12 @@
 -- Why nothing is placed in the program of a text. Want of memory comes anywhere, and only as the fault of that name.
-use Rattle.std.specs.Prelude.{◌≡◌, ℕ, List, Option, Some, ⊤}
+use Rattle.std.specs.Prelude.{◌≡◌, ◌≢◌, ℕ, List, Option, Some, ⊤}
 use Rattle.tso_program.specs.declared.listing.Listing.{Listing}
 use Rattle.litmus_text.specs.declared.litmus.Litmus.{Litmus}
 use Rattle.litmus_text.specs.declared.fault.ReadFault.{ReadFault}
-use Rattle.litmus_text.specs.Texts as litmus_texts
+use Rattle.litmus_text.specs.declared.fault.ReadFault.TheVariants as read_fault
+use Rattle.litmus_text.specs.Texts.{IsLitmus, IsNoLitmus}
 use Rattle.cost_text.specs.declared.fault.CostTextFault.{CostTextFault}
+use Rattle.cost_text.specs.declared.fault.CostTextFault.TheVariants as cost_fault
 use Rattle.cost_text.specs.CostTexts as cost_texts
 use Rattle.cost_text.specs.GivenCosts.{AreGiven}
 use Rattle.fence_place.specs.declared.fault.PlaceFault.{PlaceFault}
@@ -13,13 +15,12 @@ use Rattle.fence_place.specs.Faults.{AreTooFewOrMany}
 use Rattle.placed_text.specs.declared.fault.TextFault.{TextFault}
 use Rattle.placed_text.specs.declared.fault.TextFault.TheVariants as fault
 
--- the text is no litmus text, and what the fault says of it
-pub record IsNoLitmus (text : List ℕ) (why : ReadFault) : Type 0 where
-  pub refused : litmus_texts.Refuses text why
-  pub none : (litmus : Litmus Listing) → litmus_texts.IsLitmus text litmus → ⊥
+-- the text is not a litmus text, for another reason than that memory ran out
+abbrev pub IsRefusedText : List ℕ → ReadFault → Type 0
+IsRefusedText text why = IsNoLitmus text why × (why ≢ read_fault.OutOfMemory)
 
 abbrev pub HasNoProgram : List ℕ → TextFault → Type 0
-HasNoProgram text (fault.Read why) = IsNoLitmus text why
+HasNoProgram text (fault.Read why) = IsRefusedText text why
 HasNoProgram text (fault.CostText why) = ⊥
 HasNoProgram text (fault.Place why) = ⊥
 HasNoProgram text fault.OutOfMemory = ⊤
@@ -30,6 +31,7 @@ pub record AreNoCosts (p : Listing) (costs : Option (List ℕ)) (why : CostTextF
   pub is_given : costs ≡ Some text
   pub refused : cost_texts.Refuses text p.threads why
   pub none : (given : List ℕ) → cost_texts.IsCostText text p.threads given → ⊥
+  pub not_memory : why ≢ cost_fault.OutOfMemory
 
 abbrev pub HasNoCosts : Listing → Option (List ℕ) → TextFault → Type 0
 HasNoCosts p costs (fault.Read why) = ⊥
@@ -53,8 +55,8 @@ HasNoPlacement workers fault.OutOfMemory = ⊤
 
 -- Why there are no texts: the litmus text is judged first, then the costs, then the number of workers.
 abbrev pub HasNoPlacedText : List ℕ → Option (List ℕ) → ℕ → TextFault → Type 0
-HasNoPlacedText litmus costs workers (fault.Read why) = IsNoLitmus litmus why
-HasNoPlacedText litmus costs workers (fault.CostText why) = (source : Litmus Listing) × litmus_texts.IsLitmus litmus source × AreNoCosts source.program costs why
+HasNoPlacedText litmus costs workers (fault.Read why) = IsRefusedText litmus why
+HasNoPlacedText litmus costs workers (fault.CostText why) = (source : Litmus Listing) × IsLitmus litmus source × AreNoCosts source.program costs why
 HasNoPlacedText litmus costs workers (fault.Place why) =
-    (source : Litmus Listing) × (gap_costs : List ℕ) × litmus_texts.IsLitmus litmus source × AreGiven source.program costs gap_costs × IsNoPlacement workers why
+    (source : Litmus Listing) × (gap_costs : List ℕ) × IsLitmus litmus source × AreGiven source.program costs gap_costs × IsNoPlacement workers why
 HasNoPlacedText litmus costs workers fault.OutOfMemory = ⊤

@@ -5,8 +5,8 @@ use fence_place::PlaceFault;
 use litmus_text::ReadFault;
 use thiserror::Error;
 
-/// Why nothing is placed in the program of a text. Want of memory is `OutOfMemory`, wherever it comes:
-/// no inner fault tells of it.
+/// Why nothing is placed in the program of a text. Where memory runs out, that is `OutOfMemory`, and no inner
+/// fault.
 #[derive(Clone, Copy, Debug, PartialEq, Eq, Error)]
 pub enum TextFault {
     /// The text isn't a litmus text.

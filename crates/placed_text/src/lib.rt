@@ -8,5 +8,4 @@ mod writing;
 
 pub use fault::TextFault;
 pub use placing::place_text;
-pub use reading::shown_as;
 pub use writing::PlacedText;

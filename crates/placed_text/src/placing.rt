@@ -8,7 +8,7 @@ ghost use Rattle.placed_text.specs.PlacedTexts.{IsPlacedText};
 ghost use Rattle.placed_text.specs.TextFaults.{HasNoPlacement, HasNoPlacedText};
 
 use crate::TextFault;
-use crate::reading::{read_gap_costs, read_program, shown_as};
+use crate::reading::{read_gap_costs, read_program};
 use crate::writing::{PlacedText, write_placed};
 use cover_solver::{SolveFault, Solver, sequential};
 use fence_place::{PlaceFault, Placed, place};
@@ -52,8 +52,8 @@ fn place_gaps<R: Threads + Sync, W: Wait + Sync>(
 /// each without one: the best set of gaps after which the program has its sequential outcomes and no
 /// others. If `observed`, only what the condition and `locations` name tells outcomes apart.
 ///
-/// The litmus text is judged first, then the costs, then the number of workers. They search on `rt`, and
-/// wait for one another by `wait`.
+/// The litmus text is judged first, then the costs, then the number of workers. `rt` and `wait` are handed to
+/// [`fence_place::place`], which uses neither yet.
 pub fn place_text<R: Threads + Sync, W: Wait + Sync>(
     rt: &R,
     wait: &W,
@@ -69,7 +69,7 @@ pub fn place_text<R: Threads + Sync, W: Wait + Sync>(
 {
     let source = read_program(alloc, litmus)?;
     let costs = read_gap_costs(alloc, costs, &source.program)?;
-    let shown = shown_as(&source, observed);
+    let shown = source.shown_as(observed);
     let placed = place_gaps(rt, wait, alloc, &source.program, &shown, &costs, workers)?;
     match write_placed(alloc, &source, &shown, &placed) {
         Ok(texts) => Ok(texts),

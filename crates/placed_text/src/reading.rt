@@ -3,21 +3,13 @@ ghost use Rattle.std.specs.Prelude.{◌≡◌, IfErr, IfOk, option_map};
 ghost use Rattle.litmus_text.specs.Texts.{IsLitmus};
 ghost use Rattle.cost_text.specs.GivenCosts.{AreGiven};
 ghost use Rattle.placed_text.specs.TextFaults.{HasNoProgram, HasNoCosts};
-ghost use Rattle.placed_text.specs.Questions.{shown_as};
 
 use crate::TextFault;
 use cost_text::{CostTextFault, given_costs};
 use gap_sets::Costs;
 use litmus_text::{Litmus, ReadFault, read_litmus};
 use std::alloc::Global;
-use tso_program::{Program, Shown};
-
-/// What is shown of outcomes: all, or what the litmus text names.
-pub fn shown_as(litmus: &Litmus<Program>, observed: bool) -> Shown
-    ensures { result ≡ shown_as litmus.now observed }
-{
-    if observed { litmus.shown() } else { Shown::All }
-}
+use tso_program::Program;
 
 /// What a litmus text stands for.
 pub(crate) fn read_program(alloc: Global, text: &[u8]) -> Result<Litmus<Program>, TextFault>

@@ -128,7 +128,8 @@ impl SearchTree {
         Some(node)
     }
 
-    /// The seat takes an open node: the one whose `must` is best, the first of equals.
+    /// The seat takes an open node. It is the one whose `must` is best, the first of equals: a preference, on which
+    /// no clause rests.
     pub fn take(&mut self, seat: u8) -> Result<Node, TreeFault>
         requires { seat < self.old.seats }
         ensures taken { IfOk result (Takes self.old self.new seat) }

@@ -7,7 +7,7 @@ pub returns-in-Outcomes-clause-told : goal.returns-in-Outcomes-clause-told
 returns-in-Outcomes-clause-told g c = rw c.in-Outcomes.is (rw c.as_str-in-Outcomes.ensures.value at c.run_outcomes.ensures)
 
 pub returns-in-Place-clause-told : goal.returns-in-Place-clause-told
-returns-in-Place-clause-told g c = rw c.in-Place.is (rw (c.as_deref.ensures.value, c.as_deref-in-Place.ensures.value, c.as_str-in-Place.ensures.value) at c.run_place.ensures.told)
+returns-in-Place-clause-told g c = rw c.in-Place.is c.run_place.ensures.told
 
 pub returns-in-Place-clause-others : goal.returns-in-Place-clause-others
-returns-in-Place-clause-others g c = rw c.in-Place.is (rw c.as_deref-in-Place.ensures.value at c.run_place.ensures.others)
+returns-in-Place-clause-others g c = rw c.in-Place.is c.run_place.ensures.others

@@ -1,11 +1,12 @@
+use Rattle.std.proofs.Common.{refl}
 use Rattle.program_streams.proofs.Printed.{prints_line, prints_more}
 use Rattle.fencer.specs.Placements.{placed, refused_for, text_fault_line}
 use Rattle.fencer.proofs.place.place_texts.Goals as goal
 
 pub returns-in-Ok-clause-told : goal.returns-in-Ok-clause-told
 returns-in-Ok-clause-told g c =
-    prints_more _ _ _ _ c.deliver.result (λ status text is. placed c.in-Ok.answer.lines.items c.in-Ok.answer.certificate.items status text c.in-Ok.ensures.placed is) c.deliver.ensures.told
+    prints_more _ _ _ _ c.deliver.result (λ status text is. placed c.in-Ok.answer.lines.items c.in-Ok.answer.certificate.items status text c.in-Ok.ensures.placed is) (rw c.as_deref.ensures.value at c.deliver.ensures.told)
 
 pub returns-in-Err-clause-told : goal.returns-in-Err-clause-told
 returns-in-Err-clause-told g c =
-    prints_line c.text_fault_line.result 1 (text_fault_line c.in-Err.fault) _ _ _ c.say.result (refused_for c.in-Err.fault c.in-Err.ensures.fault) c.text_fault_line.ensures c.say.ensures
+    prints_line c.text_fault_line.result 1 (text_fault_line c.in-Err.fault) _ _ _ c.say.result (refused_for c.in-Err.fault c.in-Err.ensures.fault (λ name. refl)) c.text_fault_line.ensures c.say.ensures

@@ -1,11 +1,10 @@
 use Rattle.std.proofs.Common.{sym, subst}
 use Rattle.std.proofs.lemmas.Result.{err_from_is_err_and}
 use Rattle.fencer.specs.Placements.{HasNoTexts, no_costs}
-use Rattle.fencer.specs.Requests.{request_of}
 use Rattle.fencer.proofs.place.read_texts.Goals as goal
 
 pub returns-in_err-costs-clause-err : goal.returns-in_err-costs-clause-err
 returns-in_err-costs-clause-err g c =
     let p = err_from_is_err_and c.from_residual-in_err-costs.result c.from_residual-in_err-costs.ensures.1 in
-    rw p.1 (subst (HasNoTexts (request_of c.args.request) (g.R.Read.remaining c.args.input.now) (g.S.FileStore.held c.args.files.now)) (sym p.2)
-    (no_costs c.in_ok-litmus.litmus.items c.in_ok-litmus.ensures.whole c.in_err-costs.ensures.err))
+    rw p.1 (subst (HasNoTexts c.args.asked.now (g.R.Read.remaining c.args.input.now) (g.S.FileStore.held c.args.files.now)) (sym p.2)
+    (no_costs c.in_ok-litmus.litmus.items (rw c.as_str.ensures.value at c.in_ok-litmus.ensures.whole) (rw c.as_deref.ensures.value at c.in_err-costs.ensures.err)))

@@ -1,3 +1,4 @@
+use Rattle.std.proofs.Common.{refl}
 use Rattle.std.specs.Prelude.{option_map}
 use Rattle.program_streams.proofs.Printed.{prints_line, prints_more}
 use Rattle.report.specs.Faults.{file_line}
@@ -10,4 +11,4 @@ returns-in-Ok-clause-told g c =
 
 pub returns-in-Err-clause-told : goal.returns-in-Err-clause-told
 returns-in-Err-clause-told g c =
-    prints_line c.file_line.result 1 (file_line c.in-Err.fault) _ _ _ c.say.result (no_texts c.in-Err.fault c.in-Err.ensures.err) c.file_line.ensures c.say.ensures
+    prints_line c.file_line.result 1 (file_line c.in-Err.fault) _ _ _ c.say.result (no_texts c.in-Err.fault c.in-Err.ensures.err (λ name. refl)) c.file_line.ensures c.say.ensures

@@ -10,7 +10,7 @@ use Rattle.placed_text.proofs.reading.read_gap_costs.Goals as goal
 -- costs that aren't given, memory aside, are those of a text that gives none
 no_costs : (p : Listing) (text : Option (List ℕ)) (why : CostTextFault) → (why ≡ cost_fault.OutOfMemory → ⊥) → AreNotGiven p text why → AreNoCosts p text why
 no_costs p None why other none = absurd (other none)
-no_costs p (Some text) why other none = record { text = text; is_given = refl; refused = none.refused; none = λ given is. other (none.none given is) }
+no_costs p (Some text) why other none = record { text = text; is_given = refl; refused = none.refused; none = λ given is. other (none.none given is); not_memory = other }
 
 pub returns-in_default-clause-refused : goal.returns-in_default-clause-refused
 returns-in_default-clause-refused c =
