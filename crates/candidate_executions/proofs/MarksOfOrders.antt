@@ -14,7 +14,7 @@ use Rattle.candidate_executions.specs.declared.event.Kind.{Kind}
 use Rattle.candidate_executions.specs.declared.event.Kind.TheVariants as union
 use Rattle.candidate_executions.specs.Candidates.{Candidate, access, Writes, IsCandidate}
 use Rattle.candidate_executions.specs.Consistency.{Relates, WriteOrder, Edge}
-use Rattle.candidate_executions.specs.RunCandidates.{Mark, Takes, Arrives, marks_of, Reads, IsStored, IsInOrder, IsCandidateOf}
+use Rattle.candidate_executions.specs.RunCandidates.{Mark, Takes, Arrives, marks_of, ReadsValue, IsStored, ArriveInOrder, IsCandidateOf}
 use Rattle.candidate_executions.proofs.AcyclicIsOrdered.{In, Distinct, Ordered}
 use Rattle.candidate_executions.proofs.Linear.{IsLinear}
 use Rattle.candidate_executions.proofs.Lists.{some_value}
@@ -68,7 +68,7 @@ module _ (at : Event → Option Access) (c : Candidate) where
       (Contains-append_right (taken x.read e (c.source e)) (arrived x.written e) (Arrives e)
       (subst (λ o. Contains (arrived o e) (Arrives e)) (sym w) (first_in (Arrives e) [])))
 
-  takes_of : (es : List Event) (e d : Event) (v : ℕ) → Contains (shown_along at c es) (Takes e v d) → Reads at e v × (c.source e ≡ d)
+  takes_of : (es : List Event) (e d : Event) (v : ℕ) → Contains (shown_along at c es) (Takes e v d) → ReadsValue at e v × (c.source e ≡ d)
   takes_of es e d v h = let (f, i, (x, a, m)) = in_shown es (Takes e v d) h in elim m [
     | inl t ↦ (let same : e ≡ f = let q = t.2 in cc in
         let value : v ≡ t.0 = let q = t.2 in cc in
@@ -103,7 +103,7 @@ module _ (p : Listing) (mode : Mode) (c : Candidate) (is : IsCandidate p mode c)
   R = Edge p mode c kind
 
   -- of two events the first in the order has the lower rank, where both write a location
-  first_lower : (e : Event) (es : List Event) → (In e es → ⊥) → ((d : Event) → In d es → R d e → ⊥) → (x y : Mark) → Contains (shown_by c e (at e)) x → Contains (shown_along at c es) y → IsInOrder at c x y
+  first_lower : (e : Event) (es : List Event) → (In e es → ⊥) → ((d : Event) → In d es → R d e → ⊥) → (x y : Mark) → Contains (shown_by c e (at e)) x → Contains (shown_along at c es) y → ArriveInOrder at c x y
   first_lower e es new none (Takes f v g) y h i = tt
   first_lower e es new none (Arrives f) (Takes d v g) h i = tt
   first_lower e es new none (Arrives f) (Arrives d) h i = λ l v w a b. (
@@ -116,26 +116,26 @@ module _ (p : Listing) (mode : Mode) (c : Candidate) (is : IsCandidate p mode c)
         | inr (inr more) ↦ absurd (none d there (subst (λ z. R d z) same (write_edge p mode c kind d f l w v b a more)))
       ])
 
-  in_itself : (e : Event) (o : Option Access) → PairsOf (IsInOrder at c) (shown_by c e o)
+  in_itself : (e : Event) (o : Option Access) → PairsOf (ArriveInOrder at c) (shown_by c e o)
   in_itself e None = tt
-  in_itself e (Some x) = pairs_append (IsInOrder at c) (taken x.read e (c.source e)) (arrived x.written e) (takes x.read) (arrives x.written)
+  in_itself e (Some x) = pairs_append (ArriveInOrder at c) (taken x.read e (c.source e)) (arrived x.written e) (takes x.read) (arrives x.written)
       (λ x y h i. after x y h i)
     where
-      takes : (r : Option ℕ) → PairsOf (IsInOrder at c) (taken r e (c.source e))
+      takes : (r : Option ℕ) → PairsOf (ArriveInOrder at c) (taken r e (c.source e))
       takes None = tt
       takes (Some v) = ((λ y h. absurd (none_in y h)), tt)
 
-      arrives : (w : Option ℕ) → PairsOf (IsInOrder at c) (arrived w e)
+      arrives : (w : Option ℕ) → PairsOf (ArriveInOrder at c) (arrived w e)
       arrives None = tt
       arrives (Some v) = ((λ y h. absurd (none_in y h)), tt)
 
-      after : (m n : Mark) → Contains (taken x.read e (c.source e)) m → Contains (arrived x.written e) n → IsInOrder at c m n
+      after : (m n : Mark) → Contains (taken x.read e (c.source e)) m → Contains (arrived x.written e) n → ArriveInOrder at c m n
       after (Takes f v g) n h i = tt
       after (Arrives f) n h i = absurd (let t = taken_is x.read e (c.source e) (Arrives f) h in let q = t.2 in cc)
 
-  in_order : (es : List Event) → Distinct es → Ordered R es → PairsOf (IsInOrder at c) (shown_along at c es)
+  in_order : (es : List Event) → Distinct es → Ordered R es → PairsOf (ArriveInOrder at c) (shown_along at c es)
   in_order [] d o = tt
-  in_order (e ∷ es) d o = pairs_append (IsInOrder at c) (shown_by c e (at e)) (shown_along at c es) (in_itself e (at e)) (in_order es d.1 o.1) (first_lower e es d.0 o.0)
+  in_order (e ∷ es) d o = pairs_append (ArriveInOrder at c) (shown_by c e (at e)) (shown_along at c es) (in_itself e (at e)) (in_order es d.1 o.1) (first_lower e es d.0 o.0)
 
   pub candidate_of_order : (labels : List Label) (order : List Event) → IsLinear at R order → marks_of p mode labels ≡ shown_along at c order → IsCandidateOf p mode labels c
   candidate_of_order labels order linear same = record {
@@ -147,10 +147,10 @@ module _ (p : Listing) (mode : Mode) (c : Candidate) (is : IsCandidate p mode c)
       λ h. (let (i, a) = arrives_of at c order e (subst (λ ms. Contains ms (Arrives e)) same h) in stored e i a),
       λ a. subst (λ ms. Contains ms (Arrives e)) (sym same) (writes e a),
     );
-    order = subst (AllPairs (IsInOrder at c)) (sym same) (pairs_all (IsInOrder at c) (shown_along at c order) (in_order order linear.distinct linear.ordered));
+    order = subst (AllPairs (ArriveInOrder at c)) (sym same) (pairs_all (ArriveInOrder at c) (shown_along at c order) (in_order order linear.distinct linear.ordered));
   }
     where
-      reads : (e : Event) (v : ℕ) → Reads at e v → Contains (shown_along at c order) (Takes e v (c.source e))
+      reads : (e : Event) (v : ℕ) → ReadsValue at e v → Contains (shown_along at c order) (Takes e v (c.source e))
       reads (Initial l) v (x, a, r) = absurd (let q : None ≡ x.read = ap (λ (z : Access). z.read) (same_Some _ x a) in let k : None ≡ Some v = q ∙ r in cc)
       reads (At t i) v (x, a, r) = shown_in at c order (At t i) (Takes (At t i) v (c.source (At t i))) (linear.holds t i x a) (takes_shown at c (At t i) x v a r)
 

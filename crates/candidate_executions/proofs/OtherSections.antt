@@ -18,7 +18,7 @@ use Rattle.candidate_executions.specs.declared.event.Kind.TheVariants as union
 use Rattle.candidate_executions.specs.Traces.{Trace, load_of, store_of, exchange_of, after, entered, traced, trace, gaps_of}
 use Rattle.candidate_executions.specs.Candidates.{Candidate, trace_of, access, Writes, IsCandidate, HasOutcome}
 use Rattle.candidate_executions.specs.Consistency.{Relates, Edge, IsAcyclic}
-use Rattle.candidate_executions.specs.RunCandidates.{Mark, Takes, Arrives, Reads, IsStored, IsInOrder}
+use Rattle.candidate_executions.specs.RunCandidates.{Mark, Takes, Arrives, ReadsValue, IsStored, ArriveInOrder}
 use Rattle.candidate_executions.specs.Values.{IsValueOf}
 use Rattle.candidate_executions.proofs.WiderRelations.{acyclic_narrower}
 
@@ -77,7 +77,7 @@ module _ (p : Listing) (c : Candidate) where
       let (y, b, s) = also mode other e x a in
       (y, b, sym (ap (λ (z : Access). z.location) s) ∙ q, sym (ap (λ (z : Access). z.written) s) ∙ w)
 
-  pub reads_too : (mode other : Mode) (e : Event) (v : ℕ) → Reads (access p mode c) e v → Reads (access p other c) e v
+  pub reads_too : (mode other : Mode) (e : Event) (v : ℕ) → ReadsValue (access p mode c) e v → ReadsValue (access p other c) e v
   reads_too mode other e v (x, a, r) =
       let (y, b, s) = also mode other e x a in
       (y, b, sym (ap (λ (z : Access). z.read) s) ∙ r)
@@ -88,7 +88,7 @@ module _ (p : Listing) (c : Candidate) where
       let (y, b, s) = also mode other (At t i) x a in
       (y, b, subst (λ (z : Access). IsSome z.written) s w)
 
-  pub in_order_too : (mode other : Mode) (m y : Mark) → IsInOrder (access p mode c) c m y → IsInOrder (access p other c) c m y
+  pub in_order_too : (mode other : Mode) (m y : Mark) → ArriveInOrder (access p mode c) c m y → ArriveInOrder (access p other c) c m y
   in_order_too mode other (Takes e v d) y h = tt
   in_order_too mode other (Arrives d) (Takes e v f) h = tt
   in_order_too mode other (Arrives d) (Arrives e) h = λ l v w a b. h l v w (writes other mode d l v a) (writes other mode e l w b)

@@ -112,8 +112,8 @@ abbrev pub marks_of : Listing → Mode → List Label → List Mark
 marks_of p mode labels = marks p mode (start p) first_origins labels
 
 -- e reads v
-abbrev pub Reads : (Event → Option Access) → Event → ℕ → Type 0
-Reads at e v = (x : Access) × (at e ≡ Some x) × (x.read ≡ Some v)
+abbrev pub ReadsValue : (Event → Option Access) → Event → ℕ → Type 0
+ReadsValue at e v = (x : Access) × (at e ≡ Some x) × (x.read ≡ Some v)
 
 -- e is an access that writes
 abbrev pub IsStored : (Event → Option Access) → Event → Type 0
@@ -121,16 +121,16 @@ IsStored at (Initial l) = ⊥
 IsStored at (At t i) = (x : Access) × (at (At t i) ≡ Some x) × IsSome x.written
 
 -- of two writes that reach memory, both to one location, the first has the lower rank
-abbrev pub IsInOrder : (Event → Option Access) → Candidate → Mark → Mark → Type 0
-IsInOrder at c (Takes e v d) m = Unit {0}
-IsInOrder at c (Arrives d) (Takes e v f) = Unit {0}
-IsInOrder at c (Arrives d) (Arrives e) = (l v w : ℕ) → Writes at d l v → Writes at e l w → c.rank d < c.rank e
+abbrev pub ArriveInOrder : (Event → Option Access) → Candidate → Mark → Mark → Type 0
+ArriveInOrder at c (Takes e v d) m = Unit {0}
+ArriveInOrder at c (Arrives d) (Takes e v f) = Unit {0}
+ArriveInOrder at c (Arrives d) (Arrives e) = (l v w : ℕ) → Writes at d l v → Writes at e l w → c.rank d < c.rank e
 
 -- the candidate is that of the run
 pub record IsCandidateOf (p : Listing) (mode : Mode) (labels : List Label) (c : Candidate) : Type 0 where
   -- the run's reads are the candidate's: each takes its value, and finds it in its source
-  pub takes : (e d : Event) (v : ℕ) → Contains (marks_of p mode labels) (Takes e v d) ↔ (Reads (access p mode c) e v × (c.source e ≡ d))
+  pub takes : (e d : Event) (v : ℕ) → Contains (marks_of p mode labels) (Takes e v d) ↔ (ReadsValue (access p mode c) e v × (c.source e ≡ d))
   -- the writes that reach memory are the candidate's
   pub arrives : (e : Event) → Contains (marks_of p mode labels) (Arrives e) ↔ IsStored (access p mode c) e
   -- in the candidate's order
-  pub order : AllPairs (IsInOrder (access p mode c) c) (marks_of p mode labels)
+  pub order : AllPairs (ArriveInOrder (access p mode c) c) (marks_of p mode labels)

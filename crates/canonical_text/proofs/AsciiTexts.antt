@@ -60,7 +60,7 @@ ascii_token (Number n) rest h = let small : n < 2 ^ 64 = omega (arith, h.0) in I
 ascii_token (Sign m) rest h = ascii_mark m
 ascii_token (NoToken b) rest h = absurd h
 
--- pieces that can be written one behind the other are ASCII
+-- pieces that can be written one after the other are ASCII
 pub ascii_pieces : (ps : List Piece) (rest : List ℕ) → AreApartBefore ps rest → IsAscii (text_of ps)
 ascii_pieces [] rest h = IsAscii-nil
 ascii_pieces (Gap b ∷ ps) rest h = IsAscii-cons b (text_of ps) (small_blank b h.0) (ascii_pieces ps rest h.1)

@@ -23,7 +23,7 @@ use Rattle.conditions.specs.Canonical.{enclosed_signs_of}
 use Rattle.litmus_syntax.specs.declared.ending.Quantifier.{Quantifier as Word}
 use Rattle.litmus_syntax.specs.declared.ending.Quantifier.TheVariants as word
 use Rattle.litmus_syntax.specs.Views.{PlaceView, Location, Register, EntryView, CellView, BodyView, SignView, EndingView}
-use Rattle.litmus_syntax.specs.Grammar.{NoneTwice, labels_of as all_names}
+use Rattle.litmus_syntax.specs.Grammar.{NoneTwice, labels_in_rows as all_names}
 use Rattle.litmus_syntax.specs.Places.{same_place}
 use Rattle.litmus_text.specs.declared.litmus.Litmus.{Litmus}
 use Rattle.litmus_lines.specs.FirstLine.{is_visible, AreSome}
@@ -32,12 +32,12 @@ use Rattle.litmus_text.specs.Places.{entry_place, row_places, sign_places, place
 use Rattle.litmus_text.specs.Outcomes.{is_named}
 use Rattle.litmus_text.specs.declared.label.Label.{Label}
 use Rattle.litmus_text.specs.Labels.{column, labels_behind, thread_labels, all_labels, position_in, are_found, JumpsAreFound}
-use Rattle.litmus_text.specs.Meaning.{first_value, memory_of, registers_of, thread_of, listing_of, observed_of, numbered_atom, quantifier_of, condition_of}
+use Rattle.litmus_text.specs.Meaning.{first_value, memory_of, registers_of, thread_read, listing_of, observed_of, numbered_atom, quantifier_of, condition_of}
 use Rattle.litmus_text.specs.Meaning as meaning
 use Rattle.litmus_text.specs.Texts.{AreParts, Means, StandsFor, IsFencedLitmus}
 use Rattle.litmus_text.proofs.NamesOnce.{in_order_once}
-use Rattle.canonical_text.specs.Canonical.{entries_of, labels_of, moved_labels, body_of, place_named, signs_named, word_of, ending_of, fenced_at, canonical_text}
-use Rattle.canonical_text.specs.Printable.{IsNumber, IsLocationName, IsPrintablePlace, IsPrintableEntry, IsPrintableRow, IsPrintable, IsPrintableSign, ArePrintable, IsPrintableEnding}
+use Rattle.canonical_text.specs.Canonical.{entries_of, own_labels, moved_labels, body_of, place_named, signs_named, word_of, ending_of, litmus_fenced_at, canonical_text}
+use Rattle.canonical_text.specs.Printable.{IsTextNumber, IsLocationName, IsPrintablePlace, IsPrintableEntry, IsPrintableRow, IsPrintable, IsPrintableSign, ArePrintable, IsPrintableEnding}
 use Rattle.canonical_text.specs.Laws.{HasParts, CanonicalTextIsRead}
 use Rattle.canonical_text.proofs.PrintedIsRead.{printed_is_read}
 use Rattle.canonical_text.proofs.Lists.{both_of_all, all_of_both, all_more_so, map_same, each_among}
@@ -55,7 +55,7 @@ use Rattle.canonical_text.proofs.GoodTokens.{AreGood, lexed_good, after_body, af
 -- a text's parts, which can be printed
 record IsGoodText (b : BodyView) (e : EndingView) (f : Tree Said) : Type 0 where
   some : 0 < b.threads
-  few : IsNumber b.threads
+  few : IsTextNumber b.threads
   entries : AllByRecursion (IsPrintableEntry b.threads) b.entries
   rows : AllByRecursion (IsPrintableRow b.threads) b.rows
   labels_once : NoneTwice (all_names b.rows)
@@ -112,7 +112,7 @@ module _ (b : BodyView) (e : EndingView) (f : Tree Said) (text : IsGoodText b e 
   program = fence gaps (listing_of locations b)
 
   abbrev threads : List Thread
-  threads = fenced_threads gaps 0 (map (thread_of (number_in locations) b) (range_with_len 0 b.threads))
+  threads = fenced_threads gaps 0 (map (thread_read (number_in locations) b) (range_with_len 0 b.threads))
 
   abbrev labels : List (List Label)
   labels = moved_labels gaps 0 (all_labels b)
@@ -127,7 +127,7 @@ module _ (b : BodyView) (e : EndingView) (f : Tree Said) (text : IsGoodText b e 
 
   count : length threads ≡ b.threads
   count =
-      same_count gaps 0 (map (thread_of (number_in locations) b) (range_with_len 0 b.threads)) ∙ length-map-range_with_len (thread_of (number_in locations) b) 0 b.threads
+      same_count gaps 0 (map (thread_read (number_in locations) b) (range_with_len 0 b.threads)) ∙ length-map-range_with_len (thread_read (number_in locations) b) 0 b.threads
 
   once : IsDistinct bytes_eq locations
   once = in_order_once (filter_map location_name (places b e))
@@ -149,19 +149,19 @@ module _ (b : BodyView) (e : EndingView) (f : Tree Said) (text : IsGoodText b e 
   told : AreTold locations named labels threads
   told = fences_told locations named once gaps b text.rows known_parts.0 text.jumps text.labels_once
 
-  may_stand : (t : ℕ) → AreGoodLabels (labels_of labels t)
+  may_stand : (t : ℕ) → AreGoodLabels (own_labels labels t)
   may_stand = good locations named once gaps b text.rows known_parts.0 text.jumps text.labels_once
 
-  stand_once : (t : ℕ) → NoneTwice (map label_name (labels_of labels t))
+  stand_once : (t : ℕ) → NoneTwice (map label_name (own_labels labels t))
   stand_once = names_once locations named once gaps b text.rows known_parts.0 text.jumps text.labels_once
 
-  in_turn : (t : ℕ) → Ascending 0 (length (code_of threads t)) (labels_of labels t)
+  in_turn : (t : ℕ) → Ascending 0 (length (code_of threads t)) (own_labels labels t)
   in_turn = ascending locations named once gaps b text.rows known_parts.0 text.jumps text.labels_once
 
   registers : RegistersAre held 0 threads
   registers = fences_registers (number_in locations) gaps b
 
-  small : (p : PlaceView) → IsNumber (held p)
+  small : (p : PlaceView) → IsTextNumber (held p)
   small = held_small b.threads b.entries text.entries
 
   said : IsSayable locations named b.threads f
@@ -169,7 +169,7 @@ module _ (b : BodyView) (e : EndingView) (f : Tree Said) (text : IsGoodText b e 
 
   -- ---- the labels
 
-  own_again : (t : ℕ) → t < length threads → thread_labels body.rows t ≡ labels_of labels t
+  own_again : (t : ℕ) → t < length threads → thread_labels body.rows t ≡ own_labels labels t
   own_again t lt = labels_again locations labels threads t lt named (in_turn t)
 
   label_count : length labels ≡ length threads
@@ -214,7 +214,7 @@ module _ (b : BodyView) (e : EndingView) (f : Tree Said) (text : IsGoodText b e 
   body_printable : IsPrintable body
   body_printable = record {
     some_thread = let some : 0 < length threads = omega (arith, text.some, count) in some;
-    few_threads = subst IsNumber (sym count) text.few;
+    few_threads = subst IsTextNumber (sym count) text.few;
     entries = subst (AllByRecursion (IsPrintableEntry (length threads))) (sym entries_told)
         (printable_places held (length threads) small locations (6 * 0) (threads_places named 0 (length threads)) good_names rising);
     none_twice = subst NoneTwice (sym entries_placed) (places_once locations (6 * 0) (6 * length threads) (threads_places named 0 (length threads)) once rising);
@@ -289,18 +289,18 @@ module _ (b : BodyView) (e : EndingView) (f : Tree Said) (text : IsGoodText b e 
             ∙ sym (ap (λ (es : List EntryView). first_value es (Register t r)) entries_told ∙ held_nowhere held (Register t r) named_ones (among ∙ other))
       ]
 
-  same_thread : (t : ℕ) (d : Thread) → t < length threads → get_or threads t d ≡ thread_of (number_in locations) body t
+  same_thread : (t : ℕ) (d : Thread) → t < length threads → get_or threads t d ≡ thread_read (number_in locations) body t
   same_thread t d lt =
-      let code : (get_or threads t d).code ≡ meaning.code_of (number_in locations) (position_in (thread_labels body.rows t)) body.rows t =
+      let code : (get_or threads t d).code ≡ meaning.code_in (number_in locations) (position_in (thread_labels body.rows t)) body.rows t =
       sym (ap (λ (o : Option Thread). option_map_or (λ (thread : Thread). thread.code) o []) (slice_get-get_or threads t d lt)) ∙ sym (code_again locations named labels threads told t lt)
-      ∙ ap (λ (ls : List Label). meaning.code_of (number_in locations) (position_in ls) body.rows t) (sym (own_again t lt)) in
+      ∙ ap (λ (ls : List Label). meaning.code_in (number_in locations) (position_in ls) body.rows t) (sym (own_again t lt)) in
       let values : (get_or threads t d).registers ≡ registers_of body.entries t = registers_at held t threads d lt registers ∙ (λ i. map (λ r. register_value t r lt i) all_registers) in
       λ i. record { code = code i; registers = values i }
 
-  same_threads : threads ≡ map (thread_of (number_in locations) body) (range_with_len 0 (length threads))
+  same_threads : threads ≡ map (thread_read (number_in locations) body) (range_with_len 0 (length threads))
   same_threads =
       let d : Thread = record { code = []; registers = [] } in
-      fill_by_all (thread_of (number_in locations) body) threads (length threads) d refl (λ t lt. same_thread t d lt)
+      fill_by_all (thread_read (number_in locations) body) threads (length threads) d refl (λ t lt. same_thread t d lt)
 
   same_program : program ≡ listing_of locations body
   same_program = λ i. record { threads = same_threads i; memory = same_memory i }
@@ -337,7 +337,7 @@ module _ (b : BodyView) (e : EndingView) (f : Tree Said) (text : IsGoodText b e 
 
 -- ---- of what a text stands for
 
-parts_good : (tokens : List Tok) (b : BodyView) (e : EndingView) (f : Tree Said) → AreGood tokens → AreParts tokens b e f → 0 < b.threads → IsNumber b.threads → IsGoodText b e f
+parts_good : (tokens : List Tok) (b : BodyView) (e : EndingView) (f : Tree Said) → AreGood tokens → AreParts tokens b e f → 0 < b.threads → IsTextNumber b.threads → IsGoodText b e f
 parts_good tokens b e f whole parts some few =
     let before = after_body b tokens parts.others parts.begins whole in
     let behind = after_ending b.threads e parts.others parts.ends before.1 in
@@ -355,12 +355,12 @@ parts_good tokens b e f whole parts some few =
 
 fenced_text : (name : List ℕ) (b : BodyView) (e : EndingView) (f : Tree Said) (tokens : List Tok) (gaps : SetOfGaps) → AreSome is_visible name → AreGood tokens → AreParts tokens b e f
     → IsWithinLimits (source name b e f).program.threads (source name b e f).program.memory
-    → IsFencedLitmus (canonical_text (fenced_at gaps (source name b e f))) (fenced_at gaps (source name b e f))
+    → IsFencedLitmus (canonical_text (litmus_fenced_at gaps (source name b e f))) (litmus_fenced_at gaps (source name b e f))
 fenced_text name b e f tokens gaps visible whole parts limits =
     let threads : List Thread = (source name b e f).program.threads in
-    let count : length threads ≡ b.threads = length-map-range_with_len (thread_of (number_in (names_of b e).locations) b) 0 b.threads in
+    let count : length threads ≡ b.threads = length-map-range_with_len (thread_read (number_in (names_of b e).locations) b) 0 b.threads in
     let some : 0 < b.threads = let h : 0 < length threads = limits.shared.some_thread in omega (arith, h, count) in
-    let few : IsNumber b.threads = let h : length threads ≤ 8 = limits.shared.few_threads in omega (arith, h, count) in (
+    let few : IsTextNumber b.threads = let h : length threads ≤ 8 = limits.shared.few_threads in omega (arith, h, count) in (
       stands b e f (parts_good tokens b e f whole parts some few) (gaps_in (source name b e f).program gaps) name visible,
       fencing_stays_within_limits (source name b e f).program gaps limits,
     )
@@ -381,6 +381,6 @@ canonical_is_read text litmus is gaps =
       labels = means.labels i;
     } in
     let limits : IsWithinLimits own.program.threads own.program.memory = subst (λ (l : Litmus Listing). IsWithinLimits l.program.threads l.program.memory) same is.1 in
-    let read : IsFencedLitmus (canonical_text (fenced_at gaps own)) (fenced_at gaps own) =
+    let read : IsFencedLitmus (canonical_text (litmus_fenced_at gaps own)) (litmus_fenced_at gaps own) =
     fenced_text litmus.name means.body means.ending means.formula stands_for.tokens gaps visible (lexed_good stands_for.tokens stands_for.others [] stands_for.lexes) means.parts limits in
-    subst (λ (l : Litmus Listing). IsFencedLitmus (canonical_text (fenced_at gaps l)) (fenced_at gaps l)) (sym same) read
+    subst (λ (l : Litmus Listing). IsFencedLitmus (canonical_text (litmus_fenced_at gaps l)) (litmus_fenced_at gaps l)) (sym same) read

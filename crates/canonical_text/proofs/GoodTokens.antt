@@ -12,13 +12,13 @@ use Rattle.litmus_syntax.specs.declared.ending.Quantifier.TheVariants.{Exists, N
 use Rattle.litmus_syntax.specs.Words.{column_name}
 use Rattle.litmus_syntax.specs.Views.{PlaceView, Location, Register, EntryView, CodeView, LoadImm, Copy, Load, StoreImm, Store, Xchg, Fence, CmpImm, CmpReg, Je, Jne, Jmp, CellView, BodyView, SignView, Atom, Const, Not, And, Or, Open, Close, EndingView}
 use Rattle.litmus_syntax.specs.Phrases.{◌▸◌, mark, number, Items, end, item}
-use Rattle.litmus_syntax.specs.Grammar.{register, name, memory, IsPlace, separator, IsEntryItem, NoneTwice, labels_of, place_of, HasThread, MoreColumns, last, column, IsHeader, immediate, IsCode, IsLabel, IsContent, IsCell, IsNextCell, IsRow, IsRowList, IsBody, IsObservedItem, IsObserved, IsQuantifier, IsSign, the_end, IsEnding}
-use Rattle.canonical_text.specs.Printable.{IsNumber, IsLocationName, IsLabelName, IsPrintablePlace, IsPrintableEntry, IsPrintableCode, IsPrintableContent, IsPrintableCell, IsPrintableRow, IsPrintableSign}
+use Rattle.litmus_syntax.specs.Grammar.{register, name, memory, IsPlace, separator, IsEntryItem, NoneTwice, labels_in_rows, place_of_entry, HasThread, MoreColumns, last, column, IsHeader, immediate, IsCode, IsLabelMark, IsContent, IsCell, IsNextCell, IsRow, IsRowList, IsBody, IsObservedItem, IsObserved, IsQuantifier, IsSign, the_end, IsEnding}
+use Rattle.canonical_text.specs.Printable.{IsTextNumber, IsLocationName, IsLabelName, IsPrintablePlace, IsPrintableEntry, IsPrintableCode, IsPrintableContent, IsPrintableCell, IsPrintableRow, IsPrintableSign}
 
 -- a token as texts have them
 abbrev pub IsGood : Tok → Type 0
 IsGood (Word w) = IsWord w
-IsGood (Number n) = IsNumber n
+IsGood (Number n) = IsTextNumber n
 IsGood (Sign m) = Unit {0}
 IsGood (NoToken b) = ⊥
 
@@ -43,7 +43,7 @@ lexed_good (t ∷ ts) text rest (token {others = others} h all) = (good_token t 
 after_word : (w : List ℕ) (ts rest : List Tok) → ts ≡ Word w ∷ rest → AreGood ts → IsWord w × AreGood rest
 after_word w ts rest e good = let h : AreGood (Word w ∷ rest) = subst AreGood e good in (h.0, h.1)
 
-after_number : (n : ℕ) (ts rest : List Tok) → ts ≡ Number n ∷ rest → AreGood ts → IsNumber n × AreGood rest
+after_number : (n : ℕ) (ts rest : List Tok) → ts ≡ Number n ∷ rest → AreGood ts → IsTextNumber n × AreGood rest
 after_number n ts rest e good = let h : AreGood (Number n ∷ rest) = subst AreGood e good in (h.0, h.1)
 
 after_mark : (m : Mark) (ts rest : List Tok) → ts ≡ Sign m ∷ rest → AreGood ts → AreGood rest
@@ -69,7 +69,7 @@ after_place threads (Register t r) ts rest (us, n, (vs, colon, named)) there goo
     (there, after_register r vs rest named (after_mark the.Colon us vs colon (after_number t ts us n good).1))
 
 after_valued : (threads : ℕ) (p : PlaceView) (n : ℕ) (ts rest : List Tok) → (IsPlace p ▸ mark the.Equals ▸ number n) ts rest → HasThread threads p → AreGood ts
-    → (IsPrintablePlace threads p × IsNumber n) × AreGood rest
+    → (IsPrintablePlace threads p × IsTextNumber n) × AreGood rest
 after_valued threads p n ts rest (us, place, (vs, equals, value)) there good =
     let first = after_place threads p ts us place there good in
     let second = after_number n vs rest value (after_mark the.Equals us vs equals first.1) in
@@ -85,7 +85,7 @@ after_entry : (threads : ℕ) (e : EntryView) (ts rest : List Tok) → IsEntryIt
 after_entry threads e ts rest (us, entry, separates) there good =
     let first = after_valued threads e.place e.value ts us entry there good in (first.0, after_separator the.CloseBrace us rest separates first.1)
 
-after_entries : (threads : ℕ) (es : List EntryView) (ts rest : List Tok) → Items IsEntryItem (mark the.CloseBrace) es ts rest → AllByRecursion (HasThread threads) (map place_of es) → AreGood ts
+after_entries : (threads : ℕ) (es : List EntryView) (ts rest : List Tok) → Items IsEntryItem (mark the.CloseBrace) es ts rest → AllByRecursion (HasThread threads) (map place_of_entry es) → AreGood ts
     → AllByRecursion (IsPrintableEntry threads) es × AreGood rest
 after_entries threads [] ts rest (end h) there good = (tt, after_mark the.CloseBrace ts rest h good)
 after_entries threads (e ∷ es) ts rest (item {others = us} h more) there good =
@@ -105,7 +105,7 @@ after_header threads ts rest (us, first, more) good = after_columns 1 threads us
 
 -- ---- rows
 
-after_immediate : (n : ℕ) (ts rest : List Tok) → immediate n ts rest → AreGood ts → IsNumber n × AreGood rest
+after_immediate : (n : ℕ) (ts rest : List Tok) → immediate n ts rest → AreGood ts → IsTextNumber n × AreGood rest
 after_immediate n ts rest (inl (us, dollar, value)) good = after_number n us rest value (after_mark the.Dollar ts us dollar good)
 after_immediate n ts rest (inr value) good = after_number n ts rest value good
 
@@ -144,11 +144,11 @@ after_content : (c : Option CodeView) (ts rest : List Tok) → IsContent c ts re
 after_content None ts rest h good = (tt, subst AreGood h.0 good)
 after_content (Some c) ts rest h good = after_code c ts rest h.0 good
 
-after_label : (l : List ℕ) (ts rest : List Tok) → IsLabel l ts rest → AreGood ts → IsLabelName l × AreGood rest
+after_label : (l : List ℕ) (ts rest : List Tok) → IsLabelMark l ts rest → AreGood ts → IsLabelName l × AreGood rest
 after_label l ts rest (may, (us, named, colon)) good =
     let first = after_word l ts us named good in ((first.0, may), after_mark the.Colon us rest colon first.1)
 
-after_labels : (ls : List (List ℕ)) (c : Option CodeView) (ts rest : List Tok) → Items IsLabel (IsContent c) ls ts rest → AreGood ts → (AllByRecursion IsLabelName ls × IsPrintableContent c) × AreGood rest
+after_labels : (ls : List (List ℕ)) (c : Option CodeView) (ts rest : List Tok) → Items IsLabelMark (IsContent c) ls ts rest → AreGood ts → (AllByRecursion IsLabelName ls × IsPrintableContent c) × AreGood rest
 after_labels [] c ts rest (end h) good = let last' = after_content c ts rest h good in ((tt, last'.0), last'.1)
 after_labels (l ∷ ls) c ts rest (item {others = us} h more) good =
     let first = after_label l ts us h good in
@@ -183,10 +183,10 @@ after_rows threads (row ∷ rows) ts rest (item {others = us} h more) good =
 
 -- what stands before the ending can be printed, and no label stands twice in its thread
 pub after_body : (b : BodyView) (ts rest : List Tok) → IsBody b ts rest → AreGood ts
-    → ((AllByRecursion (IsPrintableEntry b.threads) b.entries × AllByRecursion (IsPrintableRow b.threads) b.rows) × NoneTwice (labels_of b.rows)) × AreGood rest
+    → ((AllByRecursion (IsPrintableEntry b.threads) b.entries × AllByRecursion (IsPrintableRow b.threads) b.rows) × NoneTwice (labels_in_rows b.rows)) × AreGood rest
 after_body b ts rest ((us, initial, (vs, header, rows)), there) good =
     let open' = initial.0 in
-    let first = after_entries b.threads b.entries open'.0 us open'.2 (recursion_from_All (HasThread b.threads) (map place_of b.entries) there) (after_mark the.OpenBrace ts open'.0 open'.1 good) in
+    let first = after_entries b.threads b.entries open'.0 us open'.2 (recursion_from_All (HasThread b.threads) (map place_of_entry b.entries) there) (after_mark the.OpenBrace ts open'.0 open'.1 good) in
     let second = after_rows b.threads b.rows vs rest rows.0 (after_header b.threads us vs header first.1) in
     (((first.0, second.0), rows.1), second.1)
 

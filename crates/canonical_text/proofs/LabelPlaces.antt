@@ -11,7 +11,7 @@ use Rattle.std.proofs.lemmas.List.Elements.{filter_map-append}
 use Rattle.tso_program.specs.Fences.{Gaps, place_of}
 use Rattle.tso_program.proofs.FencedLimits.{rises}
 use Rattle.litmus_text.specs.declared.label.Label.{Label}
-use Rattle.canonical_text.specs.Canonical.{named_at, labels_at, labels_of, moved_label, moved_labels}
+use Rattle.canonical_text.specs.Canonical.{named_at, label_names_at, own_labels, moved_label, moved_labels}
 
 -- ---- places of a fenced thread
 
@@ -44,18 +44,18 @@ place_between gap k place before after j e =
 
 -- ---- labels of a position
 
-pub labels_more : (labels : List Label) (i k : ℕ) (d : Label) → i < length labels → labels_at (take (i + 1) labels) k ≡ labels_at (take i labels) k ++ option_to_list (named_at k (get_or labels i d))
+pub labels_more : (labels : List Label) (i k : ℕ) (d : Label) → i < length labels → label_names_at (take (i + 1) labels) k ≡ label_names_at (take i labels) k ++ option_to_list (named_at k (get_or labels i d))
 labels_more labels i k d lt =
-    ap (λ (ls : List Label). labels_at ls k) (take_more labels i d lt)
+    ap (λ (ls : List Label). label_names_at ls k) (take_more labels i d lt)
     ∙ filter_map-append (named_at k) (take i labels) (get_or labels i d ∷ [])
-    ∙ ap (λ (ns : List (List ℕ)). labels_at (take i labels) k ++ ns) (alone (named_at k (get_or labels i d)))
+    ∙ ap (λ (ns : List (List ℕ)). label_names_at (take i labels) k ++ ns) (alone (named_at k (get_or labels i d)))
   where
     alone : (o : Option (List ℕ)) → cons_option o [] ≡ option_to_list o
     alone (Some x) = refl
     alone None = refl
 
-pub labels_left : (labels : List Label) (i k : ℕ) (d : Label) → i < length labels → labels_at (drop i labels) k ≡ cons_option (named_at k (get_or labels i d)) (labels_at (drop (i + 1) labels) k)
-labels_left labels i k d lt = ap (λ (ls : List Label). labels_at ls k) (drop_more labels i d lt)
+pub labels_left : (labels : List Label) (i k : ℕ) (d : Label) → i < length labels → label_names_at (drop i labels) k ≡ cons_option (named_at k (get_or labels i d)) (label_names_at (drop (i + 1) labels) k)
+labels_left labels i k d lt = ap (λ (ls : List Label). label_names_at ls k) (drop_more labels i d lt)
 
 pub here : (k : ℕ) (l : Label) → l.position ≡ k → named_at k l ≡ Some l.name
 here k l e = ap (λ (b : Bool). if b then Some l.name else None) ((Decides-eqb l.position k).1 e)
@@ -68,31 +68,31 @@ pub elsewhere : (k : ℕ) (l : Label) → (l.position ≡ k → ⊥) → named_a
 elsewhere k l other = ap (λ (b : Bool). if b then Some l.name else None) (not_true (l.position == k) (λ t. other ((Decides-eqb l.position k).0 t)))
 
 -- one more label, and another's
-pub label_here : (labels : List Label) (i k : ℕ) (l : Label) → i < length labels → l ≡ get_or labels i l → l.position ≡ k → labels_at (take (i + 1) labels) k ≡ labels_at (take i labels) k ++ l.name ∷ []
+pub label_here : (labels : List Label) (i k : ℕ) (l : Label) → i < length labels → l ≡ get_or labels i l → l.position ≡ k → label_names_at (take (i + 1) labels) k ≡ label_names_at (take i labels) k ++ l.name ∷ []
 label_here labels i k l lt is e =
-    labels_more labels i k l lt ∙ ap (λ (m : Label). labels_at (take i labels) k ++ option_to_list (named_at k m)) (sym is)
-    ∙ ap (λ (o : Option (List ℕ)). labels_at (take i labels) k ++ option_to_list o) (here k l e)
+    labels_more labels i k l lt ∙ ap (λ (m : Label). label_names_at (take i labels) k ++ option_to_list (named_at k m)) (sym is)
+    ∙ ap (λ (o : Option (List ℕ)). label_names_at (take i labels) k ++ option_to_list o) (here k l e)
 
-pub label_elsewhere : (labels : List Label) (i k : ℕ) (l : Label) → i < length labels → l ≡ get_or labels i l → (l.position ≡ k → ⊥) → labels_at (take (i + 1) labels) k ≡ labels_at (take i labels) k
+pub label_elsewhere : (labels : List Label) (i k : ℕ) (l : Label) → i < length labels → l ≡ get_or labels i l → (l.position ≡ k → ⊥) → label_names_at (take (i + 1) labels) k ≡ label_names_at (take i labels) k
 label_elsewhere labels i k l lt is other =
-    labels_more labels i k l lt ∙ ap (λ (m : Label). labels_at (take i labels) k ++ option_to_list (named_at k m)) (sym is)
-    ∙ ap (λ (o : Option (List ℕ)). labels_at (take i labels) k ++ option_to_list o) (elsewhere k l other) ∙ append-nil (labels_at (take i labels) k)
+    labels_more labels i k l lt ∙ ap (λ (m : Label). label_names_at (take i labels) k ++ option_to_list (named_at k m)) (sym is)
+    ∙ ap (λ (o : Option (List ℕ)). label_names_at (take i labels) k ++ option_to_list o) (elsewhere k l other) ∙ append-nil (label_names_at (take i labels) k)
 
 -- the label that comes first of those that are left
-pub left_here : (labels : List Label) (i k : ℕ) (l : Label) → i < length labels → l ≡ get_or labels i l → l.position ≡ k → labels_at (drop i labels) k ≡ l.name ∷ labels_at (drop (i + 1) labels) k
+pub left_here : (labels : List Label) (i k : ℕ) (l : Label) → i < length labels → l ≡ get_or labels i l → l.position ≡ k → label_names_at (drop i labels) k ≡ l.name ∷ label_names_at (drop (i + 1) labels) k
 left_here labels i k l lt is e =
-    labels_left labels i k l lt ∙ ap (λ (m : Label). cons_option (named_at k m) (labels_at (drop (i + 1) labels) k)) (sym is)
-    ∙ ap (λ (o : Option (List ℕ)). cons_option o (labels_at (drop (i + 1) labels) k)) (here k l e)
+    labels_left labels i k l lt ∙ ap (λ (m : Label). cons_option (named_at k m) (label_names_at (drop (i + 1) labels) k)) (sym is)
+    ∙ ap (λ (o : Option (List ℕ)). cons_option o (label_names_at (drop (i + 1) labels) k)) (here k l e)
 
-pub left_elsewhere : (labels : List Label) (i k : ℕ) (l : Label) → i < length labels → l ≡ get_or labels i l → (l.position ≡ k → ⊥) → labels_at (drop i labels) k ≡ labels_at (drop (i + 1) labels) k
+pub left_elsewhere : (labels : List Label) (i k : ℕ) (l : Label) → i < length labels → l ≡ get_or labels i l → (l.position ≡ k → ⊥) → label_names_at (drop i labels) k ≡ label_names_at (drop (i + 1) labels) k
 left_elsewhere labels i k l lt is other =
-    labels_left labels i k l lt ∙ ap (λ (m : Label). cons_option (named_at k m) (labels_at (drop (i + 1) labels) k)) (sym is)
-    ∙ ap (λ (o : Option (List ℕ)). cons_option o (labels_at (drop (i + 1) labels) k)) (elsewhere k l other)
+    labels_left labels i k l lt ∙ ap (λ (m : Label). cons_option (named_at k m) (label_names_at (drop (i + 1) labels) k)) (sym is)
+    ∙ ap (λ (o : Option (List ℕ)). cons_option o (label_names_at (drop (i + 1) labels) k)) (elsewhere k l other)
 
 -- ---- labels that are moved
 
 -- the labels of a position are those of its place
-pub labels_moved : (gap : ℕ → Bool) (labels : List Label) (k place : ℕ) → place_of gap k ≡ place → labels_at (map (moved_label gap) labels) place ≡ labels_at labels k
+pub labels_moved : (gap : ℕ → Bool) (labels : List Label) (k place : ℕ) → place_of gap k ≡ place → label_names_at (map (moved_label gap) labels) place ≡ label_names_at labels k
 labels_moved gap [] k place e = refl
 labels_moved gap (l ∷ labels) k place e =
     let decides : Decides (place_of gap l.position == place) (l.position ≡ k) = (
@@ -100,27 +100,27 @@ labels_moved gap (l ∷ labels) k place e =
       λ same. (Decides-eqb (place_of gap l.position) place).1 (ap (place_of gap) same ∙ e),
     ) in
     let test : (place_of gap l.position == place) ≡ (l.position == k) = same_from_decides (place_of gap l.position == place) (l.position == k) decides (Decides-eqb l.position k) in
-    ap (λ (b : Bool). cons_option (if b then Some l.name else None) (labels_at (map (moved_label gap) labels) place)) test
+    ap (λ (b : Bool). cons_option (if b then Some l.name else None) (label_names_at (map (moved_label gap) labels) place)) test
     ∙ ap (λ (ns : List (List ℕ)). cons_option (named_at k l) ns) (labels_moved gap labels k place e)
 
 -- a place without a position has none
-pub labels_nowhere : (gap : ℕ → Bool) (labels : List Label) (place : ℕ) → ((k : ℕ) → place_of gap k ≢ place) → labels_at (map (moved_label gap) labels) place ≡ []
+pub labels_nowhere : (gap : ℕ → Bool) (labels : List Label) (place : ℕ) → ((k : ℕ) → place_of gap k ≢ place) → label_names_at (map (moved_label gap) labels) place ≡ []
 labels_nowhere gap [] place none = refl
 labels_nowhere gap (l ∷ labels) place none =
-    ap (λ (o : Option (List ℕ)). cons_option o (labels_at (map (moved_label gap) labels) place)) (elsewhere place (moved_label gap l) (none l.position)) ∙ labels_nowhere gap labels place none
+    ap (λ (o : Option (List ℕ)). cons_option o (label_names_at (map (moved_label gap) labels) place)) (elsewhere place (moved_label gap l) (none l.position)) ∙ labels_nowhere gap labels place none
 
-moved_from : (gaps : Gaps) (n t : ℕ) (labels : List (List Label)) → labels_of (moved_labels gaps n labels) t ≡ map (moved_label (gaps (n + t))) (labels_of labels t)
+moved_from : (gaps : Gaps) (n t : ℕ) (labels : List (List Label)) → own_labels (moved_labels gaps n labels) t ≡ map (moved_label (gaps (n + t))) (own_labels labels t)
 moved_from gaps n t [] = refl
 moved_from gaps n zero (ls ∷ labels) = let e : n ≡ n + 0 = omega arith in ap (λ (m : ℕ). map (moved_label (gaps m)) ls) e
-moved_from gaps n (suc t) (ls ∷ labels) = let e : (n + 1) + t ≡ n + suc t = omega arith in moved_from gaps (n + 1) t labels ∙ ap (λ (m : ℕ). map (moved_label (gaps m)) (labels_of labels t)) e
+moved_from gaps n (suc t) (ls ∷ labels) = let e : (n + 1) + t ≡ n + suc t = omega arith in moved_from gaps (n + 1) t labels ∙ ap (λ (m : ℕ). map (moved_label (gaps m)) (own_labels labels t)) e
 
 -- thread t's labels, moved
-pub moved_of : (gaps : Gaps) (t : ℕ) (labels : List (List Label)) → labels_of (moved_labels gaps 0 labels) t ≡ map (moved_label (gaps t)) (labels_of labels t)
-moved_of gaps t labels = let e : 0 + t ≡ t = omega arith in moved_from gaps 0 t labels ∙ ap (λ (m : ℕ). map (moved_label (gaps m)) (labels_of labels t)) e
+pub moved_of : (gaps : Gaps) (t : ℕ) (labels : List (List Label)) → own_labels (moved_labels gaps 0 labels) t ≡ map (moved_label (gaps t)) (own_labels labels t)
+moved_of gaps t labels = let e : 0 + t ≡ t = omega arith in moved_from gaps 0 t labels ∙ ap (λ (m : ℕ). map (moved_label (gaps m)) (own_labels labels t)) e
 
 -- the labels at a place of thread t
-pub moved_at : (gaps : Gaps) (t k place : ℕ) (labels : List (List Label)) → place_of (gaps t) k ≡ place → labels_at (labels_of (moved_labels gaps 0 labels) t) place ≡ labels_at (labels_of labels t) k
-moved_at gaps t k place labels e = ap (λ (ls : List Label). labels_at ls place) (moved_of gaps t labels) ∙ labels_moved (gaps t) (labels_of labels t) k place e
+pub moved_at : (gaps : Gaps) (t k place : ℕ) (labels : List (List Label)) → place_of (gaps t) k ≡ place → label_names_at (own_labels (moved_labels gaps 0 labels) t) place ≡ label_names_at (own_labels labels t) k
+moved_at gaps t k place labels e = ap (λ (ls : List Label). label_names_at ls place) (moved_of gaps t labels) ∙ labels_moved (gaps t) (own_labels labels t) k place e
 
-pub moved_nowhere : (gaps : Gaps) (t place : ℕ) (labels : List (List Label)) → ((k : ℕ) → place_of (gaps t) k ≢ place) → labels_at (labels_of (moved_labels gaps 0 labels) t) place ≡ []
-moved_nowhere gaps t place labels none = ap (λ (ls : List Label). labels_at ls place) (moved_of gaps t labels) ∙ labels_nowhere (gaps t) (labels_of labels t) place none
+pub moved_nowhere : (gaps : Gaps) (t place : ℕ) (labels : List (List Label)) → ((k : ℕ) → place_of (gaps t) k ≢ place) → label_names_at (own_labels (moved_labels gaps 0 labels) t) place ≡ []
+moved_nowhere gaps t place labels none = ap (λ (ls : List Label). label_names_at ls place) (moved_of gaps t labels) ∙ labels_nowhere (gaps t) (own_labels labels t) place none

@@ -16,7 +16,7 @@ use Rattle.litmus_text.specs.declared.label.Label.{Label}
 use Rattle.litmus_text.specs.Labels.{column, size, labels_behind, thread_labels}
 use Rattle.litmus_text.specs.Meaning.{instruction_of, instruction_in}
 use Rattle.litmus_text.specs.Meaning as meaning
-use Rattle.canonical_text.specs.Canonical.{labels_at, labels_of, moved_label, code_named, cell_of, row_of, most_cells, rows_of}
+use Rattle.canonical_text.specs.Canonical.{label_names_at, own_labels, moved_label, code_named, cell_of, row_of, most_cells, rows_of}
 use Rattle.canonical_text.specs.Printable.{IsLabelName, IsPrintableCell, IsPrintableRow}
 use Rattle.canonical_text.proofs.LabelsNamed.{AreGoodLabels, Ascending, ascending_from, Before, none_at_end, before_more, none_past, standing, all_standing}
 use Rattle.canonical_text.proofs.ToldCode.{within_most}
@@ -52,15 +52,15 @@ one_row : (f : CodeView → Instr) (o : Option CellView) (is : List Instr) (cs :
 one_row f None is cs e = e
 one_row f (Some c) is cs e = one_code f c.code is (instructions cs) e
 
-code_length : (numbered positioned : List ℕ → ℕ) (rows : List (List CellView)) (t : ℕ) → length (meaning.code_of numbered positioned rows t) ≡ instructions (column rows t)
+code_length : (numbered positioned : List ℕ → ℕ) (rows : List (List CellView)) (t : ℕ) → length (meaning.code_in numbered positioned rows t) ≡ instructions (column rows t)
 code_length numbered positioned [] t = refl
 code_length numbered positioned (row ∷ rows) t =
-    one_row (instruction_of numbered positioned) (slice_get row t) (meaning.code_of numbered positioned rows t) (column rows t) (code_length numbered positioned rows t)
+    one_row (instruction_of numbered positioned) (slice_get row t) (meaning.code_in numbered positioned rows t) (column rows t) (code_length numbered positioned rows t)
 
 -- a thread's labels stand in order, up to its end
-pub thread_ascending : (numbered positioned : List ℕ → ℕ) (rows : List (List CellView)) (t : ℕ) → Ascending 0 (length (meaning.code_of numbered positioned rows t)) (thread_labels rows t)
+pub thread_ascending : (numbered positioned : List ℕ → ℕ) (rows : List (List CellView)) (t : ℕ) → Ascending 0 (length (meaning.code_in numbered positioned rows t)) (thread_labels rows t)
 thread_ascending numbered positioned rows t =
-    let same : 0 + instructions (column rows t) ≡ length (meaning.code_of numbered positioned rows t) = omega (arith, code_length numbered positioned rows t) in
+    let same : 0 + instructions (column rows t) ≡ length (meaning.code_in numbered positioned rows t) = omega (arith, code_length numbered positioned rows t) in
     subst (λ (n : ℕ). Ascending 0 n (thread_labels rows t)) same (behind_ascending 0 (column rows t))
 
 -- so do they where their fences are
@@ -108,7 +108,7 @@ moved_good gap (l ∷ labels) h = (h.0, moved_good gap labels h.1)
 module _ (labels : List Label) (code : List Instr) (named : Instr → CodeView) (order : Ascending 0 (length code) labels) where
   -- row k's cell of a thread with these labels and this code
   abbrev pub cell : ℕ → CellView
-  cell k = record { labels = labels_at labels k; code = option_map named (slice_get code k) }
+  cell k = record { labels = label_names_at labels k; code = option_map named (slice_get code k) }
 
   nothing_behind : (j a m : ℕ) → length code < a → labels_behind j (map cell (range_with_len a m)) ≡ []
   nothing_behind j a zero lt = refl
@@ -152,7 +152,7 @@ before_wider : (n m : ℕ) (labels : List Label) → n ≤ m → Before n labels
 before_wider n m [] le h = tt
 before_wider n m (l ∷ labels) le h = (omega (arith, h.0), before_wider n m labels le h.1)
 
-enough : (labels : List Label) (n m : ℕ) (b : Bool) → nat_lt 0 (length (labels_at labels n)) ≡ b → Ascending 0 n labels → n + (if b then 1 else 0) ≤ m → Before m labels
+enough : (labels : List Label) (n m : ℕ) (b : Bool) → nat_lt 0 (length (label_names_at labels n)) ≡ b → Ascending 0 n labels → n + (if b then 1 else 0) ≤ m → Before m labels
 enough labels n m true e order le = before_more 0 n m labels order (omega (arith, le))
 enough labels n m false e order le = before_wider n m labels (omega (arith, le)) (none_at_end 0 n labels order e)
 
@@ -167,10 +167,10 @@ module _ (names : List (List ℕ)) (labels : List (List Label)) (threads : List 
       ∙ ap (λ (cs : List CellView). thread_cell a ∷ cs) (column_made (a + 1) m)
 
   -- the labels of thread t in the canonical rows
-  pub labels_again : (named : Named) → Ascending 0 (length (code_of threads t)) (labels_of labels t) → thread_labels (rows_of names labels threads) t ≡ labels_of labels t
+  pub labels_again : (named : Named) → Ascending 0 (length (code_of threads t)) (own_labels labels t) → thread_labels (rows_of names labels threads) t ≡ own_labels labels t
   labels_again named order =
-      let own : List Label = labels_of labels t in
+      let own : List Label = own_labels labels t in
       let code : List Instr = code_of threads t in
       let most : ℕ = most_cells labels 0 threads in
       ap (labels_behind 0) (column_made 0 most)
-      ∙ cells_labels own code (code_named names own) order most (enough own (length code) most (nat_lt 0 (length (labels_at own (length code)))) refl order (within_most names named labels threads t lt))
+      ∙ cells_labels own code (code_named names own) order most (enough own (length code) most (nat_lt 0 (length (label_names_at own (length code)))) refl order (within_most names named labels threads t lt))

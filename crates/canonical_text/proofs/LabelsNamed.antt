@@ -11,7 +11,7 @@ use Rattle.litmus_syntax.specs.Grammar.{IsNoneOf, NoneTwice}
 use Rattle.litmus_text.specs.declared.label.Label.{Label}
 use Rattle.litmus_text.specs.Labels.{label_in, position_in}
 use Rattle.canonical_text.specs.Printable.{IsLabelName}
-use Rattle.canonical_text.specs.Canonical.{named_at, labels_at, label_at}
+use Rattle.canonical_text.specs.Canonical.{named_at, label_names_at, label_name_at}
 use Rattle.canonical_text.proofs.LabelPlaces.{here, elsewhere}
 
 abbrev pub label_name : Label → List ℕ
@@ -19,7 +19,7 @@ label_name l = l.name
 
 -- some label stands at the position
 abbrev pub SomeAt : List Label → ℕ → Type 0
-SomeAt labels k = 0 < length (labels_at labels k)
+SomeAt labels k = 0 < length (label_names_at labels k)
 
 -- ---- the first label of a position
 
@@ -34,20 +34,20 @@ at_or_not C k l same other =
       | inr f ↦ other (λ e. false_not_true (l.position == k) f ((Decides-eqb l.position k).1 e))
     ]
 
-at_here : (l : Label) (labels : List Label) (k : ℕ) → l.position ≡ k → labels_at (l ∷ labels) k ≡ l.name ∷ labels_at labels k
-at_here l labels k e = ap (λ (o : Option (List ℕ)). cons_option o (labels_at labels k)) (here k l e)
+at_here : (l : Label) (labels : List Label) (k : ℕ) → l.position ≡ k → label_names_at (l ∷ labels) k ≡ l.name ∷ label_names_at labels k
+at_here l labels k e = ap (λ (o : Option (List ℕ)). cons_option o (label_names_at labels k)) (here k l e)
 
-at_others : (l : Label) (labels : List Label) (k : ℕ) → (l.position ≡ k → ⊥) → labels_at (l ∷ labels) k ≡ labels_at labels k
-at_others l labels k other = ap (λ (o : Option (List ℕ)). cons_option o (labels_at labels k)) (elsewhere k l other)
+at_others : (l : Label) (labels : List Label) (k : ℕ) → (l.position ≡ k → ⊥) → label_names_at (l ∷ labels) k ≡ label_names_at labels k
+at_others l labels k other = ap (λ (o : Option (List ℕ)). cons_option o (label_names_at labels k)) (elsewhere k l other)
 
 abbrev first : List (List ℕ) → List ℕ
 first ns = slice_index_or ns 0 []
 
--- it is none of the names that stand nowhere
-not_among : (x : List ℕ) (labels : List Label) (k : ℕ) → IsNoneOf x (map label_name labels) → SomeAt labels k → x ≢ label_at labels k
+-- it is not any of the names that stand nowhere
+not_among : (x : List ℕ) (labels : List Label) (k : ℕ) → IsNoneOf x (map label_name labels) → SomeAt labels k → x ≢ label_name_at labels k
 not_among x [] k h some = absurd (omega (arith, some))
 not_among x (l ∷ labels) k h some =
-    at_or_not (x ≢ label_at (l ∷ labels) k) k l
+    at_or_not (x ≢ label_name_at (l ∷ labels) k) k l
     (λ at e. h.0 (e ∙ ap first (at_here l labels k at)))
     (λ other e. not_among x labels k h.1 (subst (λ (ns : List (List ℕ)). 0 < length ns) (at_others l labels k other) some) (e ∙ ap first (at_others l labels k other)))
 
@@ -64,19 +64,19 @@ StandsAt k None = ⊥
 StandsAt k (Some l) = l.position ≡ k
 
 -- the label that it names stands at the position
-pub label_there : (labels : List Label) (k : ℕ) → NoneTwice (map label_name labels) → SomeAt labels k → StandsAt k (label_in labels (label_at labels k))
+pub label_there : (labels : List Label) (k : ℕ) → NoneTwice (map label_name labels) → SomeAt labels k → StandsAt k (label_in labels (label_name_at labels k))
 label_there [] k once some = absurd (omega (arith, some))
 label_there (l ∷ labels) k once some =
     let goal : List ℕ → Bool → Type 0 = λ name b. StandsAt k (cond b (Some l) (label_in labels name)) in
-    at_or_not (StandsAt k (label_in (l ∷ labels) (label_at (l ∷ labels) k))) k l
+    at_or_not (StandsAt k (label_in (l ∷ labels) (label_name_at (l ∷ labels) k))) k l
     (λ at.
-    let same : bytes_eq l.name (label_at (l ∷ labels) k) ≡ true = (bytes_eq-Decides l.name (label_at (l ∷ labels) k)).1 (sym (ap first (at_here l labels k at))) in
-    subst (goal (label_at (l ∷ labels) k)) (sym same) at)
+    let same : bytes_eq l.name (label_name_at (l ∷ labels) k) ≡ true = (bytes_eq-Decides l.name (label_name_at (l ∷ labels) k)).1 (sym (ap first (at_here l labels k at))) in
+    subst (goal (label_name_at (l ∷ labels) k)) (sym same) at)
     (λ other.
     let rest : SomeAt labels k = subst (λ (ns : List (List ℕ)). 0 < length ns) (at_others l labels k other) some in
-    let name : label_at labels k ≡ label_at (l ∷ labels) k = sym (ap first (at_others l labels k other)) in
-    let apart : bytes_eq l.name (label_at labels k) ≡ false = different l.name (label_at labels k) (not_among l.name labels k once.0 rest) in
-    subst (λ (n : List ℕ). goal n (bytes_eq l.name n)) name (subst (goal (label_at labels k)) (sym apart) (label_there labels k once.1 rest)))
+    let name : label_name_at labels k ≡ label_name_at (l ∷ labels) k = sym (ap first (at_others l labels k other)) in
+    let apart : bytes_eq l.name (label_name_at labels k) ≡ false = different l.name (label_name_at labels k) (not_among l.name labels k once.0 rest) in
+    subst (λ (n : List ℕ). goal n (bytes_eq l.name n)) name (subst (goal (label_name_at labels k)) (sym apart) (label_there labels k once.1 rest)))
 
 position_by : (k : ℕ) (o : Option Label) → StandsAt k o → option_map_or (λ l. l.position) o 0 ≡ k
 position_by k None h = absurd h
@@ -86,22 +86,22 @@ found_by : (k : ℕ) (o : Option Label) → StandsAt k o → is_some o ≡ true
 found_by k None h = absurd h
 found_by k (Some l) h = refl
 
-pub position_again : (labels : List Label) (k : ℕ) → NoneTwice (map label_name labels) → SomeAt labels k → position_in labels (label_at labels k) ≡ k
-position_again labels k once some = position_by k (label_in labels (label_at labels k)) (label_there labels k once some)
+pub position_again : (labels : List Label) (k : ℕ) → NoneTwice (map label_name labels) → SomeAt labels k → position_in labels (label_name_at labels k) ≡ k
+position_again labels k once some = position_by k (label_in labels (label_name_at labels k)) (label_there labels k once some)
 
-pub label_found : (labels : List Label) (k : ℕ) → NoneTwice (map label_name labels) → SomeAt labels k → is_some (label_in labels (label_at labels k)) ≡ true
-label_found labels k once some = found_by k (label_in labels (label_at labels k)) (label_there labels k once some)
+pub label_found : (labels : List Label) (k : ℕ) → NoneTwice (map label_name labels) → SomeAt labels k → is_some (label_in labels (label_name_at labels k)) ≡ true
+label_found labels k once some = found_by k (label_in labels (label_name_at labels k)) (label_there labels k once some)
 
 -- ---- names that may stand
 
 abbrev pub AreGoodLabels : List Label → Type 0
 AreGoodLabels labels = AllByRecursion (λ (l : Label). IsLabelName l.name) labels
 
-pub labels_good : (labels : List Label) (k : ℕ) → AreGoodLabels labels → AllByRecursion IsLabelName (labels_at labels k)
+pub labels_good : (labels : List Label) (k : ℕ) → AreGoodLabels labels → AllByRecursion IsLabelName (label_names_at labels k)
 labels_good [] k h = tt
 labels_good (l ∷ labels) k h =
     let all : List (List ℕ) → Type 0 = λ ns. AllByRecursion IsLabelName ns in
-    at_or_not (all (labels_at (l ∷ labels) k)) k l
+    at_or_not (all (label_names_at (l ∷ labels) k)) k l
     (λ at. subst all (sym (at_here l labels k at)) (h.0, labels_good labels k h.1))
     (λ other. subst all (sym (at_others l labels k other)) (labels_good labels k h.1))
 
@@ -109,8 +109,8 @@ first_good : (ns : List (List ℕ)) → 0 < length ns → AllByRecursion IsLabel
 first_good [] some h = absurd (omega (arith, some))
 first_good (n ∷ ns) some h = h.0
 
-pub label_good : (labels : List Label) (k : ℕ) → AreGoodLabels labels → SomeAt labels k → IsLabelName (label_at labels k)
-label_good labels k h some = first_good (labels_at labels k) some (labels_good labels k h)
+pub label_good : (labels : List Label) (k : ℕ) → AreGoodLabels labels → SomeAt labels k → IsLabelName (label_name_at labels k)
+label_good labels k h some = first_good (label_names_at labels k) some (labels_good labels k h)
 
 -- a label that is found stands at its position
 pub found_stands : (labels : List Label) (name : List ℕ) → is_some (label_in labels name) ≡ true → SomeAt labels (position_in labels name)
@@ -121,7 +121,7 @@ found_stands (l ∷ labels) name h =
     elim (cases_Bool (bytes_eq l.name name)) [
       | inl t ↦
           let there : l.position ≡ at (bytes_eq l.name name) = sym (ap at t) in
-          let more : 0 < length (labels_at (l ∷ labels) (at (bytes_eq l.name name))) = subst (λ (ns : List (List ℕ)). 0 < length ns) (sym (at_here l labels (at (bytes_eq l.name name)) there)) (omega arith) in
+          let more : 0 < length (label_names_at (l ∷ labels) (at (bytes_eq l.name name))) = subst (λ (ns : List (List ℕ)). 0 < length ns) (sym (at_here l labels (at (bytes_eq l.name name)) there)) (omega arith) in
           more
       | inr f ↦
           let found : is_some rest ≡ true = sym (ap (λ (b : Bool). is_some (cond b (Some l) rest)) f) ∙ h in
@@ -135,7 +135,7 @@ found_stands (l ∷ labels) name h =
     longer (Some x) ns h = omega arith
 
     some_more : (l : Label) (labels : List Label) (k : ℕ) → SomeAt labels k → SomeAt (l ∷ labels) k
-    some_more l labels k h = longer (named_at k l) (labels_at labels k) h
+    some_more l labels k h = longer (named_at k l) (label_names_at labels k) h
 
 -- ---- labels in the order of their positions
 
@@ -152,12 +152,12 @@ ascending_from j k n (l ∷ labels) le h = (omega (arith, h.0), h.1, h.2)
 abbrev pub Before : ℕ → List Label → Type 0
 Before n labels = AllByRecursion (λ (l : Label). l.position < n) labels
 
-pub none_at_end : (k n : ℕ) (labels : List Label) → Ascending k n labels → nat_lt 0 (length (labels_at labels n)) ≡ false → Before n labels
+pub none_at_end : (k n : ℕ) (labels : List Label) → Ascending k n labels → nat_lt 0 (length (label_names_at labels n)) ≡ false → Before n labels
 none_at_end k n [] h none = tt
 none_at_end k n (l ∷ labels) h none =
     at_or_not (Before n (l ∷ labels)) n l
     (λ at.
-    let some : nat_lt 0 (length (l.name ∷ labels_at labels n)) ≡ true = lt-ltb 0 (length (l.name ∷ labels_at labels n)) (omega arith) in
+    let some : nat_lt 0 (length (l.name ∷ label_names_at labels n)) ≡ true = lt-ltb 0 (length (l.name ∷ label_names_at labels n)) (omega arith) in
     let clash : true ≡ false = sym some ∙ sym (ap (λ (ns : List (List ℕ)). nat_lt 0 (length ns)) (at_here l labels n at)) ∙ none in
     absurd cc)
     (λ other.
@@ -170,12 +170,12 @@ before_more k n m [] h lt = tt
 before_more k n m (l ∷ labels) h lt = (omega (arith, h.1), before_more l.position n m labels h.2 lt)
 
 -- none stands past all
-pub none_past : (k n r : ℕ) (labels : List Label) → Ascending k n labels → n < r → labels_at labels r ≡ []
+pub none_past : (k n r : ℕ) (labels : List Label) → Ascending k n labels → n < r → label_names_at labels r ≡ []
 none_past k n r [] h lt = refl
 none_past k n r (l ∷ labels) h lt =
     at_others l labels r (λ e. absurd (omega (arith, e, h.1, lt))) ∙ none_past l.position n r labels h.2 lt
 
-none_before : (k n r : ℕ) (labels : List Label) → Ascending k n labels → r < k → labels_at labels r ≡ []
+none_before : (k n r : ℕ) (labels : List Label) → Ascending k n labels → r < k → label_names_at labels r ≡ []
 none_before k n r [] h lt = refl
 none_before k n r (l ∷ labels) h lt =
     at_others l labels r (λ e. absurd (omega (arith, e, h.0, lt))) ∙ none_before l.position n r labels h.2 (omega (arith, h.0, lt))
@@ -185,7 +185,7 @@ stood r name = record { name = name; position = r }
 
 -- those of a position
 abbrev pub standing : List Label → ℕ → List Label
-standing labels r = map (stood r) (labels_at labels r)
+standing labels r = map (stood r) (label_names_at labels r)
 
 standing_here : (l : Label) (labels : List Label) (r : ℕ) → l.position ≡ r → standing (l ∷ labels) r ≡ l ∷ standing labels r
 standing_here l labels r e =

@@ -8,7 +8,7 @@ use Rattle.std.proofs.lemmas.Bool.Decides.{Decides-eqb}
 use Rattle.std.proofs.lemmas.List.{append-nil, map-append}
 use Rattle.std.proofs.lemmas.List.Elements.{filter_map-append}
 use Rattle.litmus_syntax.specs.Views.{CellView}
-use Rattle.litmus_syntax.specs.Grammar.{IsNoneOf, NoneTwice, labels_from, row_labels, labels_of}
+use Rattle.litmus_syntax.specs.Grammar.{IsNoneOf, NoneTwice, labels_from, row_labels, labels_in_rows}
 use Rattle.litmus_text.specs.Labels.{column, size, labels_behind, thread_labels}
 use Rattle.canonical_text.proofs.LabelsNamed.{label_name}
 
@@ -131,12 +131,12 @@ one_more : (o : Option CellView) (cells : List CellView) → labels_in o ++ flat
 one_more None cells = refl
 one_more (Some c) cells = refl
 
-rows_own : (t : ℕ) (rows : List (List CellView)) → own_names t (labels_of rows) ≡ flat_map cell_names (column rows t)
+rows_own : (t : ℕ) (rows : List (List CellView)) → own_names t (labels_in_rows rows) ≡ flat_map cell_names (column rows t)
 rows_own t [] = refl
 rows_own t (row ∷ rows) =
     let zero_first : 0 + t ≡ t = omega arith in
     let here : own_names t (row_labels row) ≡ labels_in (slice_get row t) = ap (λ (u : ℕ). own_names u (row_labels row)) (sym zero_first) ∙ row_own 0 t row in
-    filter_map-append (own_name t) (row_labels row) (labels_of rows)
+    filter_map-append (own_name t) (row_labels row) (labels_in_rows rows)
     ∙ (λ i. here i ++ rows_own t rows i)
     ∙ one_more (slice_get row t) (column rows t)
 
@@ -151,11 +151,11 @@ behind_named k (c ∷ cells) =
     ∙ (λ i. named_at_all k c.labels i ++ behind_named (k + size c) cells i)
 
 -- the names of thread t's labels
-pub thread_own : (t : ℕ) (rows : List (List CellView)) → own_names t (labels_of rows) ≡ map label_name (thread_labels rows t)
+pub thread_own : (t : ℕ) (rows : List (List CellView)) → own_names t (labels_in_rows rows) ≡ map label_name (thread_labels rows t)
 thread_own t rows = rows_own t rows ∙ sym (behind_named 0 (column rows t))
 
-pub once_of_rows : (t : ℕ) (rows : List (List CellView)) → NoneTwice (labels_of rows) → NoneTwice (map label_name (thread_labels rows t))
-once_of_rows t rows h = subst NoneTwice (thread_own t rows) (once_in_thread t (labels_of rows) h)
+pub once_of_rows : (t : ℕ) (rows : List (List CellView)) → NoneTwice (labels_in_rows rows) → NoneTwice (map label_name (thread_labels rows t))
+once_of_rows t rows h = subst NoneTwice (thread_own t rows) (once_in_thread t (labels_in_rows rows) h)
 
-pub rows_once : (rows : List (List CellView)) → ((t : ℕ) → NoneTwice (map label_name (thread_labels rows t))) → NoneTwice (labels_of rows)
-rows_once rows h = once_in_all (labels_of rows) (λ t. subst NoneTwice (sym (thread_own t rows)) (h t))
+pub rows_once : (rows : List (List CellView)) → ((t : ℕ) → NoneTwice (map label_name (thread_labels rows t))) → NoneTwice (labels_in_rows rows)
+rows_once rows h = once_in_all (labels_in_rows rows) (λ t. subst NoneTwice (sym (thread_own t rows)) (h t))

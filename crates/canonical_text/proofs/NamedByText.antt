@@ -18,7 +18,7 @@ use Rattle.litmus_text.specs.Names.{all_registers, with_name}
 use Rattle.litmus_text.specs.Places.{code_places, cell_places, cells_places, row_places, sign_places, entry_place, places, location_name, is_register, names_of}
 use Rattle.litmus_text.specs.Outcomes.{is_named}
 use Rattle.litmus_text.specs.Meaning.{first_value}
-use Rattle.canonical_text.specs.Printable.{IsNumber, IsLocationName, IsPrintablePlace, IsPrintableEntry, IsPrintableCode, IsPrintableContent, IsPrintableCell, IsPrintableRow, IsPrintableSign}
+use Rattle.canonical_text.specs.Printable.{IsTextNumber, IsLocationName, IsPrintablePlace, IsPrintableEntry, IsPrintableCode, IsPrintableContent, IsPrintableCell, IsPrintableRow, IsPrintableSign}
 use Rattle.canonical_text.proofs.ToldCode.{IsKnown}
 use Rattle.canonical_text.proofs.Lists.{all_of_both, each_among}
 
@@ -153,16 +153,16 @@ places_known b e printable =
 
 -- ---- what the places hold
 
-found_small : (threads : ℕ) (p : PlaceView) (es : List EntryView) → AllByRecursion (IsPrintableEntry threads) es → IsNumber (first_value es p)
+found_small : (threads : ℕ) (p : PlaceView) (es : List EntryView) → AllByRecursion (IsPrintableEntry threads) es → IsTextNumber (first_value es p)
 found_small threads p [] h = omega arith
 found_small threads p (e ∷ es) h =
     let value : Bool → ℕ = λ b. option_map_or (λ (x : EntryView). x.value) (cond b (Some e) (find (λ x. same_place x.place p) es)) 0 in
     elim (cases_Bool (same_place e.place p)) [
-      | inl t ↦ subst IsNumber (sym (ap value t)) h.0.1
-      | inr f ↦ subst IsNumber (sym (ap value f)) (found_small threads p es h.1)
+      | inl t ↦ subst IsTextNumber (sym (ap value t)) h.0.1
+      | inr f ↦ subst IsTextNumber (sym (ap value f)) (found_small threads p es h.1)
     ]
 
-pub held_small : (threads : ℕ) (es : List EntryView) → AllByRecursion (IsPrintableEntry threads) es → (p : PlaceView) → IsNumber (first_value es p)
+pub held_small : (threads : ℕ) (es : List EntryView) → AllByRecursion (IsPrintableEntry threads) es → (p : PlaceView) → IsTextNumber (first_value es p)
 held_small threads es h p = found_small threads p es h
 
 nothing_held : (p : PlaceView) (es : List EntryView) → list_any (λ q. same_place q p) (map entry_place es) ≡ false → first_value es p ≡ 0

@@ -15,15 +15,15 @@ use Rattle.tso_program.specs.declared.instruction.Reg.TheVariants.{Eax, Ebx, Ecx
 use Rattle.tso_program.specs.declared.listing.Thread.{Thread}
 use Rattle.tso_program.specs.Instructions.{number}
 use Rattle.litmus_syntax.specs.Views.{PlaceView, Location, Register, EntryView}
-use Rattle.litmus_syntax.specs.Grammar.{IsNoneOf, NoneTwice, place_of}
+use Rattle.litmus_syntax.specs.Grammar.{IsNoneOf, NoneTwice, place_of_entry}
 use Rattle.litmus_syntax.specs.Places.{same_place}
 use Rattle.litmus_syntax.proofs.SeenLaws.{same_place_is}
 use Rattle.litmus_text.specs.Names.{Names, all_registers}
 use Rattle.litmus_text.specs.Places.{location_name, is_register}
 use Rattle.litmus_text.specs.Outcomes.{is_named}
 use Rattle.litmus_text.specs.Meaning.{first_value}
-use Rattle.canonical_text.specs.Canonical.{name_at, location_entry, location_entries, named_entry, register_entries}
-use Rattle.canonical_text.specs.Printable.{IsNumber, IsLocationName, IsPrintableEntry}
+use Rattle.canonical_text.specs.Canonical.{location_name_at, location_entry, location_entries, named_entry, register_entries}
+use Rattle.canonical_text.specs.Printable.{IsTextNumber, IsLocationName, IsPrintableEntry}
 
 -- ---- the places
 
@@ -73,7 +73,7 @@ location_entries_are held names =
     λ l lt.
     let within : l < length names = omega (arith, count) in
     get_or-map entry names l [] none within
-    ∙ ap (λ (n : ℕ). record { place = Location (name_at names l); value = n }) (sym (get_or-map value names l [] 0 within)) in
+    ∙ ap (λ (n : ℕ). record { place = Location (location_name_at names l); value = n }) (sym (get_or-map value names l [] 0 within)) in
     sym (fill_by_all (location_entry names memory) (map entry names) (length memory) none (length-map names entry ∙ sym count) at) ∙ sym (map_map (entry_at held) Location names)
 
 value_of_register : (v : Reg → ℕ) (r : Reg) → slice_index (map v all_registers) (number r) ≡ v r
@@ -212,13 +212,13 @@ places_once (x ∷ names) k m ps once h =
     let d = distinct_head x names once in
     (none_of_both (Location x) (map Location names) ps (other_names x names d.0) (no_location x k m ps h), places_once names k m ps d.1 h)
 
-pub placed_entries : (held : PlaceView → ℕ) (ps : List PlaceView) → map place_of (map (entry_at held) ps) ≡ ps
+pub placed_entries : (held : PlaceView → ℕ) (ps : List PlaceView) → map place_of_entry (map (entry_at held) ps) ≡ ps
 placed_entries held [] = refl
 placed_entries held (p ∷ ps) = ap (λ (qs : List PlaceView). p ∷ qs) (placed_entries held ps)
 
 -- ---- they can be printed
 
-printable_registers : (held : PlaceView → ℕ) (threads : ℕ) → ((p : PlaceView) → IsNumber (held p)) → (k : ℕ) (ps : List PlaceView) → Rising k (6 * threads) ps
+printable_registers : (held : PlaceView → ℕ) (threads : ℕ) → ((p : PlaceView) → IsTextNumber (held p)) → (k : ℕ) (ps : List PlaceView) → Rising k (6 * threads) ps
     → (k ≤ 6 * threads) × AllByRecursion (IsPrintableEntry threads) (map (entry_at held) ps)
 printable_registers held threads small k [] h = (h, tt)
 printable_registers held threads small k (Location x ∷ ps) h = absurd h
@@ -228,7 +228,7 @@ printable_registers held threads small k (Register t r ∷ ps) h =
     let low : k ≤ 6 * threads = omega (arith, rest.0, h.0) in
     (low, ((there, small (Register t r)), rest.1))
 
-pub printable_places : (held : PlaceView → ℕ) (threads : ℕ) → ((p : PlaceView) → IsNumber (held p)) → (names : List (List ℕ)) (k : ℕ) (ps : List PlaceView) → AllByRecursion IsLocationName names
+pub printable_places : (held : PlaceView → ℕ) (threads : ℕ) → ((p : PlaceView) → IsTextNumber (held p)) → (names : List (List ℕ)) (k : ℕ) (ps : List PlaceView) → AllByRecursion IsLocationName names
     → Rising k (6 * threads) ps → AllByRecursion (IsPrintableEntry threads) (map (entry_at held) (map Location names ++ ps))
 printable_places held threads small [] k ps h rising = (printable_registers held threads small k ps rising).1
 printable_places held threads small (x ∷ names) k ps h rising = ((h.0, small (Location x)), printable_places held threads small names k ps h.1 rising)

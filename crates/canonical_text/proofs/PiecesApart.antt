@@ -1,4 +1,4 @@
--- The pieces of parts that can be printed can be written one behind the other.
+-- The pieces of parts that can be printed can be written one after the other.
 use Rattle.std.proofs.Common.{◌≡◌, ℕ, ◌+◌, ◌^◌, ◌<◌, ◌≤◌, ◌==◌, zero, suc, ◌&&◌, Bool, true, false, List, [], ◌∷◌, ◌++◌, length, map, Option, Some, None, refl, sym, ap, ◌∙◌, inl, inr, arith, append_assoc}
 use Rattle.std.specs.List.{flat_map, list_all, range_with_len, AllByRecursion}
 use Rattle.std.specs.Option.{option_to_list}
@@ -18,7 +18,7 @@ use Rattle.litmus_syntax.specs.declared.ending.Quantifier.TheVariants.{Exists, N
 use Rattle.litmus_syntax.specs.Views.{PlaceView, Location, Register, EntryView, CodeView, LoadImm, Copy, Load, StoreImm, Store, Xchg, Fence, CmpImm, CmpReg, Je, Jne, Jmp, CellView, BodyView, SignView, Atom, Const, Not, And, Or, Open, Close, EndingView}
 use Rattle.canonical_text.specs.Spelling.{line_end, next, joined_by, bar, gap, valued_pieces, entry_pieces, initial_pieces, row_end, line_of, column_pieces, header_pieces, code_pieces, label_pieces, cell_pieces, row_pieces, body_pieces, observed_place_pieces, observed_pieces, sign_pieces, condition_pieces, ending_pieces, lines_pieces, sign, space}
 use Rattle.text_tokens.specs.declared.token.Mark.TheVariants as the
-use Rattle.canonical_text.specs.Printable.{IsNumber, IsLabelName, IsPrintablePlace, IsPrintableEntry, IsPrintableCode, IsPrintableContent, IsPrintableCell, IsPrintableRow, IsPrintable, IsPrintableSign, begins_with_word, SignsAreApart, ArePrintable, IsPrintableEnding}
+use Rattle.canonical_text.specs.Printable.{IsTextNumber, IsLabelName, IsPrintablePlace, IsPrintableEntry, IsPrintableCode, IsPrintableContent, IsPrintableCell, IsPrintableRow, IsPrintable, IsPrintableSign, begins_with_a_word, SignsAreApart, ArePrintable, IsPrintableEnding}
 use Rattle.canonical_text.proofs.WordsWritten.{mov_word, xchg_word, mfence_word, cmp_word, je_word, jne_word, jmp_word, locations_word, exists_word, forall_word, true_word, false_word, not_word, register_word, column_word}
 
 -- pieces that can be written before whatever does not go on with a word
@@ -37,17 +37,17 @@ apart_all f P each (x ∷ xs) h rest =
 
 -- ---- places and entries
 
-valued_apart : (threads : ℕ) (p : PlaceView) (n : ℕ) → IsNumber threads → IsPrintablePlace threads p → IsNumber n → IsApart (valued_pieces p n)
+valued_apart : (threads : ℕ) (p : PlaceView) (n : ℕ) → IsTextNumber threads → IsPrintablePlace threads p → IsTextNumber n → IsApart (valued_pieces p n)
 valued_apart threads (Location x) n few h hn rest free = ((h.0, refl), (refl, ((hn, free), tt)))
 valued_apart threads (Register t r) n few h hn rest free =
     let small : t ≤ 4294967295 = omega (arith, h, few) in
     ((small, refl), (refl, ((register_word r, refl), (refl, ((hn, free), tt)))))
 
-entry_apart : (threads : ℕ) → IsNumber threads → (e : EntryView) → IsPrintableEntry threads e → EndsApart (entry_pieces e)
+entry_apart : (threads : ℕ) → IsTextNumber threads → (e : EntryView) → IsPrintableEntry threads e → EndsApart (entry_pieces e)
 entry_apart threads few e h rest =
     (refl, AreApartBefore-append (valued_pieces e.place e.value) (sign the.Semicolon ∷ []) rest (valued_apart threads e.place e.value few h.0 h.1 (59 ∷ rest) refl) (refl, tt))
 
-initial_apart : (threads : ℕ) → IsNumber threads → (es : List EntryView) → AllByRecursion (IsPrintableEntry threads) es → EndsApart (initial_pieces es)
+initial_apart : (threads : ℕ) → IsTextNumber threads → (es : List EntryView) → AllByRecursion (IsPrintableEntry threads) es → EndsApart (initial_pieces es)
 initial_apart threads few es h rest =
     let tail : List Piece = space ∷ sign the.CloseBrace ∷ line_end ∷ [] in
     (refl, AreApartBefore-append (flat_map entry_pieces es) tail rest (apart_all entry_pieces (IsPrintableEntry threads) (entry_apart threads few) es h (text_of tail ++ rest)) (refl, (refl, (refl, tt))))
@@ -90,7 +90,7 @@ names_apart k (suc n) h =
     let more : (k + 1) + n ≤ 4294967295 = omega (arith, h) in
     (λ rest free. ((column_word k small, free), tt), names_apart (k + 1) n more)
 
-header_apart : (threads : ℕ) → IsNumber threads → EndsApart (header_pieces threads)
+header_apart : (threads : ℕ) → IsTextNumber threads → EndsApart (header_pieces threads)
 header_apart threads few = line_apart (map column_pieces (range_with_len 0 threads)) (names_apart 0 threads (omega (arith, few)))
 
 -- ---- rows
@@ -137,17 +137,17 @@ body_apart b h rest =
 
 -- ---- what is observed
 
-place_apart : (threads : ℕ) → IsNumber threads → (p : PlaceView) → IsPrintablePlace threads p → IsApart (observed_place_pieces p)
+place_apart : (threads : ℕ) → IsTextNumber threads → (p : PlaceView) → IsPrintablePlace threads p → IsApart (observed_place_pieces p)
 place_apart threads few (Location x) h rest free = ((h.0, refl), (refl, tt))
 place_apart threads few (Register t r) h rest free =
     let small : t ≤ 4294967295 = omega (arith, h, few) in
     ((small, refl), (refl, ((register_word r, refl), (refl, tt))))
 
-places_apart : (threads : ℕ) → IsNumber threads → (ps : List PlaceView) → AllByRecursion (IsPrintablePlace threads) ps → AllByRecursion IsApart (map observed_place_pieces ps)
+places_apart : (threads : ℕ) → IsTextNumber threads → (ps : List PlaceView) → AllByRecursion (IsPrintablePlace threads) ps → AllByRecursion IsApart (map observed_place_pieces ps)
 places_apart threads few [] h = tt
 places_apart threads few (p ∷ ps) h = (place_apart threads few p h.0, places_apart threads few ps h.1)
 
-observed_apart : (threads : ℕ) → IsNumber threads → (ps : List PlaceView) → AllByRecursion (IsPrintablePlace threads) ps → EndsApart (observed_pieces ps)
+observed_apart : (threads : ℕ) → IsTextNumber threads → (ps : List PlaceView) → AllByRecursion (IsPrintablePlace threads) ps → EndsApart (observed_pieces ps)
 observed_apart threads few [] h rest = tt
 observed_apart threads few (p ∷ ps) h rest =
     let tail : List Piece = sign the.CloseBracket ∷ line_end ∷ [] in (
@@ -189,7 +189,7 @@ digits_first (d ∷ ds) more some h = other_byte is_ascii_digit refl d (front (i
 number_first : (n : ℕ) (more : List ℕ) → n ≤ 4294967295 → NoStar (decimal n ++ more)
 number_first n more h = let small : n < 2 ^ 64 = omega (arith, h) in digits_first (decimal n) more (decimal_nonempty n small) (digits_decimal own n small)
 
-signs_free : (threads : ℕ) → IsNumber threads → (ss : List SignView) (rest : List ℕ) → AllByRecursion (IsPrintableSign threads) ss → NoStar rest → NoStar (text_of (flat_map sign_pieces ss) ++ rest)
+signs_free : (threads : ℕ) → IsTextNumber threads → (ss : List SignView) (rest : List ℕ) → AllByRecursion (IsPrintableSign threads) ss → NoStar rest → NoStar (text_of (flat_map sign_pieces ss) ++ rest)
 signs_free threads few [] rest h free = free
 signs_free threads few (Atom (Location x) n ∷ ss) rest h free = rw append_assoc (word_first x _ h.0.0.0)
 signs_free threads few (Atom (Register t r) n ∷ ss) rest h free =
@@ -203,7 +203,7 @@ signs_free threads few (Or ∷ ss) rest h free = refl
 signs_free threads few (Open ∷ ss) rest h free = refl
 signs_free threads few (Close ∷ ss) rest h free = refl
 
-signs_end : (ss : List SignView) (rest : List ℕ) → begins_with_word ss ≡ false → NoWordGoesOn rest → NoWordGoesOn (text_of (flat_map sign_pieces ss) ++ rest)
+signs_end : (ss : List SignView) (rest : List ℕ) → begins_with_a_word ss ≡ false → NoWordGoesOn rest → NoWordGoesOn (text_of (flat_map sign_pieces ss) ++ rest)
 signs_end [] rest e free = free
 signs_end (Atom p n ∷ ss) rest e free = cc
 signs_end (Const b ∷ ss) rest e free = cc
@@ -213,7 +213,7 @@ signs_end (Or ∷ ss) rest e free = refl
 signs_end (Open ∷ ss) rest e free = refl
 signs_end (Close ∷ ss) rest e free = refl
 
-signs_apart : (threads : ℕ) → IsNumber threads → (ss : List SignView) → AllByRecursion (IsPrintableSign threads) ss → SignsAreApart ss → (rest : List ℕ) → NoWordGoesOn rest → NoStar rest
+signs_apart : (threads : ℕ) → IsTextNumber threads → (ss : List SignView) → AllByRecursion (IsPrintableSign threads) ss → SignsAreApart ss → (rest : List ℕ) → NoWordGoesOn rest → NoStar rest
     → AreApartBefore (flat_map sign_pieces ss) rest
 signs_apart threads few [] h g rest free star = tt
 signs_apart threads few (Atom p n ∷ ss) h g rest free star =
@@ -228,7 +228,7 @@ signs_apart threads few (Or ∷ ss) h g rest free star = (refl, (refl, (refl, si
 signs_apart threads few (Open ∷ ss) h g rest free star = (signs_free threads few ss rest h.1 star, signs_apart threads few ss h.1 g rest free star)
 signs_apart threads few (Close ∷ ss) h g rest free star = (refl, signs_apart threads few ss h.1 g rest free star)
 
-condition_apart : (threads : ℕ) → IsNumber threads → (q : Quantifier) (ss : List SignView) → ArePrintable threads ss → AreApart (condition_pieces q ss)
+condition_apart : (threads : ℕ) → IsTextNumber threads → (q : Quantifier) (ss : List SignView) → ArePrintable threads ss → AreApart (condition_pieces q ss)
 condition_apart threads few q ss h = go q
   where
     behind : AreApartBefore (space ∷ (flat_map sign_pieces ss ++ line_end ∷ [])) []

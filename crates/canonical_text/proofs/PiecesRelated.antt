@@ -12,7 +12,7 @@ use Rattle.litmus_syntax.specs.declared.ending.Quantifier.TheVariants.{Exists, N
 use Rattle.litmus_syntax.specs.Views.{PlaceView, Location, Register, EntryView, CodeView, LoadImm, Copy, Load, StoreImm, Store, Xchg, Fence, CmpImm, CmpReg, Je, Jne, Jmp, CellView, BodyView, SignView, Atom, Const, Not, And, Or, Open, Close, EndingView}
 use Rattle.litmus_syntax.specs.Words.{mnemonic_of}
 use Rattle.litmus_syntax.specs.Phrases.{Phrase, ◌▸◌, mark, number, begins_with_word, Items, end, item}
-use Rattle.litmus_syntax.specs.Grammar.{IsPlace, IsEntryItem, NoneTwice, place_of, IsInitial, HasThread, MoreColumns, last, column, IsHeader, IsCode, IsLabel, IsContent, ends_cell, IsCell, IsNextCell, IsRow, ends_rows, before_ending, IsRows, IsBody, IsObservedItem, IsObserved, IsQuantifier, IsSign, the_end, IsSigns, IsEnding}
+use Rattle.litmus_syntax.specs.Grammar.{IsPlace, IsEntryItem, NoneTwice, place_of_entry, IsInitial, HasThread, MoreColumns, last, column, IsHeader, IsCode, IsLabelMark, IsContent, ends_cell, IsCell, IsNextCell, IsRow, ends_rows, before_ending, IsRows, IsBody, IsObservedItem, IsObserved, IsQuantifier, IsSign, the_end, IsSigns, IsEnding}
 use Rattle.litmus_text.specs.Outcomes.{register_name}
 use Rattle.canonical_text.specs.Spelling.{space, line_end, sign, next, joined_by, bar, gap, place_pieces, valued_pieces, entry_pieces, initial_pieces, row_end, column_pieces, header_pieces, code_pieces, label_pieces, cell_pieces, row_pieces, observed_place_pieces, observed_pieces, sign_pieces, condition_pieces, ending_pieces, lines_pieces}
 use Rattle.canonical_text.specs.Printable.{IsLabelName, IsPrintablePlace, IsPrintableEntry, IsPrintableCode, IsPrintableContent, IsPrintableCell, IsPrintableRow, IsPrintable, IsPrintableSign, ArePrintable, IsPrintableEnding}
@@ -64,7 +64,7 @@ entry_related threads e ps h =
     rw (append_assoc (valued_pieces e.place e.value) (sign the.Semicolon ∷ []) ps)
     (Sign the.Semicolon ∷ tokens_of ps, valued_related threads e.place e.value (sign the.Semicolon ∷ ps) h.0, inl refl)
 
-initial_related : (threads : ℕ) (es : List EntryView) (ps : List Piece) → AllByRecursion (IsPrintableEntry threads) es → NoneTwice (map place_of es)
+initial_related : (threads : ℕ) (es : List EntryView) (ps : List Piece) → AllByRecursion (IsPrintableEntry threads) es → NoneTwice (map place_of_entry es)
     → IsInitial es (tokens_of (initial_pieces es ++ ps)) (tokens_of ps)
 initial_related threads es ps h once =
     let tail : List Piece = space ∷ sign the.CloseBrace ∷ line_end ∷ [] in
@@ -75,7 +75,7 @@ has_thread : (threads : ℕ) (p : PlaceView) → IsPrintablePlace threads p → 
 has_thread threads (Location x) h = tt
 has_thread threads (Register t r) h = h
 
-have_threads : (threads : ℕ) (es : List EntryView) → AllByRecursion (IsPrintableEntry threads) es → AllByRecursion (HasThread threads) (map place_of es)
+have_threads : (threads : ℕ) (es : List EntryView) → AllByRecursion (IsPrintableEntry threads) es → AllByRecursion (HasThread threads) (map place_of_entry es)
 have_threads threads [] h = tt
 have_threads threads (e ∷ es) h = (has_thread threads e.place h.0.0, have_threads threads es h.1)
 
@@ -109,13 +109,13 @@ code_related (Jmp l) ps h = (_, (codes "JMP", refl, refl), refl)
 
 -- further labels, and then an instruction or nothing
 labelled_related : (ls : List (List ℕ)) (c : Option CodeView) (ps : List Piece) → AllByRecursion IsLabelName ls → IsPrintableContent c → ends_cell (tokens_of ps) ≡ true
-    → Items IsLabel (IsContent c) ls (tokens_of (flat_map (next gap) (map label_pieces ls ++ map code_pieces (option_to_list c)) ++ ps)) (tokens_of ps)
+    → Items IsLabelMark (IsContent c) ls (tokens_of (flat_map (next gap) (map label_pieces ls ++ map code_pieces (option_to_list c)) ++ ps)) (tokens_of ps)
 labelled_related [] None ps h g e = end (refl, e)
 labelled_related [] (Some c) ps h g e = rw (append-nil (code_pieces c)) (end (code_related c ps g, e))
 labelled_related (l ∷ ls) c ps h g e = item (h.0.1, (_, refl, refl)) (labelled_related ls c ps h.1 g e)
 
 content_related : (ls : List (List ℕ)) (c : Option CodeView) (ps : List Piece) → AllByRecursion IsLabelName ls → IsPrintableContent c → ends_cell (tokens_of ps) ≡ true
-    → Items IsLabel (IsContent c) ls (tokens_of (joined_by gap (map label_pieces ls ++ map code_pieces (option_to_list c)) ++ ps)) (tokens_of ps)
+    → Items IsLabelMark (IsContent c) ls (tokens_of (joined_by gap (map label_pieces ls ++ map code_pieces (option_to_list c)) ++ ps)) (tokens_of ps)
 content_related [] None ps h g e = end (refl, e)
 content_related [] (Some c) ps h g e = rw (append-nil (code_pieces c)) (end (code_related c ps g, e))
 content_related (l ∷ ls) c ps h g e = item (h.0.1, (_, refl, refl)) (labelled_related ls c ps h.1 g e)
@@ -123,7 +123,7 @@ content_related (l ∷ ls) c ps h g e = item (h.0.1, (_, refl, refl)) (labelled_
 cell_related : (c : CellView) (ps : List Piece) → IsPrintableCell c → ends_cell (tokens_of ps) ≡ true → IsCell c (tokens_of (cell_pieces c ++ ps)) (tokens_of ps)
 cell_related c ps h e = content_related c.labels c.code ps h.0 h.1 e
 
--- behind a cell comes `|` or `;`
+-- after a cell comes `|` or `;`
 cells_end : (cs : List CellView) (ps : List Piece) → ends_cell (tokens_of (flat_map (next bar) (map cell_pieces cs) ++ (row_end ++ ps))) ≡ true
 cells_end [] ps = refl
 cells_end (c ∷ cs) ps = refl
@@ -226,4 +226,4 @@ body_related b e h =
       initial_related b.threads b.entries (header ++ (rows ++ ending)) h.entries h.none_twice,
       (tokens_of (rows ++ ending), header_related b.threads h.some_thread (rows ++ ending), rows_related b e h),
     ) in
-    (subst parts same related, All-from_recursion (HasThread b.threads) (map place_of b.entries) (have_threads b.threads b.entries h.entries))
+    (subst parts same related, All-from_recursion (HasThread b.threads) (map place_of_entry b.entries) (have_threads b.threads b.entries h.entries))

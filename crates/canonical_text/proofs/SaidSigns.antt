@@ -16,7 +16,7 @@ use Rattle.litmus_text.specs.Places.{sign_places}
 use Rattle.litmus_text.specs.Meaning.{atom_of, numbered_atom}
 use Rattle.litmus_text.specs.Meaning as meaning
 use Rattle.canonical_text.specs.Canonical.{atom_named, sign_named, signs_named}
-use Rattle.canonical_text.specs.Printable.{IsNumber, IsPrintablePlace, IsPrintableSign, begins_with_word, SignsAreApart}
+use Rattle.canonical_text.specs.Printable.{IsTextNumber, IsPrintablePlace, IsPrintableSign, begins_with_a_word, SignsAreApart}
 use Rattle.canonical_text.proofs.NamedPlaces.{Named}
 use Rattle.canonical_text.proofs.ToldCode.{IsKnown, name_back}
 
@@ -61,7 +61,7 @@ regroup_or : (f g : Tree Said) (rest : List (Sign Said))
     → signs_of f ++ (sign.Or ∷ (signs_of g ++ (sign.Close ∷ rest))) ≡ (signs_of f ++ (sign.Or ∷ (signs_of g ++ sign.Close ∷ []))) ++ rest
 regroup_or f g rest = simp append_assoc
 
-apart_before : (f : Tree Said) (rest : List (Sign Said)) → begins_with_word (map view_of rest) ≡ false → SignsAreApart (map view_of rest) → SignsAreApart (map view_of (signs_of f ++ rest))
+apart_before : (f : Tree Said) (rest : List (Sign Said)) → begins_with_a_word (map view_of rest) ≡ false → SignsAreApart (map view_of rest) → SignsAreApart (map view_of (signs_of f ++ rest))
 apart_before (tree.Atom a) rest e free = (e, free)
 apart_before (tree.Const b) rest e free = (e, free)
 apart_before (tree.Not f) rest e free = apart_before f rest e free
@@ -85,7 +85,7 @@ enclosed_apart (tree.Or f g) = apart_alone (tree.Or f g)
 module _ (names : List (List ℕ)) (named : Named) (threads : ℕ) where
   -- a place that is named, and that can be printed with its value
   abbrev pub IsSaidOf : Said → Type 0
-  IsSaidOf a = IsKnown names named a.0 × IsPrintablePlace threads a.0 × IsNumber a.1
+  IsSaidOf a = IsKnown names named a.0 × IsPrintablePlace threads a.0 × IsTextNumber a.1
 
   -- a sign whose place is so
   abbrev pub IsSaid : Sign Said → Type 0

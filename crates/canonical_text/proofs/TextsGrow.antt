@@ -1,4 +1,4 @@
--- The text of pieces, one more part behind the others.
+-- The text of pieces, one more part after the others.
 use Rattle.std.proofs.Common.{◌≡◌, ℕ, ◌+◌, ◌<◌, ◌==◌, zero, suc, false, List, [], ◌∷◌, ◌++◌, length, map, take, drop, get_or, codes, Some, None, refl, sym, ap, ◌∙◌, arith, append_assoc}
 use Rattle.std.specs.Prelude.{nat_lt, if◌then◌else◌}
 use Rattle.std.specs.List.{flat_map, range_with_len}
@@ -20,7 +20,7 @@ use Rattle.canonical_text.specs.Canonical.{thread_entries, register_entries}
 pub text_of_all : {X : Type 0} (g : X → List Piece) (xs ys : List X) → text_of (flat_map g (xs ++ ys)) ≡ text_of (flat_map g xs) ++ text_of (flat_map g ys)
 text_of_all g xs ys = ap text_of (flat_map-append g xs ys) ∙ text_of-append (flat_map g xs) (flat_map g ys)
 
--- behind a text, the texts of two lists of parts
+-- after a text, the texts of two lists of parts
 pub all_more : {X : Type 0} (g : X → List Piece) (bs : List ℕ) (xs ys : List X) → (bs ++ text_of (flat_map g xs)) ++ text_of (flat_map g ys) ≡ bs ++ text_of (flat_map g (xs ++ ys))
 all_more g bs xs ys = append_assoc bs (text_of (flat_map g xs)) (text_of (flat_map g ys)) ∙ ap (λ (cs : List ℕ). bs ++ cs) (sym (text_of_all g xs ys))
 
@@ -123,7 +123,7 @@ thread_more names threads t d lt =
 
 -- ---- wholes
 
--- pieces behind pieces, behind a text
+-- pieces after pieces, after a text
 pub grown : (bs : List ℕ) (ps qs : List Piece) → (bs ++ text_of ps) ++ text_of qs ≡ bs ++ text_of (ps ++ qs)
 grown bs ps qs = append_assoc bs (text_of ps) (text_of qs) ∙ ap (λ (cs : List ℕ). bs ++ cs) (sym (text_of-append ps qs))
 

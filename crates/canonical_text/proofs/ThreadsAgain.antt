@@ -16,14 +16,14 @@ use Rattle.tso_program.specs.Fences.{Gaps, place_of, fenced_code, fenced_threads
 use Rattle.tso_program.proofs.FencedPlaces.{fenced_code_of}
 use Rattle.tso_program.proofs.FencedLimits.{ends}
 use Rattle.litmus_syntax.specs.Views.{PlaceView, Register, BodyView}
-use Rattle.litmus_syntax.specs.Grammar.{NoneTwice, labels_of as all_names}
+use Rattle.litmus_syntax.specs.Grammar.{NoneTwice, labels_in_rows as all_names}
 use Rattle.litmus_text.specs.Names.{all_registers, number_in}
 use Rattle.litmus_text.specs.Places.{row_places}
 use Rattle.litmus_text.specs.declared.label.Label.{Label}
 use Rattle.litmus_text.specs.Labels.{thread_labels, all_labels, position_in, JumpsAreFound}
-use Rattle.litmus_text.specs.Meaning.{first_value, thread_of}
+use Rattle.litmus_text.specs.Meaning.{first_value, thread_read}
 use Rattle.litmus_text.specs.Meaning as meaning
-use Rattle.canonical_text.specs.Canonical.{labels_of, moved_label, moved_labels}
+use Rattle.canonical_text.specs.Canonical.{own_labels, moved_label, moved_labels}
 use Rattle.canonical_text.specs.Printable.{IsPrintableRow}
 use Rattle.canonical_text.proofs.LabelPlaces.{moved_of}
 use Rattle.canonical_text.proofs.LabelsNamed.{label_name, AreGoodLabels, Ascending}
@@ -42,7 +42,7 @@ same_names gap (l ∷ labels) = ap (λ (ns : List (List ℕ)). l.name ∷ ns) (s
 module _ (names : List (List ℕ)) (named : Named) (once : IsDistinct bytes_eq names) (gaps : Gaps) (b : BodyView) (printable : AllByRecursion (IsPrintableRow b.threads) b.rows)
     (known : AllByRecursion (IsKnown names named) (flat_map row_places b.rows)) (found : JumpsAreFound b) (labels_once : NoneTwice (all_names b.rows)) where
   abbrev source : List Thread
-  source = map (thread_of (number_in names) b) (range_with_len 0 b.threads)
+  source = map (thread_read (number_in names) b) (range_with_len 0 b.threads)
 
   abbrev threads : List Thread
   threads = fenced_threads gaps 0 source
@@ -55,28 +55,28 @@ module _ (names : List (List ℕ)) (named : Named) (once : IsDistinct bytes_eq n
   positions t = position_in (thread_labels b.rows t)
 
   abbrev text_code : ℕ → List Instr
-  text_code t = meaning.code_of (number_in names) (positions t) b.rows t
+  text_code t = meaning.code_in (number_in names) (positions t) b.rows t
 
   own_source : (t : ℕ) → t < b.threads → slice_index_or (all_labels b) t [] ≡ thread_labels b.rows t
   own_source t lt = get_or-map-range_with_len (thread_labels b.rows) 0 b.threads t t [] lt (omega arith)
 
-  pub own_is : (t : ℕ) → t < b.threads → labels_of labels t ≡ map (moved_label (gaps t)) (thread_labels b.rows t)
+  pub own_is : (t : ℕ) → t < b.threads → own_labels labels t ≡ map (moved_label (gaps t)) (thread_labels b.rows t)
   own_is t lt = moved_of gaps t (all_labels b) ∙ ap (map (moved_label (gaps t))) (own_source t lt)
 
-  pub own_past : (t : ℕ) → b.threads ≤ t → labels_of labels t ≡ []
+  pub own_past : (t : ℕ) → b.threads ≤ t → own_labels labels t ≡ []
   own_past t le =
       let count : length (all_labels b) ≡ b.threads = length-map-range_with_len (thread_labels b.rows) 0 b.threads in
       let past : length (all_labels b) ≤ t = omega arith in
       moved_of gaps t (all_labels b) ∙ ap (map (moved_label (gaps t))) (get_or_past (all_labels b) t [] past)
 
-  pub good : (t : ℕ) → AreGoodLabels (labels_of labels t)
+  pub good : (t : ℕ) → AreGoodLabels (own_labels labels t)
   good t =
       elim (cases_lt t b.threads) [
         | inl lt ↦ subst AreGoodLabels (sym (own_is t lt)) (moved_good (gaps t) (thread_labels b.rows t) (thread_good b.threads b.rows t printable))
         | inr le ↦ subst AreGoodLabels (sym (own_past t le)) tt
       ]
 
-  pub names_once : (t : ℕ) → NoneTwice (map label_name (labels_of labels t))
+  pub names_once : (t : ℕ) → NoneTwice (map label_name (own_labels labels t))
   names_once t =
       let once_of : List Label → Type 0 = λ ls. NoneTwice (map label_name ls) in
       elim (cases_lt t b.threads) [
@@ -86,18 +86,18 @@ module _ (names : List (List ℕ)) (named : Named) (once : IsDistinct bytes_eq n
 
   -- the code of a thread of the text
   source_code : (t : ℕ) → t < b.threads → code_of source t ≡ text_code t
-  source_code t lt = ap (λ (o : Option Thread). option_map_or (λ (thread : Thread). thread.code) o []) (made_at (thread_of (number_in names) b) b.threads t lt)
+  source_code t lt = ap (λ (o : Option Thread). option_map_or (λ (thread : Thread). thread.code) o []) (made_at (thread_read (number_in names) b) b.threads t lt)
 
   fenced_is : (t : ℕ) → t < b.threads → code_of threads t ≡ fenced_code (gaps t) 0 (text_code t)
   fenced_is t lt = fenced_code_of gaps t source ∙ ap (fenced_code (gaps t) 0) (source_code t lt)
 
   fenced_past : (t : ℕ) → b.threads ≤ t → code_of threads t ≡ []
   fenced_past t le =
-      let count : length source ≡ b.threads = length-map-range_with_len (thread_of (number_in names) b) 0 b.threads in
+      let count : length source ≡ b.threads = length-map-range_with_len (thread_read (number_in names) b) 0 b.threads in
       let past : length source ≤ t = omega arith in
       fenced_code_of gaps t source ∙ ap (λ (o : Option Thread). fenced_code (gaps t) 0 (option_map_or (λ (thread : Thread). thread.code) o [])) (slice_get_past source t past)
 
-  pub ascending : (t : ℕ) → Ascending 0 (length (code_of threads t)) (labels_of labels t)
+  pub ascending : (t : ℕ) → Ascending 0 (length (code_of threads t)) (own_labels labels t)
   ascending t =
       elim (cases_lt t b.threads) [
         | inl lt ↦
@@ -109,7 +109,7 @@ module _ (names : List (List ℕ)) (named : Named) (once : IsDistinct bytes_eq n
         | inr le ↦ subst (Ascending 0 (length (code_of threads t))) (sym (own_past t le)) tt
       ]
 
-  -- the fenced code is told
+  -- `IsTold` holds of the fenced code
   pub fences_told : AreTold names named labels threads
   fences_told t =
       let all : List Instr → Type 0 = λ code. AllByRecursion (IsTold names named labels t) code in
@@ -123,7 +123,7 @@ module _ (names : List (List ℕ)) (named : Named) (once : IsDistinct bytes_eq n
 
 -- ---- registers
 
-text_registers : (numbered : List ℕ → ℕ) (b : BodyView) (t n : ℕ) → RegistersAre (first_value b.entries) t (map (thread_of numbered b) (range_with_len t n))
+text_registers : (numbered : List ℕ → ℕ) (b : BodyView) (t n : ℕ) → RegistersAre (first_value b.entries) t (map (thread_read numbered b) (range_with_len t n))
 text_registers numbered b t zero = tt
 text_registers numbered b t (suc n) = (refl, text_registers numbered b (t + 1) n)
 
@@ -132,9 +132,9 @@ fenced_registers held gaps t [] h = tt
 fenced_registers held gaps t (thread ∷ threads) h = (h.0, fenced_registers held gaps (t + 1) threads h.1)
 
 -- fences leave the registers
-pub fences_registers : (numbered : List ℕ → ℕ) (gaps : Gaps) (b : BodyView) → RegistersAre (first_value b.entries) 0 (fenced_threads gaps 0 (map (thread_of numbered b) (range_with_len 0 b.threads)))
+pub fences_registers : (numbered : List ℕ → ℕ) (gaps : Gaps) (b : BodyView) → RegistersAre (first_value b.entries) 0 (fenced_threads gaps 0 (map (thread_read numbered b) (range_with_len 0 b.threads)))
 fences_registers numbered gaps b =
-    fenced_registers (first_value b.entries) gaps 0 (map (thread_of numbered b) (range_with_len 0 b.threads)) (text_registers numbered b 0 b.threads)
+    fenced_registers (first_value b.entries) gaps 0 (map (thread_read numbered b) (range_with_len 0 b.threads)) (text_registers numbered b 0 b.threads)
 
 registers_from : (held : PlaceView → ℕ) (a t : ℕ) (threads : List Thread) (d : Thread) → t < length threads → RegistersAre held a threads
     → (get_or threads t d).registers ≡ map (λ r. held (Register (a + t) r)) all_registers

@@ -21,7 +21,7 @@ use Rattle.litmus_text.specs.Labels.{label_in, position_in, jump_of, is_found, a
 use Rattle.litmus_text.specs.Meaning.{instruction_of, instruction_in}
 use Rattle.litmus_text.specs.Meaning as meaning
 use Rattle.litmus_text.proofs.NamesOnce.{place_among, number_at}
-use Rattle.canonical_text.specs.Canonical.{name_at, labels_at, label_at, labels_of, moved_label, code_named, cell_of, row_of, most_cells, rows_of}
+use Rattle.canonical_text.specs.Canonical.{location_name_at, label_names_at, label_name_at, own_labels, moved_label, code_named, cell_of, row_of, most_cells, rows_of}
 use Rattle.canonical_text.specs.Printable.{IsLabelName, IsPrintableCode, IsPrintableContent, IsPrintableCell, IsPrintableRow}
 use Rattle.canonical_text.proofs.NamedPlaces.{Named}
 use Rattle.canonical_text.proofs.LabelPlaces.{labels_moved}
@@ -35,11 +35,11 @@ IsKnown names named (Location x) = list_any (bytes_eq x) names ≡ true
 IsKnown names named (Register t r) = named t r ≡ true
 
 -- the name that has the number of a name is that name
-pub name_back : (names : List (List ℕ)) (x : List ℕ) → IsDistinct bytes_eq names → list_any (bytes_eq x) names ≡ true → name_at names (number_in names x) ≡ x
+pub name_back : (names : List (List ℕ)) (x : List ℕ) → IsDistinct bytes_eq names → list_any (bytes_eq x) names ≡ true → location_name_at names (number_in names x) ≡ x
 name_back names x once h =
     let own = place_among names x h in
     let number : number_in names x ≡ own.0 = ap (number_in names) own.2 ∙ number_at names own.0 once own.1 in
-    ap (name_at names) number ∙ sym own.2
+    ap (location_name_at names) number ∙ sym own.2
 
 -- an instruction that jumps nowhere or to one of these labels
 abbrev pub JumpsAmong : List Label → Option CodeView → Type 0
@@ -51,7 +51,7 @@ both_true false b h g = h
 
 module _ (names : List (List ℕ)) (named : Named) (labels : List (List Label)) where
   abbrev own : ℕ → List Label
-  own t = labels_of labels t
+  own t = own_labels labels t
 
   -- instruction i of thread t stands for code that can be printed, whose places are named, and that jumps to a label of the thread
   abbrev pub IsTold : ℕ → Instr → Type 0
@@ -72,17 +72,17 @@ module _ (names : List (List ℕ)) (named : Named) (labels : List (List Label)) 
     stands : (l : List ℕ) → is_some (label_in source l) ≡ true → SomeAt (own t) (place_of gap (position_in source l))
     stands l h =
         let place : ℕ = place_of gap (position_in source l) in
-        let there : labels_at (own t) place ≡ labels_at source (position_in source l) =
-        ap (λ (ls : List Label). labels_at ls place) same ∙ labels_moved gap source (position_in source l) place refl in
+        let there : label_names_at (own t) place ≡ label_names_at source (position_in source l) =
+        ap (λ (ls : List Label). label_names_at ls place) same ∙ labels_moved gap source (position_in source l) place refl in
         subst (λ (ns : List (List ℕ)). 0 < length ns) (sym there) (found_stands source l h)
 
-    again : (l : List ℕ) → is_some (label_in source l) ≡ true → position_in (own t) (label_at (own t) (place_of gap (position_in source l))) ≡ place_of gap (position_in source l)
+    again : (l : List ℕ) → is_some (label_in source l) ≡ true → position_in (own t) (label_name_at (own t) (place_of gap (position_in source l))) ≡ place_of gap (position_in source l)
     again l h = position_again (own t) (place_of gap (position_in source l)) labels_once (stands l h)
 
-    found : (l : List ℕ) → is_some (label_in source l) ≡ true → is_some (label_in (own t) (label_at (own t) (place_of gap (position_in source l)))) ≡ true
+    found : (l : List ℕ) → is_some (label_in source l) ≡ true → is_some (label_in (own t) (label_name_at (own t) (place_of gap (position_in source l)))) ≡ true
     found l h = label_found (own t) (place_of gap (position_in source l)) labels_once (stands l h)
 
-    may_stand : (l : List ℕ) → is_some (label_in source l) ≡ true → IsLabelName (label_at (own t) (place_of gap (position_in source l)))
+    may_stand : (l : List ℕ) → is_some (label_in source l) ≡ true → IsLabelName (label_name_at (own t) (place_of gap (position_in source l)))
     may_stand l h = label_good (own t) (place_of gap (position_in source l)) good (stands l h)
 
     pub code_told : (c : CodeView) → IsPrintableCode c → AllByRecursion (IsKnown names named) (code_places t c) → JumpsAmong source (Some c)
@@ -96,9 +96,9 @@ module _ (names : List (List ℕ)) (named : Named) (labels : List (List Label)) 
     code_told Fence h k j = (Fence, refl, refl, h, k, refl)
     code_told (CmpImm r n) h k j = (CmpImm r n, refl, refl, h, k, refl)
     code_told (CmpReg r s) h k j = (CmpReg r s, refl, refl, h, k, refl)
-    code_told (Je l) h k j = (Je (label_at (own t) (place_of gap (position_in source l))), refl, ap (λ (p : ℕ). instr.Je p) (again l j), (may_stand l j).0, tt, found l j)
-    code_told (Jne l) h k j = (Jne (label_at (own t) (place_of gap (position_in source l))), refl, ap (λ (p : ℕ). instr.Jne p) (again l j), (may_stand l j).0, tt, found l j)
-    code_told (Jmp l) h k j = (Jmp (label_at (own t) (place_of gap (position_in source l))), refl, ap (λ (p : ℕ). instr.Jmp p) (again l j), (may_stand l j).0, tt, found l j)
+    code_told (Je l) h k j = (Je (label_name_at (own t) (place_of gap (position_in source l))), refl, ap (λ (p : ℕ). instr.Je p) (again l j), (may_stand l j).0, tt, found l j)
+    code_told (Jne l) h k j = (Jne (label_name_at (own t) (place_of gap (position_in source l))), refl, ap (λ (p : ℕ). instr.Jne p) (again l j), (may_stand l j).0, tt, found l j)
+    code_told (Jmp l) h k j = (Jmp (label_name_at (own t) (place_of gap (position_in source l))), refl, ap (λ (p : ℕ). instr.Jmp p) (again l j), (may_stand l j).0, tt, found l j)
 
     -- ---- the rows of a text
 
@@ -144,9 +144,9 @@ module _ (names : List (List ℕ)) (named : Named) (labels : List (List Label)) 
       tellable None h = tt
       tellable (Some cell) h = (h.0, subst (λ (ls : List Label). is_found ls cell ≡ true) mine h.1)
 
-      -- a text's code is told
+      -- `IsToldMoved` holds of a text's code
       pub rows_told : (threads : ℕ) (rows : List (List CellView)) → AllByRecursion (IsPrintableRow threads) rows → AllByRecursion (IsKnown names named) (flat_map row_places rows)
-          → list_all (are_found all 0) rows ≡ true → AllByRecursion IsToldMoved (meaning.code_of (number_in names) (position_in source) rows t)
+          → list_all (are_found all 0) rows ≡ true → AllByRecursion IsToldMoved (meaning.code_in (number_in names) (position_in source) rows t)
       rows_told threads [] h k j = tt
       rows_told threads (row ∷ rows) h k j =
           let places = both_of_all (IsKnown names named) (row_places row) (flat_map row_places rows) k in
@@ -154,7 +154,7 @@ module _ (names : List (List ℕ)) (named : Named) (labels : List (List Label)) 
           let others : list_all (are_found all 0) rows ≡ true = and_second (are_found all 0 row) (list_all (are_found all 0) rows) j in
           let zero_first : 0 + t ≡ t = omega arith in
           let here : IfGood t (slice_get row t) = subst (λ (u : ℕ). IfGood u (slice_get row t)) zero_first (good_at 0 t row h.0.1 places.0 first) in
-          told_cell (slice_get row t) (meaning.code_of (number_in names) (position_in source) rows t) (tellable (slice_get row t) here) (rows_told threads rows h.1 places.1 others)
+          told_cell (slice_get row t) (meaning.code_in (number_in names) (position_in source) rows t) (tellable (slice_get row t) here) (rows_told threads rows h.1 places.1 others)
 
     -- ---- fences
 
@@ -185,7 +185,7 @@ module _ (names : List (List ℕ)) (named : Named) (labels : List (List Label)) 
   good_content t None h = (tt, tt, refl)
   good_content t (Some i) told = subst (λ (c : CodeView). IsGoodContent t (Some c)) (sym told.1) (told.3, told.4, told.5)
 
-  -- each thread's code is told
+  -- `IsTold` holds of each thread's code
   abbrev pub AreTold : List Thread → Type 0
   AreTold threads = (t : ℕ) → AllByRecursion (IsTold t) (code_of threads t)
 
@@ -244,7 +244,7 @@ module _ (names : List (List ℕ)) (named : Named) (labels : List (List Label)) 
 
   -- how many cells code has, with the labels of its end
   abbrev pub cells : List Label → List Instr → ℕ
-  cells ls code = length code + (if nat_lt 0 (length (labels_at ls (length code))) then 1 else 0)
+  cells ls code = length code + (if nat_lt 0 (length (label_names_at ls (length code))) then 1 else 0)
 
   within_from : (a t : ℕ) (threads : List Thread) → t < length threads → cells (own (a + t)) (code_of threads t) ≤ most_cells labels a threads
   within_from a t [] lt = absurd (omega arith)
@@ -268,7 +268,7 @@ module _ (names : List (List ℕ)) (named : Named) (labels : List (List Label)) 
   filter_map_map {Z = Z} h f (x ∷ xs) = ap (λ (zs : List Z). cons_option (h (f x)) zs) (filter_map_map h f xs)
 
   -- the code of the canonical rows is the code
-  pub code_again : (threads : List Thread) → AreTold threads → (t : ℕ) → t < length threads → meaning.code_of (number_in names) (position_in (own t)) (rows_of names labels threads) t ≡ code_of threads t
+  pub code_again : (threads : List Thread) → AreTold threads → (t : ℕ) → t < length threads → meaning.code_in (number_in names) (position_in (own t)) (rows_of names labels threads) t ≡ code_of threads t
   code_again threads told t lt =
       let f : List CellView → Option Instr = instruction_in (number_in names) (position_in (own t)) t in
       let at : (k : ℕ) → f (row_of names labels threads (0 + k)) ≡ slice_get (code_of threads t) k =

@@ -32,14 +32,14 @@ use Rattle.litmus_text.specs.Outcomes.{is_named}
 use Rattle.canonical_text.specs.Spelling.{text_with}
 
 -- the name of a location; none where the text has no such location
-abbrev pub name_at : List (List ℕ) → ℕ → List ℕ
-name_at names l = slice_index_or names l []
+abbrev pub location_name_at : List (List ℕ) → ℕ → List ℕ
+location_name_at names l = slice_index_or names l []
 
 -- ---- initial values
 
 -- a location with its initial value
 abbrev pub location_entry : List (List ℕ) → List ℕ → ℕ → EntryView
-location_entry names memory l = record { place = Location (name_at names l); value = slice_index memory l }
+location_entry names memory l = record { place = Location (location_name_at names l); value = slice_index memory l }
 
 -- each location, in order
 abbrev pub location_entries : List (List ℕ) → List ℕ → List EntryView
@@ -68,16 +68,16 @@ abbrev pub named_at : ℕ → Label → Option (List ℕ)
 named_at k l = if l.position == k then Some l.name else None
 
 -- the names of the labels at position k, in text order
-abbrev pub labels_at : List Label → ℕ → List (List ℕ)
-labels_at labels k = filter_map (named_at k) labels
+abbrev pub label_names_at : List Label → ℕ → List (List ℕ)
+label_names_at labels k = filter_map (named_at k) labels
 
--- the name of the first of them; none where there is none
-abbrev pub label_at : List Label → ℕ → List ℕ
-label_at labels k = slice_index_or (labels_at labels k) 0 []
+-- the name of the first of them; empty if there is no label
+abbrev pub label_name_at : List Label → ℕ → List ℕ
+label_name_at labels k = slice_index_or (label_names_at labels k) 0 []
 
 -- thread t's labels
-abbrev pub labels_of : List (List Label) → ℕ → List Label
-labels_of labels t = slice_index_or labels t []
+abbrev pub own_labels : List (List Label) → ℕ → List Label
+own_labels labels t = slice_index_or labels t []
 
 -- ---- rows
 
@@ -85,22 +85,22 @@ labels_of labels t = slice_index_or labels t []
 abbrev pub code_named : List (List ℕ) → List Label → Instr → CodeView
 code_named names labels (instr.LoadImm r n) = view.LoadImm r n
 code_named names labels (instr.Copy r s) = view.Copy r s
-code_named names labels (instr.Load r l) = view.Load r (name_at names l)
-code_named names labels (instr.StoreImm l n) = view.StoreImm (name_at names l) n
-code_named names labels (instr.Store l r) = view.Store (name_at names l) r
-code_named names labels (instr.Xchg l r) = view.Xchg (name_at names l) r
+code_named names labels (instr.Load r l) = view.Load r (location_name_at names l)
+code_named names labels (instr.StoreImm l n) = view.StoreImm (location_name_at names l) n
+code_named names labels (instr.Store l r) = view.Store (location_name_at names l) r
+code_named names labels (instr.Xchg l r) = view.Xchg (location_name_at names l) r
 code_named names labels instr.Fence = view.Fence
 code_named names labels (instr.CmpImm r n) = view.CmpImm r n
 code_named names labels (instr.CmpReg r s) = view.CmpReg r s
-code_named names labels (instr.Je k) = view.Je (label_at labels k)
-code_named names labels (instr.Jne k) = view.Jne (label_at labels k)
-code_named names labels (instr.Jmp k) = view.Jmp (label_at labels k)
+code_named names labels (instr.Je k) = view.Je (label_name_at labels k)
+code_named names labels (instr.Jne k) = view.Jne (label_name_at labels k)
+code_named names labels (instr.Jmp k) = view.Jmp (label_name_at labels k)
 
 -- the cell of thread t in row k: the labels at position k, and instruction k
 abbrev pub cell_of : List (List ℕ) → List (List Label) → List Thread → ℕ → ℕ → CellView
 cell_of names labels threads k t = record {
-  labels = labels_at (labels_of labels t) k;
-  code = option_map (code_named names (labels_of labels t)) (instr_at threads t k);
+  labels = label_names_at (own_labels labels t) k;
+  code = option_map (code_named names (own_labels labels t)) (instr_at threads t k);
 }
 
 abbrev pub row_of : List (List ℕ) → List (List Label) → List Thread → ℕ → List CellView
@@ -108,12 +108,12 @@ row_of names labels threads k = map (cell_of names labels threads k) (range_with
 
 -- how many cells a thread has: one for each instruction, and one for the labels of its end where it has such
 abbrev pub cell_count : List Label → Thread → ℕ
-cell_count labels thread = length thread.code + (if nat_lt 0 (length (labels_at labels (length thread.code))) then 1 else 0)
+cell_count labels thread = length thread.code + (if nat_lt 0 (length (label_names_at labels (length thread.code))) then 1 else 0)
 
 -- how many cells the thread with most of them has, from thread t on
 abbrev pub most_cells : List (List Label) → ℕ → List Thread → ℕ
 most_cells labels t [] = 0
-most_cells labels t (thread ∷ threads) = max (cell_count (labels_of labels t) thread) (most_cells labels (t + 1) threads)
+most_cells labels t (thread ∷ threads) = max (cell_count (own_labels labels t) thread) (most_cells labels (t + 1) threads)
 
 -- as many rows as a thread has cells
 abbrev pub rows_of : List (List ℕ) → List (List Label) → List Thread → List (List CellView)
@@ -126,14 +126,14 @@ body_of names labels p = record { entries = entries_of names p; threads = length
 
 -- a place with its location's name
 abbrev pub place_named : List (List ℕ) → Observed → PlaceView
-place_named names (observed.Location l) = Location (name_at names l)
+place_named names (observed.Location l) = Location (location_name_at names l)
 place_named names (observed.Register t r) = Register t r
 
 -- ---- the condition
 
 -- that a place has a value, with the location's name
 abbrev pub atom_named : List (List ℕ) → Atom → SignView
-atom_named names (atom.Location l n) = view.Atom (Location (name_at names l)) n
+atom_named names (atom.Location l n) = view.Atom (Location (location_name_at names l)) n
 atom_named names (atom.Register t r n) = view.Atom (Register t r) n
 
 -- a sign with its location's name
@@ -172,8 +172,8 @@ moved_labels gaps t [] = []
 moved_labels gaps t (labels ∷ more) = map (moved_label (gaps t)) labels ∷ moved_labels gaps (t + 1) more
 
 -- what a litmus text stands for, with an MFENCE in each gap of the set
-abbrev pub fenced_at : SetOfGaps → Litmus Listing → Litmus Listing
-fenced_at gaps litmus = record litmus {
+abbrev pub litmus_fenced_at : SetOfGaps → Litmus Listing → Litmus Listing
+litmus_fenced_at gaps litmus = record litmus {
   program = fence (gaps_in litmus.program gaps) litmus.program;
   labels = moved_labels (gaps_in litmus.program gaps) 0 litmus.labels;
 }

@@ -11,7 +11,7 @@ use Rattle.litmus_lines.specs.SkippedLines.{AreSkipped}
 use Rattle.tso_program.specs.declared.listing.Listing.{Listing}
 use Rattle.litmus_text.specs.declared.litmus.Litmus.{Litmus}
 use Rattle.litmus_text.specs.Texts.{IsLitmus, IsFencedLitmus}
-use Rattle.canonical_text.specs.Canonical.{fenced_at, canonical_text}
+use Rattle.canonical_text.specs.Canonical.{litmus_fenced_at, canonical_text}
 use Rattle.canonical_text.specs.Spelling.{text_with}
 use Rattle.canonical_text.specs.Printable.{IsPrintable, IsPrintableEnding}
 
@@ -39,4 +39,4 @@ PrintedPartsAreRead =
 abbrev pub CanonicalTextIsRead : Type 0
 CanonicalTextIsRead =
     (text : List ℕ) (litmus : Litmus Listing) → IsLitmus text litmus → (gaps : SetOfGaps)
-    → IsFencedLitmus (canonical_text (fenced_at gaps litmus)) (fenced_at gaps litmus)
+    → IsFencedLitmus (canonical_text (litmus_fenced_at gaps litmus)) (litmus_fenced_at gaps litmus)

@@ -4,11 +4,11 @@ use Rattle.std.specs.List.{AllByRecursion}
 use Rattle.text_tokens.specs.Lexing.{IsWord}
 use Rattle.litmus_syntax.specs.Words.{is_name, is_label}
 use Rattle.litmus_syntax.specs.Views.{PlaceView, Location, Register, EntryView, CodeView, LoadImm, Copy, Load, StoreImm, Store, Xchg, Fence, CmpImm, CmpReg, Je, Jne, Jmp, CellView, BodyView, SignView, Atom, Const, Not, And, Or, Open, Close, EndingView}
-use Rattle.litmus_syntax.specs.Grammar.{NoneTwice, place_of, labels_of}
+use Rattle.litmus_syntax.specs.Grammar.{NoneTwice, place_of_entry, labels_in_rows}
 
 -- a number of the texts
-abbrev pub IsNumber : ℕ → Type 0
-IsNumber n = n ≤ 4294967295
+abbrev pub IsTextNumber : ℕ → Type 0
+IsTextNumber n = n ≤ 4294967295
 
 -- a word that may name a location
 abbrev pub IsLocationName : List ℕ → Type 0
@@ -24,17 +24,17 @@ IsPrintablePlace threads (Location x) = IsLocationName x
 IsPrintablePlace threads (Register t r) = t < threads
 
 abbrev pub IsPrintableEntry : ℕ → EntryView → Type 0
-IsPrintableEntry threads e = IsPrintablePlace threads e.place × IsNumber e.value
+IsPrintableEntry threads e = IsPrintablePlace threads e.place × IsTextNumber e.value
 
 abbrev pub IsPrintableCode : CodeView → Type 0
-IsPrintableCode (LoadImm r n) = IsNumber n
+IsPrintableCode (LoadImm r n) = IsTextNumber n
 IsPrintableCode (Copy r s) = Unit {0}
 IsPrintableCode (Load r x) = IsLocationName x
-IsPrintableCode (StoreImm x n) = IsLocationName x × IsNumber n
+IsPrintableCode (StoreImm x n) = IsLocationName x × IsTextNumber n
 IsPrintableCode (Store x r) = IsLocationName x
 IsPrintableCode (Xchg x r) = IsLocationName x
 IsPrintableCode Fence = Unit {0}
-IsPrintableCode (CmpImm r n) = IsNumber n
+IsPrintableCode (CmpImm r n) = IsTextNumber n
 IsPrintableCode (CmpReg r s) = Unit {0}
 IsPrintableCode (Je l) = IsWord l
 IsPrintableCode (Jne l) = IsWord l
@@ -55,14 +55,14 @@ IsPrintableRow threads cells = (length cells ≡ threads) × AllByRecursion IsPr
 -- initial values that name nothing twice, at least one thread, and rows in which no label stands twice in its thread
 pub record IsPrintable (b : BodyView) : Type 0 where
   pub some_thread : 0 < b.threads
-  pub few_threads : IsNumber b.threads
+  pub few_threads : IsTextNumber b.threads
   pub entries : AllByRecursion (IsPrintableEntry b.threads) b.entries
-  pub none_twice : NoneTwice (map place_of b.entries)
+  pub none_twice : NoneTwice (map place_of_entry b.entries)
   pub rows : AllByRecursion (IsPrintableRow b.threads) b.rows
-  pub labels_once : NoneTwice (labels_of b.rows)
+  pub labels_once : NoneTwice (labels_in_rows b.rows)
 
 abbrev pub IsPrintableSign : ℕ → SignView → Type 0
-IsPrintableSign threads (Atom p n) = IsPrintablePlace threads p × IsNumber n
+IsPrintableSign threads (Atom p n) = IsPrintablePlace threads p × IsTextNumber n
 IsPrintableSign threads (Const b) = Unit {0}
 IsPrintableSign threads Not = Unit {0}
 IsPrintableSign threads And = Unit {0}
@@ -71,28 +71,28 @@ IsPrintableSign threads Open = Unit {0}
 IsPrintableSign threads Close = Unit {0}
 
 -- whether a sign that begins with a letter or a digit comes first
-abbrev pub begins_with_word : List SignView → Bool
-begins_with_word [] = false
-begins_with_word (Atom p n ∷ ss) = true
-begins_with_word (Const b ∷ ss) = true
-begins_with_word (Not ∷ ss) = true
-begins_with_word (And ∷ ss) = false
-begins_with_word (Or ∷ ss) = false
-begins_with_word (Open ∷ ss) = false
-begins_with_word (Close ∷ ss) = false
+abbrev pub begins_with_a_word : List SignView → Bool
+begins_with_a_word [] = false
+begins_with_a_word (Atom p n ∷ ss) = true
+begins_with_a_word (Const b ∷ ss) = true
+begins_with_a_word (Not ∷ ss) = true
+begins_with_a_word (And ∷ ss) = false
+begins_with_a_word (Or ∷ ss) = false
+begins_with_a_word (Open ∷ ss) = false
+begins_with_a_word (Close ∷ ss) = false
 
--- behind a sign that ends with a letter or a digit comes none that begins with one
+-- no sign that begins with a letter or a digit follows one that ends with one
 abbrev pub SignsAreApart : List SignView → Type 0
 SignsAreApart [] = Unit {0}
-SignsAreApart (Atom p n ∷ ss) = (begins_with_word ss ≡ false) × SignsAreApart ss
-SignsAreApart (Const b ∷ ss) = (begins_with_word ss ≡ false) × SignsAreApart ss
+SignsAreApart (Atom p n ∷ ss) = (begins_with_a_word ss ≡ false) × SignsAreApart ss
+SignsAreApart (Const b ∷ ss) = (begins_with_a_word ss ≡ false) × SignsAreApart ss
 SignsAreApart (Not ∷ ss) = SignsAreApart ss
 SignsAreApart (And ∷ ss) = SignsAreApart ss
 SignsAreApart (Or ∷ ss) = SignsAreApart ss
 SignsAreApart (Open ∷ ss) = SignsAreApart ss
 SignsAreApart (Close ∷ ss) = SignsAreApart ss
 
--- signs over so many threads that can be printed one behind the other
+-- signs over so many threads that can be printed one after the other
 abbrev pub ArePrintable : ℕ → List SignView → Type 0
 ArePrintable threads ss = AllByRecursion (IsPrintableSign threads) ss × SignsAreApart ss
 

@@ -145,7 +145,7 @@ body_pieces b = initial_pieces b.entries ++ (header_pieces b.threads ++ flat_map
 abbrev pub observed_place_pieces : PlaceView → List Piece
 observed_place_pieces p = place_pieces p ++ sign the.Semicolon ∷ []
 
--- `locations [`, the places with one space between them, `]`; nothing where there are none
+-- `locations [`, the places with one space between them, `]`; nothing if there are no places
 abbrev pub observed_pieces : List PlaceView → List Piece
 observed_pieces [] = []
 observed_pieces (p ∷ ps) =
@@ -179,7 +179,7 @@ ending_pieces e = observed_pieces e.observed ++ condition_pieces e.quantifier e.
 
 -- ---- the whole
 
--- the lines behind the first
+-- the lines after the first
 abbrev pub lines_pieces : BodyView → EndingView → List Piece
 lines_pieces b e = body_pieces b ++ ending_pieces e
 

@@ -4,7 +4,7 @@ ghost use Rattle.text_tokens.specs.Pieces.{text_of};
 ghost use Rattle.tso_program.specs.Fences.{gaps_in};
 ghost use Rattle.litmus_text.specs.Outcomes.{register_name};
 ghost use Rattle.canonical_text.specs.Spelling.{memory_pieces, immediate_pieces, jump_pieces, code_pieces};
-ghost use Rattle.canonical_text.specs.Canonical.{name_at, label_at, labels_of, moved_labels, code_named};
+ghost use Rattle.canonical_text.specs.Canonical.{location_name_at, label_name_at, own_labels, moved_labels, code_named};
 
 use crate::labels::label_name;
 use crate::words::{name_at, push_number, push_register};
@@ -15,7 +15,7 @@ use tso_program::{Instr, Program, Reg};
 
 /// `[x]`
 fn push_memory(out: &mut Vec<u8>, names: &NameTable, location: u8) -> Result<(), AllocError>
-    ensures { OnOk result (out.new.items ≡ out.old.items ++ text_of (memory_pieces (name_at names.now.locations location))) }
+    ensures { OnOk result (out.new.items ≡ out.old.items ++ text_of (memory_pieces (location_name_at names.now.locations location))) }
 {
     out.push(b'[')?;
     out.extend_from_slice(name_at(names, location as usize))?;
@@ -49,7 +49,7 @@ fn push_to_memory(
     names: &NameTable,
     location: u8,
 ) -> Result<(), AllocError>
-    ensures { OnOk result (out.new.items ≡ out.old.items ++ (mnemonic.now ++ (codes " [" ++ (name_at names.now.locations location ++ codes "],")))) }
+    ensures { OnOk result (out.new.items ≡ out.old.items ++ (mnemonic.now ++ (codes " [" ++ (location_name_at names.now.locations location ++ codes "],")))) }
 {
     out.extend_from_slice(mnemonic)?;
     out.push(b' ')?;
@@ -68,7 +68,7 @@ fn push_jump(
     place: u8,
 ) -> Result<(), AllocError>
     ensures { OnOk result (out.new.items ≡ out.old.items ++ text_of (jump_pieces mnemonic.now
-        (label_at (labels_of (moved_labels (gaps_in litmus.now.program gaps.now) 0 litmus.now.labels) t) place))) }
+        (label_name_at (own_labels (moved_labels (gaps_in litmus.now.program gaps.now) 0 litmus.now.labels) t) place))) }
 {
     out.extend_from_slice(mnemonic)?;
     out.push(b' ')?;
@@ -84,7 +84,7 @@ pub fn push_code(
     t: u8,
     code: Instr,
 ) -> Result<(), AllocError>
-    ensures { OnOk result (out.new.items ≡ out.old.items ++ text_of (code_pieces (code_named litmus.now.names.locations (labels_of (moved_labels (gaps_in litmus.now.program gaps.now) 0 litmus.now.labels) t) code))) }
+    ensures { OnOk result (out.new.items ≡ out.old.items ++ text_of (code_pieces (code_named litmus.now.names.locations (own_labels (moved_labels (gaps_in litmus.now.program gaps.now) 0 litmus.now.labels) t) code))) }
 {
     match code {
         Instr::LoadImm(register, value) => {

@@ -2,7 +2,7 @@
 ghost use Rattle.std.specs.Prelude.{◌≡◌, ◌++◌, OnOk, map};
 ghost use Rattle.std.specs.List.{flat_map};
 ghost use Rattle.text_tokens.specs.Pieces.{text_of};
-ghost use Rattle.conditions.specs.Tokens.{sign_of};
+ghost use Rattle.conditions.specs.Tokens.{sign_of_token};
 ghost use Rattle.canonical_text.specs.Spelling.{sign_pieces, quantifier_pieces, condition_pieces};
 ghost use Rattle.canonical_text.specs.Canonical.{atom_named, sign_named, signs_named, word_of};
 
@@ -38,7 +38,7 @@ fn push_sign(
     names: &NameTable,
     sign: Token,
 ) -> Result<(), AllocError>
-    ensures { OnOk result (out.new.items ≡ out.old.items ++ text_of (sign_pieces (sign_named names.now.locations (sign_of sign)))) }
+    ensures { OnOk result (out.new.items ≡ out.old.items ++ text_of (sign_pieces (sign_named names.now.locations (sign_of_token sign)))) }
 {
     match sign {
         Token::Atom(atom) => push_atom(alloc, out, names, atom),
@@ -58,7 +58,7 @@ fn push_signs(
     names: &NameTable,
     signs: &[Token],
 ) -> Result<(), AllocError>
-    ensures { OnOk result (out.new.items ≡ out.old.items ++ text_of (flat_map sign_pieces (map (sign_named names.now.locations) (map sign_of signs.now)))) }
+    ensures { OnOk result (out.new.items ≡ out.old.items ++ text_of (flat_map sign_pieces (map (sign_named names.now.locations) (map sign_of_token signs.now)))) }
 {
     for sign in signs {
         push_sign(alloc, out, names, *sign)?;

@@ -3,7 +3,7 @@ ghost use Rattle.std.specs.Prelude.{◌≡◌, ◌≢◌, ◌++◌, ℕ, IfOk, I
 ghost use Rattle.text_tokens.specs.Pieces.{text_of};
 ghost use Rattle.tso_program.specs.Fences.{gaps_in, place_of};
 ghost use Rattle.canonical_text.specs.Spelling.{gap, joined_by, label_pieces};
-ghost use Rattle.canonical_text.specs.Canonical.{labels_at, label_at, labels_of, moved_labels};
+ghost use Rattle.canonical_text.specs.Canonical.{label_names_at, label_name_at, own_labels, moved_labels};
 
 use crate::words::push_gap;
 use gap_sets::GapSet;
@@ -21,7 +21,7 @@ fn is_fenced(program: &Program, gaps: &GapSet, t: u8, k: u8) -> bool
     }
 }
 
-/// The position that lies at this place of the fenced thread; none where an instruction stands behind its fence.
+/// The position that lies at this place of the fenced thread; `None` at an instruction after its fence.
 fn position_at(program: &Program, gaps: &GapSet, t: u8, place: u8) -> Option<usize>
     ensures found { IfSome result (λ k. place_of (gaps_in program.now gaps.now t) k ≡ place) }
     ensures none { IfNone result ((k : ℕ) → place_of (gaps_in program.now gaps.now t) k ≢ place) }
@@ -45,7 +45,7 @@ fn position_at(program: &Program, gaps: &GapSet, t: u8, place: u8) -> Option<usi
 
 /// The labels of a thread.
 fn labels_of(labels: &[Items<Label>], thread: usize) -> &[Label]
-    ensures { result.now ≡ labels_of labels.now thread }
+    ensures { result.now ≡ own_labels labels.now thread }
 {
     match labels.get(thread) {
         Some(own) => own.as_slice(),
@@ -55,8 +55,8 @@ fn labels_of(labels: &[Items<Label>], thread: usize) -> &[Label]
 
 /// `NAME: NAME: ..`, the labels of a position; returns how many they are.
 fn push_own(out: &mut Vec<u8>, labels: &[Label], position: usize) -> Result<usize, AllocError>
-    ensures text { IfOk result (λ count. out.new.items ≡ out.old.items ++ text_of (joined_by gap (map label_pieces (labels_at labels.now position)))) }
-    ensures count { IfOk result (λ count. count ≡ length (labels_at labels.now position)) }
+    ensures text { IfOk result (λ count. out.new.items ≡ out.old.items ++ text_of (joined_by gap (map label_pieces (label_names_at labels.now position)))) }
+    ensures count { IfOk result (λ count. count ≡ length (label_names_at labels.now position)) }
 {
     let mut count: usize = 0;
     for label in labels {
@@ -70,9 +70,9 @@ fn push_own(out: &mut Vec<u8>, labels: &[Label], position: usize) -> Result<usiz
     Ok(count)
 }
 
-/// The name of the first label of a position; none where there is none.
+/// The name of the first label of a position; `None` if it has no label.
 fn first_label(labels: &[Label], position: usize) -> &[u8]
-    ensures { result.now ≡ label_at labels.now position }
+    ensures { result.now ≡ label_name_at labels.now position }
 {
     for label in labels {
         if label.position == position {
@@ -84,7 +84,7 @@ fn first_label(labels: &[Label], position: usize) -> &[u8]
 
 /// Whether a label stands at the position.
 fn is_labelled(labels: &[Label], position: usize) -> bool
-    ensures { result ≡ nat_lt 0 (length (labels_at labels.now position)) }
+    ensures { result ≡ nat_lt 0 (length (label_names_at labels.now position)) }
 {
     for label in labels {
         if label.position == position {
@@ -103,8 +103,8 @@ pub fn push_labels(
     place: u8,
 ) -> Result<usize, AllocError>
     ensures text { IfOk result (λ count. out.new.items ≡ out.old.items ++ text_of (joined_by gap (map label_pieces
-        (labels_at (labels_of (moved_labels (gaps_in litmus.now.program gaps.now) 0 litmus.now.labels) t) place)))) }
-    ensures count { IfOk result (λ count. count ≡ length (labels_at (labels_of (moved_labels (gaps_in litmus.now.program gaps.now) 0 litmus.now.labels) t) place)) }
+        (label_names_at (own_labels (moved_labels (gaps_in litmus.now.program gaps.now) 0 litmus.now.labels) t) place)))) }
+    ensures count { IfOk result (λ count. count ≡ length (label_names_at (own_labels (moved_labels (gaps_in litmus.now.program gaps.now) 0 litmus.now.labels) t) place)) }
 {
     let labels = labels_of(litmus.labels.as_slice(), t as usize);
     match position_at(&litmus.program, gaps, t, place) {
@@ -113,9 +113,9 @@ pub fn push_labels(
     }
 }
 
-/// The name of the first label at a place of a fenced thread; none where there is none.
+/// The name of the first label at a place of a fenced thread; `None` if it has no label.
 pub fn label_name<'a>(litmus: &'a Litmus<Program>, gaps: &GapSet, t: u8, place: u8) -> &'a [u8]
-    ensures { result.now ≡ label_at (labels_of (moved_labels (gaps_in litmus.now.program gaps.now) 0 litmus.now.labels) t) place }
+    ensures { result.now ≡ label_name_at (own_labels (moved_labels (gaps_in litmus.now.program gaps.now) 0 litmus.now.labels) t) place }
 {
     let labels = labels_of(litmus.labels.as_slice(), t as usize);
     match position_at(&litmus.program, gaps, t, place) {
@@ -126,7 +126,7 @@ pub fn label_name<'a>(litmus: &'a Litmus<Program>, gaps: &GapSet, t: u8, place: 
 
 /// Whether a label stands at a place of a fenced thread.
 pub fn has_label(litmus: &Litmus<Program>, gaps: &GapSet, t: u8, place: u8) -> bool
-    ensures { result ≡ nat_lt 0 (length (labels_at (labels_of (moved_labels (gaps_in litmus.now.program gaps.now) 0 litmus.now.labels) t) place)) }
+    ensures { result ≡ nat_lt 0 (length (label_names_at (own_labels (moved_labels (gaps_in litmus.now.program gaps.now) 0 litmus.now.labels) t) place)) }
 {
     let labels = labels_of(litmus.labels.as_slice(), t as usize);
     match position_at(&litmus.program, gaps, t, place) {

@@ -5,7 +5,7 @@ ghost use Rattle.text_tokens.specs.Pieces.{text_of};
 ghost use Rattle.tso_program.specs.Listings.{instr_at};
 ghost use Rattle.tso_program.specs.Fences.{gaps_in};
 ghost use Rattle.canonical_text.specs.Spelling.{bar, cell_pieces, row_pieces, header_pieces, column_pieces};
-ghost use Rattle.canonical_text.specs.Canonical.{labels_of, moved_labels, cell_of, row_of, rows_of, cell_count, most_cells};
+ghost use Rattle.canonical_text.specs.Canonical.{own_labels, moved_labels, cell_of, row_of, rows_of, cell_count, most_cells};
 
 use crate::code::push_code;
 use crate::labels::{has_label, push_labels};
@@ -106,7 +106,7 @@ fn push_row(
 /// How many cells thread t has.
 fn cell_count(litmus: &Litmus<Program>, gaps: &GapSet, thread: &Thread, t: u8) -> usize
     requires { length thread.now.code ≤ 127 }
-    ensures value { result ≡ cell_count (labels_of (moved_labels (gaps_in litmus.now.program gaps.now) 0 litmus.now.labels) t) thread.now }
+    ensures value { result ≡ cell_count (own_labels (moved_labels (gaps_in litmus.now.program gaps.now) 0 litmus.now.labels) t) thread.now }
     ensures few { result ≤ 128 }
 {
     let len = thread.code.len();

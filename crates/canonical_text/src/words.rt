@@ -4,7 +4,7 @@ ghost use Rattle.text_tokens.specs.Pieces.{text_of};
 ghost use Rattle.litmus_text.specs.Outcomes.{register_name};
 ghost use Rattle.litmus_syntax.specs.Views.{Location, Register};
 ghost use Rattle.canonical_text.specs.Spelling.{register_pieces, valued_pieces, gap};
-ghost use Rattle.canonical_text.specs.Canonical.{name_at};
+ghost use Rattle.canonical_text.specs.Canonical.{location_name_at};
 ghost use Rattle.std.specs.Fmt.{decimal};
 
 use litmus_text::NameTable;
@@ -27,7 +27,7 @@ fn register_name(register: Reg) -> &'static [u8]
 
 /// The name of the location with this number; none where the text has no such location.
 pub fn name_at(names: &NameTable, number: usize) -> &[u8]
-    ensures { result.now ≡ name_at names.now.locations number }
+    ensures { result.now ≡ location_name_at names.now.locations number }
 {
     match names.location(number) {
         Some(name) => name,

@@ -5,7 +5,7 @@ ghost use Rattle.tso_program.specs.Fences.{gaps_in, first_missing};
 ghost use Rattle.tso_program.specs.declared.fenced.FenceFault.TheVariants.{NoSuchGap, OutOfMemory};
 ghost use Rattle.litmus_text.specs.Texts.{IsLitmus, IsFencedLitmus};
 ghost use Rattle.canonical_text.specs.Spelling.{heading, body_pieces, ending_pieces, text_with};
-ghost use Rattle.canonical_text.specs.Canonical.{body_of, ending_of, moved_labels, canonical_text, fenced_at};
+ghost use Rattle.canonical_text.specs.Canonical.{body_of, ending_of, moved_labels, canonical_text, litmus_fenced_at};
 
 use crate::entries::push_initial;
 use crate::formula::push_condition;
@@ -80,10 +80,10 @@ pub fn write_litmus(
     litmus: &Litmus<Program>,
     gaps: &GapSet,
 ) -> Result<Vec<u8>, FenceFault>
-    ensures text { IfOk result (λ text. text.items ≡ canonical_text (fenced_at gaps.now litmus.now)) }
+    ensures text { IfOk result (λ text. text.items ≡ canonical_text (litmus_fenced_at gaps.now litmus.now)) }
     // What a litmus text stands for is read again, with its fences and its labels.
     ensures again { (source : List ℕ) → IsLitmus source litmus.now
-        → IfOk result (λ text. IsFencedLitmus text.items (fenced_at gaps.now litmus.now)) }
+        → IfOk result (λ text. IsFencedLitmus text.items (litmus_fenced_at gaps.now litmus.now)) }
     ensures found { OnOk result (first_missing litmus.now.program gaps.now ≡ None) }
     ensures all { first_missing litmus.now.program gaps.now ≡ None → IsOkUnless result OutOfMemory }
     ensures missing { (gap : ℕ) → first_missing litmus.now.program gaps.now ≡ Some gap → result ≡ Err (NoSuchGap gap) }

@@ -9,7 +9,7 @@ use Rattle.tso_program.specs.Shown.{Question, show}
 use Rattle.tso_machine.specs.declared.label.Label.{Label}
 use Rattle.tso_machine.specs.Machine.{Mode, Sequential, Fenced, no_gaps, outcome_at}
 use Rattle.tso_machine.specs.Outcomes.{IsShownRun}
-use Rattle.cert_forest.specs.Trees.{Gap, Split, Bound, Gaps, NoGap, MoreGaps}
+use Rattle.cert_forest.specs.Trees.{Gap, Split, Bound, GapTrees, NoGap, MoreGaps}
 use Rattle.cert_forest.specs.Texts.{count_gaps}
 use Rattle.tree_laws.specs.CoverTrees.{IsValidCover}
 use Rattle.tree_laws.specs.GapTrees.{Node, children_of, IsValidGap, AreValidGaps}
@@ -20,7 +20,7 @@ use Rattle.cert_check.specs.declared.fault.CheckFault.{CheckFault}
 use Rattle.cert_check.specs.declared.fault.CheckFault.TheVariants as fault
 use Rattle.cover_judge.proofs.WrongNodes.{valid_is_not_wrong}
 use Rattle.cert_check.specs.GapDefects as gaps
-use Rattle.cert_check.specs.Faults.{IsRunOf, IsFirstWithout, FaultIs}
+use Rattle.cert_check.specs.Faults.{IsRunOf, IsFirstWithout, CheckFaultIs}
 use Rattle.cert_check.specs.Laws.{ValidCertificatesHaveNoFault}
 use Rattle.cert_check.proofs.Replayed.{zip_left, of_shown}
 
@@ -55,7 +55,7 @@ module _ (p : Listing) (costs : List ℕ) (answer : SetOfGaps) (runs : List (Lis
   long [] n = refl
   long (gap ∷ numbers) n = ap suc (long numbers (record n { never = set.insert n.never gap }))
 
-  many_gaps : (trees : Gaps) (ns : List Node) → AreValidGaps p costs answer runs trees ns → count_gaps trees ≡ length ns
+  many_gaps : (trees : GapTrees) (ns : List Node) → AreValidGaps p costs answer runs trees ns → count_gaps trees ≡ length ns
   many_gaps NoGap [] valid = refl
   many_gaps NoGap (n ∷ ns) valid = absurd valid
   many_gaps (MoreGaps tree trees) [] valid = absurd valid
@@ -71,8 +71,8 @@ module _ (p : Listing) (costs : List ℕ) (answer : SetOfGaps) (runs : List (Lis
     valid_gap_is_not_wrong Bound n [] valid wrong = valid wrong
     valid_gap_is_not_wrong Bound n (child ∷ path) valid wrong = wrong
 
-    valid_gaps_have_no_wrong : (trees : Gaps) (ns : List Node) (child : ℕ) (path : List ℕ) → AreValidGaps p costs answer runs trees ns →
-        gaps.FirstWrongChild p costs answer runs trees ns child path → ⊥
+    valid_gaps_have_no_wrong : (trees : GapTrees) (ns : List Node) (child : ℕ) (path : List ℕ) → AreValidGaps p costs answer runs trees ns →
+        gaps.FirstWrongGapChild p costs answer runs trees ns child path → ⊥
     valid_gaps_have_no_wrong NoGap ns child path valid wrong = wrong
     valid_gaps_have_no_wrong (MoreGaps tree trees) [] child path valid wrong = wrong
     valid_gaps_have_no_wrong (MoreGaps tree trees) (n ∷ ns) zero path valid wrong = valid_gap_is_not_wrong tree n path valid.0 wrong
@@ -85,7 +85,7 @@ module _ (q : Question) (costs : List ℕ) (c : Certificate) (valid : IsValidCer
   same_list : (outcomes : List Outcome) → AreSequentialRuns q c.seq_runs outcomes → valid.outcomes ≡ outcomes
   same_list outcomes replayed = one_list q c.seq_runs valid.outcomes outcomes valid.replayed replayed
 
-  no_fault : (why : CheckFault) → FaultIs q costs c why → why ≡ fault.OutOfMemory
+  no_fault : (why : CheckFault) → CheckFaultIs q costs c why → why ≡ fault.OutOfMemory
   no_fault fault.Shown wrong = absurd (wrong valid.shown)
   no_fault fault.Set wrong = absurd (wrong.1 valid.of_program)
   no_fault fault.Cost wrong = absurd (wrong.2 (valid.one_cost_each, valid.cost))

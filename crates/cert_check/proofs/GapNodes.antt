@@ -10,7 +10,7 @@ use Rattle.tso_program.specs.declared.listing.Listing.{Listing}
 use Rattle.tso_machine.specs.declared.label.Label.{Label}
 use Rattle.tso_machine.specs.Machine.{Fenced, no_gaps}
 use Rattle.tso_machine.specs.Modes.{ArePassed}
-use Rattle.cert_forest.specs.Trees.{Gap, Split, Bound, gaps_of}
+use Rattle.cert_forest.specs.Trees.{Gap, Split, Bound, gap_trees_of}
 use Rattle.cert_forest.proofs.TreeTexts.{gaps_count}
 use Rattle.tree_laws.specs.GapTrees.{PassesGap, IsSplitBy}
 use Rattle.tree_laws.proofs.OneList.{one_list_of_gaps}
@@ -81,14 +81,14 @@ module _ (p : Listing) (costs : List ℕ) (answer : SetOfGaps) (runs : List (Lis
   bound_here path (at, better) = subst (IsWrongIn p costs answer runs Bound region) (sym at) better
 
   module _ (n : ℕ) (trees : List Gap) where
-    pub split_here : (path : List ℕ) → IsAtRoot (HasNoSplit p runs (node_of region) n (length trees)) path → IsWrongIn p costs answer runs (Split n (gaps_of trees)) region path
-    split_here path (at, none) = subst (IsWrongIn p costs answer runs (Split n (gaps_of trees)) region) (sym at) (λ gaps split e. none gaps split (sym (gaps_count trees) ∙ e))
+    pub split_here : (path : List ℕ) → IsAtRoot (HasNoSplit p runs (node_of region) n (length trees)) path → IsWrongIn p costs answer runs (Split n (gap_trees_of trees)) region path
+    split_here path (at, none) = subst (IsWrongIn p costs answer runs (Split n (gap_trees_of trees)) region) (sym at) (λ gaps split e. none gaps split (sym (gaps_count trees) ∙ e))
 
     module _ (gaps : List ℕ) (split : IsSplitBy p runs (node_of region) n gaps) where
-      pub split_valid : AreValidIn p costs answer runs trees region gaps → IsValidIn p costs answer runs (Split n (gaps_of trees)) region
+      pub split_valid : AreValidIn p costs answer runs trees region gaps → IsValidIn p costs answer runs (Split n (gap_trees_of trees)) region
       split_valid valid = (gaps, split, valid)
 
       pub split_below : length trees ≡ length gaps → (path : List ℕ) → IsBelow (IsWrongChildIn p costs answer runs trees region gaps) path →
-          IsWrongIn p costs answer runs (Split n (gaps_of trees)) region path
+          IsWrongIn p costs answer runs (Split n (gap_trees_of trees)) region path
       split_below as_many [] wrong = absurd wrong
       split_below as_many (child ∷ path) wrong = (gaps, split, gaps_count trees ∙ as_many, wrong)

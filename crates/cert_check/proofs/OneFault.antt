@@ -12,7 +12,7 @@ use Rattle.tso_machine.specs.declared.label.Label.{Label}
 use Rattle.tso_machine.specs.Machine.{Mode, Sequential, Fenced, no_gaps}
 use Rattle.tso_machine.specs.Outcomes.{IsShownRun, AreGapsOf}
 use Rattle.candidate_executions.specs.Sketches.{empty_sketch}
-use Rattle.cert_forest.specs.Trees.{Cover, Gap, Split, Bound, Gaps, NoGap, MoreGaps}
+use Rattle.cert_forest.specs.Trees.{Cover, Gap, Split, Bound, GapTrees, NoGap, MoreGaps}
 use Rattle.tree_laws.specs.CoverTrees.{IsValidCover}
 use Rattle.tree_laws.specs.GapTrees.{Node, root, children_of}
 use Rattle.tree_laws.specs.Certificates.{Certificate, AreSequentialRuns, IsRunOutside}
@@ -22,8 +22,8 @@ use Rattle.cert_check.specs.declared.fault.CheckFault.TheVariants as fault
 use Rattle.cover_judge.specs.CoverDefects.{FirstWrongCover}
 use Rattle.cover_judge.proofs.WrongNodes.{next_sibling, valid_is_not_wrong, one_wrong_node}
 use Rattle.cert_check.specs.GapDefects as gaps
-use Rattle.cert_check.specs.Faults.{IsRunOf, IsFirstWithout, HasRightCost, HasHead, HasOutcomes, HasEachOutcome, HasRuns, HasForeignRuns, HasServingSet, FaultIs}
-use Rattle.cert_check.specs.Laws.{TheFirstFaultIsUnique}
+use Rattle.cert_check.specs.Faults.{IsRunOf, IsFirstWithout, HasRightCost, HasHead, HasOutcomes, HasEachOutcome, HasRuns, HasForeignRuns, HasServingSet, CheckFaultIs}
+use Rattle.cert_check.specs.Laws.{TheFirstCheckFaultIsUnique}
 use Rattle.cert_check.proofs.Replayed.{zip_left, of_shown}
 use Rattle.cert_check.proofs.FirstFaults.{one_list, none_without, valid_gap_is_not_wrong}
 
@@ -53,13 +53,13 @@ module _ (p : Listing) (costs : List ℕ) (answer : SetOfGaps) (runs : List (Lis
     one_wrong_gap (Split number children) n (i ∷ path) [] (numbers, split, many, below) wrong = absurd (wrong numbers split many)
     one_wrong_gap (Split number children) n (i ∷ path) (j ∷ other) (numbers, split, many, below) (others, split_too, many_too, below_too) =
         one_wrong_gap_child children (children_of n numbers) i j path other below
-        (subst (λ gs. gaps.FirstWrongChild p costs answer runs children (children_of n gs) j other) (one_list_of_gaps p runs n number others numbers split_too split) below_too)
+        (subst (λ gs. gaps.FirstWrongGapChild p costs answer runs children (children_of n gs) j other) (one_list_of_gaps p runs n number others numbers split_too split) below_too)
     one_wrong_gap Bound n [] [] wrong also = refl
     one_wrong_gap Bound n [] (j ∷ other) wrong also = absurd also
     one_wrong_gap Bound n (i ∷ path) other wrong also = absurd wrong
 
-    one_wrong_gap_child : (trees : Gaps) (ns : List Node) (i j : ℕ) (path other : List ℕ) → gaps.FirstWrongChild p costs answer runs trees ns i path →
-        gaps.FirstWrongChild p costs answer runs trees ns j other → i ∷ path ≡ j ∷ other
+    one_wrong_gap_child : (trees : GapTrees) (ns : List Node) (i j : ℕ) (path other : List ℕ) → gaps.FirstWrongGapChild p costs answer runs trees ns i path →
+        gaps.FirstWrongGapChild p costs answer runs trees ns j other → i ∷ path ≡ j ∷ other
     one_wrong_gap_child NoGap ns i j path other wrong also = absurd wrong
     one_wrong_gap_child (MoreGaps tree trees) [] i j path other wrong also = absurd wrong
     one_wrong_gap_child (MoreGaps tree trees) (n ∷ ns) zero zero path other wrong also = ap (λ xs. zero ∷ xs) (one_wrong_gap tree n path other wrong also)
@@ -212,7 +212,7 @@ module _ (q : Question) (costs : List ℕ) (c : Certificate) where
   after_fenced : (why : CheckFault) (outcomes : List Outcome) → HasServingSet q costs c outcomes → OfGaps why → OfShown why
   after_fenced why outcomes has rest = after_foreign why outcomes has.runs (inr ((outcomes, has.runs.replayed.complete.listed.replayed, has.fenced), rest))
 
-  of_a_part : (why : CheckFault) → why ≢ fault.OutOfMemory → FaultIs q costs c why → OfShown why
+  of_a_part : (why : CheckFault) → why ≢ fault.OutOfMemory → CheckFaultIs q costs c why → OfShown why
   of_a_part fault.Shown known wrong = inl (tt, wrong, refl)
   of_a_part fault.Set known wrong = inr (wrong.0, inl (tt, wrong.1, refl))
   of_a_part fault.Cost known wrong = inr (wrong.0, inr (wrong.1, inl (tt, wrong.2, refl)))
@@ -240,11 +240,11 @@ memory_or_not (fault.FencedTree path) = inr (λ e. cc)
 memory_or_not (fault.GapTree path) = inr (λ e. cc)
 memory_or_not fault.OutOfMemory = inl refl
 
-pub the_first_fault_is_unique : TheFirstFaultIsUnique
+pub the_first_fault_is_unique : TheFirstCheckFaultIsUnique
 the_first_fault_is_unique q costs c why other wrong also = elim (memory_or_not why) [
-  | inl memory ↦ inr (inl memory, subst (FaultIs q costs c) memory wrong)
+  | inl memory ↦ inr (inl memory, subst (CheckFaultIs q costs c) memory wrong)
   | inr known ↦ elim (memory_or_not other) [
-    | inl memory ↦ inr (inr memory, subst (FaultIs q costs c) memory also)
+    | inl memory ↦ inr (inr memory, subst (CheckFaultIs q costs c) memory also)
     | inr known_too ↦ inl (one_of_shown q costs c why other (of_a_part q costs c why known wrong) (of_a_part q costs c other known_too also))
   ]
 ]

@@ -1,4 +1,4 @@
--- Runs that are replayed in turn, and the first that is none.
+-- Runs that are replayed in turn, and the first that is not a run.
 use Rattle.std.proofs.Common.{◌≡◌, ◌≢◌, ℕ, zero, suc, ◌+◌, ◌<◌, List, [], ◌∷◌, ◌++◌, length, All, take, get_or, refl, sym, ap, ◌∙◌, subst, arith}
 use Rattle.std.specs.List.{AllZip}
 use Rattle.std.specs.Option.{option_map}
@@ -22,12 +22,12 @@ use Rattle.cert_check.specs.declared.fault.RunsFault.TheVariants as runs
 use Rattle.tso_machine.specs.Machine.{Mode, Fenced, IsRun}
 use Rattle.tso_machine.specs.Modes.{mode_of, ArePassed}
 use Rattle.tso_machine.specs.Outcomes.{IsShownRun}
-use Rattle.tso_machine.specs.Faults.{FaultIs}
+use Rattle.tso_machine.specs.Faults.{ReplayFaultIs}
 use Rattle.tso_machine.proofs.Refused.{no_fault}
 use Rattle.fence_laws.proofs.GapsAvoided.{empty_fences_nothing}
 use Rattle.cert_forest.specs.Certificates.{labels_of}
 use Rattle.cert_check.specs.Faults.{IsRunOf, IsFirstWithout}
-use Rattle.cert_check.specs.Replays.{machine_of, IsReplayOf, AreReplaysOf, IsNoRun, IsFaultFrom, RunsFaultIs}
+use Rattle.cert_check.specs.Replays.{machine_of, IsReplayOf, AreReplaysOf, IsNoRunAt, IsFaultFrom, RunsFaultIs}
 
 -- with the empty set fenced a model's machine is the one with no gap fenced
 pub machine_is : (p : Listing) (model : Model) → mode_of p set.empty model ≡ machine_of model
@@ -35,7 +35,7 @@ machine_is p models.Sequential = refl
 machine_is p models.Buffered = ap Fenced (empty_fences_nothing p)
 
 -- a fault of a replay says that the labels are no run
-pub no_run : (p : Listing) (mode machine : Mode) (labels : List Label) (why : ReplayFault) → mode ≡ machine → FaultIs p mode labels why → why ≢ replays.OutOfMemory →
+pub no_run : (p : Listing) (mode machine : Mode) (labels : List Label) (why : ReplayFault) → mode ≡ machine → ReplayFaultIs p mode labels why → why ≢ replays.OutOfMemory →
     IsRunOf p machine labels → ⊥
 no_run p mode machine labels why same fault no_memory run =
     let (o, is_run) = subst (λ m. IsRunOf p m labels) (sym same) run in no_memory (no_fault p mode labels o why is_run fault)
@@ -52,9 +52,9 @@ module _ (p : Listing) (model : Model) (labels : List Label) (empty : SetOfGaps)
     passed = subst (λ m. ArePassed p m labels end.passed) same_machine passed;
   })
 
-  -- and what it says where there is none
-  pub fault_is : (why : ReplayFault) (number : ℕ) (fault : RunsFault) → FaultIs p (mode_of p empty model) labels why → IsFaultFrom why number fault →
-      IsNoRun p (machine_of model) labels number fault
+  -- and what it says where the labels are not a run
+  pub fault_is : (why : ReplayFault) (number : ℕ) (fault : RunsFault) → ReplayFaultIs p (mode_of p empty model) labels why → IsFaultFrom why number fault →
+      IsNoRunAt p (machine_of model) labels number fault
   fault_is why number (runs.NoRun n) h (at, no_memory) = (at, no_run p (mode_of p empty model) (machine_of model) labels why same_machine h no_memory)
   fault_is why number runs.OutOfMemory h none = tt
 
@@ -94,7 +94,7 @@ module _ (q : Question) (model : Model) (all : List (Vec Label)) where
     are_passed = step_more (ArePassed q.program (machine_of model)) all i d h labels same passed more_passed end.passed each.are_passed is.passed pushed_too;
   }
 
-  -- the first run that is none
+  -- the first that is not a run
   pub first_no_run : (i : ℕ) (d : Vec Label) (outcomes : List Outcome) (passed : List SetOfGaps) → i < length all → AreReplaysOf q model (labels_of (take i all)) outcomes passed →
       (IsRunOf q.program (machine_of model) (get_or all i d).items → ⊥) → IsFirstWithout (IsRunOf q.program (machine_of model)) (labels_of all) i
   first_no_run i d outcomes passed h each none = record {
@@ -105,9 +105,9 @@ module _ (q : Question) (model : Model) (all : List (Vec Label)) where
         (zip_left (IsShownRun q (machine_of model)) (IsRunOf q.program (machine_of model)) (of_shown q (machine_of model)) (labels_of (take i all)) outcomes each.are_runs);
   }
 
-  -- the fault of the first run that is none
+  -- the fault of the first that is not a run
   pub first_fault : (i : ℕ) (d : Vec Label) (outcomes : List Outcome) (passed : List SetOfGaps) (labels : List Label) → labels ≡ (get_or all i d).items → (fault : RunsFault) → i < length all →
-      AreReplaysOf q model (labels_of (take i all)) outcomes passed → IsNoRun q.program (machine_of model) labels i fault → RunsFaultIs q.program model (labels_of all) fault
+      AreReplaysOf q model (labels_of (take i all)) outcomes passed → IsNoRunAt q.program (machine_of model) labels i fault → RunsFaultIs q.program model (labels_of all) fault
   first_fault i d outcomes passed labels same (runs.NoRun n) h each (at, none) = subst (IsFirstWithout (IsRunOf q.program (machine_of model)) (labels_of all)) (sym at)
       (first_no_run i d outcomes passed h each (λ run. none (subst (IsRunOf q.program (machine_of model)) (sym same) run)))
   first_fault i d outcomes passed labels same runs.OutOfMemory h each none = tt

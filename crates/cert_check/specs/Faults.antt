@@ -68,15 +68,15 @@ module _ (q : Question) (costs : List ℕ) (c : Certificate) where
 
   -- The fault is the first in their order, in which what is shown comes before the set. `OutOfMemory` says that these, the set and the cost
   -- are right: they are judged without memory.
-  abbrev pub FaultIs : CheckFault → Type 0
-  FaultIs fault.Shown = c.shown ≡ q.shown → ⊥
-  FaultIs fault.Set = (c.shown ≡ q.shown) × (AreGapsOf q.program c.gaps → ⊥)
-  FaultIs fault.Cost = (c.shown ≡ q.shown) × AreGapsOf q.program c.gaps × (HasRightCost → ⊥)
-  FaultIs (fault.SequentialRun number) = HasHead × IsFirstWithout (IsRunOf q.program Sequential) c.seq_runs number
-  FaultIs (fault.SequentialTree path) = (outcomes : List Outcome) × HasOutcomes outcomes × FirstWrongCover q Sequential outcomes c.seq_tree empty_sketch path
-  FaultIs (fault.Run number) = (outcomes : List Outcome) × HasEachOutcome outcomes × IsFirstWithout (IsRunOf q.program (Fenced no_gaps)) c.runs number
-  FaultIs (fault.NotForeign number) = (outcomes : List Outcome) × HasRuns outcomes × IsFirstWithout (IsRunOutside q outcomes) c.runs number
-  FaultIs (fault.FencedTree path) =
+  abbrev pub CheckFaultIs : CheckFault → Type 0
+  CheckFaultIs fault.Shown = c.shown ≡ q.shown → ⊥
+  CheckFaultIs fault.Set = (c.shown ≡ q.shown) × (AreGapsOf q.program c.gaps → ⊥)
+  CheckFaultIs fault.Cost = (c.shown ≡ q.shown) × AreGapsOf q.program c.gaps × (HasRightCost → ⊥)
+  CheckFaultIs (fault.SequentialRun number) = HasHead × IsFirstWithout (IsRunOf q.program Sequential) c.seq_runs number
+  CheckFaultIs (fault.SequentialTree path) = (outcomes : List Outcome) × HasOutcomes outcomes × FirstWrongCover q Sequential outcomes c.seq_tree empty_sketch path
+  CheckFaultIs (fault.Run number) = (outcomes : List Outcome) × HasEachOutcome outcomes × IsFirstWithout (IsRunOf q.program (Fenced no_gaps)) c.runs number
+  CheckFaultIs (fault.NotForeign number) = (outcomes : List Outcome) × HasRuns outcomes × IsFirstWithout (IsRunOutside q outcomes) c.runs number
+  CheckFaultIs (fault.FencedTree path) =
       (outcomes : List Outcome) × HasForeignRuns outcomes × FirstWrongCover q (Fenced (gaps_in q.program c.gaps)) outcomes c.fenced_tree empty_sketch path
-  FaultIs (fault.GapTree path) = (outcomes : List Outcome) × HasServingSet outcomes × FirstWrongGap q.program costs c.gaps c.runs c.gap_tree root path
-  FaultIs fault.OutOfMemory = HasHead
+  CheckFaultIs (fault.GapTree path) = (outcomes : List Outcome) × HasServingSet outcomes × FirstWrongGap q.program costs c.gaps c.runs c.gap_tree root path
+  CheckFaultIs fault.OutOfMemory = HasHead

@@ -4,7 +4,7 @@ use Rattle.gap_sets.specs.Gaps.{SetOfGaps}
 use Rattle.gap_sets.specs.Order.{Better}
 use Rattle.tso_program.specs.declared.listing.Listing.{Listing}
 use Rattle.tso_machine.specs.declared.label.Label.{Label}
-use Rattle.cert_forest.specs.Trees.{Gap, Split, Bound, Gaps, NoGap, MoreGaps}
+use Rattle.cert_forest.specs.Trees.{Gap, Split, Bound, GapTrees, NoGap, MoreGaps}
 use Rattle.cert_forest.specs.Texts.{count_gaps}
 use Rattle.tree_laws.specs.GapTrees.{Node, children_of, IsSplitBy, IsValidGap}
 
@@ -14,23 +14,23 @@ HasNoSplit p runs n number count = (gaps : List ℕ) → IsSplitBy p runs n numb
 
 module _ (p : Listing) (costs : List ℕ) (answer : SetOfGaps) (runs : List (List Label)) where
   -- the root is wrong at the node, whatever its children say
-  abbrev pub HasWrongRoot : Gap → Node → Type 0
-  HasWrongRoot (Split number children) n = HasNoSplit p runs n number (count_gaps children)
-  HasWrongRoot Bound n = Better costs n.must answer
+  abbrev pub HasWrongGapRoot : Gap → Node → Type 0
+  HasWrongGapRoot (Split number children) n = HasNoSplit p runs n number (count_gaps children)
+  HasWrongGapRoot Bound n = Better costs n.must answer
 
   abbrev mutual
     -- The node at this path is wrong, and none before it is: each node above it is right, and the trees of the children before it are valid.
     pub FirstWrongGap : Gap → Node → List ℕ → Type 0
-    FirstWrongGap (Split number children) n [] = HasWrongRoot (Split number children) n
+    FirstWrongGap (Split number children) n [] = HasWrongGapRoot (Split number children) n
     FirstWrongGap (Split number children) n (child ∷ path) =
         (gaps : List ℕ) × IsSplitBy p runs n number gaps × (count_gaps children ≡ length gaps)
-        × FirstWrongChild children (children_of n gaps) child path
-    FirstWrongGap Bound n [] = HasWrongRoot Bound n
+        × FirstWrongGapChild children (children_of n gaps) child path
+    FirstWrongGap Bound n [] = HasWrongGapRoot Bound n
     FirstWrongGap Bound n (child ∷ path) = ⊥
 
     -- the child of this number has the first wrong node, at this path from it
-    pub FirstWrongChild : Gaps → List Node → ℕ → List ℕ → Type 0
-    FirstWrongChild NoGap ns child path = ⊥
-    FirstWrongChild (MoreGaps tree trees) [] child path = ⊥
-    FirstWrongChild (MoreGaps tree trees) (n ∷ ns) zero path = FirstWrongGap tree n path
-    FirstWrongChild (MoreGaps tree trees) (n ∷ ns) (suc child) path = IsValidGap p costs answer runs tree n × FirstWrongChild trees ns child path
+    pub FirstWrongGapChild : GapTrees → List Node → ℕ → List ℕ → Type 0
+    FirstWrongGapChild NoGap ns child path = ⊥
+    FirstWrongGapChild (MoreGaps tree trees) [] child path = ⊥
+    FirstWrongGapChild (MoreGaps tree trees) (n ∷ ns) zero path = FirstWrongGap tree n path
+    FirstWrongGapChild (MoreGaps tree trees) (n ∷ ns) (suc child) path = IsValidGap p costs answer runs tree n × FirstWrongGapChild trees ns child path

@@ -4,14 +4,14 @@ use Rattle.tso_program.specs.Shown.{Question}
 use Rattle.tree_laws.specs.Certificates.{Certificate, IsValidCertificate}
 use Rattle.cert_check.specs.declared.fault.CheckFault.{CheckFault}
 use Rattle.cert_check.specs.declared.fault.CheckFault.TheVariants.{OutOfMemory}
-use Rattle.cert_check.specs.Faults.{FaultIs, HasHead}
+use Rattle.cert_check.specs.Faults.{CheckFaultIs, HasHead}
 
 -- no fault but out of memory fits a valid certificate
 abbrev pub ValidCertificatesHaveNoFault : Type 0
 ValidCertificatesHaveNoFault = (q : Question) (costs : List ℕ) (c : Certificate) (why : CheckFault) → IsValidCertificate q costs c →
-    FaultIs q costs c why → why ≡ OutOfMemory
+    CheckFaultIs q costs c why → why ≡ OutOfMemory
 
 -- two faults that both fit a certificate are the same, or one of them is out of memory, and then its head is right
-abbrev pub TheFirstFaultIsUnique : Type 0
-TheFirstFaultIsUnique = (q : Question) (costs : List ℕ) (c : Certificate) (why other : CheckFault) → FaultIs q costs c why → FaultIs q costs c other →
+abbrev pub TheFirstCheckFaultIsUnique : Type 0
+TheFirstCheckFaultIsUnique = (q : Question) (costs : List ℕ) (c : Certificate) (why other : CheckFault) → CheckFaultIs q costs c why → CheckFaultIs q costs c other →
     (why ≡ other) ⊎ (((why ≡ OutOfMemory) ⊎ (other ≡ OutOfMemory)) × HasHead q costs c)

@@ -4,10 +4,10 @@ use Rattle.std.specs.FinSet as set
 use Rattle.gap_sets.specs.Gaps.{SetOfGaps}
 use Rattle.tso_program.specs.declared.listing.Listing.{Listing}
 use Rattle.tso_machine.specs.declared.label.Label.{Label}
-use Rattle.cert_forest.specs.Trees.{Gap, gaps_of}
+use Rattle.cert_forest.specs.Trees.{Gap, gap_trees_of}
 use Rattle.tree_laws.specs.GapTrees.{Node, children_of, IsValidGap, AreValidGaps}
 use Rattle.cert_check.specs.declared.gap.Region.{Region}
-use Rattle.cert_check.specs.GapDefects.{FirstWrongGap, FirstWrongChild}
+use Rattle.cert_check.specs.GapDefects.{FirstWrongGap, FirstWrongGapChild}
 
 abbrev pub node_of : Region → Node
 node_of region = record { must = region.must; never = region.never }
@@ -28,7 +28,7 @@ module _ (p : Listing) (costs : List ℕ) (answer : SetOfGaps) (runs : List (Lis
 
   -- the trees are valid for the children of the region by these gaps, in order
   abbrev pub AreValidIn : List Gap → Region → List ℕ → Type 0
-  AreValidIn trees region gaps = AreValidGaps p costs answer runs (gaps_of trees) (children_of (node_of region) gaps)
+  AreValidIn trees region gaps = AreValidGaps p costs answer runs (gap_trees_of trees) (children_of (node_of region) gaps)
 
   abbrev pub IsWrongChildIn : List Gap → Region → List ℕ → ℕ → List ℕ → Type 0
-  IsWrongChildIn trees region gaps number path = FirstWrongChild p costs answer runs (gaps_of trees) (children_of (node_of region) gaps) number path
+  IsWrongChildIn trees region gaps number path = FirstWrongGapChild p costs answer runs (gap_trees_of trees) (children_of (node_of region) gaps) number path

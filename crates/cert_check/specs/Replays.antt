@@ -44,15 +44,15 @@ borrowed_cmp a b = outcome_cmp a.now b.now
 abbrev pub IsOutside : List Outcome → Outcome → Type 0
 IsOutside list o = Contains list o → ⊥
 
--- the first run that is none; out of memory says nothing
+-- the first that is not a run; out of memory says nothing
 abbrev pub RunsFaultIs : Listing → Model → List (List Label) → RunsFault → Type 0
 RunsFaultIs p model runs (why.NoRun number) = IsFirstWithout (IsRunOf p (machine_of model)) runs number
 RunsFaultIs p model runs why.OutOfMemory = Unit {0}
 
 -- the labels of this number are no run of the machine; out of memory says nothing
-abbrev pub IsNoRun : Listing → Mode → List Label → ℕ → RunsFault → Type 0
-IsNoRun p machine labels number (why.NoRun n) = (n ≡ number) × (IsRunOf p machine labels → ⊥)
-IsNoRun p machine labels number why.OutOfMemory = Unit {0}
+abbrev pub IsNoRunAt : Listing → Mode → List Label → ℕ → RunsFault → Type 0
+IsNoRunAt p machine labels number (why.NoRun n) = (n ≡ number) × (IsRunOf p machine labels → ⊥)
+IsNoRunAt p machine labels number why.OutOfMemory = Unit {0}
 
 -- the fault of the run of this number, from that of its replay: out of memory stays that, every other says that there is no run
 abbrev pub IsFaultFrom : ReplayFault → ℕ → RunsFault → Type 0

@@ -16,7 +16,7 @@ ghost use Rattle.tree_laws.specs.Certificates as trees;
 ghost use Rattle.tree_laws.specs.Certificates.{AreSequentialRuns, IsRunOutside, IsValidCertificate};
 ghost use Rattle.the_answer.specs.Answers.{the_answer, least_cost};
 ghost use Rattle.cert_check.specs.Claims.{claim_of};
-ghost use Rattle.cert_check.specs.Faults.{FaultIs, HasHead, HasEachOutcome, HasForeignRuns, HasServingSet};
+ghost use Rattle.cert_check.specs.Faults.{CheckFaultIs, HasHead, HasEachOutcome, HasForeignRuns, HasServingSet};
 ghost use Rattle.cert_check.specs.Replays.{HavePassed};
 
 use crate::CheckFault;
@@ -65,7 +65,7 @@ pub fn check(
     // A valid certificate is accepted if memory is there, any other is refused by its first fault.
     ensures valid { OnOk result (IsValidCertificate (asked program.now shown.now) costs.now (claim_of certificate.now)) }
     ensures accepts { IsValidCertificate (asked program.now shown.now) costs.now (claim_of certificate.now) → IsOkUnless result CheckFault.OutOfMemory }
-    ensures fault { IfErr result (FaultIs (asked program.now shown.now) costs.now (claim_of certificate.now)) }
+    ensures fault { IfErr result (CheckFaultIs (asked program.now shown.now) costs.now (claim_of certificate.now)) }
 {
     match check_all(alloc, program, shown, costs, certificate) {
         Ok(()) => {
@@ -79,7 +79,7 @@ pub fn check(
     }
 }
 
-/// A valid certificate for a program and the costs of its gaps proves the headline, which tells the
+/// A valid certificate for a program and the costs of its gaps proves the headline, which states the
 /// answer. Calling it does nothing.
 fn what_is_proved(program: &Program, shown: &Shown, costs: &Costs)
     ensures valid { (c : trees.Certificate) → IsValidCertificate (asked program.now shown.now) costs.now c → IsProved (asked program.now shown.now) costs.now c }
@@ -102,7 +102,7 @@ fn check_all(
     certificate: &Certificate,
 ) -> Result<(), CheckFault>
     ensures valid { OnOk result (IsValidCertificate (asked program.now shown.now) costs.now (claim_of certificate.now)) }
-    ensures fault { IfErr result (FaultIs (asked program.now shown.now) costs.now (claim_of certificate.now)) }
+    ensures fault { IfErr result (CheckFaultIs (asked program.now shown.now) costs.now (claim_of certificate.now)) }
 {
     check_head(program, shown, costs, certificate)?;
     let listed = sequential_list(alloc, program, shown, certificate)?;
@@ -119,7 +119,7 @@ fn check_head(
     certificate: &Certificate,
 ) -> Result<(), CheckFault>
     ensures ok { OnOk result (HasHead (asked program.now shown.now) costs.now (claim_of certificate.now)) }
-    ensures fault { IfErr result (FaultIs (asked program.now shown.now) costs.now (claim_of certificate.now)) }
+    ensures fault { IfErr result (CheckFaultIs (asked program.now shown.now) costs.now (claim_of certificate.now)) }
 {
     if !certificate.shown.same(shown) {
         return Err(CheckFault::Shown);
@@ -146,7 +146,7 @@ fn sequential_list(
     ensures replayed { IfOk result (λ listed. AreSequentialRuns (asked program.now shown.now) (claim_of certificate.now).seq_runs listed.items) }
     ensures sequential { IfOk result (λ listed. IsValidCover (asked program.now shown.now) Sequential listed.items (claim_of certificate.now).seq_tree empty_sketch) }
     ensures fault { (costs : List ℕ) → HasHead (asked program.now shown.now) costs (claim_of certificate.now)
-        → IfErr result (FaultIs (asked program.now shown.now) costs (claim_of certificate.now)) }
+        → IfErr result (CheckFaultIs (asked program.now shown.now) costs (claim_of certificate.now)) }
 {
     let listed = match replay_all(
         alloc,
@@ -184,7 +184,7 @@ fn foreign_runs(
     ensures passed { IfOk result (λ passed. HavePassed program.now (claim_of certificate.now).runs passed.items) }
     ensures foreign { OnOk result (All (IsRunOutside (asked program.now shown.now) listed.now) (claim_of certificate.now).runs) }
     ensures fault { (costs : List ℕ) → HasEachOutcome (asked program.now shown.now) costs (claim_of certificate.now) listed.now
-        → IfErr result (FaultIs (asked program.now shown.now) costs (claim_of certificate.now)) }
+        → IfErr result (CheckFaultIs (asked program.now shown.now) costs (claim_of certificate.now)) }
 {
     let replays = match replay_all(alloc, program, shown, Model::Buffered, &certificate.runs) {
         Ok(replays) => replays,
@@ -208,7 +208,7 @@ fn check_fenced(
 ) -> Result<(), CheckFault>
     ensures fenced { OnOk result (IsValidCover (asked program.now shown.now) (Fenced (gaps_in program.now certificate.now.set)) listed.now (claim_of certificate.now).fenced_tree empty_sketch) }
     ensures fault { (costs : List ℕ) → HasForeignRuns (asked program.now shown.now) costs (claim_of certificate.now) listed.now
-        → IfErr result (FaultIs (asked program.now shown.now) costs (claim_of certificate.now)) }
+        → IfErr result (CheckFaultIs (asked program.now shown.now) costs (claim_of certificate.now)) }
 {
     let mode = Mode::Fenced(certificate.set);
     match judge_from_start(
@@ -235,7 +235,7 @@ fn check_gaps(
     ensures least { (p : Listing) → HavePassed p (claim_of certificate.now).runs passed.now
         → OnOk result (IsValidGap p costs.now certificate.now.set (claim_of certificate.now).runs (claim_of certificate.now).gap_tree root) }
     ensures fault { (q : Question) (outcomes : List Outcome) → HavePassed q.program (claim_of certificate.now).runs passed.now
-        → HasServingSet q costs.now (claim_of certificate.now) outcomes → IfErr result (FaultIs q costs.now (claim_of certificate.now)) }
+        → HasServingSet q costs.now (claim_of certificate.now) outcomes → IfErr result (CheckFaultIs q costs.now (claim_of certificate.now)) }
 {
     let bounds = Bounds {
         costs,

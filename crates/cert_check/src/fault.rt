@@ -17,13 +17,13 @@ pub enum CheckFault {
     /// The cost isn't the set's, or there isn't one cost for each gap.
     #[error("2 Cost")]
     Cost,
-    /// The sequential run of this number, from 0, is none.
+    /// The sequential run of this number, from 0, is not a run.
     #[error("3 SequentialRun {0}")]
     SequentialRun(usize),
     /// The tree doesn't show at this node that the sequential runs have all outcomes.
     #[error("4 SequentialTree {0}")]
     SequentialTree(Path),
-    /// The store buffer run of this number is none.
+    /// The store buffer run of this number is not a run.
     #[error("5 Run {0}")]
     Run(usize),
     /// The store buffer run of this number has a sequential outcome.
@@ -50,7 +50,7 @@ impl From<AllocError> for CheckFault {
     }
 }
 
-/// Why runs aren't all replayed: the first that is none.
+/// Why runs aren't all replayed: the first that is not a run.
 #[derive(Debug, Drop)]
 pub(crate) enum RunsFault {
     NoRun(usize),

@@ -6,7 +6,7 @@ ghost use Rattle.std.specs.Borrow.{Bor};
 ghost use Rattle.tso_program.specs.declared.outcome.Outcome.{Outcome};
 ghost use Rattle.tso_program.specs.Shown.{show, asked};
 ghost use Rattle.cert_check.specs.Faults.{IsFirstWithout};
-ghost use Rattle.cert_check.specs.Replays.{machine_of, IsReplayOf, AreReplaysOf, borrowed_cmp, IsOutside, IsNoRun, IsFaultFrom, RunsFaultIs};
+ghost use Rattle.cert_check.specs.Replays.{machine_of, IsReplayOf, AreReplaysOf, borrowed_cmp, IsOutside, IsNoRunAt, IsFaultFrom, RunsFaultIs};
 
 use crate::fault::RunsFault;
 use gap_sets::GapSet;
@@ -55,7 +55,7 @@ fn replay_one(
     labels: &[Label],
 ) -> Result<Ended, RunsFault>
     ensures replay { IfOk result (IsReplayOf (asked program.now shown.now) model labels.now) }
-    ensures fault { IfErr result (IsNoRun program.now (machine_of model) labels.now number) }
+    ensures fault { IfErr result (IsNoRunAt program.now (machine_of model) labels.now number) }
 {
     match replay(alloc, program, &GapSet::empty(), model, labels) {
         Ok(end) => Ok(as_shown(end, shown)),

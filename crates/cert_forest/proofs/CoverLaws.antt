@@ -9,8 +9,8 @@ use Rattle.cert_forest.specs.declared.tree.AccessId.{AccessId}
 use Rattle.cert_forest.specs.Trees.{Cover, Value, Source, Order, Cycle, Known, Covers, covers_of}
 use Rattle.cert_words.specs.Lines.{texts_of, spaced}
 use Rattle.cert_forest.specs.Texts.{access_word, cover_words, count_covers}
-use Rattle.cert_forest.specs.Limits.{IsAccess, cover_depth, covers_depth, HaveNumbers, IsCoverTo}
-use Rattle.cert_words.specs.Words.{◌>>=◌, number_at, count_at, letter_at, repeat_at}
+use Rattle.cert_forest.specs.Limits.{IsAccessId, cover_depth, covers_depth, HaveNumbers, IsCoverTo}
+use Rattle.cert_words.specs.Words.{◌>>=◌, number_within_at, count_at, letter_at, repeat_at}
 use Rattle.cert_forest.specs.Reading.{Head, ValueHead, SourceHead, OrderHead, CycleHead, KnownHead, access_at, kind_at, value_head_at, source_head_at, order_head_at, cycle_at, known_at, head_by, head_at, below_at, cover_at}
 use Rattle.cert_words.proofs.Steps.{bind_some, chosen, some_is, Starts, IsExact, takes_two, again_two, repeat_takes, repeat_again, starts_all}
 use Rattle.cert_words.proofs.WordLaws.{number_text, number_exact, below64, count_exact, letter_takes, letter_again}
@@ -38,12 +38,12 @@ head_text h = spaced (letter h ∷ []) ++ rest_text h
 
 abbrev pub HeadFits : Head → Type 0
 HeadFits (ValueHead thread n) = (thread ≤ 255) × (n ≤ 1024)
-HeadFits (SourceHead read n) = IsAccess read × (n ≤ 1024)
-HeadFits (OrderHead first second) = IsAccess first × IsAccess second
-HeadFits (CycleHead kind events) = (length events ≤ 1024) × AllByRecursion IsAccess events
+HeadFits (SourceHead read n) = IsAccessId read × (n ≤ 1024)
+HeadFits (OrderHead first second) = IsAccessId first × IsAccessId second
+HeadFits (CycleHead kind events) = (length events ≤ 1024) × AllByRecursion IsAccessId events
 HeadFits (KnownHead run) = run ≤ 18446744073709551615
 
--- what is read behind a letter
+-- what is read after a letter
 abbrev Takes : ℕ → (List ℕ → Option (Head × List ℕ)) → Type 0
 Takes l read = (bytes : List ℕ) (x : Head × List ℕ) → read bytes ≡ Some x → (bytes ≡ rest_text x.0 ++ x.1) × HeadFits x.0 × (letter x.0 ≡ l)
 
@@ -53,21 +53,21 @@ fits255 = omega arith
 value_takes : Takes 86 value_head_at
 unfolding value_head_at
 value_takes bytes x e =
-    let t = takes_two (number_at 255) count_at number_text number_text (λ n. n ≤ 255) (λ n. n ≤ 1024) (number_exact 255 fits255) count_exact ValueHead bytes x e in
+    let t = takes_two (number_within_at 255) count_at number_text number_text (λ n. n ≤ 255) (λ n. n ≤ 1024) (number_exact 255 fits255) count_exact ValueHead bytes x e in
     let here : bytes ≡ rest_text (ValueHead t.0 t.1) ++ x.1 = t.5 ∙ sym (append_assoc (number_text t.0) (number_text t.1) x.1) in
     subst (λ (h : Head). (bytes ≡ rest_text h ++ x.1) × HeadFits h × (letter h ≡ 86)) t.4 (here, (t.2, t.3), refl)
 
 source_takes : Takes 83 source_head_at
 unfolding source_head_at
 source_takes bytes x e =
-    let t = takes_two access_at count_at access_text number_text IsAccess (λ n. n ≤ 1024) access_exact count_exact SourceHead bytes x e in
+    let t = takes_two access_at count_at access_text number_text IsAccessId (λ n. n ≤ 1024) access_exact count_exact SourceHead bytes x e in
     let here : bytes ≡ rest_text (SourceHead t.0 t.1) ++ x.1 = t.5 ∙ sym (append_assoc (access_text t.0) (number_text t.1) x.1) in
     subst (λ (h : Head). (bytes ≡ rest_text h ++ x.1) × HeadFits h × (letter h ≡ 83)) t.4 (here, (t.2, t.3), refl)
 
 order_takes : Takes 79 order_head_at
 unfolding order_head_at
 order_takes bytes x e =
-    let t = takes_two access_at access_at access_text access_text IsAccess IsAccess access_exact access_exact OrderHead bytes x e in
+    let t = takes_two access_at access_at access_text access_text IsAccessId IsAccessId access_exact access_exact OrderHead bytes x e in
     let here : bytes ≡ rest_text (OrderHead t.0 t.1) ++ x.1 = t.5 ∙ sym (append_assoc (access_text t.0) (access_text t.1) x.1) in
     subst (λ (h : Head). (bytes ≡ rest_text h ++ x.1) × HeadFits h × (letter h ≡ 79)) t.4 (here, (t.2, t.3), refl)
 
@@ -82,21 +82,21 @@ cycle_takes bytes x e =
     let es = bind_some (repeat_at access_at n.0.0 [] n.0.1) (λ events. Some (CycleHead k.0.0 events.0, events.1)) x n.2 in
     let k-is = kind_exact.takes bytes k.0 k.1 in
     let n-is = count_exact.takes k.0.1 n.0 n.1 in
-    let es-are = repeat_takes access_at access_text IsAccess access_exact.takes n.0.0 [] n.0.1 es.0 es.1 in
+    let es-are = repeat_takes access_at access_text IsAccessId access_exact.takes n.0.0 [] n.0.1 es.0 es.1 in
     let same = some_is (CycleHead k.0.0 es.0.0, es.0.1) x es.2 in
     let events-is : es.0.0 ≡ es-are.0 = es-are.1 in
     let text : n.0.1 ≡ texts_of access_text es.0.0 ++ es.0.1 = es-are.2 ∙ ap (λ (v : List AccessId). texts_of access_text v ++ es.0.1) (sym events-is) in
     let len : n.0.0 ≡ length es.0.0 = sym es-are.3 ∙ ap length (sym events-is) in
     let second : k.0.1 ≡ number_text (length es.0.0) ++ (texts_of access_text es.0.0 ++ es.0.1) = n-is.0 ∙ (λ i. number_text (len i) ++ text i) in
     let here : bytes ≡ rest_text (CycleHead k.0.0 es.0.0) ++ es.0.1 = k-is.0 ∙ ap (λ (v : List ℕ). kind_text k.0.0 ++ v) second ∙ three (kind_text k.0.0) (number_text (length es.0.0)) (texts_of access_text es.0.0) es.0.1 in
-    let all : AllByRecursion IsAccess es.0.0 = subst (AllByRecursion IsAccess) (sym events-is) es-are.4 in
+    let all : AllByRecursion IsAccessId es.0.0 = subst (AllByRecursion IsAccessId) (sym events-is) es-are.4 in
     let small : length es.0.0 ≤ 1024 = omega (arith, n-is.1, len) in
     subst (λ (y : Head × List ℕ). (bytes ≡ rest_text y.0 ++ y.1) × HeadFits y.0 × (letter y.0 ≡ 67)) same (here, (small, all), refl)
 
 known_takes : Takes 75 known_at
 unfolding known_at
 known_takes bytes x e =
-    let n = bind_some (number_at 18446744073709551615 bytes) (λ run. Some (KnownHead run.0, run.1)) x e in
+    let n = bind_some (number_within_at 18446744073709551615 bytes) (λ run. Some (KnownHead run.0, run.1)) x e in
     let t = (number_exact 18446744073709551615 below64).takes bytes n.0 n.1 in
     subst (λ (y : Head × List ℕ). (bytes ≡ rest_text y.0 ++ y.1) × HeadFits y.0 × (letter y.0 ≡ 75)) (some_is (KnownHead n.0.0, n.0.1) x n.2) (t.0, t.1, refl)
 
@@ -131,27 +131,27 @@ value_again : (t n : ℕ) (rest : List ℕ) → t ≤ 255 → n ≤ 1024 → Sta
 unfolding value_head_at
 value_again t n rest a b st =
     ap value_head_at (append_assoc (number_text t) (number_text n) rest)
-    ∙ again_two (number_at 255) count_at number_text number_text (λ n. n ≤ 255) (λ n. n ≤ 1024) (number_exact 255 fits255) count_exact ValueHead t n rest a b st
+    ∙ again_two (number_within_at 255) count_at number_text number_text (λ n. n ≤ 255) (λ n. n ≤ 1024) (number_exact 255 fits255) count_exact ValueHead t n rest a b st
 
-source_again : (event : AccessId) (n : ℕ) (rest : List ℕ) → IsAccess event → n ≤ 1024 → Starts rest → source_head_at ((access_text event ++ number_text n) ++ rest) ≡ Some (SourceHead event n, rest)
+source_again : (event : AccessId) (n : ℕ) (rest : List ℕ) → IsAccessId event → n ≤ 1024 → Starts rest → source_head_at ((access_text event ++ number_text n) ++ rest) ≡ Some (SourceHead event n, rest)
 unfolding source_head_at
 source_again event n rest a b st =
     ap source_head_at (append_assoc (access_text event) (number_text n) rest)
-    ∙ again_two access_at count_at access_text number_text IsAccess (λ n. n ≤ 1024) access_exact count_exact SourceHead event n rest a b st
+    ∙ again_two access_at count_at access_text number_text IsAccessId (λ n. n ≤ 1024) access_exact count_exact SourceHead event n rest a b st
 
-order_again : (first second : AccessId) (rest : List ℕ) → IsAccess first → IsAccess second → Starts rest → order_head_at ((access_text first ++ access_text second) ++ rest) ≡ Some (OrderHead first second, rest)
+order_again : (first second : AccessId) (rest : List ℕ) → IsAccessId first → IsAccessId second → Starts rest → order_head_at ((access_text first ++ access_text second) ++ rest) ≡ Some (OrderHead first second, rest)
 unfolding order_head_at
 order_again first second rest a b st =
     ap order_head_at (append_assoc (access_text first) (access_text second) rest)
-    ∙ again_two access_at access_at access_text access_text IsAccess IsAccess access_exact access_exact OrderHead first second rest a b st
+    ∙ again_two access_at access_at access_text access_text IsAccessId IsAccessId access_exact access_exact OrderHead first second rest a b st
 
-cycle_again : (kind : Kind) (events : List AccessId) (rest : List ℕ) → length events ≤ 1024 → AllByRecursion IsAccess events → Starts rest → cycle_at ((kind_text kind ++ (number_text (length events) ++ texts_of access_text events)) ++ rest) ≡ Some (CycleHead kind events, rest)
+cycle_again : (kind : Kind) (events : List AccessId) (rest : List ℕ) → length events ≤ 1024 → AllByRecursion IsAccessId events → Starts rest → cycle_at ((kind_text kind ++ (number_text (length events) ++ texts_of access_text events)) ++ rest) ≡ Some (CycleHead kind events, rest)
 unfolding cycle_at
 cycle_again kind events rest few all st =
     let whole = sym (three (kind_text kind) (number_text (length events)) (texts_of access_text events) rest) in
-    let after = starts_all access_text IsAccess access_exact.starts events rest all st in
+    let after = starts_all access_text IsAccessId access_exact.starts events rest all st in
     ap cycle_at whole
-    ∙ rw (kind_exact.again kind (number_text (length events) ++ (texts_of access_text events ++ rest)) tt refl, count_exact.again (length events) (texts_of access_text events ++ rest) few after, repeat_again access_at access_text IsAccess access_exact events [] rest all st) refl
+    ∙ rw (kind_exact.again kind (number_text (length events) ++ (texts_of access_text events ++ rest)) tt refl, count_exact.again (length events) (texts_of access_text events ++ rest) few after, repeat_again access_at access_text IsAccessId access_exact events [] rest all st) refl
 
 known_again : (run : ℕ) (rest : List ℕ) → run ≤ 18446744073709551615 → Starts rest → known_at (number_text run ++ rest) ≡ Some (KnownHead run, rest)
 unfolding known_at
@@ -177,7 +177,7 @@ head_again h rest fits st = ap (λ o. o >>= λ l. head_by l.0 l.1) (letter_then 
 
 -- ---- trees
 
--- the text of a node's head and of the children behind it
+-- the text of a node's head and of the children after it
 value_text : (t : ℕ) (ts : List Cover) (rest : List ℕ) → head_text (ValueHead t (length ts)) ++ (texts_of cover_text ts ++ rest) ≡ cover_text (Value t (covers_of ts)) ++ rest
 value_text t ts rest =
     regroup (spaced (codes "V")) (number_text t) (number_text (length ts)) (texts_of cover_text ts) rest

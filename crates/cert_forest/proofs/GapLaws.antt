@@ -2,11 +2,11 @@
 use Rattle.std.proofs.Common.{◌≡◌, ℕ, zero, suc, ◌<◌, ◌≤◌, ◌==◌, ◌^◌, cond, List, [], ◌∷◌, ◌++◌, length, Some, None, refl, sym, ap, subst, ◌∙◌, append_assoc, arith, inl, inr}
 use Rattle.std.specs.Prelude.{codes}
 use Rattle.std.proofs.lemmas.Bool.{eqb-true}
-use Rattle.cert_forest.specs.Trees.{Gap, Split, Bound, Gaps, gaps_of}
+use Rattle.cert_forest.specs.Trees.{Gap, Split, Bound, GapTrees, gap_trees_of}
 use Rattle.cert_words.specs.Lines.{texts_of, spaced}
 use Rattle.cert_forest.specs.Texts.{count_gaps}
 use Rattle.cert_forest.specs.Limits.{gaps_depth, IsGapTo}
-use Rattle.cert_words.specs.Words.{◌>>=◌, number_at, count_at, letter_at, repeat_at}
+use Rattle.cert_words.specs.Words.{◌>>=◌, number_within_at, count_at, letter_at, repeat_at}
 use Rattle.cert_forest.specs.Reading.{split_at, gap_by, gap_at}
 use Rattle.cert_words.proofs.Steps.{bind_some, guarded, chosen, some_is, Starts, IsExact, takes_two, again_two, repeat_takes, repeat_again, starts_all}
 use Rattle.cert_words.proofs.WordLaws.{number_text, number_exact, below64, count_exact, letter_takes, letter_again}
@@ -21,7 +21,7 @@ split_text node = number_text node.0 ++ number_text node.1
 split_takes : (bytes : List ℕ) (x : (ℕ × ℕ) × List ℕ) → split_at bytes ≡ Some x → (bytes ≡ split_text x.0 ++ x.1) × (x.0.0 < 2 ^ 64) × (x.0.1 ≤ 1024)
 unfolding split_at
 split_takes bytes x e =
-    let t = takes_two (number_at 18446744073709551615) count_at number_text number_text (λ n. n ≤ 18446744073709551615) (λ n. n ≤ 1024) (number_exact 18446744073709551615 below64) count_exact both bytes x e in
+    let t = takes_two (number_within_at 18446744073709551615) count_at number_text number_text (λ n. n ≤ 18446744073709551615) (λ n. n ≤ 1024) (number_exact 18446744073709551615 below64) count_exact both bytes x e in
     let here : bytes ≡ split_text (both t.0 t.1) ++ x.1 = t.5 ∙ sym (append_assoc (number_text t.0) (number_text t.1) x.1) in
     let low : t.0 < 2 ^ 64 = omega (arith, t.2) in
     subst (λ (h : ℕ × ℕ). (bytes ≡ split_text h ++ x.1) × (h.0 < 2 ^ 64) × (h.1 ≤ 1024)) t.4 (here, low, t.3)
@@ -30,9 +30,9 @@ split_again : (run n : ℕ) (rest : List ℕ) → run ≤ 18446744073709551615 �
 unfolding split_at
 split_again run n rest a b st =
     ap split_at (append_assoc (number_text run) (number_text n) rest)
-    ∙ again_two (number_at 18446744073709551615) count_at number_text number_text (λ n. n ≤ 18446744073709551615) (λ n. n ≤ 1024) (number_exact 18446744073709551615 below64) count_exact both run n rest a b st
+    ∙ again_two (number_within_at 18446744073709551615) count_at number_text number_text (λ n. n ≤ 18446744073709551615) (λ n. n ≤ 1024) (number_exact 18446744073709551615 below64) count_exact both run n rest a b st
 
-split_node_text : (run : ℕ) (ts : List Gap) (rest : List ℕ) → (spaced (codes "P") ++ split_text (both run (length ts))) ++ (texts_of gap_text ts ++ rest) ≡ gap_text (Split run (gaps_of ts)) ++ rest
+split_node_text : (run : ℕ) (ts : List Gap) (rest : List ℕ) → (spaced (codes "P") ++ split_text (both run (length ts))) ++ (texts_of gap_text ts ++ rest) ≡ gap_text (Split run (gap_trees_of ts)) ++ rest
 split_node_text run ts rest =
     regroup (spaced (codes "P")) (number_text run) (number_text (length ts)) (texts_of gap_text ts) rest
     ∙ (λ i. (spaced (codes "P") ++ (number_text run ++ (number_text (sym (gaps_count ts) i) ++ sym (gaps_text ts) i))) ++ rest)
@@ -40,23 +40,23 @@ split_node_text run ts rest =
 abbrev pair : Gap → List ℕ → Gap × List ℕ
 pair t rest = (t, rest)
 
--- what stands behind a letter
+-- what follows a letter
 by_takes : (d : ℕ) → ((bytes : List ℕ) (x : Gap × List ℕ) → gap_at d bytes ≡ Some x → (bytes ≡ gap_text x.0 ++ x.1) × IsGapTo d x.0)
     → (l : ℕ) (bytes : List ℕ) (x : Gap × List ℕ) → gap_by (gap_at d) l bytes ≡ Some x → (spaced (l ∷ []) ++ bytes ≡ gap_text x.0 ++ x.1) × IsGapTo (suc d) x.0
 by_takes d takes l bytes x e =
-    elim (chosen (l == 80) (split_at bytes >>= λ node. repeat_at (gap_at d) node.0.1 [] node.1 >>= λ ts. Some (Split node.0.0 (gaps_of ts.0), ts.1)) (cond (l == 66) (Some (Bound, bytes)) None) (Some x) e) [
+    elim (chosen (l == 80) (split_at bytes >>= λ node. repeat_at (gap_at d) node.0.1 [] node.1 >>= λ ts. Some (Split node.0.0 (gap_trees_of ts.0), ts.1)) (cond (l == 66) (Some (Bound, bytes)) None) (Some x) e) [
       | inl h ↦
           let first : l ≡ 80 = eqb-true _ _ h.0 in
-          let node = bind_some (split_at bytes) (λ node. repeat_at (gap_at d) node.0.1 [] node.1 >>= λ ts. Some (Split node.0.0 (gaps_of ts.0), ts.1)) x h.1 in
-          let u = bind_some (repeat_at (gap_at d) node.0.0.1 [] node.0.1) (λ ts. Some (Split node.0.0.0 (gaps_of ts.0), ts.1)) x node.2 in
+          let node = bind_some (split_at bytes) (λ node. repeat_at (gap_at d) node.0.1 [] node.1 >>= λ ts. Some (Split node.0.0 (gap_trees_of ts.0), ts.1)) x h.1 in
+          let u = bind_some (repeat_at (gap_at d) node.0.0.1 [] node.0.1) (λ ts. Some (Split node.0.0.0 (gap_trees_of ts.0), ts.1)) x node.2 in
           let s = split_takes bytes node.0 node.1 in
           let more = repeat_takes (gap_at d) gap_text (IsGapTo d) takes node.0.0.1 [] node.0.1 u.0 u.1 in
           let to = gaps_to d more.0 more.4 in
           let behind : bytes ≡ split_text (both node.0.0.0 (length more.0)) ++ (texts_of gap_text more.0 ++ u.0.1) = s.0 ∙ (λ i. split_text (both node.0.0.0 (sym more.3 i)) ++ more.2 i) in
-          let text : spaced (l ∷ []) ++ bytes ≡ gap_text (Split node.0.0.0 (gaps_of more.0)) ++ u.0.1 = (λ i. spaced (first i ∷ []) ++ behind i) ∙ split_node_text node.0.0.0 more.0 u.0.1 in
-          let deep : suc (gaps_depth (gaps_of more.0)) ≤ suc d = omega (arith, to.0) in
-          let small : count_gaps (gaps_of more.0) ≤ 1024 = omega (arith, gaps_count more.0, more.3, s.2) in
-          let made : pair (Split node.0.0.0 (gaps_of more.0)) u.0.1 ≡ x = ap (λ (ts : List Gap). pair (Split node.0.0.0 (gaps_of ts)) u.0.1) (sym more.1) ∙ some_is (Split node.0.0.0 (gaps_of u.0.0), u.0.1) x u.2 in
+          let text : spaced (l ∷ []) ++ bytes ≡ gap_text (Split node.0.0.0 (gap_trees_of more.0)) ++ u.0.1 = (λ i. spaced (first i ∷ []) ++ behind i) ∙ split_node_text node.0.0.0 more.0 u.0.1 in
+          let deep : suc (gaps_depth (gap_trees_of more.0)) ≤ suc d = omega (arith, to.0) in
+          let small : count_gaps (gap_trees_of more.0) ≤ 1024 = omega (arith, gaps_count more.0, more.3, s.2) in
+          let made : pair (Split node.0.0.0 (gap_trees_of more.0)) u.0.1 ≡ x = ap (λ (ts : List Gap). pair (Split node.0.0.0 (gap_trees_of ts)) u.0.1) (sym more.1) ∙ some_is (Split node.0.0.0 (gap_trees_of u.0.0), u.0.1) x u.2 in
           subst (λ (y : Gap × List ℕ). (spaced (l ∷ []) ++ bytes ≡ gap_text y.0 ++ y.1) × IsGapTo (suc d) y.0) made (text, (deep, (s.1, small, to.1)))
       | inr h ↦
           let g = guarded (l == 66) (Bound, bytes) x h.1 in
@@ -78,11 +78,11 @@ gap_starts : (t : Gap) (rest : List ℕ) → Starts (gap_text t ++ rest)
 gap_starts (Split run children) rest = refl
 gap_starts Bound rest = refl
 
-split_node : (d : ℕ) → IsExact (gap_at d) gap_text (IsGapTo d) → (run : ℕ) (ts : List Gap) (rest : List ℕ) → IsGapTo (suc d) (Split run (gaps_of ts)) → Starts rest
-    → gap_at (suc d) (gap_text (Split run (gaps_of ts)) ++ rest) ≡ Some (Split run (gaps_of ts), rest)
+split_node : (d : ℕ) → IsExact (gap_at d) gap_text (IsGapTo d) → (run : ℕ) (ts : List Gap) (rest : List ℕ) → IsGapTo (suc d) (Split run (gap_trees_of ts)) → Starts rest
+    → gap_at (suc d) (gap_text (Split run (gap_trees_of ts)) ++ rest) ≡ Some (Split run (gap_trees_of ts), rest)
 unfolding gap_at
 split_node d exact run ts rest fits st =
-    let deep : gaps_depth (gaps_of ts) ≤ d = omega (arith, fits.0) in
+    let deep : gaps_depth (gap_trees_of ts) ≤ d = omega (arith, fits.0) in
     let few : length ts ≤ 1024 = omega (arith, gaps_count ts, fits.1.1) in
     let low : run ≤ 18446744073709551615 = omega (arith, fits.1.0) in
     let all = gaps_from d ts deep fits.1.2 in
@@ -96,7 +96,7 @@ bound_again d rest st = rw (letter_again 66 rest refl st) refl
 
 tree_again : (d : ℕ) → IsExact (gap_at d) gap_text (IsGapTo d) → (t : Gap) (rest : List ℕ) → IsGapTo (suc d) t → Starts rest → gap_at (suc d) (gap_text t ++ rest) ≡ Some (t, rest)
 tree_again d exact (Split run ts) rest fits st =
-    subst (λ (f : Gaps). IsGapTo (suc d) (Split run f) → gap_at (suc d) (gap_text (Split run f) ++ rest) ≡ Some (Split run f, rest)) (gaps_again ts) (λ h. split_node d exact run (gap_list ts) rest h st) fits
+    subst (λ (f : GapTrees). IsGapTo (suc d) (Split run f) → gap_at (suc d) (gap_text (Split run f) ++ rest) ≡ Some (Split run f, rest)) (gaps_again ts) (λ h. split_node d exact run (gap_list ts) rest h st) fits
 tree_again d exact Bound rest fits st = bound_again d rest st
 
 pub gap_exact : (d : ℕ) → IsExact (gap_at d) gap_text (IsGapTo d)

@@ -6,12 +6,12 @@ use Rattle.std.proofs.lemmas.Bool.{ltb-false, le-ltb}
 use Rattle.std.proofs.lemmas.Slice.Eq.{bytes_eq-Decides}
 use Rattle.std.proofs.lemmas.List.{append-nil}
 use Rattle.cert_words.specs.Lines.{texts_of, spaced, line}
-use Rattle.cert_words.specs.Words.{◌>>=◌, word_at, name_at, end_at, begins_word}
+use Rattle.cert_words.specs.Words.{◌>>=◌, word_at, line_name_at, end_at, begins_word}
 use Rattle.cert_words.proofs.Steps.{bind_some, guarded, kept_out, chosen, some_is, Starts, done_with}
 use Rattle.cert_words.proofs.WordLaws.{word_takes, word_again, name_takes, name_again, end_takes, end_again}
 use Rattle.cert_forest.specs.Texts.{place_word, head_lines}
-use Rattle.cert_forest.specs.Limits.{PlacesFrom, ArePlaces}
-use Rattle.cert_forest.specs.Reading.{place_at, places_at, shown_line_at, version_at, header_at, shown_by, shown_at}
+use Rattle.cert_forest.specs.Limits.{PlacesFrom, AreShownPlaces}
+use Rattle.cert_forest.specs.Reading.{place_word_at, places_at, shown_line_at, version_at, header_at, shown_words_at, shown_at}
 use Rattle.cert_forest.proofs.PlaceLaws.{place_text, place_exact}
 use Rattle.cert_forest.proofs.TreeTexts.{texts_map}
 use Rattle.cert_forest.proofs.LineLaws.{line_at, line_of, line_takes, line_again}
@@ -26,9 +26,9 @@ places_take zero least found bytes x e =
     let same = some_is (found, bytes) x k.1 in
     ([], sym (ap (λ p. p.0) same) ∙ sym (append-nil found), ap (λ p. p.1) same, tt)
 places_take (suc n) least found bytes x e =
-    elim (chosen (begins_word bytes) (place_at bytes >>= λ place. cond (nat_lt place.0 least) None (places_at n (place.0 + 1) (found ++ place.0 ∷ []) place.1)) (Some (found, bytes)) (Some x) e) [
+    elim (chosen (begins_word bytes) (place_word_at bytes >>= λ place. cond (nat_lt place.0 least) None (places_at n (place.0 + 1) (found ++ place.0 ∷ []) place.1)) (Some (found, bytes)) (Some x) e) [
       | inl h ↦
-          let u = bind_some (place_at bytes) (λ place. cond (nat_lt place.0 least) None (places_at n (place.0 + 1) (found ++ place.0 ∷ []) place.1)) x h.1 in
+          let u = bind_some (place_word_at bytes) (λ place. cond (nat_lt place.0 least) None (places_at n (place.0 + 1) (found ++ place.0 ∷ []) place.1)) x h.1 in
           let k = kept_out (nat_lt u.0.0 least) (places_at n (u.0.0 + 1) (found ++ u.0.0 ∷ []) u.0.1) x u.2 in
           let above : least ≤ u.0.0 = ltb-false _ _ k.0 in
           let one = place_exact.takes bytes u.0 u.1 in
@@ -53,8 +53,8 @@ places_again zero least [] found rest up few = ap (done_with (10 ∷ rest)) (sym
 places_again zero least (p ∷ ps) found rest up few = absurd (omega arith)
 places_again (suc n) least [] found rest up few = ap (done_with (10 ∷ rest)) (sym (append-nil found))
 places_again (suc n) least (p ∷ ps) found rest up few =
-    let here : place_at (place_text p ++ (texts_of place_text ps ++ 10 ∷ rest)) ≡ Some (p, texts_of place_text ps ++ 10 ∷ rest) = place_exact.again p (texts_of place_text ps ++ 10 ∷ rest) up.1 (places_start ps rest) in
-    let whole : place_at ((place_text p ++ texts_of place_text ps) ++ 10 ∷ rest) ≡ Some (p, texts_of place_text ps ++ 10 ∷ rest) = ap place_at (append_assoc (place_text p) (texts_of place_text ps) (10 ∷ rest)) ∙ here in
+    let here : place_word_at (place_text p ++ (texts_of place_text ps ++ 10 ∷ rest)) ≡ Some (p, texts_of place_text ps ++ 10 ∷ rest) = place_exact.again p (texts_of place_text ps ++ 10 ∷ rest) up.1 (places_start ps rest) in
+    let whole : place_word_at ((place_text p ++ texts_of place_text ps) ++ 10 ∷ rest) ≡ Some (p, texts_of place_text ps ++ 10 ∷ rest) = ap place_word_at (append_assoc (place_text p) (texts_of place_text ps) (10 ∷ rest)) ∙ here in
     let above : nat_lt p least ≡ false = le-ltb _ _ up.0 in
     ap (λ o. o >>= λ place. cond (nat_lt place.0 least) None (places_at n (place.0 + 1) (found ++ place.0 ∷ []) place.1)) whole
     ∙ rw above (places_again n (p + 1) ps (found ++ p ∷ []) rest up.2 (omega arith))
@@ -115,7 +115,7 @@ ended_version true rest = refl
 header_takes : (bytes : List ℕ) (x : Bool × List ℕ) → header_at bytes ≡ Some x → bytes ≡ header_line x.0 ++ x.1
 unfolding header_at
 header_takes bytes x e =
-    let t = bind_some (name_at (codes "FENCECERT") bytes) (λ t. version_at t >>= λ v. end_at v.1 >>= λ rest. Some (v.0, rest)) x e in
+    let t = bind_some (line_name_at (codes "FENCECERT") bytes) (λ t. version_at t >>= λ v. end_at v.1 >>= λ rest. Some (v.0, rest)) x e in
     let v = bind_some (version_at t.0) (λ v. end_at v.1 >>= λ rest. Some (v.0, rest)) x t.2 in
     let r = bind_some (end_at v.0.1) (λ rest. Some (v.0.0, rest)) x v.2 in
     let here : bytes ≡ header_line v.0.0 ++ r.0 =
@@ -130,32 +130,32 @@ version_starts second rest = refl
 header_again : (second : Bool) (rest : List ℕ) → header_at (header_line second ++ rest) ≡ Some (second, rest)
 unfolding header_at
 header_again second rest =
-    ap (λ w. name_at (codes "FENCECERT") w >>= λ t. version_at t >>= λ v. end_at v.1 >>= λ rest. Some (v.0, rest)) (sym (ended_version second rest))
+    ap (λ w. line_name_at (codes "FENCECERT") w >>= λ t. version_at t >>= λ v. end_at v.1 >>= λ rest. Some (v.0, rest)) (sym (ended_version second rest))
     ∙ ap (λ o. o >>= λ t. version_at t >>= λ v. end_at v.1 >>= λ rest. Some (v.0, rest)) (name_again (codes "FENCECERT") (spaced (version_word second) ++ 10 ∷ rest) refl (version_starts second rest))
     ∙ ap (λ o. o >>= λ v. end_at v.1 >>= λ rest. Some (v.0, rest)) (version_again second (10 ∷ rest) refl)
     ∙ ap (λ o. o >>= λ rest. Some (second, rest)) (end_again rest)
 
 -- ---- the head
 
-pub head_takes : (bytes : List ℕ) (x : Option (List ℕ) × List ℕ) → shown_at bytes ≡ Some x → (bytes ≡ head_lines x.0 ++ x.1) × ArePlaces x.0
+pub head_takes : (bytes : List ℕ) (x : Option (List ℕ) × List ℕ) → shown_at bytes ≡ Some x → (bytes ≡ head_lines x.0 ++ x.1) × AreShownPlaces x.0
 unfolding shown_at
 head_takes bytes x e =
-    let h = bind_some (header_at bytes) (λ version. shown_by version.0 version.1) x e in
+    let h = bind_some (header_at bytes) (λ version. shown_words_at version.0 version.1) x e in
     by_version h.0.0 h.0.1 (header_takes bytes h.0 h.1) h.2
   where
-    by_version : (second : Bool) (rest : List ℕ) → bytes ≡ header_line second ++ rest → shown_by second rest ≡ Some x → (bytes ≡ head_lines x.0 ++ x.1) × ArePlaces x.0
-    by_version false rest first h = subst (λ (y : Option (List ℕ) × List ℕ). (bytes ≡ head_lines y.0 ++ y.1) × ArePlaces y.0) (some_is (None, rest) x h) (first, tt)
+    by_version : (second : Bool) (rest : List ℕ) → bytes ≡ header_line second ++ rest → shown_words_at second rest ≡ Some x → (bytes ≡ head_lines x.0 ++ x.1) × AreShownPlaces x.0
+    by_version false rest first h = subst (λ (y : Option (List ℕ) × List ℕ). (bytes ≡ head_lines y.0 ++ y.1) × AreShownPlaces y.0) (some_is (None, rest) x h) (first, tt)
     by_version true rest first h =
         let s = bind_some (shown_line_at rest) (λ places. Some (Some places.0, places.1)) x h in
         let t = shown_line_takes rest s.0 s.1 in
         let here : bytes ≡ head_lines (Some s.0.0) ++ s.0.1 =
         first ∙ ap (λ (w : List ℕ). header_line true ++ w) t.0 ∙ sym (append_assoc (header_line true) (line (codes "shown") (map place_word s.0.0)) s.0.1) in
-        subst (λ (y : Option (List ℕ) × List ℕ). (bytes ≡ head_lines y.0 ++ y.1) × ArePlaces y.0) (some_is (Some s.0.0, s.0.1) x s.2) (here, t.1)
+        subst (λ (y : Option (List ℕ) × List ℕ). (bytes ≡ head_lines y.0 ++ y.1) × AreShownPlaces y.0) (some_is (Some s.0.0, s.0.1) x s.2) (here, t.1)
 
-pub head_again : (shown : Option (List ℕ)) (rest : List ℕ) → ArePlaces shown → shown_at (head_lines shown ++ rest) ≡ Some (shown, rest)
+pub head_again : (shown : Option (List ℕ)) (rest : List ℕ) → AreShownPlaces shown → shown_at (head_lines shown ++ rest) ≡ Some (shown, rest)
 unfolding shown_at
-head_again None rest up = ap (λ o. o >>= λ version. shown_by version.0 version.1) (header_again false rest)
+head_again None rest up = ap (λ o. o >>= λ version. shown_words_at version.0 version.1) (header_again false rest)
 head_again (Some places) rest up =
-    ap (λ w. header_at w >>= λ version. shown_by version.0 version.1) (append_assoc (header_line true) (line (codes "shown") (map place_word places)) rest)
-    ∙ ap (λ o. o >>= λ version. shown_by version.0 version.1) (header_again true (line (codes "shown") (map place_word places) ++ rest))
+    ap (λ w. header_at w >>= λ version. shown_words_at version.0 version.1) (append_assoc (header_line true) (line (codes "shown") (map place_word places)) rest)
+    ∙ ap (λ o. o >>= λ version. shown_words_at version.0 version.1) (header_again true (line (codes "shown") (map place_word places) ++ rest))
     ∙ ap (λ o. o >>= λ x. Some (Some x.0, x.1)) (shown_line_again places rest up)

@@ -11,10 +11,10 @@ use Rattle.tso_machine.specs.declared.label.Label.{Label}
 use Rattle.tso_machine.specs.RunTexts.{spelling, IsLabel}
 use Rattle.cert_forest.specs.Trees.{Cover, Gap}
 use Rattle.cert_words.specs.Lines.{texts_of, spaced, line}
-use Rattle.cert_forest.specs.Texts.{cover_words, gap_words, run_line, runs_lines}
-use Rattle.cert_forest.specs.Limits.{AscendFrom, IsRun, AreRuns, IsCoverTo, IsGapTo}
-use Rattle.cert_words.specs.Words.{◌>>=◌, is_inner, word_at, name_at, end_at, begins_word, number_at, repeat_at}
-use Rattle.cert_forest.specs.Reading.{label_word_at, labels_at, gaps_at, run_at, runs_at, set_at, cost_at, cover_at, gap_at, cover_line_at, gap_line_at}
+use Rattle.cert_forest.specs.Texts.{cover_words, gap_words, labels_line, runs_lines}
+use Rattle.cert_forest.specs.Limits.{AscendFrom, IsWrittenRun, AreRuns, IsCoverTo, IsGapTo}
+use Rattle.cert_words.specs.Words.{◌>>=◌, is_inner, word_at, line_name_at, end_at, begins_word, number_within_at, repeat_at}
+use Rattle.cert_forest.specs.Reading.{label_word_at, run_labels_at, gaps_at, run_at, runs_at, set_at, cost_at, cover_at, gap_at, cover_line_at, gap_line_at}
 use Rattle.cert_words.proofs.Steps.{bind_some, guarded, kept_out, chosen, some_is, Starts, done_with, repeat_takes, repeat_free}
 use Rattle.cert_words.proofs.WordLaws.{word_takes, word_again, name_takes, name_again, end_takes, end_again, number_text, number_exact, below64}
 use Rattle.cert_forest.proofs.NameLaws.{label_text, label_exact}
@@ -25,7 +25,7 @@ use Rattle.cert_forest.proofs.GapLaws.{gap_exact}
 -- ---- a line of a name and a value
 
 abbrev pub line_at : {A : Type 0} → List ℕ → (List ℕ → Option (A × List ℕ)) → List ℕ → Option (A × List ℕ)
-line_at name r bytes = name_at name bytes >>= λ t. r t >>= λ x. end_at x.1 >>= λ rest. Some (x.0, rest)
+line_at name r bytes = line_name_at name bytes >>= λ t. r t >>= λ x. end_at x.1 >>= λ rest. Some (x.0, rest)
 
 abbrev pub line_of : List ℕ → List ℕ → List ℕ
 line_of name text = name ++ (text ++ 10 ∷ [])
@@ -36,7 +36,7 @@ line_parts name text rest = simp append_assoc
 pub line_takes : {A : Type 0} (r : List ℕ → Option (A × List ℕ)) (text : A → List ℕ) (P : A → Type 0) → ((bytes : List ℕ) (x : A × List ℕ) → r bytes ≡ Some x → (bytes ≡ text x.0 ++ x.1) × P x.0)
     → (name bytes : List ℕ) (x : A × List ℕ) → line_at name r bytes ≡ Some x → (bytes ≡ line_of name (text x.0) ++ x.1) × P x.0
 line_takes r text P takes name bytes x e =
-    let t = bind_some (name_at name bytes) (λ t. r t >>= λ x. end_at x.1 >>= λ rest. Some (x.0, rest)) x e in
+    let t = bind_some (line_name_at name bytes) (λ t. r t >>= λ x. end_at x.1 >>= λ rest. Some (x.0, rest)) x e in
     let v = bind_some (r t.0) (λ x. end_at x.1 >>= λ rest. Some (x.0, rest)) x t.2 in
     let n = bind_some (end_at v.0.1) (λ rest. Some (v.0.0, rest)) x v.2 in
     let one = name_takes name bytes t.0 t.1 in
@@ -53,17 +53,17 @@ line_again r text name x rest word st e =
 
 -- ---- labels
 
-labels_take : (n : ℕ) (found : List Label) (bytes : List ℕ) (x : List Label × List ℕ) → labels_at n found bytes ≡ Some x
+labels_take : (n : ℕ) (found : List Label) (bytes : List ℕ) (x : List Label × List ℕ) → run_labels_at n found bytes ≡ Some x
     → (more : List Label) × (x.0 ≡ found ++ more) × (bytes ≡ texts_of label_text more ++ x.1) × (length more ≤ n) × AllByRecursion IsLabel more
-unfolding labels_at
+unfolding run_labels_at
 labels_take zero found bytes x e =
     let k = kept_out (begins_word bytes) (Some (found, bytes)) x e in
     let same = some_is (found, bytes) x k.1 in
     ([], sym (ap (λ p. p.0) same) ∙ sym (append-nil found), ap (λ p. p.1) same, omega arith, tt)
 labels_take (suc n) found bytes x e =
-    elim (chosen (begins_word bytes) (label_word_at bytes >>= λ label. labels_at n (found ++ label.0 ∷ []) label.1) (Some (found, bytes)) (Some x) e) [
+    elim (chosen (begins_word bytes) (label_word_at bytes >>= λ label. run_labels_at n (found ++ label.0 ∷ []) label.1) (Some (found, bytes)) (Some x) e) [
       | inl h ↦
-          let u = bind_some (label_word_at bytes) (λ label. labels_at n (found ++ label.0 ∷ []) label.1) x h.1 in
+          let u = bind_some (label_word_at bytes) (λ label. run_labels_at n (found ++ label.0 ∷ []) label.1) x h.1 in
           let one = label_exact.takes bytes u.0 u.1 in
           let others = labels_take n (found ++ u.0.0 ∷ []) u.0.1 x u.2 in
           (u.0.0 ∷ others.0, others.1 ∙ append_assoc found (u.0.0 ∷ []) others.0, one.0 ∙ ap (λ (w : List ℕ). label_text u.0.0 ++ w) others.2 ∙ sym (append_assoc (label_text u.0.0) (texts_of label_text others.0) x.1), omega (arith, others.3), (one.1, others.4))
@@ -76,15 +76,15 @@ labels_start : (ls : List Label) (rest : List ℕ) → Starts (texts_of label_te
 labels_start [] rest = refl
 labels_start (l ∷ ls) rest = refl
 
-labels_again : (n : ℕ) (ls found : List Label) (rest : List ℕ) → AllByRecursion IsLabel ls → length ls ≤ n → labels_at n found (texts_of label_text ls ++ 10 ∷ rest) ≡ Some (found ++ ls, 10 ∷ rest)
-unfolding labels_at
+labels_again : (n : ℕ) (ls found : List Label) (rest : List ℕ) → AllByRecursion IsLabel ls → length ls ≤ n → run_labels_at n found (texts_of label_text ls ++ 10 ∷ rest) ≡ Some (found ++ ls, 10 ∷ rest)
+unfolding run_labels_at
 labels_again zero [] found rest all few = ap (done_with (10 ∷ rest)) (sym (append-nil found))
 labels_again zero (l ∷ ls) found rest all few = absurd (omega arith)
 labels_again (suc n) [] found rest all few = ap (done_with (10 ∷ rest)) (sym (append-nil found))
 labels_again (suc n) (l ∷ ls) found rest all few =
     let here : label_word_at (label_text l ++ (texts_of label_text ls ++ 10 ∷ rest)) ≡ Some (l, texts_of label_text ls ++ 10 ∷ rest) = label_exact.again l (texts_of label_text ls ++ 10 ∷ rest) all.0 (labels_start ls rest) in
     let whole : label_word_at ((label_text l ++ texts_of label_text ls) ++ 10 ∷ rest) ≡ Some (l, texts_of label_text ls ++ 10 ∷ rest) = ap label_word_at (append_assoc (label_text l) (texts_of label_text ls) (10 ∷ rest)) ∙ here in
-    ap (λ o. o >>= λ label. labels_at n (found ++ label.0 ∷ []) label.1) whole
+    ap (λ o. o >>= λ label. run_labels_at n (found ++ label.0 ∷ []) label.1) whole
     ∙ labels_again n ls (found ++ l ∷ []) rest all.1 (omega arith)
     ∙ ap (done_with (10 ∷ rest)) (append_assoc found (l ∷ []) ls)
 
@@ -98,9 +98,9 @@ gaps_take zero least found bytes x e =
     let same = some_is (found, bytes) x k.1 in
     ([], sym (ap (λ p. p.0) same) ∙ sym (append-nil found), ap (λ p. p.1) same, tt)
 gaps_take (suc n) least found bytes x e =
-    elim (chosen (begins_word bytes) (number_at 63 bytes >>= λ gap. cond (nat_lt gap.0 least) None (gaps_at n (gap.0 + 1) (found ++ gap.0 ∷ []) gap.1)) (Some (found, bytes)) (Some x) e) [
+    elim (chosen (begins_word bytes) (number_within_at 63 bytes >>= λ gap. cond (nat_lt gap.0 least) None (gaps_at n (gap.0 + 1) (found ++ gap.0 ∷ []) gap.1)) (Some (found, bytes)) (Some x) e) [
       | inl h ↦
-          let u = bind_some (number_at 63 bytes) (λ gap. cond (nat_lt gap.0 least) None (gaps_at n (gap.0 + 1) (found ++ gap.0 ∷ []) gap.1)) x h.1 in
+          let u = bind_some (number_within_at 63 bytes) (λ gap. cond (nat_lt gap.0 least) None (gaps_at n (gap.0 + 1) (found ++ gap.0 ∷ []) gap.1)) x h.1 in
           let k = kept_out (nat_lt u.0.0 least) (gaps_at n (u.0.0 + 1) (found ++ u.0.0 ∷ []) u.0.1) x u.2 in
           let above : least ≤ u.0.0 = ltb-false _ _ k.0 in
           let one = (number_exact 63 (omega arith)).takes bytes u.0 u.1 in
@@ -126,8 +126,8 @@ gaps_again zero least [] found rest up few = ap (done_with (10 ∷ rest)) (sym (
 gaps_again zero least (g ∷ gs) found rest up few = absurd (omega arith)
 gaps_again (suc n) least [] found rest up few = ap (done_with (10 ∷ rest)) (sym (append-nil found))
 gaps_again (suc n) least (g ∷ gs) found rest up few =
-    let here : number_at 63 (number_text g ++ (texts_of number_text gs ++ 10 ∷ rest)) ≡ Some (g, texts_of number_text gs ++ 10 ∷ rest) = (number_exact 63 (omega arith)).again g (texts_of number_text gs ++ 10 ∷ rest) (omega (arith, up.1)) (gaps_start gs rest) in
-    let whole : number_at 63 ((number_text g ++ texts_of number_text gs) ++ 10 ∷ rest) ≡ Some (g, texts_of number_text gs ++ 10 ∷ rest) = ap (number_at 63) (append_assoc (number_text g) (texts_of number_text gs) (10 ∷ rest)) ∙ here in
+    let here : number_within_at 63 (number_text g ++ (texts_of number_text gs ++ 10 ∷ rest)) ≡ Some (g, texts_of number_text gs ++ 10 ∷ rest) = (number_exact 63 (omega arith)).again g (texts_of number_text gs ++ 10 ∷ rest) (omega (arith, up.1)) (gaps_start gs rest) in
+    let whole : number_within_at 63 ((number_text g ++ texts_of number_text gs) ++ 10 ∷ rest) ≡ Some (g, texts_of number_text gs ++ 10 ∷ rest) = ap (number_within_at 63) (append_assoc (number_text g) (texts_of number_text gs) (10 ∷ rest)) ∙ here in
     let above : nat_lt g least ≡ false = le-ltb _ _ up.0 in
     ap (λ o. o >>= λ gap. cond (nat_lt gap.0 least) None (gaps_at n (gap.0 + 1) (found ++ gap.0 ∷ []) gap.1)) whole
     ∙ rw above (gaps_again n (g + 1) gs (found ++ g ∷ []) rest up.2 (omega arith))
@@ -135,22 +135,22 @@ gaps_again (suc n) least (g ∷ gs) found rest up few =
 
 -- ---- each line
 
-pub run_takes : (bytes : List ℕ) (x : List Label × List ℕ) → run_at bytes ≡ Some x → (bytes ≡ run_line x.0 ++ x.1) × IsRun x.0
+pub run_takes : (bytes : List ℕ) (x : List Label × List ℕ) → run_at bytes ≡ Some x → (bytes ≡ labels_line x.0 ++ x.1) × IsWrittenRun x.0
 unfolding run_at
 run_takes bytes x e =
-    let t = line_takes (labels_at 1024 []) (λ ls. texts_of label_text ls) IsRun read (codes "run") bytes x e in
+    let t = line_takes (run_labels_at 1024 []) (λ ls. texts_of label_text ls) IsWrittenRun read (codes "run") bytes x e in
     (t.0 ∙ ap (λ (w : List ℕ). line_of (codes "run") w ++ x.1) (sym (texts_map spelling x.0)), t.1)
   where
-    read : (bytes : List ℕ) (x : List Label × List ℕ) → labels_at 1024 [] bytes ≡ Some x → (bytes ≡ texts_of label_text x.0 ++ x.1) × IsRun x.0
+    read : (bytes : List ℕ) (x : List Label × List ℕ) → run_labels_at 1024 [] bytes ≡ Some x → (bytes ≡ texts_of label_text x.0 ++ x.1) × IsWrittenRun x.0
     read bytes x e =
         let l = labels_take 1024 [] bytes x e in
-        subst (λ (ls : List Label). (bytes ≡ texts_of label_text ls ++ x.1) × IsRun ls) (sym l.1) (l.2, (l.3, l.4))
+        subst (λ (ls : List Label). (bytes ≡ texts_of label_text ls ++ x.1) × IsWrittenRun ls) (sym l.1) (l.2, (l.3, l.4))
 
-pub run_again : (ls : List Label) (rest : List ℕ) → IsRun ls → run_at (run_line ls ++ rest) ≡ Some (ls, rest)
+pub run_again : (ls : List Label) (rest : List ℕ) → IsWrittenRun ls → run_at (labels_line ls ++ rest) ≡ Some (ls, rest)
 unfolding run_at
 run_again ls rest fits =
-    ap (λ (w : List ℕ). line_at (codes "run") (labels_at 1024 []) (line_of (codes "run") w ++ rest)) (texts_map spelling ls)
-    ∙ line_again (labels_at 1024 []) (texts_of label_text ls) (codes "run") ls rest refl (labels_start ls rest) (labels_again 1024 ls [] rest fits.1 fits.0)
+    ap (λ (w : List ℕ). line_at (codes "run") (run_labels_at 1024 []) (line_of (codes "run") w ++ rest)) (texts_map spelling ls)
+    ∙ line_again (run_labels_at 1024 []) (texts_of label_text ls) (codes "run") ls rest refl (labels_start ls rest) (labels_again 1024 ls [] rest fits.1 fits.0)
 
 counted : (name n texts rest : List ℕ) → name ++ (n ++ (10 ∷ (texts ++ rest))) ≡ ((name ++ ((n ++ []) ++ 10 ∷ [])) ++ texts) ++ rest
 counted name n texts rest = simp (append_assoc, append-nil)
@@ -158,25 +158,25 @@ counted name n texts rest = simp (append_assoc, append-nil)
 pub runs_takes : (name bytes : List ℕ) (x : List (List Label) × List ℕ) → runs_at name bytes ≡ Some x → (bytes ≡ runs_lines name x.0 ++ x.1) × AreRuns x.0
 unfolding runs_at
 runs_takes name bytes x e =
-    let t = bind_some (name_at name bytes) (λ t. number_at 18446744073709551615 t >>= λ n. end_at n.1 >>= λ lines. repeat_at run_at n.0 [] lines) x e in
-    let n = bind_some (number_at 18446744073709551615 t.0) (λ n. end_at n.1 >>= λ lines. repeat_at run_at n.0 [] lines) x t.2 in
+    let t = bind_some (line_name_at name bytes) (λ t. number_within_at 18446744073709551615 t >>= λ n. end_at n.1 >>= λ lines. repeat_at run_at n.0 [] lines) x e in
+    let n = bind_some (number_within_at 18446744073709551615 t.0) (λ n. end_at n.1 >>= λ lines. repeat_at run_at n.0 [] lines) x t.2 in
     let l = bind_some (end_at n.0.1) (λ lines. repeat_at run_at n.0.0 [] lines) x n.2 in
     let one = name_takes name bytes t.0 t.1 in
     let two = (number_exact 18446744073709551615 below64).takes t.0 n.0 n.1 in
     let three = end_takes n.0.1 l.0 l.1 in
-    let more = repeat_takes run_at run_line IsRun run_takes n.0.0 [] l.0 x l.2 in
+    let more = repeat_takes run_at labels_line IsWrittenRun run_takes n.0.0 [] l.0 x l.2 in
     let len : n.0.0 ≡ length more.0 = sym more.3 in
     let here : bytes ≡ runs_lines name more.0 ++ x.1 =
-    one ∙ ap (λ (w : List ℕ). name ++ w) (two.0 ∙ (λ i. number_text (len i) ++ (three ∙ ap (λ (w : List ℕ). 10 ∷ w) more.2) i)) ∙ counted name (number_text (length more.0)) (texts_of run_line more.0) x.1 in
+    one ∙ ap (λ (w : List ℕ). name ++ w) (two.0 ∙ (λ i. number_text (len i) ++ (three ∙ ap (λ (w : List ℕ). 10 ∷ w) more.2) i)) ∙ counted name (number_text (length more.0)) (texts_of labels_line more.0) x.1 in
     let few : length more.0 < 2 ^ 64 = omega (arith, two.1, more.3) in
     subst (λ (rs : List (List Label)). (bytes ≡ runs_lines name rs ++ x.1) × AreRuns rs) (sym more.1) (here, (few, more.4))
 
 pub runs_again : (name : List ℕ) (rs : List (List Label)) (rest : List ℕ) → list_all is_inner name ≡ true → AreRuns rs → runs_at name (runs_lines name rs ++ rest) ≡ Some (rs, rest)
 unfolding runs_at
 runs_again name rs rest word fits =
-    let n-again : number_at 18446744073709551615 (number_text (length rs) ++ (10 ∷ (texts_of run_line rs ++ rest))) ≡ Some (length rs, 10 ∷ (texts_of run_line rs ++ rest)) = (number_exact 18446744073709551615 below64).again (length rs) (10 ∷ (texts_of run_line rs ++ rest)) (omega (arith, fits.0)) refl in
-    ap (λ (w : List ℕ). name_at name w >>= λ t. number_at 18446744073709551615 t >>= λ n. end_at n.1 >>= λ lines. repeat_at run_at n.0 [] lines) (sym (counted name (number_text (length rs)) (texts_of run_line rs) rest))
-    ∙ rw (name_again name (number_text (length rs) ++ (10 ∷ (texts_of run_line rs ++ rest))) word refl, n-again, end_again (texts_of run_line rs ++ rest)) (repeat_free run_at run_line IsRun run_again rs [] rest fits.1)
+    let n-again : number_within_at 18446744073709551615 (number_text (length rs) ++ (10 ∷ (texts_of labels_line rs ++ rest))) ≡ Some (length rs, 10 ∷ (texts_of labels_line rs ++ rest)) = (number_exact 18446744073709551615 below64).again (length rs) (10 ∷ (texts_of labels_line rs ++ rest)) (omega (arith, fits.0)) refl in
+    ap (λ (w : List ℕ). line_name_at name w >>= λ t. number_within_at 18446744073709551615 t >>= λ n. end_at n.1 >>= λ lines. repeat_at run_at n.0 [] lines) (sym (counted name (number_text (length rs)) (texts_of labels_line rs) rest))
+    ∙ rw (name_again name (number_text (length rs) ++ (10 ∷ (texts_of labels_line rs ++ rest))) word refl, n-again, end_again (texts_of labels_line rs ++ rest)) (repeat_free run_at labels_line IsWrittenRun run_again rs [] rest fits.1)
 
 pub set_takes : (bytes : List ℕ) (x : List ℕ × List ℕ) → set_at bytes ≡ Some x → (bytes ≡ line (codes "set") (map decimal x.0) ++ x.1) × AscendFrom 0 x.0
 unfolding set_at
@@ -199,14 +199,14 @@ set_again gs rest up =
 pub cost_takes : (bytes : List ℕ) (x : ℕ × List ℕ) → cost_at bytes ≡ Some x → (bytes ≡ line (codes "cost") (decimal x.0 ∷ []) ++ x.1) × (x.0 < 2 ^ 64)
 unfolding cost_at
 cost_takes bytes x e =
-    let t = line_takes (number_at 18446744073709551615) number_text (λ n. n ≤ 18446744073709551615) (number_exact 18446744073709551615 below64).takes (codes "cost") bytes x e in
+    let t = line_takes (number_within_at 18446744073709551615) number_text (λ n. n ≤ 18446744073709551615) (number_exact 18446744073709551615 below64).takes (codes "cost") bytes x e in
     (t.0 ∙ ap (λ (w : List ℕ). line_of (codes "cost") w ++ x.1) (sym (append-nil (number_text x.0))), omega (arith, t.1))
 
 pub cost_again : (n : ℕ) (rest : List ℕ) → n < 2 ^ 64 → cost_at (line (codes "cost") (decimal n ∷ []) ++ rest) ≡ Some (n, rest)
 unfolding cost_at
 cost_again n rest fits =
-    ap (λ (w : List ℕ). line_at (codes "cost") (number_at 18446744073709551615) (line_of (codes "cost") w ++ rest)) (append-nil (number_text n))
-    ∙ line_again (number_at 18446744073709551615) (number_text n) (codes "cost") n rest refl refl ((number_exact 18446744073709551615 below64).again n (10 ∷ rest) (omega arith) refl)
+    ap (λ (w : List ℕ). line_at (codes "cost") (number_within_at 18446744073709551615) (line_of (codes "cost") w ++ rest)) (append-nil (number_text n))
+    ∙ line_again (number_within_at 18446744073709551615) (number_text n) (codes "cost") n rest refl refl ((number_exact 18446744073709551615 below64).again n (10 ∷ rest) (omega arith) refl)
 
 pub cover_line_takes : (name bytes : List ℕ) (x : Cover × List ℕ) → cover_line_at name bytes ≡ Some x → (bytes ≡ line name (cover_words x.0) ++ x.1) × IsCoverTo 400 x.0
 unfolding cover_line_at

@@ -5,8 +5,8 @@ use Rattle.std.proofs.lemmas.Bool.{lt-ltb, le-ltb}
 use Rattle.tso_machine.specs.declared.label.Label.{Label}
 use Rattle.cert_words.specs.declared.refusal.Stop.{Stop}
 use Rattle.cert_words.specs.declared.refusal.Stop.TheVariants.{Refused, OutOfMemory}
-use Rattle.cert_words.specs.Words.{Fails, begins_word, repeat_at, number_at}
-use Rattle.cert_forest.specs.Reading.{label_word_at, labels_at, gaps_at, place_at, places_at}
+use Rattle.cert_words.specs.Words.{Fails, begins_word, repeat_at, number_within_at}
+use Rattle.cert_forest.specs.Reading.{label_word_at, run_labels_at, gaps_at, place_word_at, places_at}
 
 one_less : (n k : ℕ) → k < n → n - k ≡ suc (n - (k + 1))
 one_less n k lt = omega arith
@@ -35,38 +35,38 @@ repeat_ends r n k found bytes all le so =
 -- ---- labels
 
 pub labels_more : (n k : ℕ) (found : List Label) (bytes : List ℕ) (x : Label) (rest : List ℕ) (all : Option (List Label × List ℕ)) → k < n → begins_word bytes ≡ true → label_word_at bytes ≡ Some (x, rest)
-    → labels_at (n - k) found bytes ≡ all → labels_at (n - (k + 1)) (found ++ x ∷ []) rest ≡ all
-unfolding labels_at
+    → run_labels_at (n - k) found bytes ≡ all → run_labels_at (n - (k + 1)) (found ++ x ∷ []) rest ≡ all
+unfolding run_labels_at
 labels_more n k found bytes x rest all lt word e so =
-    let step : labels_at (suc (n - (k + 1))) found bytes ≡ labels_at (n - (k + 1)) (found ++ x ∷ []) rest = rw (word, e) refl in
-    sym step ∙ ap (λ (m : ℕ). labels_at m found bytes) (sym (one_less n k lt)) ∙ so
+    let step : run_labels_at (suc (n - (k + 1))) found bytes ≡ run_labels_at (n - (k + 1)) (found ++ x ∷ []) rest = rw (word, e) refl in
+    sym step ∙ ap (λ (m : ℕ). run_labels_at m found bytes) (sym (one_less n k lt)) ∙ so
 
 pub labels_stop : (n k : ℕ) (found : List Label) (bytes : List ℕ) (stop : Stop) (all : Option (List Label × List ℕ)) → k < n → begins_word bytes ≡ true → Fails stop (label_word_at bytes)
-    → labels_at (n - k) found bytes ≡ all → Fails stop all
-unfolding labels_at
+    → run_labels_at (n - k) found bytes ≡ all → Fails stop all
+unfolding run_labels_at
 labels_stop n k found bytes OutOfMemory all lt word e so = tt
 labels_stop n k found bytes (Refused refusal) all lt word e so =
-    let step : labels_at (suc (n - (k + 1))) found bytes ≡ None = rw (word, e) refl in
-    sym so ∙ ap (λ (m : ℕ). labels_at m found bytes) (one_less n k lt) ∙ step
+    let step : run_labels_at (suc (n - (k + 1))) found bytes ≡ None = rw (word, e) refl in
+    sym so ∙ ap (λ (m : ℕ). run_labels_at m found bytes) (one_less n k lt) ∙ step
 
-labels_here : (m : ℕ) (found : List Label) (bytes : List ℕ) → begins_word bytes ≡ false → labels_at m found bytes ≡ Some (found, bytes)
-unfolding labels_at
+labels_here : (m : ℕ) (found : List Label) (bytes : List ℕ) → begins_word bytes ≡ false → run_labels_at m found bytes ≡ Some (found, bytes)
+unfolding run_labels_at
 labels_here zero found bytes away = rw away refl
 labels_here (suc m) found bytes away = rw away refl
 
-pub labels_end : (m : ℕ) (found : List Label) (bytes : List ℕ) (all : Option (List Label × List ℕ)) → begins_word bytes ≡ false → labels_at m found bytes ≡ all → all ≡ Some (found, bytes)
+pub labels_end : (m : ℕ) (found : List Label) (bytes : List ℕ) (all : Option (List Label × List ℕ)) → begins_word bytes ≡ false → run_labels_at m found bytes ≡ all → all ≡ Some (found, bytes)
 labels_end m found bytes all away so = sym so ∙ labels_here m found bytes away
 
-pub labels_past : (n k : ℕ) (found : List Label) (bytes : List ℕ) (all : Option (List Label × List ℕ)) → n ≤ k → begins_word bytes ≡ true → labels_at (n - k) found bytes ≡ all → all ≡ None
-unfolding labels_at
+pub labels_past : (n k : ℕ) (found : List Label) (bytes : List ℕ) (all : Option (List Label × List ℕ)) → n ≤ k → begins_word bytes ≡ true → run_labels_at (n - k) found bytes ≡ all → all ≡ None
+unfolding run_labels_at
 labels_past n k found bytes all le word so =
     let none : n - k ≡ 0 = omega arith in
-    let step : labels_at 0 found bytes ≡ None = rw word refl in
-    sym so ∙ ap (λ (m : ℕ). labels_at m found bytes) none ∙ step
+    let step : run_labels_at 0 found bytes ≡ None = rw word refl in
+    sym so ∙ ap (λ (m : ℕ). run_labels_at m found bytes) none ∙ step
 
 -- ---- gaps
 
-pub gaps_more : (n k least : ℕ) (found : List ℕ) (bytes : List ℕ) (x : ℕ) (rest : List ℕ) (all : Option (List ℕ × List ℕ)) → k < n → begins_word bytes ≡ true → number_at 63 bytes ≡ Some (x, rest) → least ≤ x
+pub gaps_more : (n k least : ℕ) (found : List ℕ) (bytes : List ℕ) (x : ℕ) (rest : List ℕ) (all : Option (List ℕ × List ℕ)) → k < n → begins_word bytes ≡ true → number_within_at 63 bytes ≡ Some (x, rest) → least ≤ x
     → gaps_at (n - k) least found bytes ≡ all → gaps_at (n - (k + 1)) (x + 1) (found ++ x ∷ []) rest ≡ all
 unfolding gaps_at
 gaps_more n k least found bytes x rest all lt word e le so =
@@ -74,7 +74,7 @@ gaps_more n k least found bytes x rest all lt word e le so =
     let step : gaps_at (suc (n - (k + 1))) least found bytes ≡ gaps_at (n - (k + 1)) (x + 1) (found ++ x ∷ []) rest = rw (word, e, above) refl in
     sym step ∙ ap (λ (m : ℕ). gaps_at m least found bytes) (sym (one_less n k lt)) ∙ so
 
-pub gaps_low : (n k least : ℕ) (found : List ℕ) (bytes : List ℕ) (x : ℕ) (rest : List ℕ) (all : Option (List ℕ × List ℕ)) → k < n → begins_word bytes ≡ true → number_at 63 bytes ≡ Some (x, rest) → x < least
+pub gaps_low : (n k least : ℕ) (found : List ℕ) (bytes : List ℕ) (x : ℕ) (rest : List ℕ) (all : Option (List ℕ × List ℕ)) → k < n → begins_word bytes ≡ true → number_within_at 63 bytes ≡ Some (x, rest) → x < least
     → gaps_at (n - k) least found bytes ≡ all → all ≡ None
 unfolding gaps_at
 gaps_low n k least found bytes x rest all lt word e below so =
@@ -82,7 +82,7 @@ gaps_low n k least found bytes x rest all lt word e below so =
     let step : gaps_at (suc (n - (k + 1))) least found bytes ≡ None = rw (word, e, under) refl in
     sym so ∙ ap (λ (m : ℕ). gaps_at m least found bytes) (one_less n k lt) ∙ step
 
-pub gaps_stop : (n k least : ℕ) (found : List ℕ) (bytes : List ℕ) (all : Option (List ℕ × List ℕ)) → k < n → begins_word bytes ≡ true → number_at 63 bytes ≡ None
+pub gaps_stop : (n k least : ℕ) (found : List ℕ) (bytes : List ℕ) (all : Option (List ℕ × List ℕ)) → k < n → begins_word bytes ≡ true → number_within_at 63 bytes ≡ None
     → gaps_at (n - k) least found bytes ≡ all → all ≡ None
 unfolding gaps_at
 gaps_stop n k least found bytes all lt word e so =
@@ -106,7 +106,7 @@ gaps_past n k least found bytes all le word so =
 
 -- ---- places
 
-pub places_more : (n k least : ℕ) (found : List ℕ) (bytes : List ℕ) (x : ℕ) (rest : List ℕ) (all : Option (List ℕ × List ℕ)) → k < n → begins_word bytes ≡ true → place_at bytes ≡ Some (x, rest) → least ≤ x
+pub places_more : (n k least : ℕ) (found : List ℕ) (bytes : List ℕ) (x : ℕ) (rest : List ℕ) (all : Option (List ℕ × List ℕ)) → k < n → begins_word bytes ≡ true → place_word_at bytes ≡ Some (x, rest) → least ≤ x
     → places_at (n - k) least found bytes ≡ all → places_at (n - (k + 1)) (x + 1) (found ++ x ∷ []) rest ≡ all
 unfolding places_at
 places_more n k least found bytes x rest all lt word e le so =
@@ -114,7 +114,7 @@ places_more n k least found bytes x rest all lt word e le so =
     let step : places_at (suc (n - (k + 1))) least found bytes ≡ places_at (n - (k + 1)) (x + 1) (found ++ x ∷ []) rest = rw (word, e, above) refl in
     sym step ∙ ap (λ (m : ℕ). places_at m least found bytes) (sym (one_less n k lt)) ∙ so
 
-pub places_low : (n k least : ℕ) (found : List ℕ) (bytes : List ℕ) (x : ℕ) (rest : List ℕ) (all : Option (List ℕ × List ℕ)) → k < n → begins_word bytes ≡ true → place_at bytes ≡ Some (x, rest) → x < least
+pub places_low : (n k least : ℕ) (found : List ℕ) (bytes : List ℕ) (x : ℕ) (rest : List ℕ) (all : Option (List ℕ × List ℕ)) → k < n → begins_word bytes ≡ true → place_word_at bytes ≡ Some (x, rest) → x < least
     → places_at (n - k) least found bytes ≡ all → all ≡ None
 unfolding places_at
 places_low n k least found bytes x rest all lt word e below so =
@@ -122,7 +122,7 @@ places_low n k least found bytes x rest all lt word e below so =
     let step : places_at (suc (n - (k + 1))) least found bytes ≡ None = rw (word, e, under) refl in
     sym so ∙ ap (λ (m : ℕ). places_at m least found bytes) (one_less n k lt) ∙ step
 
-pub places_stop : (n k least : ℕ) (found : List ℕ) (bytes : List ℕ) (all : Option (List ℕ × List ℕ)) → k < n → begins_word bytes ≡ true → place_at bytes ≡ None
+pub places_stop : (n k least : ℕ) (found : List ℕ) (bytes : List ℕ) (all : Option (List ℕ × List ℕ)) → k < n → begins_word bytes ≡ true → place_word_at bytes ≡ None
     → places_at (n - k) least found bytes ≡ all → all ≡ None
 unfolding places_at
 places_stop n k least found bytes all lt word e so =

@@ -21,7 +21,7 @@ use Rattle.cert_words.proofs.Steps.{bind_some, guarded, chosen, some_is, Starts,
 use Rattle.cert_words.proofs.WordLaws.{prefix_is, after_prefix, word_takes, word_again, decimal_inner, letter_takes, letter_again}
 use Rattle.cert_forest.specs.declared.tree.AccessId.{AccessId}
 use Rattle.cert_forest.specs.Texts.{access_word, kind_word}
-use Rattle.cert_forest.specs.Limits.{IsAccess}
+use Rattle.cert_forest.specs.Limits.{IsAccessId}
 use Rattle.cert_forest.specs.Reading.{is_no_stop, access_tail, access_of, access_at, kind_of, kind_at, label_word_at}
 
 -- ---- accesses
@@ -50,7 +50,7 @@ tail_takes t (b ∷ ds) e first h =
     let text : b ∷ ds ≡ 46 ∷ decimal a.0 = λ i. stop i ∷ n.0 i in
     subst (λ (y : AccessId). (b ∷ ds ≡ 46 ∷ decimal y.access) × (y.thread ≡ t) × (y.access < 256)) same (text, refl, small)
 
-access_of_takes : (word : List ℕ) (e : AccessId) → access_of word ≡ Some e → (word ≡ access_word e) × IsAccess e
+access_of_takes : (word : List ℕ) (e : AccessId) → access_of word ≡ Some e → (word ≡ access_word e) × IsAccessId e
 unfolding access_of
 access_of_takes word e h =
     let n = prefix_len is_no_stop word in
@@ -61,7 +61,7 @@ access_of_takes word e h =
     let first : take n word ≡ decimal e.thread = t.0 ∙ ap decimal (sym tail.1) in
     (sym (take-append-drop n word) ∙ (λ i. first i ++ tail.0 i), (small, tail.2))
 
-access_of_again : (e : AccessId) → IsAccess e → access_of (access_word e) ≡ Some e
+access_of_again : (e : AccessId) → IsAccessId e → access_of (access_word e) ≡ Some e
 unfolding access_of
 access_of_again e fits =
     let digits : list_all is_no_stop (decimal e.thread) ≡ true = digits_no_stop (decimal e.thread) (digits_decimal own e.thread (omega (arith, fits.0))) in
@@ -76,7 +76,7 @@ all_join : (p : ℕ → Bool) (xs ys : List ℕ) → list_all p xs ≡ true → 
 all_join p [] ys a b = b
 all_join p (x ∷ xs) ys a b = let both = and_parts (p x) (list_all p xs) a in and_from (p x) (list_all p (xs ++ ys)) both.0 (all_join p xs ys both.1 b)
 
-access_inner : (e : AccessId) → IsAccess e → list_all is_inner (access_word e) ≡ true
+access_inner : (e : AccessId) → IsAccessId e → list_all is_inner (access_word e) ≡ true
 access_inner e fits =
     let second : list_all is_inner (decimal e.access) ≡ true = decimal_inner e.access (omega (arith, fits.1)) in
     all_join is_inner (decimal e.thread) (46 ∷ decimal e.access) (decimal_inner e.thread (omega (arith, fits.0))) second
@@ -84,19 +84,19 @@ access_inner e fits =
 abbrev pub access_text : AccessId → List ℕ
 access_text e = spaced (access_word e)
 
-pub access_exact : IsExact access_at access_text IsAccess
+pub access_exact : IsExact access_at access_text IsAccessId
 unfolding access_at
 access_exact = record { takes = taken; again = λ e rest fits st. again e rest fits st; starts = λ e rest fits st. refl }
   where
-    taken : (bytes : List ℕ) (x : AccessId × List ℕ) → access_at bytes ≡ Some x → (bytes ≡ access_text x.0 ++ x.1) × IsAccess x.0
+    taken : (bytes : List ℕ) (x : AccessId × List ℕ) → access_at bytes ≡ Some x → (bytes ≡ access_text x.0 ++ x.1) × IsAccessId x.0
     taken bytes x e =
         let a = bind_some (word_at bytes) (λ w. access_of w.0 >>= λ event. Some (event, w.1)) x e in
         let b = bind_some (access_of a.0.0) (λ event. Some (event, a.0.1)) x a.2 in
         let t = access_of_takes a.0.0 b.0 b.1 in
         let here : bytes ≡ access_text b.0 ++ a.0.1 = word_takes bytes a.0 a.1 ∙ ap (λ (v : List ℕ). spaced v ++ a.0.1) t.0 in
-        subst (λ (y : AccessId × List ℕ). (bytes ≡ access_text y.0 ++ y.1) × IsAccess y.0) (some_is (b.0, a.0.1) x b.2) (here, t.1)
+        subst (λ (y : AccessId × List ℕ). (bytes ≡ access_text y.0 ++ y.1) × IsAccessId y.0) (some_is (b.0, a.0.1) x b.2) (here, t.1)
 
-    again : (e : AccessId) (rest : List ℕ) → IsAccess e → Starts rest → access_at (access_text e ++ rest) ≡ Some (e, rest)
+    again : (e : AccessId) (rest : List ℕ) → IsAccessId e → Starts rest → access_at (access_text e ++ rest) ≡ Some (e, rest)
     again e rest fits st = rw (word_again (access_word e) rest (access_inner e fits) st, access_of_again e fits) refl
 
 -- ---- kinds

@@ -11,7 +11,7 @@ use Rattle.cert_words.specs.Words.{◌>>=◌, is_inner, word_at}
 use Rattle.cert_words.proofs.Steps.{bind_some, guarded, some_is, Starts, IsExact}
 use Rattle.cert_words.proofs.WordLaws.{word_takes, word_again}
 use Rattle.cert_forest.specs.Texts.{register_word, location_word, place_word}
-use Rattle.cert_forest.specs.Reading.{digit_of, location_of, register_of, place_of, place_at}
+use Rattle.cert_forest.specs.Reading.{digit_of, shown_location, register_of, shown_place, place_word_at}
 
 -- ---- digits
 
@@ -51,7 +51,7 @@ register_at t r thread register =
 abbrev IsOf : List ℕ → ℕ → Type 0
 IsOf word place = (word ≡ place_word place) × (place < 56)
 
-location_takes : (a b p : ℕ) → location_of a b ≡ Some p → IsOf (a ∷ (b ∷ [])) p
+location_takes : (a b p : ℕ) → shown_location a b ≡ Some p → IsOf (a ∷ (b ∷ [])) p
 location_takes a b p e = by_test (a == 108) refl e
   where
     by_test : (t : Bool) → (a == 108) ≡ t → cond t (digit_of 7 b >>= λ l. Some (location_place l)) None ≡ Some p → IsOf (a ∷ (b ∷ [])) p
@@ -81,7 +81,7 @@ register_takes a b c d p e = by_test (a == 114 && c == 46) refl e
         let small : register_place u.0 v.0 < 56 = omega (arith, t.1, r.1) in
         subst (IsOf (a ∷ (b ∷ (c ∷ (d ∷ []))))) (some_is (register_place u.0 v.0) p v.2) (word ∙ sym (register_at u.0 v.0 (omega (arith, t.1)) (omega (arith, r.1))), small)
 
-place_takes : (word : List ℕ) (p : ℕ) → place_of word ≡ Some p → IsOf word p
+place_takes : (word : List ℕ) (p : ℕ) → shown_place word ≡ Some p → IsOf word p
 place_takes [] p e = absurd cc
 place_takes (a ∷ []) p e = absurd cc
 place_takes (a ∷ (b ∷ [])) p e = location_takes a b p e
@@ -100,20 +100,20 @@ by_place P register location p small = elim (cases_lt p 48) [
       subst P is (location (p - 48) (omega arith))
 ]
 
-place_again : (p : ℕ) → p < 56 → place_of (place_word p) ≡ Some p
-place_again = by_place (λ p. place_of (place_word p) ≡ Some p) register location
+place_again : (p : ℕ) → p < 56 → shown_place (place_word p) ≡ Some p
+place_again = by_place (λ p. shown_place (place_word p) ≡ Some p) register location
   where
-    register : (t r : ℕ) → t < 8 → r < 6 → place_of (place_word (register_place t r)) ≡ Some (register_place t r)
+    register : (t r : ℕ) → t < 8 → r < 6 → shown_place (place_word (register_place t r)) ≡ Some (register_place t r)
     register t r thread fits =
         let one : decimal t ≡ (48 + t) ∷ [] = decimal_digit t (omega arith) in
         let two : decimal r ≡ (48 + r) ∷ [] = decimal_digit r (omega arith) in
-        ap place_of (register_at t r thread fits ∙ (λ i. 114 ∷ (one i ++ 46 ∷ two i)))
+        ap shown_place (register_at t r thread fits ∙ (λ i. 114 ∷ (one i ++ 46 ∷ two i)))
         ∙ rw (digit_again 7 t (omega arith), digit_again 5 r (omega arith)) refl
 
-    location : (l : ℕ) → l < 8 → place_of (place_word (location_place l)) ≡ Some (location_place l)
+    location : (l : ℕ) → l < 8 → shown_place (place_word (location_place l)) ≡ Some (location_place l)
     location l fits =
         let one : decimal l ≡ (48 + l) ∷ [] = decimal_digit l (omega arith) in
-        ap place_of (location_at l ∙ (λ i. 108 ∷ one i)) ∙ rw (digit_again 7 l (omega arith)) refl
+        ap shown_place (location_at l ∙ (λ i. 108 ∷ one i)) ∙ rw (digit_again 7 l (omega arith)) refl
 
 digit_inner : (d : ℕ) → d < 10 → is_inner (48 + d) ≡ true
 digit_inner d fits =
@@ -146,17 +146,17 @@ place_inner = by_place (λ p. list_all is_inner (place_word p) ≡ true) registe
 abbrev pub place_text : ℕ → List ℕ
 place_text p = spaced (place_word p)
 
-pub place_exact : IsExact place_at place_text (λ p. p < 56)
-unfolding place_at
+pub place_exact : IsExact place_word_at place_text (λ p. p < 56)
+unfolding place_word_at
 place_exact = record { takes = taken; again = λ p rest fits st. again p rest fits st; starts = λ p rest fits st. refl }
   where
-    taken : (bytes : List ℕ) (x : ℕ × List ℕ) → place_at bytes ≡ Some x → (bytes ≡ place_text x.0 ++ x.1) × (x.0 < 56)
+    taken : (bytes : List ℕ) (x : ℕ × List ℕ) → place_word_at bytes ≡ Some x → (bytes ≡ place_text x.0 ++ x.1) × (x.0 < 56)
     taken bytes x e =
-        let a = bind_some (word_at bytes) (λ w. place_of w.0 >>= λ place. Some (place, w.1)) x e in
-        let b = bind_some (place_of a.0.0) (λ place. Some (place, a.0.1)) x a.2 in
+        let a = bind_some (word_at bytes) (λ w. shown_place w.0 >>= λ place. Some (place, w.1)) x e in
+        let b = bind_some (shown_place a.0.0) (λ place. Some (place, a.0.1)) x a.2 in
         let t = place_takes a.0.0 b.0 b.1 in
         let here : bytes ≡ place_text b.0 ++ a.0.1 = word_takes bytes a.0 a.1 ∙ ap (λ (v : List ℕ). spaced v ++ a.0.1) t.0 in
         subst (λ (y : ℕ × List ℕ). (bytes ≡ place_text y.0 ++ y.1) × (y.0 < 56)) (some_is (b.0, a.0.1) x b.2) (here, t.1)
 
-    again : (p : ℕ) (rest : List ℕ) → p < 56 → Starts rest → place_at (place_text p ++ rest) ≡ Some (p, rest)
+    again : (p : ℕ) (rest : List ℕ) → p < 56 → Starts rest → place_word_at (place_text p ++ rest) ≡ Some (p, rest)
     again p rest fits st = rw (word_again (place_word p) rest (place_inner p fits) st, place_again p fits) refl

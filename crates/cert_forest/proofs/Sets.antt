@@ -8,7 +8,7 @@ use Rattle.std.proofs.lemmas.Bool.{cases_lt}
 use Rattle.std.proofs.lemmas.Bool.Decides.{nat_tests}
 use Rattle.std.specs.Cmp.{nat_cmp_total}
 use Rattle.std.proofs.lemmas.List.{take_more}
-use Rattle.gap_sets.specs.Gaps.{SetOfGaps, gaps_in}
+use Rattle.gap_sets.specs.Gaps.{SetOfGaps, numbers_of_set}
 use Rattle.cert_forest.specs.Limits.{AscendFrom, PlacesFrom}
 
 abbrev is_in : List ℕ → ℕ → Bool
@@ -49,8 +49,8 @@ picks p a (suc n) (g ∷ gs) e up same =
           rw yes (λ i. is i ∷ others i)
     ]
 
-pub gaps_in_list : (gs : List ℕ) → AscendFrom 0 gs → gaps_in (set.from_list gs) ≡ gs
-unfolding gaps_in
+pub gaps_in_list : (gs : List ℕ) → AscendFrom 0 gs → numbers_of_set (set.from_list gs) ≡ gs
+unfolding numbers_of_set
 gaps_in_list gs up = picks (set.contains (set.from_list gs)) 0 64 gs refl up (λ q _. contains-from_list_nat gs q)
 
 pub gap_below : (least : ℕ) (gs : List ℕ) (i : ℕ) → AscendFrom least gs → i < length gs → get_or gs i 0 < 64
@@ -69,7 +69,7 @@ ascend : (least : ℕ) (ps : List ℕ) → PlacesFrom least ps → AscendFrom le
 ascend least [] up = tt
 ascend least (p ∷ ps) up = (up.0, omega (arith, up.1), ascend (p + 1) ps up.2)
 
-pub places_in_list : (ps : List ℕ) → PlacesFrom 0 ps → gaps_in (set.from_list ps) ≡ ps
+pub places_in_list : (ps : List ℕ) → PlacesFrom 0 ps → numbers_of_set (set.from_list ps) ≡ ps
 places_in_list ps up = gaps_in_list ps (ascend 0 ps up)
 
 pub place_below : (least : ℕ) (ps : List ℕ) (i : ℕ) → PlacesFrom least ps → i < length ps → get_or ps i 0 < 56

@@ -3,7 +3,7 @@ use Rattle.std.proofs.Common.{◌≡◌, ℕ, suc, ◌-◌, ◌<◌, ◌==◌, f
 use Rattle.std.proofs.lemmas.Bool.{cases_Bool, eqb-true}
 use Rattle.cert_words.specs.declared.refusal.Stop.{Stop}
 use Rattle.cert_words.specs.declared.refusal.Stop.TheVariants.{Refused, OutOfMemory}
-use Rattle.cert_forest.specs.Trees.{Gap, Split, Bound, gaps_of}
+use Rattle.cert_forest.specs.Trees.{Gap, Split, Bound, gap_trees_of}
 use Rattle.cert_words.specs.Words.{Fails, letter_at, repeat_at}
 use Rattle.cert_forest.specs.Reading.{Head, head_at, below_at, cover_at, split_at, gap_by, gap_at}
 
@@ -60,9 +60,9 @@ gap_no_children d bytes l rest run n more (Refused r) lt e is so fails =
     gap_node d bytes l rest lt e ∙ ap (λ (k : ℕ). gap_by (gap_at (d - 1)) k rest) is ∙ step
 
 pub gap_split : (d : ℕ) (bytes : List ℕ) (l : ℕ) (rest : List ℕ) (run n : ℕ) (more : List ℕ) (ts : List Gap) (end : List ℕ) → 0 < d → letter_at bytes ≡ Some (l, rest) → l ≡ 80 → split_at rest ≡ Some ((run, n), more)
-    → repeat_at (gap_at (d - 1)) n [] more ≡ Some (ts, end) → gap_at d bytes ≡ Some (Split run (gaps_of ts), end)
+    → repeat_at (gap_at (d - 1)) n [] more ≡ Some (ts, end) → gap_at d bytes ≡ Some (Split run (gap_trees_of ts), end)
 gap_split d bytes l rest run n more ts end lt e is so all =
-    let step : gap_by (gap_at (d - 1)) 80 rest ≡ Some (Split run (gaps_of ts), end) = rw (so, all) refl in
+    let step : gap_by (gap_at (d - 1)) 80 rest ≡ Some (Split run (gap_trees_of ts), end) = rw (so, all) refl in
     gap_node d bytes l rest lt e ∙ ap (λ (k : ℕ). gap_by (gap_at (d - 1)) k rest) is ∙ step
 
 pub gap_bound : (d : ℕ) (bytes : List ℕ) (l : ℕ) (rest : List ℕ) → 0 < d → letter_at bytes ≡ Some (l, rest) → l ≡ 66 → gap_at d bytes ≡ Some (Bound, rest)

@@ -1,7 +1,7 @@
 -- The texts of trees, and of several trees in order.
 use Rattle.std.proofs.Common.{◌≡◌, ℕ, suc, ◌≤◌, List, [], ◌∷◌, ◌++◌, length, map, refl, sym, ap, ◌∙◌, append_assoc, arith}
 use Rattle.std.specs.List.{AllByRecursion}
-use Rattle.cert_forest.specs.Trees.{Cover, Value, Source, Order, Cycle, Known, Covers, NoCover, MoreCovers, covers_of, Gap, Split, Bound, Gaps, NoGap, MoreGaps, gaps_of}
+use Rattle.cert_forest.specs.Trees.{Cover, Value, Source, Order, Cycle, Known, Covers, NoCover, MoreCovers, covers_of, Gap, Split, Bound, GapTrees, NoGap, MoreGaps, gap_trees_of}
 use Rattle.cert_words.specs.Lines.{texts_of, spaced}
 use Rattle.cert_forest.specs.Texts.{cover_words, covers_words, gap_words, gaps_words, count_covers, count_gaps}
 use Rattle.cert_forest.specs.Limits.{cover_depth, covers_depth, HaveNumbers, IsCoverTo, gap_depth, gaps_depth, HaveGapNumbers, IsGapTo}
@@ -55,27 +55,27 @@ cover_deep (Known run) = omega arith
 abbrev pub gap_text : Gap → List ℕ
 gap_text t = texts_of spaced (gap_words t)
 
-abbrev pub gap_list : Gaps → List Gap
+abbrev pub gap_list : GapTrees → List Gap
 gap_list NoGap = []
 gap_list (MoreGaps t ts) = t ∷ gap_list ts
 
-pub gaps_again : (ts : Gaps) → gaps_of (gap_list ts) ≡ ts
+pub gaps_again : (ts : GapTrees) → gap_trees_of (gap_list ts) ≡ ts
 gaps_again NoGap = refl
 gaps_again (MoreGaps t ts) = ap (MoreGaps t) (gaps_again ts)
 
-pub gaps_text : (ts : List Gap) → texts_of spaced (gaps_words (gaps_of ts)) ≡ texts_of gap_text ts
+pub gaps_text : (ts : List Gap) → texts_of spaced (gaps_words (gap_trees_of ts)) ≡ texts_of gap_text ts
 gaps_text [] = refl
-gaps_text (t ∷ ts) = texts_append spaced (gap_words t) (gaps_words (gaps_of ts)) ∙ ap (λ (w : List ℕ). gap_text t ++ w) (gaps_text ts)
+gaps_text (t ∷ ts) = texts_append spaced (gap_words t) (gaps_words (gap_trees_of ts)) ∙ ap (λ (w : List ℕ). gap_text t ++ w) (gaps_text ts)
 
-pub gaps_count : (ts : List Gap) → count_gaps (gaps_of ts) ≡ length ts
+pub gaps_count : (ts : List Gap) → count_gaps (gap_trees_of ts) ≡ length ts
 gaps_count [] = refl
 gaps_count (t ∷ ts) = ap suc (gaps_count ts)
 
-pub gaps_to : (d : ℕ) (ts : List Gap) → AllByRecursion (IsGapTo d) ts → (gaps_depth (gaps_of ts) ≤ d) × HaveGapNumbers (gaps_of ts)
+pub gaps_to : (d : ℕ) (ts : List Gap) → AllByRecursion (IsGapTo d) ts → (gaps_depth (gap_trees_of ts) ≤ d) × HaveGapNumbers (gap_trees_of ts)
 gaps_to d [] all = (omega arith, tt)
 gaps_to d (t ∷ ts) all = let others = gaps_to d ts all.1 in (omega (arith, all.0.0, others.0), (all.0.1, others.1))
 
-pub gaps_from : (d : ℕ) (ts : List Gap) → gaps_depth (gaps_of ts) ≤ d → HaveGapNumbers (gaps_of ts) → AllByRecursion (IsGapTo d) ts
+pub gaps_from : (d : ℕ) (ts : List Gap) → gaps_depth (gap_trees_of ts) ≤ d → HaveGapNumbers (gap_trees_of ts) → AllByRecursion (IsGapTo d) ts
 gaps_from d [] deep numbers = tt
 gaps_from d (t ∷ ts) deep numbers = ((omega arith, numbers.0), gaps_from d ts (omega arith) numbers.1)
 

@@ -9,7 +9,7 @@ use Rattle.cert_forest.specs.Trees.{Cover, Gap}
 use Rattle.cert_forest.specs.Certificates.{Cert}
 use Rattle.cert_words.specs.Lines.{line}
 use Rattle.cert_forest.specs.Texts.{head_lines, cover_words, gap_words, runs_lines, certificate_text}
-use Rattle.cert_forest.specs.Limits.{AscendFrom, ArePlaces, AreRuns, IsCoverTo, IsGapTo, IsWithin, IsCertificate}
+use Rattle.cert_forest.specs.Limits.{AscendFrom, AreShownPlaces, AreRuns, IsCoverTo, IsGapTo, IsWithin, IsCertificate}
 use Rattle.cert_forest.specs.Exact.{HasMore}
 use Rattle.cert_forest.specs.Laws.{OneText, OneCertificate, NoTextBeginsAnother}
 use Rattle.cert_words.specs.Words.{◌>>=◌}
@@ -21,7 +21,7 @@ use Rattle.cert_forest.proofs.LineLaws.{set_takes, set_again, cost_takes, cost_a
 eight : (a b c d e f g h rest : List ℕ) → a ++ (b ++ (c ++ (d ++ (e ++ (f ++ (g ++ (h ++ rest))))))) ≡ (a ++ (b ++ (c ++ (d ++ (e ++ (f ++ (g ++ h))))))) ++ rest
 eight a b c d e f g h rest = simp append_assoc
 
--- parts, one behind the other
+-- parts, one after the other
 join : (a s k q t r f g b0 b1 b2 b3 b4 b5 b6 b7 b8 : List ℕ) → b0 ≡ a ++ b1 → b1 ≡ s ++ b2 → b2 ≡ k ++ b3 → b3 ≡ q ++ b4 → b4 ≡ t ++ b5 → b5 ≡ r ++ b6 → b6 ≡ f ++ b7 → b7 ≡ g ++ b8
     → b0 ≡ (a ++ (s ++ (k ++ (q ++ (t ++ (r ++ (f ++ g))))))) ++ b8
 join a s k q t r f g b0 b1 b2 b3 b4 b5 b6 b7 b8 e0 e1 e2 e3 e4 e5 e6 e7 =
@@ -29,7 +29,7 @@ join a s k q t r f g b0 b1 b2 b3 b4 b5 b6 b7 b8 e0 e1 e2 e3 e4 e5 e6 e7 =
     ∙ eight a s k q t r f g b8
 
 -- a certificate's parts, each with its text
-told : (a : List ℕ) (c : Cert) (b0 b1 b2 b3 b4 b5 b6 b7 b8 : List ℕ) → a ≡ head_lines c.shown → (b0 ≡ a ++ b1) × ArePlaces c.shown
+told : (a : List ℕ) (c : Cert) (b0 b1 b2 b3 b4 b5 b6 b7 b8 : List ℕ) → a ≡ head_lines c.shown → (b0 ≡ a ++ b1) × AreShownPlaces c.shown
     → (b1 ≡ line (codes "set") (map decimal c.gaps) ++ b2) × AscendFrom 0 c.gaps
     → (b2 ≡ line (codes "cost") (decimal c.cost ∷ []) ++ b3) × (c.cost < 2 ^ 64)
     → (b3 ≡ runs_lines (codes "seq") c.seq_runs ++ b4) × AreRuns c.seq_runs
@@ -158,7 +158,7 @@ never_none bytes d e is = let bad = sym e ∙ read_whole bytes d is in absurd cc
 pub gaps_ascend : (bytes rest : List ℕ) (c : Cert) → parts_at bytes ≡ Some (c, rest) → AscendFrom 0 c.gaps
 gaps_ascend bytes rest c e = (parts_takes bytes (c, rest) e).1.gaps
 
-pub places_ascend : (bytes rest : List ℕ) (c : Cert) → parts_at bytes ≡ Some (c, rest) → ArePlaces c.shown
+pub places_ascend : (bytes rest : List ℕ) (c : Cert) → parts_at bytes ≡ Some (c, rest) → AreShownPlaces c.shown
 places_ascend bytes rest c e = (parts_takes bytes (c, rest) e).1.shown
 
 -- the same certificate, by other names of what is shown and of its gaps
@@ -177,7 +177,7 @@ not_empty : (rest : List ℕ) → (length rest == 0) ≡ false → 0 < length re
 not_empty [] e = absurd cc
 not_empty (b ∷ rest) e = omega arith
 
--- what stands behind a certificate, and where
+-- what follows a certificate, and where
 pub has_more : (bytes rest : List ℕ) (c : Cert) (place : ℕ) → parts_at bytes ≡ Some (c, rest) → (length rest == 0) ≡ false → place ≡ length bytes - length rest → HasMore bytes place
 has_more bytes rest c place e some at =
     let t = parts_takes bytes (c, rest) e in
@@ -190,7 +190,7 @@ has_more bytes rest c place e some at =
 read_front : (bytes : List ℕ) (place : ℕ) (m : HasMore bytes place) → parts_at bytes ≡ Some (m.front, drop place bytes)
 read_front bytes place m = ap parts_at (sym (take-append-drop place bytes)) ∙ read (take place bytes) (drop place bytes) m.front m.of_front
 
--- where something stands behind a certificate, it is what is left, and it is not nothing
+-- where something follows a certificate, it is what is left, and it is not nothing
 pub left_behind : (bytes rest : List ℕ) (c : Cert) (place : ℕ) → parts_at bytes ≡ Some (c, rest) → HasMore bytes place → (length bytes - length rest ≡ place) × (0 < length rest)
 left_behind bytes rest c place e m =
     let is : rest ≡ drop place bytes = ap (λ p. p.1) (some_is (c, rest) (m.front, drop place bytes) (sym e ∙ read_front bytes place m)) in

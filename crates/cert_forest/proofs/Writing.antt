@@ -5,7 +5,7 @@ use Rattle.std.specs.Fmt.{decimal}
 use Rattle.std.proofs.lemmas.List.{map_more, append-nil}
 use Rattle.candidate_executions.specs.declared.event.Kind.{Kind}
 use Rattle.cert_forest.specs.declared.tree.AccessId.{AccessId}
-use Rattle.cert_forest.specs.Trees.{Cover, Value, Source, Order, Cycle, Known, covers_of, Gap, Split, gaps_of}
+use Rattle.cert_forest.specs.Trees.{Cover, Value, Source, Order, Cycle, Known, covers_of, Gap, Split, gap_trees_of}
 use Rattle.cert_words.specs.Lines.{texts_of, spaced}
 use Rattle.cert_forest.specs.Texts.{access_word, kind_word, cover_words, covers_words, gaps_words}
 use Rattle.cert_forest.proofs.TreeTexts.{texts_append, cover_text, covers_count, gap_text, gaps_count}
@@ -60,10 +60,10 @@ cycle_written a b c d e kind n es p q r len s =
 pub known_written : (a b c : List ℕ) (run : ℕ) → b ≡ a ++ spaced (codes "K") → c ≡ b ++ spaced (decimal run) → c ≡ a ++ cover_text (Known run)
 known_written a b c run p q = q ∙ ap (λ (v : List ℕ). v ++ spaced (decimal run)) p ∙ append_assoc a (spaced (codes "K")) (spaced (decimal run)) ∙ ap (λ (v : List ℕ). a ++ (spaced (codes "K") ++ v)) (sym (append-nil (spaced (decimal run))))
 
-pub split_written : (a b c d e : List ℕ) (run n : ℕ) (ts : List Gap) → b ≡ a ++ spaced (codes "P") → c ≡ b ++ spaced (decimal run) → d ≡ c ++ spaced (decimal n) → n ≡ length ts → e ≡ d ++ texts_of spaced (gaps_words (gaps_of ts)) → e ≡ a ++ gap_text (Split run (gaps_of ts))
+pub split_written : (a b c d e : List ℕ) (run n : ℕ) (ts : List Gap) → b ≡ a ++ spaced (codes "P") → c ≡ b ++ spaced (decimal run) → d ≡ c ++ spaced (decimal n) → n ≡ length ts → e ≡ d ++ texts_of spaced (gaps_words (gap_trees_of ts)) → e ≡ a ++ gap_text (Split run (gap_trees_of ts))
 split_written a b c d e run n ts p q r len s =
-    joined4 a b c d e (spaced (codes "P")) (spaced (decimal run)) (spaced (decimal n)) (texts_of spaced (gaps_words (gaps_of ts))) p q r s
-    ∙ ap (λ (m : ℕ). a ++ (spaced (codes "P") ++ (spaced (decimal run) ++ (spaced (decimal m) ++ texts_of spaced (gaps_words (gaps_of ts)))))) (len ∙ sym (gaps_count ts))
+    joined4 a b c d e (spaced (codes "P")) (spaced (decimal run)) (spaced (decimal n)) (texts_of spaced (gaps_words (gap_trees_of ts))) p q r s
+    ∙ ap (λ (m : ℕ). a ++ (spaced (codes "P") ++ (spaced (decimal run) ++ (spaced (decimal m) ++ texts_of spaced (gaps_words (gap_trees_of ts)))))) (len ∙ sym (gaps_count ts))
 
 grouped : (a s k q t r f g b : List ℕ) → ((((((b ++ a) ++ (s ++ k)) ++ q) ++ t) ++ r) ++ f) ++ g ≡ b ++ (a ++ (s ++ (k ++ (q ++ (t ++ (r ++ (f ++ g)))))))
 grouped a s k q t r f g b = simp append_assoc

@@ -4,7 +4,7 @@ use Rattle.std.specs.Global.{Vec}
 use Rattle.tso_program.specs.declared.shown.Shown.{Shown}
 use Rattle.tso_program.specs.declared.shown.Shown.TheVariants.{All, Only}
 use Rattle.tso_machine.specs.declared.label.Label.{Label}
-use Rattle.gap_sets.specs.Gaps.{gaps_in}
+use Rattle.gap_sets.specs.Gaps.{numbers_of_set}
 use Rattle.cert_forest.specs.declared.certificate.Certificate.{Certificate}
 use Rattle.cert_forest.specs.Trees.{Cover, Gap}
 use Rattle.cert_forest.specs.Views.{cover, gap}
@@ -26,18 +26,18 @@ labels_of runs = map (λ run. run.items) runs
 -- the places of what is shown, ascending, where not all is
 abbrev pub shown_places : Shown → Option (List ℕ)
 shown_places All = None
-shown_places (Only names) = Some (gaps_in names)
+shown_places (Only names) = Some (numbers_of_set names)
 
 -- places that are kept in a vector
-abbrev pub listed : Option (Vec ℕ) → Option (List ℕ)
-listed None = None
-listed (Some places) = Some places.items
+abbrev pub listed_places : Option (Vec ℕ) → Option (List ℕ)
+listed_places None = None
+listed_places (Some places) = Some places.items
 
 -- what a certificate in memory stands for
 abbrev pub certificate : Certificate → Cert
 certificate c = record {
   shown = shown_places c.shown;
-  gaps = gaps_in c.set;
+  gaps = numbers_of_set c.set;
   cost = c.cost;
   seq_runs = labels_of c.seq_runs.items;
   seq_tree = cover c.seq_tree;

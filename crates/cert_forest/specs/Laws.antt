@@ -5,7 +5,7 @@ use Rattle.candidate_executions.specs.declared.event.Kind.TheVariants as kinds
 use Rattle.tso_machine.specs.declared.label.Label.TheVariants.{Exec, Flush}
 use Rattle.tso_program.specs.Names.{register_place}
 use Rattle.cert_forest.specs.declared.tree.AccessId.{AccessId}
-use Rattle.cert_forest.specs.Trees.{Cover, Value, Source, Cycle, Known, covers_of, Split, Bound, gaps_of}
+use Rattle.cert_forest.specs.Trees.{Cover, Value, Source, Cycle, Known, covers_of, Split, Bound, gap_trees_of}
 use Rattle.cert_forest.specs.Certificates.{Cert}
 use Rattle.cert_forest.specs.Limits.{IsCertificate}
 
@@ -33,8 +33,8 @@ crossed kind =
     ∷ (Known 0 ∷ [])))
     ∷ (Value 1 (covers_of (Known 1 ∷ (Known 2 ∷ []))) ∷ [])))
 
-abbrev pub store_buffering : Cert
-store_buffering = record {
+abbrev pub store_buffering_cert : Cert
+store_buffering_cert = record {
   shown = None;
   gaps = 0 ∷ (1 ∷ []);
   cost = 2;
@@ -48,7 +48,7 @@ store_buffering = record {
       ∷ ((Exec 1 ∷ (Exec 1 ∷ (Exec 0 ∷ (Flush 0 ∷ (Exec 0 ∷ (Flush 1 ∷ []))))))
       ∷ ((Exec 0 ∷ (Exec 0 ∷ (Exec 1 ∷ (Flush 1 ∷ (Exec 1 ∷ (Flush 0 ∷ [])))))) ∷ []));
   fenced_tree = crossed kinds.Global;
-  gap_tree = Split 0 (gaps_of (Split 1 (gaps_of (Bound ∷ [])) ∷ (Split 2 (gaps_of []) ∷ [])));
+  gap_tree = Split 0 (gap_trees_of (Split 1 (gap_trees_of (Bound ∷ [])) ∷ (Split 2 (gap_trees_of []) ∷ [])));
 }
 
 abbrev pub ended : List ℕ → List ℕ
@@ -135,6 +135,6 @@ n6_observed_text =
     ++ ended (codes "gaps B"))))))))))
 
 pub record TheExamplesAreCertificates : Type 0 where
-  pub crossing : IsCertificate store_buffering_text store_buffering
+  pub crossing : IsCertificate store_buffering_text store_buffering_cert
   pub nothing : IsCertificate nothing_to_do_text nothing_to_do
   pub observed : IsCertificate n6_observed_text n6_observed

@@ -4,7 +4,7 @@ use Rattle.std.specs.List.{AllByRecursion}
 use Rattle.tso_machine.specs.declared.label.Label.{Label}
 use Rattle.tso_machine.specs.RunTexts.{IsLabel}
 use Rattle.cert_forest.specs.declared.tree.AccessId.{AccessId}
-use Rattle.cert_forest.specs.Trees.{Cover, Value, Source, Order, Cycle, Known, Covers, NoCover, MoreCovers, Gap, Split, Bound, Gaps, NoGap, MoreGaps}
+use Rattle.cert_forest.specs.Trees.{Cover, Value, Source, Order, Cycle, Known, Covers, NoCover, MoreCovers, Gap, Split, Bound, GapTrees, NoGap, MoreGaps}
 use Rattle.cert_forest.specs.Texts.{count_covers, count_gaps, certificate_text}
 use Rattle.cert_forest.specs.Certificates.{Cert}
 
@@ -18,17 +18,17 @@ abbrev pub PlacesFrom : ℕ → List ℕ → Type 0
 PlacesFrom least [] = Unit {0}
 PlacesFrom least (place ∷ places) = (least ≤ place) × (place < 56) × PlacesFrom (place + 1) places
 
-abbrev pub ArePlaces : Option (List ℕ) → Type 0
-ArePlaces None = Unit {0}
-ArePlaces (Some places) = PlacesFrom 0 places
+abbrev pub AreShownPlaces : Option (List ℕ) → Type 0
+AreShownPlaces None = Unit {0}
+AreShownPlaces (Some places) = PlacesFrom 0 places
 
 -- threads and accesses are numbered from 0 to 255
-abbrev pub IsAccess : AccessId → Type 0
-IsAccess event = (event.thread < 256) × (event.access < 256)
+abbrev pub IsAccessId : AccessId → Type 0
+IsAccessId event = (event.thread < 256) × (event.access < 256)
 
 -- a run: at most 1,024 labels
-abbrev pub IsRun : List Label → Type 0
-IsRun labels = (length labels ≤ 1024) × AllByRecursion IsLabel labels
+abbrev pub IsWrittenRun : List Label → Type 0
+IsWrittenRun labels = (length labels ≤ 1024) × AllByRecursion IsLabel labels
 
 -- how many nodes lie on the longest way from the root, the root included
 abbrev mutual
@@ -48,7 +48,7 @@ abbrev mutual
   gap_depth (Split run children) = suc (gaps_depth children)
   gap_depth Bound = 1
 
-  pub gaps_depth : Gaps → ℕ
+  pub gaps_depth : GapTrees → ℕ
   gaps_depth NoGap = 0
   gaps_depth (MoreGaps t ts) = max (gap_depth t) (gaps_depth ts)
 
@@ -56,9 +56,9 @@ abbrev mutual
 abbrev mutual
   pub HasNumbers : Cover → Type 0
   HasNumbers (Value thread children) = (thread < 256) × (count_covers children ≤ 1024) × HaveNumbers children
-  HasNumbers (Source read children) = IsAccess read × (count_covers children ≤ 1024) × HaveNumbers children
-  HasNumbers (Order first second first_before second_before) = IsAccess first × IsAccess second × HasNumbers first_before × HasNumbers second_before
-  HasNumbers (Cycle kind events) = (length events ≤ 1024) × AllByRecursion IsAccess events
+  HasNumbers (Source read children) = IsAccessId read × (count_covers children ≤ 1024) × HaveNumbers children
+  HasNumbers (Order first second first_before second_before) = IsAccessId first × IsAccessId second × HasNumbers first_before × HasNumbers second_before
+  HasNumbers (Cycle kind events) = (length events ≤ 1024) × AllByRecursion IsAccessId events
   HasNumbers (Known run) = run < 2 ^ 64
 
   pub HaveNumbers : Covers → Type 0
@@ -70,7 +70,7 @@ abbrev mutual
   HasGapNumbers (Split run children) = (run < 2 ^ 64) × (count_gaps children ≤ 1024) × HaveGapNumbers children
   HasGapNumbers Bound = Unit {0}
 
-  pub HaveGapNumbers : Gaps → Type 0
+  pub HaveGapNumbers : GapTrees → Type 0
   HaveGapNumbers NoGap = Unit {0}
   HaveGapNumbers (MoreGaps t ts) = HasGapNumbers t × HaveGapNumbers ts
 
@@ -83,11 +83,11 @@ IsGapTo depth tree = (gap_depth tree ≤ depth) × HasGapNumbers tree
 
 -- as many runs as a number can count, each of them a run
 abbrev pub AreRuns : List (List Label) → Type 0
-AreRuns runs = (length runs < 2 ^ 64) × AllByRecursion IsRun runs
+AreRuns runs = (length runs < 2 ^ 64) × AllByRecursion IsWrittenRun runs
 
 -- a certificate within the limits: cover trees to depth 400, a gap tree to depth 65
 pub record IsWithin (c : Cert) : Type 0 where
-  pub shown : ArePlaces c.shown
+  pub shown : AreShownPlaces c.shown
   pub gaps : AscendFrom 0 c.gaps
   pub cost : c.cost < 2 ^ 64
   pub seq_runs : AreRuns c.seq_runs

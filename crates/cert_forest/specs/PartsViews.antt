@@ -1,11 +1,11 @@
 -- What the parts of a certificate stand for, as they were read.
 use Rattle.cert_forest.specs.declared.reader.Parts.{Parts}
 use Rattle.cert_forest.specs.Views.{cover, gap}
-use Rattle.cert_forest.specs.Certificates.{Cert, listed, labels_of}
+use Rattle.cert_forest.specs.Certificates.{Cert, listed_places, labels_of}
 
 abbrev pub parts_view : Parts → Cert
 parts_view p = record {
-  shown = listed p.shown;
+  shown = listed_places p.shown;
   gaps = p.gaps.items;
   cost = p.cost;
   seq_runs = labels_of p.seq_runs.items;

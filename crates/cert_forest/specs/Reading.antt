@@ -1,4 +1,4 @@
--- What each function of the reader gives: a value, and the bytes behind it; or nothing.
+-- What each function of the reader gives: a value, and the bytes after it; or nothing.
 use Rattle.std.specs.Prelude.{◌==◌, ◌&&◌, ◌-◌, nat_le, true, false, ℕ, zero, suc, ◌+◌, Bool, List, [], ◌∷◌, ◌++◌, take, drop, codes, nat_lt, not, Option, Some, None, if◌then◌else◌}
 use Rattle.std.specs.List.{prefix_len}
 use Rattle.std.specs.Str.{bytes_eq}
@@ -8,16 +8,16 @@ use Rattle.candidate_executions.specs.declared.event.Kind.TheVariants as kinds
 use Rattle.tso_machine.specs.declared.label.Label.{Label}
 use Rattle.tso_machine.specs.RunTexts.{label_at}
 use Rattle.text_tokens.specs.Numbers.{plain_number_at}
-use Rattle.cert_words.specs.Words.{◌>>=◌, word_at, name_at, end_at, begins_word, number_at, count_at, letter_at, repeat_at}
+use Rattle.cert_words.specs.Words.{◌>>=◌, word_at, line_name_at, end_at, begins_word, number_within_at, count_at, letter_at, repeat_at}
 use Rattle.cert_forest.specs.declared.tree.AccessId.{AccessId}
-use Rattle.cert_forest.specs.Trees.{Cover, Value, Source, Order, Cycle, Known, covers_of, Gap, Split, Bound, gaps_of}
+use Rattle.cert_forest.specs.Trees.{Cover, Value, Source, Order, Cycle, Known, covers_of, Gap, Split, Bound, gap_trees_of}
 use Rattle.cert_forest.specs.Certificates.{Cert}
 
 -- the byte is no full stop
 abbrev pub is_no_stop : ℕ → Bool
 is_no_stop b = not (b == 46)
 
--- the access of this thread, by its number behind a full stop
+-- the access of this thread, by its number after a full stop
 abbrev pub access_tail : ℕ → List ℕ → Option AccessId
 access_tail thread [] = None
 access_tail thread (b ∷ word) = plain_number_at 255 word >>= λ access. Some (record { thread = thread; access = access })
@@ -48,7 +48,7 @@ kind_at bytes = do
 unfoldable pub gaps_at : ℕ → ℕ → List ℕ → List ℕ → Option (List ℕ × List ℕ)
 gaps_at zero least found bytes = if begins_word bytes then None else Some (found, bytes)
 gaps_at (suc n) least found bytes =
-    if begins_word bytes then (number_at 63 bytes >>= λ gap. if nat_lt gap.0 least then None else gaps_at n (gap.0 + 1) (found ++ gap.0 ∷ []) gap.1)
+    if begins_word bytes then (number_within_at 63 bytes >>= λ gap. if nat_lt gap.0 least then None else gaps_at n (gap.0 + 1) (found ++ gap.0 ∷ []) gap.1)
     else Some (found, bytes)
 
 unfoldable pub label_word_at : List ℕ → Option (Label × List ℕ)
@@ -58,10 +58,10 @@ label_word_at bytes = do
   Some (label, w.1)
 
 -- labels, at most so many
-unfoldable pub labels_at : ℕ → List Label → List ℕ → Option (List Label × List ℕ)
-labels_at zero found bytes = if begins_word bytes then None else Some (found, bytes)
-labels_at (suc n) found bytes =
-    if begins_word bytes then (label_word_at bytes >>= λ label. labels_at n (found ++ label.0 ∷ []) label.1)
+unfoldable pub run_labels_at : ℕ → List Label → List ℕ → Option (List Label × List ℕ)
+run_labels_at zero found bytes = if begins_word bytes then None else Some (found, bytes)
+run_labels_at (suc n) found bytes =
+    if begins_word bytes then (label_word_at bytes >>= λ label. run_labels_at n (found ++ label.0 ∷ []) label.1)
     else Some (found, bytes)
 
 -- ---- trees
@@ -76,7 +76,7 @@ pub data Head : Type 0 where
 
 unfoldable pub value_head_at : List ℕ → Option (Head × List ℕ)
 value_head_at bytes = do
-  thread ← number_at 255 bytes
+  thread ← number_within_at 255 bytes
   n ← count_at thread.1
   Some (ValueHead thread.0 n.0, n.1)
 
@@ -101,7 +101,7 @@ cycle_at bytes = do
 
 unfoldable pub known_at : List ℕ → Option (Head × List ℕ)
 known_at bytes = do
-  run ← number_at 18446744073709551615 bytes
+  run ← number_within_at 18446744073709551615 bytes
   Some (KnownHead run.0, run.1)
 
 abbrev pub head_by : ℕ → List ℕ → Option (Head × List ℕ)
@@ -135,13 +135,13 @@ cover_at (suc depth) bytes = do
 -- of a gap tree's node: the run and the number of children, or nothing more
 unfoldable pub split_at : List ℕ → Option ((ℕ × ℕ) × List ℕ)
 split_at bytes = do
-  run ← number_at 18446744073709551615 bytes
+  run ← number_within_at 18446744073709551615 bytes
   n ← count_at run.1
   Some ((run.0, n.0), n.1)
 
 abbrev pub gap_by : (List ℕ → Option (Gap × List ℕ)) → ℕ → List ℕ → Option (Gap × List ℕ)
 gap_by read letter bytes =
-    if letter == 80 then (split_at bytes >>= λ node. repeat_at read node.0.1 [] node.1 >>= λ ts. Some (Split node.0.0 (gaps_of ts.0), ts.1)) else
+    if letter == 80 then (split_at bytes >>= λ node. repeat_at read node.0.1 [] node.1 >>= λ ts. Some (Split node.0.0 (gap_trees_of ts.0), ts.1)) else
     if letter == 66 then Some (Bound, bytes) else None
 
 unfoldable pub gap_at : ℕ → List ℕ → Option (Gap × List ℕ)
@@ -154,42 +154,42 @@ gap_at (suc depth) bytes = do
 
 unfoldable pub run_at : List ℕ → Option (List Label × List ℕ)
 run_at bytes = do
-  labels_text ← name_at (codes "run") bytes
-  labels ← labels_at 1024 [] labels_text
+  labels_text ← line_name_at (codes "run") bytes
+  labels ← run_labels_at 1024 [] labels_text
   rest ← end_at labels.1
   Some (labels.0, rest)
 
 unfoldable pub runs_at : List ℕ → List ℕ → Option (List (List Label) × List ℕ)
 runs_at name bytes = do
-  count_text ← name_at name bytes
-  n ← number_at 18446744073709551615 count_text
+  count_text ← line_name_at name bytes
+  n ← number_within_at 18446744073709551615 count_text
   lines ← end_at n.1
   repeat_at run_at n.0 [] lines
 
 unfoldable pub set_at : List ℕ → Option (List ℕ × List ℕ)
 set_at bytes = do
-  gaps_text ← name_at (codes "set") bytes
+  gaps_text ← line_name_at (codes "set") bytes
   gaps ← gaps_at 64 0 [] gaps_text
   rest ← end_at gaps.1
   Some (gaps.0, rest)
 
 unfoldable pub cost_at : List ℕ → Option (ℕ × List ℕ)
 cost_at bytes = do
-  cost_text ← name_at (codes "cost") bytes
-  cost ← number_at 18446744073709551615 cost_text
+  cost_text ← line_name_at (codes "cost") bytes
+  cost ← number_within_at 18446744073709551615 cost_text
   rest ← end_at cost.1
   Some (cost.0, rest)
 
 unfoldable pub cover_line_at : List ℕ → List ℕ → Option (Cover × List ℕ)
 cover_line_at name bytes = do
-  tree_text ← name_at name bytes
+  tree_text ← line_name_at name bytes
   tree ← cover_at 400 tree_text
   rest ← end_at tree.1
   Some (tree.0, rest)
 
 unfoldable pub gap_line_at : List ℕ → Option (Gap × List ℕ)
 gap_line_at bytes = do
-  tree_text ← name_at (codes "gaps") bytes
+  tree_text ← line_name_at (codes "gaps") bytes
   tree ← gap_at 65 tree_text
   rest ← end_at tree.1
   Some (tree.0, rest)
@@ -200,38 +200,38 @@ gap_line_at bytes = do
 abbrev pub digit_of : ℕ → ℕ → Option ℕ
 digit_of limit b = if nat_le 48 b && nat_le b (48 + limit) then Some (b - 48) else None
 
-abbrev pub location_of : ℕ → ℕ → Option ℕ
-location_of first digit = if first == 108 then (digit_of 7 digit >>= λ location. Some (location_place location)) else None
+abbrev pub shown_location : ℕ → ℕ → Option ℕ
+shown_location first digit = if first == 108 then (digit_of 7 digit >>= λ location. Some (location_place location)) else None
 
 abbrev pub register_of : ℕ → ℕ → ℕ → ℕ → Option ℕ
 register_of first thread stop register =
     if first == 114 && stop == 46 then (digit_of 7 thread >>= λ t. digit_of 5 register >>= λ r. Some (register_place t r)) else None
 
 -- the place whose word this is
-abbrev pub place_of : List ℕ → Option ℕ
-place_of [] = None
-place_of (a ∷ []) = None
-place_of (a ∷ (b ∷ [])) = location_of a b
-place_of (a ∷ (b ∷ (c ∷ []))) = None
-place_of (a ∷ (b ∷ (c ∷ (d ∷ [])))) = register_of a b c d
-place_of (a ∷ (b ∷ (c ∷ (d ∷ (e ∷ word))))) = None
+abbrev pub shown_place : List ℕ → Option ℕ
+shown_place [] = None
+shown_place (a ∷ []) = None
+shown_place (a ∷ (b ∷ [])) = shown_location a b
+shown_place (a ∷ (b ∷ (c ∷ []))) = None
+shown_place (a ∷ (b ∷ (c ∷ (d ∷ [])))) = register_of a b c d
+shown_place (a ∷ (b ∷ (c ∷ (d ∷ (e ∷ word))))) = None
 
-unfoldable pub place_at : List ℕ → Option (ℕ × List ℕ)
-place_at bytes = do
+unfoldable pub place_word_at : List ℕ → Option (ℕ × List ℕ)
+place_word_at bytes = do
   w ← word_at bytes
-  place ← place_of w.0
+  place ← shown_place w.0
   Some (place, w.1)
 
 -- places from the least on, at most so many
 unfoldable pub places_at : ℕ → ℕ → List ℕ → List ℕ → Option (List ℕ × List ℕ)
 places_at zero least found bytes = if begins_word bytes then None else Some (found, bytes)
 places_at (suc n) least found bytes =
-    if begins_word bytes then (place_at bytes >>= λ place. if nat_lt place.0 least then None else places_at n (place.0 + 1) (found ++ place.0 ∷ []) place.1)
+    if begins_word bytes then (place_word_at bytes >>= λ place. if nat_lt place.0 least then None else places_at n (place.0 + 1) (found ++ place.0 ∷ []) place.1)
     else Some (found, bytes)
 
 unfoldable pub shown_line_at : List ℕ → Option (List ℕ × List ℕ)
 shown_line_at bytes = do
-  places_text ← name_at (codes "shown") bytes
+  places_text ← line_name_at (codes "shown") bytes
   places ← places_at 56 0 [] places_text
   rest ← end_at places.1
   Some (places.0, rest)
@@ -245,20 +245,20 @@ version_at bytes = do
 -- `FENCECERT 1`, or `FENCECERT 2`
 unfoldable pub header_at : List ℕ → Option (Bool × List ℕ)
 header_at bytes = do
-  version_text ← name_at (codes "FENCECERT") bytes
+  version_text ← line_name_at (codes "FENCECERT") bytes
   version ← version_at version_text
   rest ← end_at version.1
   Some (version.0, rest)
 
-abbrev pub shown_by : Bool → List ℕ → Option (Option (List ℕ) × List ℕ)
-shown_by false bytes = Some (None, bytes)
-shown_by true bytes = shown_line_at bytes >>= λ places. Some (Some places.0, places.1)
+abbrev pub shown_words_at : Bool → List ℕ → Option (Option (List ℕ) × List ℕ)
+shown_words_at false bytes = Some (None, bytes)
+shown_words_at true bytes = shown_line_at bytes >>= λ places. Some (Some places.0, places.1)
 
 -- the head
 unfoldable pub shown_at : List ℕ → Option (Option (List ℕ) × List ℕ)
 shown_at bytes = do
   version ← header_at bytes
-  shown_by version.0 version.1
+  shown_words_at version.0 version.1
 
 -- a certificate at the front of the bytes
 unfoldable pub parts_at : List ℕ → Option (Cert × List ℕ)

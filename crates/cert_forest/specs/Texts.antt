@@ -7,7 +7,7 @@ use Rattle.tso_machine.specs.declared.label.Label.{Label}
 use Rattle.tso_machine.specs.RunTexts.{spelling}
 use Rattle.cert_words.specs.Lines.{line, texts_of}
 use Rattle.cert_forest.specs.declared.tree.AccessId.{AccessId}
-use Rattle.cert_forest.specs.Trees.{Cover, Value, Source, Order, Cycle, Known, Covers, NoCover, MoreCovers, Gap, Split, Bound, Gaps, NoGap, MoreGaps}
+use Rattle.cert_forest.specs.Trees.{Cover, Value, Source, Order, Cycle, Known, Covers, NoCover, MoreCovers, Gap, Split, Bound, GapTrees, NoGap, MoreGaps}
 use Rattle.cert_forest.specs.Certificates.{Cert}
 
 -- ---- words
@@ -50,7 +50,7 @@ abbrev mutual
   covers_words NoCover = []
   covers_words (MoreCovers t ts) = cover_words t ++ covers_words ts
 
-abbrev pub count_gaps : Gaps → ℕ
+abbrev pub count_gaps : GapTrees → ℕ
 count_gaps NoGap = 0
 count_gaps (MoreGaps t ts) = suc (count_gaps ts)
 
@@ -59,19 +59,19 @@ abbrev mutual
   gap_words (Split run children) = codes "P" ∷ (decimal run ∷ (decimal (count_gaps children) ∷ gaps_words children))
   gap_words Bound = codes "B" ∷ []
 
-  pub gaps_words : Gaps → List (List ℕ)
+  pub gaps_words : GapTrees → List (List ℕ)
   gaps_words NoGap = []
   gaps_words (MoreGaps t ts) = gap_words t ++ gaps_words ts
 
 -- ---- the whole
 
 -- a run's line
-abbrev pub run_line : List Label → List ℕ
-run_line labels = line (codes "run") (map spelling labels)
+abbrev pub labels_line : List Label → List ℕ
+labels_line labels = line (codes "run") (map spelling labels)
 
 -- a line with the number of runs, and a line for each
 abbrev pub runs_lines : List ℕ → List (List Label) → List ℕ
-runs_lines name runs = line name (decimal (length runs) ∷ []) ++ texts_of run_line runs
+runs_lines name runs = line name (decimal (length runs) ∷ []) ++ texts_of labels_line runs
 
 -- the version's line, and in the second version that of what is shown
 abbrev pub head_lines : Option (List ℕ) → List ℕ

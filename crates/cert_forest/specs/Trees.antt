@@ -19,17 +19,17 @@ mutual
 -- a gap tree, and several in order
 mutual
   pub data Gap : Type 0 where
-    Split : ℕ → Gaps → Gap
+    Split : ℕ → GapTrees → Gap
     Bound : Gap
 
-  pub data Gaps : Type 0 where
-    NoGap : Gaps
-    MoreGaps : Gap → Gaps → Gaps
+  pub data GapTrees : Type 0 where
+    NoGap : GapTrees
+    MoreGaps : Gap → GapTrees → GapTrees
 
 abbrev pub covers_of : List Cover → Covers
 covers_of [] = NoCover
 covers_of (t ∷ ts) = MoreCovers t (covers_of ts)
 
-abbrev pub gaps_of : List Gap → Gaps
-gaps_of [] = NoGap
-gaps_of (t ∷ ts) = MoreGaps t (gaps_of ts)
+abbrev pub gap_trees_of : List Gap → GapTrees
+gap_trees_of [] = NoGap
+gap_trees_of (t ∷ ts) = MoreGaps t (gap_trees_of ts)

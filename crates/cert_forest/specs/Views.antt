@@ -6,11 +6,11 @@ use Rattle.cert_forest.specs.declared.tree.CoverTree.TheFolds.{fold-CoverTree}
 use Rattle.cert_forest.specs.declared.tree.GapTree.{GapTree}
 use Rattle.cert_forest.specs.declared.tree.GapTree.TheOpen as g
 use Rattle.cert_forest.specs.declared.tree.GapTree.TheFolds.{fold-GapTree}
-use Rattle.cert_forest.specs.Trees.{Cover, Value, Source, Order, Cycle, Known, covers_of, Gap, Split, Bound, gaps_of}
+use Rattle.cert_forest.specs.Trees.{Cover, Value, Source, Order, Cycle, Known, covers_of, Gap, Split, Bound, gap_trees_of}
 
 -- one node, with what each child stands for in its place
 abbrev pub gap_node : g.GapTree-F Gap → Gap
-gap_node (g.Split run children) = Split run (gaps_of children.items)
+gap_node (g.Split run children) = Split run (gap_trees_of children.items)
 gap_node g.Bound = Bound
 
 abbrev pub gap : GapTree → Gap

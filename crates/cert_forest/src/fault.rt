@@ -29,14 +29,14 @@ pub enum CertFault {
     /// tell.
     #[error("6 Ended")]
     Ended,
-    /// Bytes stand behind the last line, from this place on.
+    /// Bytes follow the last line, from this place on.
     #[error("7 Trailing {0}")]
     Trailing(usize),
     #[error("8 OutOfMemory")]
     OutOfMemory,
 }
 
-/// The fault that is told of a refusal in a text of so many bytes.
+/// The fault that reports a refusal in a text of so many bytes.
 pub(crate) fn fault_of(refusal: Refusal, len: usize) -> CertFault
     ensures { (place : ℕ) → result ≡ Trailing place → ⊥ }
 {

@@ -1,13 +1,13 @@
 //! Certificates, read from their text.
 
 ghost use Rattle.std.specs.Prelude.{◌≡◌, ℕ, ◌<◌, ◌⊎◌, [], IfOk, IfErr, IsErrAnd};
-ghost use Rattle.gap_sets.specs.Gaps.{gaps_in};
+ghost use Rattle.gap_sets.specs.Gaps.{numbers_of_set};
 ghost use Rattle.cert_forest.specs.Certificates.{Cert, certificate};
 ghost use Rattle.cert_forest.specs.Limits.{IsCertificate, AscendFrom};
 ghost use Rattle.cert_forest.specs.PartsViews.{parts_view};
 ghost use Rattle.cert_forest.specs.Exact.{GivesExactly, HasMore};
 ghost use Rattle.cert_forest.specs.declared.fault.CertFault.TheVariants.{Trailing, OutOfMemory};
-ghost use Rattle.cert_words.specs.Words.{Gives, GivesUnlessMemory, number_at};
+ghost use Rattle.cert_words.specs.Words.{Gives, GivesUnlessMemory, number_within_at};
 ghost use Rattle.cert_forest.specs.Reading.{gaps_at, set_at, cost_at, parts_at};
 
 use crate::certificate::Certificate;
@@ -30,7 +30,7 @@ fn below_least(gap: u8, least: u8, bytes: &[u8], rest: &[u8]) -> Refusal {
 
 /// A gap's number.
 fn gap_number(bytes: &[u8]) -> Result<(u8, &[u8]), Refusal>
-    ensures gives { Gives (λ x. (x.0, x.1.now)) result (number_at 63 bytes.now) }
+    ensures gives { Gives (λ x. (x.0, x.1.now)) result (number_within_at 63 bytes.now) }
     ensures below { IfOk result (λ x. x.0 < 64) }
 {
     let (gap, rest) = number(63, bytes)?;
@@ -83,7 +83,7 @@ fn set_line(alloc: Global, bytes: &[u8]) -> Result<(Vec<u8>, &[u8]), Stop>
 /// The set of these gaps.
 fn set_of(gaps: &[u8]) -> GapSet
     requires { AscendFrom 0 gaps.now }
-    ensures { gaps_in result ≡ gaps.now }
+    ensures { numbers_of_set result ≡ gaps.now }
 {
     let mut set = GapSet::empty();
     for gap in gaps {
@@ -115,7 +115,7 @@ struct Parts {
     gap_tree: GapTree,
 }
 
-/// A certificate's parts, and the bytes behind its last line.
+/// A certificate's parts, and the bytes after its last line.
 #[tactic(auto, unfolding(crate::specs::Reading::parts_at))]
 fn read_parts(alloc: Global, bytes: &[u8]) -> Result<(Parts, &[u8]), Stop>
     ensures { GivesUnlessMemory (λ x. (parts_view x.0, x.1.now)) result (parts_at bytes.now) }

@@ -5,7 +5,7 @@ ghost use Rattle.tso_machine.specs.RunTexts.{label_at};
 ghost use Rattle.text_tokens.specs.Numbers.{plain_number_at};
 ghost use Rattle.cert_forest.specs.Certificates.{labels_of};
 ghost use Rattle.cert_words.specs.Words.{Gives, GivesUnlessMemory, repeat_at};
-ghost use Rattle.cert_forest.specs.Reading.{label_word_at, labels_at, run_at, runs_at};
+ghost use Rattle.cert_forest.specs.Reading.{label_word_at, run_labels_at, run_at, runs_at};
 
 use cert_words::{
     Refusal, Stop, Wrong, are_digits, begins_word, end, first_word, name, number, plain_number,
@@ -83,7 +83,7 @@ fn one_too_many(bytes: &[u8]) -> Refusal {
 
 /// Labels, as long as words follow.
 fn labels(alloc: Global, bytes: &[u8]) -> Result<(Vec<Label>, &[u8]), Stop>
-    ensures { GivesUnlessMemory (λ x. (x.0.items, x.1.now)) result (labels_at 1024 [] bytes.now) }
+    ensures { GivesUnlessMemory (λ x. (x.0.items, x.1.now)) result (run_labels_at 1024 [] bytes.now) }
 {
     let mut found = Vec::new(alloc);
     let mut rest = bytes;

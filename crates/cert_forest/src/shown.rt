@@ -1,11 +1,11 @@
 //! The head of a certificate's text: its version, and what is shown.
 
 ghost use Rattle.std.specs.Prelude.{◌≡◌, ◌<◌, IfOk, IfSome, []};
-ghost use Rattle.gap_sets.specs.Gaps.{gaps_in};
+ghost use Rattle.gap_sets.specs.Gaps.{numbers_of_set};
 ghost use Rattle.cert_words.specs.Words.{Gives, GivesUnlessMemory};
-ghost use Rattle.cert_forest.specs.Certificates.{shown_places, listed};
-ghost use Rattle.cert_forest.specs.Limits.{PlacesFrom, ArePlaces};
-ghost use Rattle.cert_forest.specs.Reading.{digit_of, location_of, register_of, place_of, place_at, places_at, shown_line_at, version_at, header_at, shown_at};
+ghost use Rattle.cert_forest.specs.Certificates.{shown_places, listed_places};
+ghost use Rattle.cert_forest.specs.Limits.{PlacesFrom, AreShownPlaces};
+ghost use Rattle.cert_forest.specs.Reading.{digit_of, shown_location, register_of, shown_place, place_word_at, places_at, shown_line_at, version_at, header_at, shown_at};
 
 use crate::access::stop_len;
 use cert_words::{
@@ -34,7 +34,7 @@ fn digit_of(limit: u8, byte: u8) -> Option<u8>
 
 /// `lN`.
 fn location_of(first: u8, digit: u8) -> Option<u8>
-    ensures value { result ≡ location_of first digit }
+    ensures value { result ≡ shown_location first digit }
     ensures within { IfSome result (λ place. place < 56) }
 {
     if first != b'l' {
@@ -59,7 +59,7 @@ fn register_of(first: u8, thread: u8, stop: u8, register: u8) -> Option<u8>
 
 /// The place whose word this is.
 fn place_of(word: &[u8]) -> Option<u8>
-    ensures value { result ≡ place_of word.now }
+    ensures value { result ≡ shown_place word.now }
     ensures within { IfSome result (λ place. place < 56) }
 {
     match word {
@@ -119,9 +119,9 @@ fn is_register(names: &[u8], is_cut: bool) -> bool {
 }
 
 /// A space, and the word of a place, which is to be the least or a later one.
-#[tactic(auto, unfolding(crate::specs::Reading::place_at))]
+#[tactic(auto, unfolding(crate::specs::Reading::place_word_at))]
 fn place(least: u8, bytes: &[u8]) -> Result<(u8, &[u8]), Refusal>
-    ensures gives { Gives (λ x. (x.0, x.1.now)) result (place_at bytes.now) }
+    ensures gives { Gives (λ x. (x.0, x.1.now)) result (place_word_at bytes.now) }
     ensures below { IfOk result (λ x. x.0 < 56) }
 {
     let (word, rest) = word(bytes)?;
@@ -180,7 +180,7 @@ fn shown_line(alloc: Global, bytes: &[u8]) -> Result<(Vec<u8>, &[u8]), Stop>
 /// The registers and locations at these places.
 fn names_at(places: &[u8]) -> Names
     requires { PlacesFrom 0 places.now }
-    ensures { gaps_in result ≡ places.now }
+    ensures { numbers_of_set result ≡ places.now }
 {
     let mut names = Names::none();
     for place in places {
@@ -233,7 +233,7 @@ fn header(bytes: &[u8]) -> Result<(bool, &[u8]), Refusal>
 /// The first line, and in the second version the places of what is shown.
 #[tactic(auto, unfolding(crate::specs::Reading::shown_at))]
 pub(crate) fn head(alloc: Global, bytes: &[u8]) -> Result<(Option<Vec<u8>>, &[u8]), Stop>
-    ensures { GivesUnlessMemory (λ x. (listed x.0, x.1.now)) result (shown_at bytes.now) }
+    ensures { GivesUnlessMemory (λ x. (listed_places x.0, x.1.now)) result (shown_at bytes.now) }
 {
     let (is_second, rest) = header(bytes)?;
     if !is_second {
@@ -245,8 +245,8 @@ pub(crate) fn head(alloc: Global, bytes: &[u8]) -> Result<(Option<Vec<u8>>, &[u8
 
 /// What is shown: the registers and locations at these places, or all.
 pub(crate) fn shown_of(places: &Option<Vec<u8>>) -> Shown
-    requires { ArePlaces (listed places.now) }
-    ensures { shown_places result ≡ listed places.now }
+    requires { AreShownPlaces (listed_places places.now) }
+    ensures { shown_places result ≡ listed_places places.now }
 {
     match places {
         Some(places) => Shown::Only(names_at(places)),

@@ -2,13 +2,13 @@
 
 ghost use Rattle.std.specs.Prelude.{◌≡◌, ◌++◌, ◌∷◌, [], Some, map, OnOk, IfOk, string_bytes, codes};
 ghost use Rattle.std.specs.Fmt.{decimal};
-ghost use Rattle.gap_sets.specs.Gaps.{gaps_in};
+ghost use Rattle.gap_sets.specs.Gaps.{numbers_of_set};
 ghost use Rattle.tso_machine.specs.RunTexts.{spelling};
 ghost use Rattle.cert_forest.specs.Views.{cover, gap};
-ghost use Rattle.cert_forest.specs.Trees.{covers_of, gaps_of};
+ghost use Rattle.cert_forest.specs.Trees.{covers_of, gap_trees_of};
 ghost use Rattle.cert_forest.specs.Certificates.{certificate, shown_places, labels_of};
 ghost use Rattle.cert_words.specs.Lines.{texts_of, spaced, line};
-ghost use Rattle.cert_forest.specs.Texts.{register_word, location_word, place_word, head_lines, access_word, kind_word, cover_words, covers_words, gap_words, gaps_words, run_line, runs_lines, certificate_text};
+ghost use Rattle.cert_forest.specs.Texts.{register_word, location_word, place_word, head_lines, access_word, kind_word, cover_words, covers_words, gap_words, gaps_words, labels_line, runs_lines, certificate_text};
 
 use crate::certificate::Certificate;
 use crate::tree::{AccessId, CoverTree, GapTree};
@@ -136,7 +136,7 @@ fn push_gap(out: &mut String, tree: &GapTree) -> Result<(), AllocError>
 #[cycle(push_gap)]
 fn push_gaps(out: &mut String, trees: &[GapTree]) -> Result<(), AllocError>
     ensures { OnOk result (string_bytes out.new
-        ≡ string_bytes out.old ++ texts_of spaced (gaps_words (gaps_of (map gap trees.now)))) }
+        ≡ string_bytes out.old ++ texts_of spaced (gaps_words (gap_trees_of (map gap trees.now)))) }
 {
     for tree in trees {
         push_gap(out, tree)?;
@@ -163,7 +163,7 @@ fn push_labels(out: &mut String, labels: &[Label]) -> Result<(), AllocError>
 }
 
 fn push_run(out: &mut String, labels: &[Label]) -> Result<(), AllocError>
-    ensures { OnOk result (string_bytes out.new ≡ string_bytes out.old ++ run_line labels.now) }
+    ensures { OnOk result (string_bytes out.new ≡ string_bytes out.old ++ labels_line labels.now) }
 {
     out.push_str("run")?;
     push_labels(out, labels)?;
@@ -171,7 +171,7 @@ fn push_run(out: &mut String, labels: &[Label]) -> Result<(), AllocError>
 }
 
 fn push_run_lines(out: &mut String, runs: &[Vec<Label>]) -> Result<(), AllocError>
-    ensures { OnOk result (string_bytes out.new ≡ string_bytes out.old ++ texts_of run_line (labels_of runs.now)) }
+    ensures { OnOk result (string_bytes out.new ≡ string_bytes out.old ++ texts_of labels_line (labels_of runs.now)) }
 {
     for run in runs {
         push_run(out, run)?;
@@ -189,7 +189,7 @@ fn push_runs(out: &mut String, name: &str, runs: &[Vec<Label>]) -> Result<(), Al
 }
 
 fn push_gap_numbers(out: &mut String, set: GapSet) -> Result<(), AllocError>
-    ensures { OnOk result (string_bytes out.new ≡ string_bytes out.old ++ texts_of spaced (map decimal (gaps_in set))) }
+    ensures { OnOk result (string_bytes out.new ≡ string_bytes out.old ++ texts_of spaced (map decimal (numbers_of_set set))) }
 {
     for gap in set.iter() {
         push_number(out, u64::from(gap))?;
@@ -200,7 +200,7 @@ fn push_gap_numbers(out: &mut String, set: GapSet) -> Result<(), AllocError>
 /// The line of the set and that of its cost.
 fn push_set(out: &mut String, set: GapSet, cost: u64) -> Result<(), AllocError>
     ensures { OnOk result (string_bytes out.new
-        ≡ string_bytes out.old ++ (line (codes "set") (map decimal (gaps_in set)) ++ line (codes "cost") (decimal cost ∷ []))) }
+        ≡ string_bytes out.old ++ (line (codes "set") (map decimal (numbers_of_set set)) ++ line (codes "cost") (decimal cost ∷ []))) }
 {
     out.push_str("set")?;
     push_gap_numbers(out, set)?;
@@ -251,7 +251,7 @@ fn push_place(out: &mut String, place: u8) -> Result<(), AllocError>
 }
 
 fn push_places(out: &mut String, names: &Names) -> Result<(), AllocError>
-    ensures { OnOk result (string_bytes out.new ≡ string_bytes out.old ++ texts_of spaced (map place_word (gaps_in names.now))) }
+    ensures { OnOk result (string_bytes out.new ≡ string_bytes out.old ++ texts_of spaced (map place_word (numbers_of_set names.now))) }
 {
     for place in names.places() {
         push_place(out, place)?;
@@ -271,14 +271,14 @@ fn push_head(out: &mut String, shown: &Shown) -> Result<(), AllocError>
 
 /// The two lines of the second version.
 fn push_second(out: &mut String, names: &Names) -> Result<(), AllocError>
-    ensures { OnOk result (string_bytes out.new ≡ string_bytes out.old ++ head_lines (Some (gaps_in names.now))) }
+    ensures { OnOk result (string_bytes out.new ≡ string_bytes out.old ++ head_lines (Some (numbers_of_set names.now))) }
 {
     out.push_str("FENCECERT 2\n")?;
     push_shown(out, names)
 }
 
 fn push_shown(out: &mut String, names: &Names) -> Result<(), AllocError>
-    ensures { OnOk result (string_bytes out.new ≡ string_bytes out.old ++ line (codes "shown") (map place_word (gaps_in names.now))) }
+    ensures { OnOk result (string_bytes out.new ≡ string_bytes out.old ++ line (codes "shown") (map place_word (numbers_of_set names.now))) }
 {
     out.push_str("shown")?;
     push_places(out, names)?;

@@ -70,7 +70,7 @@ pub again_two : {A B C : Type 0} (r : List ℕ → Option (A × List ℕ)) (s : 
 again_two r s ta tb P Q er es f a b rest pa qb st =
     rw (er.again a (tb b ++ rest) pa (es.starts b rest qb st), es.again b rest qb st) refl
 
--- so many values, one behind the other
+-- so many values, one after the other
 pub repeat_takes : {A : Type 0} (r : List ℕ → Option (A × List ℕ)) (t : A → List ℕ) (P : A → Type 0) → ((bytes : List ℕ) (x : A × List ℕ) → r bytes ≡ Some x → (bytes ≡ t x.0 ++ x.1) × P x.0)
     → (n : ℕ) (found : List A) (bytes : List ℕ) (x : List A × List ℕ) → repeat_at r n found bytes ≡ Some x
     → (more : List A) × (x.0 ≡ found ++ more) × (bytes ≡ texts_of t more ++ x.1) × (length more ≡ n) × AllByRecursion P more

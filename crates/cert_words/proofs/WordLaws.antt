@@ -13,7 +13,7 @@ use Rattle.std.proofs.lemmas.Fmt.{digits_decimal}
 use Rattle.text_tokens.proofs.NumberLaws.{own, plain_number_takes, plain_number_again}
 use Rattle.text_tokens.specs.Numbers.{plain_number_at}
 use Rattle.cert_words.specs.Lines.{spaced}
-use Rattle.cert_words.specs.Words.{◌>>=◌, is_inner, front, behind, word_at, name_at, end_at, number_at, count_at, letter_of, letter_at}
+use Rattle.cert_words.specs.Words.{◌>>=◌, is_inner, front, after_word, word_at, line_name_at, end_at, number_within_at, count_at, letter_of, letter_at}
 use Rattle.cert_words.proofs.Steps.{bind_some, guarded, kept_out, some_is, Stops, Starts, IsExact}
 
 -- ---- how far bytes go that pass a test
@@ -40,10 +40,10 @@ after_prefix p (x ∷ xs) b ys e =
 front_is : (w rest : List ℕ) → list_all is_inner w ≡ true → Starts rest → front (w ++ rest) ≡ w
 front_is w rest all st = ap (λ n. take n (w ++ rest)) (prefix_is is_inner w rest all st) ∙ take_at w rest (length w) refl
 
-behind_is : (w rest : List ℕ) → list_all is_inner w ≡ true → Starts rest → behind (w ++ rest) ≡ rest
+behind_is : (w rest : List ℕ) → list_all is_inner w ≡ true → Starts rest → after_word (w ++ rest) ≡ rest
 behind_is w rest all st = ap (λ n. drop n (w ++ rest)) (prefix_is is_inner w rest all st) ∙ drop_at w rest (length w) refl
 
-front_behind : (bytes : List ℕ) → front bytes ++ behind bytes ≡ bytes
+front_behind : (bytes : List ℕ) → front bytes ++ after_word bytes ≡ bytes
 front_behind bytes = take-append-drop (prefix_len is_inner bytes) bytes
 
 -- ---- words
@@ -52,24 +52,24 @@ pub word_takes : (bytes : List ℕ) (x : List ℕ × List ℕ) → word_at bytes
 unfolding word_at
 word_takes [] x e = absurd cc
 word_takes (b ∷ bytes) x e =
-    let g = guarded (b == 32) (front bytes, behind bytes) x e in
+    let g = guarded (b == 32) (front bytes, after_word bytes) x e in
     let first : b ≡ 32 = eqb-true _ _ g.0 in
-    let here : b ∷ bytes ≡ spaced (front bytes) ++ behind bytes = λ i. first i ∷ sym (front_behind bytes) i in
+    let here : b ∷ bytes ≡ spaced (front bytes) ++ after_word bytes = λ i. first i ∷ sym (front_behind bytes) i in
     subst (λ (y : List ℕ × List ℕ). b ∷ bytes ≡ spaced y.0 ++ y.1) g.1 here
 
 pub word_again : (w rest : List ℕ) → list_all is_inner w ≡ true → Starts rest → word_at (spaced w ++ rest) ≡ Some (w, rest)
 unfolding word_at
 word_again w rest all st = rw (front_is w rest all st, behind_is w rest all st) refl
 
-pub name_takes : (name bytes rest : List ℕ) → name_at name bytes ≡ Some rest → bytes ≡ name ++ rest
-unfolding name_at
+pub name_takes : (name bytes rest : List ℕ) → line_name_at name bytes ≡ Some rest → bytes ≡ name ++ rest
+unfolding line_name_at
 name_takes name bytes rest e =
-    let g = guarded (bytes_eq (front bytes) name) (behind bytes) rest e in
+    let g = guarded (bytes_eq (front bytes) name) (after_word bytes) rest e in
     let first : front bytes ≡ name = (bytes_eq-Decides (front bytes) name).0 g.0 in
     sym (front_behind bytes) ∙ (λ i. first i ++ g.1 i)
 
-pub name_again : (name rest : List ℕ) → list_all is_inner name ≡ true → Starts rest → name_at name (name ++ rest) ≡ Some rest
-unfolding name_at
+pub name_again : (name rest : List ℕ) → list_all is_inner name ≡ true → Starts rest → line_name_at name (name ++ rest) ≡ Some rest
+unfolding line_name_at
 name_again name rest all st =
     let same : bytes_eq name name ≡ true = (bytes_eq-Decides name name).1 refl in
     rw (front_is name rest all st, behind_is name rest all st, same) refl
@@ -103,11 +103,11 @@ decimal_inner n lt = digits_inner (decimal n) (digits_decimal own n lt)
 abbrev pub number_text : ℕ → List ℕ
 number_text n = spaced (decimal n)
 
-pub number_exact : (limit : ℕ) → limit < 2 ^ 64 → IsExact (number_at limit) number_text (λ n. n ≤ limit)
-unfolding number_at
+pub number_exact : (limit : ℕ) → limit < 2 ^ 64 → IsExact (number_within_at limit) number_text (λ n. n ≤ limit)
+unfolding number_within_at
 number_exact limit fits = record { takes = taken; again = λ n rest le st. again n rest le st; starts = λ n rest le st. refl }
   where
-    taken : (bytes : List ℕ) (x : ℕ × List ℕ) → number_at limit bytes ≡ Some x → (bytes ≡ number_text x.0 ++ x.1) × (x.0 ≤ limit)
+    taken : (bytes : List ℕ) (x : ℕ × List ℕ) → number_within_at limit bytes ≡ Some x → (bytes ≡ number_text x.0 ++ x.1) × (x.0 ≤ limit)
     taken bytes x e =
         let a = bind_some (word_at bytes) (λ w. plain_number_at limit w.0 >>= λ n. Some (n, w.1)) x e in
         let b = bind_some (plain_number_at limit a.0.0) (λ n. Some (n, a.0.1)) x a.2 in
@@ -115,7 +115,7 @@ number_exact limit fits = record { takes = taken; again = λ n rest le st. again
         let here : bytes ≡ number_text b.0 ++ a.0.1 = word_takes bytes a.0 a.1 ∙ ap (λ (v : List ℕ). spaced v ++ a.0.1) t.0 in
         subst (λ (y : ℕ × List ℕ). (bytes ≡ number_text y.0 ++ y.1) × (y.0 ≤ limit)) (some_is (b.0, a.0.1) x b.2) (here, t.1)
 
-    again : (n : ℕ) (rest : List ℕ) → n ≤ limit → Starts rest → number_at limit (number_text n ++ rest) ≡ Some (n, rest)
+    again : (n : ℕ) (rest : List ℕ) → n ≤ limit → Starts rest → number_within_at limit (number_text n ++ rest) ≡ Some (n, rest)
     again n rest le st = rw (word_again (decimal n) rest (decimal_inner n (omega arith)) st, plain_number_again limit n fits le) refl
 
 pub below64 : 18446744073709551615 < 2 ^ 64
@@ -127,7 +127,7 @@ count_exact = record { takes = taken; again = λ n rest le st. again n rest le s
   where
     taken : (bytes : List ℕ) (x : ℕ × List ℕ) → count_at bytes ≡ Some x → (bytes ≡ number_text x.0 ++ x.1) × (x.0 ≤ 1024)
     taken bytes x e =
-        let a = bind_some (number_at 18446744073709551615 bytes) (λ n. cond (nat_lt 1024 n.0) None (Some n)) x e in
+        let a = bind_some (number_within_at 18446744073709551615 bytes) (λ n. cond (nat_lt 1024 n.0) None (Some n)) x e in
         let k = kept_out (nat_lt 1024 a.0.0) (Some a.0) x a.2 in
         let small : a.0.0 ≤ 1024 = ltb-false _ _ k.0 in
         let here = (number_exact 18446744073709551615 below64).takes bytes a.0 a.1 in

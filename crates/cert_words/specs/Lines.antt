@@ -1,7 +1,7 @@
 -- Lines of words, with single spaces between the words, each line ended by LF.
 use Rattle.std.specs.Prelude.{ℕ, List, [], ◌∷◌, ◌++◌}
 
--- the texts of values, one behind the other
+-- the texts of values, one after the other
 abbrev pub texts_of : {A : Type 0} → (A → List ℕ) → List A → List ℕ
 texts_of text [] = []
 texts_of text (x ∷ xs) = text x ++ texts_of text xs
@@ -10,6 +10,6 @@ texts_of text (x ∷ xs) = text x ++ texts_of text xs
 abbrev pub spaced : List ℕ → List ℕ
 spaced word = 32 ∷ word
 
--- a line, by its first word and those behind it
+-- a line, by its first word and those after it
 abbrev pub line : List ℕ → List (List ℕ) → List ℕ
 line first others = first ++ (texts_of spaced others ++ 10 ∷ [])

@@ -1,4 +1,4 @@
--- What each function of the words gives: a value, and the bytes behind it; or nothing.
+-- What each function of the words gives: a value, and the bytes after it; or nothing.
 use Rattle.std.specs.Prelude.{◌≡◌, ◌==◌, ◌||◌, ℕ, zero, suc, Bool, false, List, [], ◌∷◌, ◌++◌, take, drop, nat_lt, not, Option, Some, None, Result, Ok, Err, option_and_then, if◌then◌else◌}
 use Rattle.std.specs.List.{prefix_len}
 use Rattle.std.specs.Str.{bytes_eq}
@@ -34,17 +34,17 @@ is_inner b = not (b == 32 || b == 10)
 abbrev pub front : List ℕ → List ℕ
 front bytes = take (prefix_len is_inner bytes) bytes
 
-abbrev pub behind : List ℕ → List ℕ
-behind bytes = drop (prefix_len is_inner bytes) bytes
+abbrev pub after_word : List ℕ → List ℕ
+after_word bytes = drop (prefix_len is_inner bytes) bytes
 
 -- a space, and then a word as far as it goes
 unfoldable pub word_at : List ℕ → Option (List ℕ × List ℕ)
 word_at [] = None
-word_at (b ∷ bytes) = if b == 32 then Some (front bytes, behind bytes) else None
+word_at (b ∷ bytes) = if b == 32 then Some (front bytes, after_word bytes) else None
 
 -- the first word of a line
-unfoldable pub name_at : List ℕ → List ℕ → Option (List ℕ)
-name_at name bytes = if bytes_eq (front bytes) name then Some (behind bytes) else None
+unfoldable pub line_name_at : List ℕ → List ℕ → Option (List ℕ)
+line_name_at name bytes = if bytes_eq (front bytes) name then Some (after_word bytes) else None
 
 -- the end of a line
 unfoldable pub end_at : List ℕ → Option (List ℕ)
@@ -56,8 +56,8 @@ begins_word [] = false
 begins_word (b ∷ bytes) = b == 32
 
 -- a number up to the limit
-unfoldable pub number_at : ℕ → List ℕ → Option (ℕ × List ℕ)
-number_at limit bytes = do
+unfoldable pub number_within_at : ℕ → List ℕ → Option (ℕ × List ℕ)
+number_within_at limit bytes = do
   w ← word_at bytes
   n ← plain_number_at limit w.0
   Some (n, w.1)
@@ -65,7 +65,7 @@ number_at limit bytes = do
 -- a number of children or events
 unfoldable pub count_at : List ℕ → Option (ℕ × List ℕ)
 count_at bytes = do
-  n ← number_at 18446744073709551615 bytes
+  n ← number_within_at 18446744073709551615 bytes
   if nat_lt 1024 n.0 then None else Some n
 
 -- the byte of a word of one byte

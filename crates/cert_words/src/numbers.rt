@@ -4,7 +4,7 @@ ghost use Rattle.std.specs.Prelude.{◌≡◌, ◌≤◌, IsTrue, IfSome, IfOk};
 ghost use Rattle.std.specs.List.{list_all};
 ghost use Rattle.std.specs.Char.{is_ascii_digit};
 ghost use Rattle.text_tokens.specs.Numbers.{is_plain, value_at, plain_number_at};
-ghost use Rattle.cert_words.specs.Words.{Gives, number_at, count_at};
+ghost use Rattle.cert_words.specs.Words.{Gives, number_within_at, count_at};
 
 use crate::refusal::{Refusal, Wrong, refused_unless_cut, refused_word};
 use crate::words::word;
@@ -58,9 +58,9 @@ pub fn plain_number(limit: u64, bytes: &[u8]) -> Option<u64>
 }
 
 /// A space, and a number up to the limit.
-#[tactic(auto, unfolding(crate::specs::Words::number_at))]
+#[tactic(auto, unfolding(crate::specs::Words::number_within_at))]
 pub fn number(limit: u64, bytes: &[u8]) -> Result<(u64, &[u8]), Refusal>
-    ensures gives { Gives (λ x. (x.0, x.1.now)) result (number_at limit bytes.now) }
+    ensures gives { Gives (λ x. (x.0, x.1.now)) result (number_within_at limit bytes.now) }
     ensures within { IfOk result (λ x. x.0 ≤ limit) }
 {
     let (word, rest) = word(bytes)?;

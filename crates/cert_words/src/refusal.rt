@@ -9,7 +9,7 @@ use thiserror::Error;
 /// What is wrong with a word, or with the separator in its place.
 #[derive(Clone, Copy, Debug, PartialEq, Eq)]
 pub enum Wrong {
-    /// The text is none of these at all.
+    /// The text is not any of these at all.
     Header,
     /// It can't stand there.
     Token,
@@ -39,7 +39,7 @@ pub fn refused(wrong: Wrong, left: usize) -> Refusal
     Refusal { wrong, left }
 }
 
-/// Something is wrong with the word behind the space with which the bytes begin.
+/// Something is wrong with the word after the space with which the bytes begin.
 pub fn refused_word(wrong: Wrong, bytes: &[u8]) -> Refusal
     ensures wrong { result.wrong ≡ wrong }
     ensures left { result.left ≡ length bytes.now - 1 }
@@ -47,7 +47,7 @@ pub fn refused_word(wrong: Wrong, bytes: &[u8]) -> Refusal
     refused(wrong, bytes.len().saturating_sub(1))
 }
 
-/// What is wrong with a word that none of its kind is, with the rest behind it. Where nothing is behind it and it could
+/// What is wrong with a word that is not of its kind, with the rest after it. Where nothing follows it and it could
 /// have gone on, the bytes have ended.
 pub fn refused_unless_cut(wrong: Wrong, could_go_on: bool, bytes: &[u8], rest: &[u8]) -> Refusal
     ensures wrong { result.wrong ≡ (if length rest.now == 0 && could_go_on then Wrong.Ended else wrong) }

@@ -2,7 +2,7 @@
 
 ghost use Rattle.std.specs.Prelude.{◌≡◌, ◌≤◌, length};
 ghost use Rattle.std.specs.List.{prefix_len};
-ghost use Rattle.cert_words.specs.Words.{Gives, is_inner, front, behind, word_at, name_at, end_at, begins_word, letter_of, letter_at};
+ghost use Rattle.cert_words.specs.Words.{Gives, is_inner, front, after_word, word_at, line_name_at, end_at, begins_word, letter_of, letter_at};
 
 use crate::refusal::{Refusal, Wrong, refused, refused_unless_cut};
 
@@ -21,16 +21,16 @@ fn word_len(bytes: &[u8]) -> usize
     bytes.iter().take_while(|byte| is_inner(**byte)).count()
 }
 
-/// The word that comes first, maybe of no byte, and the bytes behind it: they begin with a separator, or the word is
+/// The word that comes first, maybe of no byte, and the bytes after it: they begin with a separator, or the word is
 /// cut by the end.
 pub fn first_word(bytes: &[u8]) -> (&[u8], &[u8])
     ensures front { result.0.now ≡ front bytes.now }
-    ensures behind { result.1.now ≡ behind bytes.now }
+    ensures after_word { result.1.now ≡ after_word bytes.now }
 {
     bytes.split_at(word_len(bytes))
 }
 
-/// A space, and the word behind it.
+/// A space, and the word after it.
 #[tactic(auto, unfolding(crate::specs::Words::word_at))]
 pub fn word(bytes: &[u8]) -> Result<(&[u8], &[u8]), Refusal>
     ensures { Gives (λ x. (x.0.now, x.1.now)) result (word_at bytes.now) }
@@ -48,9 +48,9 @@ pub fn word(bytes: &[u8]) -> Result<(&[u8], &[u8]), Refusal>
 }
 
 /// The first word of a line, which is known.
-#[tactic(auto, unfolding(crate::specs::Words::name_at))]
+#[tactic(auto, unfolding(crate::specs::Words::line_name_at))]
 pub fn name<'t>(name: &[u8], bytes: &'t [u8]) -> Result<&'t [u8], Refusal>
-    ensures { Gives (λ x. x.now) result (name_at name.now bytes.now) }
+    ensures { Gives (λ x. x.now) result (line_name_at name.now bytes.now) }
 {
     let (word, rest) = first_word(bytes);
     if word == name {

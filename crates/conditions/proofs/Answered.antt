@@ -7,9 +7,9 @@ use Rattle.conditions.specs.declared.fault.FormulaFault.TheVariants.{Refused, Ou
 use Rattle.conditions.specs.Tree.{Tree}
 use Rattle.conditions.specs.Grammar.{Sign}
 use Rattle.conditions.specs.Nodes.{nodes_of, tree_of, tree_again}
-use Rattle.conditions.specs.Stack.{tree_read, StopsAt}
+use Rattle.conditions.specs.Stack.{tree_read, SignsStopAt}
 use Rattle.conditions.specs.Layout.{IsTree}
-use Rattle.conditions.specs.Reads.{Reads, SpellsOnly}
+use Rattle.conditions.specs.Reads.{IsReadFormula, SpellsOnly}
 use Rattle.conditions.proofs.SpelledIsRead.{reads_only, reads_none}
 use Rattle.conditions.proofs.ReadIsSpelled.{is_spelled}
 use Rattle.conditions.proofs.Completed.{stops_first}
@@ -26,6 +26,6 @@ pub reads_ok : {A : Type 0} (ss : List (Sign A)) (f : Tree A) → tree_read ss �
 reads_ok ss f e = (is_spelled f ss e, reads_only f ss e)
 
 -- where the reader stops, nothing is spelled
-pub reads_err : (ss : List (Sign Atom)) (fault : FormulaFault) → ((at : ℕ) → fault ≡ Refused at → StopsAt ss at) → Reads ss (Err fault)
+pub reads_err : (ss : List (Sign Atom)) (fault : FormulaFault) → ((at : ℕ) → fault ≡ Refused at → SignsStopAt ss at) → IsReadFormula ss (Err fault)
 reads_err ss (Refused at) h = let stops = h at refl in (reads_none ss stops.3, stops_first ss at stops)
 reads_err ss OutOfMemory h = tt

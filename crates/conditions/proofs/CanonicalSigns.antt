@@ -8,9 +8,9 @@ use Rattle.conditions.specs.Tree.{Tree, tree_map}
 use Rattle.conditions.specs.Tree as tree
 use Rattle.conditions.specs.Grammar.{Sign, sign_map, Class, Operand, Sum, Spells, atom, const, negation, parens, operand, conjunction, term, disjunction}
 use Rattle.conditions.specs.Grammar as sign
-use Rattle.conditions.specs.Tokens.{sign_of}
+use Rattle.conditions.specs.Tokens.{sign_of_token}
 use Rattle.conditions.specs.Canonical.{signs_of, is_joined, enclosed_signs_of, CanonicalSpell, CanonicalMapped}
-use Rattle.conditions.specs.Unwind.{tokens_of}
+use Rattle.conditions.specs.Unwind.{formula_tokens}
 
 -- the signs of two operands and what stands round them, one part after another
 regroup : {A : Type 0} (x : Sign A) (f g : Tree A) (rest : List (Sign A))
@@ -70,19 +70,19 @@ canonical_mapped to (tree.Or f g) = (signs_mapped to (tree.Or f g), signs_mapped
 -- ---- tokens
 
 -- the canonical tokens are the canonical signs
-tokens_signs : (f : Tree Atom) (ts : List Token) → map sign_of (tokens_of f ts) ≡ signs_of f ++ map sign_of ts
+tokens_signs : (f : Tree Atom) (ts : List Token) → map sign_of_token (formula_tokens f ts) ≡ signs_of f ++ map sign_of_token ts
 tokens_signs (tree.Atom a) ts = refl
 tokens_signs (tree.Const b) ts = refl
 tokens_signs (tree.Not f) ts = ap (λ ss. sign.Not ∷ ss) (tokens_signs f ts)
-tokens_signs (tree.And f g) ts = rw (regroup sign.And f g (map sign_of ts)) (rw (tokens_signs f (token.And ∷ tokens_of g (token.Close ∷ ts)), tokens_signs g (token.Close ∷ ts)) refl)
-tokens_signs (tree.Or f g) ts = rw (regroup sign.Or f g (map sign_of ts)) (rw (tokens_signs f (token.Or ∷ tokens_of g (token.Close ∷ ts)), tokens_signs g (token.Close ∷ ts)) refl)
+tokens_signs (tree.And f g) ts = rw (regroup sign.And f g (map sign_of_token ts)) (rw (tokens_signs f (token.And ∷ formula_tokens g (token.Close ∷ ts)), tokens_signs g (token.Close ∷ ts)) refl)
+tokens_signs (tree.Or f g) ts = rw (regroup sign.Or f g (map sign_of_token ts)) (rw (tokens_signs f (token.Or ∷ formula_tokens g (token.Close ∷ ts)), tokens_signs g (token.Close ∷ ts)) refl)
 
 -- of a whole formula
-pub tokens_whole : (f : Tree Atom) → map sign_of (tokens_of f []) ≡ signs_of f
+pub tokens_whole : (f : Tree Atom) → map sign_of_token (formula_tokens f []) ≡ signs_of f
 tokens_whole f = tokens_signs f [] ∙ append-nil (signs_of f)
 
 -- and of one in parentheses
-pub tokens_enclosed : (f : Tree Atom) → is_joined f ≡ false → map sign_of (token.Open ∷ tokens_of f (token.Close ∷ [])) ≡ enclosed_signs_of f
+pub tokens_enclosed : (f : Tree Atom) → is_joined f ≡ false → map sign_of_token (token.Open ∷ formula_tokens f (token.Close ∷ [])) ≡ enclosed_signs_of f
 tokens_enclosed (tree.Atom a) e = refl
 tokens_enclosed (tree.Const b) e = refl
 tokens_enclosed (tree.Not f) e = ap (λ ss. sign.Open ∷ ss) (tokens_signs (tree.Not f) (token.Close ∷ []))

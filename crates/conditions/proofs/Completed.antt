@@ -4,7 +4,7 @@ use Rattle.conditions.specs.Tree.{Tree}
 use Rattle.conditions.specs.Tree as tree
 use Rattle.conditions.specs.Grammar.{Sign, Spells, Sum}
 use Rattle.conditions.specs.Grammar as sign
-use Rattle.conditions.specs.Stack.{Before, Start, Negated, Anded, Ored, Inside, joined, State, Wants, Has, next, reading, after, reached, StopsAt}
+use Rattle.conditions.specs.Stack.{Before, Start, Negated, Anded, Ored, Inside, joined, ReaderState, Wants, Has, next, reading, after, reached, SignsStopAt}
 use Rattle.conditions.specs.Reads.{BeginFormula, IsFirstAstray}
 use Rattle.conditions.proofs.SpelledIsRead.{Fresh, calm_joins, all_read}
 use Rattle.conditions.proofs.ReadIsSpelled.{Opened, At, AtNext, steps, spelled_from}
@@ -27,7 +27,7 @@ opened_tidy (Ored g k) ss rest o = (o.1, opened_tidy k ss o.0 o.2)
 opened_tidy (Inside k) ss rest o = opened_tidy k ss (sign.Open ∷ rest) o
 
 -- signs that lead from a state to a formula
-abbrev Completes : {A : Type 0} → State A → Type 0
+abbrev Completes : {A : Type 0} → ReaderState A → Type 0
 Completes {A} s = (more : List (Sign A)) × (f : Tree A) × (reading (Some s) more ≡ Some f)
 
 -- after an operand it is enough to close what is open
@@ -43,25 +43,25 @@ completes_joined (Ored g (Inside k)) f h = let r = completes_joined k (tree.Or g
 completes_joined (Inside k) f h = let r = completes_joined k f h in (sign.Close ∷ r.0, r.1, r.2)
 
 -- where an operand is wanted, one comes first
-completes : {A : Type 0} (s : State A) (ss rest : List (Sign A)) → At s ss rest → Completes s
+completes : {A : Type 0} (s : ReaderState A) (ss rest : List (Sign A)) → At s ss rest → Completes s
 completes (Wants k) ss rest h = let r = completes_joined k (tree.Const true) (opened_tidy k ss rest h) in (sign.Const true ∷ r.0, r.1, r.2)
 completes {A} (Has p) ss rest h =
     let r = completes_joined p.0 p.1 (opened_tidy p.0 ss h.1.0 h.1.1) in
     (r.0, r.1, ap (λ (q : Before A × Tree A). reading (Some (Has q)) r.0) (sym (calm_joins p.0 p.1 h.0)) ∙ r.2)
 
 -- signs lead from what they stand after to the state after them
-leads : {A : Type 0} (o : Option (State A)) (all ss rest : List (Sign A)) → AtNext o all (ss ++ rest) → AtNext (after o ss) all rest
+leads : {A : Type 0} (o : Option (ReaderState A)) (all ss rest : List (Sign A)) → AtNext o all (ss ++ rest) → AtNext (after o ss) all rest
 leads None all [] rest h = tt
 leads None all (t ∷ ss) rest h = tt
 leads (Some s) all [] rest h = h
 leads (Some s) all (t ∷ ss) rest h = leads (next s t) all ss rest (steps s t all (ss ++ rest) h)
 
 -- the state that signs lead to, with any signs after them
-arrives : {A : Type 0} (ss more : List (Sign A)) (s : State A) → reached ss ≡ Some s → At s (ss ++ more) more
-arrives {A} ss more s e = let P : Option (State A) → Type 0 = λ o. AtNext o (ss ++ more) more in subst P e (leads (Some (Wants Start)) (ss ++ more) ss more refl)
+arrives : {A : Type 0} (ss more : List (Sign A)) (s : ReaderState A) → reached ss ≡ Some s → At s (ss ++ more) more
+arrives {A} ss more s e = let P : Option (ReaderState A) → Type 0 = λ o. AtNext o (ss ++ more) more in subst P e (leads (Some (Wants Start)) (ss ++ more) ss more refl)
 
 -- signs that lead to a state begin a formula
-begins : {A : Type 0} (ss : List (Sign A)) (s : State A) → reached ss ≡ Some s → BeginFormula ss
+begins : {A : Type 0} (ss : List (Sign A)) (s : ReaderState A) → reached ss ≡ Some s → BeginFormula ss
 begins ss s e =
     let r = completes s (ss ++ []) [] (arrives ss [] s e) in
     (r.0, r.1, spelled_from (Some s) r.1 (ss ++ r.0) r.0 (arrives ss r.0 s e) r.2)
@@ -73,5 +73,5 @@ begins_none ss e b =
     cc
 
 -- the reader stops at the first sign astray
-pub stops_first : {A : Type 0} (ss : List (Sign A)) (at : ℕ) → StopsAt ss at → IsFirstAstray ss at
+pub stops_first : {A : Type 0} (ss : List (Sign A)) (at : ℕ) → SignsStopAt ss at → IsFirstAstray ss at
 stops_first ss at h = (h.0, begins (take at ss) h.1.0 h.1.1, λ lt. begins_none (take (at + 1) ss) (h.2 lt))

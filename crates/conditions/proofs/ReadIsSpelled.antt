@@ -4,7 +4,7 @@ use Rattle.conditions.specs.Tree.{Tree}
 use Rattle.conditions.specs.Tree as tree
 use Rattle.conditions.specs.Grammar.{Sign, Class, Operand, Term, Sum, Spells, atom, const, negation, parens, operand, conjunction, term, disjunction}
 use Rattle.conditions.specs.Grammar as sign
-use Rattle.conditions.specs.Stack.{Before, Start, Negated, Anded, Ored, Inside, joined, summed, State, Wants, Has, closed, next, whole, reading, tree_read}
+use Rattle.conditions.specs.Stack.{Before, Start, Negated, Anded, Ored, Inside, joined, summed, ReaderState, Wants, Has, closed, next, whole, reading, tree_read}
 use Rattle.conditions.proofs.SpelledIsRead.{Calm, Fresh, calm_joins, some_is}
 
 -- the signs up to the rest stand before an operand
@@ -20,7 +20,7 @@ abbrev pub Reached : {A : Type 0} → Class → Before A × Tree A → List (Sig
 Reached {A} c p ss rest = (us : List (Sign A)) × Opened p.0 ss us × Spells c p.1 us rest
 
 -- the signs up to the rest lead to a state
-abbrev pub At : {A : Type 0} → State A → List (Sign A) → List (Sign A) → Type 0
+abbrev pub At : {A : Type 0} → ReaderState A → List (Sign A) → List (Sign A) → Type 0
 At (Wants k) ss rest = Opened k ss rest
 At (Has p) ss rest = Calm p.0 × Reached Term p ss rest
 
@@ -41,7 +41,7 @@ sums (Ored g k) f ss rest a = let o = a.1.1 in (o.1, (o.0, o.2, disjunction o.3 
 sums (Inside k) f ss rest a = (tt, (a.1.0, a.1.1, term a.1.2))
 
 -- the signs lead to the state, where there is one
-abbrev pub AtNext : {A : Type 0} → Option (State A) → List (Sign A) → List (Sign A) → Type 0
+abbrev pub AtNext : {A : Type 0} → Option (ReaderState A) → List (Sign A) → List (Sign A) → Type 0
 AtNext None ss rest = Unit {0}
 AtNext (Some s) ss rest = At s ss rest
 
@@ -54,7 +54,7 @@ closes (Ored g k, f) ss rest r = tt
 closes (Inside k, f) ss rest r = joins k f ss (sign.Open ∷ r.0) rest r.1 (parens r.2)
 
 -- one sign more
-pub steps : {A : Type 0} (s : State A) (t : Sign A) (ss rest : List (Sign A)) → At s ss (t ∷ rest) → AtNext (next s t) ss rest
+pub steps : {A : Type 0} (s : ReaderState A) (t : Sign A) (ss rest : List (Sign A)) → At s ss (t ∷ rest) → AtNext (next s t) ss rest
 steps (Wants k) (sign.Atom a) ss rest h = joins k (tree.Atom a) ss (sign.Atom a ∷ rest) rest h atom
 steps (Wants k) (sign.Const b) ss rest h = joins k (tree.Const b) ss (sign.Const b ∷ rest) rest h const
 steps (Wants k) sign.Not ss rest h = h
@@ -79,7 +79,7 @@ wholes (Ored h k, g) f ss r e = absurd cc
 wholes (Inside k, g) f ss r e = absurd cc
 
 -- what is read from a state on is spelled by all signs
-pub spelled_from : {A : Type 0} (o : Option (State A)) (f : Tree A) (ss rest : List (Sign A)) → AtNext o ss rest → reading o rest ≡ Some f → Spells Sum f ss []
+pub spelled_from : {A : Type 0} (o : Option (ReaderState A)) (f : Tree A) (ss rest : List (Sign A)) → AtNext o ss rest → reading o rest ≡ Some f → Spells Sum f ss []
 spelled_from None f ss [] a e = absurd cc
 spelled_from None f ss (t ∷ rest) a e = absurd cc
 spelled_from (Some (Wants k)) f ss [] a e = absurd cc

@@ -4,7 +4,7 @@ use Rattle.conditions.specs.Tree.{Tree}
 use Rattle.conditions.specs.Tree as tree
 use Rattle.conditions.specs.Grammar.{Sign, Class, Operand, Term, Sum, Spells, atom, const, negation, parens, operand, conjunction, term, disjunction}
 use Rattle.conditions.specs.Grammar as sign
-use Rattle.conditions.specs.Stack.{Before, Start, Negated, Anded, Ored, Inside, joined, summed, State, Wants, Has, closed, ored, whole, reading, tree_read}
+use Rattle.conditions.specs.Stack.{Before, Start, Negated, Anded, Ored, Inside, joined, summed, ReaderState, Wants, Has, closed, ored, whole, reading, tree_read}
 use Rattle.conditions.specs.Laws.{SpellAtMostOne}
 
 -- no `not` and no `and` waits
@@ -48,7 +48,7 @@ fresh_calm (Ored g k) h = absurd h
 fresh_calm (Inside k) h = h
 
 -- the formula of the signs that follow a state
-abbrev from : {A : Type 0} → State A → List (Sign A) → Option (Tree A)
+abbrev from : {A : Type 0} → ReaderState A → List (Sign A) → Option (Tree A)
 from s ss = reading (Some s) ss
 
 -- reading a spelling of each class leads to what follows it

@@ -9,7 +9,7 @@ use Rattle.conditions.specs.declared.stack.Waiting.{Waiting}
 use Rattle.conditions.specs.declared.stack.Waiting.TheVariants as waiting
 use Rattle.conditions.specs.Tree.{Tree}
 use Rattle.conditions.specs.Nodes.{nodes_of}
-use Rattle.conditions.specs.Stack.{Before, Start, Negated, Anded, Ored, Inside, State, Wants, Has}
+use Rattle.conditions.specs.Stack.{Before, Start, Negated, Anded, Ored, Inside, ReaderState, Wants, Has}
 
 -- the nodes of what stands before an operand
 abbrev pub nodes_before : Before Atom → List Node
@@ -36,17 +36,17 @@ abbrev pub LiesWith : Before Atom × Tree Atom → List Node → List Waiting �
 LiesWith p nodes stack = (nodes ≡ nodes_before p.0 ++ nodes_of p.1) × (stack ≡ stack_of p.0)
 
 -- the same of a state, and whether an operand is wanted
-abbrev pub Lies : State Atom → Bool → List Node → List Waiting → Type 0
+abbrev pub Lies : ReaderState Atom → Bool → List Node → List Waiting → Type 0
 Lies (Wants k) w nodes stack = (w ≡ true) × LiesBefore k nodes stack
 Lies (Has p) w nodes stack = (w ≡ false) × LiesWith p nodes stack
 
 -- there is a state, and it lies so
-abbrev pub LiesAs : Option (State Atom) → Bool → List Node → List Waiting → Type 0
+abbrev pub LiesAs : Option (ReaderState Atom) → Bool → List Node → List Waiting → Type 0
 LiesAs None w nodes stack = ⊥
 LiesAs (Some s) w nodes stack = Lies s w nodes stack
 
 -- what a function returned, whether an operand is wanted, is the state that comes next; it refuses this place where none comes
-abbrev pub Goes : ℕ → Option (State Atom) → Result Bool FormulaFault → List Node → List Waiting → Type 0
+abbrev pub Goes : ℕ → Option (ReaderState Atom) → Result Bool FormulaFault → List Node → List Waiting → Type 0
 Goes at next (Ok w) nodes stack = LiesAs next w nodes stack
 Goes at next (Err (Refused place)) nodes stack = (place ≡ at) × (next ≡ None)
 Goes at next (Err OutOfMemory) nodes stack = Unit {0}

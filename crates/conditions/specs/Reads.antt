@@ -24,7 +24,7 @@ IsFirstAstray signs place =
     (place ≤ length signs) × BeginFormula (take place signs) × (place < length signs → ¬ BeginFormula (take (place + 1) signs))
 
 -- the reader answers the one formula that is spelled, and refuses where none is, at the first sign astray
-abbrev pub Reads : List (Sign Atom) → Result (Tree Atom) FormulaFault → Type 0
-Reads signs (Ok f) = SpellsOnly signs f
-Reads signs (Err (Refused place)) = SpellsNone signs × IsFirstAstray signs place
-Reads signs (Err OutOfMemory) = Unit {0}
+abbrev pub IsReadFormula : List (Sign Atom) → Result (Tree Atom) FormulaFault → Type 0
+IsReadFormula signs (Ok f) = SpellsOnly signs f
+IsReadFormula signs (Err (Refused place)) = SpellsNone signs × IsFirstAstray signs place
+IsReadFormula signs (Err OutOfMemory) = Unit {0}

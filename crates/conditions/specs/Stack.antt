@@ -30,12 +30,12 @@ summed (Ored g k) f = (k, tree.Or g f)
 summed (Inside k) f = (Inside k, f)
 
 -- an operand is wanted, or a formula is read
-pub data State (A : Type 0) : Type 0 where
-  Wants : Before A → State A
-  Has : Before A × Tree A → State A
+pub data ReaderState (A : Type 0) : Type 0 where
+  Wants : Before A → ReaderState A
+  Has : Before A × Tree A → ReaderState A
 
 -- a `)` is read
-abbrev pub closed : {A : Type 0} → Before A × Tree A → Option (State A)
+abbrev pub closed : {A : Type 0} → Before A × Tree A → Option (ReaderState A)
 closed (Start, f) = None
 closed (Negated k, f) = None
 closed (Anded g k, f) = None
@@ -43,11 +43,11 @@ closed (Ored g k, f) = None
 closed (Inside k, f) = Some (Has (joined k f))
 
 -- an `or` is read
-abbrev pub ored : {A : Type 0} → Before A × Tree A → State A
+abbrev pub ored : {A : Type 0} → Before A × Tree A → ReaderState A
 ored p = Wants (Ored p.1 p.0)
 
 -- the state after a sign, none where it cannot stand there
-abbrev pub next : {A : Type 0} → State A → Sign A → Option (State A)
+abbrev pub next : {A : Type 0} → ReaderState A → Sign A → Option (ReaderState A)
 next (Wants k) (sign.Atom a) = Some (Has (joined k (tree.Atom a)))
 next (Wants k) (sign.Const b) = Some (Has (joined k (tree.Const b)))
 next (Wants k) sign.Not = Some (Wants (Negated k))
@@ -72,12 +72,12 @@ whole (Ored g k, f) = None
 whole (Inside k, f) = None
 
 -- the formula that is read when the signs end
-abbrev pub final : {A : Type 0} → State A → Option (Tree A)
+abbrev pub final : {A : Type 0} → ReaderState A → Option (Tree A)
 final (Wants k) = None
 final (Has p) = whole (summed p.0 p.1)
 
 -- the formula of the signs that follow
-abbrev pub reading : {A : Type 0} → Option (State A) → List (Sign A) → Option (Tree A)
+abbrev pub reading : {A : Type 0} → Option (ReaderState A) → List (Sign A) → Option (Tree A)
 reading None ss = None
 reading (Some s) [] = final s
 reading (Some s) (t ∷ ss) = reading (next s t) ss
@@ -87,17 +87,17 @@ abbrev pub tree_read : {A : Type 0} → List (Sign A) → Option (Tree A)
 tree_read ss = reading (Some (Wants Start)) ss
 
 -- the state after signs
-abbrev pub after : {A : Type 0} → Option (State A) → List (Sign A) → Option (State A)
+abbrev pub after : {A : Type 0} → Option (ReaderState A) → List (Sign A) → Option (ReaderState A)
 after None ss = None
 after (Some s) [] = Some s
 after (Some s) (t ∷ ss) = after (next s t) ss
 
 -- the state that signs lead to from the start
-abbrev pub reached : {A : Type 0} → List (Sign A) → Option (State A)
+abbrev pub reached : {A : Type 0} → List (Sign A) → Option (ReaderState A)
 reached ss = after (Some (Wants Start)) ss
 
 -- the signs before this place lead to a state, the one there leads to none, and no formula is read
-abbrev pub StopsAt : {A : Type 0} → List (Sign A) → ℕ → Type 0
-StopsAt {A} ss at =
-    (at ≤ length ss) × ((s : State A) × (reached (take at ss) ≡ Some s))
+abbrev pub SignsStopAt : {A : Type 0} → List (Sign A) → ℕ → Type 0
+SignsStopAt {A} ss at =
+    (at ≤ length ss) × ((s : ReaderState A) × (reached (take at ss) ≡ Some s))
     × (at < length ss → reached (take (at + 1) ss) ≡ None) × (tree_read ss ≡ None)

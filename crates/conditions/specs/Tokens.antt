@@ -6,11 +6,11 @@ use Rattle.conditions.specs.Grammar.{Sign}
 use Rattle.conditions.specs.Grammar as sign
 
 -- the sign that a token is
-abbrev pub sign_of : Token → Sign Atom
-sign_of (token.Atom a) = sign.Atom a
-sign_of (token.Const b) = sign.Const b
-sign_of token.Not = sign.Not
-sign_of token.And = sign.And
-sign_of token.Or = sign.Or
-sign_of token.Open = sign.Open
-sign_of token.Close = sign.Close
+abbrev pub sign_of_token : Token → Sign Atom
+sign_of_token (token.Atom a) = sign.Atom a
+sign_of_token (token.Const b) = sign.Const b
+sign_of_token token.Not = sign.Not
+sign_of_token token.And = sign.And
+sign_of_token token.Or = sign.Or
+sign_of_token token.Open = sign.Open
+sign_of_token token.Close = sign.Close

@@ -9,8 +9,8 @@ use Rattle.conditions.specs.declared.atom.Atom.TheVariants as atom
 use Rattle.conditions.specs.Tree.{Tree, truth_by}
 
 -- what a thread's register has at the end, none where there is no such thread
-abbrev pub register_at : Outcome → ℕ → Reg → Option ℕ
-register_at outcome thread register =
+abbrev pub final_register : Outcome → ℕ → Reg → Option ℕ
+final_register outcome thread register =
     option_and_then (λ registers. slice_get registers (number register)) (slice_get outcome.registers thread)
 
 -- what a location has at the end, none where there is no such location
@@ -24,7 +24,7 @@ is_value (Some last) value = last == value
 
 -- whether an outcome has what an atom says
 abbrev pub is_true_at : Outcome → Atom → Bool
-is_true_at outcome (atom.Register thread register value) = is_value (register_at outcome thread register) value
+is_true_at outcome (atom.Register thread register value) = is_value (final_register outcome thread register) value
 is_true_at outcome (atom.Location location value) = is_value (location_at outcome location) value
 
 -- whether a formula is true at an outcome

@@ -11,12 +11,12 @@ use Rattle.conditions.specs.Tree.{Tree}
 use Rattle.conditions.specs.Tree as tree
 
 -- the canonical tokens of a formula, and then more
-abbrev pub tokens_of : Tree Atom → List Token → List Token
-tokens_of (tree.Atom a) ts = token.Atom a ∷ ts
-tokens_of (tree.Const b) ts = token.Const b ∷ ts
-tokens_of (tree.Not f) ts = token.Not ∷ tokens_of f ts
-tokens_of (tree.And f g) ts = token.Open ∷ tokens_of f (token.And ∷ tokens_of g (token.Close ∷ ts))
-tokens_of (tree.Or f g) ts = token.Open ∷ tokens_of f (token.Or ∷ tokens_of g (token.Close ∷ ts))
+abbrev pub formula_tokens : Tree Atom → List Token → List Token
+formula_tokens (tree.Atom a) ts = token.Atom a ∷ ts
+formula_tokens (tree.Const b) ts = token.Const b ∷ ts
+formula_tokens (tree.Not f) ts = token.Not ∷ formula_tokens f ts
+formula_tokens (tree.And f g) ts = token.Open ∷ formula_tokens f (token.And ∷ formula_tokens g (token.Close ∷ ts))
+formula_tokens (tree.Or f g) ts = token.Open ∷ formula_tokens f (token.Or ∷ formula_tokens g (token.Close ∷ ts))
 
 -- what stands before an operand, up to where the operand is a right one
 abbrev pub opened : List Later → List Token → List Token

@@ -1,6 +1,6 @@
 //! What a formula says of one final value.
 ghost use Rattle.std.specs.Prelude.{◌≡◌, slice_get};
-ghost use Rattle.conditions.specs.Truth.{is_true_at, is_value, register_at};
+ghost use Rattle.conditions.specs.Truth.{is_true_at, is_value, final_register};
 
 use tso_program::{Outcome, Reg};
 
@@ -30,7 +30,7 @@ fn is_value(last: Option<u32>, value: u32) -> bool
 
 /// What the thread's register has at the end.
 fn register_at(outcome: &Outcome, thread: u32, register: Reg) -> Option<u32>
-    ensures { result ≡ register_at outcome.now thread register }
+    ensures { result ≡ final_register outcome.now thread register }
 {
     let registers = outcome.registers.as_slice().get(thread as usize)?;
     Some(registers[register.index()])

@@ -1,9 +1,9 @@
 //! Formulas, read from tokens.
 ghost use Rattle.std.specs.Prelude.{◌≡◌, ◌↔◌, IfOk, IsTrue, map};
-ghost use Rattle.conditions.specs.Tokens.{sign_of};
+ghost use Rattle.conditions.specs.Tokens.{sign_of_token};
 ghost use Rattle.conditions.specs.Truth.{truth};
 ghost use Rattle.conditions.specs.Named.{with_named};
-ghost use Rattle.conditions.specs.Reads.{Reads};
+ghost use Rattle.conditions.specs.Reads.{IsReadFormula};
 ghost use Rattle.conditions.specs.Canonical.{signs_of, enclosed_signs_of};
 
 use crate::fault::FormulaFault;
@@ -39,7 +39,7 @@ impl Formula {
     /// The formula that all the tokens spell. `Refused` has the index of the first token with which no formula goes on,
     /// or the number of tokens where more are needed. `OutOfMemory` comes where the nodes or the stack can't grow.
     pub fn read(alloc: Global, tokens: &[Token]) -> Result<Formula, FormulaFault>
-        ensures { Reads (map sign_of tokens.now) result }
+        ensures { IsReadFormula (map sign_of_token tokens.now) result }
     {
         match reader::read(alloc, tokens) {
             Ok(nodes) => Ok(Formula { nodes }),
@@ -70,7 +70,7 @@ impl Formula {
 
     /// The canonical tokens, which spell the formula: each conjunction and disjunction stands in parentheses.
     pub fn tokens(&self, alloc: Global) -> Result<Vec<Token>, AllocError>
-        ensures { IfOk result (λ tokens. map sign_of tokens.items ≡ signs_of self.now) }
+        ensures { IfOk result (λ tokens. map sign_of_token tokens.items ≡ signs_of self.now) }
     {
         writer::tokens(alloc, &self.nodes)
     }
@@ -78,7 +78,7 @@ impl Formula {
     /// The canonical tokens of a condition's formula. They are in parentheses, and a conjunction or a disjunction has
     /// no second ones.
     pub fn enclosed_tokens(&self, alloc: Global) -> Result<Vec<Token>, AllocError>
-        ensures { IfOk result (λ tokens. map sign_of tokens.items ≡ enclosed_signs_of self.now) }
+        ensures { IfOk result (λ tokens. map sign_of_token tokens.items ≡ enclosed_signs_of self.now) }
     {
         writer::enclosed_tokens(alloc, &self.nodes)
     }

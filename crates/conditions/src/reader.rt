@@ -4,8 +4,8 @@ ghost use Rattle.conditions.specs.declared.fault.FormulaFault.TheVariants.{Refus
 ghost use Rattle.conditions.specs.declared.atom.Atom.{Atom as AtomValue};
 ghost use Rattle.conditions.specs.Tree.{Tree};
 ghost use Rattle.conditions.specs.Nodes.{nodes_of};
-ghost use Rattle.conditions.specs.Tokens.{sign_of};
-ghost use Rattle.conditions.specs.Stack.{Before, State, next, joined, tree_read, StopsAt};
+ghost use Rattle.conditions.specs.Tokens.{sign_of_token};
+ghost use Rattle.conditions.specs.Stack.{Before, ReaderState, next, joined, tree_read, SignsStopAt};
 ghost use Rattle.conditions.specs.Layout.{Goes, LiesBefore, LiesWith, IsTree};
 
 use crate::fault::FormulaFault;
@@ -32,7 +32,7 @@ fn wants(
     at: usize,
 ) -> Result<bool, FormulaFault>
     ensures { (k : Before AtomValue) → LiesBefore k nodes.old.items stack.old.items
-        → Goes at (next (State.Wants k) (sign_of token)) result nodes.new.items stack.new.items }
+        → Goes at (next (ReaderState.Wants k) (sign_of_token token)) result nodes.new.items stack.new.items }
 {
     match token {
         Token::Atom(atom) => {
@@ -63,7 +63,7 @@ fn has(
     at: usize,
 ) -> Result<bool, FormulaFault>
     ensures { (k : Before AtomValue) (f : Tree AtomValue) → LiesWith (k, f) nodes.old.items stack.old.items
-        → Goes at (next (State.Has (k, f)) (sign_of token)) result nodes.new.items stack.new.items }
+        → Goes at (next (ReaderState.Has (k, f)) (sign_of_token token)) result nodes.new.items stack.new.items }
 {
     match token {
         Token::And => {
@@ -95,8 +95,8 @@ fn has(
 
 /// The nodes of the formula that the tokens spell.
 pub fn read(alloc: Global, tokens: &[Token]) -> Result<Vec<Node>, FormulaFault>
-    ensures read { IfOk result (λ nodes. IsTree (tree_read (map sign_of tokens.now)) nodes.items) }
-    ensures refused { (at : ℕ) → result ≡ Err (Refused at) → StopsAt (map sign_of tokens.now) at }
+    ensures read { IfOk result (λ nodes. IsTree (tree_read (map sign_of_token tokens.now)) nodes.items) }
+    ensures refused { (at : ℕ) → result ≡ Err (Refused at) → SignsStopAt (map sign_of_token tokens.now) at }
 {
     let mut nodes = Vec::new(alloc);
     let mut stack = Vec::new(alloc);

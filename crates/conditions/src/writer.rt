@@ -4,10 +4,10 @@ ghost use mathlib.Core.List.{reverse};
 ghost use Rattle.conditions.specs.declared.atom.Atom.{Atom as AtomValue};
 ghost use Rattle.conditions.specs.declared.node.Node.{Node as NodeValue};
 ghost use Rattle.conditions.specs.Tree.{Tree};
-ghost use Rattle.conditions.specs.Tokens.{sign_of};
+ghost use Rattle.conditions.specs.Tokens.{sign_of_token};
 ghost use Rattle.conditions.specs.Nodes.{nodes_of};
 ghost use Rattle.conditions.specs.Canonical.{is_joined, signs_of, enclosed_signs_of};
-ghost use Rattle.conditions.specs.Unwind.{tokens_of, opened, left, unwound};
+ghost use Rattle.conditions.specs.Unwind.{formula_tokens, opened, left, unwound};
 
 use crate::later::Later;
 use crate::node::Node;
@@ -61,10 +61,10 @@ fn unwind(tokens: &mut Vec<Token>, waiting: &mut Vec<Later>, node: Node) -> Resu
     Ok(())
 }
 
-/// Puts the tokens of a formula behind the others, last first.
+/// Appends the tokens of a formula to the others, last first.
 fn unwind_all(alloc: Global, nodes: &[Node], tokens: &mut Vec<Token>) -> Result<(), AllocError>
     ensures { (f : Tree AtomValue) → nodes_of f ≡ nodes.now
-        → IfOk result (λ _. reverse tokens.new.items ≡ tokens_of f (reverse tokens.old.items)) }
+        → IfOk result (λ _. reverse tokens.new.items ≡ formula_tokens f (reverse tokens.old.items)) }
 {
     let mut waiting = Vec::new(alloc);
     let mut left = nodes.len();
@@ -84,7 +84,7 @@ fn is_joined(nodes: &[Node]) -> bool
 
 /// The canonical tokens of the formula that these nodes stand for.
 pub fn tokens(alloc: Global, nodes: &[Node]) -> Result<Vec<Token>, AllocError>
-    ensures { (f : Tree AtomValue) → nodes_of f ≡ nodes.now → IfOk result (λ tokens. map sign_of tokens.items ≡ signs_of f) }
+    ensures { (f : Tree AtomValue) → nodes_of f ≡ nodes.now → IfOk result (λ tokens. map sign_of_token tokens.items ≡ signs_of f) }
 {
     let mut tokens = Vec::new(alloc);
     unwind_all(alloc, nodes, &mut tokens)?;
@@ -94,7 +94,7 @@ pub fn tokens(alloc: Global, nodes: &[Node]) -> Result<Vec<Token>, AllocError>
 
 /// The same in parentheses, and no second ones.
 pub fn enclosed_tokens(alloc: Global, nodes: &[Node]) -> Result<Vec<Token>, AllocError>
-    ensures { (f : Tree AtomValue) → nodes_of f ≡ nodes.now → IfOk result (λ tokens. map sign_of tokens.items ≡ enclosed_signs_of f) }
+    ensures { (f : Tree AtomValue) → nodes_of f ≡ nodes.now → IfOk result (λ tokens. map sign_of_token tokens.items ≡ enclosed_signs_of f) }
 {
     if is_joined(nodes) {
         return tokens(alloc, nodes);

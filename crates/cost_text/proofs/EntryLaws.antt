@@ -6,7 +6,7 @@ use Rattle.std.proofs.lemmas.Bool.Decides.{nat_tests}
 use Rattle.std.proofs.lemmas.List.{length-set, get_or-set_same, get_or-set_other}
 use Rattle.std.proofs.lemmas.List.FromFn.{fill_by_all, length-map-range_with_len, get_or-map-range_with_len}
 use Rattle.gap_sets.specs.CostLists.{IsCostList}
-use Rattle.cost_text.specs.CostTexts.{Entry, said_of, NoneTwice, costs_of}
+use Rattle.cost_text.specs.CostTexts.{Entry, said_of, NoGapTwice, costs_of}
 use Rattle.cost_text.specs.TextReading.{table_of}
 
 -- ---- what entries say
@@ -47,7 +47,7 @@ said_elsewhere (x ∷ xs) e gap other =
       | inr n ↦ rw (n) (said_elsewhere xs e gap other)
     ]
 
-pub once_more : (entries : List Entry) (e : Entry) → NoneTwice entries → said_of entries e.gap ≡ None → NoneTwice (entries ++ e ∷ [])
+pub once_more : (entries : List Entry) (e : Entry) → NoGapTwice entries → said_of entries e.gap ≡ None → NoGapTwice (entries ++ e ∷ [])
 once_more [] e once none = (refl, tt)
 once_more (x ∷ xs) e once none =
     (said_elsewhere xs e x.gap (apart x.gap e.gap (first_is_other x xs e.gap none)) ∙ once.0, once_more xs e once.1 (rest_says x xs e.gap none))
@@ -60,7 +60,7 @@ found_again [] more e x same none = some_none e.cost (rw (itself_too e.gap x.gap
 found_again (y ∷ ys) more e x same none = found_again ys more e x same (rest_says y (ys ++ e ∷ more) x.gap none)
 
 -- no entry speaks of a gap of which an earlier one speaks
-pub not_twice : (entries more : List Entry) (e : Entry) (earlier : ℕ) → NoneTwice (entries ++ e ∷ more) → said_of entries e.gap ≡ Some earlier → ⊥
+pub not_twice : (entries more : List Entry) (e : Entry) (earlier : ℕ) → NoGapTwice (entries ++ e ∷ more) → said_of entries e.gap ≡ Some earlier → ⊥
 not_twice [] more e earlier once there = absurd cc
 not_twice (x ∷ xs) more e earlier once there =
     elim (cases_Bool (x.gap == e.gap)) [

@@ -1,4 +1,4 @@
--- What is found of a line behind others.
+-- What is found of a line after others.
 use Rattle.std.proofs.Common.{◌≡◌, ◌==◌, ℕ, ◌<◌, ◌≤◌, true, false, List, get_or, Option, Some, None, Result, Ok, Err, refl, sym, ap, ◌∙◌, arith, inl, inr}
 use Rattle.std.specs.Prelude.{is_some, nat_le}
 use Rattle.std.proofs.lemmas.Bool.{cases_Bool}
@@ -7,9 +7,9 @@ use Rattle.gap_sets.specs.declared.costs.CostFault.{CostFault}
 use Rattle.tso_program.specs.declared.listing.Thread.{Thread}
 use Rattle.tso_program.specs.Listings.{gap_count, gap_number}
 use Rattle.tso_program.proofs.Gaps.{gap_below}
-use Rattle.cost_text.specs.CostTexts.{Entry, IsEntry, said_of, IsOfNoGap, IsRepeated, IsOfNoCost}
+use Rattle.cost_text.specs.CostTexts.{Entry, IsCostEntry, said_of, IsOfNoGap, IsRepeated, IsOfNoCost}
 use Rattle.cost_text.specs.LineReading.{Digits, digits_in, said_by}
-use Rattle.cost_text.specs.TextReading.{cost_or_fault, IsTable, IsNewEntry}
+use Rattle.cost_text.specs.TextReading.{cost_or_fault, IsCostTable, IsNewEntry}
 use Rattle.cost_text.proofs.LineLaws.{line_read}
 use Rattle.cost_text.proofs.EntryLaws.{table_at}
 use Rattle.cost_text.proofs.CostFaults.{first_fault}
@@ -58,11 +58,11 @@ fine gap cost found e =
     whole high low same = record { same = same; some = omega arith; within = omega arith }
 
 module _ (threads : List Thread) (table : List (Option ℕ)) (entries : List Entry) (line : List ℕ) (digits : Digits) (gap : ℕ) (is : Some digits ≡ digits_in line)
-    (number : Some gap ≡ gap_number threads (said_by digits).thread (said_by digits).instruction) (t : IsTable threads entries table) where
+    (number : Some gap ≡ gap_number threads (said_by digits).thread (said_by digits).instruction) (t : IsCostTable threads entries table) where
   abbrev entry_with : ℕ → Entry
   entry_with cost = record { gap = gap; cost = cost }
 
-  of_gap : (cost : ℕ) → (said_by digits).cost ≡ cost → IsEntry threads line (entry_with cost)
+  of_gap : (cost : ℕ) → (said_by digits).cost ≡ cost → IsCostEntry threads line (entry_with cost)
   of_gap cost same = record { said = said_by digits; says = (line_read line digits (sym is)).says; gap = sym number; cost = same }
 
   below : gap < gap_count threads

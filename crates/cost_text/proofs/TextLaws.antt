@@ -10,20 +10,20 @@ use Rattle.tso_program.proofs.Gaps.{gap_below}
 use Rattle.cost_text.specs.declared.fault.CostTextFault.{CostTextFault}
 use Rattle.cost_text.specs.declared.fault.CostTextFault.TheVariants as fault
 use Rattle.cost_text.specs.CostLines.{IsBlank, Said}
-use Rattle.cost_text.specs.CostTexts.{Entry, IsEntry, Lists, none, blank, entry, said_of, NoneTwice, costs_of, GiveCosts, IsCostText, StandsAt, IsLineFault, IsRefusedAt, AreRefused, Refuses, lines_of, IsOfNoCost, IsOfNoGap, IsRepeated, SaysNothing}
-use Rattle.cost_text.specs.TextReading.{table_of, IsTable, IsNewEntry, IsTableOf}
+use Rattle.cost_text.specs.CostTexts.{Entry, IsCostEntry, ListsEntries, none, blank, entry, said_of, NoGapTwice, costs_of, GiveCosts, IsCostText, StandsAt, IsLineFault, IsRefusedAt, AreRefused, RefusesCosts, lines_of, IsOfNoCost, IsOfNoGap, IsRepeated, SaysNothing}
+use Rattle.cost_text.specs.TextReading.{table_of, IsCostTable, IsNewEntry, IsTableOf}
 use Rattle.cost_text.proofs.LineLaws.{said_once, blank_says_nothing}
 use Rattle.cost_text.proofs.EntryLaws.{IsCost, said_there, once_more, not_twice, table_more, length-table_of, costs_at, length-costs_of, no_costs, within_more, costs_from_table}
 use Rattle.gap_sets.proofs.CostLimits.{no_fault-from_IsCostList}
 
 -- ---- one more line
 
-lists_more : (threads : List Thread) (before lines : List (List ℕ)) (entries more : List Entry) → Lists threads before entries → Lists threads lines more → Lists threads (before ++ lines) (entries ++ more)
+lists_more : (threads : List Thread) (before lines : List (List ℕ)) (entries more : List Entry) → ListsEntries threads before entries → ListsEntries threads lines more → ListsEntries threads (before ++ lines) (entries ++ more)
 lists_more threads _ lines _ more none ends = ends
 lists_more threads _ lines entries more (blank {lines = before} is rest) ends = blank is (lists_more threads before lines entries more rest ends)
 lists_more threads _ lines _ more (entry {lines = before} {e = e} {entries = others} is rest) ends = entry is (lists_more threads before lines others more rest ends)
 
-entry_below : (threads : List Thread) (line : List ℕ) (e : Entry) → IsEntry threads line e → e.gap < gap_count threads
+entry_below : (threads : List Thread) (line : List ℕ) (e : Entry) → IsCostEntry threads line e → e.gap < gap_count threads
 entry_below threads line e is = gap_below threads is.said.thread is.said.instruction e.gap is.gap
 
 -- before the first line
@@ -31,25 +31,25 @@ pub first_table : (threads : List Thread) (table : List (Option ℕ)) → gap_co
 first_table threads table few is = record { entries = []; given = record { lists = none; once = tt; within = no_costs (gap_count threads) few }; table_is = is }
 
 -- what a table of lines says of the one that is read next
-pub is_table : (threads : List Thread) (lines : List (List ℕ)) (table : List (Option ℕ)) (t : IsTableOf threads lines table) → IsTable threads t.entries table
+pub is_table : (threads : List Thread) (lines : List (List ℕ)) (table : List (Option ℕ)) (t : IsTableOf threads lines table) → IsCostTable threads t.entries table
 is_table threads lines table t = record { table_is = t.table_is; within = t.given.within }
 
--- behind a blank line
+-- after a blank line
 pub blank_more : (threads : List Thread) (lines : List (List ℕ)) (i : ℕ) (line : List ℕ) (table : List (Option ℕ)) → i < length lines → line ≡ get_or lines i [] → IsBlank line → IsTableOf threads (take i lines) table → IsTableOf threads (take (i + 1) lines) table
 blank_more threads lines i line table lt is blank_line t =
-    let more : Lists threads (take i lines ++ line ∷ []) (t.entries ++ []) = lists_more threads (take i lines) (line ∷ []) t.entries [] t.given.lists (blank blank_line none) in
+    let more : ListsEntries threads (take i lines ++ line ∷ []) (t.entries ++ []) = lists_more threads (take i lines) (line ∷ []) t.entries [] t.given.lists (blank blank_line none) in
     record {
       entries = t.entries;
       given = record { lists = rw (take_more lines i [] lt, ← is) (rw append-nil at more); once = t.given.once; within = t.given.within };
       table_is = t.table_is;
     }
 
--- behind an entry
+-- after an entry
 pub entry_more : (threads : List Thread) (lines : List (List ℕ)) (i : ℕ) (line : List ℕ) (table : List (Option ℕ)) (e : Entry) → i < length lines → line ≡ get_or lines i [] → (t : IsTableOf threads (take i lines) table)
     → IsNewEntry threads t.entries line e → IsTableOf threads (take (i + 1) lines) (set table e.gap (Some e.cost))
 entry_more threads lines i line table e lt is t new =
     let below : e.gap < gap_count threads = entry_below threads line e new.is in
-    let more : Lists threads (take i lines ++ line ∷ []) (t.entries ++ e ∷ []) = lists_more threads (take i lines) (line ∷ []) t.entries (e ∷ []) t.given.lists (entry new.is none) in
+    let more : ListsEntries threads (take i lines ++ line ∷ []) (t.entries ++ e ∷ []) = lists_more threads (take i lines) (line ∷ []) t.entries (e ∷ []) t.given.lists (entry new.is none) in
     record {
       entries = t.entries ++ e ∷ [];
       given = record {
@@ -87,17 +87,17 @@ some_is m n o is also = cc
 none_some : (n : ℕ) (o : Option ℕ) → o ≡ None → o ≡ Some n → ⊥
 none_some n o is also = cc
 
-entry_once : (threads : List Thread) (line : List ℕ) (a b : Entry) → IsEntry threads line a → IsEntry threads line b → a ≡ b
+entry_once : (threads : List Thread) (line : List ℕ) (a b : Entry) → IsCostEntry threads line a → IsCostEntry threads line b → a ≡ b
 entry_once threads line a b is also =
     let same : is.said ≡ also.said = said_once line is.said also.said is.says also.says in
     let gaps : a.gap ≡ b.gap = some_is a.gap b.gap (gap_number threads also.said.thread also.said.instruction) (ap (λ (s : Said). gap_number threads s.thread s.instruction) (sym same) ∙ is.gap) also.gap in
     let costs : a.cost ≡ b.cost = sym is.cost ∙ ap (λ (s : Said). s.cost) same ∙ also.cost in
     λ i. record { gap = gaps i; cost = costs i }
 
-no_entry : (threads : List Thread) (line : List ℕ) (e : Entry) → IsBlank line → IsEntry threads line e → ⊥
+no_entry : (threads : List Thread) (line : List ℕ) (e : Entry) → IsBlank line → IsCostEntry threads line e → ⊥
 no_entry threads line e blank_line is = blank_says_nothing line blank_line is.said is.says
 
-lists_once : (threads : List Thread) (lines : List (List ℕ)) (es fs : List Entry) → Lists threads lines es → Lists threads lines fs → es ≡ fs
+lists_once : (threads : List Thread) (lines : List (List ℕ)) (es fs : List Entry) → ListsEntries threads lines es → ListsEntries threads lines fs → es ≡ fs
 lists_once threads _ _ _ none none = refl
 lists_once threads _ es fs (blank {lines = lines} is more) (blank also others) = lists_once threads lines es fs more others
 lists_once threads _ es _ (blank {line = line} is more) (entry {e = f} also others) = absurd (no_entry threads line f is also)
@@ -110,10 +110,10 @@ record Parts (threads : List Thread) (before lines : List (List ℕ)) (entries :
   front : List Entry
   back : List Entry
   entries_are : entries ≡ front ++ back
-  in_front : Lists threads before front
-  behind : Lists threads lines back
+  in_front : ListsEntries threads before front
+  behind : ListsEntries threads lines back
 
-parts : (threads : List Thread) (before lines : List (List ℕ)) (entries : List Entry) → Lists threads (before ++ lines) entries → Parts threads before lines entries
+parts : (threads : List Thread) (before lines : List (List ℕ)) (entries : List Entry) → ListsEntries threads (before ++ lines) entries → Parts threads before lines entries
 parts threads [] lines entries all = record { front = []; back = entries; entries_are = refl; in_front = none; behind = all }
 parts threads (line ∷ before) lines entries (blank is more) =
     let p = parts threads before lines entries more in
@@ -124,18 +124,18 @@ parts threads (line ∷ before) lines _ (entry {e = e} {entries = entries} is mo
 
 -- ---- what is refused gives no costs
 
--- the line behind those that give some entries, in lines that give all
+-- the line after those that give some entries, in lines that give all
 data IsNext (threads : List Thread) (entries : List Entry) (line : List ℕ) (all : List Entry) : Type 0 where
   says_none : IsBlank line → IsNext threads entries line all
-  says : (e : Entry) (more : List Entry) → IsEntry threads line e → all ≡ entries ++ e ∷ more → IsNext threads entries line all
+  says : (e : Entry) (more : List Entry) → IsCostEntry threads line e → all ≡ entries ++ e ∷ more → IsNext threads entries line all
 
-by_first : (threads : List Thread) (entries : List Entry) (line : List ℕ) (after : List (List ℕ)) (all back : List Entry) → all ≡ entries ++ back → Lists threads (line ∷ after) back → IsNext threads entries line all
+by_first : (threads : List Thread) (entries : List Entry) (line : List ℕ) (after : List (List ℕ)) (all back : List Entry) → all ≡ entries ++ back → ListsEntries threads (line ∷ after) back → IsNext threads entries line all
 by_first threads entries line after all back is (blank blank_line more) = says_none blank_line
 by_first threads entries line after all _ is (entry {e = e} {entries = rest} says_it more) = says e rest says_it is
 
-next : (threads : List Thread) (lines : List (List ℕ)) (number : ℕ) (line : List ℕ) (entries all : List Entry) → StandsAt lines threads number line entries → Lists threads lines all → IsNext threads entries line all
+next : (threads : List Thread) (lines : List (List ℕ)) (number : ℕ) (line : List ℕ) (entries all : List Entry) → StandsAt lines threads number line entries → ListsEntries threads lines all → IsNext threads entries line all
 next threads lines number line entries all s lists =
-    let p = parts threads s.before (line ∷ s.after) all (subst (λ (x : List (List ℕ)). Lists threads x all) s.lines_are lists) in
+    let p = parts threads s.before (line ∷ s.after) all (subst (λ (x : List (List ℕ)). ListsEntries threads x all) s.lines_are lists) in
     let same : p.front ≡ entries = lists_once threads s.before p.front entries p.in_front s.given.lists in
     by_first threads entries line s.after all p.back (p.entries_are ∙ ap (λ (x : List Entry). x ++ p.back) same) p.behind
 
@@ -148,11 +148,11 @@ no_gap threads entries all line n (says_none blank_line) = blank_says_nothing li
 no_gap threads entries all line n (says e more is all_are) =
     none_some e.gap (gap_number threads is.said.thread is.said.instruction) (ap (λ (s : Said). gap_number threads s.thread s.instruction) (said_once line is.said n.said is.says n.says) ∙ n.no_gap) is.gap
 
-repeated : (threads : List Thread) (entries all : List Entry) (line : List ℕ) → NoneTwice all → IsRepeated threads entries line → IsNext threads entries line all → ⊥
+repeated : (threads : List Thread) (entries all : List Entry) (line : List ℕ) → NoGapTwice all → IsRepeated threads entries line → IsNext threads entries line all → ⊥
 repeated threads entries all line once r (says_none blank_line) = no_entry threads line r.entry blank_line r.is
 repeated threads entries all line once r (says e more is all_are) =
     let same : r.entry ≡ e = entry_once threads line r.entry e r.is is in
-    not_twice entries more e r.earlier (subst NoneTwice all_are once) (ap (λ (x : Entry). said_of entries x.gap) (sym same) ∙ r.there)
+    not_twice entries more e r.earlier (subst NoGapTwice all_are once) (ap (λ (x : Entry). said_of entries x.gap) (sym same) ∙ r.there)
 
 no_cost : (threads : List Thread) (entries all : List Entry) (line : List ℕ) (why : CostFault) → IsCostList (costs_of (gap_count threads) entries) → IsCostList (costs_of (gap_count threads) all) → IsOfNoCost threads entries line why → IsNext threads entries line all → ⊥
 no_cost threads entries all line why before within r (says_none blank_line) = no_entry threads line r.entry blank_line r.is
@@ -185,8 +185,8 @@ cannot_stand threads lines all why given r = by_fault why r.fault
     by_fault (fault.Cost n cost) f = no_cost threads r.entries all r.line cost r.stands.given.within given.within f.1 follows
     by_fault fault.OutOfMemory f = f
 
--- what is refused for another reason than want of memory gives no costs
-pub refuted : (text : List ℕ) (threads : List Thread) (costs : List ℕ) (why : CostTextFault) → IsCostText text threads costs → Refuses text threads why → why ≡ fault.OutOfMemory
+-- what is refused for another reason than being out of memory gives no costs
+pub refuted : (text : List ℕ) (threads : List Thread) (costs : List ℕ) (why : CostTextFault) → IsCostText text threads costs → RefusesCosts text threads why → why ≡ fault.OutOfMemory
 refuted text threads costs (fault.Line n) is r = absurd (cannot_stand threads (lines_of text) is.entries (fault.Line n) is.given r)
 refuted text threads costs (fault.NoSuchGap n) is r = absurd (cannot_stand threads (lines_of text) is.entries (fault.NoSuchGap n) is.given r)
 refuted text threads costs (fault.Repeated n) is r = absurd (cannot_stand threads (lines_of text) is.entries (fault.Repeated n) is.given r)

@@ -21,17 +21,17 @@ pub record Entry : Type 0 where
   pub cost : ℕ
 
 -- the line says this of a gap of the program
-pub record IsEntry (threads : List Thread) (line : List ℕ) (entry : Entry) : Type 0 where
+pub record IsCostEntry (threads : List Thread) (line : List ℕ) (entry : Entry) : Type 0 where
   pub said : Said
   pub says : Says line said
   pub gap : gap_number threads said.thread said.instruction ≡ Some entry.gap
   pub cost : said.cost ≡ entry.cost
 
 -- each line is blank or says an entry
-pub data Lists (threads : List Thread) : List (List ℕ) → List Entry → Type 0 where
-  none : Lists threads [] []
-  blank : {line : List ℕ} {lines : List (List ℕ)} {entries : List Entry} → IsBlank line → Lists threads lines entries → Lists threads (line ∷ lines) entries
-  entry : {line : List ℕ} {lines : List (List ℕ)} {e : Entry} {entries : List Entry} → IsEntry threads line e → Lists threads lines entries → Lists threads (line ∷ lines) (e ∷ entries)
+pub data ListsEntries (threads : List Thread) : List (List ℕ) → List Entry → Type 0 where
+  none : ListsEntries threads [] []
+  blank : {line : List ℕ} {lines : List (List ℕ)} {entries : List Entry} → IsBlank line → ListsEntries threads lines entries → ListsEntries threads (line ∷ lines) entries
+  entry : {line : List ℕ} {lines : List (List ℕ)} {e : Entry} {entries : List Entry} → IsCostEntry threads line e → ListsEntries threads lines entries → ListsEntries threads (line ∷ lines) (e ∷ entries)
 
 -- ---- the costs
 
@@ -40,9 +40,9 @@ abbrev pub said_of : List Entry → ℕ → Option ℕ
 said_of entries gap = option_map (λ e. e.cost) (find (λ e. e.gap == gap) entries)
 
 -- no gap has two entries
-abbrev pub NoneTwice : List Entry → Type 0
-NoneTwice [] = Unit {0}
-NoneTwice (e ∷ entries) = (said_of entries e.gap ≡ None) × NoneTwice entries
+abbrev pub NoGapTwice : List Entry → Type 0
+NoGapTwice [] = Unit {0}
+NoGapTwice (e ∷ entries) = (said_of entries e.gap ≡ None) × NoGapTwice entries
 
 -- the costs of so many gaps by their numbers: 1 where no entry says another
 abbrev pub costs_of : ℕ → List Entry → List ℕ
@@ -50,8 +50,8 @@ costs_of gaps entries = map (λ gap. unwrap_or (said_of entries gap) 1) (range_w
 
 -- lines that say costs within the limits, of no gap twice
 pub record GiveCosts (threads : List Thread) (lines : List (List ℕ)) (entries : List Entry) : Type 0 where
-  pub lists : Lists threads lines entries
-  pub once : NoneTwice entries
+  pub lists : ListsEntries threads lines entries
+  pub once : NoGapTwice entries
   pub within : IsCostList (costs_of (gap_count threads) entries)
 
 -- the text gives the gaps of these threads these costs
@@ -84,18 +84,18 @@ pub record IsOfNoGap (threads : List Thread) (line : List ℕ) : Type 0 where
 -- the line says once more what a gap costs
 pub record IsRepeated (threads : List Thread) (entries : List Entry) (line : List ℕ) : Type 0 where
   pub entry : Entry
-  pub is : IsEntry threads line entry
+  pub is : IsCostEntry threads line entry
   pub earlier : ℕ
   pub there : said_of entries entry.gap ≡ Some earlier
 
 -- the line says of another gap that it costs what no gap may: with it, this is the first fault of the list of costs
 pub record IsOfNoCost (threads : List Thread) (entries : List Entry) (line : List ℕ) (why : CostFault) : Type 0 where
   pub entry : Entry
-  pub is : IsEntry threads line entry
+  pub is : IsCostEntry threads line entry
   pub new : said_of entries entry.gap ≡ None
   pub refused : first_cost_fault (costs_of (gap_count threads) (entries ++ entry ∷ [])) ≡ Some why
 
--- why the line of this number cannot stand behind lines with these entries
+-- why the line of this number cannot follow lines with these entries
 abbrev pub IsLineFault : List Thread → List Entry → List ℕ → ℕ → CostTextFault → Type 0
 IsLineFault threads entries line number (fault.Line n) = (n ≡ number) × SaysNothing line
 IsLineFault threads entries line number (fault.NoSuchGap n) = (n ≡ number) × IsOfNoGap threads line
@@ -120,5 +120,5 @@ AreRefused lines threads (fault.Repeated n) = IsRefusedAt lines threads (fault.R
 AreRefused lines threads (fault.Cost n why) = IsRefusedAt lines threads (fault.Cost n why)
 
 -- why a text gives the gaps of these threads no costs
-abbrev pub Refuses : List ℕ → List Thread → CostTextFault → Type 0
-Refuses text threads why = AreRefused (lines_of text) threads why
+abbrev pub RefusesCosts : List ℕ → List Thread → CostTextFault → Type 0
+RefusesCosts text threads why = AreRefused (lines_of text) threads why

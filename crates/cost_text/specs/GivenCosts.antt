@@ -5,19 +5,19 @@ use Rattle.tso_program.specs.declared.listing.Listing.{Listing}
 use Rattle.tso_program.specs.Listings.{gap_count}
 use Rattle.cost_text.specs.declared.fault.CostTextFault.{CostTextFault}
 use Rattle.cost_text.specs.declared.fault.CostTextFault.TheVariants as fault
-use Rattle.cost_text.specs.CostTexts.{IsCostText, Refuses}
+use Rattle.cost_text.specs.CostTexts.{IsCostText, RefusesCosts}
 
 -- those that the text gives, or 1 each without a text
 abbrev pub AreGiven : Listing → Option (List ℕ) → List ℕ → Type 0
 AreGiven p None costs = costs ≡ replicate (gap_count p.threads) 1
 AreGiven p (Some text) costs = IsCostText text p.threads costs
 
--- why a text gives none: what the fault says of it, and that it gives none, want of memory aside
+-- why a text gives no costs: what the fault says of it, and that it gives no costs unless the fault is out of memory
 pub record IsNoCostText (text : List ℕ) (threads : List Thread) (why : CostTextFault) : Type 0 where
-  pub refused : Refuses text threads why
+  pub refused : RefusesCosts text threads why
   pub none : (costs : List ℕ) → IsCostText text threads costs → why ≡ fault.OutOfMemory
 
--- why there are none; without a text only for want of memory
+-- why there are no costs; without a text only out of memory
 abbrev pub AreNotGiven : Listing → Option (List ℕ) → CostTextFault → Type 0
 AreNotGiven p None why = why ≡ fault.OutOfMemory
 AreNotGiven p (Some text) why = IsNoCostText text p.threads why

@@ -7,7 +7,7 @@ use Rattle.gap_sets.specs.CostLists.{IsCostList}
 use Rattle.tso_program.specs.declared.listing.Thread.{Thread}
 use Rattle.tso_program.specs.Listings.{gap_count}
 use Rattle.cost_text.specs.declared.line.CostLine.{CostLine}
-use Rattle.cost_text.specs.CostTexts.{Entry, IsEntry, GiveCosts, said_of, costs_of}
+use Rattle.cost_text.specs.CostTexts.{Entry, IsCostEntry, GiveCosts, said_of, costs_of}
 use Rattle.cost_text.specs.LineReading.{Digits}
 
 -- the digits of a line, without where they lie in memory
@@ -23,13 +23,13 @@ abbrev pub table_of : ℕ → List Entry → List (Option ℕ)
 table_of gaps entries = map (said_of entries) (range_with_len 0 gaps)
 
 -- the table has what these entries say, within the limits
-pub record IsTable (threads : List Thread) (entries : List Entry) (table : List (Option ℕ)) : Type 0 where
+pub record IsCostTable (threads : List Thread) (entries : List Entry) (table : List (Option ℕ)) : Type 0 where
   pub table_is : table ≡ table_of (gap_count threads) entries
   pub within : IsCostList (costs_of (gap_count threads) entries)
 
 -- an entry of a gap that has none yet, within the limits
 pub record IsNewEntry (threads : List Thread) (entries : List Entry) (line : List ℕ) (entry : Entry) : Type 0 where
-  pub is : IsEntry threads line entry
+  pub is : IsCostEntry threads line entry
   pub new : said_of entries entry.gap ≡ None
   pub some : 1 ≤ entry.cost
   pub within : entry.cost ≤ 1000000

@@ -3,9 +3,9 @@ ghost use Rattle.std.specs.Prelude.{◌≡◌, ◌<◌, ℕ, List, [], length, m
 ghost use Rattle.tso_program.specs.Listings.{gap_count, gap_number};
 ghost use Rattle.cost_text.specs.declared.fault.CostTextFault.TheVariants.{OutOfMemory};
 ghost use Rattle.cost_text.specs.CostLines.{IsBlank};
-ghost use Rattle.cost_text.specs.CostTexts.{Entry, lines_of, IsCostText, IsLineFault, AreRefused, Refuses};
+ghost use Rattle.cost_text.specs.CostTexts.{Entry, lines_of, IsCostText, IsLineFault, AreRefused, RefusesCosts};
 ghost use Rattle.cost_text.specs.LineReading.{AreAllDigits, said_by};
-ghost use Rattle.cost_text.specs.TextReading.{digits_of, cost_or_fault, table_of, IsTable, IsNewEntry, IsTableOf};
+ghost use Rattle.cost_text.specs.TextReading.{digits_of, cost_or_fault, table_of, IsCostTable, IsNewEntry, IsTableOf};
 
 use crate::fault::CostTextFault;
 use crate::line::{CostLine, are_around, cost_line};
@@ -54,9 +54,9 @@ fn entry_of(
 ) -> Result<(u8, u32), CostTextFault>
     requires room { length table.now ≡ gap_count program.now.threads }
     requires some { IsBlank line.now → ⊥ }
-    ensures entry { IfOk result (λ entry. (entries : List Entry) → IsTable program.now.threads entries table.now → IsNewEntry program.now.threads entries line.now (record { gap = entry.0; cost = entry.1 })) }
+    ensures entry { IfOk result (λ entry. (entries : List Entry) → IsCostTable program.now.threads entries table.now → IsNewEntry program.now.threads entries line.now (record { gap = entry.0; cost = entry.1 })) }
     ensures below { IfOk result (λ entry. entry.0 < gap_count program.now.threads) }
-    ensures refused { IfErr result (λ fault. (entries : List Entry) → IsTable program.now.threads entries table.now → IsLineFault program.now.threads entries line.now number fault) }
+    ensures refused { IfErr result (λ fault. (entries : List Entry) → IsCostTable program.now.threads entries table.now → IsLineFault program.now.threads entries line.now number fault) }
 {
     let Some(said) = cost_line(line) else {
         return Err(CostTextFault::Line(number));
@@ -113,7 +113,7 @@ pub fn read_costs(alloc: Global, bytes: &[u8], program: &Program) -> Result<Cost
     ensures found { IfOk result (IsCostText bytes.now program.now.threads) }
     ensures only { (costs : List ℕ) → IsCostText bytes.now program.now.threads costs
         → MatchResult result (λ read. read ≡ costs) (λ fault. fault ≡ OutOfMemory) }
-    ensures refused { IfErr result (Refuses bytes.now program.now.threads) }
+    ensures refused { IfErr result (RefusesCosts bytes.now program.now.threads) }
 {
     let lines = lines_of(alloc, bytes)?;
     let table = table_of(alloc, program, lines.as_slice())?;

@@ -139,7 +139,7 @@ module _ (s : Parts) (shown : Shown) (outcomes : List Outcome) (n : ℕ) where
       MustEndAsNumber (asked s.program shown) (mode_in s) outcomes (sketch_of s) n
   is_so o there must = record { outcome = o; is_outcome = there; must_end = must }
 
--- a read whose source is none has none
+-- a read whose source is `None` has no source
 pub no_source : (s : Parts) (read : Event) (o : Option Event) → is_some o ≡ false → ((source : Event) → (o ≡ Some source) ↔ Contains s.sources (read, source)) → choices.HasSource s read → ⊥
 no_source s read o e exact (source, has) = (let is = (exact source).1 has in let yes : is_some o ≡ true = ap is_some is in let no : true ≡ false = sym yes ∙ e in cc)
 

@@ -12,7 +12,7 @@ use Rattle.cert_forest.proofs.TreeTexts.{covers_count}
 use Rattle.tree_laws.specs.CoverTrees.{event_of, HasNoOrder, AreValidCovers}
 use Rattle.cover_judge.specs.declared.choice.Choice.{Choice}
 use Rattle.cover_judge.specs.declared.choice.Choice.TheVariants as choice
-use Rattle.cover_judge.specs.CoverDefects.{FirstWrongChild, HasNoValues, HasNoSources}
+use Rattle.cover_judge.specs.CoverDefects.{FirstWrongCoverChild, HasNoValues, HasNoSources}
 use Rattle.cover_judge.specs.Choices.{after, MayChoose, AreValueChoices, AreSourceChoices}
 use Rattle.cover_judge.specs.Judged.{IsAtRoot, IsBelow, IsValidAfter, IsWrongAt, AreValidAfter, IsWrongChild}
 use Rattle.cover_judge.proofs.Mapped.{map_map}
@@ -33,7 +33,7 @@ module _ (shown : Shown) (outcomes : List Outcome) (s : Parts) (trees : List Cov
       are.values,
       are.next,
       covers_count trees ∙ many ∙ ap length are.each ∙ length-map are.values (choice.Value t),
-      subst (λ ks. FirstWrongChild (asked s.program shown) (mode_in s) outcomes (covers_of trees) ks number path) values_sketches wrong,
+      subst (λ ks. FirstWrongCoverChild (asked s.program shown) (mode_in s) outcomes (covers_of trees) ks number path) values_sketches wrong,
     )
 
   pub value_here : (t : ℕ) (path : List ℕ) → IsAtRoot (HasNoValues s.program (mode_in s) (sketch_of s) t (length trees)) path →
@@ -55,7 +55,7 @@ module _ (shown : Shown) (outcomes : List Outcome) (s : Parts) (trees : List Cov
       are.sources,
       are.next,
       covers_count trees ∙ many ∙ ap length are.each ∙ length-map are.sources (choice.Source read),
-      subst (λ ks. FirstWrongChild (asked s.program shown) (mode_in s) outcomes (covers_of trees) ks number path) sources_sketches wrong,
+      subst (λ ks. FirstWrongCoverChild (asked s.program shown) (mode_in s) outcomes (covers_of trees) ks number path) sources_sketches wrong,
     )
 
   pub source_here : (read : AccessId) (path : List ℕ) → IsAtRoot (HasNoSources s.program (mode_in s) (sketch_of s) (event_of read) (length trees)) path →

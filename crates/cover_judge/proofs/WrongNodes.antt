@@ -11,7 +11,7 @@ use Rattle.tree_laws.specs.CoverTrees.{event_of, IsValidCover, AreValidCovers}
 use Rattle.tree_laws.proofs.OneList.{one_list_of_values, one_list_of_sources}
 use Rattle.cover_judge.specs.declared.fault.TreeFault.{TreeFault}
 use Rattle.cover_judge.specs.declared.fault.TreeFault.TheVariants.{Wrong, OutOfMemory}
-use Rattle.cover_judge.specs.CoverDefects.{FirstWrongCover, FirstWrongChild}
+use Rattle.cover_judge.specs.CoverDefects.{FirstWrongCover, FirstWrongCoverChild}
 use Rattle.cover_judge.specs.Judged.{IfWrong}
 
 -- the path to the next sibling
@@ -50,7 +50,7 @@ module _ (q : Question) (mode : Mode) (outcomes : List Outcome) where
     valid_is_not_wrong (Known number) k (n ∷ path) valid wrong = wrong
 
     valid_has_no_wrong : (trees : Covers) (ks : List Sketch) (n : ℕ) (path : List ℕ) → AreValidCovers q mode outcomes trees ks →
-        FirstWrongChild q mode outcomes trees ks n path → ⊥
+        FirstWrongCoverChild q mode outcomes trees ks n path → ⊥
     valid_has_no_wrong NoCover ks n path valid wrong = wrong
     valid_has_no_wrong (MoreCovers tree trees) [] n path valid wrong = wrong
     valid_has_no_wrong (MoreCovers tree trees) (k ∷ ks) zero path valid wrong = valid_is_not_wrong tree k path valid.0 wrong
@@ -69,13 +69,13 @@ module _ (q : Question) (mode : Mode) (outcomes : List Outcome) where
     one_wrong_node (Value t children) k (n ∷ path) [] (values, has, many, below) wrong = absurd (wrong values has many)
     one_wrong_node (Value t children) k (n ∷ path) (m ∷ other) (values, has, many, below) (others, has_too, many_too, below_too) =
         one_wrong_child children (map (with_value k t) values) n m path other below
-        (subst (λ vs. FirstWrongChild q mode outcomes children (map (with_value k t) vs) m other) (one_list_of_values q.program mode k t others values has_too has) below_too)
+        (subst (λ vs. FirstWrongCoverChild q mode outcomes children (map (with_value k t) vs) m other) (one_list_of_values q.program mode k t others values has_too has) below_too)
     one_wrong_node (Source read children) k [] [] wrong also = refl
     one_wrong_node (Source read children) k [] (m ∷ other) wrong (sources, has, many, below) = absurd (wrong sources has many)
     one_wrong_node (Source read children) k (n ∷ path) [] (sources, has, many, below) wrong = absurd (wrong sources has many)
     one_wrong_node (Source read children) k (n ∷ path) (m ∷ other) (sources, has, many, below) (others, has_too, many_too, below_too) =
         one_wrong_child children (map (with_source k (event_of read)) sources) n m path other below
-        (subst (λ es. FirstWrongChild q mode outcomes children (map (with_source k (event_of read)) es) m other)
+        (subst (λ es. FirstWrongCoverChild q mode outcomes children (map (with_source k (event_of read)) es) m other)
         (one_list_of_sources q.program mode k (event_of read) others sources has_too has) below_too)
     one_wrong_node (Order first second one two) k [] [] wrong also = refl
     one_wrong_node (Order first second one two) k [] (m ∷ other) wrong below = absurd (wrong below.0)
@@ -98,8 +98,8 @@ module _ (q : Question) (mode : Mode) (outcomes : List Outcome) where
     one_wrong_node (Known number) k [] (m ∷ other) wrong also = absurd also
     one_wrong_node (Known number) k (n ∷ path) other wrong also = absurd wrong
 
-    one_wrong_child : (trees : Covers) (ks : List Sketch) (n m : ℕ) (path other : List ℕ) → FirstWrongChild q mode outcomes trees ks n path →
-        FirstWrongChild q mode outcomes trees ks m other → n ∷ path ≡ m ∷ other
+    one_wrong_child : (trees : Covers) (ks : List Sketch) (n m : ℕ) (path other : List ℕ) → FirstWrongCoverChild q mode outcomes trees ks n path →
+        FirstWrongCoverChild q mode outcomes trees ks m other → n ∷ path ≡ m ∷ other
     one_wrong_child NoCover ks n m path other wrong also = absurd wrong
     one_wrong_child (MoreCovers tree trees) [] n m path other wrong also = absurd wrong
     one_wrong_child (MoreCovers tree trees) (k ∷ ks) zero zero path other wrong also = ap (λ xs. zero ∷ xs) (one_wrong_node tree k path other wrong also)

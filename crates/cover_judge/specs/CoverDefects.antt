@@ -21,12 +21,12 @@ module _ (p : Listing) (mode : Mode) where
 
 module _ (q : Question) (mode : Mode) (outcomes : List Outcome) where
   -- the root is wrong at the sketch, whatever its children say: its number of children is not that of the values or sources, or what it says does not hold
-  abbrev pub HasWrongRoot : Cover → Sketch → Type 0
-  HasWrongRoot (Value t children) k = HasNoValues q.program mode k t (count_covers children)
-  HasWrongRoot (Source read children) k = HasNoSources q.program mode k (event_of read) (count_covers children)
-  HasWrongRoot (Order first second first_before second_before) k = HasNoOrder q.program mode k (event_of first) (event_of second) → ⊥
-  HasWrongRoot (Cycle kind events) k = IsKnownCycle q.program mode k kind (map event_of events) → ⊥
-  HasWrongRoot (Known number) k = MustEndAsNumber q mode outcomes k number → ⊥
+  abbrev pub HasWrongCoverRoot : Cover → Sketch → Type 0
+  HasWrongCoverRoot (Value t children) k = HasNoValues q.program mode k t (count_covers children)
+  HasWrongCoverRoot (Source read children) k = HasNoSources q.program mode k (event_of read) (count_covers children)
+  HasWrongCoverRoot (Order first second first_before second_before) k = HasNoOrder q.program mode k (event_of first) (event_of second) → ⊥
+  HasWrongCoverRoot (Cycle kind events) k = IsKnownCycle q.program mode k kind (map event_of events) → ⊥
+  HasWrongCoverRoot (Known number) k = MustEndAsNumber q mode outcomes k number → ⊥
 
   -- of two children, the one of this number is the first that is wrong
   abbrev pub FirstOfTwo : ℕ → Type 0 → Type 0 → Type 0 → Type 0
@@ -37,29 +37,29 @@ module _ (q : Question) (mode : Mode) (outcomes : List Outcome) where
   abbrev mutual
     -- The node at this path is wrong, and none before it is: each node above it is right, and the trees of the children before it are valid.
     pub FirstWrongCover : Cover → Sketch → List ℕ → Type 0
-    FirstWrongCover (Value t children) k [] = HasWrongRoot (Value t children) k
+    FirstWrongCover (Value t children) k [] = HasWrongCoverRoot (Value t children) k
     FirstWrongCover (Value t children) k (number ∷ path) =
         (values : List ℕ) × HasNextValues q.program mode k t values × (count_covers children ≡ length values)
-        × FirstWrongChild children (map (with_value k t) values) number path
-    FirstWrongCover (Source read children) k [] = HasWrongRoot (Source read children) k
+        × FirstWrongCoverChild children (map (with_value k t) values) number path
+    FirstWrongCover (Source read children) k [] = HasWrongCoverRoot (Source read children) k
     FirstWrongCover (Source read children) k (number ∷ path) =
         (sources : List Event) × HasSources q.program mode k (event_of read) sources × (count_covers children ≡ length sources)
-        × FirstWrongChild children (map (with_source k (event_of read)) sources) number path
-    FirstWrongCover (Order first second first_before second_before) k [] = HasWrongRoot (Order first second first_before second_before) k
+        × FirstWrongCoverChild children (map (with_source k (event_of read)) sources) number path
+    FirstWrongCover (Order first second first_before second_before) k [] = HasWrongCoverRoot (Order first second first_before second_before) k
     FirstWrongCover (Order first second first_before second_before) k (number ∷ path) =
         HasNoOrder q.program mode k (event_of first) (event_of second)
         × FirstOfTwo number
         (FirstWrongCover first_before (with_pair k (event_of first) (event_of second)) path)
         (IsValidCover q mode outcomes first_before (with_pair k (event_of first) (event_of second)))
         (FirstWrongCover second_before (with_pair k (event_of second) (event_of first)) path)
-    FirstWrongCover (Cycle kind events) k [] = HasWrongRoot (Cycle kind events) k
+    FirstWrongCover (Cycle kind events) k [] = HasWrongCoverRoot (Cycle kind events) k
     FirstWrongCover (Cycle kind events) k (number ∷ path) = ⊥
-    FirstWrongCover (Known number) k [] = HasWrongRoot (Known number) k
+    FirstWrongCover (Known number) k [] = HasWrongCoverRoot (Known number) k
     FirstWrongCover (Known number) k (child ∷ path) = ⊥
 
     -- the child of this number has the first wrong node, at this path from it
-    pub FirstWrongChild : Covers → List Sketch → ℕ → List ℕ → Type 0
-    FirstWrongChild NoCover ks number path = ⊥
-    FirstWrongChild (MoreCovers tree trees) [] number path = ⊥
-    FirstWrongChild (MoreCovers tree trees) (k ∷ ks) zero path = FirstWrongCover tree k path
-    FirstWrongChild (MoreCovers tree trees) (k ∷ ks) (suc number) path = IsValidCover q mode outcomes tree k × FirstWrongChild trees ks number path
+    pub FirstWrongCoverChild : Covers → List Sketch → ℕ → List ℕ → Type 0
+    FirstWrongCoverChild NoCover ks number path = ⊥
+    FirstWrongCoverChild (MoreCovers tree trees) [] number path = ⊥
+    FirstWrongCoverChild (MoreCovers tree trees) (k ∷ ks) zero path = FirstWrongCover tree k path
+    FirstWrongCoverChild (MoreCovers tree trees) (k ∷ ks) (suc number) path = IsValidCover q mode outcomes tree k × FirstWrongCoverChild trees ks number path

@@ -48,7 +48,7 @@ module _ (shown : Shown) (outcomes : List Outcome) (s : Parts) where
 
   abbrev pub IsWrongChild : List Cover → List Choice → ℕ → List ℕ → Type 0
   IsWrongChild trees choices number path =
-      covers.FirstWrongChild (asked s.program shown) (mode_in s) outcomes (covers_of trees) (map (after (sketch_of s)) choices) number path
+      covers.FirstWrongCoverChild (asked s.program shown) (mode_in s) outcomes (covers_of trees) (map (after (sketch_of s)) choices) number path
 
 -- what was found are these choices, and they are as many as this
 pub record AreSoMany (found : Option (Vec Choice)) (count : ℕ) (choices : Vec Choice) : Type 0 where

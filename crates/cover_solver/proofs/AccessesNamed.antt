@@ -7,7 +7,7 @@ use Rattle.exec_axioms.specs.Known.{IsAccess}
 use Rattle.cert_forest.specs.declared.tree.AccessId.{AccessId}
 use Rattle.tree_laws.specs.CoverTrees.{event_of}
 use Rattle.tree_laws.proofs.Lists.{none_here, first_or_later, first_is_here, later_is_here}
-use Rattle.cover_solver.specs.Accesses.{IsOfThread, Names}
+use Rattle.cover_solver.specs.Accesses.{IsOfThread, NamesEvent}
 
 -- an access is no initial write
 pub of_thread : (s : Parts) (e : Event) → IsAccess s e → IsOfThread e
@@ -15,7 +15,7 @@ of_thread s (Initial l) h = h
 of_thread s (At t i) h = tt
 
 -- an event of a list is named by one of the accesses that name the list
-pub named : (accesses : List AccessId) (e : Event) → Contains (map event_of accesses) e → Names accesses e
+pub named : (accesses : List AccessId) (e : Event) → Contains (map event_of accesses) e → NamesEvent accesses e
 named [] e here = absurd (none_here e here)
 named (a ∷ rest) e here = elim (first_or_later (event_of a) (map event_of rest) e here) [
   | inl is ↦ (a, first_is_here a rest, is)

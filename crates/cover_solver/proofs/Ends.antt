@@ -10,7 +10,7 @@ use Rattle.exec_axioms.specs.Parts.{Parts, mode_in, sketch_of, access_in}
 use Rattle.exec_axioms.specs.Completions.{MustEnd, MustEndSo}
 use Rattle.exec_axioms.specs.Endings.{MayBeLast}
 use Rattle.run_maker.specs.declared.run.MadeRun.{MadeRun}
-use Rattle.run_maker.specs.Complete.{IsRunOf}
+use Rattle.run_maker.specs.Complete.{IsMadeRun}
 use Rattle.tree_laws.specs.CoverTrees.{MustEndAsNumber}
 use Rattle.cover_solver.specs.Runs.{IsShownRunOf}
 use Rattle.cover_solver.specs.Covers.{IsEndNotListed}
@@ -36,7 +36,7 @@ shown_end s shown o must = record {
         must.memory l v e h w last ∙ sym (ap (shown_value shown l) there ∙ twice (shows_location shown l) (slice_index o.memory l))
 
 -- the run of a sketch, with what is shown of its outcome
-pub shown_run_of : (s : Parts) (shown : Shown) (run made : MadeRun) → IsRunOf s run.labels.items run.outcome → made ≡ record run { outcome = show shown run.outcome } → IsShownRunOf s shown made
+pub shown_run_of : (s : Parts) (shown : Shown) (run made : MadeRun) → IsMadeRun s run.labels.items run.outcome → made ≡ record run { outcome = show shown run.outcome } → IsShownRunOf s shown made
 shown_run_of s shown run made is same = subst (IsShownRunOf s shown) (sym same) (record {
   is_run = (run.outcome, is.is_run, refl);
   must_end = shown_end s shown run.outcome (is.must_end shown);

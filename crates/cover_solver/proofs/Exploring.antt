@@ -28,7 +28,7 @@ use Rattle.cover_solver.specs.declared.choices_left.OpenChoice.{OpenChoice}
 use Rattle.cover_solver.specs.declared.choices_left.OpenChoice.TheVariants.{Value, Source, Order}
 use Rattle.cover_solver.specs.declared.found.Found.{Found}
 use Rattle.cover_solver.specs.Choices.{IsOpen, AreChoicesOf}
-use Rattle.cover_solver.specs.Found.{IsInOrder, HasRuns, Keeps}
+use Rattle.cover_solver.specs.Found.{AscendWithRuns, HasRunOfEach, Keeps}
 use Rattle.cover_solver.specs.Explored.{Grows, IsListed, Explores}
 use Rattle.cover_solver.specs.Covers.{IsLeafAt}
 use Rattle.cover_solver.specs.Runs.{IsShownRunOf}
@@ -39,7 +39,7 @@ pub forward_in : (s : Parts) → IsLawful s → JumpForward s.program.threads
 forward_in s lawful = lawful.within.shared.forward_jumps
 
 -- nothing new
-pub grows_none : (s : Parts) (shown : Shown) (found : Found) → IsInOrder found → Grows s shown found found
+pub grows_none : (s : Parts) (shown : Shown) (found : Found) → AscendWithRuns found → Grows s shown found found
 grows_none s shown found in_order = record { in_order = in_order; keeps = λ o here. here; runs = λ are. are }
 
 -- one search after another
@@ -55,7 +55,7 @@ pub listed_still : (s : Parts) (shown : Shown) (old new : List Outcome) (k : Ske
 listed_still s shown old new k keeps listed c is = (let (o, here, has) = listed c is in (o, keeps o here, has))
 
 -- a leaf closes a sketch
-pub closed_by : (s : Parts) (shown : Shown) (found : Found) (tree : Cover) → IsLawful s → IsInOrder found → IsLeafAt s shown found.outcomes.items tree → Explores s shown found found
+pub closed_by : (s : Parts) (shown : Shown) (found : Found) (tree : Cover) → IsLawful s → AscendWithRuns found → IsLeafAt s shown found.outcomes.items tree → Explores s shown found found
 closed_by s shown found tree lawful in_order leaf = record {
   grows = grows_none s shown found in_order;
   listed = valid_covers (asked s.program shown) (mode_in s) found.outcomes.items tree (sketch_of s) (forward_in s lawful) lawful.is_sketch leaf.valid;
@@ -116,15 +116,15 @@ module _ (s next : Parts) (shown : Shown) (c : Choice) (old new : Found) (same :
   }
     where
       HasRunsOf : Listing → Mode → Type 0
-      HasRunsOf p mode = HasRuns (asked p shown) mode old → HasRuns (asked p shown) mode new
+      HasRunsOf p mode = HasRunOfEach (asked p shown) mode old → HasRunOfEach (asked p shown) mode new
 
   pub listed_after : IsListed s shown new.outcomes.items (after (sketch_of s) c)
   listed_after = moved (λ p mode k. IsCovered (asked p shown) mode new.outcomes.items k) s next c same moves explores.listed
 
 -- an outcome is put to those found, with its run
-pub added : {E : Type 0} (s : Parts) (shown : Shown) (old new : Found) (run : MadeRun) (r : Result (Unit {0}) E) → IsLawful s → IsShownRunOf s shown run → OnOk r (IsInOrder new) →
+pub added : {E : Type 0} (s : Parts) (shown : Shown) (old new : Found) (run : MadeRun) (r : Result (Unit {0}) E) → IsLawful s → IsShownRunOf s shown run → OnOk r (AscendWithRuns new) →
     OnOk r (Contains new.outcomes.items run.outcome) → OnOk r (Keeps old.outcomes.items new.outcomes.items) →
-    OnOk r ((q : Question) (mode : Mode) → HasRuns q mode old → IsShownRun q mode run.labels.items run.outcome → HasRuns q mode new) → OnOk r (Explores s shown old new)
+    OnOk r ((q : Question) (mode : Mode) → HasRunOfEach q mode old → IsShownRun q mode run.labels.items run.outcome → HasRunOfEach q mode new) → OnOk r (Explores s shown old new)
 added s shown old new run (Ok v) lawful is in_order has keeps runs = record {
   grows = record { in_order = in_order; keeps = keeps; runs = λ are. runs (asked s.program shown) (mode_in s) are is.is_run };
   listed = listed_end s shown new.outcomes.items run.outcome lawful is.must_end has;

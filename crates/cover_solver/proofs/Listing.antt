@@ -18,7 +18,7 @@ use Rattle.tree_laws.proofs.ListedOutcomes.{listed, allowed_is_shown}
 use Rattle.cover_judge.proofs.SketchesAfter.{first_sketch}
 use Rattle.cert_forest.specs.Certificates.{labels_of}
 use Rattle.cover_solver.specs.declared.found.Found.{Found}
-use Rattle.cover_solver.specs.Found.{AreRunsOf, HasRuns}
+use Rattle.cover_solver.specs.Found.{AreRunsOf, HasRunOfEach}
 use Rattle.cover_solver.specs.Explored.{Grows, IsListed}
 
 -- what stands beside a value of the second list
@@ -50,8 +50,8 @@ covered_first p mode s shown outcomes same listed =
 
 -- what has grown from nothing has a run of each outcome
 pub runs_first : (p : Listing) (mode : own.Mode) (s : Parts) (shown : Shown) (old new : Found) → s ≡ first_parts p mode → old.outcomes.items ≡ [] → old.runs.items ≡ [] → Grows s shown old new →
-    HasRuns (asked p shown) (machine_mode p mode) new
+    HasRunOfEach (asked p shown) (machine_mode p mode) new
 runs_first p mode s shown old new same no_outcomes no_runs grows =
-    subst (λ (n : Parts). HasRuns (asked n.program shown) (mode_in n) new) same
+    subst (λ (n : Parts). HasRunOfEach (asked n.program shown) (mode_in n) new) same
     (grows.runs (subst (λ os. AreRunsOf (asked s.program shown) (mode_in s) (labels_of old.runs.items) os) (sym no_outcomes)
     (subst (λ rs. AreRunsOf (asked s.program shown) (mode_in s) (labels_of rs) []) (sym no_runs) tt)))

@@ -14,10 +14,10 @@ use Rattle.tree_laws.specs.CoverTrees.{event_of}
 use Rattle.tree_laws.proofs.Lists.{first_is_here, later_is_here}
 use Rattle.cover_solver.specs.Covers.{IsNeat}
 
-small_one : (a : AccessId) → HasSmallNumbers (event_of a) → limits.IsAccess a
+small_one : (a : AccessId) → HasSmallNumbers (event_of a) → limits.IsAccessId a
 small_one a small = ((let h = small.0 in omega arith), (let h = small.1 in omega arith))
 
-all_small : (accesses : List AccessId) → ((e : Event) → Contains (map event_of accesses) e → HasSmallNumbers e) → AllByRecursion limits.IsAccess accesses
+all_small : (accesses : List AccessId) → ((e : Event) → Contains (map event_of accesses) e → HasSmallNumbers e) → AllByRecursion limits.IsAccessId accesses
 all_small [] small = tt
 all_small (a ∷ rest) small = (
   small_one a (small (event_of a) (first_is_here (event_of a) (map event_of rest))),

@@ -30,7 +30,7 @@ use Rattle.cover_solver.specs.declared.choices_left.OpenChoice.{OpenChoice}
 use Rattle.cover_solver.specs.declared.choices_left.OpenChoice.TheVariants as left
 use Rattle.cover_solver.specs.declared.fault.Stop.{Stop}
 use Rattle.cover_solver.specs.Choices.{IsOpen, AreChoicesOf}
-use Rattle.cover_solver.specs.Covers.{IsNeat, AreNeat, IsValidAt, IsLeafAt, IsCoverAt, IsCoverAfter, AreCoversAfter, IsWholeCover, node_of, IsArity, StopIs}
+use Rattle.cover_solver.specs.Covers.{IsNeat, AreNeat, IsValidAt, IsLeafAt, IsCoverAt, IsCoverAfter, AreCoversAfter, IsWholeCover, tree_over, IsArity, StopIs}
 use Rattle.cover_solver.proofs.Exploring.{counted_after}
 
 map_map : {A B C : Type 0} (f : B → C) (g : A → B) (xs : List A) → map f (map g xs) ≡ map (λ x. f (g x)) xs
@@ -49,7 +49,7 @@ counted [] = refl
 counted (tree ∷ trees) = ap suc (counted trees)
 
 -- an access of a lawful sketch has the numbers of one in a certificate
-named_small : (s : Parts) (a : AccessId) → IsLawful s → IsAccess s (event_of a) → limits.IsAccess a
+named_small : (s : Parts) (a : AccessId) → IsLawful s → IsAccess s (event_of a) → limits.IsAccessId a
 named_small s a lawful is = (let small = event_small s lawful (event_of a) is in ((let h = small.0 in omega arith), (let h = small.1 in omega arith)))
 
 module _ (s : Parts) (shown : Shown) (outcomes : List Outcome) (lawful : IsLawful s) where
@@ -119,7 +119,7 @@ module _ (s : Parts) (shown : Shown) (outcomes : List Outcome) (lawful : IsLawfu
   }
 
   two_trees : (first second : AccessId) (trees : List Cover) → MayFollow s (event_of first) (event_of second) →
-      AreCoversAfter s shown outcomes (choice.Order first second ∷ choice.Order second first ∷ []) trees → IsCoverAt s shown outcomes (node_of (left.Order first second) trees)
+      AreCoversAfter s shown outcomes (choice.Order first second ∷ choice.Order second first ∷ []) trees → IsCoverAt s shown outcomes (tree_over (left.Order first second) trees)
   two_trees first second [] may covers = absurd covers.valid
   two_trees first second (one ∷ []) may covers = absurd covers.valid.1
   two_trees first second (one ∷ (other ∷ [])) may covers = order_cover first second one other may covers
@@ -127,7 +127,7 @@ module _ (s : Parts) (shown : Shown) (outcomes : List Outcome) (lawful : IsLawfu
 
   -- over the trees for each choice
   pub node_cover : (next : OpenChoice) (choices : List Choice) (trees : List Cover) → HaveSixRegisters s.program.threads → IsOpen s next → AreChoicesOf s next choices → AreCoversAfter s shown outcomes choices trees →
-      IsCoverAt s shown outcomes (node_of next trees)
+      IsCoverAt s shown outcomes (tree_over next trees)
   node_cover (left.Value t) choices trees six is_open are covers = value_cover t choices trees six is_open are covers
   node_cover (left.Source read) choices trees six is_open are covers = source_cover read choices trees (read_there s (event_of read) is_open.is_read) are covers
   node_cover (left.Order first second) choices trees six is_open are covers = two_trees first second trees is_open (subst (λ cs. AreCoversAfter s shown outcomes cs trees) are covers)

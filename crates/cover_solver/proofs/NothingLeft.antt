@@ -20,7 +20,7 @@ use Rattle.cover_solver.specs.declared.choices_left.OpenChoice.{OpenChoice}
 use Rattle.cert_forest.specs.declared.tree.AccessId.{AccessId}
 use Rattle.tree_laws.specs.CoverTrees.{event_of}
 use Rattle.cover_solver.specs.Accesses.{HasAccesses}
-use Rattle.cover_solver.specs.ChoicesLeft.{LeavesNone, HasEachSource, IsInOrder, IsInOrderWithEach, IsEachInOrder}
+use Rattle.cover_solver.specs.ChoicesLeft.{LeavesNone, HasEachSource, AreWritesInOrder, IsInOrderWithEach, IsEachInOrder}
 
 -- a list with one more at its end is not empty
 pub pushed_some : {A : Type 0} (xs ys : List A) (x : A) → ys ≡ xs ++ x ∷ [] → ys ≡ [] → ⊥
@@ -60,14 +60,14 @@ later_found xs i j d h l = (
 
 -- the events so far are in order with all later ones, and so is the next one
 pub each_later : (s : Parts) (xs : List AccessId) (i : ℕ) (first : AccessId) → i < length xs → ((d : AccessId) → get_or xs i d ≡ first) →
-    ((a b : ℕ) (d : AccessId) → a < i → a < b → b < length xs → IsInOrder s (get_or xs a d) (get_or xs b d)) → IsInOrderWithEach s first (drop (i + 1) xs) →
-    (a b : ℕ) (d : AccessId) → a < i + 1 → a < b → b < length xs → IsInOrder s (get_or xs a d) (get_or xs b d)
+    ((a b : ℕ) (d : AccessId) → a < i → a < b → b < length xs → AreWritesInOrder s (get_or xs a d) (get_or xs b d)) → IsInOrderWithEach s first (drop (i + 1) xs) →
+    (a b : ℕ) (d : AccessId) → a < i + 1 → a < b → b < length xs → AreWritesInOrder s (get_or xs a d) (get_or xs b d)
 each_later s xs i first h is below here a b d l m n = elim (cases_lt a i) [
   | inl less ↦ below a b d less m n
   | inr more ↦ (
       let same : a ≡ i = omega arith in
-      subst (λ k. IsInOrder s (get_or xs k d) (get_or xs b d)) (sym same)
-      (subst (λ e. IsInOrder s e (get_or xs b d)) (sym (is d)) (here (get_or xs b d) (later_found xs i b d (omega arith) n))))
+      subst (λ k. AreWritesInOrder s (get_or xs k d) (get_or xs b d)) (sym same)
+      (subst (λ e. AreWritesInOrder s e (get_or xs b d)) (sym (is d)) (here (get_or xs b d) (later_found xs i b d (omega arith) n))))
 ]
 
 -- the other way round

@@ -14,7 +14,7 @@ use Rattle.tso_machine.specs.declared.label.Label.{Label}
 use Rattle.tso_machine.specs.declared.label.Model.TheVariants as models
 use Rattle.tso_machine.specs.declared.ended.ReplayFault.{ReplayFault}
 use Rattle.tso_machine.specs.declared.ended.ReplayFault.TheVariants as replays
-use Rattle.tso_machine.specs.Faults.{FaultIs}
+use Rattle.tso_machine.specs.Faults.{ReplayFaultIs}
 use Rattle.tso_machine.proofs.Refused.{no_fault}
 use Rattle.tree_laws.proofs.Lists.{found_is_here}
 use Rattle.cover_solver.specs.declared.fault.ForeignFault.TheVariants as foreign
@@ -26,7 +26,7 @@ use Rattle.fence_laws.proofs.GapsAvoided.{empty_fences_nothing, fenced_runs_avoi
 use Rattle.cert_forest.specs.Trees.{Cover}
 use Rattle.tree_laws.proofs.ListedOutcomes.{fenced_tree_serves}
 use Rattle.cover_solver.specs.Covers.{IsWholeCover}
-use Rattle.cover_solver.specs.Facts.{IsTable, IsListOf, IsServing}
+use Rattle.cover_solver.specs.Facts.{IsSequentialTable, IsListOf, IsServing}
 use Rattle.cover_solver.specs.Found.{AreRunsOf}
 use Rattle.tso_program.specs.Ordered.{outcome_cmp}
 use Rattle.cover_solver.specs.Ordered.{BelongsAt}
@@ -41,7 +41,7 @@ same_question q p shown program is = λ i. record { program = program i; shown =
 
 -- the table of all sequential outcomes
 pub table_is : (q : Question) (outcomes : List Outcome) (runs : List (List Label)) (tree : Cover) → IsListOf q outcomes → AreRunsOf q Sequential runs outcomes → IsWholeCover q Sequential outcomes tree →
-    IsTable (record { question = q; outcomes = outcomes; runs = runs; tree = tree })
+    IsSequentialTable (record { question = q; outcomes = outcomes; runs = runs; tree = tree })
 table_is q outcomes runs tree list are is = record { listed = list; runs = are; tree = is }
 
 -- a list of all sequential outcomes lacks no run's outcome
@@ -97,7 +97,7 @@ found_by outcomes o (Ok n) b at none is = ((λ yes. found_is_here outcomes n o a
 found_by outcomes o (Err n) b at belongs is = ((λ yes. (let no : false ≡ true = sym is ∙ yes in absurd cc)), (λ has. absurd (not_there outcomes o n belongs has)))
 
 -- what a replay that is refused says of a foreign run
-pub fault_of_foreign : (q : Question) (labels : List Label) (why : ReplayFault) → FaultIs q.program (Fenced no_gaps) labels why → ForeignFaultIs q labels (of_replay why)
+pub fault_of_foreign : (q : Question) (labels : List Label) (why : ReplayFault) → ReplayFaultIs q.program (Fenced no_gaps) labels why → ForeignFaultIs q labels (of_replay why)
 fault_of_foreign q labels (replays.NoSuchThread n) h = (h, (λ same. absurd cc))
 fault_of_foreign q labels (replays.AtEnd n) h = (h, (λ same. absurd cc))
 fault_of_foreign q labels (replays.BufferEmpty n) h = (h, (λ same. absurd cc))
@@ -105,12 +105,12 @@ fault_of_foreign q labels (replays.FenceWaits n) h = (h, (λ same. absurd cc))
 fault_of_foreign q labels (replays.NotEnded n) h = (h, (λ same. absurd cc))
 fault_of_foreign q labels replays.OutOfMemory h = tt
 
--- a foreign run is refused for want of memory alone
-pub no_fault_of_foreign : (q : Question) (labels : List Label) (why : ReplayFault) (o : Outcome) → FaultIs q.program (Fenced no_gaps) labels why → IsForeignRun q labels o → of_replay why ≡ foreign.OutOfMemory
+-- a foreign run is refused only when out of memory
+pub no_fault_of_foreign : (q : Question) (labels : List Label) (why : ReplayFault) (o : Outcome) → ReplayFaultIs q.program (Fenced no_gaps) labels why → IsForeignRun q labels o → of_replay why ≡ foreign.OutOfMemory
 no_fault_of_foreign q labels why o h run = ap of_replay (no_fault q.program (Fenced no_gaps) labels run.is_run.0 why run.is_run.1 h)
 
 -- a run with the set fenced replays with no gap fenced: nothing but out of memory refuses
 pub replays_unfenced : (q : Question) (gaps : SetOfGaps) (labels : List Label) (o : Outcome) (why : ReplayFault) → IsShownRun q (Fenced (gaps_in q.program gaps)) labels o →
-    FaultIs q.program (Fenced no_gaps) labels why → why ≡ replays.OutOfMemory
+    ReplayFaultIs q.program (Fenced no_gaps) labels why → why ≡ replays.OutOfMemory
 replays_unfenced q gaps labels o why is_run fault =
     let again = unfenced_run q gaps labels o is_run in no_fault q.program (Fenced no_gaps) labels again.0 why again.1 fault

@@ -13,9 +13,9 @@ IsOfThread (Initial l) = ⊥
 IsOfThread (At t i) = Unit {0}
 
 -- one of these is the event
-abbrev pub Names : List AccessId → Event → Type 0
-Names accesses e = (a : AccessId) × Contains accesses a × (event_of a ≡ e)
+abbrev pub NamesEvent : List AccessId → Event → Type 0
+NamesEvent accesses e = (a : AccessId) × Contains accesses a × (event_of a ≡ e)
 
 -- each access of the sketch is one of these
 abbrev pub HasAccesses : Parts → List AccessId → Type 0
-HasAccesses s accesses = (e : Event) → IsAccess s e → Names accesses e
+HasAccesses s accesses = (e : Event) → IsAccess s e → NamesEvent accesses e

@@ -17,13 +17,13 @@ abbrev pub HasEachSource : Parts → List AccessId → Type 0
 HasEachSource s accesses = (a : AccessId) → Contains accesses a → HasItsSource s (event_of a)
 
 -- the two are in order, if both write to one location
-abbrev pub IsInOrder : Parts → AccessId → AccessId → Type 0
-IsInOrder s a b = IsOrderedWith s (event_of a) (event_of b)
+abbrev pub AreWritesInOrder : Parts → AccessId → AccessId → Type 0
+AreWritesInOrder s a b = IsOrderedWith s (event_of a) (event_of b)
 
 -- the access is in order with each of the others
 abbrev pub IsInOrderWithEach : Parts → AccessId → List AccessId → Type 0
-IsInOrderWithEach s a others = (b : AccessId) → Contains others b → IsInOrder s a b
+IsInOrderWithEach s a others = (b : AccessId) → Contains others b → AreWritesInOrder s a b
 
 -- each of the accesses is so with each later one
 abbrev pub IsEachInOrder : Parts → List AccessId → Type 0
-IsEachInOrder s accesses = AllPairs (IsInOrder s) accesses
+IsEachInOrder s accesses = AllPairs (AreWritesInOrder s) accesses

@@ -90,12 +90,12 @@ AreChildren s shown outcomes choices (children.Each trees) = AreCoversAfter s sh
 AreChildren s shown outcomes choices (children.One tree) = IsCoverAt s shown outcomes (cover tree)
 
 -- the node over these trees
-abbrev pub node_of : OpenChoice → List Cover → Cover
-node_of (left.Value t) trees = Value t (covers_of trees)
-node_of (left.Source read) trees = Source read (covers_of trees)
-node_of (left.Order first second) [] = Known 0
-node_of (left.Order first second) (one ∷ []) = Known 0
-node_of (left.Order first second) (one ∷ (other ∷ trees)) = Order first second one other
+abbrev pub tree_over : OpenChoice → List Cover → Cover
+tree_over (left.Value t) trees = Value t (covers_of trees)
+tree_over (left.Source read) trees = Source read (covers_of trees)
+tree_over (left.Order first second) [] = Known 0
+tree_over (left.Order first second) (one ∷ []) = Known 0
+tree_over (left.Order first second) (one ∷ (other ∷ trees)) = Order first second one other
 
 -- an order has two trees
 abbrev pub IsArity : OpenChoice → ℕ → Type 0

@@ -9,13 +9,13 @@ use Rattle.tree_laws.specs.CoverTrees.{IsCovered}
 use Rattle.cover_judge.specs.declared.choice.Choice.{Choice}
 use Rattle.cover_judge.specs.Choices.{after}
 use Rattle.cover_solver.specs.declared.found.Found.{Found}
-use Rattle.cover_solver.specs.Found.{IsInOrder, HasRuns, Keeps}
+use Rattle.cover_solver.specs.Found.{AscendWithRuns, HasRunOfEach, Keeps}
 
 -- the list grows by outcomes of the sketch's machine
 pub record Grows (s : Parts) (shown : Shown) (old new : Found) : Type 0 where
-  pub in_order : IsInOrder new
+  pub in_order : AscendWithRuns new
   pub keeps : Keeps old.outcomes.items new.outcomes.items
-  pub runs : HasRuns (asked s.program shown) (mode_in s) old → HasRuns (asked s.program shown) (mode_in s) new
+  pub runs : HasRunOfEach (asked s.program shown) (mode_in s) old → HasRunOfEach (asked s.program shown) (mode_in s) new
 
 -- each consistent completion of this has an outcome of the list, as far as it is shown
 abbrev pub IsListed : Parts → Shown → List Outcome → Sketch → Type 0

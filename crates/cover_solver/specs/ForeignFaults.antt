@@ -6,7 +6,7 @@ use Rattle.tso_program.specs.Shown.{Question}
 use Rattle.tso_machine.specs.declared.label.Label.{Label}
 use Rattle.tso_machine.specs.declared.ended.ReplayFault.{ReplayFault}
 use Rattle.tso_machine.specs.declared.ended.ReplayFault.TheVariants as replays
-use Rattle.tso_machine.specs.Faults.{FaultIs}
+use Rattle.tso_machine.specs.Faults.{ReplayFaultIs}
 use Rattle.tso_machine.specs.Machine.{Fenced, no_gaps}
 use Rattle.tso_machine.specs.Outcomes.{IsShownRun, IsSequentialOutcome}
 use Rattle.cover_solver.specs.declared.fault.ForeignFault.{ForeignFault}
@@ -23,7 +23,7 @@ of_replay (replays.NotEnded n) = Replay (replays.NotEnded n)
 
 -- a fault of the replay other than out of memory
 abbrev pub IsReplayFault : Listing → List Label → ReplayFault → Type 0
-IsReplayFault p labels fault = FaultIs p (Fenced no_gaps) labels fault × (fault ≡ replays.OutOfMemory → ⊥)
+IsReplayFault p labels fault = ReplayFaultIs p (Fenced no_gaps) labels fault × (fault ≡ replays.OutOfMemory → ⊥)
 
 -- the labels are a run with a sequential outcome, as far as it is shown
 abbrev pub IsSequentialRun : Question → List Label → Type 0

@@ -11,7 +11,7 @@ use Rattle.cover_solver.specs.declared.found.Found.{Found}
 use Rattle.cover_solver.specs.Ordered.{Ascend}
 
 -- the outcomes ascend, and there are as many runs
-pub record IsInOrder (found : Found) : Type 0 where
+pub record AscendWithRuns (found : Found) : Type 0 where
   pub ascend : Ascend found.outcomes.items
   pub as_many : length found.runs.items ≡ length found.outcomes.items
 
@@ -20,8 +20,8 @@ abbrev pub AreRunsOf : Question → Mode → List (List Label) → List Outcome 
 AreRunsOf q mode runs outcomes = AllZip (IsShownRun q mode) runs outcomes
 
 -- each outcome is what is shown of that of its run
-abbrev pub HasRuns : Question → Mode → Found → Type 0
-HasRuns q mode found = AreRunsOf q mode (labels_of found.runs.items) found.outcomes.items
+abbrev pub HasRunOfEach : Question → Mode → Found → Type 0
+HasRunOfEach q mode found = AreRunsOf q mode (labels_of found.runs.items) found.outcomes.items
 
 -- no outcome is lost
 abbrev pub Keeps : List Outcome → List Outcome → Type 0

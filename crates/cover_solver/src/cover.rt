@@ -5,7 +5,7 @@ ghost use Rattle.exec_axioms.specs.Parts.{machine_mode, mode_in};
 ghost use Rattle.cert_forest.specs.Views.{cover};
 ghost use Rattle.cover_judge.specs.Choices.{MayChooseEach};
 ghost use Rattle.cover_solver.specs.Ordered.{Ascend};
-ghost use Rattle.cover_solver.specs.Covers.{IsCoverAt, IsValidAt, AreChildren, IsWholeCover, node_of, IsArity, StopIs};
+ghost use Rattle.cover_solver.specs.Covers.{IsCoverAt, IsValidAt, AreChildren, IsWholeCover, tree_over, IsArity, StopIs};
 
 use crate::branch::{choices_of, next_choice};
 use crate::choices_left::OpenChoice;
@@ -127,7 +127,7 @@ fn node_over(
     children: Vec<CoverTree>,
 ) -> Result<CoverTree, AllocError>
     requires { IsArity next (length children.items) }
-    ensures { IfOk result (λ tree. cover tree ≡ node_of next (map cover children.items)) }
+    ensures { IfOk result (λ tree. cover tree ≡ tree_over next (map cover children.items)) }
 {
     match next {
         OpenChoice::Value(thread) => Ok(CoverTree::Value { thread, children }),

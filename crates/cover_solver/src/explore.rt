@@ -7,7 +7,7 @@ ghost use Rattle.exec_axioms.specs.Known.{HasNoCycle};
 ghost use Rattle.exec_axioms.specs.Parts.{machine_mode};
 ghost use Rattle.run_maker.specs.Complete.{IsComplete};
 ghost use Rattle.cover_judge.specs.Choices.{MayChooseEach};
-ghost use Rattle.cover_solver.specs.Found.{IsInOrder, HasRuns};
+ghost use Rattle.cover_solver.specs.Found.{AscendWithRuns, HasRunOfEach};
 ghost use Rattle.cover_solver.specs.Explored.{Explores, ExploresEach};
 
 use crate::branch::{choices_of, next_choice};
@@ -26,8 +26,8 @@ pub(crate) fn explore_all(
     shown: &Shown,
     mode: Mode,
 ) -> Result<Found, AllocError>
-    ensures in_order { IfOk result IsInOrder }
-    ensures runs { IfOk result (HasRuns (asked program.now shown.now) (machine_mode program.now mode)) }
+    ensures in_order { IfOk result AscendWithRuns }
+    ensures runs { IfOk result (HasRunOfEach (asked program.now shown.now) (machine_mode program.now mode)) }
     ensures exact { IfOk result (λ found. (o : Outcome) → Contains found.outcomes.items o ↔ AllowsShown (asked program.now shown.now) (machine_mode program.now mode) o) }
 {
     // For the proof alone: what holds of every program is known where its threads are read.
@@ -46,7 +46,7 @@ fn explore(
     shown: &Shown,
     found: &mut Found,
 ) -> Result<(), AllocError>
-    requires { IsInOrder found.old }
+    requires { AscendWithRuns found.old }
     ensures { OnOk result (Explores sketch.now shown.now found.old found.new) }
 {
     // For the proof alone: what holds of every sketch is known where its program is read.
@@ -72,7 +72,7 @@ fn explore_each(
     choices: &[Choice],
     found: &mut Found,
 ) -> Result<(), AllocError>
-    requires in_order { IsInOrder found.old }
+    requires in_order { AscendWithRuns found.old }
     requires may { MayChooseEach sketch.now choices.now }
     ensures { OnOk result (ExploresEach sketch.now shown.now choices.now found.old found.new) }
 {
@@ -92,7 +92,7 @@ fn is_closed(
     shown: &Shown,
     found: &Found,
 ) -> Result<bool, AllocError>
-    requires { IsInOrder found.now }
+    requires { AscendWithRuns found.now }
     ensures closed { IfOk result (λ closed. IsTrue closed → Explores sketch.now shown.now found.now found.now) }
     ensures acyclic { IfOk result (λ closed. closed ≡ false → HasNoCycle sketch.now) }
 {
@@ -111,7 +111,7 @@ fn add_end(
     shown: &Shown,
     found: &mut Found,
 ) -> Result<(), AllocError>
-    requires in_order { IsInOrder found.old }
+    requires in_order { AscendWithRuns found.old }
     requires complete { IsComplete sketch.now }
     requires acyclic { HasNoCycle sketch.now }
     ensures { OnOk result (Explores sketch.now shown.now found.old found.new) }

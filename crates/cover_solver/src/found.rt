@@ -3,7 +3,7 @@ ghost use Rattle.std.specs.Prelude.{◌≡◌, OnOk, Contains, []};
 ghost use Rattle.tso_program.specs.Shown.{Question};
 ghost use Rattle.tso_machine.specs.Machine.{Mode};
 ghost use Rattle.tso_machine.specs.Outcomes.{IsShownRun};
-ghost use Rattle.cover_solver.specs.Found.{IsInOrder, HasRuns, Keeps};
+ghost use Rattle.cover_solver.specs.Found.{AscendWithRuns, HasRunOfEach, Keeps};
 
 use crate::ordered::place_of;
 use std::alloc::{AllocError, Global};
@@ -31,11 +31,11 @@ impl Found {
 
     /// Puts an outcome with its run to its place, if it is new.
     pub(crate) fn add(&mut self, outcome: Outcome, labels: Vec<Label>) -> Result<(), AllocError>
-        requires { IsInOrder self.old }
-        ensures in_order { OnOk result (IsInOrder self.new) }
+        requires { AscendWithRuns self.old }
+        ensures in_order { OnOk result (AscendWithRuns self.new) }
         ensures has { OnOk result (Contains self.new.outcomes.items outcome) }
         ensures keeps { OnOk result (Keeps self.old.outcomes.items self.new.outcomes.items) }
-        ensures runs { OnOk result ((q : Question) (mode : Mode) → HasRuns q mode self.old → IsShownRun q mode labels.items outcome → HasRuns q mode self.new) }
+        ensures runs { OnOk result ((q : Question) (mode : Mode) → HasRunOfEach q mode self.old → IsShownRun q mode labels.items outcome → HasRunOfEach q mode self.new) }
     {
         match place_of(&self.outcomes, &outcome) {
             Ok(_) => Ok(()),

@@ -6,7 +6,7 @@ ghost use Rattle.tso_machine.specs.Machine.{Fenced};
 ghost use Rattle.tso_machine.specs.Outcomes.{IsShownRun, AreGapsOf};
 ghost use Rattle.cert_forest.specs.Views.{cover};
 ghost use Rattle.cover_solver.specs.Covers.{IsWholeCover};
-ghost use Rattle.cover_solver.specs.Verdicts.{IsVerdict};
+ghost use Rattle.cover_solver.specs.Verdicts.{IsVerdictOf};
 
 use crate::cover::cover_all;
 use crate::fault::{SolveFault, Stop};
@@ -42,7 +42,7 @@ pub trait Oracle: Sync {
 
     fn ask(&self, set: &GapSet) -> Result<Verdict, SolveFault>
         requires { AreGapsOf (question self.now).program set.now }
-        ensures verdict { IfOk result (IsVerdict (question self.now) set.now) }
+        ensures verdict { IfOk result (IsVerdictOf (question self.now) set.now) }
         ensures fault { IfErr result (λ fault. fault ≡ SolveFault.NoRun → may_lack_runs self.now ≡ true) };
 }
 
@@ -90,7 +90,7 @@ impl Solver {
     }
 
     fn searched(&self, set: &GapSet) -> Result<Verdict, AllocError>
-        ensures { IfOk result (IsVerdict self.now.question set.now) }
+        ensures { IfOk result (IsVerdictOf self.now.question set.now) }
     {
         match cover_all(
             self.alloc,
@@ -108,7 +108,7 @@ impl Solver {
     /// The set serves, as the tree shows.
     fn serves(&self, set: &GapSet, tree: CoverTree) -> Result<Verdict, AllocError>
         requires { IsWholeCover self.now.question (Fenced (gaps_in self.now.question.program set.now)) self.now.outcomes (cover tree) }
-        ensures { IfOk result (IsVerdict self.now.question set.now) }
+        ensures { IfOk result (IsVerdictOf self.now.question set.now) }
     {
         // For the proof alone: what holds of every program is known where its threads are read.
         let _ = self.program.threads();
@@ -126,7 +126,7 @@ impl Solver {
     fn foreign(&self, set: &GapSet, run: MadeRun) -> Result<Verdict, AllocError>
         requires is_run { IsShownRun self.now.question (Fenced (gaps_in self.now.question.program set.now)) run.labels.items run.outcome }
         requires new { Contains self.now.outcomes run.outcome → ⊥ }
-        ensures { IfOk result (IsVerdict self.now.question set.now) }
+        ensures { IfOk result (IsVerdictOf self.now.question set.now) }
     {
         match replay_unfenced(self.alloc, &self.program, &self.shown, &run.labels) {
             Ok(ended) => {

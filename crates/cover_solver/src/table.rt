@@ -6,7 +6,7 @@ ghost use Rattle.tso_machine.specs.Machine.{Sequential};
 ghost use Rattle.cert_forest.specs.Certificates.{labels_of};
 ghost use Rattle.cert_forest.specs.Views.{cover};
 ghost use Rattle.cover_solver.specs.Covers.{IsWholeCover};
-ghost use Rattle.cover_solver.specs.Facts.{IsTable, IsListOf};
+ghost use Rattle.cover_solver.specs.Facts.{IsSequentialTable, IsListOf};
 
 use crate::cover::cover_all;
 use crate::explore::explore_all;
@@ -43,19 +43,19 @@ impl Model for SeqTable {
 
     ghost use Rattle.cert_forest.specs.Certificates.{labels_of};
     ghost use Rattle.cert_forest.specs.Views.{cover};
-    ghost use Rattle.cover_solver.specs.Facts.{IsTable};
+    ghost use Rattle.cover_solver.specs.Facts.{IsSequentialTable};
     ghost use Rattle.tso_program.specs.Shown.{asked};
 
     ghost view = { λ t. record { question = asked t.program t.shown; outcomes = t.outcomes.items; runs = labels_of t.runs.items; tree = cover t.tree } };
 
-    ghost invariant = { λ t. IsTable (record { question = asked t.program t.shown; outcomes = t.outcomes.items; runs = labels_of t.runs.items; tree = cover t.tree }) };
+    ghost invariant = { λ t. IsSequentialTable (record { question = asked t.program t.shown; outcomes = t.outcomes.items; runs = labels_of t.runs.items; tree = cover t.tree }) };
 }
 
 /// The sequential outcomes of a program, as far as they are shown. They are found first; the tree is then
 /// made over the whole list.
 pub fn sequential(alloc: Global, program: &Program, shown: &Shown) -> Result<SeqTable, SolveFault>
     ensures question { IfOk result (λ table. table.question ≡ asked program.now shown.now) }
-    ensures table { IfOk result IsTable }
+    ensures table { IfOk result IsSequentialTable }
     ensures fault { IfErr result (λ fault. fault ≡ SolveFault.OutOfMemory) }
 {
     // For the proof alone: what holds of every program is known where its threads are read.
@@ -92,7 +92,7 @@ impl SeqTable {
     /// The program.
     pub fn program(&self) -> &Program
         ensures value { result.now ≡ self.now.question.program }
-        ensures table { IsTable self.now }
+        ensures table { IsSequentialTable self.now }
     {
         &self.program
     }

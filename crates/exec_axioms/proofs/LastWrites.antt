@@ -126,7 +126,7 @@ module _ (s : Parts) (l : ℕ) (lawful : IsLawful s) (fs : List Event) (exact : 
       let at : m ≡ l = sym first.2 ∙ ap (λ (z : Access). z.location) (same_Some first.0 own_write.0 (sym first.1 ∙ own_write.1)) ∙ own_write.2 in
       (d, (there d w (subst (λ z. Writes (access_in s) d z w) at second) (λ q. not_second (q ∙ ap Initial (sym at))), pair_edge s e d lawful h))
 
-  -- where there is none, the initial write may be the last
+  -- if there is no such write, the initial write may be the last
   initial_last : ((e : Event) → Contains fs e → ⊥) → MayEndWith s l (slice_index s.program.memory l)
   initial_last none = (
     Initial l,

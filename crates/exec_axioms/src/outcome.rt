@@ -54,7 +54,7 @@ impl Sketch {
         Ok(Items::of(registers))
     }
 
-    /// For each location the value of a write that may be its last, 0 where there is none.
+    /// For each location the value of a write that may be its last, 0 if it has no such write.
     fn end_memory(&self) -> Result<Items<u32>, AllocError>
         ensures long { IfOk result (λ memory. length memory ≡ length self.now.program.memory) }
         ensures values { IfOk result (λ memory. (l : ℕ) → l < length memory → IsEndValue self.now l (slice_index memory l)) }

@@ -1,4 +1,4 @@
--- A run of the fenced program is a run with gaps fenced: a thread behind a fence of its own has nothing waiting until its instruction.
+-- A run of the fenced program is a run with gaps fenced: a thread after a fence of its own has nothing waiting until its instruction.
 use Rattle.std.proofs.Common.{◌≡◌, ℕ, ◌+◌, Bool, true, false, List, [], ◌∷◌, ◌++◌, ◌⊎◌, Option, Some, None, option_and_then, refl, sym, ap, ◌∙◌, subst, inl, inr}
 use Rattle.std.specs.Option.{option_map}
 use Rattle.std.proofs.lemmas.Bool.{cases_eq}
@@ -31,7 +31,7 @@ module _ (p : Listing) (gaps : Gaps) (waits : Bool) where
     pub there : instr_at p.threads u local.place ≡ Some instruction
     pub empty : NothingWaits waits buffer
 
-  -- the thread of the fenced program stands before its fence or behind it
+  -- the thread of the fenced program stands before its fence or after it
   abbrev pub Stands : ℕ → Local → List Pending → Local → Type 0
   Stands u local buffer other = (other ≡ placed (gaps u) local) ⊎ IsBetween u local buffer other
 

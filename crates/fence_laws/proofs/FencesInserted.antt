@@ -21,7 +21,7 @@ use Rattle.fence_laws.proofs.FencedActions.{placed}
 use Rattle.fence_laws.proofs.EitherMachine.{mode_with, effect, NothingWaits, made, others_keep, stands_at, flush_made, flush_makes}
 use Rattle.fence_laws.proofs.FencedSteps.{with_locals, follow, fence_step, instruction_step}
 
--- the next place, from behind the fence or from where there is none
+-- the next place, from after the fence or from where there is no fence
 pub next_place : (gap : ℕ → Bool) (k : ℕ) (b : Bool) → gap k ≡ b → (if b then place_of gap k + 1 else place_of gap k) + 1 ≡ place_of gap (k + 1)
 next_place gap k true e =
     let s : k + 1 ≡ suc k = omega arith in

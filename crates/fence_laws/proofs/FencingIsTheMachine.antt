@@ -53,7 +53,7 @@ module _ (p : Listing) (gaps : Gaps) where
       let none : instr_at (fence gaps p).threads u (place_of (gaps u) local.place) ≡ None = stops_at_none _ (placed (gaps u) local) e in
       ap (λ o. act o local) (nothing_first (gaps u) (gaps u local.place) (instr_at p.threads u local.place) (sym (instr_at_place gaps p.threads u local.place) ∙ none))
 
-  -- at its end a thread is not behind a fence of its own
+  -- at its end a thread is not between a fence of its own and the instruction after it
   ended_follow : (waits : Bool) (s : State) (locals : ℕ → Local) → HasEnded (fence gaps p) (with_locals s locals) → AllStand p gaps waits s locals → Follow p gaps waits s locals
   ended_follow waits s locals ended stand u = elim (stand u) [
     | inl stands ↦ stands

@@ -23,15 +23,15 @@ use Rattle.cert_forest.specs.Limits.{IsWithin, IsGapTo, gap_depth}
 use Rattle.tree_laws.specs.GapTrees.{root, IsValidGap}
 use Rattle.tree_laws.specs.Certificates.{IsRunOutside, IsValidCertificate, AreSequentialRuns}
 use Rattle.cert_check.specs.Claims.{claim_of}
-use Rattle.cover_solver.specs.Facts.{Table, Foreign, IsTable, IsListOf, IsServing, IsForeign}
+use Rattle.cover_solver.specs.Facts.{Table, Foreign, IsSequentialTable, IsListOf, IsServing, IsForeignValue}
 use Rattle.cover_solver.specs.Covers.{IsWholeCover}
 use Rattle.search_core.specs.States.{root_node}
 use Rattle.search_core.specs.Nodes.{region_of}
 use Rattle.search_core.specs.Work.{undecided}
-use Rattle.search_core.specs.Records.{Outcome, state_of, IsOutcome}
+use Rattle.search_core.specs.Records.{Outcome, finished_state, IsOutcome}
 use Rattle.search_core.proofs.Kept.{Facts, facts_of}
 use Rattle.search_core.proofs.Working.{few_undecided}
-use Rattle.fence_place.specs.Recorded.{AreNumbersOf, AreRunsOf, IsRecorded}
+use Rattle.fence_place.specs.Recorded.{AreNumbersOf, AreSplitRuns, IsRecorded}
 use Rattle.fence_place.specs.Proofs.{IsProof}
 use Rattle.fence_place.proofs.GapTreeValid.{valid}
 use Rattle.fence_place.proofs.GapTreeSmall.{small}
@@ -40,7 +40,7 @@ use Rattle.fence_place.proofs.ShortRuns.{short_run}
 
 -- sequential runs are short
 sequential_short : (q : Question) (runs : List (List Label)) (outcomes : List machine.Outcome) → IsWithinLimits q.program.threads q.program.memory →
-    AreSequentialRuns q runs outcomes → AllByRecursion limits.IsRun runs
+    AreSequentialRuns q runs outcomes → AllByRecursion limits.IsWrittenRun runs
 sequential_short q [] outcomes within each = tt
 sequential_short q (r ∷ rs) [] within each = absurd each
 sequential_short q (r ∷ rs) (o ∷ os) within each = (short_run q.program Sequential r each.0.0 within each.0.1, sequential_short q rs os within each.1)
@@ -48,14 +48,14 @@ sequential_short q (r ∷ rs) (o ∷ os) within each = (short_run q.program Sequ
 -- what holds of a certificate that is made from a table and a search
 pub record IsMade (t : Table) (o : Outcome) (numbers : List ℕ) (c : memory.Certificate) : Type 0 where
   pub same_shown : c.shown ≡ t.question.shown
-  pub places : limits.ArePlaces (shown_places c.shown)
+  pub places : limits.AreShownPlaces (shown_places c.shown)
   pub same_set : c.set ≡ o.served.gaps
   pub cost : c.cost ≡ total o.costs c.set
   pub seq_runs : labels_of c.seq_runs.items ≡ t.runs
   pub seq_tree : cover c.seq_tree ≡ t.tree
   pub fenced_tree : cover c.fenced_tree ≡ o.served.tree
   pub numbered : AreNumbersOf o.entries (labels_of c.runs.items) numbers
-  pub of_nodes : AreRunsOf o.entries (labels_of c.runs.items)
+  pub of_nodes : AreSplitRuns o.entries (labels_of c.runs.items)
   pub recorded : IsRecorded o.entries numbers (gap c.gap_tree) 0
   pub few_runs : length (labels_of c.runs.items) < 2 ^ 64
   pub few_seq_runs : length (labels_of c.seq_runs.items) < 2 ^ 64
@@ -64,13 +64,13 @@ pub record IsMade (t : Table) (o : Outcome) (numbers : List ℕ) (c : memory.Cer
 tree_small : (q : Question) (mode : Mode) (outcomes : List machine.Outcome) (tree : Cover) → IsWholeCover q mode outcomes tree → limits.IsCoverTo 400 tree
 tree_small q mode outcomes tree is = let shallow : limits.cover_depth tree ≤ most_choices + 1 = is.shallow in (omega arith, is.neat.numbers)
 
-module _ (t : Table) (o : Outcome) (numbers : List ℕ) (c : memory.Certificate) (table : IsTable t) (outcome : IsOutcome o) (serving : IsServing o.served) (low : c.cost ≤ 64000000)
+module _ (t : Table) (o : Outcome) (numbers : List ℕ) (c : memory.Certificate) (table : IsSequentialTable t) (outcome : IsOutcome o) (serving : IsServing o.served) (low : c.cost ≤ 64000000)
     (same : t.question ≡ o.question) (of_served : o.served.question ≡ o.question) (answer : IsTheAnswer o.question o.costs o.served.gaps) (made : IsMade t o numbers c) where
-  facts : Facts (state_of o)
-  facts = facts_of (state_of o) outcome.reached
+  facts : Facts (finished_state o)
+  facts = facts_of (finished_state o) outcome.reached
 
   -- what holds of each run of a split
-  each_run : (P : List Label → Type 0) → ((f : Foreign) → f.question ≡ o.question → IsForeign f → P f.labels) → (k : ℕ) (labels : List Label) → slice_get (labels_of c.runs.items) k ≡ Some labels → P labels
+  each_run : (P : List Label → Type 0) → ((f : Foreign) → f.question ≡ o.question → IsForeignValue f → P f.labels) → (k : ℕ) (labels : List Label) → slice_get (labels_of c.runs.items) k ≡ Some labels → P labels
   each_run P give k labels at =
       let (place, e, f, first, there, split, is) = made.of_nodes k labels at in
       let s = facts.split place e f first there split in
@@ -79,7 +79,7 @@ module _ (t : Table) (o : Outcome) (numbers : List ℕ) (c : memory.Certificate)
   foreign : All (IsRunOutside o.question t.outcomes) (labels_of c.runs.items)
   foreign k d h = each_run (IsRunOutside o.question t.outcomes) outside k (get_or (labels_of c.runs.items) k d) (slice_get-get_or (labels_of c.runs.items) k d h)
     where
-      outside : (f : Foreign) → f.question ≡ o.question → IsForeign f → IsRunOutside o.question t.outcomes f.labels
+      outside : (f : Foreign) → f.question ≡ o.question → IsForeignValue f → IsRunOutside o.question t.outcomes f.labels
       outside f of is = (
         f.outcome,
         subst (λ (q : Question). IsShownRun q (Fenced no_gaps) f.labels f.outcome) of is.foreign.is_run,
@@ -111,12 +111,12 @@ module _ (t : Table) (o : Outcome) (numbers : List ℕ) (c : memory.Certificate)
     foreign = foreign;
     fenced = fenced_tree.valid;
     least = subst (λ (g : SetOfGaps). IsValidGap o.question.program o.costs g (labels_of c.runs.items) (gap c.gap_tree) root) (sym made.same_set)
-        (valid (state_of o) facts o.served.gaps answer (labels_of c.runs.items) numbers made.numbered (gap c.gap_tree) 0 root_node made.recorded facts.root);
+        (valid (finished_state o) facts o.served.gaps answer (labels_of c.runs.items) numbers made.numbered (gap c.gap_tree) 0 root_node made.recorded facts.root);
   }
 
   gap_tree_small : IsGapTo 65 (gap c.gap_tree)
   gap_tree_small =
-      let is = small (state_of o) facts (labels_of c.runs.items) made.few_runs numbers made.numbered (gap c.gap_tree) 0 root_node made.recorded facts.root in
+      let is = small (finished_state o) facts (labels_of c.runs.items) made.few_runs numbers made.numbered (gap c.gap_tree) 0 root_node made.recorded facts.root in
       let few : undecided (region_of root_node) ≤ 64 = few_undecided (region_of root_node) in
       let deep : gap_depth (gap c.gap_tree) ≤ suc (undecided (region_of root_node)) = is.deep in
       (at_most (gap_depth (gap c.gap_tree)) (undecided (region_of root_node)) deep few, is.numbers)
@@ -124,8 +124,8 @@ module _ (t : Table) (o : Outcome) (numbers : List ℕ) (c : memory.Certificate)
       at_most : (d u : ℕ) → d ≤ suc u → u ≤ 64 → d ≤ 65
       at_most d u h i = omega arith
 
-  foreign_short : All limits.IsRun (labels_of c.runs.items)
-  foreign_short k d h = each_run limits.IsRun (λ f of is. short_run f.question.program (Fenced no_gaps) f.labels is.foreign.is_run.0 (subst (λ (q : Question). IsWithinLimits q.program.threads q.program.memory) (sym of) facts.within) is.foreign.is_run.1) k (get_or (labels_of c.runs.items) k d) (slice_get-get_or (labels_of c.runs.items) k d h)
+  foreign_short : All limits.IsWrittenRun (labels_of c.runs.items)
+  foreign_short k d h = each_run limits.IsWrittenRun (λ f of is. short_run f.question.program (Fenced no_gaps) f.labels is.foreign.is_run.0 (subst (λ (q : Question). IsWithinLimits q.program.threads q.program.memory) (sym of) facts.within) is.foreign.is_run.1) k (get_or (labels_of c.runs.items) k d) (slice_get-get_or (labels_of c.runs.items) k d h)
 
   pub is_proof : IsProof o.question o.costs c
   is_proof = record {
@@ -134,9 +134,9 @@ module _ (t : Table) (o : Outcome) (numbers : List ℕ) (c : memory.Certificate)
       shown = made.places;
       gaps = gaps_ascend c.set;
       cost = omega arith;
-      seq_runs = (made.few_seq_runs, subst (AllByRecursion limits.IsRun) (sym made.seq_runs) (sequential_short t.question t.runs t.outcomes (subst (λ (q : Question). IsWithinLimits q.program.threads q.program.memory) (sym same) facts.within) table.runs));
+      seq_runs = (made.few_seq_runs, subst (AllByRecursion limits.IsWrittenRun) (sym made.seq_runs) (sequential_short t.question t.runs t.outcomes (subst (λ (q : Question). IsWithinLimits q.program.threads q.program.memory) (sym same) facts.within) table.runs));
       seq_tree = tree_small o.question Sequential t.outcomes (cover c.seq_tree) table_tree;
-      runs = (made.few_runs, recursion_from_All limits.IsRun (labels_of c.runs.items) foreign_short);
+      runs = (made.few_runs, recursion_from_All limits.IsWrittenRun (labels_of c.runs.items) foreign_short);
       fenced_tree = tree_small o.question (Fenced (gaps_of_set o.question.program c.set)) t.outcomes (cover c.fenced_tree) fenced_tree;
       gap_tree = gap_tree_small;
     };

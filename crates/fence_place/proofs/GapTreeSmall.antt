@@ -4,15 +4,15 @@ use Rattle.std.specs.Prelude.{slice_get}
 use Rattle.std.proofs.lemmas.Option.{same_Some, slice_get_within}
 use Rattle.std.proofs.lemmas.List.Kept.{AllPairs-from_increasing}
 use Rattle.tso_machine.specs.declared.label.Label.{Label}
-use Rattle.cert_forest.specs.Trees.{Gap, Split, Bound, Gaps, NoGap, MoreGaps}
+use Rattle.cert_forest.specs.Trees.{Gap, Split, Bound, GapTrees, NoGap, MoreGaps}
 use Rattle.cert_forest.specs.Texts.{count_gaps}
 use Rattle.cert_forest.specs.Limits.{gap_depth, gaps_depth, HasGapNumbers, HaveGapNumbers}
 use Rattle.tree_laws.specs.GapTrees.{children_of}
 use Rattle.tree_laws.specs.GapTrees as trees
 use Rattle.search_core.specs.declared.node.Node.{Node}
 use Rattle.search_core.specs.declared.entry.Entry.{Entry}
-use Rattle.search_core.specs.Nodes.{region_of, node_of, open_gaps}
-use Rattle.search_core.specs.States.{State}
+use Rattle.search_core.specs.Nodes.{region_of, search_node, open_gaps}
+use Rattle.search_core.specs.States.{SearchState}
 use Rattle.search_core.specs.Work.{undecided}
 use Rattle.search_core.proofs.Places.{Each, get_mapped}
 use Rattle.search_core.proofs.OpenGaps.{open_ascending}
@@ -29,7 +29,7 @@ pub record IsSmall (depth : ℕ) (tree : Gap) : Type 0 where
   pub deep : gap_depth tree ≤ depth
   pub numbers : HasGapNumbers tree
 
-pub record AreSmall (depth count : ℕ) (ts : Gaps) : Type 0 where
+pub record AreSmall (depth count : ℕ) (ts : GapTrees) : Type 0 where
   pub deep : gaps_depth ts ≤ depth
   pub as_many : count_gaps ts ≡ count
   pub numbers : HaveGapNumbers ts
@@ -37,7 +37,7 @@ pub record AreSmall (depth count : ℕ) (ts : Gaps) : Type 0 where
 max_le : (a b c : ℕ) → a ≤ c → b ≤ c → max a b ≤ c
 max_le a b c h i = omega arith
 
-module _ (s : State) (facts : Facts s) (runs : List (List Label)) (few : length runs < 2 ^ 64) (numbers : List ℕ) (listed : AreNumbersOf s.entries runs numbers) where
+module _ (s : SearchState) (facts : Facts s) (runs : List (List Label)) (few : length runs < 2 ^ 64) (numbers : List ℕ) (listed : AreNumbersOf s.entries runs numbers) where
   mutual
     pub small : (tree : Gap) (place : ℕ) (n : Node) → IsRecorded s.entries numbers tree place → HasNode s.entries place n → IsSmall (suc (undecided (region_of n))) tree
     small Bound place n (e, there, closed) has = record { deep = omega arith; numbers = tt }
@@ -50,7 +50,7 @@ module _ (s : State) (facts : Facts s) (runs : List (List Label)) (few : length 
         let less = kids_less (region_of e.node) gaps (AllPairs-from_increasing gaps (open_ascending f.passed e.node.never)) (open_undecided f.passed e.node few_gaps at.passes_none) in
         let each : AreSmall (undecided (region_of e.node)) (length (children_of (region_of e.node) gaps)) kids =
         each_small (undecided (region_of e.node)) kids first (children_of (region_of e.node) gaps) (subst (λ count. AreRecorded s.entries numbers kids first count) (sym (as_many (region_of e.node) gaps)) recorded)
-        (λ j c here. at.kids j (node_of c) (get_mapped node_of (children_of (region_of e.node) gaps) j c here)) less in
+        (λ j c here. at.kids j (search_node c) (get_mapped search_node (children_of (region_of e.node) gaps) j c here)) less in
         let deep : gaps_depth kids ≤ undecided (region_of e.node) = each.deep in
         let count : count_gaps kids ≡ length (children_of (region_of e.node) gaps) = each.as_many in
         let long : length (children_of (region_of e.node) gaps) ≡ length gaps = as_many (region_of e.node) gaps in
@@ -59,14 +59,14 @@ module _ (s : State) (facts : Facts s) (runs : List (List Label)) (few : length 
         subst (λ (m : Node). IsSmall (suc (undecided (region_of m))) (Split number kids)) is
         (record { deep = omega arith; numbers = (omega arith, omega arith, each.numbers) })
 
-    each_small : (depth : ℕ) (ts : Gaps) (first : ℕ) (ns : List trees.Node) → AreRecorded s.entries numbers ts first (length ns) →
-        ((j : ℕ) (c : trees.Node) → slice_get ns j ≡ Some c → HasNode s.entries (first + j) (node_of c)) → Each (λ (c : trees.Node). undecided c < depth) ns → AreSmall depth (length ns) ts
+    each_small : (depth : ℕ) (ts : GapTrees) (first : ℕ) (ns : List trees.Node) → AreRecorded s.entries numbers ts first (length ns) →
+        ((j : ℕ) (c : trees.Node) → slice_get ns j ≡ Some c → HasNode s.entries (first + j) (search_node c)) → Each (λ (c : trees.Node). undecided c < depth) ns → AreSmall depth (length ns) ts
     each_small depth NoGap first [] recorded has less = record { deep = omega arith; as_many = refl; numbers = tt }
     each_small depth NoGap first (c ∷ cs) recorded has less = absurd recorded
     each_small depth (MoreGaps t ts) first [] recorded has less = absurd recorded
     each_small depth (MoreGaps t ts) first (c ∷ cs) recorded has less =
-        let one = small t first (node_of c) recorded.0 (subst (λ k. HasNode s.entries k (node_of c)) (omega arith) (has 0 c refl)) in
-        let others = each_small depth ts (first + 1) cs recorded.1 (λ j d here. subst (λ k. HasNode s.entries k (node_of d)) (omega arith) (has (suc j) d here)) (λ j d here. less (suc j) d here) in
+        let one = small t first (search_node c) recorded.0 (subst (λ k. HasNode s.entries k (search_node c)) (omega arith) (has 0 c refl)) in
+        let others = each_small depth ts (first + 1) cs recorded.1 (λ j d here. subst (λ k. HasNode s.entries k (search_node d)) (omega arith) (has (suc j) d here)) (λ j d here. less (suc j) d here) in
         let low : undecided c < depth = less 0 c refl in
         let deep : gap_depth t ≤ suc (undecided c) = one.deep in
         let deeper : gaps_depth ts ≤ depth = others.deep in

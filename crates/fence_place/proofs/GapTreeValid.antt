@@ -8,14 +8,14 @@ use Rattle.gap_sets.specs.Order.{Better}
 use Rattle.tso_program.specs.Shown.{Question}
 use Rattle.tso_machine.specs.declared.label.Label.{Label}
 use Rattle.tso_machine.specs.Outcomes.{IsTheAnswer}
-use Rattle.cert_forest.specs.Trees.{Gap, Split, Bound, Gaps, NoGap, MoreGaps}
+use Rattle.cert_forest.specs.Trees.{Gap, Split, Bound, GapTrees, NoGap, MoreGaps}
 use Rattle.tree_laws.specs.GapTrees.{children_of, PassesGap, IsOpenGap, IsSplitBy, IsValidGap, AreValidGaps}
 use Rattle.tree_laws.specs.GapTrees as trees
 use Rattle.cover_solver.specs.Facts.{Foreign}
 use Rattle.search_core.specs.declared.node.Node.{Node}
 use Rattle.search_core.specs.declared.entry.Entry.{Entry}
-use Rattle.search_core.specs.Nodes.{region_of, node_of, open_gaps}
-use Rattle.search_core.specs.States.{State}
+use Rattle.search_core.specs.Nodes.{region_of, search_node, open_gaps}
+use Rattle.search_core.specs.States.{SearchState}
 use Rattle.search_core.proofs.Places.{get_mapped}
 use Rattle.search_core.proofs.OpenGaps.{open_exact, open_ascending}
 use Rattle.search_core.proofs.Changes.{HasNode, IsSplitAt}
@@ -29,7 +29,7 @@ pub as_many : (n : trees.Node) (gaps : List ℕ) → length (children_of n gaps)
 as_many n [] = refl
 as_many n (gap ∷ gaps) = let e = as_many (record n { never = set.insert n.never gap }) gaps in omega arith
 
-module _ (s : State) (facts : Facts s) (answer : SetOfGaps) (is_answer : IsTheAnswer s.question s.costs answer) (runs : List (List Label)) (numbers : List ℕ) (listed : AreNumbersOf s.entries runs numbers) where
+module _ (s : SearchState) (facts : Facts s) (answer : SetOfGaps) (is_answer : IsTheAnswer s.question s.costs answer) (runs : List (List Label)) (numbers : List ℕ) (listed : AreNumbersOf s.entries runs numbers) where
   -- the gaps of a split are those that the run passes and that the sets may have
   split_by : (n : Node) (place first number : ℕ) (f : Foreign) → IsSplitAt s.question s.entries place n f first → slice_get runs number ≡ Some f.labels →
       IsSplitBy s.question.program runs (region_of n) number (open_gaps f.passed n.never)
@@ -71,15 +71,15 @@ module _ (s : State) (facts : Facts s) (answer : SetOfGaps) (is_answer : IsTheAn
           gaps,
           split_by e.node place first number f at ((listed place number numbered).runs_at e f first there split),
           each_valid kids first (children_of (region_of e.node) gaps) (subst (λ count. AreRecorded s.entries numbers kids first count) (sym (as_many (region_of e.node) gaps)) recorded)
-              (λ j c here. at.kids j (node_of c) (get_mapped node_of (children_of (region_of e.node) gaps) j c here)),
+              (λ j c here. at.kids j (search_node c) (get_mapped search_node (children_of (region_of e.node) gaps) j c here)),
         )
 
-    each_valid : (ts : Gaps) (first : ℕ) (ns : List trees.Node) → AreRecorded s.entries numbers ts first (length ns) →
-        ((j : ℕ) (c : trees.Node) → slice_get ns j ≡ Some c → HasNode s.entries (first + j) (node_of c)) → AreValidGaps s.question.program s.costs answer runs ts ns
+    each_valid : (ts : GapTrees) (first : ℕ) (ns : List trees.Node) → AreRecorded s.entries numbers ts first (length ns) →
+        ((j : ℕ) (c : trees.Node) → slice_get ns j ≡ Some c → HasNode s.entries (first + j) (search_node c)) → AreValidGaps s.question.program s.costs answer runs ts ns
     each_valid NoGap first [] recorded has = tt
     each_valid NoGap first (c ∷ cs) recorded has = absurd recorded
     each_valid (MoreGaps t ts) first [] recorded has = absurd recorded
     each_valid (MoreGaps t ts) first (c ∷ cs) recorded has = (
-      valid t first (node_of c) recorded.0 (subst (λ k. HasNode s.entries k (node_of c)) (omega arith) (has 0 c refl)),
-      each_valid ts (first + 1) cs recorded.1 (λ j d here. subst (λ k. HasNode s.entries k (node_of d)) (omega arith) (has (suc j) d here)),
+      valid t first (search_node c) recorded.0 (subst (λ k. HasNode s.entries k (search_node c)) (omega arith) (has 0 c refl)),
+      each_valid ts (first + 1) cs recorded.1 (λ j d here. subst (λ k. HasNode s.entries k (search_node d)) (omega arith) (has (suc j) d here)),
     )

@@ -4,8 +4,8 @@ use Rattle.gap_sets.specs.Gaps.{IsGapSet}
 use Rattle.tso_program.specs.Shown.{Question}
 use Rattle.tso_program.specs.Limits.{IsWithinLimits}
 use Rattle.tso_machine.specs.Outcomes.{AreGapsOf}
-use Rattle.cover_solver.specs.Facts.{Foreign, IsForeign}
+use Rattle.cover_solver.specs.Facts.{Foreign, IsForeignValue}
 use Rattle.search_core.proofs.Sets.{gap_set, passed_gaps}
 
-pub small_set : (q : Question) → IsWithinLimits q.program.threads q.program.memory → (f : Foreign) → f.question ≡ q → IsForeign f → IsGapSet f.passed
+pub small_set : (q : Question) → IsWithinLimits q.program.threads q.program.memory → (f : Foreign) → f.question ≡ q → IsForeignValue f → IsGapSet f.passed
 small_set q within f of is = gap_set q.program within f.passed (subst (λ (r : Question). AreGapsOf r.program f.passed) of (passed_gaps f is))

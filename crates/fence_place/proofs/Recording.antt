@@ -8,7 +8,7 @@ use Rattle.std.proofs.lemmas.List.Quantifiers.{all_pairs_push}
 use Rattle.tso_machine.specs.declared.label.Label.{Label}
 use Rattle.std.specs.Global.{Vec}
 use Rattle.cert_forest.specs.Certificates.{labels_of}
-use Rattle.cert_forest.specs.Trees.{Gap, gaps_of}
+use Rattle.cert_forest.specs.Trees.{Gap, gap_trees_of}
 use Rattle.tree_laws.specs.GapTrees.{children_of}
 use Rattle.cover_solver.specs.Facts.{Foreign}
 use Rattle.search_core.specs.declared.entry.Entry.{Entry}
@@ -17,13 +17,13 @@ use Rattle.search_core.specs.declared.entry.Status.TheVariants as status
 use Rattle.search_core.specs.declared.finished.Event.{Event}
 use Rattle.search_core.specs.declared.finished.Event.TheVariants as event
 use Rattle.search_core.specs.declared.finished.Settled.{Settled}
-use Rattle.search_core.specs.Nodes.{region_of, node_of, open_gaps, children}
+use Rattle.search_core.specs.Nodes.{region_of, search_node, open_gaps, children}
 use Rattle.search_core.specs.Entries.{is_closed_status}
-use Rattle.search_core.specs.Records.{Outcome, state_of, IsOutcome, IsEventOf, IsSettledAs, IsFirstChild}
+use Rattle.search_core.specs.Records.{Outcome, finished_state, IsOutcome, IsEventOf, IsSettledAs, IsFirstChild}
 use Rattle.search_core.proofs.Places.{get_longer, get_behind, get_mapped}
 use Rattle.std.proofs.lemmas.Option.{slice_get_read}
 use Rattle.search_core.proofs.Kept.{facts_of}
-use Rattle.fence_place.specs.Recorded.{AreNumbersOf, AreRunsOf, AreDistinct, Lists, is_there, is_new, ListsEvent, IsRecorded, AreRecorded}
+use Rattle.fence_place.specs.Recorded.{AreNumbersOf, AreSplitRuns, AreDistinct, ListsRun, is_there, is_new, ListsEvent, IsRecorded, AreRecorded}
 use Rattle.fence_place.proofs.GapTreeValid.{as_many}
 
 -- the record of a split says which run it was
@@ -63,51 +63,51 @@ some_there (x ∷ xs) (suc i) h = some_there xs i (omega arith)
 pub kids_there : (o : Outcome) → IsOutcome o → (place first : ℕ) (e : Entry) (f : Foreign) → slice_get o.entries place ≡ Some e → e.status ≡ status.Split f first →
     (place < first) × ((i : ℕ) → i < length (open_gaps f.passed e.node.never) → first + i < length o.entries)
 kids_there o is place first e f there split =
-    let at = (facts_of (state_of o) is.reached).split place e f first there split in
+    let at = (facts_of (finished_state o) is.reached).split place e f first there split in
     let long : length (children e.node f.passed) ≡ length (open_gaps f.passed e.node.never) =
-    length-map (children_of (region_of e.node) (open_gaps f.passed e.node.never)) node_of ∙ as_many (region_of e.node) (open_gaps f.passed e.node.never) in (
+    length-map (children_of (region_of e.node) (open_gaps f.passed e.node.never)) search_node ∙ as_many (region_of e.node) (open_gaps f.passed e.node.never) in (
       at.later,
       λ i h. (let kid = some_there (children e.node f.passed) i (omega arith) in
           let has = at.kids i kid.0 kid.1 in slice_get_within o.entries (first + i) has.here has.there),
     )
 
 -- one tree more
-pub recorded_more : (entries : List Entry) (numbers : List ℕ) (ts : List Gap) (t : Gap) (first i : ℕ) → AreRecorded entries numbers (gaps_of ts) first i → IsRecorded entries numbers t (first + i) →
-    AreRecorded entries numbers (gaps_of (ts ++ t ∷ [])) first (i + 1)
+pub recorded_more : (entries : List Entry) (numbers : List ℕ) (ts : List Gap) (t : Gap) (first i : ℕ) → AreRecorded entries numbers (gap_trees_of ts) first i → IsRecorded entries numbers t (first + i) →
+    AreRecorded entries numbers (gap_trees_of (ts ++ t ∷ [])) first (i + 1)
 recorded_more entries numbers [] t first zero so h = (subst (IsRecorded entries numbers t) (omega arith) h, tt)
 recorded_more entries numbers [] t first (suc i) so h = absurd so
 recorded_more entries numbers (x ∷ xs) t first zero so h = absurd so
 recorded_more entries numbers (x ∷ xs) t first (suc i) so h =
     let e : suc i + 1 ≡ suc (i + 1) = omega arith in
-    subst (λ n. AreRecorded entries numbers (gaps_of (x ∷ xs ++ t ∷ [])) first n) (sym e)
+    subst (λ n. AreRecorded entries numbers (gap_trees_of (x ∷ xs ++ t ∷ [])) first n) (sym e)
     (so.0, recorded_more entries numbers xs t (first + 1) i so.1 (subst (IsRecorded entries numbers t) (omega arith) h))
 
 module _ (labels : List Label) (number : ℕ) (runs after : List (List Label)) where
   -- the runs so far stay
-  stays : Lists labels number runs after → (k : ℕ) (l : List Label) → slice_get runs k ≡ Some l → slice_get after k ≡ Some l
+  stays : ListsRun labels number runs after → (k : ℕ) (l : List Label) → slice_get runs k ≡ Some l → slice_get after k ≡ Some l
   stays (is_there at same) k l h = subst (λ (r : List (List Label)). slice_get r k ≡ Some l) (sym same) h
   stays (is_new fresh last same) k l h = subst (λ (r : List (List Label)). slice_get r k ≡ Some l) (sym same) (get_longer runs (labels ∷ []) k l h)
 
   -- the run has its number
-  has_number : Lists labels number runs after → slice_get after number ≡ Some labels
+  has_number : ListsRun labels number runs after → slice_get after number ≡ Some labels
   has_number (is_there at same) = subst (λ (r : List (List Label)). slice_get r number ≡ Some labels) (sym same) at
   has_number (is_new fresh last same) =
       let behind : number ≡ length runs + 0 = omega arith in
       subst (λ (r : List (List Label)). slice_get r number ≡ Some labels) (sym same) (ap (slice_get (runs ++ labels ∷ [])) behind ∙ get_behind runs (labels ∷ []) 0)
 
   -- no other is new
-  no_other : Lists labels number runs after → (k : ℕ) (l : List Label) → slice_get after k ≡ Some l → (slice_get runs k ≡ Some l) ⊎ (labels ≡ l)
+  no_other : ListsRun labels number runs after → (k : ℕ) (l : List Label) → slice_get after k ≡ Some l → (slice_get runs k ≡ Some l) ⊎ (labels ≡ l)
   no_other (is_there at same) k l h = inl (subst (λ (r : List (List Label)). slice_get r k ≡ Some l) same h)
   no_other (is_new fresh last same) k l h =
       elim (get_last runs labels k l (subst (λ (r : List (List Label)). slice_get r k ≡ Some l) same h)) [ inl old ↦ inl old | inr new ↦ inr new.1 ]
 
   -- none is there twice
-  once_more : Lists labels number runs after → AreDistinct runs → AreDistinct after
+  once_more : ListsRun labels number runs after → AreDistinct runs → AreDistinct after
   once_more (is_there at same) once = subst AreDistinct (sym same) once
   once_more (is_new fresh last same) once =
       subst AreDistinct (sym same) (all_pairs_push (λ a b. a ≢ b) runs labels once (λ k d within is. fresh (subst (Contains runs) is (Contains-get_or runs k d within))))
 
--- a run that is looked up among others, and is none of those so far
+-- a run that is looked up among others, and is not one of those so far
 pub none_more : (runs : List (Vec Label)) (n : ℕ) (run : Vec Label) (labels : List Label) → n < length runs → run ≡ get_or runs n run → (run.items ≡ labels → ⊥) → ¬ Contains (labels_of (take n runs)) labels →
     ¬ Contains (labels_of (take (n + 1) runs)) labels
 none_more runs n run labels within is other none has =
@@ -153,17 +153,17 @@ module _ (entries : List Entry) (runs after : List (List Label)) (numbers : List
     }
   ]
 
-  pub of_nodes_more : AreRunsOf entries runs → AreRunsOf entries after
+  pub of_nodes_more : AreSplitRuns entries runs → AreSplitRuns entries after
   of_nodes_more so = by_event settled.event listed is.is_event
     where
-      by_event : (v : Event) → ListsEvent v number runs after → IsEventOf e.status v → AreRunsOf entries after
+      by_event : (v : Event) → ListsEvent v number runs after → IsEventOf e.status v → AreSplitRuns entries after
       by_event (event.Split run) lists h = λ k labels at. elim (no_other run.now.labels number runs after lists k labels at) [
         | inl old ↦ so k labels old
         | inr new ↦ (let s = split_event e.status (event.Split run) run refl h in
             (length numbers, e, s.0, s.1, there, s.2, ap (λ (g : Foreign). g.labels) (sym s.3) ∙ new))
       ]
-      by_event event.Cut lists h = subst (AreRunsOf entries) (sym lists) so
-      by_event event.Confirmed lists h = subst (AreRunsOf entries) (sym lists) so
+      by_event event.Cut lists h = subst (AreSplitRuns entries) (sym lists) so
+      by_event event.Confirmed lists h = subst (AreSplitRuns entries) (sym lists) so
 
 -- what the readers say of a split node
 pub split_facts : (o : Outcome) (place first : ℕ) (settled : Settled) (run : _) → (x : Entry) × (slice_get o.entries place ≡ Some x) × IsSettledAs x settled → settled.event ≡ event.Split run → IsFirstChild o.entries place first →

@@ -8,8 +8,8 @@ use Rattle.search_core.specs.declared.entry.Status.{Status}
 use Rattle.search_core.specs.declared.entry.Status.TheVariants.{Open, Held, Split, Cut, Confirmed}
 use Rattle.search_core.specs.Nodes.{children}
 use Rattle.search_core.specs.Entries.{entry, is_live_status, is_held_status, is_open_status}
-use Rattle.search_core.specs.States.{State, IsHeldAt, IsDone, HasNoOpen, IsStart, root_node}
-use Rattle.search_core.specs.Events.{opened, Takes, IsSettling, by_cut, by_split, by_confirm}
+use Rattle.search_core.specs.States.{SearchState, IsHeldAt, IsDone, HasNoOpen, IsStart, root_node}
+use Rattle.search_core.specs.Events.{open_entries, TakesNode, IsSettling, by_cut, by_split, by_confirm}
 use Rattle.search_core.proofs.Places.{Each, each_behind, each_mapped, get_old}
 use Rattle.search_core.proofs.WorkLaws.{held_is}
 use Rattle.fence_place.specs.Searches.{NothingIsHeld}
@@ -26,15 +26,15 @@ dead Cut none held = refl
 dead Confirmed none held = refl
 
 -- where nothing is held and nothing is open, the search is done
-pub all_done : (s : State) → NothingIsHeld s → HasNoOpen s → IsDone s
+pub all_done : (s : SearchState) → NothingIsHeld s → HasNoOpen s → IsDone s
 all_done s none no_open place e there = dead e.status (λ h. no_open place e.node (record { before = e; there = there; open_there = h; is_node = refl })) (none place e there)
 
-module _ (s mid : State) (n : Node) (none : NothingIsHeld s) (t : Takes s mid 0 n) where
+module _ (s mid : SearchState) (n : Node) (none : NothingIsHeld s) (t : TakesNode s mid 0 n) where
   abbrev taken : Entry
   taken = entry n 0 Held
 
   mid_entries : mid.entries ≡ set_at s.entries t.place taken
-  mid_entries = ap (λ (x : State). x.entries) t.is_after
+  mid_entries = ap (λ (x : SearchState). x.entries) t.is_after
 
   -- what is held stands where the taken node stands
   only_there : (place : ℕ) (m : Node) → IsHeldAt mid.entries 0 place m → place ≡ t.place
@@ -55,22 +55,22 @@ module _ (s mid : State) (n : Node) (none : NothingIsHeld s) (t : Takes s mid 0 
       ]
     ]
 
-  fresh : (ns : List Node) → Each NotHeld (opened 0 ns)
+  fresh : (ns : List Node) → Each NotHeld (open_entries 0 ns)
   fresh ns = each_mapped (λ k. Unit {0}) NotHeld (λ k. entry k 0 Open) (λ k h. refl) ns (λ k m h. tt)
 
-  same_entries : (after : State) (es : List Entry) → after.entries ≡ es → Each NotHeld es → NothingIsHeld after
+  same_entries : (after : SearchState) (es : List Entry) → after.entries ≡ es → Each NotHeld es → NothingIsHeld after
   same_entries after es is each = subst (λ l. Each NotHeld l) (sym is) each
 
-  pub none_after : (after : State) → IsSettling mid after 0 → NothingIsHeld after
-  none_after after (by_cut u) = same_entries after _ (ap (λ (x : State). x.entries) u.is_after) (none_in u.place u.node u.there (entry u.node 0 Cut) refl)
-  none_after after (by_confirm b u) = same_entries after _ (ap (λ (x : State). x.entries) u.is_after) (none_in u.place u.node u.there (entry u.node 0 Confirmed) refl)
+  pub none_after : (after : SearchState) → IsSettling mid after 0 → NothingIsHeld after
+  none_after after (by_cut u) = same_entries after _ (ap (λ (x : SearchState). x.entries) u.is_after) (none_in u.place u.node u.there (entry u.node 0 Cut) refl)
+  none_after after (by_confirm b u) = same_entries after _ (ap (λ (x : SearchState). x.entries) u.is_after) (none_in u.place u.node u.there (entry u.node 0 Confirmed) refl)
   none_after after (by_split f u) =
       let x = entry u.node 0 (Split f (length mid.entries)) in
-      same_entries after _ (ap (λ (y : State). y.entries) u.is_after)
-      (each_behind NotHeld (set_at mid.entries u.place x) (opened 0 (children u.node f.passed)) (none_in u.place u.node u.there x refl) (fresh (children u.node f.passed)))
+      same_entries after _ (ap (λ (y : SearchState). y.entries) u.is_after)
+      (each_behind NotHeld (set_at mid.entries u.place x) (open_entries 0 (children u.node f.passed)) (none_in u.place u.node u.there x refl) (fresh (children u.node f.passed)))
 
 -- at the start nothing is held
-pub start_unheld : (s : State) → IsStart s → NothingIsHeld s
+pub start_unheld : (s : SearchState) → IsStart s → NothingIsHeld s
 start_unheld s is place e at = only place e (ap (λ es. slice_get es place) (sym is.only_root) ∙ at)
   where
     only : (k : ℕ) (x : Entry) → slice_get (entry root_node 0 Open ∷ []) k ≡ Some x → is_held_status x.status ≡ false

@@ -95,7 +95,7 @@ module _ (p : Listing) where
         by_step None e r others = absurd cc
         by_step (Some z) e r others = let one = one_step mode s z l idle e in (one.0, others z one.1 r)
 
-pub short_run : (p : Listing) (mode : Mode) (labels : List Label) (o : Outcome) → IsWithinLimits p.threads p.memory → IsRun p mode labels o → limits.IsRun labels
+pub short_run : (p : Listing) (mode : Mode) (labels : List Label) (o : Outcome) → IsWithinLimits p.threads p.memory → IsRun p mode labels o → limits.IsWrittenRun labels
 short_run p mode labels o within is =
     let few : length p.threads ≤ 8 = within.shared.few_threads in
     let long : length labels ≤ length p.threads * (64 + 64) = every_run_is_short p mode labels o 64 within.shared.forward_jumps within.shared.short_threads is in

@@ -6,11 +6,11 @@ use Rattle.cover_solver.specs.Verdicts.{PassesNoneOf}
 use Rattle.search_core.specs.declared.node.Node.{Node}
 use Rattle.search_core.specs.declared.fault.TreeFault.{TreeFault}
 use Rattle.search_core.specs.declared.fault.TreeFault.TheVariants.{NothingOpen, SeatHolds, SeatHoldsNothing, Hit, StillBetter, OutOfMemory}
-use Rattle.search_core.specs.States.{State, HoldsOnly}
+use Rattle.search_core.specs.States.{SearchState, HoldsOnly}
 use Rattle.search_core.specs.Faults.{SplitFaultIs}
 
 -- such a split is refused for memory alone
-pub only_memory : (s : State) (n : Node) (f : Foreign) (fault : TreeFault) → HoldsOnly s 0 n → PassesNoneOf n.must f → SplitFaultIs s 0 f.passed fault → fault ≡ OutOfMemory
+pub only_memory : (s : SearchState) (n : Node) (f : Foreign) (fault : TreeFault) → HoldsOnly s 0 n → PassesNoneOf n.must f → SplitFaultIs s 0 f.passed fault → fault ≡ OutOfMemory
 only_memory s n f NothingOpen holds none h = absurd h
 only_memory s n f SeatHolds holds none h = absurd h
 only_memory s n f SeatHoldsNothing holds none h = absurd (h n holds.held)

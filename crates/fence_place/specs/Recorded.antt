@@ -2,7 +2,7 @@
 use Rattle.std.specs.Prelude.{◌≡◌, ◌≢◌, ℕ, zero, suc, ◌+◌, true, List, [], ◌∷◌, ◌++◌, Some, slice_get, length, Contains}
 use Rattle.std.specs.List.{AllPairs}
 use Rattle.tso_machine.specs.declared.label.Label.{Label}
-use Rattle.cert_forest.specs.Trees.{Gap, Split, Bound, Gaps, NoGap, MoreGaps}
+use Rattle.cert_forest.specs.Trees.{Gap, Split, Bound, GapTrees, NoGap, MoreGaps}
 use Rattle.cover_solver.specs.Facts.{Foreign}
 use Rattle.search_core.specs.declared.entry.Entry.{Entry}
 use Rattle.search_core.specs.declared.entry.Status.TheVariants as status
@@ -24,19 +24,19 @@ abbrev pub AreDistinct : List (List Label) → Type 0
 AreDistinct runs = AllPairs (λ a b. a ≢ b) runs
 
 -- the run is the one of this number: it is there already, or is put after the others
-pub data Lists (labels : List Label) (number : ℕ) (runs after : List (List Label)) : Type 0 where
-  is_there : slice_get runs number ≡ Some labels → after ≡ runs → Lists labels number runs after
-  is_new : ¬ Contains runs labels → number ≡ length runs → after ≡ runs ++ labels ∷ [] → Lists labels number runs after
+pub data ListsRun (labels : List Label) (number : ℕ) (runs after : List (List Label)) : Type 0 where
+  is_there : slice_get runs number ≡ Some labels → after ≡ runs → ListsRun labels number runs after
+  is_new : ¬ Contains runs labels → number ≡ length runs → after ≡ runs ++ labels ∷ [] → ListsRun labels number runs after
 
 -- the runs, and that of a split among them
 abbrev pub ListsEvent : Event → ℕ → List (List Label) → List (List Label) → Type 0
-ListsEvent (event.Split run) number runs after = Lists run.now.labels number runs after
+ListsEvent (event.Split run) number runs after = ListsRun run.now.labels number runs after
 ListsEvent event.Cut number runs after = after ≡ runs
 ListsEvent event.Confirmed number runs after = after ≡ runs
 
 -- each of the runs is that of a split node
-abbrev pub AreRunsOf : List Entry → List (List Label) → Type 0
-AreRunsOf entries runs = (number : ℕ) (labels : List Label) → slice_get runs number ≡ Some labels →
+abbrev pub AreSplitRuns : List Entry → List (List Label) → Type 0
+AreSplitRuns entries runs = (number : ℕ) (labels : List Label) → slice_get runs number ≡ Some labels →
     (place : ℕ) × (e : Entry) × (f : Foreign) × (first : ℕ) × (slice_get entries place ≡ Some e) × (e.status ≡ status.Split f first) × (f.labels ≡ labels)
 
 module _ (entries : List Entry) (numbers : List ℕ) where
@@ -49,7 +49,7 @@ module _ (entries : List Entry) (numbers : List ℕ) where
     IsRecorded Bound place = (e : Entry) × (slice_get entries place ≡ Some e) × (is_closed e ≡ true)
 
     -- so do so many trees, of the nodes from this place on
-    pub AreRecorded : Gaps → ℕ → ℕ → Type 0
+    pub AreRecorded : GapTrees → ℕ → ℕ → Type 0
     AreRecorded NoGap place zero = Unit {0}
     AreRecorded NoGap place (suc count) = ⊥
     AreRecorded (MoreGaps tree trees) place zero = ⊥

@@ -3,7 +3,7 @@ use Rattle.std.specs.Prelude.{◌≡◌, ℕ, false, List, Some, slice_get, All}
 use Rattle.tso_program.specs.Shown.{Question}
 use Rattle.search_core.specs.declared.entry.Entry.{Entry}
 use Rattle.search_core.specs.Entries.{is_held_status}
-use Rattle.search_core.specs.States.{State}
+use Rattle.search_core.specs.States.{SearchState}
 use Rattle.cover_solver.specs.Facts.{Foreign}
 
 -- the runs are of the question
@@ -11,5 +11,5 @@ abbrev pub AreOf : Question → List Foreign → Type 0
 AreOf q runs = All (λ run. run.question ≡ q) runs
 
 -- no seat holds a node
-abbrev pub NothingIsHeld : State → Type 0
+abbrev pub NothingIsHeld : SearchState → Type 0
 NothingIsHeld s = (place : ℕ) (e : Entry) → slice_get s.entries place ≡ Some e → is_held_status e.status ≡ false

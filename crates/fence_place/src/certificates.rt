@@ -1,10 +1,10 @@
 //! The certificate of a search that is done.
 ghost use Rattle.std.specs.Prelude.{◌≡◌, ◌↔◌, ◌<◌, ◌+◌, ℕ, IfOk, IsTrue, MatchOption, Some, Contains, length, slice_get, map};
 ghost use Rattle.cert_forest.specs.Certificates.{labels_of, shown_places};
-ghost use Rattle.cert_forest.specs.Limits.{ArePlaces};
-ghost use Rattle.cert_forest.specs.Trees.{gaps_of};
+ghost use Rattle.cert_forest.specs.Limits.{AreShownPlaces};
+ghost use Rattle.cert_forest.specs.Trees.{gap_trees_of};
 ghost use Rattle.cert_forest.specs.Views.{gap};
-ghost use Rattle.fence_place.specs.Recorded.{AreNumbersOf, AreRunsOf, AreDistinct, ListsEvent, IsRecorded, AreRecorded};
+ghost use Rattle.fence_place.specs.Recorded.{AreNumbersOf, AreSplitRuns, AreDistinct, ListsEvent, IsRecorded, AreRecorded};
 ghost use Rattle.fence_place.specs.Proofs.{IsProof};
 
 use crate::gaps::count_open;
@@ -51,7 +51,7 @@ pub fn certify(
 
 /// The places of what is shown have a text. Calling it does nothing.
 fn its_places_ascend(shown: &Shown)
-    ensures { ArePlaces (shown_places shown.now) }
+    ensures { AreShownPlaces (shown_places shown.now) }
 {
     // For the proof alone: what holds of all names is known where their places are asked for.
     if let Shown::Only(names) = shown {
@@ -67,7 +67,7 @@ fn listed_runs(
 ) -> Result<(Vec<Vec<Label>>, Vec<usize>), AllocError>
     ensures numbers { IfOk result (λ found. AreNumbersOf finished.now.entries (labels_of found.0.items) found.1.items) }
     ensures as_many { IfOk result (λ found. length found.1.items ≡ length finished.now.entries) }
-    ensures runs { IfOk result (λ found. AreRunsOf finished.now.entries (labels_of found.0.items)) }
+    ensures runs { IfOk result (λ found. AreSplitRuns finished.now.entries (labels_of found.0.items)) }
     ensures once { IfOk result (λ found. AreDistinct (labels_of found.0.items)) }
 {
     let mut runs = Vec::new(alloc);
@@ -160,7 +160,7 @@ fn gap_trees(
 ) -> Result<Vec<GapTree>, AllocError>
     requires as_many { length numbers.now ≡ length finished.now.entries }
     requires there { (i : ℕ) → i < count → first + i < length numbers.now }
-    ensures { IfOk result (λ trees. AreRecorded finished.now.entries numbers.now (gaps_of (map gap trees.items)) first count) }
+    ensures { IfOk result (λ trees. AreRecorded finished.now.entries numbers.now (gap_trees_of (map gap trees.items)) first count) }
 {
     let mut trees = Vec::new(alloc);
     for i in 0..count {

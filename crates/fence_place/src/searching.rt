@@ -52,7 +52,7 @@ pub(crate) fn search<O: Oracle>(
     }
 }
 
-/// Settles an open node; `false` where there is none.
+/// Settles an open node; `false` if no node is open.
 fn go_on<O: Oracle>(
     tree: &mut SearchTree,
     known: &mut Vec<ForeignRun>,

@@ -7,11 +7,11 @@ use Rattle.std.specs.Io.KnownBytes.{Consumes, IsAtEnd}
 use Rattle.std.proofs.lemmas.List.{append-nil, take-append-le, drop-append-le, take-append-drop, length-take-le, length-drop, length-append}
 use Rattle.program_streams.specs.declared.fault.FileFault.{FileFault}
 use Rattle.program_streams.specs.declared.fault.FileFault.TheVariants as file
-use Rattle.program_streams.specs.Streams.{Holds, IsReadFault, ReadsOn, Takes, TakesUpTo, AppendsRest}
+use Rattle.program_streams.specs.Streams.{HoldsBytes, IsReadFault, ReadsOn, TakesBytes, TakesUpTo, AppendsRest}
 use Rattle.program_streams.specs.declared.files.TheConstants.{TEXT_LIMIT}
 use Rattle.program_streams.proofs.StreamLaws.{reads_more}
 use Rattle.fencecheck.specs.declared.parts.TheConstants.{CERTIFICATE_LIMIT, FRONT_LIMIT}
-use Rattle.fencecheck.specs.Inputs.{BeginsLine, StartsAt, IsStart, AreJoined, ArePartsOf, IsTooLongInput, ReadsEnough}
+use Rattle.fencecheck.specs.Inputs.{BeginsLine, StartsAt, IsCertificateStart, AreJoined, ArePartsOf, IsTooLongInput, ReadsEnough}
 
 -- what comes after the first bytes of a text doesn't tell whether it begins with a word that is no longer than these
 same_word : (bytes rest word : List ℕ) → length word ≤ length bytes → starts_with nat_eq (bytes ++ rest) word ≡ starts_with nat_eq bytes word
@@ -35,7 +35,7 @@ module _ (front rest : List ℕ) (place : ℕ) (seen : place + 10 ≤ length fro
   starts_in_whole (line, mark) = (subst BeginsLine (sym same_before) line, subst IsTrue (sym same_mark) mark)
 
 -- so the first place in the front is the first in the whole
-same_start : (front rest : List ℕ) (place : ℕ) → place + 10 ≤ length front → IsStart front place → IsStart (front ++ rest) place
+same_start : (front rest : List ℕ) (place : ℕ) → place + 10 ≤ length front → IsCertificateStart front place → IsCertificateStart (front ++ rest) place
 same_start front rest place seen is = record {
   there = elim is.there [
     | inl at ↦ absurd (omega (arith, at, seen))
@@ -45,13 +45,13 @@ same_start front rest place seen is = record {
 }
 
 -- bytes that are split where a certificate starts are joined of the two
-joined_at : (bytes : List ℕ) (start : ℕ) → start ≤ length bytes → IsStart bytes start → AreJoined bytes (take start bytes) (drop start bytes)
+joined_at : (bytes : List ℕ) (start : ℕ) → start ≤ length bytes → IsCertificateStart bytes start → AreJoined bytes (take start bytes) (drop start bytes)
 joined_at bytes start within is = record {
   joined = sym (take-append-drop start bytes);
-  start = subst (IsStart bytes) (sym (length-take-le start bytes within)) is;
+  start = subst (IsCertificateStart bytes) (sym (length-take-le start bytes within)) is;
 }
 
-parts_at : (bytes : List ℕ) (start : ℕ) → start ≤ length bytes → IsStart bytes start → start ≤ TEXT_LIMIT → length bytes ≤ start + CERTIFICATE_LIMIT →
+parts_at : (bytes : List ℕ) (start : ℕ) → start ≤ length bytes → IsCertificateStart bytes start → start ≤ TEXT_LIMIT → length bytes ≤ start + CERTIFICATE_LIMIT →
     ArePartsOf bytes (take start bytes) (drop start bytes)
 parts_at bytes start within is litmus certificate = record {
   parts = joined_at bytes start within is;
@@ -60,7 +60,7 @@ parts_at bytes start within is litmus certificate = record {
 }
 
 -- what the reader had, where it is known, is what it gave and more
-had : (old new : Option (List ℕ)) (taken : List ℕ) → Consumes old new taken → (rest : List ℕ) × Holds old (taken ++ rest) × (IsAtEnd new → rest ≡ [])
+had : (old new : Option (List ℕ)) (taken : List ℕ) → Consumes old new taken → (rest : List ℕ) × HoldsBytes old (taken ++ rest) × (IsAtEnd new → rest ≡ [])
 had None new taken is = ([], tt, λ end. refl)
 had (Some xs) None taken is = absurd is
 had (Some xs) (Some ys) taken is = (ys, is, λ end. end)
@@ -76,10 +76,10 @@ module _ (old mid : Option (List ℕ)) (before front : List ℕ) (none : before 
   taken_first = subst (Consumes old mid) (sym (first.2 ∙ ap (λ (xs : List ℕ). xs ++ first.0) none)) first.1
 
   -- at the end they are all
-  all_read : IsAtEnd mid → Holds old front
-  all_read end = (let (rest, holds, no_rest) = had old mid front taken_first in subst (Holds old) (ap (λ (xs : List ℕ). front ++ xs) (no_rest end) ∙ append-nil front) holds)
+  all_read : IsAtEnd mid → HoldsBytes old front
+  all_read end = (let (rest, holds, no_rest) = had old mid front taken_first in subst (HoldsBytes old) (ap (λ (xs : List ℕ). front ++ xs) (no_rest end) ∙ append-nil front) holds)
 
-  module _ (start : ℕ) (is : IsStart front start) where
+  module _ (start : ℕ) (is : IsCertificateStart front start) where
     -- no certificate starts within the limit of a litmus text
     pub long_litmus : start ≤ length front → TEXT_LIMIT < start → (ended : IsAtEnd mid ⊎ (length front ≡ FRONT_LIMIT)) → IsTooLongInput old
     long_litmus within late (inl end) = (front, all_read end, inl (record { longer = omega (arith, within, late); no_start = λ place h. is.first place (omega (arith, h, late)) }))
@@ -94,22 +94,22 @@ module _ (old mid : Option (List ℕ)) (before front : List ℕ) (none : before 
         )
 
     module _ (early : start ≤ TEXT_LIMIT) (full : length front ≡ FRONT_LIMIT) where
-      in_more : (more : List ℕ) → IsStart (front ++ more) start
+      in_more : (more : List ℕ) → IsCertificateStart (front ++ more) start
       in_more more = same_start front more start (omega (arith, early, full)) is
 
       -- the rest was read
       pub parts_read : (after : List ℕ) → AppendsRest mid front after → length after ≤ start + CERTIFICATE_LIMIT → ArePartsOf after (take start after) (drop start after)
       parts_read after (more, holds, at) within =
-          parts_at after start (omega (arith, ap length at, length-append front more, early, full)) (subst (λ (xs : List ℕ). IsStart xs start) (sym at) (in_more more)) early within
+          parts_at after start (omega (arith, ap length at, length-append front more, early, full)) (subst (λ (xs : List ℕ). IsCertificateStart xs start) (sym at) (in_more more)) early within
 
       -- the rest is too long
-      long_certificate : (new : Option (List ℕ)) (n : ℕ) → Takes mid new n → length front + n ≡ start + CERTIFICATE_LIMIT + 1 → IsTooLongInput old
+      long_certificate : (new : Option (List ℕ)) (n : ℕ) → TakesBytes mid new n → length front + n ≡ start + CERTIFICATE_LIMIT + 1 → IsTooLongInput old
       long_certificate new n (more, next, count) past =
           let (rest, holds, no_rest) = had old new (front ++ more) (reads_more old mid new front more taken_first next) in
           let bytes = (front ++ more) ++ rest in
           let long : length bytes ≡ length front + length more + length rest = length-append (front ++ more) rest ∙ ap (λ n. n + length rest) (length-append front more) in
           let within : start ≤ length bytes = omega (arith, long, early, full) in
-          let begins : IsStart bytes start = subst (λ (xs : List ℕ). IsStart xs start) (sym (append_assoc front more rest)) (in_more (more ++ rest)) in (
+          let begins : IsCertificateStart bytes start = subst (λ (xs : List ℕ). IsCertificateStart xs start) (sym (append_assoc front more rest)) (in_more (more ++ rest)) in (
             bytes,
             holds,
             inr (record {
@@ -121,7 +121,7 @@ module _ (old mid : Option (List ℕ)) (before front : List ℕ) (none : before 
             }),
           )
 
-      pub rest_fault : (new : Option (List ℕ)) (n : ℕ) (why : FileFault) → IsReadFault (Takes mid new n) why → length front + n ≡ start + CERTIFICATE_LIMIT + 1 →
+      pub rest_fault : (new : Option (List ℕ)) (n : ℕ) (why : FileFault) → IsReadFault (TakesBytes mid new n) why → length front + n ≡ start + CERTIFICATE_LIMIT + 1 →
           IsReadFault (IsTooLongInput old) why
       rest_fault new n file.Read is past = tt
       rest_fault new n file.Write is past = absurd is

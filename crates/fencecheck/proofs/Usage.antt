@@ -1,4 +1,4 @@
--- When the program tells how it is called.
+-- When the program prints how it is called.
 use Rattle.std.proofs.Common.{◌≡◌, ◌==◌, ◌||◌, ℕ, true, List, [], ◌∷◌, Option, length, map}
 use Rattle.std.specs.Prelude.{nat_lt}
 use Rattle.fencecheck.specs.Replies.{IsOutput, IsUsage}

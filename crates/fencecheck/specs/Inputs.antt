@@ -2,11 +2,11 @@
 use Rattle.std.specs.Prelude.{◌≡◌, ◌⊎◌, ℕ, ◌+◌, ◌<◌, ◌≤◌, List, [], ◌∷◌, ◌++◌, Option, IsTrue, codes, drop, length, nat_eq, take}
 use Rattle.std.specs.List.{starts_with}
 use Rattle.std.specs.Io.KnownBytes.{Consumes}
-use Rattle.program_streams.specs.Streams.{Holds}
+use Rattle.program_streams.specs.Streams.{HoldsBytes}
 use Rattle.program_streams.specs.declared.files.TheConstants.{TEXT_LIMIT}
 use Rattle.fencecheck.specs.declared.parts.TheConstants.{CERTIFICATE_LIMIT, FRONT_LIMIT}
 
--- after these bytes a line begins: there are none, or the last is LF
+-- after these bytes a line begins: there are no bytes, or the last is LF
 abbrev pub BeginsLine : List ℕ → Type 0
 BeginsLine before = (before ≡ []) ⊎ ((front : List ℕ) × (before ≡ front ++ 10 ∷ []))
 
@@ -15,14 +15,14 @@ abbrev pub StartsAt : List ℕ → ℕ → Type 0
 StartsAt bytes place = BeginsLine (take place bytes) × IsTrue (starts_with nat_eq (drop place bytes) (codes "FENCECERT "))
 
 -- the place of the first such line, or the end
-pub record IsStart (bytes : List ℕ) (place : ℕ) : Type 0 where
+pub record IsCertificateStart (bytes : List ℕ) (place : ℕ) : Type 0 where
   pub there : (place ≡ length bytes) ⊎ StartsAt bytes place
   pub first : (earlier : ℕ) → earlier < place → StartsAt bytes earlier → ⊥
 
 -- the litmus text goes up to the first line that begins as a certificate does, and the certificate from there on
 pub record AreJoined (bytes litmus certificate : List ℕ) : Type 0 where
   pub joined : bytes ≡ litmus ++ certificate
-  pub start : IsStart bytes (length litmus)
+  pub start : IsCertificateStart bytes (length litmus)
 
 -- each of the two is within its limit
 pub record ArePartsOf (bytes litmus certificate : List ℕ) : Type 0 where
@@ -45,11 +45,11 @@ pub record HasLongCertificate (bytes : List ℕ) : Type 0 where
 
 -- one of the two is, in what the reader had, where that is known
 abbrev pub IsTooLongInput : Option (List ℕ) → Type 0
-IsTooLongInput input = (bytes : List ℕ) × Holds input bytes × (HasLongLitmus bytes ⊎ HasLongCertificate bytes)
+IsTooLongInput input = (bytes : List ℕ) × HoldsBytes input bytes × (HasLongLitmus bytes ⊎ HasLongCertificate bytes)
 
 -- What is read of an input: as many bytes at most as show that no certificate starts within the limit of the litmus text or at
 -- its end. Where one starts there, its limit and one byte more at most, from its start on.
 pub record ReadsEnough (old new : Option (List ℕ)) : Type 0 where
   pub bytes : List ℕ
   pub taken : Consumes old new bytes
-  pub few : (length bytes ≤ FRONT_LIMIT) ⊎ ((start : ℕ) × (start ≤ TEXT_LIMIT) × IsStart bytes start × (length bytes ≤ start + CERTIFICATE_LIMIT + 1))
+  pub few : (length bytes ≤ FRONT_LIMIT) ⊎ ((start : ℕ) × (start ≤ TEXT_LIMIT) × IsCertificateStart bytes start × (length bytes ≤ start + CERTIFICATE_LIMIT + 1))

@@ -3,5 +3,5 @@ use Rattle.std.specs.Prelude.{option_map}
 use Rattle.fencecheck.specs.declared.command.Names.{Names}
 use Rattle.fencecheck.specs.Replies.{FileNames}
 
-abbrev pub names_of : Names → FileNames
-names_of n = record { litmus = n.litmus.now; certificate = n.certificate.now; costs = option_map (λ name. name.now) n.costs }
+abbrev pub file_names_of : Names → FileNames
+file_names_of n = record { litmus = n.litmus.now; certificate = n.certificate.now; costs = option_map (λ name. name.now) n.costs }

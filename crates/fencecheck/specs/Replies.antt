@@ -2,7 +2,7 @@
 use Rattle.std.specs.Prelude.{◌≡◌, ℕ, List, [], ◌∷◌, ◌++◌, Option, Some, None, codes}
 use Rattle.program_streams.specs.declared.fault.FileFault.{FileFault}
 use Rattle.program_streams.specs.Files.{AreOfFile, AreOfFileIfNamed, AreWithin, IsFileFault, IsNamedFileFault, IsTooLong}
-use Rattle.program_streams.specs.Streams.{Holds, IsReadFault}
+use Rattle.program_streams.specs.Streams.{HoldsBytes, IsReadFault}
 use Rattle.report.specs.Faults.{file_line}
 use Rattle.program_streams.specs.declared.files.TheConstants.{TEXT_LIMIT}
 use Rattle.fencecheck.specs.declared.parts.TheConstants.{CERTIFICATE_LIMIT}
@@ -15,7 +15,7 @@ usage_line = codes "usage: fencecheck LITMUS CERTIFICATE [COSTS]" ++ 10 ∷ []
 -- The reply to an input alone: a litmus text and a certificate after it, with each gap of cost 1. An input with a part that is too
 -- long is refused, whatever comes after the bytes that show it.
 pub data IsReplyToInput (input : Option (List ℕ)) : ℕ → List ℕ → Type 0 where
-  judged : (bytes litmus certificate : List ℕ) (status : ℕ) (text : List ℕ) → Holds input bytes → ArePartsOf bytes litmus certificate
+  judged : (bytes litmus certificate : List ℕ) (status : ℕ) (text : List ℕ) → HoldsBytes input bytes → ArePartsOf bytes litmus certificate
       → IsVerdict litmus certificate None status text → IsReplyToInput input status text
   no_input : (why : FileFault) → IsReadFault (IsTooLongInput input) why → IsReplyToInput input 1 (file_line why)
 
@@ -45,7 +45,7 @@ pub data IsReplyToFiles (names : FileNames) (input : Option (List ℕ)) (files :
       → IsVerdict litmus certificate costs status text → IsReplyToFiles names input files status text
   no_file : (why : FileFault) → IsFilesFault names input files why → IsReplyToFiles names input files 1 (file_line why)
 
--- the line that tells how the program is called
+-- the line that says how the program is called
 abbrev pub IsUsage : ℕ → List ℕ → Type 0
 IsUsage status text = (status ≡ 2) × (text ≡ usage_line)
 

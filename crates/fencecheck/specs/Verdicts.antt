@@ -1,4 +1,4 @@
--- What the texts of a program, a certificate and costs are told.
+-- The verdict on the texts of a program, a certificate and costs.
 use Rattle.std.specs.Prelude.{◌≡◌, ◌⊎◌, ℕ, List, Option}
 use Rattle.gap_sets.specs.Gaps.{SetOfGaps}
 use Rattle.gap_sets.specs.Order.{total}
@@ -19,7 +19,7 @@ use Rattle.cert_forest.specs.Exact.{HasMore}
 use Rattle.cost_text.specs.GivenCosts.{AreGiven, AreNotGiven}
 use Rattle.tree_laws.specs.Certificates.{IsValidCertificate}
 use Rattle.cert_check.specs.Claims.{claim_of}
-use Rattle.cert_check.specs.Faults.{FaultIs}
+use Rattle.cert_check.specs.Faults.{CheckFaultIs}
 use Rattle.report.specs.Faults.{litmus_line, costs_line}
 use Rattle.report_check.specs.Lines.{accepted_line, certificate_line}
 use Rattle.report_check.specs.CheckLines.{check_line}
@@ -36,7 +36,7 @@ abbrev pub handed_in : Litmus Listing → Shown → Shown
 handed_in litmus All = All
 handed_in litmus (Only names) = shown_by litmus.condition.formula litmus.observed
 
--- What a line tells that is relied on: the litmus text stands for this program, its gaps have these costs, the headline holds of
+-- What a line says that is relied on: the litmus text stands for this program, its gaps have these costs, the headline holds of
 -- these gaps, as far as outcomes are shown, and the line is made of them and of their total.
 pub record Tells (litmus : List ℕ) (costs : Option (List ℕ)) (line : List ℕ) : Type 0 where
   pub program : Litmus Listing
@@ -49,7 +49,7 @@ pub record Tells (litmus : List ℕ) (costs : Option (List ℕ)) (line : List �
   pub headline : Headline (asked program.program shown) gap_costs gaps
   pub printed : line ≡ accepted_line program.program shown gaps (total gap_costs gaps)
 
--- The line accepts: it tells that, and the certificate's text is that of a certificate which claims these gaps and is valid.
+-- The line accepts: it says that, and the certificate's text is that of a certificate which claims these gaps and is valid.
 pub record IsAccepted (litmus certificate : List ℕ) (costs : Option (List ℕ)) (line : List ℕ) : Type 0 where
   pub told : Tells litmus costs line
   pub claimed : Certificate
@@ -73,7 +73,7 @@ IsRefused litmus certificate costs (refusal.Costs fault) =
     (program : Litmus Listing) × (claimed : Certificate) × Spell litmus certificate program claimed × AreNotGiven program.program costs fault
 IsRefused litmus certificate costs (refusal.Check fault) =
     (program : Litmus Listing) × (claimed : Certificate) × (gap_costs : List ℕ) × Spell litmus certificate program claimed
-    × AreGiven program.program costs gap_costs × FaultIs (asked program.program (handed_in program claimed.shown)) gap_costs (claim_of claimed) fault
+    × AreGiven program.program costs gap_costs × CheckFaultIs (asked program.program (handed_in program claimed.shown)) gap_costs (claim_of claimed) fault
 
 -- the line of a refusal
 abbrev pub refusal_line : Refusal → List ℕ

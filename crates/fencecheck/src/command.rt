@@ -5,7 +5,7 @@ ghost use Rattle.program_streams.specs.Streams.{Prints};
 ghost use Rattle.fencecheck.specs.Verdicts.{IsVerdict};
 ghost use Rattle.fencecheck.specs.Replies.{usage_line, AreOfFiles, IsFilesFault, IsReplyToInput, IsReplyToFiles, IsOutput};
 ghost use Rattle.fencecheck.specs.Inputs.{ReadsEnough};
-ghost use Rattle.fencecheck.specs.Names.{names_of};
+ghost use Rattle.fencecheck.specs.Names.{file_names_of};
 
 use crate::judge::{judge, refusal_line};
 use crate::parts::{CERTIFICATE_LIMIT, read_joined};
@@ -21,7 +21,7 @@ fn usage_line(alloc: Global) -> Result<Vec<u8>, AllocError>
     Vec::from_slice(alloc, b"usage: fencecheck LITMUS CERTIFICATE [COSTS]\n")
 }
 
-/// Judges a certificate, tells the verdict, and answers the status.
+/// Judges a certificate, prints the verdict, and returns the status.
 fn tell<W: Write>(
     alloc: Global,
     litmus: &[u8],
@@ -74,8 +74,8 @@ fn texts_of<S: FileStore, R: Read>(
     names: Names<'_>,
     input: &mut R,
 ) -> Result<Texts, FileFault>
-    ensures texts { IfOk result (λ texts. AreOfFiles (names_of names.entry) (R.remaining input.old) (S.held files.now) texts.litmus.items texts.certificate.items (option_map (λ text. text.items) texts.costs)) }
-    ensures err { IfErr result (IsFilesFault (names_of names.entry) (R.remaining input.old) (S.held files.now)) }
+    ensures texts { IfOk result (λ texts. AreOfFiles (file_names_of names.entry) (R.remaining input.old) (S.held files.now) texts.litmus.items texts.certificate.items (option_map (λ text. text.items) texts.costs)) }
+    ensures err { IfErr result (IsFilesFault (file_names_of names.entry) (R.remaining input.old) (S.held files.now)) }
 {
     let litmus = named_bytes(alloc, files, names.litmus, input, TEXT_LIMIT)?;
     let certificate = files.file_bytes(alloc, names.certificate, CERTIFICATE_LIMIT)?;
@@ -87,7 +87,7 @@ fn texts_of<S: FileStore, R: Read>(
     })
 }
 
-/// Judges texts, and tells the verdict.
+/// Judges texts, and prints the verdict.
 fn tell_texts<W: Write>(alloc: Global, texts: Texts, output: &mut W) -> u8
     ensures { Prints (IsVerdict texts.litmus.items texts.certificate.items (option_map (λ text. text.items) texts.costs)) (W.contents output.old) (W.contents output.new) result }
 {
@@ -107,7 +107,7 @@ fn run_files<S: FileStore, R: Read, W: Write>(
     input: &mut R,
     output: &mut W,
 ) -> u8
-    ensures { Prints (IsReplyToFiles (names_of names.entry) (R.remaining input.old) (S.held files.now)) (W.contents output.old) (W.contents output.new) result }
+    ensures { Prints (IsReplyToFiles (file_names_of names.entry) (R.remaining input.old) (S.held files.now)) (W.contents output.old) (W.contents output.new) result }
 {
     match texts_of(alloc, files, names, input) {
         Ok(texts) => tell_texts(alloc, texts, output),
@@ -122,12 +122,12 @@ fn is_misused(words: &[String]) -> bool
     words.len() == 1 || words.len() > 3
 }
 
-/// The program: it judges the certificate of the files that the words name, tells the verdict by one line, and answers its
-/// status. With no words it judges what the reader gives.
+/// The program: it judges the certificate of the files that the words name, prints the verdict on one line, and
+/// returns its status. With no words it judges what the reader gives.
 ///
-/// Status 0 means that the certificate is accepted and the line is written. Status 1 is a refusal, told by one line, a
-/// writer that fails or takes no byte, and want of memory for that line, with nothing written. Status 2 is a bad command
-/// line, told on the writer too.
+/// Status 0 means that the certificate is accepted and the line is written. Status 1 is a refusal, reported on one
+/// line, a writer that fails or takes no byte, or out of memory for that line, with nothing written. Status 2 is a
+/// bad command line, reported on the writer too.
 pub fn run_command<S: FileStore, R: Read, W: Write>(
     alloc: Global,
     files: &S,

@@ -1,4 +1,4 @@
-//! What the texts of a program, a certificate and costs are told.
+//! The verdict on the texts of a program, a certificate and costs.
 
 ghost use Rattle.std.specs.Prelude.{◌≡◌, IfOk, IfErr, OnOk, option_map};
 ghost use Rattle.gap_sets.specs.Order.{total};
@@ -7,7 +7,7 @@ ghost use Rattle.tso_machine.specs.Outcomes.{Headline};
 ghost use Rattle.cost_text.specs.GivenCosts.{AreGiven, AreNotGiven};
 ghost use Rattle.tree_laws.specs.Certificates.{IsValidCertificate};
 ghost use Rattle.cert_check.specs.Claims.{claim_of};
-ghost use Rattle.cert_check.specs.Faults.{FaultIs};
+ghost use Rattle.cert_check.specs.Faults.{CheckFaultIs};
 ghost use Rattle.report_check.specs.Lines.{accepted_line};
 ghost use Rattle.fencecheck.specs.Verdicts.{handed_in, IsAccepted, IsRefused, refusal_line};
 
@@ -78,7 +78,7 @@ fn checked_line(
     ensures headline { OnOk result (Headline (asked program.now shown.now) costs.now certificate.now.set) }
     ensures valid { OnOk result (IsValidCertificate (asked program.now shown.now) costs.now (claim_of certificate.now)) }
     ensures line { IfOk result (λ line. line.items ≡ accepted_line program.now shown.now certificate.now.set (total costs.now certificate.now.set)) }
-    ensures refused { IfErr result (FaultIs (asked program.now shown.now) costs.now (claim_of certificate.now)) }
+    ensures refused { IfErr result (CheckFaultIs (asked program.now shown.now) costs.now (claim_of certificate.now)) }
 {
     let accepted = check(alloc, program, shown, costs, certificate)?;
     match accepted_line(alloc, program, shown, accepted.set, accepted.cost) {

@@ -1,8 +1,8 @@
 //! An input with a litmus text and a certificate after it.
 
 ghost use Rattle.std.specs.Prelude.{◌≤◌, ◌↔◌, drop, length, take, IsTrue, IfOk, IfErr};
-ghost use Rattle.program_streams.specs.Streams.{Holds, IsReadFault};
-ghost use Rattle.fencecheck.specs.Inputs.{BeginsLine, StartsAt, IsStart, ArePartsOf, IsTooLongInput, ReadsEnough};
+ghost use Rattle.program_streams.specs.Streams.{HoldsBytes, IsReadFault};
+ghost use Rattle.fencecheck.specs.Inputs.{BeginsLine, StartsAt, IsCertificateStart, ArePartsOf, IsTooLongInput, ReadsEnough};
 
 use program_streams::{FileFault, TEXT_LIMIT, read_on, read_rest_up_to};
 use std::alloc::Global;
@@ -36,7 +36,7 @@ fn starts_at(bytes: &[u8], place: usize) -> bool
 
 /// Where the certificate starts: at the first line that begins as one, or at the end.
 fn certificate_start(bytes: &[u8]) -> usize
-    ensures start { IsStart bytes.now result }
+    ensures start { IsCertificateStart bytes.now result }
     ensures within { result ≤ length bytes.now }
 {
     for place in 0..bytes.len() {
@@ -57,7 +57,7 @@ pub(crate) struct Joined {
 /// Reads a litmus text and the certificate after it. It stops reading once a part is too long: `TooLong` comes whatever
 /// follows, and whether or not that can be read.
 pub(crate) fn read_joined<R: Read>(alloc: Global, input: &mut R) -> Result<Joined, FileFault>
-    ensures whole { IfOk result (λ joined. Holds (R.remaining input.old) joined.bytes.items) }
+    ensures whole { IfOk result (λ joined. HoldsBytes (R.remaining input.old) joined.bytes.items) }
     ensures parts { IfOk result (λ joined. ArePartsOf joined.bytes.items (take joined.start joined.bytes.items) (drop joined.start joined.bytes.items)) }
     ensures within { IfOk result (λ joined. joined.start ≤ length joined.bytes.items) }
     ensures err { IfErr result (IsReadFault (IsTooLongInput (R.remaining input.old))) }

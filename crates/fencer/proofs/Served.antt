@@ -50,6 +50,6 @@ line_fault old new file.Read is = tt
 line_fault old new file.Write is = absurd is
 line_fault old new file.TooLong is = (new, is)
 
--- words that are not UTF-8 are told to be no command
+-- words that are not UTF-8 are reported as no command
 pub utf8_reply : (words : List Text) (input : Option (List ℕ)) (files left : List ℕ → Option (List ℕ)) (status : ℕ) (out : List ℕ) → IsNoCommand words → IsUtf8Refusal status out → IsReply words input files left status out
 utf8_reply words input files left status out refused is = subst (λ (s : ℕ). IsReply words input files left s out) (sym is.0) (no_command out refused (codes "error: the command line is not UTF-8", is.1))

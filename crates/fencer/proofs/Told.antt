@@ -1,4 +1,4 @@
--- What is told of an answer.
+-- What is printed of an answer.
 use Rattle.std.proofs.Common.{ℕ, List, Option, Result, Ok, Err, IfOk, IfErr, sym, subst}
 use Rattle.std.specs.Global.{Vec}
 use Rattle.program_streams.specs.declared.files.TheConstants.{TEXT_LIMIT}

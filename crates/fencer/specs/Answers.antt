@@ -13,13 +13,13 @@ use Rattle.fencer_words.specs.CommandLines.{AsksFor, IsNoCommand}
 use Rattle.fencer.specs.Lines.{EndsLine}
 use Rattle.fencer.specs.Outcomes.{AreOutcomes}
 use Rattle.fencer.specs.Placements.{name_of, IsPlaced}
-use Rattle.fencer.specs.Replays.{IsReplay, run_text}
+use Rattle.fencer.specs.Replays.{IsReplay, label_words_text}
 
 -- ---- what is printed
 
 -- the answer to a job
 abbrev pub IsAnswer : Job → Option (List ℕ) → (List ℕ → Option (List ℕ)) → (List ℕ → Option (List ℕ)) → ℕ → List ℕ → Type 0
-IsAnswer (Replay model litmus labels) input files left = IsReplay model (run_text labels.items) (string_bytes litmus) input files
+IsAnswer (Replay model litmus labels) input files left = IsReplay model (label_words_text labels.items) (string_bytes litmus) input files
 IsAnswer (Outcomes model observed litmus) input files left = AreOutcomes model observed (string_bytes litmus) input files
 IsAnswer (Place asked) input files left = IsPlaced asked input files left
 
@@ -32,7 +32,7 @@ pub data IsReply (words : List Text) (input : Option (List ℕ)) (files left : L
   answer : (job : Job) (status : ℕ) (text : List ℕ) → AsksFor words job → IsAnswer job input files left status text → IsReply words input files left status text
   no_command : (text : List ℕ) → IsNoCommand words → EndsLine text → IsReply words input files left 2 text
 
--- the reply to an input alone: its first line has the words, and what is behind it is the input
+-- the reply to an input alone: its first line has the words, and what follows it is the input
 pub data IsReplyToInput (input : Option (List ℕ)) (files left : List ℕ → Option (List ℕ)) : ℕ → List ℕ → Type 0 where
   by_line : (line : List ℕ) (rest : Option (List ℕ)) (status : ℕ) (text : List ℕ) → TakesLine input rest line → length line ≤ TEXT_LIMIT → IsReply (words_of line) rest files left status text → IsReplyToInput input files left status text
   no_line : (why : FileFault) → IsReadFault (HasTooLongLine input) why → IsReplyToInput input files left 1 (file_line why)
@@ -67,7 +67,7 @@ pub record LineAsksToWrite (input : Option (List ℕ)) (name : List ℕ) : Type 
   pub taken : TakesLine input rest line
   pub asked : AsksToWrite (words_of line) name
 
--- the same of what the words after the program's name ask for, or of what the input does where there are none
+-- the same of what the words after the program's name ask for, or of what the input does if there are no words
 abbrev pub KeepOtherFiles : List Text → Option (List ℕ) → (List ℕ → Option (List ℕ)) → (List ℕ → Option (List ℕ)) → Type 0
 KeepOtherFiles [] input files left = (name : List ℕ) → (LineAsksToWrite input name → ⊥) → left name ≡ files name
 KeepOtherFiles (word ∷ words) input files left = KeepFilesOf (word ∷ words) files left

@@ -1,4 +1,4 @@
--- What is told of a command line that is none.
+-- What is printed for a command line that is not a command.
 use Rattle.std.specs.Prelude.{◌≡◌, ℕ, List, [], ◌∷◌, ◌++◌}
 
 -- the text ends with a line feed

@@ -6,7 +6,7 @@ use Rattle.program_streams.specs.declared.fault.FileFault.{FileFault}
 use Rattle.program_streams.specs.declared.fault.FileFault.TheVariants as file
 use Rattle.program_streams.specs.declared.files.TheConstants.{TEXT_LIMIT}
 use Rattle.program_streams.specs.Files.{AreOfFile, AreOfFileIfNamed, IsFileFault, IsNamedFileFault}
-use Rattle.program_streams.specs.Streams.{Holds}
+use Rattle.program_streams.specs.Streams.{HoldsBytes}
 use Rattle.fencer_words.specs.declared.job.Placement.{Placement}
 use Rattle.fence_place.specs.declared.fault.PlaceFault.{PlaceFault}
 use Rattle.fence_place.specs.declared.fault.PlaceFault.TheVariants as place
@@ -30,7 +30,7 @@ place_line place.NotCertified = refused (codes "place 3 NotCertified")
 place_line place.Board = refused (codes "place 4 Board")
 place_line place.OutOfMemory = refused (codes "place 5 OutOfMemory")
 
--- a text that isn't read is told as its own part
+-- a text that isn't read is reported as a fault of its part
 abbrev pub text_fault_line : TextFault → List ℕ
 text_fault_line (fault.Read why) = litmus_line why
 text_fault_line (fault.CostText why) = costs_line why
@@ -57,7 +57,7 @@ KeepAllFiles files left = (name : List ℕ) → left name ≡ files name
 -- the certificate file, where one is named, holds this text
 abbrev pub HoldsCertificate : Option (List ℕ) → (List ℕ → Option (List ℕ)) → List ℕ → Type 0
 HoldsCertificate None left certificate = ⊤
-HoldsCertificate (Some name) left certificate = Holds (left name) certificate
+HoldsCertificate (Some name) left certificate = HoldsBytes (left name) certificate
 
 -- what the files hold that are read; `-` as the litmus file is the input
 pub record AreTexts (q : Placement) (input : Option (List ℕ)) (files : List ℕ → Option (List ℕ)) (litmus : List ℕ) (costs : Option (List ℕ)) : Type 0 where
@@ -76,7 +76,7 @@ pub data IsDelivered (named : Option (List ℕ)) (left : List ℕ → Option (Li
   kept : HoldsCertificate named left certificate → IsDelivered named left lines certificate 0 lines
   not_kept : IsSome named → IsDelivered named left lines certificate 1 (file_line file.Write)
 
--- the answer to texts; or why there is none, and then no file is changed
+-- the answer to texts; or why there is no answer, and then no file is changed
 pub data IsJudged (q : Placement) (litmus : List ℕ) (costs : Option (List ℕ)) (files left : List ℕ → Option (List ℕ)) : ℕ → List ℕ → Type 0 where
   placed : (lines certificate : List ℕ) (status : ℕ) (text : List ℕ) → PrintsPlacement litmus costs q.observed lines certificate
       → IsDelivered (name_of q.certificate) left lines certificate status text → IsJudged q litmus costs files left status text

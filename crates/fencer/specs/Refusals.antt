@@ -1,4 +1,4 @@
--- Why there is no answer, and how an answer is told.
+-- Why there is no answer, and how an answer is printed.
 use Rattle.std.specs.Prelude.{◌≡◌, ℕ, List, Result, Ok, Err, codes}
 use Rattle.std.specs.Global.{Vec}
 use Rattle.cover_solver.specs.declared.fault.SolveFault.{SolveFault}
@@ -18,7 +18,7 @@ refusal_line (refusal.Run fault) = run_line fault
 refusal_line (refusal.Replay fault) = replay_line fault
 refusal_line (refusal.Solve fault) = solve_line fault
 
--- what is told, with its status: the lines of an answer, or the line of a refusal
+-- what is printed, with its status: the lines of an answer, or the line of a refusal
 abbrev pub IsTold : Result (Vec ℕ) Refusal → ℕ → List ℕ → Type 0
 IsTold (Ok lines) status text = (status ≡ 0) × (text ≡ lines.items)
 IsTold (Err why) status text = (status ≡ 1) × (text ≡ refusal_line why)

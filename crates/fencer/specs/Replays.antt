@@ -11,7 +11,7 @@ use Rattle.tso_machine.specs.declared.label.Model.{Model}
 use Rattle.tso_machine.specs.declared.ended.ReplayFault.{ReplayFault}
 use Rattle.tso_machine.specs.Machine.{IsRun}
 use Rattle.tso_machine.specs.Modes.{ArePassed}
-use Rattle.tso_machine.specs.Faults.{FaultIs}
+use Rattle.tso_machine.specs.Faults.{ReplayFaultIs}
 use Rattle.tso_machine.specs.RunTexts.{IsRunText, RunFaultIs}
 use Rattle.litmus_text.specs.declared.litmus.Litmus.{Litmus}
 use Rattle.litmus_text.specs.Texts.{IsLitmus, IsNoLitmus}
@@ -21,9 +21,9 @@ use Rattle.fencer.specs.declared.refusals.Refusal.TheVariants as refusal
 use Rattle.fencer.specs.Machines.{unfenced}
 use Rattle.fencer.specs.TextAnswers.{IsAnswerTo}
 
--- label words as one text, each behind a space
-abbrev pub run_text : {Z : Type 0} → List (String Z) → List ℕ
-run_text words = flat_map (λ word. 32 ∷ string_bytes word) words
+-- label words as one text, each after a space
+abbrev pub label_words_text : {Z : Type 0} → List (String Z) → List ℕ
+label_words_text words = flat_map (λ word. 32 ∷ string_bytes word) words
 
 -- the lines are those of a run: the labels' text spells it, in the unfenced program that the bytes spell
 pub record PrintsRun (model : Model) (labels bytes lines : List ℕ) : Type 0 where
@@ -38,18 +38,18 @@ pub record PrintsRun (model : Model) (labels bytes lines : List ℕ) : Type 0 wh
   pub printed : lines ≡ outcome_line litmus.names All outcome ++ passed_line litmus.program passed
 
 -- why steps are no run of the unfenced program that the bytes spell
-pub record IsNoRun (model : Model) (labels bytes : List ℕ) (fault : ReplayFault) : Type 0 where
+pub record IsRefusedReplay (model : Model) (labels bytes : List ℕ) (fault : ReplayFault) : Type 0 where
   pub litmus : Litmus Listing
   pub spelled : IsLitmus bytes litmus
   pub steps : List Label
   pub read : IsRunText labels steps
-  pub why : FaultIs litmus.program (unfenced litmus.program model) steps fault
+  pub why : ReplayFaultIs litmus.program (unfenced litmus.program model) steps fault
 
 -- why a text and labels have no replay: the text is judged before the labels, and these before the run
 abbrev pub HasNoRun : Model → List ℕ → List ℕ → Refusal → Type 0
 HasNoRun model labels bytes (refusal.Litmus fault) = IsNoLitmus bytes fault
 HasNoRun model labels bytes (refusal.Run fault) = (litmus : Litmus Listing) × IsLitmus bytes litmus × RunFaultIs labels fault
-HasNoRun model labels bytes (refusal.Replay fault) = IsNoRun model labels bytes fault
+HasNoRun model labels bytes (refusal.Replay fault) = IsRefusedReplay model labels bytes fault
 HasNoRun model labels bytes (refusal.Solve fault) = ⊥
 
 -- the answer to a replay, with its status: the lines of the run, or the line of a refusal

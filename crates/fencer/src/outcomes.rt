@@ -1,4 +1,4 @@
-//! Outcomes: the lines of a program's list, or why there is none.
+//! Outcomes: the lines of a program's list, or why there is no list.
 
 ghost use Rattle.std.specs.Prelude.{◌≡◌, IfOk, IfErr};
 ghost use Rattle.program_streams.specs.Streams.{Prints};
@@ -53,7 +53,7 @@ fn outcomes_lines(
     }
 }
 
-/// Lists the outcomes of the program of a litmus file, tells the answer, and answers the status.
+/// Lists the outcomes of the program of a litmus file, prints the answer, and returns the status.
 pub fn run_outcomes<S: FileStore, R: Read, W: Write>(
     alloc: Global,
     files: &S,

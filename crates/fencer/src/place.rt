@@ -1,4 +1,4 @@
-//! Placements: the answer of a program and its text with fences, or why there is none.
+//! Placements: the answer of a program and its text with fences, or why there is no answer.
 
 ghost use Rattle.std.specs.Prelude.{◌≡◌, ◌++◌, IfErr, IfOk, IsOkUnless, IsSome, OnErr, OnOk, option_map};
 ghost use Rattle.program_streams.specs.Streams.{Prints};
@@ -71,7 +71,7 @@ fn read_texts<S: FileStore, R: Read>(
     Ok(Texts { litmus, costs })
 }
 
-/// The answer line with the program's text behind it.
+/// The answer line, followed by the program's text.
 fn joined(texts: PlacedText) -> Result<Answer, TextFault>
     ensures lines { IfOk result (λ answer. answer.lines.items ≡ texts.answer.items ++ texts.program.items) }
     ensures certificate { IfOk result (λ answer. answer.certificate.items ≡ texts.certificate.items) }
@@ -130,7 +130,7 @@ fn keep_certificate<S: WritableFileStore>(
     }
 }
 
-/// Writes the certificate, then tells the answer, and answers the status.
+/// Writes the certificate, then prints the answer, and returns the status.
 fn deliver<S: WritableFileStore, W: Write>(
     alloc: Global,
     files: &mut S,
@@ -148,7 +148,7 @@ fn deliver<S: WritableFileStore, W: Write>(
     }
 }
 
-/// Judges texts, tells what is placed, and answers the status.
+/// Judges texts, prints what is placed, and returns the status.
 fn place_texts<T: Threads + Sync, U: Wait + Sync, S: WritableFileStore, W: Write>(
     rt: &T,
     wait: &U,
@@ -167,8 +167,8 @@ fn place_texts<T: Threads + Sync, U: Wait + Sync, S: WritableFileStore, W: Write
     }
 }
 
-/// Places fences in the program of a litmus file, writes the certificate, tells the answer, and answers
-/// the status.
+/// Places fences in the program of a litmus file, writes the certificate, prints the answer, and
+/// returns the status.
 pub fn run_place<T: Threads + Sync, U: Wait + Sync, S: WritableFileStore, R: Read, W: Write>(
     rt: &T,
     wait: &U,

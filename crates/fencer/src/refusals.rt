@@ -1,4 +1,4 @@
-//! Why there is no answer, and how an answer is told.
+//! Why there is no answer, and how an answer is printed.
 
 ghost use Rattle.std.specs.Prelude.{◌≡◌, IfOk};
 ghost use Rattle.program_streams.specs.Streams.{Prints};
@@ -80,7 +80,7 @@ fn refusal_line(alloc: Global, why: Refusal) -> Result<Vec<u8>, AllocError>
     }
 }
 
-/// Tells the lines of an answer, or why there is none, and answers the status.
+/// Prints the lines of an answer, or why there is no answer, and returns the status.
 pub fn tell<W: Write>(alloc: Global, answer: Result<Vec<u8>, Refusal>, output: &mut W) -> u8
     ensures { Prints (IsTold answer) (W.contents output.old) (W.contents output.new) result }
 {

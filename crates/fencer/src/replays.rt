@@ -1,10 +1,10 @@
-//! Replays: the lines of a run, or why there is none.
+//! Replays: the lines of a run, or why there is no run.
 
 ghost use Rattle.std.specs.Prelude.{◌≡◌, ◌++◌, IfOk, IfErr};
 ghost use Rattle.tso_machine.specs.RunTexts.{IsRunText, RunFaultIs};
 ghost use Rattle.report.specs.Answers.{outcome_line, passed_line};
 ghost use Rattle.program_streams.specs.Streams.{Prints};
-ghost use Rattle.fencer.specs.Replays.{run_text, PrintsRun, HasNoRun, IsReplay};
+ghost use Rattle.fencer.specs.Replays.{label_words_text, PrintsRun, HasNoRun, IsReplay};
 
 use crate::refusals::{Refusal, tell};
 use gap_sets::GapSet;
@@ -16,9 +16,9 @@ use std::io::{Read, Write};
 use tso_machine::{Ended, Label, Model, ReplayFault, RunFault, read_run, replay};
 use tso_program::{Program, Shown};
 
-/// The label words, each behind a space.
+/// The label words, each after a space.
 fn run_text(alloc: Global, words: &[String]) -> Result<Vec<u8>, AllocError>
-    ensures { IfOk result (λ text. text.items ≡ run_text words.now) }
+    ensures { IfOk result (λ text. text.items ≡ label_words_text words.now) }
 {
     let mut text = Vec::new(alloc);
     for word in words {
@@ -30,8 +30,8 @@ fn run_text(alloc: Global, words: &[String]) -> Result<Vec<u8>, AllocError>
 
 /// The steps that label words spell.
 fn steps_of(alloc: Global, words: &[String]) -> Result<Vec<Label>, RunFault>
-    ensures found { IfOk result (λ steps. IsRunText (run_text words.now) steps.items) }
-    ensures err { IfErr result (RunFaultIs (run_text words.now)) }
+    ensures found { IfOk result (λ steps. IsRunText (label_words_text words.now) steps.items) }
+    ensures err { IfErr result (RunFaultIs (label_words_text words.now)) }
 {
     match run_text(alloc, words) {
         Ok(text) => read_run(alloc, &text),
@@ -61,8 +61,8 @@ fn replay_lines(
     model: Model,
     labels: &[String],
 ) -> Result<Vec<u8>, Refusal>
-    ensures run { IfOk result (λ lines. PrintsRun model (run_text labels.now) bytes.now lines.items) }
-    ensures refused { IfErr result (HasNoRun model (run_text labels.now) bytes.now) }
+    ensures run { IfOk result (λ lines. PrintsRun model (label_words_text labels.now) bytes.now lines.items) }
+    ensures refused { IfErr result (HasNoRun model (label_words_text labels.now) bytes.now) }
 {
     let litmus = read_litmus(alloc, bytes)?;
     let steps = steps_of(alloc, labels)?;
@@ -73,7 +73,7 @@ fn replay_lines(
     }
 }
 
-/// Replays label words on the program of a litmus file, tells the answer, and answers the status.
+/// Replays label words on the program of a litmus file, prints the answer, and returns the status.
 pub fn run_replay<S: FileStore, R: Read, W: Write>(
     alloc: Global,
     files: &S,
@@ -83,7 +83,7 @@ pub fn run_replay<S: FileStore, R: Read, W: Write>(
     input: &mut R,
     output: &mut W,
 ) -> u8
-    ensures { Prints (IsReplay model (run_text labels.now) litmus.now (R.remaining input.old) (S.held files.now)) (W.contents output.old) (W.contents output.new) result }
+    ensures { Prints (IsReplay model (label_words_text labels.now) litmus.now (R.remaining input.old) (S.held files.now)) (W.contents output.old) (W.contents output.new) result }
 {
     match named_bytes(alloc, files, litmus, input, TEXT_LIMIT) {
         Ok(bytes) => tell(alloc, replay_lines(alloc, &bytes, model, labels), output),

@@ -12,7 +12,7 @@ use Rattle.clap.specs.Faults.{built_fault, walk_fault, entered_fault, settle_fau
 use Rattle.clap.specs.declared.error.Error.{Error}
 use Rattle.clap.specs.declared.error.kind.ErrorKind.TheVariants.{OutOfMemory}
 use Rattle.clap.specs.declared.parser.matches.ArgMatches.{ArgMatches}
-use Rattle.fencer_words.specs.CommandLines.{Names, AreModels, command_names, fencer_app, IsNoCommand, faulty}
+use Rattle.fencer_words.specs.CommandLines.{ModelNames, AreModels, command_names, fencer_app, IsNoCommand, faulty}
 use Rattle.fencer_words.specs.Commands.{MeetsNoCommand}
 
 -- where neither of two has a fault, the second has none
@@ -31,7 +31,7 @@ there_is false false false argument is none = absurd cc
 abbrev all_faults : Kinds → Kinds → Kinds → Kinds → Kinds → Kinds
 all_faults walk below settle defaults check = or_else walk (or_else below (or_else settle (or_else defaults check)))
 
--- where there is none, the last part has none
+-- if there is no fault, the last part has no fault
 last_part : (walk below settle defaults check : Kinds) → all_faults walk below settle defaults check ≡ [] → check ≡ []
 last_part walk below settle defaults check none = second defaults check (second settle (or_else defaults check) (second below (or_else settle (or_else defaults check)) (second walk (or_else below (or_else settle (or_else defaults check))) none)))
 
@@ -84,14 +84,14 @@ entered_among a (Some p) some =
     found_is (Some s) some = refl
 
 -- words without a fault name a command
-names_command : (models : Names) (words : List Text) → fault_of (fencer_app models) words ≡ []
+names_command : (models : ModelNames) (words : List Text) → fault_of (fencer_app models) words ≡ []
     → (name : Text) × (rows : List Row) × Contains command_names name × (subcommand_of (fencer_app models) words ≡ Some (name, rows))
 names_command models words none =
     entered_among (built (fencer_app models)) (stop (built (fencer_app models)) nothing_held (argument_words (fencer_app models) words))
     (enters (built (fencer_app models)) nothing_held (argument_words (fencer_app models) words) refl none)
 
 -- where `clap` fails, memory was wanting or the words are no command
-pub no_command : (app : App) (models : Names) (words : List Text) (error : Error) → AreModels models → app ≡ fencer_app models → (is_simple_and_free app ≡ true → HasKind (fault_of app words) error)
+pub no_command : (app : App) (models : ModelNames) (words : List Text) (error : Error) → AreModels models → app ≡ fencer_app models → (is_simple_and_free app ≡ true → HasKind (fault_of app words) error)
     → (kind_of error ≡ OutOfMemory) ⊎ IsNoCommand words
 no_command app models words error are_models is kinds =
     elim (subst (λ (a : App). HasKind (fault_of a words) error) is (kinds (rw is refl))) [
@@ -100,14 +100,14 @@ no_command app models words error are_models is kinds =
     ]
 
 -- where it succeeds, there is no fault
-pub no_fault : (app : App) (models : Names) (words : List Text) → app ≡ fencer_app models → (is_simple_and_free app ≡ true → fault_of app words ≡ []) → fault_of (fencer_app models) words ≡ []
+pub no_fault : (app : App) (models : ModelNames) (words : List Text) → app ≡ fencer_app models → (is_simple_and_free app ≡ true → fault_of app words ≡ []) → fault_of (fencer_app models) words ≡ []
 no_fault app models words is none = subst (λ (a : App). fault_of a words ≡ []) is (none (rw is refl))
 
-simple : (app : App) (models : Names) → app ≡ fencer_app models → is_simple app ≡ true
+simple : (app : App) (models : ModelNames) → app ≡ fencer_app models → is_simple app ≡ true
 simple app models is = subst (λ (a : App). is_simple a ≡ true) (sym is) refl
 
 -- and its matches are those of a command
-module _ (app : App) (models : Names) (words : List Text) (m : ArgMatches) (is : app ≡ fencer_app models) (none : fault_of (fencer_app models) words ≡ []) (matches : HasMatchesOf app words m) where
+module _ (app : App) (models : ModelNames) (words : List Text) (m : ArgMatches) (is : app ≡ fencer_app models) (none : fault_of (fencer_app models) words ≡ []) (matches : HasMatchesOf app words m) where
   matched : subcommand_rows_of m ≡ subcommand_of (fencer_app models) words
   matched = (matches (simple app models is)).1 ∙ ap (λ (a : App). subcommand_of a words) is
 

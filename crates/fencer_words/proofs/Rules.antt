@@ -14,10 +14,10 @@ use Rattle.clap.specs.declared.builder.range.ValueRange.{ValueRange}
 use Rattle.clap.specs.declared.builder.texts.Texts.TheVariants.{One}
 use Rattle.clap.specs.declared.builder.value_parser.ValueParser.{ValueParser}
 use Rattle.clap.specs.declared.builder.value_parser.ValueParser.TheVariants as parser
-use Rattle.fencer_words.specs.CommandLines.{Names, model_rule, label_rule, observed_rule}
+use Rattle.fencer_words.specs.CommandLines.{ModelNames, model_rule, label_rule, observed_rule}
 
 -- an argument with a long name, a parser and a default value
-pub model_rule_of : (new long parsed done : Arg) (name value : Bor Text) (models : Names)
+pub model_rule_of : (new long parsed done : Arg) (name value : Bor Text) (models : ModelNames)
     → rule_of new ≡ new_rule (codes "model")
     → long ≡ record new { long = Some name } → name.now ≡ codes "model"
     → parsed ≡ record long { value_parser = parsed.value_parser } → parsed.value_parser ≡ Some (parser.Names models)

@@ -19,15 +19,15 @@ use Rattle.fencer_words.specs.declared.place.TheConstants.{MAX_WORKERS}
 -- ---- arguments
 
 -- names among which a value is chosen, as `clap` keeps them
-abbrev pub Names : Type 0
-Names = Bor (List (Bor Text))
+abbrev pub ModelNames : Type 0
+ModelNames = Bor (List (Bor Text))
 
 -- the names of the two models
-abbrev pub AreModels : Names → Type 0
+abbrev pub AreModels : ModelNames → Type 0
 AreModels names = map (λ (name : Bor Text). name.now) names.now ≡ codes "buffered" ∷ codes "sequential" ∷ []
 
 -- `--model MODEL`
-abbrev pub model_rule : Names → Rule
+abbrev pub model_rule : ModelNames → Rule
 model_rule models = record (new_rule (codes "model")) {
   long = Some (codes "model");
   parser = Some (parser.Names models);
@@ -67,11 +67,11 @@ workers_rule = record (new_rule (codes "workers")) {
 -- ---- commands
 
 -- `replay [--model MODEL] LITMUS [LABEL..]`
-abbrev pub replay_app : Names → App
+abbrev pub replay_app : ModelNames → App
 replay_app models = with_rule (with_rule (with_rule (new_app (codes "replay")) (model_rule models)) litmus_rule) label_rule
 
 -- `outcomes [--model MODEL] [--observed] LITMUS`
-abbrev pub outcomes_app : Names → App
+abbrev pub outcomes_app : ModelNames → App
 outcomes_app models = with_rule (with_rule (with_rule (new_app (codes "outcomes")) (model_rule models)) observed_rule) litmus_rule
 
 -- `place [--costs FILE] [--workers N] [--certificate FILE] [--observed] LITMUS`
@@ -83,7 +83,7 @@ abbrev pub commands_app : App
 commands_app = on_top (λ s. record s { no_binary_name = true; subcommand_required = true; disable_help_subcommand = true }) (new_app (codes "fencer"))
 
 -- the program's whole command line, after its name
-abbrev pub fencer_app : Names → App
+abbrev pub fencer_app : ModelNames → App
 fencer_app models = with_subcommand (with_subcommand (with_subcommand commands_app (replay_app models).top) (outcomes_app models).top) place_app.top
 
 -- the names of the commands
@@ -142,7 +142,7 @@ IsJobOf name rows (Place asked) =
 
 -- the words after the program's name ask for the job: `clap` finds no fault in them
 pub record AsksFor (words : List Text) (job : Job) : Type 0 where
-  pub models : Names
+  pub models : ModelNames
   pub are_models : AreModels models
   pub name : Text
   pub rows : List Row
@@ -153,4 +153,4 @@ pub record AsksFor (words : List Text) (job : Job) : Type 0 where
 -- the words are no command: one of them is no UTF-8, or `clap` finds a fault in them, as which it takes a call for help
 pub data IsNoCommand (words : List Text) : Type 0 where
   no_utf8 : (word : Text) → Contains words word → (IsUtf8 word → ⊥) → IsNoCommand words
-  faulty : (models : Names) → AreModels models → fault_of (fencer_app models) words ≢ [] → IsNoCommand words
+  faulty : (models : ModelNames) → AreModels models → fault_of (fencer_app models) words ≢ [] → IsNoCommand words

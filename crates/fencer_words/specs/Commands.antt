@@ -5,7 +5,7 @@ use Rattle.clap.specs.declared.builder.command.Command.{Command}
 use Rattle.clap.specs.declared.builder.command.Command.TheViews.{out-Command}
 use Rattle.clap.specs.declared.parser.matches.ArgMatches.{ArgMatches}
 use Rattle.fencer_words.specs.declared.job.Job.{Job}
-use Rattle.fencer_words.specs.CommandLines.{Names, AreModels, IsJobOf, command_names, fencer_app}
+use Rattle.fencer_words.specs.CommandLines.{ModelNames, AreModels, IsJobOf, command_names, fencer_app}
 
 -- the command is this one, and has no argument that its subcommands share
 pub record IsBuiltAs (app : App) (command : Command) : Type 0 where
@@ -14,7 +14,7 @@ pub record IsBuiltAs (app : App) (command : Command) : Type 0 where
 
 -- the command is the program's whole command line, with the names of the models
 pub record IsFencerCommand (command : Command) : Type 0 where
-  pub models : Names
+  pub models : ModelNames
   pub are_models : AreModels models
   pub built : IsBuiltAs (fencer_app models) command
 

@@ -6,7 +6,7 @@ use Rattle.std.specs.List.{position_or_len}
 use Rattle.std.proofs.lemmas.Bool.Decides.{nat_tests}
 use Rattle.std.proofs.lemmas.List.Sums.{fails_before_first, prefix_len_is}
 use Rattle.gap_sets.specs.declared.costs.CostFault.TheVariants.{Zero, TooLarge, TooMany}
-use Rattle.gap_sets.specs.CostLists.{IsCostList, first_free, first_too_large, first_cost_fault, LimitsAreTheRefusals}
+use Rattle.gap_sets.specs.CostLists.{IsCostList, first_free, first_too_large, first_cost_fault, CostLimitsAreTheRefusals}
 
 -- where no place below the end is found, the place is the end
 past_the_end : (place len : ℕ) → cond (nat_lt place len) (Some place) None ≡ None → len ≤ place
@@ -70,5 +70,5 @@ no_fault-from_IsCostList costs within =
     let large : first_too_large costs ≡ None = none_found (λ c. nat_lt 1000000 c) costs (λ k lt. not_too_large (get_or costs k 0) (within.each k 0 lt)) in
     rw (not_too_many (length costs) within.few, free, large) refl
 
-pub limits_are_the_refusals : LimitsAreTheRefusals
+pub limits_are_the_refusals : CostLimitsAreTheRefusals
 limits_are_the_refusals costs = (IsCostList-from_no_fault costs, no_fault-from_IsCostList costs)

@@ -9,7 +9,7 @@ use Rattle.std.specs.Cmp.{nat_cmp_total}
 use Rattle.std.proofs.lemmas.Nat.Bits.{bit_at-suc, bit_at-lt, bit_at_lowest}
 use native.Mathlib.Numerals.{unary_clauses}
 use lib.Count.{ones_step}
-use Rattle.gap_sets.specs.Bits.{has_bit, list_of, gaps_of}
+use Rattle.gap_sets.specs.Bits.{has_bit, list_of, gaps_of_bits}
 use Rattle.gap_sets.specs.BitsLaws.{any-below}
 
 -- a number that is not there yet makes the set larger by one
@@ -55,6 +55,6 @@ ones-members (suc k) n h =
     ∙ sym (length-cond (has_bit n 0) _ _)
 
 -- as many bits are 1 as gaps are in the set
-pub len-gaps_of : (bits : ℕ) → bits < 2 ^ 64 → count_ones bits ≡ set.len (gaps_of bits)
-unfolding gaps_of list_of
+pub len-gaps_of : (bits : ℕ) → bits < 2 ^ 64 → count_ones bits ≡ set.len (gaps_of_bits bits)
+unfolding gaps_of_bits list_of
 len-gaps_of bits h = ones-members 64 bits h ∙ sym (len-from_list (has_bit bits) 0 64)

@@ -6,7 +6,7 @@ use Rattle.std.proofs.lemmas.Bool.{cases_lt}
 use Rattle.std.proofs.lemmas.Bool.Decides.{nat_tests}
 use Rattle.std.proofs.lemmas.Nat.{xor_lt}
 use Rattle.std.proofs.lemmas.Nat.Bits.{bit_at-lt, bit_at_xor, bit_at-zero, bit_at-trailing_zeros}
-use Rattle.gap_sets.specs.Bits.{gaps_of}
+use Rattle.gap_sets.specs.Bits.{gaps_of_bits}
 use Rattle.gap_sets.proofs.WordSets.{contains-word}
 use Rattle.gap_sets.specs.Gaps.{SetOfGaps}
 use Rattle.gap_sets.specs.Order.{HasLeastDifference}
@@ -49,7 +49,7 @@ bit_is_zero x h e = grind (arith, nat_tests)
 same_bits : (x y : ℕ) → x < 2 → y < 2 → (x == 1) ≡ (y == 1) → x ≡ y
 same_bits x y h i e = grind (arith, nat_tests)
 
-module _ (a b : ℕ) (s t : SetOfGaps) (a_is : gaps_of a ≡ s) (b_is : gaps_of b ≡ t) (small_a : a < 2 ^ 64) (small_b : b < 2 ^ 64) where
+module _ (a b : ℕ) (s t : SetOfGaps) (a_is : gaps_of_bits a ≡ s) (b_is : gaps_of_bits b ≡ t) (small_a : a < 2 ^ 64) (small_b : b < 2 ^ 64) where
   -- where the first word has it, its set has the least gap of the difference
   pub least_from_bit : (place : ℕ) → DiffersFirstAt a b place → bit_at a place ≡ 1 → HasLeastDifference s t
   least_from_bit place d one =

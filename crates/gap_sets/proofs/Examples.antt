@@ -4,13 +4,13 @@ use Rattle.std.specs.List.{filter, range_with_len, list_any}
 use Rattle.std.specs.FinSet as set
 use Rattle.gap_sets.proofs.Orders.{not_itself}
 use Rattle.gap_sets.proofs.Ranges.{filter_alike}
-use Rattle.gap_sets.specs.Gaps.{gaps_in}
+use Rattle.gap_sets.specs.Gaps.{numbers_of_set}
 use Rattle.gap_sets.specs.Order.{total, cost_of, HasLeastDifference}
 use Rattle.gap_sets.specs.Laws.{ThreeGapsOfCostOne, these, ones}
 
 -- what a listed set costs, by its list
 pub total-these : (costs gaps : List ℕ) → total costs (these gaps) ≡ sum_by (cost_of costs) (filter (λ q. list_any (λ y. nat_eq y q) gaps) (range_with_len 0 64))
-unfolding total gaps_in
+unfolding total numbers_of_set
 total-these costs gaps = ap (sum_by (cost_of costs)) (filter_alike _ _ 0 64 (λ q _ _. set.contains-from_list_nat gaps q))
 
 -- the first number in one list alone

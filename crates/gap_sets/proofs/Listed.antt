@@ -7,9 +7,9 @@ use Rattle.std.specs.Int.RustNames.{bit_and}
 use Rattle.std.proofs.lemmas.Bool.{cases_lt}
 use Rattle.std.proofs.lemmas.Nat.Bits.{bit_at-zero, bit_at-trailing_zeros, bit_at_clear_same, bit_at_clear_other}
 use Rattle.std.specs.FinSet as set
-use Rattle.gap_sets.specs.Bits.{has_bit, list_of, gaps_of}
+use Rattle.gap_sets.specs.Bits.{has_bit, list_of, gaps_of_bits}
 use Rattle.gap_sets.proofs.WordSets.{contains-word}
-use Rattle.gap_sets.specs.Gaps.{SetOfGaps, gaps_in}
+use Rattle.gap_sets.specs.Gaps.{SetOfGaps, numbers_of_set}
 use Rattle.gap_sets.proofs.Ranges.{filter_alike}
 
 -- where no number passes the list is empty
@@ -79,6 +79,6 @@ list_of-rises bits k h =
     rw one (rises (has_bit bits) 0 64 k (omega arith))
 
 -- they are the gaps of the word's set
-pub list_of-gaps_in : (bits : ℕ) (s : SetOfGaps) → gaps_of bits ≡ s → bits < 2 ^ 64 → list_of bits ≡ gaps_in s
-unfolding list_of gaps_in
+pub list_of-gaps_in : (bits : ℕ) (s : SetOfGaps) → gaps_of_bits bits ≡ s → bits < 2 ^ 64 → list_of bits ≡ numbers_of_set s
+unfolding list_of numbers_of_set
 list_of-gaps_in bits s is h = filter_alike (has_bit bits) (set.contains s) 0 64 (λ q _ _. sym (contains-word bits q s is h))

@@ -5,7 +5,7 @@ use Rattle.std.specs.FinSet as set
 use Rattle.std.proofs.lemmas.Option.{unwrap_or-slice_get}
 use Rattle.gap_sets.proofs.Ranges.{sum-lt}
 use Rattle.gap_sets.proofs.Tests.{first_difference, alike_beyond}
-use Rattle.gap_sets.specs.Gaps.{SetOfGaps, IsGapSet, gaps_in}
+use Rattle.gap_sets.specs.Gaps.{SetOfGaps, IsGapSet, numbers_of_set}
 use Rattle.gap_sets.specs.Order.{total, cost_of}
 use Rattle.gap_sets.specs.Laws.{ProperSubsetIsBetter}
 
@@ -33,7 +33,7 @@ costs_some costs gap each h = let is = unwrap_or-slice_get costs gap 0 in let so
 
 -- a proper subset is cheaper
 pub cheaper : ProperSubsetIsBetter
-unfolding total gaps_in
+unfolding total numbers_of_set
 cheaper costs a b each small covered subset differ =
     let within : (gap : ℕ) → set.contains a gap ≡ true → set.contains b gap ≡ true = λ gap there. set.is_subset-contains nat_cmp_total a b subset gap there in
     let gap = missed a b small within differ in

@@ -6,7 +6,7 @@ use Rattle.std.proofs.lemmas.Option.{slice_get_cases}
 use Rattle.std.proofs.lemmas.List.Sums.{sum_by-cons, sum_by-le, length-filter, count_by-le-length}
 use Rattle.std.proofs.lemmas.List.FromFn.{length-range_with_len}
 use Rattle.gap_sets.specs.CostLists.{IsCostList}
-use Rattle.gap_sets.specs.Gaps.{SetOfGaps, gaps_in}
+use Rattle.gap_sets.specs.Gaps.{SetOfGaps, numbers_of_set}
 use Rattle.gap_sets.specs.Order.{cost_of, total}
 
 -- no gap costs more than a million
@@ -22,25 +22,25 @@ cost_of-limit costs gap list =
     ]
 
 -- a set has at most 64 gaps
-length-gaps_in : (s : SetOfGaps) → length (gaps_in s) ≤ 64
-unfolding gaps_in
+length-gaps_in : (s : SetOfGaps) → length (numbers_of_set s) ≤ 64
+unfolding numbers_of_set
 length-gaps_in s =
     omega (arith, length-filter (set.contains s) (range_with_len 0 64), count_by-le-length (set.contains s) (range_with_len 0 64), length-range_with_len 0 64)
 
 -- at most 64 gaps of a million each
-sum-limit : (costs : List ℕ) (s : SetOfGaps) → IsCostList costs → sum_by (cost_of costs) (gaps_in s) ≤ 64000000
+sum-limit : (costs : List ℕ) (s : SetOfGaps) → IsCostList costs → sum_by (cost_of costs) (numbers_of_set s) ≤ 64000000
 sum-limit costs s list =
-    omega (arith, sum_by-le (cost_of costs) 1000000 (gaps_in s) (λ k d _. cost_of-limit costs _ list), length-gaps_in s)
+    omega (arith, sum_by-le (cost_of costs) 1000000 (numbers_of_set s) (λ k d _. cost_of-limit costs _ list), length-gaps_in s)
 
 -- what is added up so far and the next gap's cost are within the limit
 pub next-limit : (costs : List ℕ) (s : SetOfGaps) (left rest : List ℕ) (gap sum : ℕ) → IsCostList costs
-    → sum + sum_by (cost_of costs) left ≡ sum_by (cost_of costs) (gaps_in s) → left ≡ gap ∷ rest → sum + cost_of costs gap ≤ 64000000
+    → sum + sum_by (cost_of costs) left ≡ sum_by (cost_of costs) (numbers_of_set s) → left ≡ gap ∷ rest → sum + cost_of costs gap ≤ 64000000
 next-limit costs s left rest gap sum list so_far next =
     let parts : sum_by (cost_of costs) left ≡ cost_of costs gap + sum_by (cost_of costs) rest = ap (sum_by (cost_of costs)) next ∙ sum_by-cons (cost_of costs) gap rest in
     omega (arith, sum-limit costs s list)
 
 -- where no gap is left the sum is whole
-pub sum-whole : (costs : List ℕ) (s : SetOfGaps) (left : List ℕ) (sum : ℕ) → sum + sum_by (cost_of costs) left ≡ sum_by (cost_of costs) (gaps_in s) → left ≡ [] → sum ≡ total costs s
+pub sum-whole : (costs : List ℕ) (s : SetOfGaps) (left : List ℕ) (sum : ℕ) → sum + sum_by (cost_of costs) left ≡ sum_by (cost_of costs) (numbers_of_set s) → left ≡ [] → sum ≡ total costs s
 unfolding total
 sum-whole costs s left sum so_far none = let parts : sum_by (cost_of costs) left ≡ 0 = ap (sum_by (cost_of costs)) none in omega arith
 

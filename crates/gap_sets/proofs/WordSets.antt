@@ -10,7 +10,7 @@ use Rattle.std.proofs.lemmas.Bool.Decides.{nat_tests, eqb_tells}
 use Rattle.std.proofs.lemmas.Nat.{or_lt, and_le_l}
 use Rattle.std.proofs.Math.Nat.{mod-lt}
 use Rattle.std.proofs.lemmas.Nat.Bits.{bit_at_above, bit_at_and, bit_at_set_same, bit_at_set_other, bit_at_clear_same, bit_at_clear_other, bit_at-zero}
-use Rattle.gap_sets.specs.Bits.{has_bit, gaps_of}
+use Rattle.gap_sets.specs.Bits.{has_bit, gaps_of_bits}
 use Rattle.gap_sets.specs.BitsLaws.{contains-gaps_of, no_bit}
 use Rattle.gap_sets.specs.Gaps.{IsGapSet}
 
@@ -19,7 +19,7 @@ same_gaps : (s t : set.FinSet nat_cmp) → ((q : ℕ) → set.contains s q ≡ s
 same_gaps s t alike = set.same_set nat_cmp_total set.nat_cmp-IsAntisymmetric s t alike
 
 -- the word 0 is the empty set
-pub gaps_of-zero : gaps_of 0 ≡ set.empty
+pub gaps_of-zero : gaps_of_bits 0 ≡ set.empty
 gaps_of-zero =
     same_gaps _ _ (λ q. contains-gaps_of 0 q (omega arith) ∙ (let none : bit_at 0 q ≡ 0 = bit_at-zero q in rw none refl) ∙ sym (set.contains-empty nat_cmp q))
 
@@ -36,11 +36,11 @@ set_bit bits g q h =
     ]
 
 -- to set a bit is to insert its number
-pub gaps_of-insert : (bits g : ℕ) → bits < 2 ^ 64 → g < 64 → bit_or bits (1 * 2 ^ g % 2 ^ 64) < 2 ^ 64 → gaps_of (bit_or bits (1 * 2 ^ g % 2 ^ 64)) ≡ set.insert (gaps_of bits) g
+pub gaps_of-insert : (bits g : ℕ) → bits < 2 ^ 64 → g < 64 → bit_or bits (1 * 2 ^ g % 2 ^ 64) < 2 ^ 64 → gaps_of_bits (bit_or bits (1 * 2 ^ g % 2 ^ 64)) ≡ set.insert (gaps_of_bits bits) g
 gaps_of-insert bits g h below fits =
     same_gaps _ _ (λ q.
     contains-gaps_of _ q fits ∙ set_bit bits g q below
-    ∙ sym (set.contains-insert nat_cmp_total (gaps_of bits) g q ∙ (λ i. ties q g i || contains-gaps_of bits q h i)))
+    ∙ sym (set.contains-insert nat_cmp_total (gaps_of_bits bits) g q ∙ (λ i. ties q g i || contains-gaps_of bits q h i)))
 
 -- the bits after one is cleared
 clear_bit : (bits g q : ℕ) → bits < 2 ^ 64 → g < 64 → has_bit (bit_and bits (bit_not w64 (1 * 2 ^ g % 2 ^ 64))) q ≡ (not (q == g) && has_bit bits q)
@@ -58,18 +58,18 @@ clear_bit bits g q below h =
     ]
 
 -- to clear a bit is to remove its number
-pub gaps_of-remove : (bits g : ℕ) → bits < 2 ^ 64 → g < 64 → gaps_of (bit_and bits (bit_not w64 (1 * 2 ^ g % 2 ^ 64))) ≡ set.remove (gaps_of bits) g
+pub gaps_of-remove : (bits g : ℕ) → bits < 2 ^ 64 → g < 64 → gaps_of_bits (bit_and bits (bit_not w64 (1 * 2 ^ g % 2 ^ 64))) ≡ set.remove (gaps_of_bits bits) g
 gaps_of-remove bits g h below =
     same_gaps _ _ (λ q.
     contains-gaps_of _ q (omega (arith, and_le_l bits (bit_not w64 (1 * 2 ^ g % 2 ^ 64)))) ∙ clear_bit bits g q h below
-    ∙ sym (set.contains-remove nat_cmp_total (gaps_of bits) g q ∙ (λ i. not (ties q g i) && contains-gaps_of bits q h i)))
+    ∙ sym (set.contains-remove nat_cmp_total (gaps_of_bits bits) g q ∙ (λ i. not (ties q g i) && contains-gaps_of bits q h i)))
 
 -- what a value of the model contains, from the word that it was opened to
-pub contains-word : (bits q : ℕ) (s : set.FinSet nat_cmp) → gaps_of bits ≡ s → bits < 2 ^ 64 → set.contains s q ≡ has_bit bits q
+pub contains-word : (bits q : ℕ) (s : set.FinSet nat_cmp) → gaps_of_bits bits ≡ s → bits < 2 ^ 64 → set.contains s q ≡ has_bit bits q
 contains-word bits q s is h = ap (λ t. set.contains t q) (sym is) ∙ contains-gaps_of bits q h
 
 -- a word holds no gap from 64 on
-pub IsGapSet-word : (bits : ℕ) (s : set.FinSet nat_cmp) → gaps_of bits ≡ s → bits < 2 ^ 64 → IsGapSet s
+pub IsGapSet-word : (bits : ℕ) (s : set.FinSet nat_cmp) → gaps_of_bits bits ≡ s → bits < 2 ^ 64 → IsGapSet s
 IsGapSet-word bits s is h gap there =
     elim (cases_lt gap 64) [
       | inl low ↦ low

@@ -5,7 +5,7 @@ use Rattle.std.specs.Int.RustNames.{bit_and}
 use Rattle.std.proofs.lemmas.Bool.{cases_lt}
 use Rattle.std.proofs.lemmas.Nat.{and_le_l}
 use Rattle.std.proofs.lemmas.Nat.Bits.{bit_at_above, bit_at-lt, bit_at_and, bit_at_not, bit_at-zero, bit_at-trailing_zeros}
-use Rattle.gap_sets.specs.Bits.{has_bit, gaps_of, bits_of}
+use Rattle.gap_sets.specs.Bits.{has_bit, gaps_of_bits, bits_of}
 use Rattle.gap_sets.specs.BitsLaws.{bits_of-gaps_of}
 use Rattle.gap_sets.specs.Gaps.{SetOfGaps}
 
@@ -62,8 +62,8 @@ not_within a b small small_b some =
     ]
 
 -- two words are equal where their sets are
-pub same_word : (a b : ℕ) (s t : SetOfGaps) → gaps_of a ≡ s → gaps_of b ≡ t → a < 2 ^ 64 → b < 2 ^ 64 → IsTrue (nat_eq a b) ↔ (s ≡ t)
+pub same_word : (a b : ℕ) (s t : SetOfGaps) → gaps_of_bits a ≡ s → gaps_of_bits b ≡ t → a < 2 ^ 64 → b < 2 ^ 64 → IsTrue (nat_eq a b) ↔ (s ≡ t)
 same_word a b s t a_is b_is small_a small_b = (
-  λ yes. sym a_is ∙ ap gaps_of (eqb-true a b yes) ∙ b_is,
+  λ yes. sym a_is ∙ ap gaps_of_bits (eqb-true a b yes) ∙ b_is,
   λ same. eq-eqb a b (sym (bits_of-gaps_of a small_a) ∙ ap bits_of (a_is ∙ same ∙ sym b_is) ∙ bits_of-gaps_of b small_b),
 )

@@ -14,8 +14,8 @@ unfoldable pub list_of : ℕ → List ℕ
 list_of bits = filter (has_bit bits) (range_with_len 0 64)
 
 -- the set of them
-unfoldable pub gaps_of : ℕ → set.FinSet nat_cmp
-gaps_of bits = set.from_list (list_of bits)
+unfoldable pub gaps_of_bits : ℕ → set.FinSet nat_cmp
+gaps_of_bits bits = set.from_list (list_of bits)
 
 -- the word whose bits below n are 1 at the members of the set
 unfoldable pub bits_below : (ℕ → Bool) → ℕ → ℕ

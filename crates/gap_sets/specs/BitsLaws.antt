@@ -9,7 +9,7 @@ use Rattle.std.proofs.Math.Arith.{mod-mul}
 use Rattle.std.proofs.lemmas.Nat.{pow_pos}
 use native.Mathlib.Numerals.{unary_clauses}
 use Rattle.std.proofs.lemmas.Nat.Bits.{bit_at_above, bit_at-lt}
-use Rattle.gap_sets.specs.Bits.{has_bit, list_of, gaps_of, bits_below, bits_of}
+use Rattle.gap_sets.specs.Bits.{has_bit, list_of, gaps_of_bits, bits_below, bits_of}
 
 -- whether a number is in the list
 abbrev any : ℕ → List ℕ → Bool
@@ -56,8 +56,8 @@ pub no_bit : (bits q : ℕ) → bits < 2 ^ 64 → 64 ≤ q → false ≡ has_bit
 no_bit bits q h high = let none : bit_at bits q ≡ 0 = bit_at_above bits 64 q h high in rw none
 
 -- a word's set contains the numbers of its bits
-pub contains-gaps_of : (bits q : ℕ) → bits < 2 ^ 64 → set.contains (gaps_of bits) q ≡ has_bit bits q
-unfolding gaps_of list_of
+pub contains-gaps_of : (bits q : ℕ) → bits < 2 ^ 64 → set.contains (gaps_of_bits bits) q ≡ has_bit bits q
+unfolding gaps_of_bits list_of
 contains-gaps_of bits q h =
     set.contains-from_list_nat _ q
     ∙ elim (cases_lt q 64) [
@@ -92,7 +92,7 @@ bits_below_alike p q zero alike = refl
 bits_below_alike p q (suc n) alike = λ i. bits_below_alike p q n alike i + cond (alike n i) (2 ^ n) 0
 
 -- a word's set gives the word back
-pub bits_of-gaps_of : (bits : ℕ) → bits < 2 ^ 64 → bits_of (gaps_of bits) ≡ bits
+pub bits_of-gaps_of : (bits : ℕ) → bits < 2 ^ 64 → bits_of (gaps_of_bits bits) ≡ bits
 unfolding bits_of
 bits_of-gaps_of bits h =
     bits_below_alike _ (has_bit bits) 64 (λ k. contains-gaps_of bits k h)

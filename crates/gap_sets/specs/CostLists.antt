@@ -24,5 +24,5 @@ first_cost_fault costs =
     else option_or (option_map Zero (first_free costs)) (option_map TooLarge (first_too_large costs))
 
 -- no refusal applies exactly within the limits
-abbrev pub LimitsAreTheRefusals : Type 0
-LimitsAreTheRefusals = (costs : List ℕ) → (first_cost_fault costs ≡ None) ↔ IsCostList costs
+abbrev pub CostLimitsAreTheRefusals : Type 0
+CostLimitsAreTheRefusals = (costs : List ℕ) → (first_cost_fault costs ≡ None) ↔ IsCostList costs

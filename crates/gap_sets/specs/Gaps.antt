@@ -13,8 +13,8 @@ abbrev pub IsGapSet : SetOfGaps → Type 0
 IsGapSet s = (gap : ℕ) → set.contains s gap ≡ true → gap < 64
 
 -- the gaps of a set, ascending: the numbers from 0 to 63 that it contains
-unfoldable pub gaps_in : SetOfGaps → List ℕ
-gaps_in s = filter (set.contains s) (range_with_len 0 64)
+unfoldable pub numbers_of_set : SetOfGaps → List ℕ
+numbers_of_set s = filter (set.contains s) (range_with_len 0 64)
 
 -- whether each gap of one set is in the other
 abbrev pub have_same_gaps : SetOfGaps → SetOfGaps → Bool

@@ -1,6 +1,6 @@
 //! What each gap costs, and which of two sets of gaps is better.
 ghost use Rattle.std.specs.Prelude.{◌≡◌, ◌<◌, ◌≤◌, ◌↔◌, IsTrue, None, Some, [], length, slice_get, IfOk, OnOk, IfSome, IsOkUnless};
-ghost use Rattle.gap_sets.specs.CostLists.{IsCostList, LimitsAreTheRefusals, first_cost_fault, first_free, first_too_large};
+ghost use Rattle.gap_sets.specs.CostLists.{IsCostList, CostLimitsAreTheRefusals, first_cost_fault, first_free, first_too_large};
 ghost use Rattle.gap_sets.specs.Order.{total, Better, cost_of};
 ghost use Rattle.gap_sets.specs.declared.costs.CostFault.{CostFault};
 
@@ -199,5 +199,5 @@ fn first_too_large(list: &[u32]) -> Option<usize>
 
 /// No refusal applies exactly where a list of numbers is one of costs within the limits.
 pub fn limits_are_the_refusals()
-    ensures { LimitsAreTheRefusals }
+    ensures { CostLimitsAreTheRefusals }
 {}

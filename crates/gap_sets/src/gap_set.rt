@@ -3,7 +3,7 @@ ghost use Rattle.std.specs.Prelude.{◌≡◌, ◌<◌, ◌≤◌, ◌↔◌, �
 ghost use Rattle.std.specs.FinSet as set;
 ghost use Rattle.std.specs.List.Sorted.{IsStrictlyIncreasing};
 ghost use Rattle.std.specs.Iterator.{YieldsFirst, item_count};
-ghost use Rattle.gap_sets.specs.Gaps.{IsGapSet, gaps_in};
+ghost use Rattle.gap_sets.specs.Gaps.{IsGapSet, numbers_of_set};
 ghost use Rattle.gap_sets.specs.Order.{HasLeastDifference};
 
 use std::marker::Model;
@@ -22,13 +22,13 @@ impl Model for GapSet {
     ghost use Rattle.std.specs.FinSet as set;
     ghost use Rattle.std.specs.Ordering.{nat_cmp};
     ghost use Rattle.std.specs.Coded.{coded_ℕ};
-    ghost use Rattle.gap_sets.specs.Bits.{gaps_of, bits_of};
+    ghost use Rattle.gap_sets.specs.Bits.{gaps_of_bits, bits_of};
 
     ghost Value = { set.FinSet nat_cmp };
 
     ghost coded = { set.code coded_ℕ };
 
-    ghost view = { λ s. gaps_of s.bits };
+    ghost view = { λ s. gaps_of_bits s.bits };
 
     ghost invariant = { λ s. s.bits < 2 ^ 64 };
 
@@ -114,7 +114,7 @@ impl GapSet {
 
     /// The gaps of the set, ascending.
     pub fn iter(&self) -> Gaps
-        ensures value { result ≡ gaps_in self.now }
+        ensures value { result ≡ numbers_of_set self.now }
         ensures ascending { IsStrictlyIncreasing result }
         ensures members { set.from_list result ≡ self.now }
         ensures below { All (λ gap. gap < 64) result }

@@ -30,7 +30,7 @@ record Next (text rest : List ℕ) : Type 0 where
   skipped : IsSkippedLine front others
   more : BeginsSkipped others rest
 
--- one more line behind no line, or behind one and then others
+-- one more line after no line, or after one and then others
 first_then : (text rest front others : List ℕ) → (text ≡ rest) ⊎ Next text rest → IsBehindSpace rest front → IsSkippedLine front others → Next text others
 first_then text rest front others (inl e) s h =
     record { front = front; others = others; space = subst (λ (x : List ℕ). IsBehindSpace x front) (sym e) s; skipped = h; more = none }

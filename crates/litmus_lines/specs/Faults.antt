@@ -35,7 +35,7 @@ abbrev pub fault_at : List ℕ → List ℕ → LineFault
 fault_at bytes text =
     if list_all is_inside text && is_front_of_skipped text then ended_at bytes else fault.Header (line_number bytes (length bytes - length text))
 
--- Behind lines that are skipped a comment does not end, or what stands behind white space and comments is no line that is skipped.
+-- After lines that are skipped a comment does not end, or what follows white space and comments is not a line that is skipped.
 abbrev pub RefusesLines : List ℕ → List ℕ → LineFault → Type 0
 RefusesLines bytes lines refused =
     (rest : List ℕ) × BeginsSkipped lines rest

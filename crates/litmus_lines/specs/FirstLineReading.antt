@@ -4,7 +4,7 @@ use Rattle.std.specs.List.{prefix_len, list_all}
 use Rattle.std.specs.Str.{bytes_eq}
 use Rattle.litmus_lines.specs.FirstLine.{is_gap, is_inside, is_visible, is_trailing}
 
--- the name behind a gap
+-- the name after a gap
 abbrev pub name_after : List ℕ → List ℕ → Option (List ℕ)
 name_after gap rest =
     let n = prefix_len is_visible rest in
@@ -17,7 +17,7 @@ heading_name line =
     let n = prefix_len is_gap rest in
     if bytes_eq (take 3 line) (codes "X86") then name_after (take n rest) (drop n rest) else None
 
--- the bytes before the first LF and those behind it
+-- the bytes before the first LF and those after it
 unfoldable pub line_at : List ℕ → Option (List ℕ × List ℕ)
 line_at text =
     let n = prefix_len is_inside text in

@@ -63,7 +63,7 @@ fn heading_name(line: &[u8]) -> Option<&[u8]>
     }
 }
 
-/// The name in the first line, and the text behind that line's LF.
+/// The name in the first line, and the text after that line's LF.
 pub fn read_first_line(bytes: &[u8]) -> Result<(&[u8], &[u8]), LineFault>
     ensures found { IfOk result (λ p. IsFirstLine bytes.now p.0.now p.1.now) }
     ensures only { (name rest : List ℕ) → IsFirstLine bytes.now name rest

@@ -13,7 +13,7 @@ fn line_len(bytes: &[u8]) -> usize
     bytes.iter().take_while(|byte| **byte != b'\n').count()
 }
 
-/// The bytes before the first LF and those behind it.
+/// The bytes before the first LF and those after it.
 #[tactic(auto, unfolding(crate::specs::FirstLineReading::line_at))]
 pub(crate) fn split_line(bytes: &[u8]) -> Option<(&[u8], &[u8])>
     ensures { option_map (λ x. (x.0.now, x.1.now)) result ≡ line_at bytes.now }

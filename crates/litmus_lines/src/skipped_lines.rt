@@ -75,7 +75,7 @@ fn no_skipped_line(bytes: &[u8], text: &[u8]) -> LineFault
     }
 }
 
-/// The end of the bytes from `{` on, behind the lines that are skipped. The lines are the end of the bytes; a fault has the line in the bytes.
+/// The end of the bytes from `{` on, after the lines that are skipped. The lines are the end of the bytes; a fault has the line in the bytes.
 pub fn skip_lines<'a>(bytes: &[u8], lines: &'a [u8]) -> Result<&'a [u8], LineFault>
     ensures found { IfOk result (λ rest. AreSkipped lines.now rest.now) }
     ensures only { (rest : List ℕ) → AreSkipped lines.now rest → IsOkAnd result (λ found. found.now ≡ rest) }

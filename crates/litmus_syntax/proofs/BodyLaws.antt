@@ -9,15 +9,15 @@ use Rattle.litmus_syntax.specs.declared.entry.Entry.{Entry}
 use Rattle.litmus_syntax.specs.declared.fault.SyntaxFault.{SyntaxFault}
 use Rattle.litmus_syntax.specs.declared.fault.SyntaxFault.TheVariants.{Refused, OutOfMemory}
 use Rattle.litmus_syntax.specs.Views.{PlaceView, EntryView, CellView, BodyView, place_view, entry_view}
-use Rattle.litmus_syntax.specs.Grammar.{HasThread, place_of, IsInitial, IsHeader, IsRows, IsBody}
+use Rattle.litmus_syntax.specs.Grammar.{HasThread, place_of_entry, IsInitial, IsHeader, IsRows, IsBody}
 use Rattle.litmus_syntax.specs.Exact.{ReadsNone}
 use Rattle.litmus_syntax.proofs.ItemLaws.{Only}
 
 abbrev places : List Entry → List PlaceView
-places es = map place_of (map entry_view es)
+places es = map place_of_entry (map entry_view es)
 
 place_at_end : (es : List Entry) (e : Entry) → places (es ++ e ∷ []) ≡ places es ++ place_view e.place ∷ []
-place_at_end es e = ap (map place_of) (map_push entry_view es e) ∙ map_push place_of (map entry_view es) (entry_view e)
+place_at_end es e = ap (map place_of_entry) (map_push entry_view es e) ∙ map_push place_of_entry (map entry_view es) (entry_view e)
 
 -- the threads of one more entry are there
 pub one_more_there : (threads : ℕ) (es : List Entry) (i : ℕ) (d : Entry) → i < length es → All (HasThread threads) (places (take i es)) → HasThread threads (place_view (get_or es i d).place)
@@ -29,8 +29,8 @@ one_more_there threads es i d lt h one =
 -- the thread of each entry is there
 pub there_at : (threads : ℕ) (es : List Entry) (i : ℕ) (d : Entry) → i < length es → All (HasThread threads) (places es) → HasThread threads (place_view (get_or es i d).place)
 there_at threads es i d lt h =
-    let long : i < length (places es) = omega (arith, lt, length-map es entry_view, length-map (map entry_view es) place_of) in
-    let at : get_or (places es) i (place_view d.place) ≡ place_view (get_or es i d).place = get_or-map place_of (map entry_view es) i (entry_view d) ∙ ap place_of (get_or-map entry_view es i d) in
+    let long : i < length (places es) = omega (arith, lt, length-map es entry_view, length-map (map entry_view es) place_of_entry) in
+    let at : get_or (places es) i (place_view d.place) ≡ place_view (get_or es i d).place = get_or-map place_of_entry (map entry_view es) i (entry_view d) ∙ ap place_of_entry (get_or-map entry_view es i d) in
     subst (HasThread threads) at (h i (place_view d.place) long)
 
 pub all_there : (threads : ℕ) (es : List Entry) (i : ℕ) → length es ≤ i → All (HasThread threads) (places (take i es)) → All (HasThread threads) (places es)
@@ -42,7 +42,7 @@ abbrev body_of : List EntryView → ℕ → List (List CellView) → BodyView
 body_of es n rows = record { entries = es; threads = n; rows = rows }
 
 abbrev AllThere : ℕ → List EntryView → Type 0
-AllThere n es = All (HasThread n) (map place_of es)
+AllThere n es = All (HasThread n) (map place_of_entry es)
 
 -- what a body begins with are the entries and the threads that were read
 begins : (ts us vs : List Tok) (es : List EntryView) (n : ℕ) → Only IsInitial es ts us → Only IsHeader n us vs → (b : BodyView) (rest : List Tok) → IsBody b ts rest

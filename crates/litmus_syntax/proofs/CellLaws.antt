@@ -10,8 +10,8 @@ use Rattle.text_tokens.proofs.PartLaws.{word_takes, mark_takes, begins_takes, be
 use Rattle.litmus_syntax.specs.Words.{is_label}
 use Rattle.litmus_syntax.specs.Views.{CodeView, CellView}
 use Rattle.litmus_syntax.specs.Phrases.{Items, end, item}
-use Rattle.litmus_syntax.specs.Grammar.{IsCode, IsLabel, ends_cell, IsContent, IsCell}
-use Rattle.litmus_syntax.specs.Reading.{◌>>=◌, code_at, begins_label, label_at, content_at}
+use Rattle.litmus_syntax.specs.Grammar.{IsCode, IsLabelMark, ends_cell, IsContent, IsCell}
+use Rattle.litmus_syntax.specs.Reading.{◌>>=◌, code_at, begins_label, label_tokens_at, content_at}
 use Rattle.litmus_syntax.proofs.Options.{bind_some, chosen, some_is}
 use Rattle.litmus_syntax.proofs.ItemLaws.{IsRead, Only, SoFar, only_read, none_read, none_yet, one_more, refused}
 use Rattle.litmus_syntax.proofs.CodeLaws.{code_takes, code_again, code_begins}
@@ -22,25 +22,25 @@ cond_parts : {A : Type 0} (b : Bool) (x : Option A) (y : A) → cond b x None �
 cond_parts true x y e = (refl, e)
 cond_parts false x y e = absurd cc
 
-label_takes : (ts : List Tok) (x : List ℕ × List Tok) → label_at ts ≡ Some x → IsLabel x.0 ts x.1
-unfolding label_at
+label_takes : (ts : List Tok) (x : List ℕ × List Tok) → label_tokens_at ts ≡ Some x → IsLabelMark x.0 ts x.1
+unfolding label_tokens_at
 label_takes ts x e =
     let a = bind_some (word_at ts) (λ w. cond (is_label w.0) (mark_at the.Colon w.1 >>= λ rest. Some (w.0, rest)) None) x e in
     let h = cond_parts (is_label a.0.0) (mark_at the.Colon a.0.1 >>= λ rest. Some (a.0.0, rest)) x a.2 in
     let b = bind_some (mark_at the.Colon a.0.1) (λ rest. Some (a.0.0, rest)) x h.1 in
-    subst (λ (z : List ℕ × List Tok). IsLabel z.0 ts z.1) (some_is (a.0.0, b.0) x b.2) (h.0, (a.0.1, word_takes ts a.0 a.1, mark_takes the.Colon a.0.1 b.0 b.1))
+    subst (λ (z : List ℕ × List Tok). IsLabelMark z.0 ts z.1) (some_is (a.0.0, b.0) x b.2) (h.0, (a.0.1, word_takes ts a.0 a.1, mark_takes the.Colon a.0.1 b.0 b.1))
 
-label_again : (l : List ℕ) (ts rest : List Tok) → IsLabel l ts rest → label_at ts ≡ Some (l, rest)
-unfolding label_at
+label_again : (l : List ℕ) (ts rest : List Tok) → IsLabelMark l ts rest → label_tokens_at ts ≡ Some (l, rest)
+unfolding label_tokens_at
 label_again l ts rest h = rw (h.1.1, h.0, h.1.2) refl
 
-pub labels_are_read : IsRead IsLabel label_at
+pub labels_are_read : IsRead IsLabelMark label_tokens_at
 labels_are_read = record { takes = label_takes; again = label_again }
 
-label_begins : (l : List ℕ) (ts rest : List Tok) → IsLabel l ts rest → begins_label ts ≡ true
+label_begins : (l : List ℕ) (ts rest : List Tok) → IsLabelMark l ts rest → begins_label ts ≡ true
 label_begins l ts rest h = ap begins_label h.1.1 ∙ begins_again the.Colon h.1.0 rest h.1.2
 
-no_label : (ts : List Tok) → begins_label ts ≡ false → (l : List ℕ) (rest : List Tok) → IsLabel l ts rest → ⊥
+no_label : (ts : List Tok) → begins_label ts ≡ false → (l : List ℕ) (rest : List Tok) → IsLabelMark l ts rest → ⊥
 no_label ts e l rest h = let bad = sym e ∙ label_begins l ts rest h in cc
 
 -- ---- an instruction or nothing
@@ -86,7 +86,7 @@ ending_no_label ts h =
       | inr e ↦ ap begins_label (begins_takes the.Semicolon ts e)
     ]
 
--- with what may stand behind labels no label begins
+-- what may follow labels does not begin a label
 content_no_label : (c : Option CodeView) (ts rest : List Tok) → IsContent c ts rest → begins_label ts ≡ false
 content_no_label None ts rest h = ap begins_label h.0 ∙ ending_no_label rest h.1
 content_no_label (Some c) ts rest h = let b = code_begins c ts rest h.0 h.1 in ap begins_label b.begins ∙ b.no_label
@@ -98,26 +98,26 @@ more_labels c ts e last h = let bad = sym e ∙ content_no_label c ts last h in 
 
 -- the labels of a cell so far, whatever follows
 abbrev pub LabelsSoFar : List Tok → List (List ℕ) → List Tok → Type 0
-LabelsSoFar ts ls rest = (c : Option CodeView) → SoFar IsLabel (IsContent c) (λ ks last. Items IsLabel (IsContent c) ks ts last) ls rest
+LabelsSoFar ts ls rest = (c : Option CodeView) → SoFar IsLabelMark (IsContent c) (λ ks last. Items IsLabelMark (IsContent c) ks ts last) ls rest
 
 pub no_label_yet : (ts : List Tok) → LabelsSoFar ts [] ts
-no_label_yet ts = λ c. none_yet IsLabel (IsContent c) ts
+no_label_yet ts = λ c. none_yet IsLabelMark (IsContent c) ts
 
-pub one_more_label : (ts : List Tok) (ls : List (List ℕ)) (rest : List Tok) (l : List ℕ) (others : List Tok) → LabelsSoFar ts ls rest → begins_label rest ≡ true → label_at rest ≡ Some (l, others)
+pub one_more_label : (ts : List Tok) (ls : List (List ℕ)) (rest : List Tok) (l : List ℕ) (others : List Tok) → LabelsSoFar ts ls rest → begins_label rest ≡ true → label_tokens_at rest ≡ Some (l, others)
     → LabelsSoFar ts (ls ++ l ∷ []) others
 one_more_label ts ls rest l others s begins is = λ c.
-    one_more IsLabel (IsContent c) (λ ks last. Items IsLabel (IsContent c) ks ts last) ls rest l others (s c) (more_labels c rest begins) (only_read IsLabel label_at labels_are_read rest (l, others) is)
+    one_more IsLabelMark (IsContent c) (λ ks last. Items IsLabelMark (IsContent c) ks ts last) ls rest l others (s c) (more_labels c rest begins) (only_read IsLabelMark label_tokens_at labels_are_read rest (l, others) is)
 
-pub label_stops : (ts : List Tok) (ls : List (List ℕ)) (rest : List Tok) → LabelsSoFar ts ls rest → begins_label rest ≡ true → label_at rest ≡ None → (c : CellView) (last : List Tok) → IsCell c ts last → ⊥
+pub label_stops : (ts : List Tok) (ls : List (List ℕ)) (rest : List Tok) → LabelsSoFar ts ls rest → begins_label rest ≡ true → label_tokens_at rest ≡ None → (c : CellView) (last : List Tok) → IsCell c ts last → ⊥
 label_stops ts ls rest s begins none c last h =
-    refused IsLabel (IsContent c.code) (λ ks o. Items IsLabel (IsContent c.code) ks ts o) ls rest (s c.code) (more_labels c.code rest begins) (none_read IsLabel label_at labels_are_read rest none) c.labels last h
+    refused IsLabelMark (IsContent c.code) (λ ks o. Items IsLabelMark (IsContent c.code) ks ts o) ls rest (s c.code) (more_labels c.code rest begins) (none_read IsLabelMark label_tokens_at labels_are_read rest none) c.labels last h
 
 pub content_stops : (ts : List Tok) (ls : List (List ℕ)) (rest : List Tok) → LabelsSoFar ts ls rest → begins_label rest ≡ false → content_at rest ≡ None → (c : CellView) (last : List Tok) → IsCell c ts last → ⊥
 content_stops ts ls rest s begins none c last h =
-    refused IsLabel (IsContent c.code) (λ ks o. Items IsLabel (IsContent c.code) ks ts o) ls rest (s c.code) (none_read IsContent content_at contents_are_read rest none c.code) (no_label rest begins) c.labels last h
+    refused IsLabelMark (IsContent c.code) (λ ks o. Items IsLabelMark (IsContent c.code) ks ts o) ls rest (s c.code) (none_read IsContent content_at contents_are_read rest none c.code) (no_label rest begins) c.labels last h
 
 -- where no label comes next, the labels are over
-labels_over : (c : Option CodeView) (ts : List Tok) → begins_label ts ≡ false → (ks : List (List ℕ)) (last : List Tok) → Items IsLabel (IsContent c) ks ts last → (ks ≡ []) × IsContent c ts last
+labels_over : (c : Option CodeView) (ts : List Tok) → begins_label ts ≡ false → (ks : List (List ℕ)) (last : List Tok) → Items IsLabelMark (IsContent c) ks ts last → (ks ≡ []) × IsContent c ts last
 labels_over c ts e ks last (end h) = (refl, h)
 labels_over c ts e ks last (item {x = l} {others = others} h i) = absurd (no_label ts e l others h)
 

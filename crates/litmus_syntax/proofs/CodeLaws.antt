@@ -78,7 +78,7 @@ parts (Je l) ts rest h = h
 parts (Jne l) ts rest h = h
 parts (Jmp l) ts rest h = h
 
--- what stands behind this mnemonic
+-- what follows this mnemonic
 abbrev Has : Mnemonic → List Tok → CodeAndRest → Type 0
 Has m ts x = (mnemonic_for x.0 ≡ m) × Operands x.0 ts x.1
 
@@ -301,7 +301,7 @@ no_colon (Je l) ts rest h e = ap (begins_with the.Colon) h
 no_colon (Jne l) ts rest h e = ap (begins_with the.Colon) h
 no_colon (Jmp l) ts rest h e = ap (begins_with the.Colon) h
 
--- a mnemonic, and no `:` behind it
+-- a mnemonic, and no `:` after it
 pub record BeginsWithMnemonic (c : CodeView) (ts : List Tok) : Type 0 where
   pub mnemonic : List ℕ
   pub others : List Tok

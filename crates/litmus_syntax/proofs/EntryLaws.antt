@@ -9,10 +9,10 @@ use Rattle.text_tokens.specs.Parts.{mark_at, begins_with, rest_of}
 use Rattle.text_tokens.proofs.PartLaws.{mark_takes, mark_again, begins_again}
 use Rattle.litmus_syntax.specs.Views.{PlaceView, EntryView}
 use Rattle.litmus_syntax.specs.Phrases.{◌▸◌, mark, number, Items, end, item}
-use Rattle.litmus_syntax.specs.Grammar.{IsEntryItem, separator, place_of, NoneTwice, IsInitial}
+use Rattle.litmus_syntax.specs.Grammar.{IsEntryItem, separator, place_of_entry, NoneTwice, IsInitial}
 use Rattle.litmus_syntax.specs.declared.seen.Seen.{Seen}
 use Rattle.litmus_syntax.specs.Places.{same_place, has}
-use Rattle.litmus_syntax.specs.Reading.{◌>>=◌, separator_at, place_at, value_at, entry_value_at, entry_at}
+use Rattle.litmus_syntax.specs.Reading.{◌>>=◌, separator_at, place_at, equals_value_at, entry_value_at, entry_at}
 use Rattle.litmus_syntax.proofs.Options.{bind_some, some_is}
 use Rattle.litmus_syntax.proofs.ItemLaws.{IsRead, Only, SoFar, only_read, none_read, none_behind, one_more, refused, closed}
 use Rattle.litmus_syntax.proofs.Repetitions.{fresh, twice}
@@ -20,14 +20,14 @@ use Rattle.litmus_syntax.proofs.SeenLaws.{same_place_is, same_place_itself}
 use Rattle.litmus_syntax.proofs.WordLaws.{separator_takes, separator_again}
 use Rattle.litmus_syntax.proofs.PlaceLaws.{place_takes, place_again, value_takes, value_again}
 
--- `=`, a number, and what stands behind an entry
+-- `=`, a number, and what follows an entry
 abbrev EntryValue : ℕ → List Tok → List Tok → Type 0
 EntryValue n = (mark the.Equals ▸ number n) ▸ separator the.CloseBrace
 
 entry_value_takes : (ts : List Tok) (x : ℕ × List Tok) → entry_value_at ts ≡ Some x → EntryValue x.0 ts x.1
 unfolding entry_value_at
 entry_value_takes ts x e =
-    let a = bind_some (value_at ts) (λ n. separator_at the.CloseBrace n.1 >>= λ rest. Some (n.0, rest)) x e in
+    let a = bind_some (equals_value_at ts) (λ n. separator_at the.CloseBrace n.1 >>= λ rest. Some (n.0, rest)) x e in
     let b = bind_some (separator_at the.CloseBrace a.0.1) (λ rest. Some (a.0.0, rest)) x a.2 in
     subst (λ (z : ℕ × List Tok). EntryValue z.0 ts z.1) (some_is (a.0.0, b.0) x b.2) (a.0.1, value_takes ts a.0 a.1, separator_takes the.CloseBrace a.0.1 b.0 b.1)
 
@@ -73,8 +73,8 @@ Inside ts es last = (mark the.OpenBrace ▸ Items IsEntryItem (mark the.CloseBra
 -- the entries so far, none of which stands twice, and the set of their places
 pub record EntriesSoFar (ts : List Tok) (es : List EntryView) (rest : List Tok) (seen : Seen) : Type 0 where
   pub items : SoFar IsEntryItem (mark the.CloseBrace) (Inside ts) es rest
-  pub once : NoneTwice (map place_of es)
-  pub places : (p : PlaceView) → has seen p ≡ list_any (same_place p) (map place_of es)
+  pub once : NoneTwice (map place_of_entry es)
+  pub places : (p : PlaceView) → has seen p ≡ list_any (same_place p) (map place_of_entry es)
 
 pub no_entry_yet : (ts rest : List Tok) (seen : Seen) → mark_at the.OpenBrace ts ≡ Some rest → ((p : PlaceView) → has seen p ≡ false) → EntriesSoFar ts [] rest seen
 no_entry_yet ts rest seen e empty =
@@ -113,12 +113,12 @@ or_none : (a b : Bool) → (a || b) ≡ (a || (b || false))
 or_none a true = refl
 or_none a false = refl
 
-added_place : (es : List EntryView) (e : EntryView) (old new : Seen) → ((p : PlaceView) → has old p ≡ list_any (same_place p) (map place_of es)) → ((p : PlaceView) → has new p ≡ (has old p || same_place p e.place))
-    → (p : PlaceView) → has new p ≡ list_any (same_place p) (map place_of (es ++ e ∷ []))
+added_place : (es : List EntryView) (e : EntryView) (old new : Seen) → ((p : PlaceView) → has old p ≡ list_any (same_place p) (map place_of_entry es)) → ((p : PlaceView) → has new p ≡ (has old p || same_place p e.place))
+    → (p : PlaceView) → has new p ≡ list_any (same_place p) (map place_of_entry (es ++ e ∷ []))
 added_place es e old new s a p =
-    let ps = map place_of es in
+    let ps = map place_of_entry es in
     a p ∙ ap (λ (b : Bool). b || same_place p e.place) (s p) ∙ or_none (list_any (same_place p) ps) (same_place p e.place) ∙ sym (list_any-append (same_place p) ps (e.place ∷ []))
-    ∙ ap (list_any (same_place p)) (sym (map_push place_of es e))
+    ∙ ap (list_any (same_place p)) (sym (map_push place_of_entry es e))
 
 pub one_more_entry : (ts : List Tok) (es : List EntryView) (rest : List Tok) (old new : Seen) (p : PlaceView) (n : ℕ) (after others : List Tok) → EntriesSoFar ts es rest old → begins_with the.CloseBrace rest ≡ false
     → place_at rest ≡ Some (p, after) → true ≡ not (has old p) → ((q : PlaceView) → has new q ≡ (has old q || same_place q p)) → entry_value_at after ≡ Some (n, others)
@@ -128,23 +128,23 @@ one_more_entry ts es rest old new p n after others s apart is new_place added va
     let only = only_read IsEntryItem entry_at entries_are_read rest (e, others) (whole_entry rest after others p n is value) in
     record {
       items = one_more IsEntryItem (mark the.CloseBrace) (Inside ts) es rest e others s.items (open_yet rest apart) only;
-      once = rw (map_push place_of es e) (fresh same_place same_place_is same_place_itself (map place_of es) p s.once (sym (s.places p) ∙ not_back (has old p) new_place));
+      once = rw (map_push place_of_entry es e) (fresh same_place same_place_is same_place_itself (map place_of_entry es) p s.once (sym (s.places p) ∙ not_back (has old p) new_place));
       places = added_place es e old new s.places added;
     }
 
 first_place : (ts : List Tok) (p : PlaceView) (after : List Tok) → begins_with the.CloseBrace ts ≡ false → place_at ts ≡ Some (p, after) → (es : List EntryView) (last : List Tok) → Items IsEntryItem (mark the.CloseBrace) es ts last
-    → (fs : List PlaceView) × (map place_of es ≡ p ∷ fs)
+    → (fs : List PlaceView) × (map place_of_entry es ≡ p ∷ fs)
 first_place ts p after apart is es last (end e) = absurd (open_yet ts apart last e)
 first_place ts p after apart is es last (item {x = x} {xs = xs} {others = others} h l) =
-    (map place_of xs, ap (λ (z : PlaceView). z ∷ map place_of xs) (begins_with_place x ts others h (p, after) is))
+    (map place_of_entry xs, ap (λ (z : PlaceView). z ∷ map place_of_entry xs) (begins_with_place x ts others h (p, after) is))
 
 pub place_again_stands : (ts : List Tok) (es : List EntryView) (rest : List Tok) (seen : Seen) (p : PlaceView) (after : List Tok) → EntriesSoFar ts es rest seen → begins_with the.CloseBrace rest ≡ false
     → place_at rest ≡ Some (p, after) → false ≡ not (has seen p) → (fs : List EntryView) (last : List Tok) → IsInitial fs ts last → ⊥
 place_again_stands ts es rest seen p after s apart is old fs last h =
     let b = s.items.back fs last h.0 in
     let first = first_place rest p after apart is b.0 last b.2 in
-    let parts : map place_of fs ≡ map place_of es ++ p ∷ first.0 = ap (map place_of) b.1 ∙ map-append place_of es b.0 ∙ ap (λ (z : List PlaceView). map place_of es ++ z) first.1 in
-    twice same_place same_place_is same_place_itself (map place_of es) first.0 p (sym (s.places p) ∙ not_true_back (has seen p) old) (subst NoneTwice parts h.1)
+    let parts : map place_of_entry fs ≡ map place_of_entry es ++ p ∷ first.0 = ap (map place_of_entry) b.1 ∙ map-append place_of_entry es b.0 ∙ ap (λ (z : List PlaceView). map place_of_entry es ++ z) first.1 in
+    twice same_place same_place_is same_place_itself (map place_of_entry es) first.0 p (sym (s.places p) ∙ not_true_back (has seen p) old) (subst NoneTwice parts h.1)
 
 entries_stop : (ts : List Tok) (es : List EntryView) (rest : List Tok) (seen : Seen) → EntriesSoFar ts es rest seen → begins_with the.CloseBrace rest ≡ false → entry_at rest ≡ None
     → (fs : List EntryView) (last : List Tok) → IsInitial fs ts last → ⊥

@@ -39,7 +39,7 @@ module _ {X : Type 0} (Item : X → List Tok → List Tok → Type 0) (End : Lis
   pub none_yet : (ts : List Tok) → SoFar Item End (λ xs last. Items Item End xs ts last) [] ts
   none_yet ts = record { forth = λ ys last a. a; back = λ ys last a. (ys, refl, a) }
 
-  -- the items begin behind a phrase
+  -- the items begin after a phrase
   pub none_behind : (P : List Tok → List Tok → Type 0) (ts us : List Tok) → P ts us → ((other : List Tok) → P ts other → other ≡ us) → SoFar Item End (λ xs last. (P ▸ Items Item End xs) ts last) [] us
   none_behind P ts us h only = record {
     forth = λ ys last a. (us, h, a);

@@ -12,7 +12,7 @@ use Rattle.litmus_syntax.specs.Words.{reg_of, is_name}
 use Rattle.litmus_syntax.specs.Views.{PlaceView, Location, Register}
 use Rattle.litmus_syntax.specs.Phrases.{◌▸◌, mark, number}
 use Rattle.litmus_syntax.specs.Grammar.{register, name, memory, IsPlace, HasThread}
-use Rattle.litmus_syntax.specs.Reading.{◌>>=◌, name_at, register_at, memory_at, thread_register_at, as_location, place_at, names_missing, place_among_at, value_at}
+use Rattle.litmus_syntax.specs.Reading.{◌>>=◌, name_at, register_at, memory_at, thread_register_at, as_location, place_at, names_missing, place_among_at, equals_value_at}
 use Rattle.litmus_syntax.proofs.Options.{bind_some, chosen, some_is}
 
 -- ---- names
@@ -124,12 +124,12 @@ place_among_again threads p ts rest h is = rw (named threads p ts rest is h) (pl
 
 -- ---- values
 
-pub value_takes : (ts : List Tok) (x : ℕ × List Tok) → value_at ts ≡ Some x → (mark the.Equals ▸ number x.0) ts x.1
-unfolding value_at
+pub value_takes : (ts : List Tok) (x : ℕ × List Tok) → equals_value_at ts ≡ Some x → (mark the.Equals ▸ number x.0) ts x.1
+unfolding equals_value_at
 value_takes ts x e =
     let a = bind_some (mark_at the.Equals ts) (λ rest. number_at rest) x e in
     (a.0, mark_takes the.Equals ts a.0 a.1, number_takes a.0 x a.2)
 
-pub value_again : (n : ℕ) (ts rest : List Tok) → (mark the.Equals ▸ number n) ts rest → value_at ts ≡ Some (n, rest)
-unfolding value_at
+pub value_again : (n : ℕ) (ts rest : List Tok) → (mark the.Equals ▸ number n) ts rest → equals_value_at ts ≡ Some (n, rest)
+unfolding equals_value_at
 value_again n ts rest h = rw (mark_again the.Equals ts h.0 h.1, number_again h.0 n rest h.2) refl

@@ -15,7 +15,7 @@ use Rattle.litmus_syntax.specs.declared.mnemonic.Mnemonic.{Mnemonic}
 use Rattle.litmus_syntax.specs.Words.{opens_condition, is_label, mnemonic_of}
 use Rattle.litmus_syntax.specs.Views.{CodeView, CellView}
 use Rattle.litmus_syntax.specs.Phrases.{mark, Items, end, item}
-use Rattle.litmus_syntax.specs.Grammar.{IsLabel, ends_cell, IsContent, IsCell, IsNextCell, IsCells, IsRow, IsRowList, ends_rows, before_ending, cell_labels, labels_from, row_labels, labels_of}
+use Rattle.litmus_syntax.specs.Grammar.{IsLabelMark, ends_cell, IsContent, IsCell, IsNextCell, IsCells, IsRow, IsRowList, ends_rows, before_ending, cell_labels, labels_from, row_labels, labels_in_rows}
 use Rattle.litmus_syntax.specs.Exact.{ReadsNone, Reads}
 use Rattle.litmus_syntax.specs.declared.fault.SyntaxFault.{SyntaxFault}
 use Rattle.litmus_syntax.specs.declared.fault.SyntaxFault.TheVariants.{Refused, OutOfMemory}
@@ -149,7 +149,7 @@ no_content (Some c) ts rest e h =
     let b = code_begins c ts rest h.0 h.1 in
     apart_words b.mnemonic (mnemonic_for c) (sym (ap ends_rows b.begins) ∙ e) b.is_one
 
-no_labelled : (ts : List Tok) → ends_rows ts ≡ true → (c : Option CodeView) (ls : List (List ℕ)) (rest : List Tok) → Items IsLabel (IsContent c) ls ts rest → ⊥
+no_labelled : (ts : List Tok) → ends_rows ts ≡ true → (c : Option CodeView) (ls : List (List ℕ)) (rest : List Tok) → Items IsLabelMark (IsContent c) ls ts rest → ⊥
 no_labelled ts e c ls rest (end h) = no_content c ts rest e h
 no_labelled ts e c ls rest (item {x = l} h i) = label_apart l h.0 (sym (ap ends_rows h.1.1) ∙ e)
 
@@ -200,14 +200,14 @@ one_more_cell old ls new cs c n e len is =
 pub one_cell : (old new : List (ℕ × List ℕ)) (c : CellView) → new ≡ old ++ cell_labels 0 c → new ≡ old ++ row_labels (c ∷ [])
 one_cell old new c e = e ∙ ap (λ (z : List (ℕ × List ℕ)). old ++ z) (sym (append-nil (cell_labels 0 c)))
 
-rows_pushed : (rows : List (List CellView)) (row : List CellView) → labels_of (rows ++ row ∷ []) ≡ labels_of rows ++ row_labels row
+rows_pushed : (rows : List (List CellView)) (row : List CellView) → labels_in_rows (rows ++ row ∷ []) ≡ labels_in_rows rows ++ row_labels row
 rows_pushed [] row = append-nil (row_labels row)
-rows_pushed (r ∷ rows) row = ap (λ (z : List (ℕ × List ℕ)). row_labels r ++ z) (rows_pushed rows row) ∙ sym (append_assoc (row_labels r) (labels_of rows) (row_labels row))
+rows_pushed (r ∷ rows) row = ap (λ (z : List (ℕ × List ℕ)). row_labels r ++ z) (rows_pushed rows row) ∙ sym (append_assoc (row_labels r) (labels_in_rows rows) (row_labels row))
 
-pub no_labels_yet : (old : List (ℕ × List ℕ)) → old ≡ old ++ labels_of []
+pub no_labels_yet : (old : List (ℕ × List ℕ)) → old ≡ old ++ labels_in_rows []
 no_labels_yet old = sym (append-nil old)
 
 -- the labels of rows with one more
-pub one_more_row : (old ls new : List (ℕ × List ℕ)) (rows : List (List CellView)) (row : List CellView) → ls ≡ old ++ labels_of rows → new ≡ ls ++ row_labels row → new ≡ old ++ labels_of (rows ++ row ∷ [])
+pub one_more_row : (old ls new : List (ℕ × List ℕ)) (rows : List (List CellView)) (row : List CellView) → ls ≡ old ++ labels_in_rows rows → new ≡ ls ++ row_labels row → new ≡ old ++ labels_in_rows (rows ++ row ∷ [])
 one_more_row old ls new rows row e is =
-    is ∙ ap (λ (z : List (ℕ × List ℕ)). z ++ row_labels row) e ∙ append_assoc old (labels_of rows) (row_labels row) ∙ ap (λ (z : List (ℕ × List ℕ)). old ++ z) (sym (rows_pushed rows row))
+    is ∙ ap (λ (z : List (ℕ × List ℕ)). z ++ row_labels row) e ∙ append_assoc old (labels_in_rows rows) (row_labels row) ∙ ap (λ (z : List (ℕ × List ℕ)). old ++ z) (sym (rows_pushed rows row))

@@ -11,7 +11,7 @@ use Rattle.text_tokens.specs.Tokens.{Tok, Word, Number, Sign, NoToken, toks}
 use Rattle.litmus_syntax.specs.Words.{reg_of, opens_condition, joins_formula, is_name}
 use Rattle.litmus_syntax.specs.Views.{PlaceView, Location, Register, SignView, Atom, Const, Not, And, Or, Open, Close}
 use Rattle.litmus_syntax.specs.Grammar.{IsPlace, IsSign, the_end, IsSigns}
-use Rattle.litmus_syntax.specs.Reading.{◌>>=◌, place_among_at, value_at, word_sign, mark_sign, short_sign_at, atom_at, sign_at}
+use Rattle.litmus_syntax.specs.Reading.{◌>>=◌, place_among_at, equals_value_at, word_sign, mark_sign, short_sign_at, atom_at, sign_at}
 use Rattle.litmus_syntax.proofs.Options.{bind_some, chosen, given, some_is}
 use Rattle.litmus_syntax.proofs.ItemLaws.{IsRead, SoFar, closed, refused, none_yet, none_read, only_read, one_more}
 use Rattle.litmus_syntax.proofs.PlaceLaws.{place_among_takes, place_among_again, value_takes, value_again}
@@ -24,8 +24,8 @@ SignAndRest = SignView × List Tok
 atom_takes : (threads : ℕ) (ts : List Tok) (x : SignAndRest) → atom_at threads ts ≡ Some x → IsSign threads x.0 ts x.1
 unfolding atom_at
 atom_takes threads ts x e =
-    let a = bind_some (place_among_at threads ts) (λ p. value_at p.1 >>= λ n. Some (Atom p.0 n.0, n.1)) x e in
-    let b = bind_some (value_at a.0.1) (λ n. Some (Atom a.0.0 n.0, n.1)) x a.2 in
+    let a = bind_some (place_among_at threads ts) (λ p. equals_value_at p.1 >>= λ n. Some (Atom p.0 n.0, n.1)) x e in
+    let b = bind_some (equals_value_at a.0.1) (λ n. Some (Atom a.0.0 n.0, n.1)) x a.2 in
     let p = place_among_takes threads ts a.0 a.1 in
     subst (λ (z : SignAndRest). IsSign threads z.0 ts z.1) (some_is (Atom a.0.0 b.0.0, b.0.1) x b.2) (p.0, (a.0.1, p.1, value_takes a.0.1 b.0 b.1))
 

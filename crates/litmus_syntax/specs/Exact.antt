@@ -17,7 +17,7 @@ abbrev pub Reads : {X Y : Type 0} → (Y → List Tok → List Tok → Type 0) �
 Reads {X} {Y} R view after (Ok x) ts = R (view x) ts (after x) × ((y : Y) (rest : List Tok) → R y ts rest → (y ≡ view x) × (rest ≡ after x))
 Reads R view after (Err e) ts = ReadsNone R e ts
 
--- The signs read are those of the tokens, and no others; a refusal says that the tokens are none of signs.
+-- The signs read are those of the tokens, and no others; a refusal says that the tokens are not those of signs.
 abbrev pub ReadsSigns : ℕ → Signs → List Tok → Type 0
 ReadsSigns threads signs ts =
     MatchOption signs.refusal

@@ -1,4 +1,4 @@
--- The grammar of a litmus text behind the lines before `{`, over tokens: initial values, the header row, the rows, what is observed, the condition.
+-- The grammar of a litmus text after the lines before `{`, over tokens: initial values, the header row, the rows, what is observed, the condition.
 -- The form is a part of that of herd's X86 litmus files (Alglave, Maranget and Tautschnig, Herding Cats, TOPLAS 2014);
 -- docs/formats.md tells which.
 use Rattle.std.specs.Prelude.{◌≡◌, ◌≢◌, ◌<◌, ◌+◌, ◌||◌, ℕ, Bool, true, false, List, [], ◌∷◌, ◌++◌, length, map, codes, Option, Some, None}
@@ -43,7 +43,7 @@ HasThread threads (Register t r) = t < threads
 
 -- ---- lists without repetitions, and lists with `;` between their items
 
--- it is none of these
+-- it is not any of these
 abbrev pub IsNoneOf : {X : Type 0} → X → List X → Type 0
 IsNoneOf x [] = Unit {0}
 IsNoneOf x (y ∷ ys) = (x ≢ y) × IsNoneOf x ys
@@ -66,12 +66,12 @@ IsEntry e = IsPlace e.place ▸ mark the.Equals ▸ number e.value
 abbrev pub IsEntryItem : EntryView → Phrase
 IsEntryItem e = IsEntry e ▸ separator the.CloseBrace
 
-abbrev pub place_of : EntryView → PlaceView
-place_of e = e.place
+abbrev pub place_of_entry : EntryView → PlaceView
+place_of_entry e = e.place
 
 -- entries in braces, which name nothing twice
 abbrev pub IsInitial : List EntryView → Phrase
-IsInitial es ts rest = (mark the.OpenBrace ▸ Items IsEntryItem (mark the.CloseBrace) es) ts rest × NoneTwice (map place_of es)
+IsInitial es ts rest = (mark the.OpenBrace ▸ Items IsEntryItem (mark the.CloseBrace) es) ts rest × NoneTwice (map place_of_entry es)
 
 -- ---- the header row
 
@@ -114,8 +114,8 @@ IsCode (Jmp l) = mnemonic op.Jmp ▸ word l
 -- ---- cells and rows
 
 -- `WORD:`
-abbrev pub IsLabel : List ℕ → Phrase
-IsLabel l ts rest = (is_label l ≡ true) × (word l ▸ mark the.Colon) ts rest
+abbrev pub IsLabelMark : List ℕ → Phrase
+IsLabelMark l ts rest = (is_label l ≡ true) × (word l ▸ mark the.Colon) ts rest
 
 -- whether `|` or `;` comes next
 abbrev pub ends_cell : List Tok → Bool
@@ -128,7 +128,7 @@ IsContent (Some c) ts rest = IsCode c ts rest × (ends_cell rest ≡ true)
 
 -- labels, and then an instruction or nothing
 abbrev pub IsCell : CellView → Phrase
-IsCell c = Items IsLabel (IsContent c.code) c.labels
+IsCell c = Items IsLabelMark (IsContent c.code) c.labels
 
 -- `|` and a cell
 abbrev pub IsNextCell : CellView → Phrase
@@ -167,8 +167,8 @@ labels_from t (c ∷ cs) = cell_labels t c ++ labels_from (t + 1) cs
 abbrev pub row_labels : List CellView → List (ℕ × List ℕ)
 row_labels cells = labels_from 0 cells
 
-abbrev pub labels_of : List (List CellView) → List (ℕ × List ℕ)
-labels_of rows = flat_map row_labels rows
+abbrev pub labels_in_rows : List (List CellView) → List (ℕ × List ℕ)
+labels_in_rows rows = flat_map row_labels rows
 
 -- rows up to the ending
 abbrev pub IsRowList : ℕ → List (List CellView) → Phrase
@@ -176,12 +176,12 @@ IsRowList threads = Items (IsRow threads) before_ending
 
 -- rows in which no label stands twice in its thread
 abbrev pub IsRows : ℕ → List (List CellView) → Phrase
-IsRows threads rows ts rest = IsRowList threads rows ts rest × NoneTwice (labels_of rows)
+IsRows threads rows ts rest = IsRowList threads rows ts rest × NoneTwice (labels_in_rows rows)
 
 -- ---- the whole before the ending
 
 abbrev pub IsBody : BodyView → Phrase
-IsBody b ts rest = (IsInitial b.entries ▸ IsHeader b.threads ▸ IsRows b.threads b.rows) ts rest × All (HasThread b.threads) (map place_of b.entries)
+IsBody b ts rest = (IsInitial b.entries ▸ IsHeader b.threads ▸ IsRows b.threads b.rows) ts rest × All (HasThread b.threads) (map place_of_entry b.entries)
 
 -- ---- what is observed
 

@@ -98,15 +98,15 @@ separator_at close ts = if begins_with close ts then Some ts else mark_at the.Se
 -- ---- initial values
 
 -- `=` and a number
-unfoldable pub value_at : List Tok → Option (ℕ × List Tok)
-value_at ts = do
+unfoldable pub equals_value_at : List Tok → Option (ℕ × List Tok)
+equals_value_at ts = do
   rest ← mark_at the.Equals ts
   number_at rest
 
 -- `=`, a number and `;`; without `;`, before `}`
 unfoldable pub entry_value_at : List Tok → Option (ℕ × List Tok)
 entry_value_at ts = do
-  n ← value_at ts
+  n ← equals_value_at ts
   rest ← separator_at the.CloseBrace n.1
   Some (n.0, rest)
 
@@ -210,8 +210,8 @@ begins_label (Number n ∷ ts) = false
 begins_label (Sign m ∷ ts) = false
 begins_label (NoToken b ∷ ts) = false
 
-unfoldable pub label_at : List Tok → Option (List ℕ × List Tok)
-label_at ts = do
+unfoldable pub label_tokens_at : List Tok → Option (List ℕ × List Tok)
+label_tokens_at ts = do
   w ← word_at ts
   if is_label w.0 then (mark_at the.Colon w.1 >>= λ rest. Some (w.0, rest)) else None
 
@@ -285,7 +285,7 @@ short_sign_at (NoToken b ∷ ts) = None
 unfoldable pub atom_at : ℕ → List Tok → Option (SignView × List Tok)
 atom_at threads ts = do
   p ← place_among_at threads ts
-  n ← value_at p.1
+  n ← equals_value_at p.1
   Some (Atom p.0 n.0, n.1)
 
 unfoldable pub sign_at : ℕ → List Tok → Option (SignView × List Tok)

@@ -62,7 +62,7 @@ pub data SignView : Type 0 where
   Open : SignView
   Close : SignView
 
--- what stands behind the rows: the places to be shown, and the condition
+-- what follows the rows: the places to be shown, and the condition
 pub record EndingView : Type 0 where
   pub observed : List PlaceView
   pub quantifier : Quantifier

@@ -3,7 +3,7 @@
 ghost use Rattle.std.specs.Prelude.{◌≡◌, ◌↔◌, map, IsTrue, IfNone, IfSome};
 ghost use Rattle.std.specs.List.{All};
 ghost use Rattle.text_tokens.specs.Tokens.{toks};
-ghost use Rattle.litmus_syntax.specs.Grammar.{IsBody, HasThread, place_of};
+ghost use Rattle.litmus_syntax.specs.Grammar.{IsBody, HasThread, place_of_entry};
 ghost use Rattle.litmus_syntax.specs.Views.{place_view, entry_view, body_view};
 ghost use Rattle.litmus_syntax.specs.Exact.{Reads};
 
@@ -37,8 +37,8 @@ fn has_thread(place: Place<'_>, threads: usize) -> bool
 
 /// The tokens left at the first entry that names a thread past these.
 fn missing_thread(entries: &[Entry<'_>], threads: usize) -> Option<usize>
-    ensures none { IfNone result (All (HasThread threads) (map place_of (map entry_view entries.now))) }
-    ensures some { IfSome result (λ left. All (HasThread threads) (map place_of (map entry_view entries.now)) → ⊥) }
+    ensures none { IfNone result (All (HasThread threads) (map place_of_entry (map entry_view entries.now))) }
+    ensures some { IfSome result (λ left. All (HasThread threads) (map place_of_entry (map entry_view entries.now)) → ⊥) }
 {
     for entry in entries {
         if !has_thread(entry.place, threads) {

@@ -19,7 +19,7 @@ use text_tokens::{Mark, Token, begins};
 pub struct Cell<'t> {
     pub labels: Vec<&'t [u8]>,
     pub code: Option<Code<'t>>,
-    /// How many tokens are left behind the labels, where an instruction has its mnemonic.
+    /// How many tokens are left after the labels, where an instruction has its mnemonic.
     pub left: usize,
 }
 

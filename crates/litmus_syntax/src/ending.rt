@@ -1,4 +1,4 @@
-//! What stands behind the rows.
+//! What follows the rows.
 
 ghost use Rattle.std.specs.Prelude.{◌<◌, ◌≡◌, length, IfOk};
 ghost use Rattle.text_tokens.specs.Tokens.{toks};
@@ -24,7 +24,7 @@ pub enum Quantifier {
     Forall,
 }
 
-/// What stands behind the rows. Names are borrowed from the tokens.
+/// What follows the rows. Names are borrowed from the tokens.
 #[derive(Debug, Drop)]
 pub struct Ending<'t> {
     /// The places behind `locations`, in order, repetitions included.
@@ -51,11 +51,11 @@ fn read_quantifier(tokens: &[Token]) -> Result<(Quantifier, &[Token]), Refusal>
     Ok((Quantifier::Exists, rest))
 }
 
-/// Reads what stands behind the rows: the observed places, the quantifier, and the signs of the condition up to
+/// Reads what follows the rows: the observed places, the quantifier, and the signs of the condition up to
 /// the end of the tokens. The order of the signs is not judged here.
 ///
 /// A refusal names the first token that cannot stand where it does, if the order of the signs before it is that
-/// of a formula; one among the signs stands in `Signs`, behind the signs that were read. A thread past the given
+/// of a formula; one among the signs stands in `Signs`, after the signs that were read. A thread past the given
 /// number is refused at its number.
 pub fn read_ending<'t>(
     alloc: Global,

@@ -24,7 +24,7 @@ pub struct Entry<'t> {
     pub left: usize,
 }
 
-/// `=`, a number and the `;` behind it, which may be missing before `}`.
+/// `=`, a number and the `;` after it, which may be missing before `}`.
 #[tactic(auto, unfolding(crate::specs::Reading::entry_value_at))]
 fn read_entry_value<'t>(tokens: &'t [Token]) -> Result<(u32, &'t [Token]), Refusal>
     ensures gives { Gives (λ x. (x.0, toks x.1.now)) result (entry_value_at (toks tokens.now)) }

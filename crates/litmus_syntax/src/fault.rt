@@ -15,7 +15,7 @@ pub enum Part {
     Initial,
     /// A row with another number of cells than the header row.
     Row,
-    /// A word that is no mnemonic, or something behind a whole instruction.
+    /// A word that is not a mnemonic, or something after a whole instruction.
     Instruction,
     /// An operand.
     Operand,
@@ -23,7 +23,7 @@ pub enum Part {
     Label,
     /// The condition.
     Condition,
-    /// A number is wanted, and what stands there is too large, negative, or has a letter behind it.
+    /// A number is wanted, and what stands there is too large, negative, or followed by a letter.
     Number,
     /// The tokens end where more are needed.
     Ended,

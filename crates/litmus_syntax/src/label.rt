@@ -5,7 +5,7 @@ ghost use Rattle.text_tokens.specs.Tokens.{toks};
 ghost use Rattle.litmus_syntax.specs.Words.{is_label};
 ghost use Rattle.litmus_syntax.specs.Views.{label_view};
 ghost use Rattle.litmus_syntax.specs.Grammar.{NoneTwice};
-ghost use Rattle.litmus_syntax.specs.Reading.{Gives, begins_label, label_at};
+ghost use Rattle.litmus_syntax.specs.Reading.{Gives, begins_label, label_tokens_at};
 
 use crate::fault::{Part, Refusal};
 use crate::parts::{mark, refused, word};
@@ -42,9 +42,9 @@ pub(crate) fn begins_label(tokens: &[Token]) -> bool
 }
 
 /// A label's word and its `:`.
-#[tactic(auto, unfolding(crate::specs::Reading::label_at))]
+#[tactic(auto, unfolding(crate::specs::Reading::label_tokens_at))]
 pub(crate) fn read_label<'t>(tokens: &'t [Token]) -> Result<(&'t [u8], &'t [Token]), Refusal>
-    ensures gives { Gives (λ x. (x.0.now, toks x.1.now)) result (label_at (toks tokens.now)) }
+    ensures gives { Gives (λ x. (x.0.now, toks x.1.now)) result (label_tokens_at (toks tokens.now)) }
     ensures shorter { IfOk result (λ x. length x.1.now < length tokens.now) }
 {
     let (name, rest) = word(tokens, Part::Label)?;

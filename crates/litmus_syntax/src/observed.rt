@@ -22,7 +22,7 @@ fn read_observed_begin(tokens: &[Token]) -> Result<&[Token], Refusal>
     mark(rest, Mark::OpenBracket, Part::Condition)
 }
 
-/// A place and the `;` behind it, which may be missing before `]`.
+/// A place and the `;` after it, which may be missing before `]`.
 #[tactic(auto, unfolding(crate::specs::Reading::observed_item_at))]
 fn read_observed_item<'t>(
     tokens: &'t [Token],

@@ -4,7 +4,7 @@ ghost use Rattle.std.specs.Prelude.{◌<◌, ◌≡◌, length, IfOk};
 ghost use Rattle.text_tokens.specs.Tokens.{toks};
 ghost use Rattle.litmus_syntax.specs.Words.{reg_of, opens_condition, joins_formula, is_name};
 ghost use Rattle.litmus_syntax.specs.Views.{place_view};
-ghost use Rattle.litmus_syntax.specs.Reading.{Gives, register_at, name_at, memory_at, thread_register_at, place_at, names_missing, place_among_at, value_at};
+ghost use Rattle.litmus_syntax.specs.Reading.{Gives, register_at, name_at, memory_at, thread_register_at, place_at, names_missing, place_among_at, equals_value_at};
 
 use crate::fault::{Part, Refusal};
 use crate::parts::{is_either, mark, number, refused, refused_number, word};
@@ -157,7 +157,7 @@ fn names_missing(tokens: &[Token], threads: usize) -> bool
     }
 }
 
-/// `x`, `[x]` or `t:REG` behind the rows, where a thread that is not there is refused at its number.
+/// `x`, `[x]` or `t:REG` after the rows, where a thread that is not there is refused at its number.
 #[tactic(auto, unfolding(crate::specs::Reading::place_among_at))]
 pub fn read_place_among<'t>(
     tokens: &'t [Token],
@@ -173,9 +173,9 @@ pub fn read_place_among<'t>(
 }
 
 /// `=` and a number.
-#[tactic(auto, unfolding(crate::specs::Reading::value_at))]
+#[tactic(auto, unfolding(crate::specs::Reading::equals_value_at))]
 pub fn read_value<'t>(tokens: &'t [Token], part: Part) -> Result<(u32, &'t [Token]), Refusal>
-    ensures gives { Gives (λ x. (x.0, toks x.1.now)) result (value_at (toks tokens.now)) }
+    ensures gives { Gives (λ x. (x.0, toks x.1.now)) result (equals_value_at (toks tokens.now)) }
     ensures shorter { IfOk result (λ x. length x.1.now < length tokens.now) }
 {
     let rest = mark(tokens, Mark::Equals, part)?;

@@ -2,7 +2,7 @@
 
 ghost use Rattle.std.specs.Prelude.{◌<◌, ◌≡◌, ◌++◌, length, IfOk, map};
 ghost use Rattle.text_tokens.specs.Tokens.{toks};
-ghost use Rattle.litmus_syntax.specs.Grammar.{IsRow, IsRowList, IsRows, ends_rows, row_labels, labels_of};
+ghost use Rattle.litmus_syntax.specs.Grammar.{IsRow, IsRowList, IsRows, ends_rows, row_labels, labels_in_rows};
 ghost use Rattle.litmus_syntax.specs.Views.{row_view, label_view};
 ghost use Rattle.litmus_syntax.specs.Exact.{Reads};
 
@@ -58,7 +58,7 @@ fn read_row_list<'t>(
     labels: &mut Vec<LabelAt<'t>>,
 ) -> Result<(Vec<Vec<Cell<'t>>>, &'t [Token]), SyntaxFault>
     ensures reads { Reads (IsRowList threads) (λ x. map row_view x.0.items) (λ x. toks x.1.now) result (toks tokens.now) }
-    ensures labels { IfOk result (λ x. map label_view labels.new.items ≡ map label_view labels.old.items ++ labels_of (map row_view x.0.items)) }
+    ensures labels { IfOk result (λ x. map label_view labels.new.items ≡ map label_view labels.old.items ++ labels_in_rows (map row_view x.0.items)) }
 {
     let mut rows = Vec::new(alloc);
     let mut rest = tokens;
@@ -71,7 +71,7 @@ fn read_row_list<'t>(
 }
 
 /// The rows, up to the part after them. A label that stands in its thread already is refused at its word,
-/// before whatever is refused behind it.
+/// before whatever is refused after it.
 pub(crate) fn read_rows<'t>(
     alloc: Global,
     threads: usize,

@@ -45,7 +45,7 @@ pub match_lines : (fault : LineFault) (U : Type 0) (L : ProgramFault → Type 0)
 match_lines (line_fault.Header line) U L M O other = other
 match_lines (line_fault.Ended line) U L M O other = other
 
--- a program's fault is the first limit that is broken, want of memory aside
+-- a program's fault is the first limit that is broken, unless it is out of memory
 pub first_refused : (first : Option ProgramFault) (fault : ProgramFault) (read : ReadFault) → (first ≡ None → fault ≡ NoMemory) → ((limit : ProgramFault) → first ≡ Some limit → limit ≡ fault)
     → MatchFault read ⊥ (λ limit. (limit ≡ fault) × (fault ≢ NoMemory)) ⊤ ⊥ → MatchFault read ⊥ (λ limit. first ≡ Some limit) ⊤ ⊥
 first_refused first fault read none some h =

@@ -15,10 +15,10 @@ use Rattle.conditions.specs.declared.atom.Atom.TheVariants as atom
 use Rattle.litmus_syntax.specs.Views.{PlaceView, Location, Register, BodyView}
 use Rattle.litmus_text.specs.Names.{Names, all_registers, with_name}
 use Rattle.litmus_text.specs.Places.{location_name, is_register, names_among}
-use Rattle.litmus_text.specs.Meaning.{code_of}
+use Rattle.litmus_text.specs.Meaning.{code_in}
 use Rattle.litmus_text.specs.declared.label.Label.{Label}
 use Rattle.litmus_text.specs.Labels.{thread_labels, all_labels}
-use Rattle.litmus_text.specs.Filling.{byte_at, FindsAs, FindAllAs, put, no_names, noted, stored, loaded, value_of, is_of_location, is_of_register, entry_atoms, memory_from, registers_from, thread_in, thread_by}
+use Rattle.litmus_text.specs.Filling.{byte_at, FindsAs, FindAllAs, with_put, no_names, noted, stored, with_initial, value_of, is_of_location, is_of_register, entry_atoms, memory_from, registers_from, thread_in, thread_by}
 
 -- ---- lists of numbers' values
 
@@ -85,7 +85,7 @@ row_changed {X} f t r x u n lt =
           ∙ sym (ap (λ (b : Bool). map (λ s. if b && number r == number s then x else f u s) all_registers) e)
     ]
 
-put_grid : {X : Type 0} (f : ℕ → Reg → X) (n t : ℕ) (r : Reg) (x : X) → put (grid f n) t (number r) x ≡ grid (changed f t r x) n
+put_grid : {X : Type 0} (f : ℕ → Reg → X) (n t : ℕ) (r : Reg) (x : X) → with_put (grid f n) t (number r) x ≡ grid (changed f t r x) n
 put_grid {X} f n t r x =
     let row : ℕ → List X = λ u. map (f u) all_registers in
     let new : List X = set (get_or (grid f n) t []) (number r) x in
@@ -109,17 +109,17 @@ stored_from f n (a ∷ atoms) = ap (λ (memory : List ℕ). fold stored memory a
 pub stored_all : (n : ℕ) (atoms : List Atom) → fold stored (replicate n 0) atoms ≡ memory_from n atoms
 stored_all n atoms = ap (λ (memory : List ℕ). fold stored memory atoms) (all_same n 0) ∙ stored_from (λ _. 0) n atoms
 
-loaded_grid : (f : ℕ → Reg → ℕ) (n : ℕ) (a : Atom) → loaded (grid f n) a ≡ grid (λ t r. if is_of_register t r a then value_of a else f t r) n
+loaded_grid : (f : ℕ → Reg → ℕ) (n : ℕ) (a : Atom) → with_initial (grid f n) a ≡ grid (λ t r. if is_of_register t r a then value_of a else f t r) n
 loaded_grid f n (atom.Location l x) = refl
 loaded_grid f n (atom.Register t r x) = put_grid f n t r x
 
-loaded_from : (f : ℕ → Reg → ℕ) (n : ℕ) (atoms : List Atom) → fold loaded (grid f n) atoms ≡ grid (λ t r. fold (λ v a. if is_of_register t r a then value_of a else v) (f t r) atoms) n
+loaded_from : (f : ℕ → Reg → ℕ) (n : ℕ) (atoms : List Atom) → fold with_initial (grid f n) atoms ≡ grid (λ t r. fold (λ v a. if is_of_register t r a then value_of a else v) (f t r) atoms) n
 loaded_from f n [] = refl
-loaded_from f n (a ∷ atoms) = ap (λ (table : List (List ℕ)). fold loaded table atoms) (loaded_grid f n a) ∙ loaded_from (λ t r. if is_of_register t r a then value_of a else f t r) n atoms
+loaded_from f n (a ∷ atoms) = ap (λ (table : List (List ℕ)). fold with_initial table atoms) (loaded_grid f n a) ∙ loaded_from (λ t r. if is_of_register t r a then value_of a else f t r) n atoms
 
 -- the registers after all initial values
-pub loaded_all : (n : ℕ) (atoms : List Atom) → fold loaded (replicate n (replicate 6 0)) atoms ≡ map (registers_from atoms) (range_with_len 0 n)
-loaded_all n atoms = ap (λ (table : List (List ℕ)). fold loaded table atoms) (all_same n (replicate 6 0)) ∙ loaded_from (λ _ _. 0) n atoms
+pub loaded_all : (n : ℕ) (atoms : List Atom) → fold with_initial (replicate n (replicate 6 0)) atoms ≡ map (registers_from atoms) (range_with_len 0 n)
+loaded_all n atoms = ap (λ (table : List (List ℕ)). fold with_initial table atoms) (all_same n (replicate 6 0)) ∙ loaded_from (λ _ _. 0) n atoms
 
 -- labels that are found alike have the same positions
 same_positions : (found labels : List Label) → FindsAs found labels → byte_at found ≡ byte_at labels
@@ -136,7 +136,7 @@ threads_filled numbered body registers found atoms said table known =
     ap (λ (n : ℕ). map (thread_in numbered body.rows registers found) (range_with_len 0 n)) count
     ∙ range_same (thread_in numbered body.rows registers found) (thread_by numbered byte_at body) body.threads
     (λ t lt i. record {
-      code = code_of numbered ((same_positions (get_or found t []) (get_or (all_labels body) t []) (known.1 t) ∙ ap byte_at (get_or-map-range_with_len (thread_labels body.rows) 0 body.threads t t [] lt (omega arith))) i) body.rows t;
+      code = code_in numbered ((same_positions (get_or found t []) (get_or (all_labels body) t []) (known.1 t) ∙ ap byte_at (get_or-map-range_with_len (thread_labels body.rows) 0 body.threads t t [] lt (omega arith))) i) body.rows t;
       registers = (ap (λ (rs : List (List ℕ)). get_or rs t (replicate 6 0)) same ∙ get_or-map-range_with_len (registers_from own) 0 body.threads t t (replicate 6 0) lt (omega arith)) i;
     })
 
@@ -162,7 +162,7 @@ noted_from n ls f [] = λ i. record { locations = ls; registers = same_grid f (�
 noted_from n ls f (Location x ∷ ps) = noted_from n (with_name ls x) f ps
 noted_from n ls f (Register t r ∷ ps) =
     let g : ℕ → Reg → Bool = λ u s. f u s || (t == u && number r == number s) in
-    let marked : put (grid f n) t (number r) true ≡ grid g n = put_grid f n t r true ∙ same_grid (changed f t r true) g n (λ u s. some_else (t == u && number r == number s) (f u s)) in
+    let marked : with_put (grid f n) t (number r) true ≡ grid g n = put_grid f n t r true ∙ same_grid (changed f t r true) g n (λ u s. some_else (t == u && number r == number s) (f u s)) in
     ap (λ (table : List (List Bool)). fold noted (record { locations = ls; registers = table }) ps) marked
     ∙ noted_from n ls g ps
     ∙ (λ i. record {

@@ -19,7 +19,7 @@ use Rattle.std.proofs.lemmas.List.Sums.{prefix_len_passes}
 use Rattle.std.proofs.lemmas.List.FromFn.{get_or-map-range_with_len}
 use Rattle.litmus_text.specs.declared.label.Label.{Label}
 use Rattle.litmus_text.specs.Labels.{thread_labels, position_in}
-use Rattle.litmus_text.specs.Meaning.{code_of}
+use Rattle.litmus_text.specs.Meaning.{code_in}
 use Rattle.litmus_text.specs.Filling.{byte_in, byte_at, is_of_location, entry_atoms, last_said, registers_from, memory_from, thread_by, listing_by}
 use Rattle.litmus_text.proofs.Filled.{range_same}
 use Rattle.litmus_text.proofs.Positions.{code_count, position_same}
@@ -88,7 +88,7 @@ fenced_program_limits = record {
 -- ---- many names
 
 -- code has as many instructions, however locations and positions are numbered
-code_len : (a b p q : List ℕ → ℕ) (rows : List (List CellView)) (t : ℕ) → length (code_of a p rows t) ≡ length (code_of b q rows t)
+code_len : (a b p q : List ℕ → ℕ) (rows : List (List CellView)) (t : ℕ) → length (code_in a p rows t) ≡ length (code_in b q rows t)
 code_len a b p q rows t = code_count a p rows t ∙ sym (code_count b q rows t)
 
 prefix_same : (longest : ℕ) (f g : ℕ → Thread) (ts : List ℕ) → ((t : ℕ) → length (f t).code ≡ length (g t).code)
@@ -176,5 +176,5 @@ listing_same longest names body small few none =
     λ t lt. position_same (byte_in names) (byte_at (thread_labels body.rows t)) body.rows t (omega (arith, small, short longest (thread_by (byte_in names) byte_at body) body.threads none t lt)) in
     let threads : (listing_by (byte_in names) byte_at (length names) body).threads ≡ (listing_by (number_in names) position_in (length names) body).threads =
     range_same (thread_by (byte_in names) byte_at body) (thread_by (number_in names) position_in body) body.threads
-    (λ t lt i. record { code = code_of (numbered i) (positioned t lt i) body.rows t; registers = registers_from (entry_atoms (numbered i) body.entries) t }) in
+    (λ t lt i. record { code = code_in (numbered i) (positioned t lt i) body.rows t; registers = registers_from (entry_atoms (numbered i) body.entries) t }) in
     λ i. record { threads = threads i; memory = memory_from (length names) (entry_atoms (numbered i) body.entries) }

@@ -22,7 +22,7 @@ use Rattle.litmus_text.specs.Places.{names_of}
 use Rattle.litmus_text.specs.Labels.{all_labels, JumpsAreFound}
 use Rattle.litmus_text.specs.Meaning.{sign_of, numbered_atom, quantifier_of, observed_of}
 use Rattle.litmus_text.specs.Filling.{byte_in, byte_at, listing_by}
-use Rattle.litmus_text.specs.Reading.{numbered_signs, ReadsOne, Found, IsRead, IsSyntaxFault, HasNoParts}
+use Rattle.litmus_text.specs.Reading.{numbered_signs, ReadsOne, Found, AreReadTokens, IsSyntaxFault, HasNoParts}
 use Rattle.litmus_text.specs.Texts.{AreParts}
 use Rattle.litmus_text.proofs.Faults.{match_map}
 
@@ -71,7 +71,7 @@ refused_body tokens ts refused fault e none is =
     here body parts.others (subst (λ (x : List Tok). IsBody body x parts.others) (sym e) parts.begins) in
     match_map fault ⊥ ⊥ (λ _. ⊥) (λ _. ⊥) (refused ≡ NoMemory) ⊤ ((r : Refusal) × (refused ≡ Refused r)) (HasNoParts tokens) (λ h. h) (λ _ h. h) (λ _. tt) no_parts is
 
--- what a refused token behind the rows says
+-- what a refused token after the rows says
 pub refused_ending : (tokens ts others : List Tok) (body : BodyView) (refused : SyntaxFault) (fault : ReadFault) → ts ≡ tokens
     → IsBody body ts others × ((b : BodyView) (rest : List Tok) → IsBody b ts rest → (b ≡ body) × (rest ≡ others)) → ReadsEnding body.threads (Err refused) others
     → IsSyntaxFault refused fault → MatchFault fault ⊥ (λ _. ⊥) ⊤ (HasNoParts tokens)
@@ -113,7 +113,7 @@ unnumbered numbered ending f only = spells_unmapped (numbered_atom numbered) (ma
 pub parts_read : (tokens : List Tok) (body : BodyView) (refusal : Option Refusal) (ending : EndingView) (litmus : Litmus Listing) → Found tokens body refusal ending → JumpsAreFound body
     → litmus.names ≡ names_of body ending → litmus.condition.quantifier ≡ quantifier_of ending.quantifier → (refusal ≡ None) × SpellsOnly (numbered_signs (byte_in litmus.names.locations) ending.signs) litmus.condition.formula
     → litmus.program ≡ listing_by (byte_in litmus.names.locations) byte_at (length litmus.names.locations) body → litmus.observed ≡ map (observed_of (byte_in litmus.names.locations)) ending.observed
-    → litmus.labels ≡ all_labels body → IsRead tokens litmus
+    → litmus.labels ≡ all_labels body → AreReadTokens tokens litmus
 parts_read tokens body refusal ending litmus found jumps names quantifier spelled program observed labels =
     let u = unnumbered (byte_in litmus.names.locations) ending litmus.condition.formula spelled.1 in
     record {

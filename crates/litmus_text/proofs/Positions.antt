@@ -8,7 +8,7 @@ use Rattle.tso_program.specs.declared.instruction.Instr.{Instr}
 use Rattle.litmus_syntax.specs.Views.{CodeView, CellView}
 use Rattle.litmus_text.specs.declared.label.Label.{Label}
 use Rattle.litmus_text.specs.Labels.{column, size, labels_behind, thread_labels, position_in}
-use Rattle.litmus_text.specs.Meaning.{instruction_of, code_of}
+use Rattle.litmus_text.specs.Meaning.{instruction_of, code_in}
 use Rattle.litmus_text.specs.Filling.{byte_at}
 
 -- how many instructions cells have
@@ -57,16 +57,16 @@ one_row f None is cs e = e
 one_row f (Some c) is cs e = one_code f c.code is (count cs) e
 
 -- a thread's code has as many instructions as its cells
-pub code_count : (numbered positioned : List ℕ → ℕ) (rows : List (List CellView)) (t : ℕ) → length (code_of numbered positioned rows t) ≡ count (column rows t)
+pub code_count : (numbered positioned : List ℕ → ℕ) (rows : List (List CellView)) (t : ℕ) → length (code_in numbered positioned rows t) ≡ count (column rows t)
 code_count numbered positioned [] t = refl
 code_count numbered positioned (row ∷ rows) t =
-    one_row (instruction_of numbered positioned) (slice_get row t) (code_of numbered positioned rows t) (column rows t) (code_count numbered positioned rows t)
+    one_row (instruction_of numbered positioned) (slice_get row t) (code_in numbered positioned rows t) (column rows t) (code_count numbered positioned rows t)
 
 byte_is : (n : ℕ) → n ≤ 255 → min 255 n ≡ n
 byte_is n le = omega arith
 
--- no label of a thread stands behind more instructions than the thread has; where these are few, its position is a byte
-pub position_same : (numbered positioned : List ℕ → ℕ) (rows : List (List CellView)) (t : ℕ) → length (code_of numbered positioned rows t) ≤ 255 → byte_at (thread_labels rows t) ≡ position_in (thread_labels rows t)
+-- no label of a thread follows more instructions than the thread has; where these are few, its position is a byte
+pub position_same : (numbered positioned : List ℕ → ℕ) (rows : List (List CellView)) (t : ℕ) → length (code_in numbered positioned rows t) ≤ 255 → byte_at (thread_labels rows t) ≡ position_in (thread_labels rows t)
 position_same numbered positioned rows t few = λ i name.
     byte_is (position_in (thread_labels rows t) name)
     (omega (arith, few, code_count numbered positioned rows t, position_within (0 + count (column rows t)) (thread_labels rows t) name (labels_within 0 (column rows t)))) i

@@ -2,7 +2,7 @@
 use Rattle.std.proofs.Common.{◌≡◌, ℕ, ◌+◌, List, [], ◌∷◌, inl, inr, Some, None, sym, subst}
 use Rattle.text_tokens.specs.declared.token.Mark.{Mark}
 use Rattle.text_tokens.specs.declared.token.Mark.TheVariants as the
-use Rattle.text_tokens.specs.Tokens.{Tok, Word, Number, Sign, IsWhole}
+use Rattle.text_tokens.specs.Tokens.{Tok, Word, Number, Sign, AreAllTokens}
 use Rattle.tso_program.specs.declared.instruction.Reg.{Reg}
 use Rattle.conditions.specs.Tree.{Tree}
 use Rattle.litmus_text.specs.Texts.{AreParts}
@@ -12,20 +12,20 @@ use Rattle.litmus_syntax.specs.Views.{PlaceView, Location, Register, EntryView, 
 use Rattle.litmus_syntax.specs.Words.{column_name}
 use Rattle.std.specs.Prelude.{codes, true, false, Option}
 use Rattle.litmus_syntax.specs.Phrases.{Phrase, ◌▸◌, ◌or◌, mark, word, number, before, no_word, Items, end, item}
-use Rattle.litmus_syntax.specs.Grammar.{register, name, memory, IsPlace, IsEntry, separator, IsEntryItem, IsInitial, MoreColumns, last, column, IsHeader, immediate, comma, IsCode, IsLabel, IsContent, IsCell, IsNextCell, IsCells, IsRow, before_ending, IsRowList, IsRows, IsBody, IsObservedItem, IsObserved, IsQuantifier, IsSign, the_end, IsSigns, IsEnding}
+use Rattle.litmus_syntax.specs.Grammar.{register, name, memory, IsPlace, IsEntry, separator, IsEntryItem, IsInitial, MoreColumns, last, column, IsHeader, immediate, comma, IsCode, IsLabelMark, IsContent, IsCell, IsNextCell, IsCells, IsRow, before_ending, IsRowList, IsRows, IsBody, IsObservedItem, IsObserved, IsQuantifier, IsSign, the_end, IsSigns, IsEnding}
 
--- where each token behind a phrase is one, each token of the phrase is one too
+-- where each token after a phrase is one, each token of the phrase is one too
 abbrev KeepsWhole : Phrase → Type 0
-KeepsWhole p = (ts rest : List Tok) → p ts rest → IsWhole rest → IsWhole ts
+KeepsWhole p = (ts rest : List Tok) → p ts rest → AreAllTokens rest → AreAllTokens ts
 
-whole_word : (w : List ℕ) (ts rest : List Tok) → ts ≡ Word w ∷ rest → IsWhole rest → IsWhole ts
-whole_word w ts rest e h = subst IsWhole (sym e) h
+whole_word : (w : List ℕ) (ts rest : List Tok) → ts ≡ Word w ∷ rest → AreAllTokens rest → AreAllTokens ts
+whole_word w ts rest e h = subst AreAllTokens (sym e) h
 
-whole_number : (n : ℕ) (ts rest : List Tok) → ts ≡ Number n ∷ rest → IsWhole rest → IsWhole ts
-whole_number n ts rest e h = subst IsWhole (sym e) h
+whole_number : (n : ℕ) (ts rest : List Tok) → ts ≡ Number n ∷ rest → AreAllTokens rest → AreAllTokens ts
+whole_number n ts rest e h = subst AreAllTokens (sym e) h
 
-whole_mark : (m : Mark) (ts rest : List Tok) → ts ≡ Sign m ∷ rest → IsWhole rest → IsWhole ts
-whole_mark m ts rest e h = subst IsWhole (sym e) h
+whole_mark : (m : Mark) (ts rest : List Tok) → ts ≡ Sign m ∷ rest → AreAllTokens rest → AreAllTokens ts
+whole_mark m ts rest e h = subst AreAllTokens (sym e) h
 
 then : (p q : Phrase) → KeepsWhole p → KeepsWhole q → KeepsWhole (p ▸ q)
 then p q keeps_p keeps_q ts rest h whole = keeps_p ts h.0 h.1 (keeps_q h.0 rest h.2 whole)
@@ -55,8 +55,8 @@ a_register r ts rest h whole = whole_word h.0 ts rest h.2 whole
 a_name : (x : List ℕ) → KeepsWhole (name x)
 a_name x ts rest h whole = whole_word x ts rest h.1 whole
 
-nothing : (ts rest : List Tok) → ts ≡ rest → IsWhole rest → IsWhole ts
-nothing ts rest e whole = subst IsWhole (sym e) whole
+nothing : (ts rest : List Tok) → ts ≡ rest → AreAllTokens rest → AreAllTokens ts
+nothing ts rest e whole = subst AreAllTokens (sym e) whole
 
 -- ---- the grammar's phrases
 
@@ -94,7 +94,7 @@ an_immediate n = either (mark the.Dollar ▸ number n) (number n) (then (mark th
 operands : (p q : Phrase) → KeepsWhole p → KeepsWhole q → KeepsWhole (p ▸ comma ▸ q)
 operands p q keeps_p keeps_q = then p (comma ▸ q) keeps_p (then comma q (a_mark the.Comma) keeps_q)
 
--- behind a mnemonic, which is a word
+-- after a mnemonic, which is a word
 behind : (p q : Phrase) → ((ts rest : List Tok) → p ts rest → (w : List ℕ) × (ts ≡ Word w ∷ rest)) → KeepsWhole q → KeepsWhole (p ▸ q)
 behind p q is keeps = then p q (λ ts rest h whole. let w = is ts rest h in whole_word w.0 ts rest w.1 whole) keeps
 
@@ -114,7 +114,7 @@ an_instruction (Je l) = behind _ (word l) (λ ts rest h. (h.0, h.2)) (a_word l)
 an_instruction (Jne l) = behind _ (word l) (λ ts rest h. (h.0, h.2)) (a_word l)
 an_instruction (Jmp l) = behind _ (word l) (λ ts rest h. (h.0, h.2)) (a_word l)
 
-a_label : (l : List ℕ) → KeepsWhole (IsLabel l)
+a_label : (l : List ℕ) → KeepsWhole (IsLabelMark l)
 a_label l ts rest h whole = then (word l) (mark the.Colon) (a_word l) (a_mark the.Colon) ts rest h.1 whole
 
 a_content : (c : Option CodeView) → KeepsWhole (IsContent c)
@@ -122,7 +122,7 @@ a_content None ts rest h whole = nothing ts rest h.0 whole
 a_content (Some c) ts rest h whole = an_instruction c ts rest h.0 whole
 
 a_cell : (c : CellView) → KeepsWhole (IsCell c)
-a_cell c = items IsLabel (IsContent c.code) a_label (a_content c.code) c.labels
+a_cell c = items IsLabelMark (IsContent c.code) a_label (a_content c.code) c.labels
 
 a_next_cell : (c : CellView) → KeepsWhole (IsNextCell c)
 a_next_cell c = then (mark the.Bar) (IsCell c) (a_mark the.Bar) (a_cell c)
@@ -146,7 +146,7 @@ body_whole b ts rest h whole =
     then (IsInitial b.entries) (IsHeader b.threads ▸ IsRows b.threads b.rows) (initial b.entries)
     (then (IsHeader b.threads) (IsRows b.threads b.rows) (a_header b.threads) (rows b.threads b.rows)) ts rest h.0 whole
 
--- ---- behind the rows
+-- ---- after the rows
 
 an_observed : (threads : ℕ) (p : PlaceView) → KeepsWhole (IsObservedItem threads p)
 an_observed threads p ts rest h whole = then (IsPlace p) (separator the.CloseBracket) (a_place p) (a_separator the.CloseBracket) ts rest h.1 whole
@@ -174,14 +174,14 @@ a_sign threads Open ts rest h whole = a_mark the.OpenParen ts rest h whole
 a_sign threads Close ts rest h whole = a_mark the.CloseParen ts rest h whole
 
 an_end : KeepsWhole the_end
-an_end ts rest h whole = subst IsWhole (sym h.0) tt
+an_end ts rest h whole = subst AreAllTokens (sym h.0) tt
 
-ending_whole : (threads : ℕ) (e : EndingView) (ts : List Tok) → IsEnding threads e ts → IsWhole ts
+ending_whole : (threads : ℕ) (e : EndingView) (ts : List Tok) → IsEnding threads e ts → AreAllTokens ts
 ending_whole threads e ts h =
     let signs = Items (IsSign threads) the_end e.signs in
     then (IsObserved threads e.observed) (IsQuantifier e.quantifier ▸ signs) (observed threads e.observed)
     (then (IsQuantifier e.quantifier) signs (quantifier e.quantifier) (items (IsSign threads) the_end (a_sign threads) an_end e.signs)) ts [] h tt
 
 -- tokens with all their parts are tokens each
-pub parts_whole : (tokens : List Tok) (body : BodyView) (ending : EndingView) (f : Tree (PlaceView × ℕ)) → AreParts tokens body ending f → IsWhole tokens
+pub parts_whole : (tokens : List Tok) (body : BodyView) (ending : EndingView) (f : Tree (PlaceView × ℕ)) → AreParts tokens body ending f → AreAllTokens tokens
 parts_whole tokens body ending f parts = body_whole body tokens parts.others parts.begins (ending_whole body.threads ending parts.others parts.ends)

@@ -2,7 +2,7 @@
 use Rattle.std.proofs.Common.{◌≡◌, ℕ, List, sym, ◌∙◌, subst, inl}
 use Rattle.std.specs.Prelude.{⊤}
 use Rattle.std.specs.Str.{IsUtf8}
-use Rattle.text_tokens.specs.Tokens.{Tok, IsWhole}
+use Rattle.text_tokens.specs.Tokens.{Tok, AreAllTokens}
 use Rattle.text_tokens.specs.Lexing.{Lexes, LexesTo}
 use Rattle.tso_program.specs.declared.listing.Listing.{Listing}
 use Rattle.tso_program.specs.declared.limits.ProgramFault.{ProgramFault}
@@ -14,7 +14,7 @@ use Rattle.litmus_lines.specs.declared.fault.LineFault.{LineFault}
 use Rattle.litmus_lines.specs.FirstLine.{IsFirstLine}
 use Rattle.litmus_lines.specs.SkippedLines.{AreSkipped}
 use Rattle.litmus_text.specs.Texts.{Means, StandsFor, StandsForNothing}
-use Rattle.litmus_text.specs.Reading.{IsRead, IsReadOf, HasNoParts}
+use Rattle.litmus_text.specs.Reading.{AreReadTokens, IsReadOf, HasNoParts}
 use Rattle.litmus_text.proofs.Faults.{match_map, match_memory, match_lines}
 use Rattle.litmus_text.proofs.Whole.{parts_whole}
 
@@ -25,10 +25,10 @@ pub record Split (text name lines others : List ℕ) (tokens : List Tok) : Type 
   pub first_only : (n rest : List ℕ) → IsFirstLine text n rest → (name ≡ n) × (lines ≡ rest)
   pub skipped : AreSkipped lines others
   pub skipped_only : (rest : List ℕ) → AreSkipped lines rest → others ≡ rest
-  pub lexes : IsWhole tokens → Lexes others tokens
+  pub lexes : AreAllTokens tokens → Lexes others tokens
   pub lexes_only : (ts : List Tok) → LexesTo others ts → tokens ≡ ts
 
-pub text_read : (text name other lines others : List ℕ) (tokens : List Tok) (litmus : Litmus Listing) → Split text name lines others tokens → other ≡ name → (litmus.name ≡ other) × IsRead tokens litmus → IsReadOf text litmus
+pub text_read : (text name other lines others : List ℕ) (tokens : List Tok) (litmus : Litmus Listing) → Split text name lines others tokens → other ≡ name → (litmus.name ≡ other) × AreReadTokens tokens litmus → IsReadOf text litmus
 text_read text name other lines others tokens litmus split e h =
     let own : litmus.name ≡ name = h.0 ∙ e in
     record {

@@ -14,12 +14,12 @@ use Rattle.litmus_lines.specs.FirstLine.{IsFirstLine}
 use Rattle.litmus_text.specs.Texts.{Means}
 
 -- `MOV [x],$1`
-abbrev pub store_of : List ℕ → List Tok
-store_of x = Word (codes "MOV") ∷ Sign the.OpenBracket ∷ Word x ∷ Sign the.CloseBracket ∷ Sign the.Comma ∷ Sign the.Dollar ∷ Number 1 ∷ []
+abbrev pub store_tokens : List ℕ → List Tok
+store_tokens x = Word (codes "MOV") ∷ Sign the.OpenBracket ∷ Word x ∷ Sign the.CloseBracket ∷ Sign the.Comma ∷ Sign the.Dollar ∷ Number 1 ∷ []
 
 -- `MOV EAX,[x]`
-abbrev pub load_of : List ℕ → List Tok
-load_of x = Word (codes "MOV") ∷ Word (codes "EAX") ∷ Sign the.Comma ∷ Sign the.OpenBracket ∷ Word x ∷ Sign the.CloseBracket ∷ []
+abbrev pub load_tokens : List ℕ → List Tok
+load_tokens x = Word (codes "MOV") ∷ Word (codes "EAX") ∷ Sign the.Comma ∷ Sign the.OpenBracket ∷ Word x ∷ Sign the.CloseBracket ∷ []
 
 -- `0:EAX=0`
 abbrev pub eax_of : ℕ → List Tok
@@ -31,8 +31,8 @@ tokens =
     Sign the.OpenBrace ∷ Word (codes "x") ∷ Sign the.Equals ∷ Number 0 ∷ Sign the.Semicolon ∷ []
     ++ Number 1 ∷ Sign the.Colon ∷ Word (codes "ebx") ∷ Sign the.Equals ∷ Number 7 ∷ Sign the.CloseBrace ∷ []
     ++ Word (codes "P0") ∷ Sign the.Bar ∷ Word (codes "P1") ∷ Sign the.Semicolon ∷ []
-    ++ store_of (codes "x") ++ Sign the.Bar ∷ [] ++ store_of (codes "y") ++ Sign the.Semicolon ∷ []
-    ++ load_of (codes "y") ++ Sign the.Bar ∷ [] ++ load_of (codes "x") ++ Sign the.Semicolon ∷ []
+    ++ store_tokens (codes "x") ++ Sign the.Bar ∷ [] ++ store_tokens (codes "y") ++ Sign the.Semicolon ∷ []
+    ++ load_tokens (codes "y") ++ Sign the.Bar ∷ [] ++ load_tokens (codes "x") ++ Sign the.Semicolon ∷ []
     ++ Word (codes "exists") ∷ Sign the.OpenParen ∷ [] ++ eax_of 0 ++ Sign the.And ∷ [] ++ eax_of 1 ++ Sign the.CloseParen ∷ []
 
 -- two locations, x and y; EAX of both threads and EBX of thread 1

@@ -6,7 +6,7 @@ use Rattle.litmus_lines.specs.declared.fault.LineFault.TheVariants as line_fault
 use Rattle.litmus_text.specs.declared.fault.ReadFault.{ReadFault}
 use Rattle.litmus_text.specs.declared.fault.ReadFault.TheVariants.{NotUtf8, Header, Initial, Row, Instruction, Operand, Label, Condition, Number, Ended, Program, OutOfMemory}
 
--- a fact for bytes that are no UTF-8, for a program past its limits, for want of memory, and for every other fault
+-- a fact for bytes that are not UTF-8, for a program past its limits, for out of memory, and for every other fault
 abbrev pub MatchFault : ReadFault → Type 0 → (ProgramFault → Type 0) → Type 0 → Type 0 → Type 0
 MatchFault (NotUtf8 line) Utf8 Limit Memory Other = Utf8
 MatchFault (Program line fault) Utf8 Limit Memory Other = Limit fault

@@ -12,7 +12,7 @@ use Rattle.litmus_syntax.specs.Views.{PlaceView, Location, Register, EntryView, 
 use Rattle.litmus_text.specs.Names.{Names, all_registers, with_name, number_in}
 use Rattle.litmus_text.specs.declared.label.Label.{Label}
 use Rattle.litmus_text.specs.Labels.{thread_labels, label_in, position_in}
-use Rattle.litmus_text.specs.Meaning.{atom_of, code_of}
+use Rattle.litmus_text.specs.Meaning.{atom_of, code_in}
 
 -- the bytes of each
 abbrev pub texts : List (Vec ℕ) → List (List ℕ)
@@ -43,8 +43,8 @@ abbrev pub FindAllAs : List (List Label) → List (List Label) → Type 0
 FindAllAs found labels = (length found ≡ length labels) × ((t : ℕ) → FindsAs (slice_index_or found t []) (slice_index_or labels t []))
 
 -- a table with one value changed
-abbrev pub put : {X : Type 0} → List (List X) → ℕ → ℕ → X → List (List X)
-put table t r x = slice_set table t (slice_set (slice_index_or table t []) r x)
+abbrev pub with_put : {X : Type 0} → List (List X) → ℕ → ℕ → X → List (List X)
+with_put table t r x = slice_set table t (slice_set (slice_index_or table t []) r x)
 
 -- the names where nothing is named
 abbrev pub no_names : ℕ → Names
@@ -53,7 +53,7 @@ no_names threads = record { locations = []; registers = replicate threads (repli
 -- the names with those of one more place
 abbrev pub noted : Names → PlaceView → Names
 noted names (Location x) = record names { locations = with_name names.locations x }
-noted names (Register t r) = record names { registers = put names.registers t (number r) true }
+noted names (Register t r) = record names { registers = with_put names.registers t (number r) true }
 
 -- memory after an initial value
 abbrev pub stored : List ℕ → Atom → List ℕ
@@ -61,9 +61,9 @@ stored memory (atom.Location l n) = slice_set memory l n
 stored memory (atom.Register t r n) = memory
 
 -- the registers after an initial value
-abbrev pub loaded : List (List ℕ) → Atom → List (List ℕ)
-loaded registers (atom.Location l n) = registers
-loaded registers (atom.Register t r n) = put registers t (number r) n
+abbrev pub with_initial : List (List ℕ) → Atom → List (List ℕ)
+with_initial registers (atom.Location l n) = registers
+with_initial registers (atom.Register t r n) = with_put registers t (number r) n
 
 -- ---- what the tables hold in the end
 
@@ -102,14 +102,14 @@ registers_from atoms t = map (λ r. last_said (is_of_register t r) atoms) all_re
 
 -- thread t, with its registers and labels from tables
 abbrev pub thread_in : (List ℕ → ℕ) → List (List CellView) → List (List ℕ) → List (List Label) → ℕ → Thread
-thread_in numbered rows registers labels t = record { code = code_of numbered (byte_at (slice_index_or labels t [])) rows t; registers = slice_index_or registers t (replicate 6 0) }
+thread_in numbered rows registers labels t = record { code = code_in numbered (byte_at (slice_index_or labels t [])) rows t; registers = slice_index_or registers t (replicate 6 0) }
 
 abbrev pub listed : List Thread → List ℕ → Listing
 listed threads memory = record { threads = threads; memory = memory }
 
 -- thread t, with its registers after all initial values, and positions as given
 abbrev pub thread_by : (List ℕ → ℕ) → (List Label → List ℕ → ℕ) → BodyView → ℕ → Thread
-thread_by numbered positioned body t = record { code = code_of numbered (positioned (thread_labels body.rows t)) body.rows t; registers = registers_from (entry_atoms numbered body.entries) t }
+thread_by numbered positioned body t = record { code = code_in numbered (positioned (thread_labels body.rows t)) body.rows t; registers = registers_from (entry_atoms numbered body.entries) t }
 
 -- the program of so many locations
 abbrev pub listing_by : (List ℕ → ℕ) → (List Label → List ℕ → ℕ) → ℕ → BodyView → Listing

@@ -33,7 +33,7 @@ all_labels body = map (thread_labels body.rows) (range_with_len 0 body.threads)
 abbrev pub label_in : List Label → List ℕ → Option Label
 label_in labels name = find (λ l. bytes_eq l.name name) labels
 
--- the position of the label with this name; 0 where there is none
+-- the position of the label with this name; 0 if no label has it
 abbrev pub position_in : List Label → List ℕ → ℕ
 position_in labels name = option_map_or (λ l. l.position) (label_in labels name) 0
 

@@ -26,7 +26,7 @@ use Rattle.litmus_text.specs.Labels.{thread_labels, position_in}
 
 -- ---- the start
 
--- what a place holds at first: the value of the entry that names it, 0 where there is none
+-- what a place holds at first: the value of the entry that names it, 0 if no entry does
 abbrev pub first_value : List EntryView → PlaceView → ℕ
 first_value entries p = option_map_or (λ e. e.value) (find (λ e. same_place e.place p) entries) 0
 
@@ -60,16 +60,16 @@ abbrev pub instruction_in : (List ℕ → ℕ) → (List ℕ → ℕ) → ℕ �
 instruction_in numbered positioned t row = option_map (instruction_of numbered positioned) (option_and_then (λ cell. cell.code) (slice_get row t))
 
 -- thread t's code: its instructions from top to bottom
-abbrev pub code_of : (List ℕ → ℕ) → (List ℕ → ℕ) → List (List CellView) → ℕ → List Instr
-code_of numbered positioned rows t = filter_map (instruction_in numbered positioned t) rows
+abbrev pub code_in : (List ℕ → ℕ) → (List ℕ → ℕ) → List (List CellView) → ℕ → List Instr
+code_in numbered positioned rows t = filter_map (instruction_in numbered positioned t) rows
 
-abbrev pub thread_of : (List ℕ → ℕ) → BodyView → ℕ → Thread
-thread_of numbered body t = record { code = code_of numbered (position_in (thread_labels body.rows t)) body.rows t; registers = registers_of body.entries t }
+abbrev pub thread_read : (List ℕ → ℕ) → BodyView → ℕ → Thread
+thread_read numbered body t = record { code = code_in numbered (position_in (thread_labels body.rows t)) body.rows t; registers = registers_of body.entries t }
 
 -- the program of a text with these locations, without limits
 abbrev pub listing_of : List (List ℕ) → BodyView → Listing
 listing_of names body = record {
-  threads = map (thread_of (number_in names) body) (range_with_len 0 body.threads);
+  threads = map (thread_read (number_in names) body) (range_with_len 0 body.threads);
   memory = memory_of names body.entries;
 }
 

@@ -51,7 +51,7 @@ pub record Found (tokens : List Tok) (body : BodyView) (refusal : Option Refusal
   pub ends : ReadsOne refusal body.threads ending others
 
 -- What was read of tokens: their parts, which are the only ones, with the numbers of locations and the positions of labels as bytes.
-pub record IsRead (tokens : List Tok) (litmus : Litmus Listing) : Type 0 where
+pub record AreReadTokens (tokens : List Tok) (litmus : Litmus Listing) : Type 0 where
   pub body : BodyView
   pub ending : EndingView
   pub formula : Tree (PlaceView × ℕ)
@@ -72,7 +72,7 @@ abbrev pub HasNoParts : List Tok → Type 0
 HasNoParts tokens = (body : BodyView) (ending : EndingView) (formula : Tree (PlaceView × ℕ)) → AreParts tokens body ending formula → ⊥
 
 abbrev pub ReadsTokens : List ℕ → List Tok → Result (Litmus Listing) ReadFault → Type 0
-ReadsTokens name tokens (Ok litmus) = (litmus.name ≡ name) × IsRead tokens litmus
+ReadsTokens name tokens (Ok litmus) = (litmus.name ≡ name) × AreReadTokens tokens litmus
 ReadsTokens name tokens (Err fault) = MatchFault fault ⊥ (λ _. ⊥) ⊤ (HasNoParts tokens)
 
 -- ---- the text
@@ -89,7 +89,7 @@ pub record IsReadOf (text : List ℕ) (litmus : Litmus Listing) : Type 0 where
   pub skipped_only : (rest : List ℕ) → AreSkipped lines rest → others ≡ rest
   pub lexes : Lexes others tokens
   pub lexes_only : (ts : List Tok) → Lexes others ts → tokens ≡ ts
-  pub read : IsRead tokens litmus
+  pub read : AreReadTokens tokens litmus
 
 -- with the line of the header row; or the text stands for nothing
 abbrev pub ReadsText : List ℕ → Result (Litmus Listing × ℕ) ReadFault → Type 0

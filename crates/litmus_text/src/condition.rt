@@ -1,6 +1,6 @@
 //! The condition of a text.
 ghost use Rattle.std.specs.Prelude.{◌≡◌, map, IfOk};
-ghost use Rattle.conditions.specs.Tokens.{sign_of as token_sign};
+ghost use Rattle.conditions.specs.Tokens.{sign_of_token as token_sign};
 ghost use Rattle.litmus_syntax.specs.Views.{sign_view, sign_at_view};
 ghost use Rattle.conditions.specs.Grammar.{sign_map};
 ghost use Rattle.litmus_text.specs.Filling.{byte_in};

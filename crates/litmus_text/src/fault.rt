@@ -23,7 +23,7 @@ pub enum ReadFault {
     /// A row with another number of cells than the header row.
     #[error("4 Row line {0}")]
     Row(u32),
-    /// A word that is no mnemonic, or something behind a whole instruction.
+    /// A word that is not a mnemonic, or something after a whole instruction.
     #[error("5 Instruction line {0}")]
     Instruction(u32),
     /// An operand of a wrong kind, or a missing one.
@@ -35,7 +35,7 @@ pub enum ReadFault {
     /// In the condition.
     #[error("8 Condition line {0}")]
     Condition(u32),
-    /// A number past 4294967295, or what begins like a number and is none.
+    /// A number past 4294967295, or what begins like a number and is not one.
     #[error("9 Number line {0}")]
     Number(u32),
     /// The text stops on this line, and more is needed.

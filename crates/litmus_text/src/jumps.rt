@@ -59,7 +59,7 @@ impl Targets {
         self.positions.get(name).copied()
     }
 
-    /// The position of the label of this name; 0 where there is none, 255 past a byte.
+    /// The position of the label of this name; 0 if no label has it, 255 past a byte.
     pub(crate) fn position(&self, name: &[u8]) -> u8
         ensures { result ≡ byte_at self.now name.now }
     {

@@ -24,7 +24,7 @@ pub(crate) fn fault_at(tokens: &Tokens, refusal: Refusal) -> ReadFault
     }
 }
 
-/// The line of the header row: that of the token behind the first `}`.
+/// The line of the header row: that of the token after the first `}`.
 pub(crate) fn header_line(tokens: &Tokens) -> u32 {
     let brace = tokens
         .as_slice()

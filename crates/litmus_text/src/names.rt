@@ -4,7 +4,7 @@ ghost use Rattle.tso_program.specs.Instructions.{number};
 ghost use Rattle.litmus_syntax.specs.Views.{place_view};
 ghost use Rattle.litmus_text.specs.Names.{with_name};
 ghost use Rattle.litmus_text.specs.Outcomes.{is_named};
-ghost use Rattle.litmus_text.specs.Filling.{no_names, noted, put, byte_in};
+ghost use Rattle.litmus_text.specs.Filling.{no_names, noted, with_put, byte_in};
 
 use indexmap::IndexSet;
 use litmus_syntax::Place;
@@ -52,7 +52,7 @@ impl NameTable {
 
     /// A thread's register is named. A thread that isn't there has none.
     pub(crate) fn note_register(&mut self, thread: usize, register: Reg)
-        ensures { self.new ≡ record self.old { registers = put self.old.registers thread (number register) true } }
+        ensures { self.new ≡ record self.old { registers = with_put self.old.registers thread (number register) true } }
     {
         if let Some(named) = self.registers.get_mut(thread) {
             named[register.index()] = true;

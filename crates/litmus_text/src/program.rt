@@ -5,8 +5,8 @@ ghost use Rattle.litmus_text.specs.Faults.{MatchFault};
 ghost use Rattle.std.specs.List.{range_with_len};
 ghost use Rattle.litmus_syntax.specs.Views.{place_view, entry_view, code_view, cell_view, row_view, body_view};
 ghost use Rattle.litmus_text.specs.Labels.{all_labels};
-ghost use Rattle.litmus_text.specs.Filling.{byte_in, byte_at, FindAllAs, stored, loaded, entry_atoms, memory_from, registers_from, thread_in, listing_by};
-ghost use Rattle.litmus_text.specs.Meaning.{atom_of, instruction_of, instruction_in, code_of};
+ghost use Rattle.litmus_text.specs.Filling.{byte_in, byte_at, FindAllAs, stored, with_initial, entry_atoms, memory_from, registers_from, thread_in, listing_by};
+ghost use Rattle.litmus_text.specs.Meaning.{atom_of, instruction_of, instruction_in, code_in};
 ghost use Rattle.litmus_text.specs.Reading.{MakesProgram, MakesFencedProgram};
 
 use crate::fault::ReadFault;
@@ -81,7 +81,7 @@ fn code_of(
     rows: &[Vec<Cell<'_>>],
     thread: usize,
 ) -> Result<Vec<Instr>, AllocError>
-    ensures { IfOk result (λ code. code.items ≡ code_of (byte_in names.now.locations) (byte_at targets.now) (map row_view rows.now) thread) }
+    ensures { IfOk result (λ code. code.items ≡ code_in (byte_in names.now.locations) (byte_at targets.now) (map row_view rows.now) thread) }
 {
     let mut instructions = Vec::new(alloc);
     for row in rows {
@@ -121,7 +121,7 @@ fn store(memory: &mut [u32], atom: Atom)
 
 /// What an initial value changes in the registers.
 fn load(registers: &mut [[u32; 6]], atom: Atom)
-    ensures { registers.new ≡ loaded registers.old atom }
+    ensures { registers.new ≡ with_initial registers.old atom }
 {
     if let Atom::Register {
         thread,

@@ -138,10 +138,10 @@ fn read_text(alloc: Global, bytes: &[u8]) -> Result<(Litmus<Listing>, u32), Read
 ///
 /// The first byte that isn't UTF-8 comes before all. Then the text is read from left to right, and the first token that
 /// cannot stand where it does is refused at its line; where the text stops and more is needed, that is `Ended` at the
-/// line where it stops. Two faults come later than they stand: an initial value of a thread that is not there behind the
-/// header row, and a jump to a name that is no label of its thread behind the condition, each with its own line. Last comes
-/// `Program`, at the header row's line: the first limit that the program breaks. Want of memory is answered wherever it
-/// happens.
+/// line where it stops. Two faults are reported later than they stand, each with its own line: an initial value of a
+/// thread that is not there, after the header row, and a jump to a name that is no label of its thread, after the
+/// condition. Last comes `Program`, at the header row's line: the first limit that the program breaks. Out of memory is
+/// reported wherever it happens.
 pub fn read_litmus(alloc: Global, bytes: &[u8]) -> Result<Litmus<Program>, ReadFault>
     ensures found { IfOk result (λ litmus. IsLitmus bytes.now litmus) }
     ensures only { (litmus : LitmusValue Listing) → IsLitmus bytes.now litmus

@@ -88,8 +88,8 @@ impl Walk {
     }
 }
 
-/// Puts what a thread does behind the others' accesses, and tells its registers at its end. A thread
-/// executes each instruction once at most, since jumps lead forward.
+/// Appends what a thread does to the others' accesses, and returns its registers at its end.
+/// A thread executes each instruction once at most, since jumps lead forward.
 fn push_thread(
     program: &Program,
     start: Walk,

@@ -13,7 +13,7 @@ pub enum Request {
     Repeat(u32),
 }
 
-/// What stands before the first such byte, and what is behind it.
+/// What stands before the first such byte, and what follows it.
 pub fn split_at_byte(bytes: &[u8], byte: u8) -> (&[u8], &[u8]) {
     match bytes.iter().position(|other| *other == byte) {
         Some(end) => {

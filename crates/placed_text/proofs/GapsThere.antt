@@ -4,7 +4,7 @@ use Rattle.std.specs.Prelude.{filter}
 use Rattle.std.specs.List.{range_with_len}
 use Rattle.std.specs.FinSet as set
 use Rattle.std.proofs.lemmas.Bool.Decides.{nat_tests}
-use Rattle.gap_sets.specs.Gaps.{SetOfGaps, gaps_in}
+use Rattle.gap_sets.specs.Gaps.{SetOfGaps, numbers_of_set}
 use Rattle.tso_program.specs.declared.listing.Listing.{Listing}
 use Rattle.tso_program.specs.Listings.{gap_count}
 use Rattle.tso_program.specs.Fences.{first_missing}
@@ -24,5 +24,5 @@ none_found p q (x ∷ xs) fails = none_next p q x xs (none_found p q xs fails) (
 
 -- so none of them is missing
 pub none_missing : (p : Listing) (gaps : SetOfGaps) → AreGapsOf p gaps → first_missing p gaps ≡ None
-unfolding gaps_in
+unfolding numbers_of_set
 none_missing p gaps there = none_found (λ gap. nat_le (gap_count p.threads) gap) (set.contains gaps) (range_with_len 0 64) (λ gap has. not_above (gap_count p.threads) gap (there gap has))

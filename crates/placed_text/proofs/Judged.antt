@@ -1,4 +1,4 @@
--- What a text is told, from what its parts are.
+-- What is reported of a text, from what its parts are.
 use Rattle.std.proofs.Common.{◌≡◌, ◌∙◌, ℕ, Bool, List, Option, Some, None, ap, length, subst}
 use Rattle.std.specs.Prelude.{unwrap_or}
 use Rattle.std.proofs.lemmas.List.{length-replicate}
@@ -16,7 +16,7 @@ use Rattle.placed_text.specs.declared.fault.TextFault.{TextFault}
 use Rattle.placed_text.specs.declared.fault.TextFault.TheVariants as fault
 use Rattle.placed_text.specs.declared.writing.PlacedText.{PlacedText}
 use Rattle.litmus_text.specs.Shown.{shown_as, question_of}
-use Rattle.placed_text.specs.PlacedTexts.{IsPlacedText, IsWritten}
+use Rattle.placed_text.specs.PlacedTexts.{IsPlacedText, AreWrittenTexts}
 use Rattle.placed_text.specs.TextFaults.{HasNoProgram, HasNoCosts, HasNoPlacement, HasNoPlacedText}
 
 -- each gap has a cost
@@ -26,7 +26,7 @@ one_each p (Some text) costs is = ap length is.costs_are ∙ length-map-range_wi
 
 module _ (litmus : List ℕ) (costs : Option (List ℕ)) where
   pub placed_text : (observed : Bool) (texts : PlacedText) (source : Litmus Listing) (gap_costs : List ℕ) (placed : Placed) → IsLitmus litmus source → AreGiven source.program costs gap_costs
-      → IsPlacement (question_of source observed) gap_costs placed → IsWritten source (shown_as source observed) placed texts → IsPlacedText litmus costs observed texts
+      → IsPlacement (question_of source observed) gap_costs placed → AreWrittenTexts source (shown_as source observed) placed texts → IsPlacedText litmus costs observed texts
   placed_text observed texts source gap_costs placed of_text given is written = record {
     source = source;
     of_text = of_text;
@@ -54,14 +54,14 @@ module _ (litmus : List ℕ) (costs : Option (List ℕ)) where
     no_program (fault.Place why) is = absurd is
     no_program fault.OutOfMemory is = tt
 
-    -- the costs are none
+    -- the costs are not given
     pub no_costs : (source : Litmus Listing) (why : TextFault) → IsLitmus litmus source → HasNoCosts source.program costs why → HasNoPlacedText litmus costs workers why
     no_costs source (fault.Read why) of_text is = absurd is
     no_costs source (fault.CostText why) of_text is = (source, of_text, is)
     no_costs source (fault.Place why) of_text is = absurd is
     no_costs source fault.OutOfMemory of_text is = tt
 
-    -- the number of workers is none
+    -- the number of workers is too small or too large
     pub no_placement : (source : Litmus Listing) (gap_costs : List ℕ) (why : TextFault) → IsLitmus litmus source → AreGiven source.program costs gap_costs → HasNoPlacement workers why → HasNoPlacedText litmus costs workers why
     no_placement source gap_costs (fault.Read why) of_text given is = absurd is
     no_placement source gap_costs (fault.CostText why) of_text given is = absurd is

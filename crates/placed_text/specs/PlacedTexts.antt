@@ -8,7 +8,7 @@ use Rattle.tso_program.specs.Shown.{Question}
 use Rattle.tso_machine.specs.Outcomes.{Headline, IsTheAnswer}
 use Rattle.litmus_text.specs.declared.litmus.Litmus.{Litmus}
 use Rattle.litmus_text.specs.Texts.{IsLitmus, IsFencedLitmus}
-use Rattle.canonical_text.specs.Canonical.{canonical_text, fenced_at}
+use Rattle.canonical_text.specs.Canonical.{canonical_text, litmus_fenced_at}
 use Rattle.cost_text.specs.GivenCosts.{AreGiven}
 use Rattle.cert_forest.specs.declared.certificate.Certificate.{Certificate}
 use Rattle.cert_forest.specs.Certificates.{certificate}
@@ -39,14 +39,14 @@ pub record IsPlacedText (litmus : List ℕ) (costs : Option (List ℕ)) (observe
   pub gaps : SetOfGaps
   pub answer : IsTheAnswer (question_of source observed) gap_costs gaps
   pub headline : Headline (question_of source observed) gap_costs gaps
-  pub program : texts.program.items ≡ canonical_text (fenced_at gaps source)
-  pub again : IsFencedLitmus texts.program.items (fenced_at gaps source)
+  pub program : texts.program.items ≡ canonical_text (litmus_fenced_at gaps source)
+  pub again : IsFencedLitmus texts.program.items (litmus_fenced_at gaps source)
   pub line : texts.answer.items ≡ answer_line source.program (shown_as source observed) gaps (total gap_costs gaps)
   pub certificate : IsCertificateOf (question_of source observed) gap_costs gaps texts.certificate.items
 
 -- the texts of what is placed
-pub record IsWritten (source : Litmus Listing) (shown : Shown) (placed : Placed) (texts : PlacedText) : Type 0 where
-  pub program : texts.program.items ≡ canonical_text (fenced_at placed.set source)
-  pub again : (text : List ℕ) → IsLitmus text source → IsFencedLitmus texts.program.items (fenced_at placed.set source)
+pub record AreWrittenTexts (source : Litmus Listing) (shown : Shown) (placed : Placed) (texts : PlacedText) : Type 0 where
+  pub program : texts.program.items ≡ canonical_text (litmus_fenced_at placed.set source)
+  pub again : (text : List ℕ) → IsLitmus text source → IsFencedLitmus texts.program.items (litmus_fenced_at placed.set source)
   pub line : texts.answer.items ≡ answer_line source.program shown placed.set placed.cost
   pub certificate : texts.certificate.items ≡ certificate_text (certificate placed.certificate)

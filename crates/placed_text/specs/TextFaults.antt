@@ -1,4 +1,4 @@
--- Why nothing is placed in the program of a text. Want of memory comes anywhere, and only as the fault of that name.
+-- Why nothing is placed in the program of a text. Out of memory comes anywhere, and only as the fault of that name.
 use Rattle.std.specs.Prelude.{◌≡◌, ◌≢◌, ℕ, List, Option, Some, ⊤}
 use Rattle.tso_program.specs.declared.listing.Listing.{Listing}
 use Rattle.litmus_text.specs.declared.litmus.Litmus.{Litmus}
@@ -29,7 +29,7 @@ HasNoProgram text fault.OutOfMemory = ⊤
 pub record AreNoCosts (p : Listing) (costs : Option (List ℕ)) (why : CostTextFault) : Type 0 where
   pub text : List ℕ
   pub is_given : costs ≡ Some text
-  pub refused : cost_texts.Refuses text p.threads why
+  pub refused : cost_texts.RefusesCosts text p.threads why
   pub none : (given : List ℕ) → cost_texts.IsCostText text p.threads given → ⊥
   pub not_memory : why ≢ cost_fault.OutOfMemory
 

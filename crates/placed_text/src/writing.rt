@@ -1,7 +1,7 @@
 //! The texts of what is placed.
 ghost use Rattle.std.specs.Prelude.{◌≡◌, None, IfOk};
 ghost use Rattle.tso_program.specs.Fences.{first_missing};
-ghost use Rattle.placed_text.specs.PlacedTexts.{IsWritten};
+ghost use Rattle.placed_text.specs.PlacedTexts.{AreWrittenTexts};
 
 use canonical_text::write_litmus;
 use cert_forest::write_cert;
@@ -30,7 +30,7 @@ pub(crate) fn write_placed(
     placed: &Placed,
 ) -> Result<PlacedText, AllocError>
     requires { first_missing litmus.now.program placed.now.set ≡ None }
-    ensures { IfOk result (IsWritten litmus.now shown.now placed.now) }
+    ensures { IfOk result (AreWrittenTexts litmus.now shown.now placed.now) }
 {
     let program = match write_litmus(alloc, litmus, &placed.set) {
         Ok(program) => program,

@@ -3,7 +3,7 @@ use Rattle.std.proofs.Common.{◌≡◌, ℕ, ◌+◌, ◌-◌, ◌≤◌, List,
 use Rattle.std.specs.Io.KnownBytes.{Appends, Consumes, IsAtEnd, Keeps}
 use Rattle.std.proofs.lemmas.List.{append-nil, length-append}
 use Rattle.std.proofs.Math.Seq.{take-add}
-use Rattle.program_streams.specs.Streams.{Holds, Takes, TakesUpTo, ReadsOn, AppendsRest}
+use Rattle.program_streams.specs.Streams.{HoldsBytes, TakesBytes, TakesUpTo, ReadsOn, AppendsRest}
 
 -- no read gives no byte
 pub none_read : (a : Option (List ℕ)) → Consumes a a []
@@ -32,12 +32,12 @@ takes_both a b c n m k (bytes, taken, few) (more, next, few_too) within =
     (bytes ++ more, reads_more a b c bytes more taken next, omega (arith, few, few_too, within, length-append bytes more))
 
 -- bytes are read on up to a limit, and then as many as make n
-pub takes_past : (a b c : Option (List ℕ)) (before after : List ℕ) (m n : ℕ) → ReadsOn a b before after → Takes b c m → length after + m ≡ length before + n → Takes a c n
+pub takes_past : (a b c : Option (List ℕ)) (before after : List ℕ) (m n : ℕ) → ReadsOn a b before after → TakesBytes b c m → length after + m ≡ length before + n → TakesBytes a c n
 takes_past a b c before after m n (bytes, taken, is) (more, next, count) at =
     (bytes ++ more, reads_more a b c bytes more taken next, omega (arith, ap length is, length-append before bytes, length-append bytes more, count, at))
 
 -- a reader that is at its end has given all that it had
-pub read_all : (a b : Option (List ℕ)) (xs : List ℕ) → Consumes a b xs → IsAtEnd b → Holds a xs
+pub read_all : (a b : Option (List ℕ)) (xs : List ℕ) → Consumes a b xs → IsAtEnd b → HoldsBytes a xs
 read_all None b xs p q = tt
 read_all (Some x) None xs p q = absurd p
 read_all (Some x) (Some y) xs p q = p ∙ ap (λ (w : List ℕ). xs ++ w) q ∙ append-nil xs

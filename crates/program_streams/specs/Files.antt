@@ -1,15 +1,15 @@
 -- The bytes of a file by its name, where `-` is an input.
 use Rattle.std.specs.Prelude.{◌≡◌, ◌≢◌, ℕ, ◌+◌, ◌≤◌, List, Option, Some, None, codes, length}
 use Rattle.program_streams.specs.declared.fault.FileFault.{FileFault}
-use Rattle.program_streams.specs.Streams.{Holds, IsReadFault, Takes}
+use Rattle.program_streams.specs.Streams.{HoldsBytes, IsReadFault, TakesBytes}
 
 -- the bytes are all that is held, where that is known, and no more than the limit
 abbrev pub AreWithin : ℕ → Option (List ℕ) → List ℕ → Type 0
-AreWithin limit held bytes = (length bytes ≤ limit) × Holds held bytes
+AreWithin limit held bytes = (length bytes ≤ limit) × HoldsBytes held bytes
 
 -- more bytes are held than the limit
 abbrev pub IsTooLong : ℕ → Option (List ℕ) → Type 0
-IsTooLong limit held = (rest : Option (List ℕ)) × Takes held rest (limit + 1)
+IsTooLong limit held = (rest : Option (List ℕ)) × TakesBytes held rest (limit + 1)
 
 -- the bytes of the file of this name, no more than the limit; `-` is the input
 pub record AreOfFile (limit : ℕ) (name : List ℕ) (input : Option (List ℕ)) (files : List ℕ → Option (List ℕ)) (bytes : List ℕ) : Type 0 where

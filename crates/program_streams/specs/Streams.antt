@@ -6,13 +6,13 @@ use Rattle.program_streams.specs.declared.fault.FileFault.{FileFault}
 use Rattle.program_streams.specs.declared.fault.FileFault.TheVariants as file
 
 -- the bytes that the reader had, where they are known, are these
-abbrev pub Holds : Option (List ℕ) → List ℕ → Type 0
-Holds None bytes = Unit {0}
-Holds (Some xs) bytes = xs ≡ bytes
+abbrev pub HoldsBytes : Option (List ℕ) → List ℕ → Type 0
+HoldsBytes None bytes = Unit {0}
+HoldsBytes (Some xs) bytes = xs ≡ bytes
 
 -- the reader gave so many bytes
-abbrev pub Takes : Option (List ℕ) → Option (List ℕ) → ℕ → Type 0
-Takes old new n = (bytes : List ℕ) × Consumes old new bytes × (length bytes ≡ n)
+abbrev pub TakesBytes : Option (List ℕ) → Option (List ℕ) → ℕ → Type 0
+TakesBytes old new n = (bytes : List ℕ) × Consumes old new bytes × (length bytes ≡ n)
 
 -- the reader gave no more than so many bytes
 abbrev pub TakesUpTo : Option (List ℕ) → Option (List ℕ) → ℕ → Type 0
@@ -24,7 +24,7 @@ ReadsOn old new before after = (bytes : List ℕ) × Consumes old new bytes × (
 
 -- the bytes that the reader had, where they are known, stand after those before
 abbrev pub AppendsRest : Option (List ℕ) → List ℕ → List ℕ → Type 0
-AppendsRest old before after = (bytes : List ℕ) × Holds old bytes × (after ≡ before ++ bytes)
+AppendsRest old before after = (bytes : List ℕ) × HoldsBytes old bytes × (after ≡ before ++ bytes)
 
 -- the reader gave a line: up to its first line feed, or all that it had
 pub record TakesLine (old new : Option (List ℕ)) (line : List ℕ) : Type 0 where

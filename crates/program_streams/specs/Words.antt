@@ -1,4 +1,4 @@
--- The words of a line, and what is told of words that are not UTF-8.
+-- The words of a line, and what is printed for words that are not UTF-8.
 use Rattle.std.specs.Prelude.{◌≡◌, ◌==◌, ◌++◌, ◌∷◌, [], ℕ, List, Contains, IsUtf8, codes, filter, length, nat_lt}
 use Rattle.std.specs.List.{slice_split}
 
@@ -12,7 +12,7 @@ pub record HasNoUtf8 (words : List (List ℕ)) : Type 0 where
   pub there : Contains words word
   pub no_utf8 : IsUtf8 word → ⊥
 
--- what is told of a command line that is not UTF-8
+-- what is printed for a command line that is not UTF-8
 abbrev pub utf8_line : List ℕ
 utf8_line = codes "error: the command line is not UTF-8" ++ 10 ∷ []
 

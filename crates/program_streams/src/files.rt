@@ -1,7 +1,7 @@
 //! Files by their names.
 
 ghost use Rattle.std.specs.Prelude.{◌≡◌, ◌+◌, ◌<◌, ◌^◌, ℕ, List, Option, None, IfOk, IfErr, OnOk, option_map};
-ghost use Rattle.program_streams.specs.Streams.{Holds, IsReadFault};
+ghost use Rattle.program_streams.specs.Streams.{HoldsBytes, IsReadFault};
 ghost use Rattle.program_streams.specs.Files.{AreWithin, IsTooLong, AreOfFile, IsFileFault, AreOfFileIfNamed, IsNamedFileFault, KeepOthers};
 
 use crate::fault::FileFault;
@@ -30,11 +30,11 @@ pub trait FileStore {
 
 /// Where files are written by their names, too.
 pub trait WritableFileStore: FileStore {
-    /// Writes all of the bytes to a file, which is made where there is none; what it held before is
+    /// Writes all of the bytes to a file, which is made if it does not exist; what it held before is
     /// gone. `Write` comes where the file can't be made or a write fails, and says nothing of what the
     /// file then holds.
     fn write_file(&mut self, name: &str, bytes: &[u8]) -> Result<(), FileFault>
-        ensures written { OnOk result (Holds (Self.held self.new name.now) bytes.now) }
+        ensures written { OnOk result (HoldsBytes (Self.held self.new name.now) bytes.now) }
         ensures others { KeepOthers name.now (Self.held self.old) (Self.held self.new) }
         ensures fault { IfErr result (λ fault. fault ≡ FileFault.Write) };
 }

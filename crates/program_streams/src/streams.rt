@@ -2,7 +2,7 @@
 
 ghost use Rattle.std.specs.Prelude.{◌≡◌, ◌+◌, ◌-◌, ◌<◌, ◌≤◌, ◌^◌, true, false, vec_len, IsTrue, IfOk, OnOk, OnErr, IfErr};
 ghost use Rattle.std.specs.Io.KnownBytes.{Appends, IsAtEnd};
-ghost use Rattle.program_streams.specs.Streams.{Holds, Takes, TakesUpTo, ReadsOn, AppendsRest, TakesLine, TakesOfLine, IsReadFault, AppendsFront};
+ghost use Rattle.program_streams.specs.Streams.{HoldsBytes, TakesBytes, TakesUpTo, ReadsOn, AppendsRest, TakesLine, TakesOfLine, IsReadFault, AppendsFront};
 
 use crate::fault::FileFault;
 use std::alloc::Global;
@@ -39,7 +39,7 @@ pub fn read_on<R: Read>(input: &mut R, bytes: &mut Vec<u8>, most: usize) -> Resu
 /// Whether the reader is at its end: if not, it gives one more byte.
 fn is_at_end<R: Read>(input: &mut R) -> Result<bool, FileFault>
     ensures end { IfOk result (λ ended. IsTrue ended → IsAtEnd (R.remaining input.old)) }
-    ensures more { IfOk result (λ ended. ended ≡ false → Takes (R.remaining input.old) (R.remaining input.new) 1) }
+    ensures more { IfOk result (λ ended. ended ≡ false → TakesBytes (R.remaining input.old) (R.remaining input.new) 1) }
     ensures taken { TakesUpTo (R.remaining input.old) (R.remaining input.new) 1 }
     ensures fault { IfErr result (λ fault. fault ≡ FileFault.Read) }
 {
@@ -60,7 +60,7 @@ pub fn read_rest_up_to<R: Read>(
     requires { vec_len bytes.old ≤ limit }
     ensures whole { OnOk result (AppendsRest (R.remaining input.old) bytes.old.items bytes.new.items) }
     ensures within { OnOk result (vec_len bytes.new ≤ limit) }
-    ensures err { IfErr result (IsReadFault (Takes (R.remaining input.old) (R.remaining input.new) (limit + 1 - vec_len bytes.old))) }
+    ensures err { IfErr result (IsReadFault (TakesBytes (R.remaining input.old) (R.remaining input.new) (limit + 1 - vec_len bytes.old))) }
     ensures taken { TakesUpTo (R.remaining input.old) (R.remaining input.new) (limit + 1 - vec_len bytes.old) }
 {
     if read_on(input, bytes, limit)? {
@@ -76,9 +76,9 @@ pub fn read_rest_up_to<R: Read>(
 /// All that a reader gives, if that is no longer than the limit. It stops reading at the first byte
 /// past the limit. `Read` comes where a read fails and where there is no memory for the bytes.
 pub fn read_up_to<R: Read>(alloc: Global, input: &mut R, limit: usize) -> Result<Vec<u8>, FileFault>
-    ensures whole { IfOk result (λ bytes. Holds (R.remaining input.old) bytes.items) }
+    ensures whole { IfOk result (λ bytes. HoldsBytes (R.remaining input.old) bytes.items) }
     ensures within { IfOk result (λ bytes. vec_len bytes ≤ limit) }
-    ensures err { IfErr result (IsReadFault (Takes (R.remaining input.old) (R.remaining input.new) (limit + 1))) }
+    ensures err { IfErr result (IsReadFault (TakesBytes (R.remaining input.old) (R.remaining input.new) (limit + 1))) }
 {
     let mut bytes = Vec::new(alloc);
     read_rest_up_to(input, &mut bytes, limit)?;

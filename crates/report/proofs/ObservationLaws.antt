@@ -10,7 +10,7 @@ use Rattle.conditions.specs.declared.atom.Atom.{Atom}
 use Rattle.conditions.specs.Tree.{Tree}
 use Rattle.conditions.specs.Truth.{truth}
 use Rattle.report.specs.Observations.{some_meets, all_meet, frequency}
-use Rattle.report.specs.Laws.{ObservationsAreTold, Meets, Fails}
+use Rattle.report.specs.Laws.{ObservationsAreTold, Meets, FailsFormula}
 
 -- ---- tests of a list
 
@@ -84,10 +84,10 @@ module _ (f : Tree Atom) (outcomes : List Outcome) where
   some_is : Any (Meets f) outcomes → some ≡ true
   some_is = list_any-from_Any meets outcomes
 
-  pub never : frequency f outcomes ≡ codes "Never" → All (Fails f) outcomes
+  pub never : frequency f outcomes ≡ codes "Never" → All (FailsFormula f) outcomes
   never e = none_passes meets outcomes (never_is some all e)
 
-  pub is_never : All (Fails f) outcomes → frequency f outcomes ≡ codes "Never"
+  pub is_never : All (FailsFormula f) outcomes → frequency f outcomes ≡ codes "Never"
   is_never none = word_as some all false all (list_any_none meets outcomes none) refl
 
   pub always : frequency f outcomes ≡ codes "Always" → Any (Meets f) outcomes × All (Meets f) outcomes
@@ -96,16 +96,16 @@ module _ (f : Tree Atom) (outcomes : List Outcome) where
   pub is_always : Any (Meets f) outcomes × All (Meets f) outcomes → frequency f outcomes ≡ codes "Always"
   is_always h = word_as some all true true (some_is h.0) (list_all-from_AllPass meets outcomes h.1)
 
-  pub sometimes : frequency f outcomes ≡ codes "Sometimes" → Any (Meets f) outcomes × Any (Fails f) outcomes
+  pub sometimes : frequency f outcomes ≡ codes "Sometimes" → Any (Meets f) outcomes × Any (FailsFormula f) outcomes
   sometimes e = let a = sometimes_is some all e in (any_meets a.0, some_fails meets outcomes a.1)
 
-  pub is_sometimes : Any (Meets f) outcomes × Any (Fails f) outcomes → frequency f outcomes ≡ codes "Sometimes"
+  pub is_sometimes : Any (Meets f) outcomes × Any (FailsFormula f) outcomes → frequency f outcomes ≡ codes "Sometimes"
   is_sometimes h = word_as some all true false (some_is h.0) (not_all_pass meets outcomes h.1)
 
-  pub not_exists : not some ≡ true → All (Fails f) outcomes
+  pub not_exists : not some ≡ true → All (FailsFormula f) outcomes
   not_exists e = none_passes meets outcomes (not_true some e)
 
-  pub is_not_exists : All (Fails f) outcomes → not some ≡ true
+  pub is_not_exists : All (FailsFormula f) outcomes → not some ≡ true
   is_not_exists none = ap not (list_any_none meets outcomes none)
 
 pub observations_are_told : ObservationsAreTold

@@ -10,13 +10,13 @@ use Rattle.litmus_text.specs.Names.{Names}
 use Rattle.litmus_text.specs.Outcomes.{outcome_text}
 use Rattle.report.specs.Places.{gaps_text}
 
--- a text behind a space, or nothing where there is no text
-abbrev pub spaced : List ℕ → List ℕ
-spaced [] = []
-spaced (b ∷ bs) = 32 ∷ b ∷ bs
+-- a text after a space, or nothing where there is no text
+abbrev pub after_space : List ℕ → List ℕ
+after_space [] = []
+after_space (b ∷ bs) = 32 ∷ b ∷ bs
 
 abbrev pub outcome_line : Names → Shown → Outcome → List ℕ
-outcome_line names shown outcome = codes "outcome:" ++ spaced (outcome_text names shown outcome) ++ 10 ∷ []
+outcome_line names shown outcome = codes "outcome:" ++ after_space (outcome_text names shown outcome) ++ 10 ∷ []
 
 -- the gaps by their places, ascending
 abbrev pub passed_line : Listing → SetOfGaps → List ℕ
@@ -27,7 +27,7 @@ abbrev pub observed : Shown → List ℕ
 observed All = []
 observed (Only names) = codes "observed "
 
--- a set of gaps by their places, ascending, and its cost, behind a word that says what the set is
+-- a set of gaps by their places, ascending, and its cost, after a word that says what the set is
 abbrev pub set_line : List ℕ → Listing → Shown → SetOfGaps → ℕ → List ℕ
 set_line word p shown gaps cost = word ++ 32 ∷ observed shown ++ codes "cost " ++ decimal cost ++ codes " set" ++ gaps_text p.threads gaps ++ 10 ∷ []
 

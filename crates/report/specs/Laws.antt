@@ -11,15 +11,15 @@ use Rattle.report.specs.Observations.{frequency, is_true_of}
 abbrev pub Meets : Tree Atom → Outcome → Type 0
 Meets formula outcome = truth outcome formula ≡ true
 
-abbrev pub Fails : Tree Atom → Outcome → Type 0
-Fails formula outcome = truth outcome formula ≡ false
+abbrev pub FailsFormula : Tree Atom → Outcome → Type 0
+FailsFormula formula outcome = truth outcome formula ≡ false
 
 -- the observations and the conditions, outcome by outcome, and for no outcomes
 pub record ObservationsAreTold : Type 0 where
-  pub never : (f : Tree Atom) (outcomes : List Outcome) → (frequency f outcomes ≡ codes "Never") ↔ All (Fails f) outcomes
+  pub never : (f : Tree Atom) (outcomes : List Outcome) → (frequency f outcomes ≡ codes "Never") ↔ All (FailsFormula f) outcomes
   pub always : (f : Tree Atom) (outcomes : List Outcome) → (frequency f outcomes ≡ codes "Always") ↔ (Any (Meets f) outcomes × All (Meets f) outcomes)
-  pub sometimes : (f : Tree Atom) (outcomes : List Outcome) → (frequency f outcomes ≡ codes "Sometimes") ↔ (Any (Meets f) outcomes × Any (Fails f) outcomes)
+  pub sometimes : (f : Tree Atom) (outcomes : List Outcome) → (frequency f outcomes ≡ codes "Sometimes") ↔ (Any (Meets f) outcomes × Any (FailsFormula f) outcomes)
   pub exists_holds : (f : Tree Atom) (outcomes : List Outcome) → (is_true_of Exists f outcomes ≡ true) ↔ Any (Meets f) outcomes
-  pub not_exists_holds : (f : Tree Atom) (outcomes : List Outcome) → (is_true_of NotExists f outcomes ≡ true) ↔ All (Fails f) outcomes
+  pub not_exists_holds : (f : Tree Atom) (outcomes : List Outcome) → (is_true_of NotExists f outcomes ≡ true) ↔ All (FailsFormula f) outcomes
   pub forall_holds : (f : Tree Atom) (outcomes : List Outcome) → (is_true_of Forall f outcomes ≡ true) ↔ All (Meets f) outcomes
   pub no_outcomes : (f : Tree Atom) → (frequency f [] ≡ codes "Never") × (is_true_of Exists f [] ≡ false) × (is_true_of NotExists f [] ≡ true) × (is_true_of Forall f [] ≡ true)

@@ -3,7 +3,7 @@ use Rattle.std.specs.Prelude.{◌≡◌, ◌↔◌, ℕ, ◌+◌, List, [], ◌�
 use Rattle.std.specs.Option.{option_map_or}
 use Rattle.std.specs.List.{flat_map, range_with_len}
 use Rattle.std.specs.Fmt.{decimal}
-use Rattle.gap_sets.specs.Gaps.{SetOfGaps, gaps_in}
+use Rattle.gap_sets.specs.Gaps.{SetOfGaps, numbers_of_set}
 use Rattle.tso_program.specs.declared.listing.Thread.{Thread}
 use Rattle.tso_program.specs.Listings.{gap_number, gaps_of_thread}
 
@@ -26,7 +26,7 @@ gap_text threads gap = option_map_or place_text (gap_place threads gap) []
 
 -- gaps as they are printed, ascending
 abbrev pub gaps_text : List Thread → SetOfGaps → List ℕ
-gaps_text threads gaps = flat_map (gap_text threads) (gaps_in gaps)
+gaps_text threads gaps = flat_map (gap_text threads) (numbers_of_set gaps)
 
 -- a gap is printed with the thread and the instruction of its number
 abbrev pub PrintedPlacesAreTheGaps : Type 0

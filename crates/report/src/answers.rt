@@ -49,7 +49,7 @@ fn observed(shown: &Shown) -> &'static str
     }
 }
 
-/// A set of gaps by their places and what it costs, behind a word that says what the set is.
+/// A set of gaps by their places and what it costs, after a word that says what the set is.
 pub fn set_line(
     alloc: Global,
     word: &str,

@@ -7,7 +7,7 @@ use gap_sets::GapSet;
 use std::alloc::AllocError;
 use tso_program::Program;
 
-/// Puts the places of gaps at the end of a line, ascending, each behind a space.
+/// Puts the places of gaps at the end of a line, ascending, each after a space.
 pub fn push_gaps(line: &mut String, program: &Program, gaps: &GapSet) -> Result<(), AllocError>
     ensures { OnOk result (string_bytes line.new ≡ string_bytes line.old ++ gaps_text program.now.threads gaps.now) }
 {

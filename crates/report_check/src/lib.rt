@@ -1,4 +1,4 @@
-//! The lines that tell what the checker of certificates says. Each ends with a line feed.
+//! The lines that report what the checker of certificates says. Each ends with a line feed.
 #![tactic(auto)]
 
 mod accepted;

@@ -40,7 +40,7 @@ use Rattle.exec_axioms.specs.Completions.{MustEnd, MustEndSo}
 use Rattle.exec_axioms.proofs.Chosen.{once}
 use Rattle.exec_axioms.proofs.Ends.{ends_only}
 use Rattle.exec_axioms.proofs.LastWrites.{of_followed, pair_edge}
-use Rattle.run_maker.specs.Complete.{IsComplete, IsRunOf}
+use Rattle.run_maker.specs.Complete.{IsComplete, IsMadeRun}
 use Rattle.run_maker.specs.Orders.{IsKnownOrder}
 use Rattle.run_maker.proofs.Completeness.{first_there, second_there}
 use Rattle.run_maker.proofs.PlacesInOrder.{place, place_before, place_same, chosen, chosen_is}
@@ -225,7 +225,7 @@ module _ (s : Parts) (lawful : IsLawful s) (whole : IsComplete s) (acyclic : Has
   runs_along : IsRun p mode (labels_along p mode (given_to s.given) (λ t. 0) order) end × IsCandidateOf p mode (labels_along p mode (given_to s.given) (λ t. 0) order) become
   runs_along = every_order p mode become order end is_candidate consistent is_order has_outcome
 
-  pub run_of : IsRunOf s (labels_along p mode (given_to s.given) (λ t. 0) order) end
+  pub run_of : IsMadeRun s (labels_along p mode (given_to s.given) (λ t. 0) order) end
   run_of = record {
     is_run = runs_along.0;
     completion = become;
@@ -237,5 +237,5 @@ module _ (s : Parts) (lawful : IsLawful s) (whole : IsComplete s) (acyclic : Has
   }
 
   -- the same with the one outcome as which the sketch must end
-  pub run_with : (o : Outcome) → MustEndSo s All o → IsRunOf s (labels_along p mode (given_to s.given) (λ t. 0) order) o
-  run_with o so = subst (IsRunOf s (labels_along p mode (given_to s.given) (λ t. 0) order)) (so.only acyclic end (must_end All)) run_of
+  pub run_with : (o : Outcome) → MustEndSo s All o → IsMadeRun s (labels_along p mode (given_to s.given) (λ t. 0) order) o
+  run_with o so = subst (IsMadeRun s (labels_along p mode (given_to s.given) (λ t. 0) order)) (so.only acyclic end (must_end All)) run_of

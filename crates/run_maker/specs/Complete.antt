@@ -29,7 +29,7 @@ pub record IsComplete (s : Parts) : Type 0 where
   pub pairs : (d e : Event) → IsOrderedWith s d e
 
 -- the labels are a run of the sketch's machine with the outcome, that of a consistent completion
-pub record IsRunOf (s : Parts) (labels : List Label) (outcome : Outcome) : Type 0 where
+pub record IsMadeRun (s : Parts) (labels : List Label) (outcome : Outcome) : Type 0 where
   pub is_run : IsRun s.program (mode_in s) labels outcome
   -- the run is that of a consistent completion with the outcome, and none has another
   pub completion : Candidate
@@ -44,8 +44,8 @@ pub record IsRunOf (s : Parts) (labels : List Label) (outcome : Outcome) : Type 
 abbrev pub HasEnd : Parts → Type 0
 HasEnd s = (o : Outcome) × MustEnd s All o
 
--- why no run is made; never because there is none
-abbrev pub FaultIs : Parts → MakeFault → Type 0
-FaultIs s NotComplete = IsComplete s → ⊥
-FaultIs s NoRun = ⊥
-FaultIs s OutOfMemory = Unit {0}
+-- why no run is made; never because no run exists
+abbrev pub MakeFaultIs : Parts → MakeFault → Type 0
+MakeFaultIs s NotComplete = IsComplete s → ⊥
+MakeFaultIs s NoRun = ⊥
+MakeFaultIs s OutOfMemory = Unit {0}

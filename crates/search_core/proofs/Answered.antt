@@ -9,9 +9,9 @@ use Rattle.gap_sets.proofs.Orders.{decided}
 use Rattle.tso_program.specs.Listings.{gap_count}
 use Rattle.tso_machine.specs.Outcomes.{Serves, LeavesOutcome, AreGapsOf, IsTheAnswer}
 use Rattle.cover_solver.specs.Facts.{Serving}
-use Rattle.search_core.specs.States.{State, IsDone}
+use Rattle.search_core.specs.States.{SearchState, IsDone}
 use Rattle.search_core.specs.Histories.{IsReached}
-use Rattle.search_core.specs.Laws.{IsLive, IsBest, IsUndercut, TheAnswerIsNeverLost, NoBetterSetIsLost, ADoneStateHasTheAnswer}
+use Rattle.search_core.specs.Laws.{IsLive, IsBestSet, IsUndercut, TheAnswerIsNeverLost, NoBetterSetIsLost, ADoneStateHasTheAnswer}
 use Rattle.std.specs.List.{range_with_len}
 use Rattle.std.proofs.Common.{zero-add, ◌+◌}
 use Rattle.std.proofs.lemmas.List.FromFn.{length-range_with_len, get_or-range_with_len}
@@ -42,7 +42,7 @@ first_gaps_has n gap h =
     let long = length-range_with_len 0 n in
     set.contains-from_list_nat (range_with_len 0 n) gap ∙ any_has (range_with_len 0 n) gap (gap, omega arith, get_or-range_with_len 0 n gap gap h ∙ zero-add gap)
 
-module _ (s : State) (facts : Facts s) where
+module _ (s : SearchState) (facts : Facts s) where
   -- a set that serves and is better than the best is in a live node's region, or a cheaper one serves
   abbrev IsFound : SetOfGaps → Type 0
   IsFound gaps = IsLive s.entries gaps ⊎ IsUndercut s.question s.costs gaps
@@ -61,7 +61,7 @@ module _ (s : State) (facts : Facts s) where
   found_answer : (gaps : SetOfGaps) → IsTheAnswer s.question s.costs gaps → IfSome s.best (λ b. Better s.costs gaps b.gaps) → IsLive s.entries gaps
   found_answer gaps answer better = elim (found gaps answer.of_program answer.serves better) [ inl live ↦ live | inr u ↦ absurd (no_undercut gaps answer u) ]
 
-  never_lost : (gaps : SetOfGaps) → IsTheAnswer s.question s.costs gaps → (best : Option Serving) → s.best ≡ best → IsBest s gaps ⊎ IsLive s.entries gaps
+  never_lost : (gaps : SetOfGaps) → IsTheAnswer s.question s.costs gaps → (best : Option Serving) → s.best ≡ best → IsBestSet s gaps ⊎ IsLive s.entries gaps
   never_lost gaps answer None is = inr (found_answer gaps answer (subst (λ (o : Option Serving). IfSome o (λ b. Better s.costs gaps b.gaps)) (sym is) tt))
   never_lost gaps answer (Some b) is =
       let serves = facts.best_serves b is in
@@ -90,7 +90,7 @@ module _ (s : State) (facts : Facts s) where
     ]
 
     abbrev Result : Type 0
-    Result = (gaps : SetOfGaps) × IsBest s gaps × IsTheAnswer s.question s.costs gaps
+    Result = (gaps : SetOfGaps) × IsBestSet s gaps × IsTheAnswer s.question s.costs gaps
 
     -- some set is the best, since all gaps serve
     some_best : s.best ≡ None → ⊥
@@ -122,13 +122,13 @@ pub done_has_answer : ADoneStateHasTheAnswer
 done_has_answer s r done = has_answer s (facts_of s r) done s.best refl
 
 -- the best set of a state that is done is there, and is the answer
-pub best_is_answer : (s : State) → IsReached s → IsDone s → (b : Serving) × (s.best ≡ Some b) × (b.question ≡ s.question) × IsTheAnswer s.question s.costs b.gaps
+pub best_is_answer : (s : SearchState) → IsReached s → IsDone s → (b : Serving) × (s.best ≡ Some b) × (b.question ≡ s.question) × IsTheAnswer s.question s.costs b.gaps
 best_is_answer s r done =
     let (gaps, best, answer) = done_has_answer s r done in
     (best.served, best.is_best, best.of_question, subst (λ (g : SetOfGaps). IsTheAnswer s.question s.costs g) (sym best.same) answer)
 
 -- so it is with the set that was found
-pub found_is_answer : (s : State) (b : Serving) → IsReached s → IsDone s → s.best ≡ Some b → (b.question ≡ s.question) × IsTheAnswer s.question s.costs b.gaps
+pub found_is_answer : (s : SearchState) (b : Serving) → IsReached s → IsDone s → s.best ≡ Some b → (b.question ≡ s.question) × IsTheAnswer s.question s.costs b.gaps
 found_is_answer s b r done is =
     let (c, at, of, answer) = best_is_answer s r done in
     let same : c ≡ b = same_Some c b (sym at ∙ is) in

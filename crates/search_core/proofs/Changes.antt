@@ -7,7 +7,7 @@ use Rattle.std.proofs.lemmas.List.{length-set}
 use Rattle.gap_sets.specs.Gaps.{SetOfGaps}
 use Rattle.tso_program.specs.Shown.{Question}
 use Rattle.tree_laws.specs.GapTrees.{IsInRegion}
-use Rattle.cover_solver.specs.Facts.{Foreign, IsForeign}
+use Rattle.cover_solver.specs.Facts.{Foreign, IsForeignValue}
 use Rattle.cover_solver.specs.Verdicts.{PassesNoneOf}
 use Rattle.search_core.specs.declared.node.Node.{Node}
 use Rattle.search_core.specs.declared.entry.Entry.{Entry}
@@ -15,7 +15,7 @@ use Rattle.search_core.specs.declared.entry.Status.{Status}
 use Rattle.search_core.specs.declared.entry.Status.TheVariants.{Open, Split}
 use Rattle.search_core.specs.Nodes.{region_of, children}
 use Rattle.search_core.specs.Entries.{entry, is_live, is_live_status}
-use Rattle.search_core.specs.Events.{opened}
+use Rattle.search_core.specs.Events.{open_entries}
 use Rattle.search_core.specs.Laws.{IsLive}
 use Rattle.search_core.proofs.Places.{get_here, get_else, get_longer, get_behind, get_either, get_old, get_mapped, Each, each_mapped}
 
@@ -28,7 +28,7 @@ pub record HasNode (es : List Entry) (place : ℕ) (n : Node) : Type 0 where
 -- the node is split by a foreign run of the question, and its children stand from a later place on
 pub record IsSplitAt (q : Question) (es : List Entry) (place : ℕ) (n : Node) (f : Foreign) (first : ℕ) : Type 0 where
   pub of_question : f.question ≡ q
-  pub foreign : IsForeign f
+  pub foreign : IsForeignValue f
   pub passes_none : PassesNoneOf n.must f
   pub later : place < first
   pub kids : (j : ℕ) (c : Node) → slice_get (children n f.passed) j ≡ Some c → HasNode es (first + j) c
@@ -94,18 +94,18 @@ module _ (es : List Entry) (place : ℕ) (e x : Entry) (there : slice_get es pla
   ]
 
 -- nodes that are opened are live
-pub opened_live : (seat : ℕ) (ns : List Node) → Each (λ y. is_live y ≡ true) (opened seat ns)
+pub opened_live : (seat : ℕ) (ns : List Node) → Each (λ y. is_live y ≡ true) (open_entries seat ns)
 opened_live seat ns = each_mapped (λ n. Unit {0}) (λ y. is_live y ≡ true) (λ n. entry n seat Open) (λ n h. refl) ns (λ k n h. tt)
 
 -- none more
 pub none_live : Each (λ (y : Entry). is_live y ≡ true) []
 none_live k y e = absurd (none-some y e)
 
--- the children of a node that is split stand behind
-pub kids_behind : (es : List Entry) (place seat : ℕ) (x : Entry) (ns : List Node) (j : ℕ) (c : Node) → slice_get ns j ≡ Some c → HasNode (set es place x ++ opened seat ns) (length es + j) c
+-- the children of a node that is split follow the entries
+pub kids_behind : (es : List Entry) (place seat : ℕ) (x : Entry) (ns : List Node) (j : ℕ) (c : Node) → slice_get ns j ≡ Some c → HasNode (set es place x ++ open_entries seat ns) (length es + j) c
 kids_behind es place seat x ns j c e = record {
   here = entry c seat Open;
   there = (let long : length (set es place x) ≡ length es = length-set es place x in
-      ap (λ l. slice_get (set es place x ++ opened seat ns) (l + j)) (sym long) ∙ get_behind (set es place x) (opened seat ns) j ∙ get_mapped (λ n. entry n seat Open) ns j c e);
+      ap (λ l. slice_get (set es place x ++ open_entries seat ns) (l + j)) (sym long) ∙ get_behind (set es place x) (open_entries seat ns) j ∙ get_mapped (λ n. entry n seat Open) ns j c e);
   is_node = refl;
 }

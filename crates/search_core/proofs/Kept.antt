@@ -16,17 +16,17 @@ use Rattle.tree_laws.specs.GapTrees.{HaveCosts, children_of}
 use Rattle.tree_laws.specs.GapTrees as trees
 use Rattle.tree_laws.proofs.Regions.{new_or_old, in_root}
 use Rattle.tree_laws.proofs.Lists.{first_is_here, later_is_here}
-use Rattle.cover_solver.specs.Facts.{Foreign, Serving, IsForeign, IsServing}
+use Rattle.cover_solver.specs.Facts.{Foreign, Serving, IsForeignValue, IsServing}
 use Rattle.cover_solver.specs.Verdicts.{PassesNoneOf}
 use Rattle.search_core.specs.declared.node.Node.{Node}
 use Rattle.search_core.specs.declared.entry.Entry.{Entry}
 use Rattle.search_core.specs.declared.entry.Status.{Status}
 use Rattle.search_core.specs.declared.entry.Status.TheVariants.{Open, Held, Split, Cut, Confirmed}
-use Rattle.search_core.specs.Nodes.{region_of, node_of, open_gaps, children}
+use Rattle.search_core.specs.Nodes.{region_of, search_node, open_gaps, children}
 use Rattle.search_core.specs.Entries.{entry, is_live, is_closed, is_closed_status, is_live_status}
 use Rattle.search_core.specs.Ceilings.{IsCeiling}
-use Rattle.search_core.specs.States.{State, IsStart, root_node}
-use Rattle.search_core.specs.Events.{opened, IsBeatenBy, IsBestAfter, Takes, GivesBack, Splits, Cuts, Confirms, IsEvent, takes, gives_back, splits, cuts, confirms}
+use Rattle.search_core.specs.States.{SearchState, IsStart, root_node}
+use Rattle.search_core.specs.Events.{open_entries, IsBeatenBy, IsBestAfter, TakesNode, GivesBack, Splits, Cuts, Confirms, IsEvent, takes, gives_back, splits, cuts, confirms}
 use Rattle.search_core.specs.Histories.{IsReached, starts, goes_on}
 use Rattle.search_core.proofs.Places.{Each, each_behind, each_set, each_mapped}
 use Rattle.search_core.proofs.OpenGaps.{open_exact}
@@ -51,7 +51,7 @@ AreOfProgram p es = Each (λ (e : Entry). AreGapsOf p e.node.must) es
 abbrev pub ClosedAreBelow : Question → List ℕ → List Entry → Type 0
 ClosedAreBelow q costs es = Each (λ (e : Entry). is_closed e ≡ true → IsBelow q costs e.node.must) es
 
-pub record Facts (s : State) : Type 0 where
+pub record Facts (s : SearchState) : Type 0 where
   pub within : IsWithinLimits s.question.program.threads s.question.program.memory
   pub have_costs : HaveCosts s.question.program s.costs
   pub best_serves : BestServes s.question s.best
@@ -69,10 +69,10 @@ module _ (p : Listing) where
       (λ q h. elim (new_or_old n.must gap q h) [ inl same ↦ subst (λ g. g < gap_count p.threads) same (each gap (first_is_here gap gaps)) | inr old ↦ of q old ])
   kids_of n (gap ∷ gaps) of each (suc k) c e = kids_of (record n { never = set.insert n.never gap }) gaps of (λ q h. each q (later_is_here gap gaps q h)) k c e
 
-  pub opened_of : IsWithinLimits p.threads p.memory → (f : Foreign) (seat : ℕ) (n : Node) → f.question.program ≡ p → IsForeign f → AreGapsOf p n.must → AreOfProgram p (opened seat (children n f.passed))
+  pub opened_of : IsWithinLimits p.threads p.memory → (f : Foreign) (seat : ℕ) (n : Node) → f.question.program ≡ p → IsForeignValue f → AreGapsOf p n.must → AreOfProgram p (open_entries seat (children n f.passed))
   opened_of within f seat n of_program foreign of =
       each_mapped (λ (m : Node). AreGapsOf p m.must) (λ (e : Entry). AreGapsOf p e.node.must) (λ m. entry m seat Open) (λ m h. h) (children n f.passed)
-      (each_mapped (λ (c : trees.Node). AreGapsOf p c.must) (λ (m : Node). AreGapsOf p m.must) node_of (λ c h. h) (children_of (region_of n) (open_gaps f.passed n.never))
+      (each_mapped (λ (c : trees.Node). AreGapsOf p c.must) (λ (m : Node). AreGapsOf p m.must) search_node (λ c h. h) (children_of (region_of n) (open_gaps f.passed n.never))
       (kids_of (region_of n) (open_gaps f.passed n.never) of (λ gap here. subst (λ (q : Listing). gap < gap_count q.threads) of_program
       (passed_gaps f foreign gap ((open_exact f.passed n.never (gap_set f.question.program (subst (λ (q : Listing). IsWithinLimits q.threads q.memory) (sym of_program) within) f.passed (passed_gaps f foreign)) gap).0 here).0))))
 
@@ -87,7 +87,7 @@ not_closed e live closed = by_status e.status live closed
     by_status Confirmed l c = cc
 
 -- the start
-at_start : (s : State) → IsStart s → Facts s
+at_start : (s : SearchState) → IsStart s → Facts s
 at_start s is =
     let only : List Entry = entry root_node 0 Open ∷ [] in
     record {
@@ -106,7 +106,7 @@ at_start s is =
     each_root P h zero e at = subst P (same_Some (entry root_node 0 Open) e at) h
     each_root P h (suc k) e at = absurd (none-some e at)
 
-module _ (s : State) (facts : Facts s) where
+module _ (s : SearchState) (facts : Facts s) where
   module _ (place : ℕ) (e x : Entry) (there : slice_get s.entries place ≡ Some e) (same : x.node ≡ e.node) where
     -- one node changes, and more are opened
     by_change : (more : List Entry) (best : Option Serving) → BestServes s.question best → AreOfProgram s.question.program more → (is_closed x ≡ true → IsBelow s.question s.costs x.node.must) →
@@ -133,14 +133,14 @@ module _ (s : State) (facts : Facts s) where
     by_status best serves closed split lost = subst (λ (l : List Entry). Facts (record s { entries = l; best = best })) (append-nil (set_at s.entries place x))
         (by_change [] best serves (λ k y at. absurd (none-some y at)) closed (λ f first h. absurd (split f first h)) none_live lost)
 
-  taken : (after : State) (seat : ℕ) (n : Node) → Takes s after seat n → Facts after
+  taken : (after : SearchState) (seat : ℕ) (n : Node) → TakesNode s after seat n → Facts after
   taken after seat n t =
       let e = t.there.before in
       let x = entry n seat Held in
       subst Facts (sym t.is_after) (by_status t.place e x t.there.there (sym t.there.is_node) s.best facts.best_serves (λ c. absurd cc) (λ f first h. cc)
       (lost_by_none s.question s.costs facts.within facts.have_costs s.entries t.place e x t.there.there (sym t.there.is_node) [] refl s.best facts.none_lost))
 
-  given_back : (after : State) (seat : ℕ) → GivesBack s after seat → Facts after
+  given_back : (after : SearchState) (seat : ℕ) → GivesBack s after seat → Facts after
   given_back after seat t =
       let e = t.there.before in
       let x = entry t.node seat Open in
@@ -158,7 +158,7 @@ module _ (s : State) (facts : Facts s) where
     as_good = not_better s.costs must ceiling.gaps (let low : total s.costs ceiling.gaps ≤ cost = ceiling.within in omega arith);
   }
 
-  cut_off : (after : State) (seat : ℕ) → Cuts s after seat → Facts after
+  cut_off : (after : SearchState) (seat : ℕ) → Cuts s after seat → Facts after
   cut_off after seat t =
       let e = t.there.before in
       let x = entry t.node seat Cut in
@@ -175,7 +175,7 @@ module _ (s : State) (facts : Facts s) where
       (of, gaps, subst (λ (q : Question). Serves q b.gaps) of serves.serves)
   still_serves b best of gaps serves (inr (old, was, now, beaten)) c is = facts.best_serves c (sym now ∙ is)
 
-  confirmed : (after : State) (seat : ℕ) (b : Serving) → Confirms s after seat b → Facts after
+  confirmed : (after : SearchState) (seat : ℕ) (b : Serving) → Confirms s after seat b → Facts after
   confirmed after seat b t =
       let e = t.there.before in
       let x = entry t.node seat Confirmed in
@@ -191,15 +191,15 @@ module _ (s : State) (facts : Facts s) where
       (lost_by_no_confirming s.question s.costs facts.within facts.have_costs s.entries t.place e x t.there.there (sym t.there.is_node) [] b s.best t.best
       (t.of_node ∙ ap (λ (n : Node). n.must) (sym t.there.is_node)) t.best_after facts.none_lost))
 
-  new_split : (place : ℕ) (e : Entry) (seat : ℕ) (n : Node) (f : Foreign) → slice_get s.entries place ≡ Some e → f.question ≡ s.question → IsForeign f → PassesNoneOf n.must f →
+  new_split : (place : ℕ) (e : Entry) (seat : ℕ) (n : Node) (f : Foreign) → slice_get s.entries place ≡ Some e → f.question ≡ s.question → IsForeignValue f → PassesNoneOf n.must f →
       (g : Foreign) (first : ℕ) → Split f (length s.entries) ≡ Split g first →
-      IsSplitAt s.question (set_at s.entries place (entry n seat (Split f (length s.entries))) ++ opened seat (children n f.passed)) place n g first
+      IsSplitAt s.question (set_at s.entries place (entry n seat (Split f (length s.entries))) ++ open_entries seat (children n f.passed)) place n g first
   new_split place e seat n f there of foreign apart g first h =
       let x = entry n seat (Split f (length s.entries)) in
       let same : f ≡ g = cc in
       let at : length s.entries ≡ first = cc in
-      subst (λ (k : ℕ). IsSplitAt s.question (set_at s.entries place x ++ opened seat (children n f.passed)) place n g k) at
-      (subst (λ (r : Foreign). IsSplitAt s.question (set_at s.entries place x ++ opened seat (children n f.passed)) place n r (length s.entries)) same
+      subst (λ (k : ℕ). IsSplitAt s.question (set_at s.entries place x ++ open_entries seat (children n f.passed)) place n g k) at
+      (subst (λ (r : Foreign). IsSplitAt s.question (set_at s.entries place x ++ open_entries seat (children n f.passed)) place n r (length s.entries)) same
       (record {
         of_question = of;
         foreign = foreign;
@@ -208,26 +208,26 @@ module _ (s : State) (facts : Facts s) where
         kids = λ j c at_kid. kids_behind s.entries place seat x (children n f.passed) j c at_kid;
       }))
 
-  divided : (after : State) (seat : ℕ) (f : Foreign) → Splits s after seat f → Facts after
+  divided : (after : SearchState) (seat : ℕ) (f : Foreign) → Splits s after seat f → Facts after
   divided after seat f t =
       let e = t.there.before in
       let x = entry t.node seat (Split f (length s.entries)) in
-      let more = opened seat (children t.node f.passed) in
+      let more = open_entries seat (children t.node f.passed) in
       subst Facts (sym t.is_after) (by_change t.place e x t.there.there (sym t.there.is_node) more s.best facts.best_serves
       (opened_of s.question.program facts.within f seat t.node (ap (λ (q : Question). q.program) t.of_question) t.foreign (subst (λ (n : Node). AreGapsOf s.question.program n.must) t.there.is_node (facts.of_program t.place e t.there.there)))
       (λ c. absurd cc)
       (λ g first h. new_split t.place e seat t.node f t.there.there t.of_question t.foreign t.passes_none g first h)
       (opened_live seat (children t.node f.passed))
       (lost_by_no_split s.question s.costs facts.within facts.have_costs s.entries t.place e x t.there.there (sym t.there.is_node) more f t.of_question t.foreign seat
-      (ap (λ (n : Node). opened seat (children n f.passed)) (sym t.there.is_node)) s.best facts.none_lost))
+      (ap (λ (n : Node). open_entries seat (children n f.passed)) (sym t.there.is_node)) s.best facts.none_lost))
 
-  after_event : (after : State) (seat : ℕ) → IsEvent s after seat → Facts after
+  after_event : (after : SearchState) (seat : ℕ) → IsEvent s after seat → Facts after
   after_event after seat (takes n t) = taken after seat n t
   after_event after seat (gives_back t) = given_back after seat t
   after_event after seat (splits f t) = divided after seat f t
   after_event after seat (cuts t) = cut_off after seat t
   after_event after seat (confirms b t) = confirmed after seat b t
 
-pub facts_of : (s : State) → IsReached s → Facts s
+pub facts_of : (s : SearchState) → IsReached s → Facts s
 facts_of s (starts _ is) = at_start s is
 facts_of after (goes_on s _ seat r seated event) = after_event s (facts_of s r) after seat event

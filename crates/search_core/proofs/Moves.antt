@@ -5,7 +5,7 @@ use Rattle.std.proofs.lemmas.Option.{slice_get_within}
 use Rattle.gap_sets.specs.Order.{total}
 use Rattle.tso_program.specs.Shown.{Question}
 use Rattle.tso_machine.specs.Outcomes.{AreGapsOf}
-use Rattle.cover_solver.specs.Facts.{Foreign, Serving, IsForeign, IsServing}
+use Rattle.cover_solver.specs.Facts.{Foreign, Serving, IsForeignValue, IsServing}
 use Rattle.cover_solver.specs.Verdicts.{PassesNoneOf}
 use Rattle.search_core.specs.declared.node.Node.{Node}
 use Rattle.search_core.specs.declared.entry.Entry.{Entry}
@@ -15,34 +15,34 @@ use Rattle.search_core.specs.declared.ceiling.Reason.TheVariants as reason
 use Rattle.search_core.specs.Nodes.{children}
 use Rattle.search_core.specs.Entries.{entry}
 use Rattle.search_core.specs.Ceilings.{Bound, IsCeiling, IsBound, IsCeilingOf}
-use Rattle.search_core.specs.States.{State, IsOpenAt, IsHeldAt, Holds, HoldsNothing, HoldsOnly, HasNoOpen, IsSameSearch}
-use Rattle.search_core.specs.Events.{opened, IsBeaten, IsTooDear, IsBestAfter, Takes, GivesBack, Splits, Cuts, Confirms}
+use Rattle.search_core.specs.States.{SearchState, IsOpenAt, IsHeldAt, HoldsNode, HoldsNothing, HoldsOnly, HasNoOpen, IsSameSearch}
+use Rattle.search_core.specs.Events.{open_entries, IsBeaten, IsTooDear, IsBestAfter, TakesNode, GivesBack, Splits, Cuts, Confirms}
 use Rattle.search_core.specs.Faults.{IsReasonOf, HasBound, CutsMust}
 use Rattle.search_core.specs.Histories.{IsReached}
 use Rattle.search_core.proofs.Kept.{facts_of}
 use Rattle.search_core.proofs.OneNode.{only_node}
 
 -- a seat of the value is one of the fields
-pub seated : (s old : State) → s ≡ old → (seat : ℕ) → seat < old.seats → seat < s.seats
-seated s old is seat h = subst (λ (t : State). seat < t.seats) (sym is) h
+pub seated : (s old : SearchState) → s ≡ old → (seat : ℕ) → seat < old.seats → seat < s.seats
+seated s old is seat h = subst (λ (t : SearchState). seat < t.seats) (sym is) h
 
 -- entries and the best set change, nothing else
-pub same_search : (s old : State) → s ≡ old → (items : List Entry) (best : Option Serving) → IsSameSearch old (record s { entries = items; best = best })
-same_search s old is items best = record { question = ap (λ (t : State). t.question) is; costs = ap (λ (t : State). t.costs) is; seats = ap (λ (t : State). t.seats) is }
+pub same_search : (s old : SearchState) → s ≡ old → (items : List Entry) (best : Option Serving) → IsSameSearch old (record s { entries = items; best = best })
+same_search s old is items best = record { question = ap (λ (t : SearchState). t.question) is; costs = ap (λ (t : SearchState). t.costs) is; seats = ap (λ (t : SearchState). t.seats) is }
 
 -- the fields as they were found, the value, and the entries that were looked through
-module _ (s old : State) (is : s ≡ old) (seen : List Entry) (at : seen ≡ s.entries) where
+module _ (s old : SearchState) (is : s ≡ old) (seen : List Entry) (at : seen ≡ s.entries) where
   seen_old : seen ≡ old.entries
-  seen_old = at ∙ ap (λ (t : State). t.entries) is
+  seen_old = at ∙ ap (λ (t : SearchState). t.entries) is
 
   pub holds_nothing : (seat : ℕ) → ((place : ℕ) (n : Node) → ¬ IsHeldAt seen seat place n) → HoldsNothing old seat
   holds_nothing seat none n held = none held.0 n (subst (λ es. IsHeldAt es seat held.0 n) (sym seen_old) held.1)
 
-  pub does_hold : (seat place : ℕ) (n : Node) → IsHeldAt seen seat place n → Holds old seat n
+  pub does_hold : (seat place : ℕ) (n : Node) → IsHeldAt seen seat place n → HoldsNode old seat n
   does_hold seat place n held = (place, subst (λ es. IsHeldAt es seat place n) seen_old held)
 
   pub holds_only : IsReached s → (seat place : ℕ) (n : Node) → IsHeldAt seen seat place n → HoldsOnly old seat n
-  holds_only r seat place n held = subst (λ (t : State). HoldsOnly t seat n) is (only_node s seat place n r (subst (λ es. IsHeldAt es seat place n) at held))
+  holds_only r seat place n held = subst (λ (t : SearchState). HoldsOnly t seat n) is (only_node s seat place n r (subst (λ es. IsHeldAt es seat place n) at held))
 
   pub no_open : ((place : ℕ) (n : Node) → ¬ IsOpenAt seen place n) → HasNoOpen old
   no_open none place n open_there = none place n (subst (λ es. IsOpenAt es place n) (sym seen_old) open_there)
@@ -54,20 +54,20 @@ module _ (s old : State) (is : s ≡ old) (seen : List Entry) (at : seen ≡ s.e
   open_within place n open_there = subst (λ es. place < length es) at (slice_get_within seen place open_there.before open_there.there)
 
   pub held_gaps : IsReached s → (seat place : ℕ) (n : Node) → IsHeldAt seen seat place n → AreGapsOf old.question.program n.must
-  held_gaps r seat place n held = subst (λ (t : State). AreGapsOf t.question.program n.must) is
+  held_gaps r seat place n held = subst (λ (t : SearchState). AreGapsOf t.question.program n.must) is
       (subst (λ (m : Node). AreGapsOf s.question.program m.must) held.is_node ((facts_of s r).of_program place held.before (ap (λ es. slice_get es place) (sym at) ∙ held.there)))
 
   pub open_gaps : IsReached s → (place : ℕ) (n : Node) → IsOpenAt seen place n → AreGapsOf old.question.program n.must
-  open_gaps r place n h = subst (λ (t : State). AreGapsOf t.question.program n.must) is
+  open_gaps r place n h = subst (λ (t : SearchState). AreGapsOf t.question.program n.must) is
       (subst (λ (m : Node). AreGapsOf s.question.program m.must) h.is_node ((facts_of s r).of_program place h.before (ap (λ es. slice_get es place) (sym at) ∙ h.there)))
 
   module _ (items : List Entry) (seat place : ℕ) (n : Node) where
-    abbrev pub after : State
+    abbrev pub after : SearchState
     after = record s { entries = items }
 
-    pub take_event : HoldsNothing old seat → IsOpenAt seen place n → items ≡ slice_set s.entries place (entry n seat Held) → Takes s after seat n
+    pub take_event : HoldsNothing old seat → IsOpenAt seen place n → items ≡ slice_set s.entries place (entry n seat Held) → TakesNode s after seat n
     take_event free open_there e = record {
-      free = subst (λ (t : State). HoldsNothing t seat) (sym is) free;
+      free = subst (λ (t : SearchState). HoldsNothing t seat) (sym is) free;
       place = place;
       there = subst (λ es. IsOpenAt es place n) at open_there;
       is_after = ap (λ es. record s { entries = es }) e;
@@ -83,13 +83,13 @@ module _ (s old : State) (is : s ≡ old) (seen : List Entry) (at : seen ≡ s.e
       pub cut_event : IsBeaten s n ⊎ IsTooDear s n → items ≡ slice_set s.entries place (entry n seat Cut) → Cuts s after seat
       cut_event why e = record { node = n; place = place; there = held_there; why = why; is_after = ap (λ es. record s { entries = es }) e }
 
-      pub confirm_event : (b : Serving) (best : Option Serving) → b.question ≡ old.question → ((m : Node) → Holds old seat m → b.gaps ≡ m.must) → IsServing b → IsBestAfter s.costs b s.best best →
+      pub confirm_event : (b : Serving) (best : Option Serving) → b.question ≡ old.question → ((m : Node) → HoldsNode old seat m → b.gaps ≡ m.must) → IsServing b → IsBestAfter s.costs b s.best best →
           items ≡ slice_set s.entries place (entry n seat Confirmed) → Confirms s (record s { entries = items; best = best }) seat b
       confirm_event b best of of_node serves best_after e = record {
         node = n;
         place = place;
         there = held_there;
-        of_question = of ∙ ap (λ (t : State). t.question) (sym is);
+        of_question = of ∙ ap (λ (t : SearchState). t.question) (sym is);
         of_node = of_node n (does_hold seat place n held);
         serves = serves;
         best = best;
@@ -97,20 +97,20 @@ module _ (s old : State) (is : s ≡ old) (seen : List Entry) (at : seen ≡ s.e
         is_after = ap (λ es. record s { entries = es; best = best }) e;
       }
 
-      pub split_event : (f : Foreign) → f.question ≡ old.question → IsForeign f → PassesNoneOf n.must f →
-          items ≡ slice_set s.entries place (entry n seat (Split f (length s.entries))) ++ opened seat (children n f.passed) → Splits s after seat f
+      pub split_event : (f : Foreign) → f.question ≡ old.question → IsForeignValue f → PassesNoneOf n.must f →
+          items ≡ slice_set s.entries place (entry n seat (Split f (length s.entries))) ++ open_entries seat (children n f.passed) → Splits s after seat f
       split_event f of foreign apart e = record {
         node = n;
         place = place;
         there = held_there;
-        of_question = of ∙ ap (λ (t : State). t.question) (sym is);
+        of_question = of ∙ ap (λ (t : SearchState). t.question) (sym is);
         foreign = foreign;
         passes_none = apart;
         is_after = ap (λ es. record s { entries = es }) e;
       }
 
 -- a reason that cuts a node
-pub why_cut : (s : State) (why : Reason) (n : Node) → IsReasonOf s why → HasBound why → CutsMust s.costs s.best why n.must → IsBeaten s n ⊎ IsTooDear s n
+pub why_cut : (s : SearchState) (why : Reason) (n : Node) → IsReasonOf s why → HasBound why → CutsMust s.costs s.best why n.must → IsBeaten s n ⊎ IsTooDear s n
 why_cut s reason.Best n of bound cuts = inl cuts
 why_cut s (reason.Ceiling ceiling) n of bound cuts = inr (by_ceiling ceiling of bound cuts)
   where
@@ -118,7 +118,7 @@ why_cut s (reason.Ceiling ceiling) n of bound cuts = inr (by_ceiling ceiling of 
     by_ceiling None of bound cuts = absurd cuts
     by_ceiling (Some b) of bound cuts = (b.cost, subst (λ (l : List ℕ). IsCeiling s.question l b.cost) of.1 (subst (λ (q : Question). IsCeiling q b.costs b.cost) of.0 bound), cuts)
 
--- an entry changes before others come behind, or after
+-- an entry changes before others are appended, or after
 pub set_front : {A : Type 0} (l m : List A) (k : ℕ) (x : A) → k < length l → set_at (l ++ m) k x ≡ set_at l k x ++ m
 set_front [] m k x h = absurd (omega arith)
 set_front (y ∷ ys) m zero x h = refl

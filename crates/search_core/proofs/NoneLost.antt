@@ -15,13 +15,13 @@ use Rattle.tree_laws.specs.GapTrees as trees
 use Rattle.tree_laws.proofs.BetterSets.{still_better}
 use Rattle.tree_laws.proofs.Regions.{split_loses_no_set, true_or_false}
 use Rattle.tree_laws.proofs.AvoidedGaps.{Avoids, leaves_outcome}
-use Rattle.cover_solver.specs.Facts.{Foreign, Serving, IsForeign}
+use Rattle.cover_solver.specs.Facts.{Foreign, Serving, IsForeignValue}
 use Rattle.search_core.specs.declared.entry.Entry.{Entry}
 use Rattle.search_core.specs.declared.entry.Status.TheVariants.{Open}
-use Rattle.search_core.specs.Nodes.{region_of, node_of, open_gaps, children}
+use Rattle.search_core.specs.Nodes.{region_of, search_node, open_gaps, children}
 use Rattle.search_core.specs.Entries.{entry, is_live}
 use Rattle.search_core.specs.Ceilings.{IsCeiling}
-use Rattle.search_core.specs.Events.{opened, IsBeatenBy, IsBestAfter}
+use Rattle.search_core.specs.Events.{open_entries, IsBeatenBy, IsBestAfter}
 use Rattle.search_core.specs.Laws.{IsLive, IsUndercut}
 use Rattle.search_core.proofs.Places.{get_behind, get_mapped}
 use Rattle.search_core.proofs.OpenGaps.{open_exact}
@@ -80,7 +80,7 @@ module _ (q : Question) (costs : List ℕ) (within : IsWithinLimits q.program.th
         (kept gaps of earlier)
 
     -- it is split
-    module _ (f : Foreign) (of_question : f.question ≡ q) (foreign : IsForeign f) where
+    module _ (f : Foreign) (of_question : f.question ≡ q) (foreign : IsForeignValue f) where
       small : IsGapSet f.passed
       small = gap_set f.question.program (subst (λ (r : Question). IsWithinLimits r.program.threads r.program.memory) (sym of_question) within) f.passed (passed_gaps f foreign)
 
@@ -97,21 +97,21 @@ module _ (q : Question) (costs : List ℕ) (within : IsWithinLimits q.program.th
       leaves : (gaps : SetOfGaps) → IsInRegion (region_of e.node) gaps → HasNoneOf gaps (open_gaps f.passed e.node.never) → LeavesOutcome q gaps
       leaves gaps inside none = subst (λ (r : Question). LeavesOutcome r gaps) of_question (leaves_outcome f.question gaps f.labels f.outcome foreign.foreign (avoids gaps inside none))
 
-      -- the children stand behind
-      module _ (seat : ℕ) (behind : more ≡ opened seat (children e.node f.passed)) where
+      -- the children follow the entries
+      module _ (seat : ℕ) (behind : more ≡ open_entries seat (children e.node f.passed)) where
         in_child : (gaps : SetOfGaps) (child : trees.Node) → Contains (children_of (region_of e.node) (open_gaps f.passed e.node.never)) child → IsInRegion child gaps →
             IsLive (changed es place e x there same more) gaps
         in_child gaps child here inside =
             let regions = children_of (region_of e.node) (open_gaps f.passed e.node.never) in
             let at : slice_get regions here.0 ≡ Some child = slice_get-get_or regions here.0 child here.1 ∙ ap Some here.2 in
-            let kid : slice_get (children e.node f.passed) here.0 ≡ Some (node_of child) = get_mapped node_of regions here.0 child at in
+            let kid : slice_get (children e.node f.passed) here.0 ≡ Some (search_node child) = get_mapped search_node regions here.0 child at in
             record {
               place = length es + here.0;
-              entry = entry (node_of child) seat Open;
+              entry = entry (search_node child) seat Open;
               there = ap (λ m. slice_get (set_at es place x ++ m) (length es + here.0)) behind
-                  ∙ ap (λ l. slice_get (set_at es place x ++ opened seat (children e.node f.passed)) (l + here.0)) (sym (length-set es place x))
-                  ∙ get_behind (set_at es place x) (opened seat (children e.node f.passed)) here.0
-                  ∙ get_mapped (λ n. entry n seat Open) (children e.node f.passed) here.0 (node_of child) kid;
+                  ∙ ap (λ l. slice_get (set_at es place x ++ open_entries seat (children e.node f.passed)) (l + here.0)) (sym (length-set es place x))
+                  ∙ get_behind (set_at es place x) (open_entries seat (children e.node f.passed)) here.0
+                  ∙ get_mapped (λ n. entry n seat Open) (children e.node f.passed) here.0 (search_node child) kid;
               live = refl;
               inside = inside;
             }

@@ -6,7 +6,7 @@ use Rattle.std.specs.Option.{option_map_or}
 use Rattle.std.specs.FinSet as set
 use Rattle.std.proofs.lemmas.List.Sums.{sum_by-cons}
 use Rattle.std.proofs.lemmas.List.FromFn.{length-range_with_len, get_or-range_with_len}
-use Rattle.gap_sets.specs.Gaps.{SetOfGaps, gaps_in}
+use Rattle.gap_sets.specs.Gaps.{SetOfGaps, numbers_of_set}
 use Rattle.gap_sets.specs.Order.{total, cost_of}
 use Rattle.gap_sets.specs.SameGaps.{alike}
 use Rattle.tso_program.specs.declared.listing.Listing.{Listing}
@@ -64,7 +64,7 @@ module _ (p : Listing) (gaps : SetOfGaps) where
       by_number (Some gap) e = alike (set.contains part gap) (set.contains gaps gap) (λ h. (in_part gap h).1) (to_part gap (gap_below p.threads t k gap e))
 
   pub part_costs_less : (costs : List ℕ) → total costs part ≤ total costs gaps
-  unfolding total gaps_in
+  unfolding total numbers_of_set
   part_costs_less costs = fewer_terms (cost_of costs) (set.contains part) (set.contains gaps) (range_with_len 0 64) (λ gap h. (in_part gap h).1)
 
 pub part_serves : (q : Question) (gaps : SetOfGaps) → Serves q gaps → Serves q (part q.program gaps)

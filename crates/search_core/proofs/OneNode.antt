@@ -8,8 +8,8 @@ use Rattle.search_core.specs.declared.entry.Entry.{Entry}
 use Rattle.search_core.specs.declared.entry.Status.TheVariants.{Open, Held, Cut, Confirmed}
 use Rattle.search_core.specs.Nodes.{children}
 use Rattle.search_core.specs.Entries.{entry, is_held_by}
-use Rattle.search_core.specs.States.{State, IsHeldAt, HoldsNothing, HoldsOnly, root_node}
-use Rattle.search_core.specs.Events.{opened, Takes, IsEvent, takes, gives_back, splits, cuts, confirms}
+use Rattle.search_core.specs.States.{SearchState, IsHeldAt, HoldsNothing, HoldsOnly, root_node}
+use Rattle.search_core.specs.Events.{open_entries, TakesNode, IsEvent, takes, gives_back, splits, cuts, confirms}
 use Rattle.search_core.specs.Histories.{IsReached, starts, goes_on}
 use Rattle.search_core.specs.Laws.{ASeatHoldsOneNode}
 use Rattle.search_core.proofs.Places.{get_here, Each, each_mapped, get_either, get_old}
@@ -25,7 +25,7 @@ NoneHeld es = Each (λ e. (seat : ℕ) → is_held_by seat e ≡ true → ⊥) e
 nothing_held : NoneHeld []
 nothing_held k e at = absurd (none-some e at)
 
-opened_not_held : (seat : ℕ) (ns : List Node) → NoneHeld (opened seat ns)
+opened_not_held : (seat : ℕ) (ns : List Node) → NoneHeld (open_entries seat ns)
 opened_not_held seat ns = each_mapped (λ n. Unit {0}) (λ e. (other : ℕ) → is_held_by other e ≡ true → ⊥) (λ n. entry n seat Open) (λ n h other held. cc) ns (λ k n h. tt)
 
 -- what is held was held, or is the changed node
@@ -57,7 +57,7 @@ same_seat : (seat other : ℕ) (n : Node) → is_held_by other (entry n seat Hel
 same_seat seat other n h = let q : (seat == other) ≡ true = h in grind (arith, nat_tests)
 
 -- where a seat that holds nothing takes it
-taken : (s : State) (place seat : ℕ) (m : Node) → HoldsNothing s seat → AtOnePlace s.entries → AtOnePlace (set_at s.entries place (entry m seat Held) ++ [])
+taken : (s : SearchState) (place seat : ℕ) (m : Node) → HoldsNothing s seat → AtOnePlace s.entries → AtOnePlace (set_at s.entries place (entry m seat Held) ++ [])
 taken s place seat m free one other j k n o h i = elim (held_before s.entries place (entry m seat Held) [] other j n nothing_held h) [
   | inl here ↦ elim (held_before s.entries place (entry m seat Held) [] other k o nothing_held i) [
     | inl there ↦ here.0 ∙ sym there.0
@@ -73,16 +73,16 @@ at_start : (seat place : ℕ) (n : Node) → IsHeldAt (entry root_node 0 Open �
 at_start seat zero n h = let is = same_Some (entry root_node 0 Open) h.before h.there in let held : is_held_by seat (entry root_node 0 Open) ≡ true = subst (λ (e : Entry). is_held_by seat e ≡ true) (sym is) h.held_there in cc
 at_start seat (suc place) n h = none-some h.before h.there
 
-module _ (s after : State) (seat : ℕ) (one : AtOnePlace s.entries) where
+module _ (s after : SearchState) (seat : ℕ) (one : AtOnePlace s.entries) where
   after_event : IsEvent s after seat → AtOnePlace after.entries
-  after_event (takes n t) = subst (λ (a : State). AtOnePlace a.entries) (sym t.is_after) (plain s.entries t.place (entry n seat Held) (taken s t.place seat n t.free one))
-  after_event (gives_back t) = subst (λ (a : State). AtOnePlace a.entries) (sym t.is_after) (plain s.entries t.place (entry t.node seat Open) (let_go s.entries t.place (entry t.node seat Open) [] nothing_held (λ other h. cc) one))
-  after_event (splits f t) = subst (λ (a : State). AtOnePlace a.entries) (sym t.is_after)
-      (let_go s.entries t.place _ (opened seat (children t.node f.passed)) (opened_not_held seat (children t.node f.passed)) (λ other h. cc) one)
-  after_event (cuts t) = subst (λ (a : State). AtOnePlace a.entries) (sym t.is_after) (plain s.entries t.place (entry t.node seat Cut) (let_go s.entries t.place (entry t.node seat Cut) [] nothing_held (λ other h. cc) one))
-  after_event (confirms b t) = subst (λ (a : State). AtOnePlace a.entries) (sym t.is_after) (plain s.entries t.place (entry t.node seat Confirmed) (let_go s.entries t.place (entry t.node seat Confirmed) [] nothing_held (λ other h. cc) one))
+  after_event (takes n t) = subst (λ (a : SearchState). AtOnePlace a.entries) (sym t.is_after) (plain s.entries t.place (entry n seat Held) (taken s t.place seat n t.free one))
+  after_event (gives_back t) = subst (λ (a : SearchState). AtOnePlace a.entries) (sym t.is_after) (plain s.entries t.place (entry t.node seat Open) (let_go s.entries t.place (entry t.node seat Open) [] nothing_held (λ other h. cc) one))
+  after_event (splits f t) = subst (λ (a : SearchState). AtOnePlace a.entries) (sym t.is_after)
+      (let_go s.entries t.place _ (open_entries seat (children t.node f.passed)) (opened_not_held seat (children t.node f.passed)) (λ other h. cc) one)
+  after_event (cuts t) = subst (λ (a : SearchState). AtOnePlace a.entries) (sym t.is_after) (plain s.entries t.place (entry t.node seat Cut) (let_go s.entries t.place (entry t.node seat Cut) [] nothing_held (λ other h. cc) one))
+  after_event (confirms b t) = subst (λ (a : SearchState). AtOnePlace a.entries) (sym t.is_after) (plain s.entries t.place (entry t.node seat Confirmed) (let_go s.entries t.place (entry t.node seat Confirmed) [] nothing_held (λ other h. cc) one))
 
-one_place : (s : State) → IsReached s → AtOnePlace s.entries
+one_place : (s : SearchState) → IsReached s → AtOnePlace s.entries
 one_place s (starts _ is) = subst AtOnePlace (sym is.only_root) (λ seat place other n m h i. absurd (at_start seat place n h))
 one_place after (goes_on s _ seat r seated event) = after_event s after seat (one_place s r) event
 
@@ -90,7 +90,7 @@ pub one_node : ASeatHoldsOneNode
 one_node s seat place other n m r = one_place s r seat place other n m
 
 -- what a seat holds is the only node that it holds
-pub only_node : (s : State) (seat place : ℕ) (n : Node) → IsReached s → IsHeldAt s.entries seat place n → HoldsOnly s seat n
+pub only_node : (s : SearchState) (seat place : ℕ) (n : Node) → IsReached s → IsHeldAt s.entries seat place n → HoldsOnly s seat n
 only_node s seat place n r here = record {
   held = (place, here);
   only = λ m held.
@@ -100,12 +100,12 @@ only_node s seat place n r here = record {
 }
 
 -- so a seat holds what it takes
-pub taken_only : (s after : State) (seat : ℕ) (n : Node) → IsReached after → Takes s after seat n → HoldsOnly after seat n
+pub taken_only : (s after : SearchState) (seat : ℕ) (n : Node) → IsReached after → TakesNode s after seat n → HoldsOnly after seat n
 taken_only s after seat n r t =
     let itself : (seat == seat) ≡ true = grind (arith, nat_tests) in
     only_node after seat t.place n r (record {
       before = entry n seat Held;
-      there = ap (λ (u : State). slice_get u.entries t.place) t.is_after ∙ get_here s.entries t.place t.there.before (entry n seat Held) t.there.there;
+      there = ap (λ (u : SearchState). slice_get u.entries t.place) t.is_after ∙ get_here s.entries t.place t.there.before (entry n seat Held) t.there.there;
       held_there = itself;
       is_node = refl;
     })

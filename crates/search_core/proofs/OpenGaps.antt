@@ -9,7 +9,7 @@ use Rattle.std.proofs.lemmas.List.{append-nil}
 use Rattle.std.specs.List.{range_with_len}
 use Rattle.std.proofs.Common.{zero-add, get_or, ◌+◌}
 use Rattle.std.proofs.lemmas.List.FromFn.{length-range_with_len, get_or-range_with_len}
-use Rattle.gap_sets.specs.Gaps.{SetOfGaps, IsGapSet, gaps_in}
+use Rattle.gap_sets.specs.Gaps.{SetOfGaps, IsGapSet, numbers_of_set}
 use Rattle.tree_laws.proofs.Lists.{none_here, first_or_later, first_is_here, later_is_here}
 use Rattle.search_core.specs.Nodes.{is_free, open_gaps}
 
@@ -90,27 +90,27 @@ pub none_to_come : (p : ℕ → Bool) (gaps left whole : List ℕ) → left ≡ 
 none_to_come p gaps left whole none so = sym (append-nil gaps) ∙ ap (λ xs. gaps ++ filter p xs) (sym none) ∙ so
 
 -- each gap of a set is listed
-listed : (s : SetOfGaps) (g : ℕ) → g < 64 → set.contains s g ≡ true → Contains (gaps_in s) g
-unfolding gaps_in
+listed : (s : SetOfGaps) (g : ℕ) → g < 64 → set.contains s g ≡ true → Contains (numbers_of_set s) g
+unfolding numbers_of_set
 listed s g low there = to_filter (set.contains s) (range_with_len 0 64) g
     (g, (let long = length-range_with_len 0 64 in omega arith), get_or-range_with_len 0 64 g g low ∙ zero-add g) there
 
-unlisted : (s : SetOfGaps) (g : ℕ) → Contains (gaps_in s) g → set.contains s g ≡ true
-unfolding gaps_in
+unlisted : (s : SetOfGaps) (g : ℕ) → Contains (numbers_of_set s) g → set.contains s g ≡ true
+unfolding numbers_of_set
 unlisted s g here = (of_filter (set.contains s) (range_with_len 0 64) g here).1
 
 -- the open gaps are those of the first set that are not in the second
 pub open_exact : (passed never : SetOfGaps) → IsGapSet passed → (g : ℕ) → Contains (open_gaps passed never) g ↔ ((set.contains passed g ≡ true) × (set.contains never g ≡ false))
 open_exact passed never small g = (
-  (λ here. (let both = of_filter (is_free never) (gaps_in passed) g here in (unlisted passed g both.0, not_true _ both.1))),
-  (λ both. to_filter (is_free never) (gaps_in passed) g (listed passed g (small g both.0) both.0) (not_false _ both.1)),
+  (λ here. (let both = of_filter (is_free never) (numbers_of_set passed) g here in (unlisted passed g both.0, not_true _ both.1))),
+  (λ both. to_filter (is_free never) (numbers_of_set passed) g (listed passed g (small g both.0) both.0) (not_false _ both.1)),
 )
 
-rising : (s : SetOfGaps) → IsStrictlyIncreasing (gaps_in s)
-unfolding gaps_in
+rising : (s : SetOfGaps) → IsStrictlyIncreasing (numbers_of_set s)
+unfolding numbers_of_set
 rising s = IsStrictlyIncreasing-filter (set.contains s) (range_with_len 0 64) (λ k h. let a : get_or (range_with_len 0 64) k 0 ≡ 0 + k = get_or-range_with_len 0 64 k 0 (omega arith) in
     let b : get_or (range_with_len 0 64) (k + 1) 0 ≡ 0 + (k + 1) = get_or-range_with_len 0 64 (k + 1) 0 (omega arith) in omega arith)
 
 -- and ascend
 pub open_ascending : (passed never : SetOfGaps) → IsStrictlyIncreasing (open_gaps passed never)
-open_ascending passed never = IsStrictlyIncreasing-filter (is_free never) (gaps_in passed) (rising passed)
+open_ascending passed never = IsStrictlyIncreasing-filter (is_free never) (numbers_of_set passed) (rising passed)

@@ -13,14 +13,14 @@ use Rattle.tso_program.specs.Limits.{IsWithinLimits}
 use Rattle.tso_program.proofs.Gaps.{gap_below}
 use Rattle.tso_machine.specs.Outcomes.{Serves, LeavesOutcome, AreGapsOf}
 use Rattle.tree_laws.specs.GapTrees.{HaveCosts}
-use Rattle.cover_solver.specs.Facts.{Foreign, IsForeign}
+use Rattle.cover_solver.specs.Facts.{Foreign, IsForeignValue}
 
 -- a set that serves leaves no outcome
 pub unserved : (q : Question) (gaps : SetOfGaps) → LeavesOutcome q gaps → Serves q gaps → ⊥
 unserved q gaps left serves = left.foreign ((serves left.outcome).0 left.left)
 
 -- what a foreign run passes are gaps of its program
-pub passed_gaps : (f : Foreign) → IsForeign f → AreGapsOf f.question.program f.passed
+pub passed_gaps : (f : Foreign) → IsForeignValue f → AreGapsOf f.question.program f.passed
 passed_gaps f is gap there = let p = (is.passed gap).0 there in gap_below f.question.program.threads p.0 p.1 gap p.2
 
 module _ (p : Listing) (within : IsWithinLimits p.threads p.memory) where

@@ -9,8 +9,8 @@ use Rattle.search_core.specs.declared.entry.Status.{Status}
 use Rattle.search_core.specs.declared.entry.Status.TheVariants.{Open, Held, Split, Cut, Confirmed}
 use Rattle.search_core.specs.Nodes.{region_of, children}
 use Rattle.search_core.specs.Entries.{entry, is_live, is_live_status, is_open_status, is_held_status, is_held_by}
-use Rattle.search_core.specs.States.{State, IsHeldAt}
-use Rattle.search_core.specs.Events.{opened, by_split, by_cut, by_confirm}
+use Rattle.search_core.specs.States.{SearchState, IsHeldAt}
+use Rattle.search_core.specs.Events.{open_entries, by_split, by_cut, by_confirm}
 use Rattle.search_core.specs.Laws.{SettlingLessensTheWork, TakingLeavesTheWork, GivingBackLeavesTheWork}
 use Rattle.search_core.specs.Work.{work_left, work_of, undecided}
 use Rattle.search_core.proofs.Kept.{facts_of}
@@ -42,7 +42,7 @@ open_live Confirmed h = absurd cc
 some_work : (n : Node) → 0 < work_of (region_of n)
 some_work n = one-le-pow (undecided (region_of n)) 2 (omega arith)
 
-module _ (s : State) (seat place : ℕ) (n : Node) (held : IsHeldAt s.entries seat place n) (x : Entry) where
+module _ (s : SearchState) (seat place : ℕ) (n : Node) (held : IsHeldAt s.entries seat place n) (x : Entry) where
   live : is_live held.before ≡ true
   live = held_live held.before.status (held_is seat held.before held.held_there)
 
@@ -53,26 +53,26 @@ module _ (s : State) (seat place : ℕ) (n : Node) (held : IsHeldAt s.entries se
   less_alone : is_live x ≡ false → work_left (set_at s.entries place x) < work_left s.entries
   less_alone settled = subst (λ es. work_left es < work_left s.entries) (append-nil (set_at s.entries place x)) (less_behind [] settled (some_work n))
 
-of_entries : (after s : State) (es : List Entry) → after.entries ≡ es → work_left es < work_left s.entries → work_left after.entries < work_left s.entries
+of_entries : (after s : SearchState) (es : List Entry) → after.entries ≡ es → work_left es < work_left s.entries → work_left after.entries < work_left s.entries
 of_entries after s es is less = subst (λ l. work_left l < work_left s.entries) (sym is) less
 
 pub settling_lessens : SettlingLessensTheWork
 settling_lessens s after seat r (by_split f u) =
     let within = subst (λ (q : Question). IsWithinLimits q.program.threads q.program.memory) (sym u.of_question) (facts_of s r).within in
     let small = gap_set f.question.program within f.passed (passed_gaps f u.foreign) in
-    of_entries after s _ (ap (λ (t : State). t.entries) u.is_after)
-    (less_behind s seat u.place u.node u.there (entry u.node seat (Split f (length s.entries))) (opened seat (children u.node f.passed)) refl (split_work seat f.passed u.node small u.passes_none))
+    of_entries after s _ (ap (λ (t : SearchState). t.entries) u.is_after)
+    (less_behind s seat u.place u.node u.there (entry u.node seat (Split f (length s.entries))) (open_entries seat (children u.node f.passed)) refl (split_work seat f.passed u.node small u.passes_none))
 settling_lessens s after seat r (by_cut u) =
-    of_entries after s _ (ap (λ (t : State). t.entries) u.is_after) (less_alone s seat u.place u.node u.there (entry u.node seat Cut) refl)
+    of_entries after s _ (ap (λ (t : SearchState). t.entries) u.is_after) (less_alone s seat u.place u.node u.there (entry u.node seat Cut) refl)
 settling_lessens s after seat r (by_confirm b u) =
-    of_entries after s _ (ap (λ (t : State). t.entries) u.is_after) (less_alone s seat u.place u.node u.there (entry u.node seat Confirmed) refl)
+    of_entries after s _ (ap (λ (t : SearchState). t.entries) u.is_after) (less_alone s seat u.place u.node u.there (entry u.node seat Confirmed) refl)
 
 pub taking_leaves : TakingLeavesTheWork
 taking_leaves s after seat n t =
-    ap (λ (u : State). work_left u.entries) t.is_after
+    ap (λ (u : SearchState). work_left u.entries) t.is_after
     ∙ moved_work s.entries t.place t.there.before (entry n seat Held) t.there.there (open_live t.there.before.status t.there.open_there) refl (sym t.there.is_node)
 
 pub giving_back_leaves : GivingBackLeavesTheWork
 giving_back_leaves s after seat t =
-    ap (λ (u : State). work_left u.entries) t.is_after
+    ap (λ (u : SearchState). work_left u.entries) t.is_after
     ∙ moved_work s.entries t.place t.there.before (entry t.node seat Open) t.there.there (held_live t.there.before.status (held_is seat t.there.before t.there.held_there)) refl (sym t.there.is_node)

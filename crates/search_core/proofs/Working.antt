@@ -22,9 +22,9 @@ use Rattle.tree_laws.proofs.Lists.{first_is_here, later_is_here}
 use Rattle.search_core.specs.declared.node.Node.{Node}
 use Rattle.search_core.specs.declared.entry.Entry.{Entry}
 use Rattle.search_core.specs.declared.entry.Status.TheVariants.{Open}
-use Rattle.search_core.specs.Nodes.{region_of, node_of, open_gaps, children}
+use Rattle.search_core.specs.Nodes.{region_of, search_node, open_gaps, children}
 use Rattle.search_core.specs.Entries.{entry, is_live}
-use Rattle.search_core.specs.Events.{opened}
+use Rattle.search_core.specs.Events.{open_entries}
 use Rattle.search_core.specs.Work.{is_undecided, undecided, work_of, live_work, work_left}
 use Rattle.search_core.proofs.Places.{Each}
 use Rattle.search_core.proofs.OpenGaps.{open_exact, open_ascending}
@@ -110,7 +110,7 @@ halves a b (suc d) h i =
 abbrev pub AreUndecided : trees.Node → List ℕ → Type 0
 AreUndecided n gaps = (gap : ℕ) → Contains gaps gap → (gap < 64) × (is_undecided n gap ≡ true)
 
--- the first of ascending numbers is none of the others
+-- the first of ascending numbers is not among the others
 not_again : (x : ℕ) (xs : List ℕ) → AllPairs (λ a b. a < b) (x ∷ xs) → (q : ℕ) → Contains xs q → x ≢ q
 not_again x xs up q here same =
     let less : x < get_or xs here.0 q = up 0 (suc here.0) q (omega arith) (let h = here.1 in omega arith) in
@@ -175,18 +175,18 @@ open_undecided passed n small apart gap here =
     not_there false e there = refl
 
 -- the work of nodes that are opened
-opened_work : (seat : ℕ) (cs : List trees.Node) → work_left (opened seat (map node_of cs)) ≡ sum_by work_of cs
+opened_work : (seat : ℕ) (cs : List trees.Node) → work_left (open_entries seat (map search_node cs)) ≡ sum_by work_of cs
 opened_work seat [] = refl
 opened_work seat (c ∷ cs) =
-    let e = entry (node_of c) seat Open in
-    sum_by-cons live_work e (opened seat (map node_of cs)) ∙ ap (λ (k : ℕ). work_of c + k) (opened_work seat cs) ∙ sym (sum_by-cons work_of c cs)
+    let e = entry (search_node c) seat Open in
+    sum_by-cons live_work e (open_entries seat (map search_node cs)) ∙ ap (λ (k : ℕ). work_of c + k) (opened_work seat cs) ∙ sym (sum_by-cons work_of c cs)
 
-pub split_work : (seat : ℕ) (passed : SetOfGaps) (n : Node) → IsGapSet passed → AreApart passed n.must → work_left (opened seat (children n passed)) < work_of (region_of n)
+pub split_work : (seat : ℕ) (passed : SetOfGaps) (n : Node) → IsGapSet passed → AreApart passed n.must → work_left (open_entries seat (children n passed)) < work_of (region_of n)
 split_work seat passed n small apart =
     let gaps = open_gaps passed n.never in
     let less : sum_by work_of (children_of (region_of n) gaps) < work_of (region_of n) =
     kids_work (region_of n) gaps (AllPairs-from_increasing gaps (open_ascending passed n.never)) (open_undecided passed n small apart) in
-    let same : work_left (opened seat (children n passed)) ≡ sum_by work_of (children_of (region_of n) gaps) = opened_work seat (children_of (region_of n) gaps) in
+    let same : work_left (open_entries seat (children n passed)) ≡ sum_by work_of (children_of (region_of n) gaps) = opened_work seat (children_of (region_of n) gaps) in
     omega arith
 
 -- a live node changes, and others are opened

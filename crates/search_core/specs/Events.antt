@@ -2,7 +2,7 @@
 use Rattle.std.specs.Prelude.{◌≡◌, ◌⊎◌, ℕ, ◌<◌, List, ◌++◌, Option, Some, IfSome, slice_set, map, length}
 use Rattle.gap_sets.specs.Gaps.{SetOfGaps}
 use Rattle.gap_sets.specs.Order.{total, Better}
-use Rattle.cover_solver.specs.Facts.{Foreign, Serving, IsForeign, IsServing}
+use Rattle.cover_solver.specs.Facts.{Foreign, Serving, IsForeignValue, IsServing}
 use Rattle.cover_solver.specs.Verdicts.{PassesNoneOf}
 use Rattle.search_core.specs.declared.node.Node.{Node}
 use Rattle.search_core.specs.declared.entry.Entry.{Entry}
@@ -10,22 +10,22 @@ use Rattle.search_core.specs.declared.entry.Status.TheVariants.{Open, Held, Spli
 use Rattle.search_core.specs.Nodes.{children}
 use Rattle.search_core.specs.Entries.{entry}
 use Rattle.search_core.specs.Ceilings.{IsCeiling}
-use Rattle.search_core.specs.States.{State, IsOpenAt, IsHeldAt, HoldsNothing, put_at}
+use Rattle.search_core.specs.States.{SearchState, IsOpenAt, IsHeldAt, HoldsNothing, put_at}
 
 -- nodes that are open
-abbrev pub opened : ℕ → List Node → List Entry
-opened seat nodes = map (λ n. entry n seat Open) nodes
+abbrev pub open_entries : ℕ → List Node → List Entry
+open_entries seat nodes = map (λ n. entry n seat Open) nodes
 
 -- there is a best set that this one is not better than
 abbrev pub IsBeatenBy : List ℕ → Option Serving → SetOfGaps → Type 0
 IsBeatenBy costs best gaps = (b : Serving) × (best ≡ Some b) × (¬ Better costs gaps b.gaps)
 
 -- so it is with what the node's sets must have
-abbrev pub IsBeaten : State → Node → Type 0
+abbrev pub IsBeaten : SearchState → Node → Type 0
 IsBeaten s n = IsBeatenBy s.costs s.best n.must
 
 -- what the node's sets must have costs more than a ceiling
-abbrev pub IsTooDear : State → Node → Type 0
+abbrev pub IsTooDear : SearchState → Node → Type 0
 IsTooDear s n = (cost : ℕ) × IsCeiling s.question s.costs cost × (cost < total s.costs n.must)
 
 -- the best set after another one is confirmed: that one, where it is better or the first, or the one before
@@ -34,9 +34,9 @@ IsBestAfter costs b before after =
     ((after ≡ Some b) × IfSome before (λ old. Better costs b.gaps old.gaps))
     ⊎ ((old : Serving) × (before ≡ Some old) × (after ≡ before) × (¬ Better costs b.gaps old.gaps))
 
-module _ (s after : State) (seat : ℕ) where
+module _ (s after : SearchState) (seat : ℕ) where
   -- the seat takes an open node
-  pub record Takes (n : Node) : Type 0 where
+  pub record TakesNode (n : Node) : Type 0 where
     pub free : HoldsNothing s seat
     pub place : ℕ
     pub there : IsOpenAt s.entries place n
@@ -55,9 +55,9 @@ module _ (s after : State) (seat : ℕ) where
     pub place : ℕ
     pub there : IsHeldAt s.entries seat place node
     pub of_question : f.question ≡ s.question
-    pub foreign : IsForeign f
+    pub foreign : IsForeignValue f
     pub passes_none : PassesNoneOf node.must f
-    pub is_after : after ≡ record s { entries = slice_set s.entries place (entry node seat (Split f (length s.entries))) ++ opened seat (children node f.passed) }
+    pub is_after : after ≡ record s { entries = slice_set s.entries place (entry node seat (Split f (length s.entries))) ++ open_entries seat (children node f.passed) }
 
   -- the seat's node is cut
   pub record Cuts : Type 0 where
@@ -86,7 +86,7 @@ module _ (s after : State) (seat : ℕ) where
     by_confirm : (b : Serving) → Confirms b → IsSettling
 
   pub data IsEvent : Type 0 where
-    takes : (n : Node) → Takes n → IsEvent
+    takes : (n : Node) → TakesNode n → IsEvent
     gives_back : GivesBack → IsEvent
     splits : (f : Foreign) → Splits f → IsEvent
     cuts : Cuts → IsEvent

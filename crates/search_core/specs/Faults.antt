@@ -10,11 +10,11 @@ use Rattle.search_core.specs.declared.ceiling.Reason.TheVariants as reason
 use Rattle.search_core.specs.declared.fault.TreeFault.{TreeFault}
 use Rattle.search_core.specs.declared.fault.TreeFault.TheVariants.{NothingOpen, SeatHolds, SeatHoldsNothing, Hit, StillBetter, OutOfMemory}
 use Rattle.search_core.specs.Ceilings.{IsBound, IsCeilingOf}
-use Rattle.search_core.specs.States.{State, Holds, HoldsNothing, HasNoOpen}
+use Rattle.search_core.specs.States.{SearchState, HoldsNode, HoldsNothing, HasNoOpen}
 use Rattle.search_core.specs.Events.{IsBeatenBy}
 
 -- the ceiling is of the search's program and costs
-abbrev pub IsReasonOf : State → Reason → Type 0
+abbrev pub IsReasonOf : SearchState → Reason → Type 0
 IsReasonOf s reason.Best = Unit {0}
 IsReasonOf s (reason.Ceiling ceiling) = IsCeilingOf s.question s.costs ceiling
 
@@ -28,21 +28,21 @@ abbrev pub CutsMust : List ℕ → Option Serving → Reason → SetOfGaps → T
 CutsMust costs best reason.Best must = IsBeatenBy costs best must
 CutsMust costs best (reason.Ceiling ceiling) must = MatchOption ceiling ⊥ (λ b. b.cost < total costs must)
 
-abbrev pub CutsNode : State → Reason → Node → Type 0
+abbrev pub CutsNode : SearchState → Reason → Node → Type 0
 CutsNode s why n = CutsMust s.costs s.best why n.must
 
 -- the reason cuts the node that the seat holds
-abbrev pub IsCutBy : State → ℕ → Reason → Type 0
-IsCutBy s seat why = (n : Node) × Holds s seat n × CutsNode s why n
+abbrev pub IsCutBy : SearchState → ℕ → Reason → Type 0
+IsCutBy s seat why = (n : Node) × HoldsNode s seat n × CutsNode s why n
 
 -- some gap is in both sets
 abbrev pub DoMeet : SetOfGaps → SetOfGaps → Type 0
 DoMeet a b = (gap : ℕ) × (set.contains a gap ≡ true) × (set.contains b gap ≡ true)
 
-module _ (s : State) (seat : ℕ) where
+module _ (s : SearchState) (seat : ℕ) where
   abbrev pub TakeFaultIs : TreeFault → Type 0
   TakeFaultIs NothingOpen = HoldsNothing s seat × HasNoOpen s
-  TakeFaultIs SeatHolds = (n : Node) × Holds s seat n
+  TakeFaultIs SeatHolds = (n : Node) × HoldsNode s seat n
   TakeFaultIs SeatHoldsNothing = ⊥
   TakeFaultIs Hit = ⊥
   TakeFaultIs StillBetter = ⊥
@@ -53,7 +53,7 @@ module _ (s : State) (seat : ℕ) where
   SplitFaultIs passed NothingOpen = ⊥
   SplitFaultIs passed SeatHolds = ⊥
   SplitFaultIs passed SeatHoldsNothing = HoldsNothing s seat
-  SplitFaultIs passed Hit = (n : Node) × Holds s seat n × DoMeet passed n.must
+  SplitFaultIs passed Hit = (n : Node) × HoldsNode s seat n × DoMeet passed n.must
   SplitFaultIs passed StillBetter = ⊥
   SplitFaultIs passed OutOfMemory = Unit {0}
 
@@ -62,7 +62,7 @@ module _ (s : State) (seat : ℕ) where
   CutFaultIs why SeatHolds = ⊥
   CutFaultIs why SeatHoldsNothing = HoldsNothing s seat
   CutFaultIs why Hit = ⊥
-  CutFaultIs why StillBetter = (n : Node) × Holds s seat n × (¬ CutsNode s why n)
+  CutFaultIs why StillBetter = (n : Node) × HoldsNode s seat n × (¬ CutsNode s why n)
   CutFaultIs why OutOfMemory = ⊥
 
   -- of a call that only needs a node

@@ -10,8 +10,8 @@ use Rattle.search_core.specs.declared.node.Node.{Node}
 use Rattle.search_core.specs.declared.entry.Entry.{Entry}
 use Rattle.search_core.specs.Nodes.{region_of}
 use Rattle.search_core.specs.Entries.{is_live}
-use Rattle.search_core.specs.States.{State, IsHeldAt, IsDone}
-use Rattle.search_core.specs.Events.{Takes, GivesBack, IsSettling}
+use Rattle.search_core.specs.States.{SearchState, IsHeldAt, IsDone}
+use Rattle.search_core.specs.Events.{TakesNode, GivesBack, IsSettling}
 use Rattle.search_core.specs.Histories.{IsReached}
 use Rattle.search_core.specs.Work.{work_left}
 
@@ -24,7 +24,7 @@ pub record IsLive (entries : List Entry) (gaps : SetOfGaps) : Type 0 where
   pub inside : IsInRegion (region_of entry.node) gaps
 
 -- the best set is this one
-pub record IsBest (s : State) (gaps : SetOfGaps) : Type 0 where
+pub record IsBestSet (s : SearchState) (gaps : SetOfGaps) : Type 0 where
   pub served : Serving
   pub is_best : s.best ≡ Some served
   pub of_question : served.question ≡ s.question
@@ -32,7 +32,7 @@ pub record IsBest (s : State) (gaps : SetOfGaps) : Type 0 where
 
 -- in each state that a history reaches the answer is the best set or lies in the region of an open or held node
 abbrev pub TheAnswerIsNeverLost : Type 0
-TheAnswerIsNeverLost = (s : State) (gaps : SetOfGaps) → IsReached s → IsTheAnswer s.question s.costs gaps → IsBest s gaps ⊎ IsLive s.entries gaps
+TheAnswerIsNeverLost = (s : SearchState) (gaps : SetOfGaps) → IsReached s → IsTheAnswer s.question s.costs gaps → IsBestSet s gaps ⊎ IsLive s.entries gaps
 
 -- a cheaper set serves
 pub record IsUndercut (q : Question) (costs : List ℕ) (gaps : SetOfGaps) : Type 0 where
@@ -44,24 +44,24 @@ pub record IsUndercut (q : Question) (costs : List ℕ) (gaps : SetOfGaps) : Typ
 -- each set that is better than the best, or each set where there is no best, leaves an outcome that no sequential run has, is dearer than a serving one, or
 -- lies in the region of an open or held node
 abbrev pub NoBetterSetIsLost : Type 0
-NoBetterSetIsLost = (s : State) (gaps : SetOfGaps) → IsReached s → AreGapsOf s.question.program gaps → IfSome s.best (λ b. Better s.costs gaps b.gaps) →
+NoBetterSetIsLost = (s : SearchState) (gaps : SetOfGaps) → IsReached s → AreGapsOf s.question.program gaps → IfSome s.best (λ b. Better s.costs gaps b.gaps) →
     LeavesOutcome s.question gaps ⊎ IsUndercut s.question s.costs gaps ⊎ IsLive s.entries gaps
 
 -- the best set of a state that is done is the answer
 abbrev pub ADoneStateHasTheAnswer : Type 0
-ADoneStateHasTheAnswer = (s : State) → IsReached s → IsDone s → (gaps : SetOfGaps) × IsBest s gaps × IsTheAnswer s.question s.costs gaps
+ADoneStateHasTheAnswer = (s : SearchState) → IsReached s → IsDone s → (gaps : SetOfGaps) × IsBestSet s gaps × IsTheAnswer s.question s.costs gaps
 
 -- a seat holds one node at most
 abbrev pub ASeatHoldsOneNode : Type 0
-ASeatHoldsOneNode = (s : State) (seat place other : ℕ) (n m : Node) → IsReached s → IsHeldAt s.entries seat place n → IsHeldAt s.entries seat other m → place ≡ other
+ASeatHoldsOneNode = (s : SearchState) (seat place other : ℕ) (n m : Node) → IsReached s → IsHeldAt s.entries seat place n → IsHeldAt s.entries seat other m → place ≡ other
 
 -- a node that is split, cut or confirmed leaves less work: so a search ends
 abbrev pub SettlingLessensTheWork : Type 0
-SettlingLessensTheWork = (s after : State) (seat : ℕ) → IsReached s → IsSettling s after seat → work_left after.entries < work_left s.entries
+SettlingLessensTheWork = (s after : SearchState) (seat : ℕ) → IsReached s → IsSettling s after seat → work_left after.entries < work_left s.entries
 
 -- a node that is taken or given back leaves as much
 abbrev pub TakingLeavesTheWork : Type 0
-TakingLeavesTheWork = (s after : State) (seat : ℕ) (n : Node) → Takes s after seat n → work_left after.entries ≡ work_left s.entries
+TakingLeavesTheWork = (s after : SearchState) (seat : ℕ) (n : Node) → TakesNode s after seat n → work_left after.entries ≡ work_left s.entries
 
 abbrev pub GivingBackLeavesTheWork : Type 0
-GivingBackLeavesTheWork = (s after : State) (seat : ℕ) → GivesBack s after seat → work_left after.entries ≡ work_left s.entries
+GivingBackLeavesTheWork = (s after : SearchState) (seat : ℕ) → GivesBack s after seat → work_left after.entries ≡ work_left s.entries

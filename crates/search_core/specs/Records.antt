@@ -8,7 +8,7 @@ use Rattle.search_core.specs.declared.entry.Status.TheVariants.{Open, Held, Spli
 use Rattle.search_core.specs.declared.finished.Event.{Event}
 use Rattle.search_core.specs.declared.finished.Event.TheVariants as event
 use Rattle.search_core.specs.declared.finished.Settled.{Settled}
-use Rattle.search_core.specs.States.{State, IsDone}
+use Rattle.search_core.specs.States.{SearchState, IsDone}
 use Rattle.search_core.specs.Histories.{IsReached}
 
 -- the question, the costs, the nodes with what became of them, and the answer
@@ -19,13 +19,13 @@ pub record Outcome : Type 0 where
   pub entries : List Entry
   pub served : Serving
 
-abbrev pub state_of : Outcome → State
-state_of f = record { question = f.question; costs = f.costs; seats = f.seats; entries = f.entries; best = Some f.served }
+abbrev pub finished_state : Outcome → SearchState
+finished_state f = record { question = f.question; costs = f.costs; seats = f.seats; entries = f.entries; best = Some f.served }
 
 -- some history ends so, and no node is open or held
 pub record IsOutcome (f : Outcome) : Type 0 where
-  pub reached : IsReached (state_of f)
-  pub done : IsDone (state_of f)
+  pub reached : IsReached (finished_state f)
+  pub done : IsDone (finished_state f)
 
 abbrev pub IsEventOf : Status → Event → Type 0
 IsEventOf Open e = ⊥

@@ -12,7 +12,7 @@ use Rattle.search_core.specs.Nodes.{node}
 use Rattle.search_core.specs.Entries.{entry, is_open, is_held_by, is_live}
 
 -- a question, the costs of its program's gaps, how many seats there are, the nodes with what became of them, and the best confirmed set
-pub record State : Type 0 where
+pub record SearchState : Type 0 where
   pub question : Question
   pub costs : List ℕ
   pub seats : ℕ
@@ -34,26 +34,26 @@ pub record IsHeldAt (entries : List Entry) (seat place : ℕ) (n : Node) : Type 
   pub is_node : before.node ≡ n
 
 -- the seat holds the node
-abbrev pub Holds : State → ℕ → Node → Type 0
-Holds s seat n = (place : ℕ) × IsHeldAt s.entries seat place n
+abbrev pub HoldsNode : SearchState → ℕ → Node → Type 0
+HoldsNode s seat n = (place : ℕ) × IsHeldAt s.entries seat place n
 
-abbrev pub HoldsNothing : State → ℕ → Type 0
-HoldsNothing s seat = (n : Node) → ¬ Holds s seat n
+abbrev pub HoldsNothing : SearchState → ℕ → Type 0
+HoldsNothing s seat = (n : Node) → ¬ HoldsNode s seat n
 
 -- the seat holds this node and no other
-pub record HoldsOnly (s : State) (seat : ℕ) (n : Node) : Type 0 where
-  pub held : Holds s seat n
-  pub only : (m : Node) → Holds s seat m → m ≡ n
+pub record HoldsOnly (s : SearchState) (seat : ℕ) (n : Node) : Type 0 where
+  pub held : HoldsNode s seat n
+  pub only : (m : Node) → HoldsNode s seat m → m ≡ n
 
-abbrev pub HasNoOpen : State → Type 0
+abbrev pub HasNoOpen : SearchState → Type 0
 HasNoOpen s = (place : ℕ) (n : Node) → ¬ IsOpenAt s.entries place n
 
 -- no node is open or held
-abbrev pub IsDone : State → Type 0
+abbrev pub IsDone : SearchState → Type 0
 IsDone s = (place : ℕ) (e : Entry) → slice_get s.entries place ≡ Some e → is_live e ≡ false
 
 -- the same entries, but this one at its place
-abbrev pub put_at : State → ℕ → Entry → State
+abbrev pub put_at : SearchState → ℕ → Entry → SearchState
 put_at s place e = record s { entries = slice_set s.entries place e }
 
 -- the node of all sets
@@ -61,7 +61,7 @@ abbrev pub root_node : Node
 root_node = node set.empty set.empty
 
 -- a search of the same question, costs and seats
-pub record IsSameSearch (s after : State) : Type 0 where
+pub record IsSameSearch (s after : SearchState) : Type 0 where
   pub question : after.question ≡ s.question
   pub costs : after.costs ≡ s.costs
   pub seats : after.seats ≡ s.seats
@@ -71,7 +71,7 @@ abbrev pub IsSeatCount : ℕ → Type 0
 IsSeatCount seats = (1 ≤ seats) × (seats ≤ 32)
 
 -- only the root is there, and it is open
-pub record IsStart (s : State) : Type 0 where
+pub record IsStart (s : SearchState) : Type 0 where
   pub within : IsWithinLimits s.question.program.threads s.question.program.memory
   pub have_costs : HaveCosts s.question.program s.costs
   pub seats : IsSeatCount s.seats

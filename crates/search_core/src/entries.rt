@@ -6,7 +6,7 @@ ghost use Rattle.search_core.specs.declared.entry.Entry.{Entry};
 ghost use Rattle.search_core.specs.Nodes.{children};
 ghost use Rattle.search_core.specs.Entries.{entry, is_live};
 ghost use Rattle.search_core.specs.States.{IsOpenAt, IsHeldAt};
-ghost use Rattle.search_core.specs.Events.{opened};
+ghost use Rattle.search_core.specs.Events.{open_entries};
 
 use crate::Node;
 use crate::entry::{Entry, Status};
@@ -26,7 +26,7 @@ pub(crate) fn best_open(costs: &Costs, entries: &[Entry]) -> Option<(usize, Node
     best
 }
 
-/// Whether the `must` of the node is better than that of the best so far, or there is none yet.
+/// Whether the `must` of the node is better than that of the best so far, or there is no best yet.
 fn is_first_or_better(costs: &Costs, node: &Node, best: &Option<(usize, Node)>) -> bool
     ensures { MatchOption best.now (IsTrue result) (λ found. IsTrue result ↔ Better costs.now node.now.must found.1.must) }
 {
@@ -67,7 +67,7 @@ pub(crate) fn open_children(
     seat: u8,
     passed: GapSet,
 ) -> Result<Vec<Entry>, AllocError>
-    ensures { IfOk result (λ found. found.items ≡ opened seat (children node.now passed)) }
+    ensures { IfOk result (λ found. found.items ≡ open_entries seat (children node.now passed)) }
 {
     let mut found = Vec::new(alloc);
     let mut rest = *node;

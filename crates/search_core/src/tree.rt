@@ -3,11 +3,11 @@ ghost use Rattle.std.specs.Prelude.{◌≡◌, ◌↔◌, ◌<◌, ℕ, Some, If
 ghost use Rattle.tso_program.specs.Listings.{gap_count};
 ghost use Rattle.tso_machine.specs.Outcomes.{AreGapsOf, IsTheAnswer};
 ghost use Rattle.search_core.specs.declared.node.Node.{Node};
-ghost use Rattle.search_core.specs.States.{HoldsNothing, HoldsOnly, Holds, IsDone, IsSameSearch, IsSeatCount, IsStart};
-ghost use Rattle.search_core.specs.Events.{Takes, GivesBack, Splits, Cuts, Confirms};
+ghost use Rattle.search_core.specs.States.{HoldsNothing, HoldsOnly, HoldsNode, IsDone, IsSameSearch, IsSeatCount, IsStart};
+ghost use Rattle.search_core.specs.Events.{TakesNode, GivesBack, Splits, Cuts, Confirms};
 ghost use Rattle.search_core.specs.Faults.{IsReasonOf, IsCutBy, TakeFaultIs, SplitFaultIs, CutFaultIs, IsWithoutNode};
 ghost use Rattle.search_core.specs.Histories.{IsReached};
-ghost use Rattle.search_core.specs.Records.{state_of};
+ghost use Rattle.search_core.specs.Records.{finished_state};
 
 use crate::best::{cuts, is_better};
 use crate::entries::{all_settled, best_open, find_held, mark, open_children};
@@ -35,9 +35,9 @@ pub struct SearchTree {
 }
 
 impl Model for SearchTree {
-    ghost use Rattle.search_core.specs.States.{State};
+    ghost use Rattle.search_core.specs.States.{SearchState};
 
-    ghost Value = { State };
+    ghost Value = { SearchState };
 
     ghost use Rattle.gap_sets.specs.contracts.gap_set.GapSet as gap_set;
     ghost use Rattle.std.specs.Coded.{codes};
@@ -132,7 +132,7 @@ impl SearchTree {
     /// no clause rests.
     pub fn take(&mut self, seat: u8) -> Result<Node, TreeFault>
         requires { seat < self.old.seats }
-        ensures taken { IfOk result (Takes self.old self.new seat) }
+        ensures taken { IfOk result (TakesNode self.old self.new seat) }
         ensures holds { IfOk result (HoldsOnly self.new seat) }
         ensures of_program { IfOk result (λ node. AreGapsOf self.old.question.program node.must) }
         ensures same { IsSameSearch self.old self.new }
@@ -217,7 +217,7 @@ impl SearchTree {
     pub fn confirm(&mut self, seat: u8, served: Served) -> Result<(), TreeFault>
         requires seat { seat < self.old.seats }
         requires of_question { served.question ≡ self.old.question }
-        requires of_node { (node : Node) → Holds self.old seat node → served.gaps ≡ node.must }
+        requires of_node { (node : Node) → HoldsNode self.old seat node → served.gaps ≡ node.must }
         ensures confirmed { OnOk result (Confirms self.old self.new seat served) }
         ensures same { IsSameSearch self.old self.new }
         ensures unchanged { OnErr result (self.new ≡ self.old) }
@@ -257,7 +257,7 @@ impl SearchTree {
 
     /// What the search leaves, once it is done; else the search as it is.
     pub fn finish(self) -> Result<Finished, SearchTree>
-        ensures ok { IfOk result (λ finished. state_of finished ≡ self) }
+        ensures ok { IfOk result (λ finished. finished_state finished ≡ self) }
         ensures done { OnOk result (IsDone self) }
         ensures err { IfErr result (λ tree. tree ≡ self) }
         ensures not_done { OnErr result (¬ IsDone self) }

@@ -88,7 +88,7 @@ other_parts b h = (
   λ e. let bad : Minus ≡ Other = sym (minus_class b e) ∙ h in absurd cc,
 )
 
--- ---- the first byte of two texts, one behind the other
+-- ---- the first byte of two texts, one after the other
 
 pub first_of : (xs rest : List ℕ) → 0 < length xs → slice_index (xs ++ rest) 0 ≡ slice_index xs 0
 first_of [] rest some = absurd (omega arith)

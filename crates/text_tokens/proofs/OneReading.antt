@@ -12,7 +12,7 @@ use Rattle.text_tokens.specs.declared.token.Mark.TheVariants.{OpenParen}
 use Rattle.text_tokens.specs.Marks.{mark_text}
 use Rattle.text_tokens.specs.Comments.{opens, IsComment}
 use Rattle.text_tokens.proofs.CommentLaws.{short_opens, Inside-one}
-use Rattle.text_tokens.specs.Tokens.{Tok, Word, Number, Sign, NoToken, IsWhole}
+use Rattle.text_tokens.specs.Tokens.{Tok, Word, Number, Sign, NoToken, AreAllTokens}
 use Rattle.text_tokens.specs.Lexing.{BeginsWith, BeginsWithAll, none, blank, comment, token, Lexes, IsBad, IsBadNumber, IsHalf, IsStray, LexesTo}
 use Rattle.text_tokens.proofs.Prefixes.{same_prefix}
 use Rattle.text_tokens.proofs.FirstBytes.{Blank, Letter, Digit, Minus, Other, blank_class, no_digit, no_letter, token_class, begins_class, begins_some, bad_class, bad_begins, bad_some, one_mark, mark_short, opens_paren, opens_class}
@@ -292,23 +292,23 @@ LexesTo-one text ts us l m =
 
 -- ---- wholeness
 
-whole_one : (t : Tok) (ts : List Tok) (text rest : List ℕ) → BeginsWith t text rest → IsWhole ts → IsWhole (t ∷ ts)
+whole_one : (t : Tok) (ts : List Tok) (text rest : List ℕ) → BeginsWith t text rest → AreAllTokens ts → AreAllTokens (t ∷ ts)
 whole_one (Word w) ts text rest h i = i
 whole_one (Number n) ts text rest h i = i
 whole_one (Sign m) ts text rest h i = i
 whole_one (NoToken b) ts text rest h i = absurd h
 
-all_whole : (ts : List Tok) (text rest : List ℕ) → BeginsWithAll ts text rest → IsWhole ts
+all_whole : (ts : List Tok) (text rest : List ℕ) → BeginsWithAll ts text rest → AreAllTokens ts
 all_whole ts text rest none = tt
 all_whole ts (b ∷ text) rest (blank k l) = all_whole ts text rest l
 all_whole ts text rest (comment {others = others} k l) = all_whole ts others rest l
 all_whole ts text rest (token {t = t} {ts = us} {others = others} k l) = whole_one t us text others k (all_whole us others rest l)
 
 -- the tokens of a whole text are tokens
-pub Lexes-is-whole : (text : List ℕ) (ts : List Tok) → Lexes text ts → IsWhole ts
+pub Lexes-is-whole : (text : List ℕ) (ts : List Tok) → Lexes text ts → AreAllTokens ts
 Lexes-is-whole text ts l = all_whole ts text [] l
 
-pub not_whole : (ts us : List Tok) (b : Bad) → IsWhole (ts ++ NoToken b ∷ us) → ⊥
+pub not_whole : (ts us : List Tok) (b : Bad) → AreAllTokens (ts ++ NoToken b ∷ us) → ⊥
 not_whole [] us b h = h
 not_whole (Word w ∷ ts) us b h = not_whole ts us b h
 not_whole (Number n ∷ ts) us b h = not_whole ts us b h

@@ -51,8 +51,8 @@ abbrev pub IsHalf : List ℕ → Type 0
 IsHalf text = (m : Mark) × (more : List ℕ) × (mark_text m ≡ text ++ more) × (0 < length text) × (0 < length more)
 
 -- a comment that does not end
-abbrev pub IsOpen : List ℕ → Type 0
-IsOpen text = (opens text ≡ true) × ((rest : List ℕ) → IsComment text rest → ⊥)
+abbrev pub StaysOpen : List ℕ → Type 0
+StaysOpen text = (opens text ≡ true) × ((rest : List ℕ) → IsComment text rest → ⊥)
 
 -- a byte with which nothing else begins
 pub record IsStray (text : List ℕ) : Type 0 where
@@ -67,7 +67,7 @@ pub record IsStray (text : List ℕ) : Type 0 where
 abbrev pub IsBad : Bad → List ℕ → Type 0
 IsBad bad.Number text = IsBadNumber text
 IsBad bad.Minus text = slice_index text 0 ≡ 45
-IsBad bad.Unfinished text = IsHalf text ⊎ IsOpen text
+IsBad bad.Unfinished text = IsHalf text ⊎ StaysOpen text
 IsBad bad.Stray text = IsStray text
 
 -- the tokens up to a place where none can stand, and why none can

@@ -24,7 +24,7 @@ abbrev pub piece_text : Piece → List ℕ
 piece_text (Gap b) = b ∷ []
 piece_text (Part t) = token_text t
 
--- the text of the pieces, one behind the other
+-- the text of the pieces, one after the other
 abbrev pub text_of : List Piece → List ℕ
 text_of [] = []
 text_of (p ∷ ps) = piece_text p ++ text_of ps
@@ -42,12 +42,12 @@ CanStand (Number n) rest = (n ≤ 4294967295) × NoWordGoesOn rest
 CanStand (Sign m) rest = opens (mark_text m ++ rest) ≡ false
 CanStand (NoToken b) rest = ⊥
 
--- the pieces can be written before this text, one behind the other
+-- the pieces can be written before this text, one after the other
 abbrev pub AreApartBefore : List Piece → List ℕ → Type 0
 AreApartBefore [] rest = Unit {0}
 AreApartBefore (Gap b ∷ ps) rest = (is_blank b ≡ true) × AreApartBefore ps rest
 AreApartBefore (Part t ∷ ps) rest = CanStand t (text_of ps ++ rest) × AreApartBefore ps rest
 
--- the pieces can be written one behind the other
+-- the pieces can be written one after the other
 abbrev pub AreApart : List Piece → Type 0
 AreApart ps = AreApartBefore ps []

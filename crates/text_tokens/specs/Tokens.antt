@@ -24,9 +24,9 @@ abbrev pub toks : List Token → List Tok
 toks tokens = map tok tokens
 
 -- each is a token
-abbrev pub IsWhole : List Tok → Type 0
-IsWhole [] = Unit {0}
-IsWhole (Word w ∷ ts) = IsWhole ts
-IsWhole (Number n ∷ ts) = IsWhole ts
-IsWhole (Sign m ∷ ts) = IsWhole ts
-IsWhole (NoToken b ∷ ts) = ⊥
+abbrev pub AreAllTokens : List Tok → Type 0
+AreAllTokens [] = Unit {0}
+AreAllTokens (Word w ∷ ts) = AreAllTokens ts
+AreAllTokens (Number n ∷ ts) = AreAllTokens ts
+AreAllTokens (Sign m ∷ ts) = AreAllTokens ts
+AreAllTokens (NoToken b ∷ ts) = ⊥

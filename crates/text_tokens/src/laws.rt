@@ -1,7 +1,7 @@
 //! Laws of what a text's tokens are.
 
 ghost use Rattle.std.specs.Prelude.{◌≡◌, ℕ, List};
-ghost use Rattle.text_tokens.specs.Tokens.{Tok, IsWhole};
+ghost use Rattle.text_tokens.specs.Tokens.{Tok, AreAllTokens};
 ghost use Rattle.text_tokens.specs.Lexing.{Lexes, LexesTo};
 ghost use Rattle.text_tokens.specs.Pieces.{Piece, text_of, tokens_of, AreApart};
 
@@ -12,7 +12,7 @@ pub fn a_text_has_one_list_of_tokens()
 
 /// What is read of a whole text are tokens.
 pub fn a_whole_text_has_no_bad_token()
-    ensures { (text : List ℕ) (ts : List Tok) → Lexes text ts → IsWhole ts }
+    ensures { (text : List ℕ) (ts : List Tok) → Lexes text ts → AreAllTokens ts }
 {}
 
 /// A text that was written in pieces is read as their tokens.

@@ -6,7 +6,7 @@ ghost use Rattle.std.specs.Char.{is_ascii_digit};
 ghost use Rattle.text_tokens.specs.Bytes.{is_letter, is_word_byte};
 ghost use Rattle.text_tokens.specs.Marks.{mark_from};
 ghost use Rattle.text_tokens.specs.Comments.{opens};
-ghost use Rattle.text_tokens.specs.Tokens.{Tok, tok, toks, IsWhole};
+ghost use Rattle.text_tokens.specs.Tokens.{Tok, tok, toks, AreAllTokens};
 ghost use Rattle.text_tokens.specs.Lexing.{Lexes, LexesTo};
 ghost use Rattle.text_tokens.specs.Front.{IsFront, lexeme_tok};
 
@@ -218,7 +218,7 @@ fn bad_line(bad: Bad, line: u32, end_line: u32) -> u32 {
 pub fn lex(alloc: Global, bytes: &[u8], first_line: u32) -> Result<Tokens, AllocError>
     ensures lexes { IfOk result (λ tokens. LexesTo bytes.now tokens) }
     ensures only { IfOk result (λ tokens. (ts : List Tok) → LexesTo bytes.now ts → tokens ≡ ts) }
-    ensures found { IfOk result (λ tokens. IsWhole tokens → Lexes bytes.now tokens) }
+    ensures found { IfOk result (λ tokens. AreAllTokens tokens → Lexes bytes.now tokens) }
 {
     let end_line = line_after(bytes, first_line);
     let mut tokens = Vec::new(alloc);

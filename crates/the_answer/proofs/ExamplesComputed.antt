@@ -7,7 +7,7 @@ use Rattle.gap_sets.specs.Laws.{these}
 use Rattle.gap_sets.proofs.Examples.{total-these}
 use Rattle.tso_machine.specs.Examples.{store_buffering, r, n6, locked_exchange}
 use Rattle.the_answer.specs.Answers.{the_answer}
-use Rattle.the_answer.specs.Examples.{whole, observed_n6, StoreBufferingIsAnswered, RIsAnswered, N6IsAnswered, ObservedN6IsAnswered, LockedExchangeIsAnswered}
+use Rattle.the_answer.specs.Examples.{asked_whole, observed_n6, StoreBufferingIsAnswered, RIsAnswered, N6IsAnswered, ObservedN6IsAnswered, LockedExchangeIsAnswered}
 use Rattle.the_answer.proofs.Computed.{show_listed, shown_by_list, serve_by, answer_is_list}
 
 -- a set of two gaps, in either order
@@ -22,20 +22,20 @@ either_order a b =
     set.same_set nat_cmp_total set.nat_cmp-IsAntisymmetric _ _
     (λ k. set.contains-from_list_nat (a ∷ b ∷ []) k ∙ or_swap (nat_eq a k) (nat_eq b k) ∙ sym (set.contains-from_list_nat (b ∷ a ∷ []) k))
 
-both_gaps : (costs : List ℕ) → the_answer (whole store_buffering) costs ≡ these (0 ∷ 1 ∷ [])
+both_gaps : (costs : List ℕ) → the_answer (asked_whole store_buffering) costs ≡ these (0 ∷ 1 ∷ [])
 unfolding serve_by
-both_gaps costs = answer_is_list (whole store_buffering) (λ o. o) costs (1 ∷ 0 ∷ []) refl refl ∙ either_order 1 0
+both_gaps costs = answer_is_list (asked_whole store_buffering) (λ o. o) costs (1 ∷ 0 ∷ []) refl refl ∙ either_order 1 0
 
 pub store_buffering_is_answered : StoreBufferingIsAnswered
 store_buffering_is_answered = (both_gaps, ap (total (1 ∷ 1 ∷ [])) (both_gaps (1 ∷ 1 ∷ [])) ∙ total-these (1 ∷ 1 ∷ []) (0 ∷ 1 ∷ []))
 
 pub r_is_answered : RIsAnswered
 unfolding serve_by
-r_is_answered = answer_is_list (whole r) (λ o. o) (1 ∷ 1 ∷ []) (1 ∷ []) refl refl
+r_is_answered = answer_is_list (asked_whole r) (λ o. o) (1 ∷ 1 ∷ []) (1 ∷ []) refl refl
 
 pub n6_is_answered : N6IsAnswered
 unfolding serve_by
-n6_is_answered = (answer_is_list (whole n6) (λ o. o) (1 ∷ 1 ∷ 1 ∷ []) (0 ∷ []) refl refl, answer_is_list (whole n6) (λ o. o) (5 ∷ 1 ∷ 1 ∷ []) (1 ∷ []) refl refl)
+n6_is_answered = (answer_is_list (asked_whole n6) (λ o. o) (1 ∷ 1 ∷ 1 ∷ []) (0 ∷ []) refl refl, answer_is_list (asked_whole n6) (λ o. o) (5 ∷ 1 ∷ 1 ∷ []) (1 ∷ []) refl refl)
 
 -- each set serves where that register alone is shown, and the empty one costs nothing
 pub observed_n6_is_answered : ObservedN6IsAnswered
@@ -44,4 +44,4 @@ observed_n6_is_answered = answer_is_list observed_n6 (show_listed (1 ∷ [])) (1
 
 pub locked_exchange_is_answered : LockedExchangeIsAnswered
 unfolding serve_by
-locked_exchange_is_answered = answer_is_list (whole locked_exchange) (λ o. o) (1 ∷ 1 ∷ 1 ∷ []) (2 ∷ []) refl refl
+locked_exchange_is_answered = answer_is_list (asked_whole locked_exchange) (λ o. o) (1 ∷ 1 ∷ 1 ∷ []) (2 ∷ []) refl refl

@@ -17,7 +17,7 @@ use Rattle.tso_machine.specs.declared.label.Label.TheVariants.{Exec, Flush}
 use Rattle.tso_machine.specs.declared.label.Pending.{Pending}
 use Rattle.tso_machine.specs.Machine.{Mode, State, start, step, run, is_empty, outcome_at, HasEnded, Allows}
 use Rattle.tso_machine.proofs.Runs.{no_action}
-use Rattle.the_answer.specs.OutcomeLists.{is_stop, has_ended, threads_of, labels_of, outcomes_here, outcomes_within, most_labels, outcomes_of}
+use Rattle.the_answer.specs.OutcomeLists.{is_stop, has_ended, threads_of, labels_to_try, outcomes_here, outcomes_within, most_labels, outcomes_of}
 use Rattle.the_answer.specs.Laws.{OutcomesAreListed}
 use Rattle.candidate_executions.proofs.Lists.{none_here, first_or_later, first_is_here, later_is_here, mapped}
 use Rattle.the_answer.proofs.Lists.{in_flat_map, below_is_here, from_flat_map, both, each_passes, all_pass, from_mapped}
@@ -66,7 +66,7 @@ label_of_thread : (l : Label) → Contains (Exec (thread_of l) ∷ Flush (thread
 label_of_thread (Exec t) = first_is_here (Exec t) (Flush t ∷ [])
 label_of_thread (Flush t) = later_is_here (Exec t) (Flush t ∷ []) (Flush t) (first_is_here (Flush t) [])
 
-label_is_tried : (p : Listing) (l : Label) → thread_of l < length p.threads → Contains (labels_of p) l
+label_is_tried : (p : Listing) (l : Label) → thread_of l < length p.threads → Contains (labels_to_try p) l
 label_is_tried p l inside =
     in_flat_map (λ t. Exec t ∷ Flush t ∷ []) (threads_of p) (thread_of l) l (below_is_here (length p.threads) (thread_of l) inside) (label_of_thread l)
 
@@ -94,10 +94,10 @@ module _ (p : Listing) (mode : Mode) where
   -- what is listed has a run
   has_run : (n : ℕ) (s : State) (o : Outcome) → NoOtherThread p s → Contains (outcomes_within p mode n s) o → RunsTo s o
   has_run zero s o none here = no_step_more s o none here
-  has_run (suc n) s o none here = elim (Contains-append_cases (outcomes_here p s) (flat_map (λ l. option_map_or (outcomes_within p mode n) (step p mode s l) []) (labels_of p)) o here) [
+  has_run (suc n) s o none here = elim (Contains-append_cases (outcomes_here p s) (flat_map (λ l. option_map_or (outcomes_within p mode n) (step p mode s l) []) (labels_to_try p)) o here) [
     | inl now ↦ no_step_more s o none now
     | inr more ↦
-        let (l, tried, there) = from_flat_map (λ l. option_map_or (outcomes_within p mode n) (step p mode s l) []) (labels_of p) o more in
+        let (l, tried, there) = from_flat_map (λ l. option_map_or (outcomes_within p mode n) (step p mode s l) []) (labels_to_try p) o more in
         after l (step p mode s l) refl there (λ z. has_run n z o)
   ]
     where
@@ -115,7 +115,7 @@ module _ (p : Listing) (mode : Mode) where
   leads_there : (n : ℕ) (s z : State) (l : Label) (o : Outcome) → thread_of l < length p.threads → step p mode s l ≡ Some z → Contains (outcomes_within p mode n z) o → Contains (outcomes_within p mode (suc n) s) o
   leads_there n s z l o inside e there =
       Contains-append_right (outcomes_here p s) _ o
-      (in_flat_map (λ l. option_map_or (outcomes_within p mode n) (step p mode s l) []) (labels_of p) l o (label_is_tried p l inside)
+      (in_flat_map (λ l. option_map_or (outcomes_within p mode n) (step p mode s l) []) (labels_to_try p) l o (label_is_tried p l inside)
       (subst (λ (next : Option State). Contains (option_map_or (outcomes_within p mode n) next []) o) (sym e) there))
 
   -- a run's outcome is listed where it has no more labels than that

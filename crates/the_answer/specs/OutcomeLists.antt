@@ -30,8 +30,8 @@ abbrev pub threads_of : Listing → List ℕ
 threads_of p = range_with_len 0 (length p.threads)
 
 -- what may be tried at a state: each thread's next instruction, and its oldest store
-abbrev pub labels_of : Listing → List Label
-labels_of p = flat_map (λ t. Exec t ∷ Flush t ∷ []) (threads_of p)
+abbrev pub labels_to_try : Listing → List Label
+labels_to_try p = flat_map (λ t. Exec t ∷ Flush t ∷ []) (threads_of p)
 
 -- the outcome of a state in which each thread has ended
 abbrev pub outcomes_here : Listing → State → List Outcome
@@ -41,7 +41,7 @@ outcomes_here p s = if list_all (has_ended p s) (threads_of p) then outcome_at p
 abbrev pub outcomes_within : Listing → Mode → ℕ → State → List Outcome
 outcomes_within p mode zero s = outcomes_here p s
 outcomes_within p mode (suc n) s =
-    outcomes_here p s ++ flat_map (λ label. option_map_or (outcomes_within p mode n) (step p mode s label) []) (labels_of p)
+    outcomes_here p s ++ flat_map (λ label. option_map_or (outcomes_within p mode n) (step p mode s label) []) (labels_to_try p)
 
 -- how many instructions the longest thread has
 abbrev pub longest : List Thread → ℕ

@@ -1,4 +1,4 @@
--- A valid cover tree at a sketch covers it: each completion has made the choice of one of the children, or is closed by a cycle, or ends as told.
+-- A valid cover tree at a sketch covers it: each completion has made the choice of one of the children, or is closed by a cycle, or ends as its leaf says.
 use Rattle.std.proofs.Common.{ℕ, List, [], ◌∷◌, Contains, map, sym, subst, inl, inr}
 use Rattle.tso_program.specs.declared.listing.Listing.{Listing}
 use Rattle.tso_program.specs.declared.outcome.Outcome.{Outcome}

@@ -6,7 +6,7 @@ use Rattle.tso_program.specs.declared.listing.Listing.{Listing}
 use Rattle.tso_program.specs.Shown.{Question}
 use Rattle.tso_program.specs.Limits.{IsWithinLimits}
 use Rattle.tso_machine.specs.declared.label.Label.{Label}
-use Rattle.cert_forest.specs.Trees.{Gap, Split, Bound, Gaps, NoGap, MoreGaps}
+use Rattle.cert_forest.specs.Trees.{Gap, Split, Bound, GapTrees, NoGap, MoreGaps}
 use Rattle.tree_laws.specs.GapTrees.{Node, IsInRegion, children_of, HasNoneOf, IsSplitBy, IsValidGap, AreValidGaps, EachBetterOfRegionLeavesOutcome, HaveCosts}
 use Rattle.tree_laws.specs.Laws.{IsForeign, AValidGapTreeLeavesNoBetter, SoNoServingSetIsBetter, TheRootHasEverySet}
 use Rattle.tree_laws.proofs.Lists.{none_here, first_or_later, found_has}
@@ -48,7 +48,7 @@ module _ (q : Question) (costs : List ℕ) (answer : SetOfGaps) where
         means (Split number children) n (gaps, split, valid) = by_split foreign n number gaps split (each_means children (children_of n gaps) valid)
         means Bound n not_better = λ other of_program inside better. absurd (not_better (still_better p costs within have n.must other answer of_program inside.holds better))
 
-        each_means : (trees : Gaps) (ns : List Node) → AreValidGaps p costs answer runs trees ns → EachMeans ns
+        each_means : (trees : GapTrees) (ns : List Node) → AreValidGaps p costs answer runs trees ns → EachMeans ns
         each_means NoGap [] valid = λ n here. absurd (none_here n here)
         each_means NoGap (n ∷ ns) valid = absurd valid
         each_means (MoreGaps tree trees) [] valid = absurd valid

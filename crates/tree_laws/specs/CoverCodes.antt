@@ -1,4 +1,4 @@
--- A code of cover trees, by which two of them are told apart: the nodes, each after its children.
+-- A code of cover trees that distinguishes any two of them: the nodes, each after its children.
 use Rattle.std.specs.Prelude.{◌≡◌, ◌⊎◌, ℕ, zero, suc, List, [], ◌∷◌, ◌++◌, refl}
 use Rattle.std.specs.Coded.{Coded, code_by, coded×, coded⊎, coded_list, coded_ℕ}
 use Rattle.std.proofs.Common.{ap, ◌∙◌, inl, inr}

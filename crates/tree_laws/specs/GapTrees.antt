@@ -11,7 +11,7 @@ use Rattle.tso_machine.specs.declared.label.Label.{Label}
 use Rattle.tso_machine.specs.Machine.{Fenced, no_gaps, start}
 use Rattle.tso_machine.specs.Modes.{Passes}
 use Rattle.tso_machine.specs.Outcomes.{Serves, LeavesOutcome, AreGapsOf}
-use Rattle.cert_forest.specs.Trees.{Gap, Split, Bound, Gaps, NoGap, MoreGaps}
+use Rattle.cert_forest.specs.Trees.{Gap, Split, Bound, GapTrees, NoGap, MoreGaps}
 
 -- a node stands for a region of sets: those that hold `must` and avoid `never`
 pub record Node : Type 0 where
@@ -61,7 +61,7 @@ module _ (p : Listing) (costs : List ℕ) (answer : SetOfGaps) (runs : List (Lis
     IsValidGap Bound n = ¬ Better costs n.must answer
 
     -- as many trees as nodes, each valid at its own
-    pub AreValidGaps : Gaps → List Node → Type 0
+    pub AreValidGaps : GapTrees → List Node → Type 0
     AreValidGaps NoGap [] = Unit {0}
     AreValidGaps NoGap (n ∷ ns) = ⊥
     AreValidGaps (MoreGaps tree trees) [] = ⊥

@@ -12,7 +12,7 @@ use Rattle.tso_machine.specs.Machine.{Mode, Sequential, Fenced}
 use Rattle.tso_machine.specs.Outcomes.{AllowsShown, IsSequentialOutcome, Serves, IsForeignRun, EachBetterLeavesOutcome, IsTheAnswer, Headline}
 use Rattle.candidate_executions.specs.declared.event.Event.{Event}
 use Rattle.candidate_executions.specs.Sketches.{Sketch, empty_sketch, IsSketch}
-use Rattle.cert_forest.specs.Trees.{Cover, Gap, covers_of, gaps_of}
+use Rattle.cert_forest.specs.Trees.{Cover, Gap, covers_of, gap_trees_of}
 use Rattle.tree_laws.specs.CoverTrees.{HasNextValues, HasSources, IsValidCover, AreValidCovers, IsCovered}
 use Rattle.tree_laws.specs.GapTrees.{Node, root, IsInRegion, children_of, HasNoneOf, IsSplitBy, IsValidGap, AreValidGaps, EachBetterOfRegionLeavesOutcome, NoServingSetIsBetter, HaveCosts}
 use Rattle.tree_laws.specs.Certificates.{Certificate, AreSequentialRuns, IsValidCertificate}
@@ -78,7 +78,7 @@ CoversAreJudgedInOrder = (q : Question) (mode : Mode) (outcomes : List Outcome) 
 -- the same of gap trees and nodes
 abbrev pub GapsAreJudgedInOrder : Type 0
 GapsAreJudgedInOrder = (p : Listing) (costs : List ℕ) (answer : SetOfGaps) (runs : List (List Label)) (trees : List Gap) (ns : List Node) →
-    AreValidGaps p costs answer runs (gaps_of trees) ns ↔ AllZip (IsValidGap p costs answer runs) trees ns
+    AreValidGaps p costs answer runs (gap_trees_of trees) ns ↔ AllZip (IsValidGap p costs answer runs) trees ns
 
 -- what the children of a node are for is determined, and so their number: the values of a read
 abbrev pub TheValuesAreOneList : Type 0

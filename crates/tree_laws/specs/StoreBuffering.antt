@@ -27,12 +27,12 @@ abbrev pub around : List AccessId
 around = access 0 0 ∷ access 0 1 ∷ access 1 0 ∷ access 1 1 ∷ []
 
 -- Both loads give 0: each reads the initial write, and the accesses are a cycle.
-abbrev pub both_zero : Kind → Cover
-both_zero kind = Source (access 0 1) (one_child (Source (access 1 1) (one_child (Cycle kind around))))
+abbrev pub both_zero_cover : Kind → Cover
+both_zero_cover kind = Source (access 0 1) (one_child (Source (access 1 1) (one_child (Cycle kind around))))
 
 -- Otherwise the outcome is a known one.
 abbrev pub cover_of : Kind → Cover
-cover_of kind = Value 0 (two_children (Value 1 (two_children (both_zero kind) (Known 0))) (Value 1 (two_children (Known 1) (Known 2))))
+cover_of kind = Value 0 (two_children (Value 1 (two_children (both_zero_cover kind) (Known 0))) (Value 1 (two_children (Known 1) (Known 2))))
 
 -- the first thread before the second, the second before the first, and both stores before both loads
 abbrev pub first_first : List Label

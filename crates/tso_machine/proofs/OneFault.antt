@@ -28,7 +28,7 @@ use Rattle.tso_machine.specs.declared.ended.ReplayFault.{ReplayFault}
 use Rattle.tso_machine.specs.declared.ended.ReplayFault.TheVariants as fault
 use Rattle.tso_machine.specs.Machine.{Mode, State, start, step, run}
 use Rattle.tso_machine.specs.Modes.{mode_of}
-use Rattle.tso_machine.specs.Faults.{waits, IsFenced, Applies, Stops, EndsEarly, FaultIs, fault_of}
+use Rattle.tso_machine.specs.Faults.{waits, IsFenced, Applies, Stops, EndsEarly, ReplayFaultIs, fault_of}
 use Rattle.tso_machine.proofs.Runs.{no_stores}
 use Rattle.tso_machine.proofs.Refused.{run_keeps, applies_none, stops_none}
 
@@ -55,7 +55,7 @@ past_end threads t k h = let out : nat_lt k (length (code_of threads t)) ≡ fal
     by_test true false n e = refl
     by_test false b n e = refl
 
--- no gap of a set stands behind a thread's last instruction
+-- no gap of a set follows a thread's last instruction
 no_gap : (p : Listing) (gaps : SetOfGaps) (t : ℕ) (s : Local) → action p.threads t s ≡ Stop → gaps_in p gaps t s.place ≡ false
 no_gap p gaps t s stop = elim (cases_lt s.place (length (code_of p.threads t))) [
   | inl h ↦
@@ -170,12 +170,12 @@ module _ (p : Listing) (gaps : SetOfGaps) (model : Model) (labels : List Label) 
   not_early : (n m : ℕ) (cause : Cause) → IsStop n cause → EndsEarly p (mode_of p gaps model) labels m → ⊥
   not_early n m cause a b = let z : None ≡ Some b.last = sym (stops_none p (mode_of p gaps model) labels n cause a) ∙ b.reached in cc
 
-  -- a fault that fits and is none of memory: some step is impossible, or some thread is unfinished
+  -- a fault that fits and is not out of memory: some step is impossible, or some thread is unfinished
   data Told (why : ReplayFault) : Type 0 where
     stopped : (n : ℕ) (cause : Cause) → why ≡ fault_of (Refused cause) n → IsStop n cause → Told why
     early : (n : ℕ) → why ≡ fault.NotEnded n → EndsEarly p (mode_of p gaps model) labels n → Told why
 
-  told : (why : ReplayFault) → why ≢ fault.OutOfMemory → FaultIs p (mode_of p gaps model) labels why → Told why
+  told : (why : ReplayFault) → why ≢ fault.OutOfMemory → ReplayFaultIs p (mode_of p gaps model) labels why → Told why
   told (fault.NoSuchThread n) known f = stopped n NoSuchThread refl f
   told (fault.AtEnd n) known f = stopped n AtEnd refl f
   told (fault.BufferEmpty n) known f = stopped n BufferEmpty refl f
@@ -191,6 +191,6 @@ module _ (p : Listing) (gaps : SetOfGaps) (model : Model) (labels : List Label) 
   same_told why other (early n e a) (early m e' b) = e ∙ ap fault.NotEnded (a.all ∙ sym b.all) ∙ sym e'
 
 pub one_fault : (p : Listing) (gaps : SetOfGaps) (model : Model) (labels : List Label) (why other : ReplayFault) → why ≢ fault.OutOfMemory → other ≢ fault.OutOfMemory →
-    FaultIs p (mode_of p gaps model) labels why → FaultIs p (mode_of p gaps model) labels other → why ≡ other
+    ReplayFaultIs p (mode_of p gaps model) labels why → ReplayFaultIs p (mode_of p gaps model) labels other → why ≡ other
 one_fault p gaps model labels why other known known_too fits also =
     same_told p gaps model labels why other (told p gaps model labels why known fits) (told p gaps model labels other known_too also)

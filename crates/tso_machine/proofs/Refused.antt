@@ -1,4 +1,4 @@
--- No fault but want of memory fits a run, and labels have one outcome.
+-- No fault but out of memory fits a run, and labels have one outcome.
 use Rattle.std.proofs.Common.{◌≡◌, ◌≢◌, ◌⊎◌, ℕ, zero, suc, ◌≤◌, take, length, Bool, true, false, List, [], ◌∷◌, ◌++◌, Option, Some, None, option_and_then, refl, ap, sym, ◌∙◌, subst, inl, inr}
 use Rattle.std.specs.Prelude.{slice_get}
 use Rattle.std.proofs.lemmas.Bool.{cases_eq}
@@ -15,7 +15,7 @@ use Rattle.tso_program.specs.declared.action.Action.{Action}
 use Rattle.tso_program.specs.declared.action.Action.TheVariants.{Stop, Go, Wait, Read, Write, Swap}
 use Rattle.tso_program.specs.Listings.{action}
 use Rattle.tso_machine.specs.Machine.{put, Mode, Sequential, Fenced, State, start, step, run, buffered, direct, flushed, past_gap, when_empty, HasEnded, outcome_at, IsRun}
-use Rattle.tso_machine.specs.Faults.{waits, Applies, Stops, EndsEarly, FaultIs}
+use Rattle.tso_machine.specs.Faults.{waits, Applies, Stops, EndsEarly, ReplayFaultIs}
 use Rattle.tso_machine.proofs.Link.{put_other}
 use Rattle.tso_machine.proofs.Runs.{no_stores, no_action}
 
@@ -139,7 +139,7 @@ one_outcome p mode labels o o' (last, r, ended, e) (last', r', ended', e') =
     let same : last ≡ last' = (let z : Some last ≡ Some last' = sym r ∙ r' in cc) in
     e ∙ ap (outcome_at p) same ∙ sym e'
 
-pub no_fault : (p : Listing) (mode : Mode) (labels : List Label) (o : Outcome) (why : ReplayFault) → IsRun p mode labels o → FaultIs p mode labels why → why ≡ fault.OutOfMemory
+pub no_fault : (p : Listing) (mode : Mode) (labels : List Label) (o : Outcome) (why : ReplayFault) → IsRun p mode labels o → ReplayFaultIs p mode labels why → why ≡ fault.OutOfMemory
 no_fault p mode labels o (fault.NoSuchThread n) (last, r, ended, e) f = not_both _ _ last (stops_none p mode labels n NoSuchThread f) r
 no_fault p mode labels o (fault.AtEnd n) (last, r, ended, e) f = not_both _ _ last (stops_none p mode labels n AtEnd f) r
 no_fault p mode labels o (fault.BufferEmpty n) (last, r, ended, e) f = not_both _ _ last (stops_none p mode labels n BufferEmpty f) r

@@ -121,7 +121,7 @@ words_at (p ∷ ps) (suc i) d lt some =
 not_spelled : (word : List ℕ) → label_at word ≡ None → (l : Label) → IsLabel l → spelling l ≢ word
 not_spelled word none l fits e = let found : label_at word ≡ Some l = rw (← e) (label_again l fits) in cc
 
--- the word at which no label is read, behind the words of the labels so far
+-- the word at which no label is read, after the words of the labels so far
 pub first_no_label : (text : List ℕ) (ls : List Label) (ps : List (Bor (List ℕ))) (i n : ℕ) (d : Bor (List ℕ)) → filter word_of (map (λ p. p.now) ps) ≡ words text
     → map spelling ls ≡ filter word_of (map (λ p. p.now) (take i ps)) → AllByRecursion IsLabel ls → length ls ≡ n → i < length ps → 0 < length (get_or ps i d).now → label_at (get_or ps i d).now ≡ None
     → IsFirstNoLabel text n

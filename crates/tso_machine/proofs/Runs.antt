@@ -28,7 +28,7 @@ use Rattle.tso_program.specs.Actions.{act}
 use Rattle.tso_program.specs.Listings.{action}
 use Rattle.tso_machine.specs.Machine.{Mode, Sequential, State, start, step, run, direct, is_empty, from_some, passes_at, passes, HasEnded}
 use Rattle.tso_machine.specs.Modes.{mode_of, Passes, ArePassed}
-use Rattle.tso_machine.specs.Faults.{Applies, StepFaultIs, Stops, FaultIs, fault_of}
+use Rattle.tso_machine.specs.Faults.{Applies, StepFaultIs, Stops, ReplayFaultIs, fault_of}
 use Rattle.tso_machine.specs.Cores.{Core, Cores, no_core, core_at, state_of, Fits, Finished, passed_gap, gap_passed_by}
 
 and_then_alike : (o : Option State) (f g : State → Option State) → ((s : State) → f s ≡ g s) → option_and_then f o ≡ option_and_then g o
@@ -115,7 +115,7 @@ module _ (p : Listing) (mode : Mode) where
       record { before = before; reached = reached; label = get_or labels n d; there = slice_get-get_or labels n d h; why = why }
 
   pub faulted : (labels : List Label) (n : ℕ) (d : Label) (before : State) (fault : StepFault) → n < length labels → run p mode (start p) (take n labels) ≡ Some before →
-      StepFaultIs p mode before (get_or labels n d) fault → FaultIs p mode labels (fault_of fault n)
+      StepFaultIs p mode before (get_or labels n d) fault → ReplayFaultIs p mode labels (fault_of fault n)
   faulted labels n d before (Refused NoSuchThread) h reached why = stopped labels n d before NoSuchThread h reached why
   faulted labels n d before (Refused AtEnd) h reached why = stopped labels n d before AtEnd h reached why
   faulted labels n d before (Refused BufferEmpty) h reached why = stopped labels n d before BufferEmpty h reached why

@@ -83,14 +83,14 @@ module _ (p : Listing) (mode : Mode) (labels : List Label) where
     pub thread : ℕ
     pub unfinished : IsUnfinished p last thread
 
-  -- what a fault says of the labels; want of memory says nothing
-  abbrev pub FaultIs : ReplayFault → Type 0
-  FaultIs (fault.NoSuchThread n) = Stops n NoSuchThread
-  FaultIs (fault.AtEnd n) = Stops n AtEnd
-  FaultIs (fault.BufferEmpty n) = Stops n BufferEmpty
-  FaultIs (fault.FenceWaits n) = Stops n FenceWaits
-  FaultIs (fault.NotEnded n) = EndsEarly n
-  FaultIs fault.OutOfMemory = Unit {0}
+  -- what a fault says of the labels; out of memory says nothing
+  abbrev pub ReplayFaultIs : ReplayFault → Type 0
+  ReplayFaultIs (fault.NoSuchThread n) = Stops n NoSuchThread
+  ReplayFaultIs (fault.AtEnd n) = Stops n AtEnd
+  ReplayFaultIs (fault.BufferEmpty n) = Stops n BufferEmpty
+  ReplayFaultIs (fault.FenceWaits n) = Stops n FenceWaits
+  ReplayFaultIs (fault.NotEnded n) = EndsEarly n
+  ReplayFaultIs fault.OutOfMemory = Unit {0}
 
 -- the fault of a step that wasn't made
 abbrev pub fault_of : StepFault → ℕ → ReplayFault

@@ -12,25 +12,25 @@ use Rattle.tso_machine.specs.declared.ended.ReplayFault.{ReplayFault}
 use Rattle.tso_machine.specs.declared.ended.ReplayFault.TheVariants as fault
 use Rattle.tso_machine.specs.Machine.{no_gaps, Mode, Fenced, State, start, step, run, IsRun, Allows, passes}
 use Rattle.tso_machine.specs.Modes.{mode_of}
-use Rattle.tso_machine.specs.Faults.{Applies, FaultIs}
+use Rattle.tso_machine.specs.Faults.{Applies, ReplayFaultIs}
 use Rattle.tso_machine.specs.Outcomes.{IsShownRun, AllowsShown}
 use Rattle.tso_program.specs.declared.listing.Listing.{Listing}
 
--- no fault but want of memory fits a run
+-- no fault but out of memory fits a run
 abbrev pub RunsHaveNoFault : Type 0
 RunsHaveNoFault = (p : Listing) (mode : Mode) (labels : List Label) (o : Outcome) (why : ReplayFault) →
-    IsRun p mode labels o → FaultIs p mode labels why → why ≡ fault.OutOfMemory
+    IsRun p mode labels o → ReplayFaultIs p mode labels why → why ≡ fault.OutOfMemory
 
 -- at a state that steps lead to, a step to which a cause applies is not possible
 abbrev pub CausesStopSteps : Type 0
 CausesStopSteps = (p : Listing) (mode : Mode) (labels : List Label) (s : State) (cause : Cause) (label : Label) →
     run p mode (start p) labels ≡ Some s → Applies p mode s cause label → step p mode s label ≡ None
 
--- two faults that both fit a replay are the same, want of memory aside
-abbrev pub TheFirstFaultIsUnique : Type 0
-TheFirstFaultIsUnique = (p : Listing) (gaps : SetOfGaps) (model : Model) (labels : List Label) (why other : ReplayFault) →
+-- two faults that both fit a replay are the same, unless one is out of memory
+abbrev pub TheFirstReplayFaultIsUnique : Type 0
+TheFirstReplayFaultIsUnique = (p : Listing) (gaps : SetOfGaps) (model : Model) (labels : List Label) (why other : ReplayFault) →
     why ≢ fault.OutOfMemory → other ≢ fault.OutOfMemory →
-    FaultIs p (mode_of p gaps model) labels why → FaultIs p (mode_of p gaps model) labels other → why ≡ other
+    ReplayFaultIs p (mode_of p gaps model) labels why → ReplayFaultIs p (mode_of p gaps model) labels other → why ≡ other
 
 -- steps that are possible with no gap fenced are possible with others fenced, to the same state, exactly where they pass none of those
 abbrev pub FencesAreAvoided : Type 0

@@ -32,7 +32,7 @@ pub record State : Type 0 where
 abbrev pub put : {A : Type 0} → (ℕ → A) → ℕ → A → ℕ → A
 put f n x k = if k == n then x else f k
 
--- the first, or the second where there is none
+-- the first, or the second if the first is `None`
 abbrev pub or_else : Option ℕ → Option ℕ → Option ℕ
 or_else (Some v) o = Some v
 or_else None o = o

@@ -34,10 +34,10 @@ abbrev pub run_text : List Label → List ℕ
 run_text labels = join_with_byte 32 (map spelling labels)
 
 -- what was read is this, unless memory ran out
-abbrev pub Gives : Result (Vec Label) RunFault → List Label → Type 0
-Gives (Ok v) labels = v.items ≡ labels
-Gives (Err (Token index)) labels = ⊥
-Gives (Err OutOfMemory) labels = Unit {0}
+abbrev pub GivesLabels : Result (Vec Label) RunFault → List Label → Type 0
+GivesLabels (Ok v) labels = v.items ≡ labels
+GivesLabels (Err (Token index)) labels = ⊥
+GivesLabels (Err OutOfMemory) labels = Unit {0}
 
 -- the text's words before the one with this index are labels', and that one is no label's
 pub record IsFirstNoLabel (text : List ℕ) (index : ℕ) : Type 0 where
@@ -49,7 +49,7 @@ pub record IsFirstNoLabel (text : List ℕ) (index : ℕ) : Type 0 where
   pub text_words : words text ≡ map spelling labels ++ word ∷ others
   pub no_label : (label : Label) → IsLabel label → spelling label ≢ word
 
--- what a fault says of the text; want of memory says nothing
+-- what a fault says of the text; out of memory says nothing
 abbrev pub RunFaultIs : List ℕ → RunFault → Type 0
 RunFaultIs text (Token index) = IsFirstNoLabel text index
 RunFaultIs text OutOfMemory = Unit {0}

@@ -7,7 +7,7 @@ ghost use Rattle.tso_machine.specs.declared.label.Model.TheVariants as models;
 ghost use Rattle.tso_machine.specs.declared.ended.ReplayFault.TheVariants.{OutOfMemory};
 ghost use Rattle.tso_machine.specs.Machine.{IsRun};
 ghost use Rattle.tso_machine.specs.Modes.{mode_of, ArePassed};
-ghost use Rattle.tso_machine.specs.Faults.{FaultIs, fault_of};
+ghost use Rattle.tso_machine.specs.Faults.{ReplayFaultIs, fault_of};
 
 use crate::label::StepFault;
 use crate::state::State;
@@ -62,7 +62,7 @@ pub fn replay(
     ensures passed { IfOk result (λ ended. ArePassed program.now (mode_of program.now fenced.now model) labels.now ended.passed) }
     ensures sequential { IfOk result (λ ended. model ≡ models.Sequential → (gap : ℕ) → set.contains ended.passed gap ≡ false) }
     ensures accepts { (outcome : Outcome) → IsRun program.now (mode_of program.now fenced.now model) labels.now outcome → MatchResult result (λ ended. ended.outcome ≡ outcome) (λ fault. fault ≡ OutOfMemory) }
-    ensures fault { IfErr result (FaultIs program.now (mode_of program.now fenced.now model) labels.now) }
+    ensures fault { IfErr result (ReplayFaultIs program.now (mode_of program.now fenced.now model) labels.now) }
 {
     let Ok(mut state) = State::start(alloc, program) else {
         return Err(ReplayFault::OutOfMemory);

@@ -1,17 +1,17 @@
 //! The laws of the machines: each function's contract is a theorem, and calling it does nothing.
-ghost use Rattle.tso_machine.specs.Laws.{RunsHaveNoFault, CausesStopSteps, TheFirstFaultIsUnique, FencesAreAvoided, AllShownAreTheRuns, AllShownAreTheOutcomes};
+ghost use Rattle.tso_machine.specs.Laws.{RunsHaveNoFault, CausesStopSteps, TheFirstReplayFaultIsUnique, FencesAreAvoided, AllShownAreTheRuns, AllShownAreTheOutcomes};
 ghost use Rattle.tso_machine.specs.Examples.{StoreBufferingIsTold, RIsTold, N6IsTold, LockedExchangeIsTold};
 
-/// Labels that are a run have no fault but want of memory.
+/// Labels that are a run have no fault but out of memory.
 pub fn runs_have_no_fault()
     ensures { RunsHaveNoFault }
 {}
 
 /// A cause that applies to a step of a replay makes the step impossible, and two faults that both fit a
-/// replay are the same, want of memory aside: a replay that is refused has one answer.
+/// replay are the same unless one is out of memory: a replay that is refused has one answer.
 pub fn the_first_fault_is_unique()
     ensures stops { CausesStopSteps }
-    ensures unique { TheFirstFaultIsUnique }
+    ensures unique { TheFirstReplayFaultIsUnique }
 {}
 
 /// A run with no gap fenced is a run with other gaps fenced exactly where it passes none of those.

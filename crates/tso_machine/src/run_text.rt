@@ -5,7 +5,7 @@ ghost use Rattle.text_tokens.specs.Bytes.{is_blank};
 ghost use Rattle.text_tokens.specs.Numbers.{plain_number_at};
 ghost use Rattle.tso_machine.specs.declared.label.Label.{Label};
 ghost use Rattle.tso_machine.specs.declared.run_text.RunFault.TheVariants.{OutOfMemory};
-ghost use Rattle.tso_machine.specs.RunTexts.{spelling, IsLabel, IsRunText, Gives, RunFaultIs, label_at, run_text};
+ghost use Rattle.tso_machine.specs.RunTexts.{spelling, IsLabel, IsRunText, GivesLabels, RunFaultIs, label_at, run_text};
 
 use crate::Label;
 use std::alloc::{AllocError, AllocFailed, Global};
@@ -68,7 +68,7 @@ fn label_of(word: &[u8]) -> Option<Label>
 /// space.
 pub fn read_run(alloc: Global, bytes: &[u8]) -> Result<Vec<Label>, RunFault>
     ensures found { IfOk result (λ labels. IsRunText bytes.now labels.items) }
-    ensures only { (labels : List Label) → IsRunText bytes.now labels → Gives result labels }
+    ensures only { (labels : List Label) → IsRunText bytes.now labels → GivesLabels result labels }
     ensures fault { IfErr result (RunFaultIs bytes.now) }
 {
     let parts = parts_of(alloc, bytes)?;

@@ -35,7 +35,7 @@ module _ (gap : ℕ → Bool) where
       ∙ place_by_offset (n + 1) k
       ∙ ap (place_of gap) sum
 
-  -- behind the first instruction stand the others
+  -- the others follow the first instruction
   past_one : (b : Bool) (x : Instr) (xs : List Instr) (j : ℕ) →
       slice_get ((if b then Fence ∷ [] else []) ++ x ∷ xs) (if b then suc (suc j) else suc j) ≡ slice_get xs j
   past_one true x xs j = refl
@@ -68,7 +68,7 @@ module _ (gap : ℕ → Bool) where
       ∙ at_offset (n + 1) k xs
       ∙ ap (λ m. first_of (gap m) (slice_get xs k)) e
 
-  -- behind the fence, by offset
+  -- after the fence, by offset
   after_offset : (n k : ℕ) (xs : List Instr) (x : Instr) → gap (n + k) ≡ true → slice_get xs k ≡ Some x → slice_get (fenced_code gap n xs) (suc (offset n k)) ≡ Some (moved gap x)
   after_offset n zero [] x g e = absurd cc
   after_offset n zero (y ∷ ys) x g e =
@@ -126,7 +126,7 @@ module _ (gaps : Gaps) where
   pub instr_at_place : (threads : List Thread) (t k : ℕ) → instr_at (fenced_threads gaps 0 threads) t (place_of (gaps t) k) ≡ first_of (gaps t) (gaps t k) (instr_at threads t k)
   instr_at_place threads t k = ap (λ (xs : List Instr). slice_get xs (place_of (gaps t) k)) (fenced_code_of t threads) ∙ at_place (gaps t) (code_of threads t) k
 
-  -- the instruction behind the fence there
+  -- the instruction after the fence there
   pub instr_after_fence : (threads : List Thread) (t k : ℕ) (x : Instr) → gaps t k ≡ true → instr_at threads t k ≡ Some x →
       instr_at (fenced_threads gaps 0 threads) t (place_of (gaps t) k + 1) ≡ Some (moved (gaps t) x)
   instr_after_fence threads t k x g e =

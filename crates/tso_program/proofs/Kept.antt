@@ -107,7 +107,7 @@ shown_twice shown o = shown_within shown shown o (part_of_itself shown)
 pub all_is_shown : EverythingShownIsTheOutcome
 all_is_shown o = refl
 
--- ---- value by value, with 0 where there is none
+-- ---- value by value, with 0 where a value is not there
 
 abbrev registers_in : Outcome → ℕ → List ℕ
 registers_in o t = get_or o.registers t []

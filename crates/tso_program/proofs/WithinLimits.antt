@@ -11,7 +11,7 @@ use Rattle.tso_program.specs.declared.limits.ProgramFault.{ProgramFault}
 use Rattle.tso_program.specs.declared.limits.ProgramFault.TheVariants.{NoThreads, TooManyThreads, TooLong, Locations, TooManyAccesses, BackwardJump, JumpPastEnd, TooManyGaps}
 use Rattle.tso_program.specs.Instructions.{location_of, target_of}
 use Rattle.tso_program.specs.Listings.{code_of, instr_at, accesses_of, gap_count}
-use Rattle.tso_program.specs.Limits.{IsWithinSharedLimits, IsWithinLimits, IsWithinFencedLimits, first_long, is_astray, some_astray, is_backward, is_past_end, first_backward_in, first_past_end_in, first_found, first_true, at_place, shared_refusals, first_fault, first_fenced_fault, LimitsAreTheRefusals, FencedLimitsAreTheRefusals}
+use Rattle.tso_program.specs.Limits.{IsWithinSharedLimits, IsWithinLimits, IsWithinFencedLimits, first_long, is_astray, some_astray, is_backward, is_past_end, first_backward_in, first_past_end_in, first_found, first_true, at_place, shared_refusals, first_fault, first_fenced_fault, ProgramLimitsAreTheRefusals, FencedLimitsAreTheRefusals}
 use Rattle.tso_program.proofs.Found.{instr_found, code_found, enumerated, enumerated_back, not_found, none_found, neither, not_any, none_any, found_nowhere, nowhere_found}
 
 -- what each test says
@@ -215,7 +215,7 @@ refused_not threads memory w =
     no_fault_then (shared_refusals 64 threads memory) ((nat_lt 64 (gap_count threads), TooManyGaps) ∷ []) (shared_refused_not 64 threads memory w.shared)
     ∙ rw (not_more 64 (gap_count threads) w.few_gaps) refl
 
-pub limits_are_the_refusals : LimitsAreTheRefusals
+pub limits_are_the_refusals : ProgramLimitsAreTheRefusals
 limits_are_the_refusals threads memory = (within threads memory, refused_not threads memory)
 
 pub fenced_limits_are_the_refusals : FencedLimitsAreTheRefusals

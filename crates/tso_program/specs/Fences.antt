@@ -3,7 +3,7 @@ use Rattle.std.specs.Prelude.{ℕ, zero, suc, ◌+◌, Bool, false, nat_le, List
 use Rattle.std.specs.List.{find}
 use Rattle.std.specs.Option.{option_map_or}
 use Rattle.std.specs.FinSet as set
-use Rattle.gap_sets.specs.Gaps.{SetOfGaps, gaps_in as ascending}
+use Rattle.gap_sets.specs.Gaps.{SetOfGaps, numbers_of_set as ascending}
 use Rattle.tso_program.specs.declared.instruction.Instr.{Instr}
 use Rattle.tso_program.specs.declared.instruction.Instr.TheVariants.{LoadImm, Copy, Load, StoreImm, Store, Xchg, Fence, CmpImm, CmpReg, Je, Jne, Jmp}
 use Rattle.tso_program.specs.declared.listing.Thread.{Thread}
@@ -39,7 +39,7 @@ moved gap Fence = Fence
 moved gap (CmpImm r v) = CmpImm r v
 moved gap (CmpReg r s) = CmpReg r s
 
--- the instructions from instruction k on, each behind an MFENCE where the gap before it is in the set
+-- the instructions from instruction k on, each after an MFENCE where the gap before it is in the set
 abbrev pub fenced_code : (ℕ → Bool) → ℕ → List Instr → List Instr
 fenced_code gap k [] = []
 fenced_code gap k (x ∷ xs) = (if gap k then Fence ∷ [] else []) ++ moved gap x ∷ fenced_code gap (k + 1) xs

@@ -36,7 +36,7 @@ pub record IsLocationPlace (place : ℕ) : Type 0 where
 abbrev pub EachPlaceIsNamed : Type 0
 EachPlaceIsNamed = (place : ℕ) → place < 56 → IsRegisterPlace place ⊎ IsLocationPlace place
 
--- register r of thread t in an outcome, and a location's value; 0 where there is none
+-- register r of thread t in an outcome, and a location's value; 0 where there is no such value
 abbrev pub register_in : Outcome → ℕ → ℕ → ℕ
 register_in o t r = slice_index (slice_index_or o.registers t []) r
 

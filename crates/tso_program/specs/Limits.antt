@@ -94,8 +94,8 @@ abbrev pub first_fenced_fault : List Thread → List ℕ → Option ProgramFault
 first_fenced_fault threads memory = first_true (shared_refusals 127 threads memory)
 
 -- no refusal applies exactly within the limits
-abbrev pub LimitsAreTheRefusals : Type 0
-LimitsAreTheRefusals = (threads : List Thread) (memory : List ℕ) → (first_fault threads memory ≡ None) ↔ IsWithinLimits threads memory
+abbrev pub ProgramLimitsAreTheRefusals : Type 0
+ProgramLimitsAreTheRefusals = (threads : List Thread) (memory : List ℕ) → (first_fault threads memory ≡ None) ↔ IsWithinLimits threads memory
 
 -- the same of fenced programs
 abbrev pub FencedLimitsAreTheRefusals : Type 0

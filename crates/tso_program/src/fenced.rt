@@ -182,7 +182,7 @@ fn fenced_thread(
     })
 }
 
-/// Puts an instruction at the end, behind an MFENCE if it is fenced.
+/// Puts an instruction at the end, after an MFENCE if it is fenced.
 fn push_fenced(code: &mut Items<Instr>, is_fenced: bool, instr: Instr) -> Result<(), AllocError>
     ensures { OnOk result (code.new ≡ code.old ++ ((if is_fenced then Fence ∷ [] else []) ++ instr ∷ [])) }
 {

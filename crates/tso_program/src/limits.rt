@@ -3,7 +3,7 @@ ghost use Rattle.std.specs.Prelude.{◌≡◌, ◌≤◌, ◌<◌, length, All, 
 ghost use Rattle.std.specs.List.{list_any};
 ghost use Rattle.tso_program.specs.Listings.{accesses_of, gaps_of_thread, gap_count};
 ghost use Rattle.tso_program.specs.declared.limits.ProgramFault.TheVariants.{OutOfMemory};
-ghost use Rattle.tso_program.specs.Limits.{shared_refusals, first_true, first_fault, first_fenced_fault, first_long, is_astray, some_astray, first_backward_in, first_past_end_in, first_found, LimitsAreTheRefusals, FencedLimitsAreTheRefusals};
+ghost use Rattle.tso_program.specs.Limits.{shared_refusals, first_true, first_fault, first_fenced_fault, first_long, is_astray, some_astray, first_backward_in, first_past_end_in, first_found, ProgramLimitsAreTheRefusals, FencedLimitsAreTheRefusals};
 
 use crate::Thread;
 use std::alloc::{AllocError, AllocFailed};
@@ -237,6 +237,6 @@ pub(crate) fn broken_fenced_limit(threads: &[Thread], memory: &[u32]) -> Option<
 
 /// No refusal applies exactly where threads and initial values are within the limits.
 pub fn limits_are_the_refusals()
-    ensures program { LimitsAreTheRefusals }
+    ensures program { ProgramLimitsAreTheRefusals }
     ensures fenced { FencedLimitsAreTheRefusals }
 {}

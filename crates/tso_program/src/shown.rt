@@ -2,7 +2,7 @@
 ghost use Rattle.std.specs.Prelude.{◌≡◌, ◌↔◌, ◌<◌, IsTrue, length};
 ghost use Rattle.std.specs.FinSet as set;
 ghost use Rattle.tso_program.specs.Instructions.{number};
-ghost use Rattle.gap_sets.specs.Gaps.{gaps_in};
+ghost use Rattle.gap_sets.specs.Gaps.{numbers_of_set};
 ghost use Rattle.tso_program.specs.Names.{register_place, location_place, ArePlaces};
 ghost use Rattle.tso_program.specs.Shown.{shows_register, shows_location, value_if, shown_registers, shown_value};
 
@@ -127,7 +127,7 @@ impl Names {
 
     /// Their places, ascending.
     pub fn places(&self) -> Gaps
-        ensures value { result ≡ gaps_in self.now }
+        ensures value { result ≡ numbers_of_set self.now }
         ensures below { ArePlaces self.now }
     {
         self.places.iter()

@@ -4,7 +4,7 @@ use Rattle.tso_program.specs.declared.instruction.Reg.TheVariants.{Eax}
 use Rattle.conditions.specs.declared.atom.Atom.TheVariants as atom
 use Rattle.conditions.specs.declared.token.Token.{Token}
 use Rattle.conditions.specs.declared.token.Token.TheVariants as token
-use Rattle.conditions.specs.Tokens.{sign_of}
+use Rattle.conditions.specs.Tokens.{sign_of_token}
 use Rattle.canonical_text.specs.Spelling.{sign_pieces}
 use Rattle.canonical_text.specs.Canonical.{sign_named}
 use Rattle.canonical_text.proofs.TextsGrow.{given_more}
@@ -16,5 +16,5 @@ loop-sign-preserved c =
     let first : Token = token.Atom (atom.Register 0 Eax 0) in
     let i = c.loop-sign.sign-index in
     c.in_ok-push_sign.ensures
-    ∙ ap (λ (bs : List ℕ). bs ++ text_of (sign_pieces (named (sign_of (get_or c.args.signs.now i first))))) c.loop-sign.invariant
-    ∙ given_more sign_pieces named sign_of c.args.out.now.items c.args.signs.now i first c.loop-sign-test.true
+    ∙ ap (λ (bs : List ℕ). bs ++ text_of (sign_pieces (named (sign_of_token (get_or c.args.signs.now i first))))) c.loop-sign.invariant
+    ∙ given_more sign_pieces named sign_of_token c.args.out.now.items c.args.signs.now i first c.loop-sign-test.true

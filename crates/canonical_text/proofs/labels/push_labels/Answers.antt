@@ -5,7 +5,7 @@ use Rattle.text_tokens.specs.Pieces.{text_of}
 use Rattle.canonical_text.specs.Spelling.{gap, joined_by, label_pieces}
 use Rattle.tso_program.specs.Fences.{gaps_in}
 use Rattle.litmus_text.specs.declared.label.Label.{Label}
-use Rattle.canonical_text.specs.Canonical.{labels_at, labels_of, moved_labels}
+use Rattle.canonical_text.specs.Canonical.{label_names_at, own_labels, moved_labels}
 use Rattle.canonical_text.proofs.LabelPlaces.{moved_at, moved_nowhere}
 use Rattle.canonical_text.proofs.labels.push_labels.Goals as goal
 
@@ -14,9 +14,9 @@ returns-in-Some-clause-text c =
     let labels = c.args.litmus.now.labels in
     let gaps = gaps_in c.args.litmus.now.program c.args.gaps.now in
     let position = c.in-Some.position in
-    let own : c.labels_of-labels.result.now ≡ labels_of labels c.args.t = c.labels_of-labels.ensures ∙ ap (λ (ls : List (List Label)). labels_of ls c.args.t) c.as_slice.ensures in
-    let at : labels_at c.labels_of-labels.result.now position ≡ labels_at (labels_of (moved_labels gaps 0 labels) c.args.t) c.args.place =
-    ap (λ (ls : List Label). labels_at ls position) own ∙ sym (moved_at gaps c.args.t position c.args.place labels c.in-Some.ensures.found) in
+    let own : c.labels_of-labels.result.now ≡ own_labels labels c.args.t = c.labels_of-labels.ensures ∙ ap (λ (ls : List (List Label)). own_labels ls c.args.t) c.as_slice.ensures in
+    let at : label_names_at c.labels_of-labels.result.now position ≡ label_names_at (own_labels (moved_labels gaps 0 labels) c.args.t) c.args.place =
+    ap (λ (ls : List Label). label_names_at ls position) own ∙ sym (moved_at gaps c.args.t position c.args.place labels c.in-Some.ensures.found) in
     subst (λ (ns : List (List ℕ)). IfOk c.push_own.result (λ count. c.push_own.new.out.items ≡ c.args.out.now.items ++ text_of (joined_by gap (map label_pieces ns)))) at c.push_own.ensures.text
 
 pub returns-in-Some-clause-count : goal.returns-in-Some-clause-count
@@ -24,9 +24,9 @@ returns-in-Some-clause-count c =
     let labels = c.args.litmus.now.labels in
     let gaps = gaps_in c.args.litmus.now.program c.args.gaps.now in
     let position = c.in-Some.position in
-    let own : c.labels_of-labels.result.now ≡ labels_of labels c.args.t = c.labels_of-labels.ensures ∙ ap (λ (ls : List (List Label)). labels_of ls c.args.t) c.as_slice.ensures in
-    let at : labels_at c.labels_of-labels.result.now position ≡ labels_at (labels_of (moved_labels gaps 0 labels) c.args.t) c.args.place =
-    ap (λ (ls : List Label). labels_at ls position) own ∙ sym (moved_at gaps c.args.t position c.args.place labels c.in-Some.ensures.found) in
+    let own : c.labels_of-labels.result.now ≡ own_labels labels c.args.t = c.labels_of-labels.ensures ∙ ap (λ (ls : List (List Label)). own_labels ls c.args.t) c.as_slice.ensures in
+    let at : label_names_at c.labels_of-labels.result.now position ≡ label_names_at (own_labels (moved_labels gaps 0 labels) c.args.t) c.args.place =
+    ap (λ (ls : List Label). label_names_at ls position) own ∙ sym (moved_at gaps c.args.t position c.args.place labels c.in-Some.ensures.found) in
     subst (λ (ns : List (List ℕ)). IfOk c.push_own.result (λ count. count ≡ length ns)) at c.push_own.ensures.count
 
 pub returns-in-None-clause-text : goal.returns-in-None-clause-text

@@ -1,7 +1,7 @@
 use Rattle.std.proofs.Common.{◌≡◌, ℕ, ◌+◌, List, [], ◌∷◌, ◌++◌, length, map, take, length-append, sym, ap, ◌∙◌, arith}
 use Rattle.text_tokens.specs.Pieces.{text_of}
 use Rattle.canonical_text.specs.Spelling.{gap, joined_by, label_pieces}
-use Rattle.canonical_text.specs.Canonical.{labels_at}
+use Rattle.canonical_text.specs.Canonical.{label_names_at}
 use Rattle.canonical_text.proofs.LabelPlaces.{label_here, label_elsewhere}
 use Rattle.canonical_text.proofs.TextsGrow.{between_at, label_more}
 use Rattle.canonical_text.proofs.labels.push_own.Goals as goal
@@ -13,11 +13,11 @@ loop-label-preserved c =
     let k = c.args.position in
     let i = c.loop-label.label-index in
     let l = c.label-item.result in
-    let before : List (List ℕ) = labels_at (take i labels) k in
+    let before : List (List ℕ) = label_names_at (take i labels) k in
     elim c.if-label-position.branch [
       | then-label-position+in_ok-push_gap+in_ok-extend_from_slice+in_ok-push w ↦
-          let more : labels_at (take (i + 1) labels) k ≡ before ++ l.name ∷ [] = label_here labels i k l c.loop-label-test.true c.label-item.is w.if-label-position.true in
-          let long : length (labels_at (take (i + 1) labels) k) ≡ length before + 1 = ap length more ∙ (let e : length (before ++ l.name ∷ []) ≡ length before + 1 = omega (arith, length-append before (l.name ∷ [])) in e) in (
+          let more : label_names_at (take (i + 1) labels) k ≡ before ++ l.name ∷ [] = label_here labels i k l c.loop-label-test.true c.label-item.is w.if-label-position.true in
+          let long : length (label_names_at (take (i + 1) labels) k) ≡ length before + 1 = ap length more ∙ (let e : length (before ++ l.name ∷ []) ≡ length before + 1 = omega (arith, length-append before (l.name ∷ [])) in e) in (
             (λ j. (w.out-is j).items)
                 ∙ w.in_ok-push.ensures.items
                 ∙ ap (λ (bs : List ℕ). bs ++ 58 ∷ []) (w.in_ok-extend_from_slice.ensures.items
@@ -29,7 +29,7 @@ loop-label-preserved c =
             omega (arith, w.count-is),
           )
       | else-label-position w ↦
-          let same : labels_at (take (i + 1) labels) k ≡ before = label_elsewhere labels i k l c.loop-label-test.true c.label-item.is w.if-label-position.false in (
+          let same : label_names_at (take (i + 1) labels) k ≡ before = label_elsewhere labels i k l c.loop-label-test.true c.label-item.is w.if-label-position.false in (
             (λ j. (w.out-is j).items) ∙ c.loop-label.invariant.0 ∙ ap (λ (ns : List (List ℕ)). c.args.out.now.items ++ text_of (joined_by gap (map label_pieces ns))) (sym same),
             w.count-is ∙ c.loop-label.invariant.1 ∙ ap length (sym same),
             omega (arith, w.count-is),

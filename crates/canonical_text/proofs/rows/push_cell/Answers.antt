@@ -5,15 +5,15 @@ use Rattle.tso_program.specs.declared.instruction.Instr.{Instr}
 use Rattle.tso_program.specs.Listings.{instr_at}
 use Rattle.tso_program.specs.Fences.{gaps_in}
 use Rattle.canonical_text.specs.Spelling.{gap, code_pieces, cell_pieces}
-use Rattle.canonical_text.specs.Canonical.{labels_at, labels_of, moved_labels, code_named}
+use Rattle.canonical_text.specs.Canonical.{label_names_at, own_labels, moved_labels, code_named}
 use Rattle.canonical_text.proofs.TextsGrow.{between_at, code_more, labels_alone}
 use Rattle.canonical_text.proofs.rows.push_cell.Goals as goal
 
 pub returns-in_ok-push_gap-in-Some : goal.returns-in_ok-push_gap-in-Some
 returns-in_ok-push_gap-in-Some c =
     let litmus = c.args.litmus.now in
-    let own = labels_of (moved_labels (gaps_in litmus.program c.args.gaps.now) 0 litmus.labels) c.args.t in
-    let names = labels_at own c.args.k in
+    let own = own_labels (moved_labels (gaps_in litmus.program c.args.gaps.now) 0 litmus.labels) c.args.t in
+    let names = label_names_at own c.args.k in
     let named = code_named litmus.names.locations own in
     let out = c.args.out.now.items in
     let grown : c.push_gap.new.out.items ++ text_of (code_pieces (named c.in-Some.code)) ≡ out ++ text_of (cell_pieces (record { labels = names; code = option_map named (instr_at c.args.threads.now c.args.t c.args.k) })) =
@@ -25,8 +25,8 @@ returns-in_ok-push_gap-in-Some c =
 pub returns-in-None : goal.returns-in-None
 returns-in-None c =
     let litmus = c.args.litmus.now in
-    let own = labels_of (moved_labels (gaps_in litmus.program c.args.gaps.now) 0 litmus.labels) c.args.t in
-    let names = labels_at own c.args.k in
+    let own = own_labels (moved_labels (gaps_in litmus.program c.args.gaps.now) 0 litmus.labels) c.args.t in
+    let names = label_names_at own c.args.k in
     let named = code_named litmus.names.locations own in
     c.in_ok-labels.ensures.text
     ∙ labels_alone c.args.out.now.items names

@@ -3,7 +3,7 @@ use Rattle.tso_program.specs.declared.listing.Listing.{Listing}
 use Rattle.tso_program.specs.Fences.{gaps_in}
 use Rattle.litmus_text.specs.Texts.{IsFencedLitmus}
 use Rattle.canonical_text.specs.Spelling.{text_with}
-use Rattle.canonical_text.specs.Canonical.{moved_labels, body_of, ending_of, canonical_text, fenced_at}
+use Rattle.canonical_text.specs.Canonical.{moved_labels, body_of, ending_of, canonical_text, litmus_fenced_at}
 use Rattle.canonical_text.proofs.CanonicalIsRead.{canonical_is_read}
 use Rattle.canonical_text.proofs.writer.write_litmus.Goals as goal
 
@@ -19,7 +19,7 @@ returns-clause-again c =
     let litmus = c.args.litmus.now in
     let gaps = c.args.gaps.now in
     let labels = moved_labels (gaps_in litmus.program gaps) 0 litmus.labels in
-    let text : c.in_ok-text.text.items ≡ canonical_text (fenced_at gaps litmus) =
+    let text : c.in_ok-text.text.items ≡ canonical_text (litmus_fenced_at gaps litmus) =
     c.in_ok-text.ensures
     ∙ ap (λ (p : Listing). text_with litmus.name (body_of litmus.names labels p) (ending_of litmus.names.locations litmus.observed litmus.condition)) c.in_ok-fenced.ensures.value in
-    λ source is. subst (λ (bs : List ℕ). IsFencedLitmus bs (fenced_at gaps litmus)) (sym text) (canonical_is_read source litmus is gaps)
+    λ source is. subst (λ (bs : List ℕ). IsFencedLitmus bs (litmus_fenced_at gaps litmus)) (sym text) (canonical_is_read source litmus is gaps)

@@ -7,7 +7,7 @@ use Rattle.tree_laws.specs.CoverTrees.{IsValidCover}
 use Rattle.tree_laws.specs.GapTrees.{root, IsValidGap}
 use Rattle.tree_laws.specs.Certificates.{IsRunOutside, IsValidCertificate}
 use Rattle.cert_check.specs.Claims.{claim_of}
-use Rattle.cert_check.specs.Faults.{FaultIs, HasServingSet, HasForeignRuns, HasEachOutcome}
+use Rattle.cert_check.specs.Faults.{CheckFaultIs, HasServingSet, HasForeignRuns, HasEachOutcome}
 use Rattle.cert_check.specs.Replays.{HavePassed}
 use Rattle.cover_judge.proofs.Answered.{err_up, on_ok}
 use Rattle.cert_check.proofs.Assembled.{assembled}
@@ -27,7 +27,7 @@ returns-in_err-check_fenced-clause-fault c =
       replayed = record { complete = complete; runs = foreign_are_runs q outs claim.runs foreign_runs };
       foreign = foreign_runs;
     } in
-    err_up c.from_residual-in_err-check_fenced.result c.in_err-check_fenced.field-0.0 (FaultIs q costs claim) c.from_residual-in_err-check_fenced.ensures.1
+    err_up c.from_residual-in_err-check_fenced.result c.in_err-check_fenced.field-0.0 (CheckFaultIs q costs claim) c.from_residual-in_err-check_fenced.ensures.1
     (c.in_err-check_fenced.ensures.fault costs (subst (λ xs. HasForeignRuns q costs claim xs) (sym c.deref-2.ensures.value) foreign))
 
 pub returns-clause-valid : goal.returns-clause-valid

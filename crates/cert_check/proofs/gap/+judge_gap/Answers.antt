@@ -4,7 +4,7 @@ use Rattle.std.proofs.lemmas.List.{length-map}
 use Rattle.cert_forest.specs.declared.tree.GapTree.TheViews.{the_lemmas}
 use Rattle.cert_forest.specs.declared.tree.GapTree.TheFolds.{fold-roll-GapTree, fold_out-GapTree}
 use Rattle.cert_forest.specs.Views.{gap, gap_node}
-use Rattle.cert_forest.specs.Trees.{Gap, Split, gaps_of}
+use Rattle.cert_forest.specs.Trees.{Gap, Split, gap_trees_of}
 use Rattle.cover_judge.specs.declared.fault.TreeFault.{TreeFault}
 use Rattle.cover_judge.specs.Judged.{IfWrong, IsAtRoot, IsBelow}
 use Rattle.cert_check.specs.GapDefects.{HasNoSplit}
@@ -18,14 +18,14 @@ use Rattle.cert_check.proofs.gap.+judge_gap.Goals as goal
 pub judge_gap-returns-in_err-gaps-in-Split-clause-wrong : goal.judge_gap-returns-in_err-gaps-in-Split-clause-wrong
 judge_gap-returns-in_err-gaps-in-Split-clause-wrong t c p runs each =
     let kids = map gap c.in-Split.children.items in
-    let is : gap c.args.tree.now ≡ Split c.in-Split.run' (gaps_of kids) = search (rules, the_lemmas, fold-roll-GapTree Gap gap_node, fold_out-GapTree Gap gap_node) in
+    let is : gap c.args.tree.now ≡ Split c.in-Split.run' (gap_trees_of kids) = search (rules, the_lemmas, fold-roll-GapTree Gap gap_node, fold_out-GapTree Gap gap_node) in
     let len : c.len.result ≡ length kids = omega (arith, length-map c.in-Split.children.items gap, c.in-Split.children.ok.0, c.len.ensures) in
     let bounds = c.args.bounds.now in
     let region = c.args.region.now in
     let P : TreeFault → Type 0 = IfWrong (IsWrongIn p bounds.costs.now bounds.answer runs (gap c.args.tree.now) region) in
     err_up c.from_residual.result c.in_err-gaps-in-Split.field-0.0 P c.from_residual.ensures.1
     (subst (λ tree. IfWrong (IsWrongIn p bounds.costs.now bounds.answer runs tree region) c.in_err-gaps-in-Split.field-0.0) (sym is)
-    (if_wrong (IsAtRoot (HasNoSplit p runs (node_of region) c.in-Split.run' (length kids))) (IsWrongIn p bounds.costs.now bounds.answer runs (Split c.in-Split.run' (gaps_of kids)) region) c.in_err-gaps-in-Split.field-0.0
+    (if_wrong (IsAtRoot (HasNoSplit p runs (node_of region) c.in-Split.run' (length kids))) (IsWrongIn p bounds.costs.now bounds.answer runs (Split c.in-Split.run' (gap_trees_of kids)) region) c.in_err-gaps-in-Split.field-0.0
     (split_here p bounds.costs.now bounds.answer runs region c.in-Split.run' kids)
     (subst (λ n. IfWrong (IsAtRoot (HasNoSplit p runs (node_of region) c.in-Split.run' n)) c.in_err-gaps-in-Split.field-0.0) len (c.in_err-gaps-in-Split.ensures.wrong p runs each))))
 
@@ -33,14 +33,14 @@ pub judge_gap-returns-in_ok-gaps-in-Split-clause-wrong : goal.judge_gap-returns-
 judge_gap-returns-in_ok-gaps-in-Split-clause-wrong t c p runs each =
     let kids = map gap c.in-Split.children.items in
     let gaps = c.in_ok-gaps-in-Split.gaps.items in
-    let is : gap c.args.tree.now ≡ Split c.in-Split.run' (gaps_of kids) = search (rules, the_lemmas, fold-roll-GapTree Gap gap_node, fold_out-GapTree Gap gap_node) in
+    let is : gap c.args.tree.now ≡ Split c.in-Split.run' (gap_trees_of kids) = search (rules, the_lemmas, fold-roll-GapTree Gap gap_node, fold_out-GapTree Gap gap_node) in
     let len : c.len.result ≡ length kids = omega (arith, length-map c.in-Split.children.items gap, c.in-Split.children.ok.0, c.len.ensures) in
     let bounds = c.args.bounds.now in
     let region = c.args.region.now in
     let wrong = rw c.deref.ensures.value at (rw c.deref-in-Split.ensures.value at (c.judge_gaps.ensures.wrong p runs each)) in
     subst (λ tree. IfErr c.judge_gaps.result (IfWrong (IsWrongIn p bounds.costs.now bounds.answer runs tree region))) (sym is)
-    (if_err c.judge_gaps.result (IfWrong (IsBelow (IsWrongChildIn p bounds.costs.now bounds.answer runs kids region gaps))) (IfWrong (IsWrongIn p bounds.costs.now bounds.answer runs (Split c.in-Split.run' (gaps_of kids)) region))
-    (λ fault. if_wrong (IsBelow (IsWrongChildIn p bounds.costs.now bounds.answer runs kids region gaps)) (IsWrongIn p bounds.costs.now bounds.answer runs (Split c.in-Split.run' (gaps_of kids)) region) fault
+    (if_err c.judge_gaps.result (IfWrong (IsBelow (IsWrongChildIn p bounds.costs.now bounds.answer runs kids region gaps))) (IfWrong (IsWrongIn p bounds.costs.now bounds.answer runs (Split c.in-Split.run' (gap_trees_of kids)) region))
+    (λ fault. if_wrong (IsBelow (IsWrongChildIn p bounds.costs.now bounds.answer runs kids region gaps)) (IsWrongIn p bounds.costs.now bounds.answer runs (Split c.in-Split.run' (gap_trees_of kids)) region) fault
     (split_below p bounds.costs.now bounds.answer runs region c.in-Split.run' kids gaps (c.in_ok-gaps-in-Split.ensures.split p runs each) (sym len ∙ c.in_ok-gaps-in-Split.ensures.as_many)))
     wrong)
 

@@ -5,7 +5,7 @@ use Rattle.cert_forest.specs.declared.tree.GapTree.TheViews as view
 use Rattle.cert_forest.specs.declared.tree.GapTree.TheViews.{the_lemmas}
 use Rattle.cert_forest.specs.declared.tree.GapTree.TheBlock as block
 use Rattle.cert_forest.specs.declared.tree.GapTree.TheFolds.{fold-roll-GapTree, fold_out-GapTree}
-use Rattle.cert_forest.specs.Trees.{Gap, Split, Bound, gaps_of}
+use Rattle.cert_forest.specs.Trees.{Gap, Split, Bound, gap_trees_of}
 use Rattle.cert_forest.specs.Views.{gap, gap_node}
 use Rattle.cert_forest.specs.Reading.{gap_at}
 use Rattle.cert_forest.proofs.Loops.{repeat_more, repeat_stops}
@@ -32,7 +32,7 @@ gap-returns-in_err-children t c =
 
 pub gap-returns-in_ok-children : goal.gap-returns-in_ok-children
 gap-returns-in_ok-children t c =
-    let is : gap (view.Split c.in_ok-run.run' c.in_ok-children.children) ≡ Split c.in_ok-run.run' (gaps_of (map gap c.in_ok-children.children.items)) = search (rules, the_lemmas, fold-roll-GapTree Gap gap_node, fold_out-GapTree Gap gap_node) in
+    let is : gap (view.Split c.in_ok-run.run' c.in_ok-children.children) ≡ Split c.in_ok-run.run' (gap_trees_of (map gap c.in_ok-children.children.items)) = search (rules, the_lemmas, fold-roll-GapTree Gap gap_node, fold_out-GapTree Gap gap_node) in
     rw is (gap_split c.args.depth c.args.bytes.now c.in_ok-letter.letter c.in_ok-letter.rest.now c.in_ok-run.run' c.in_ok-run.count c.in_ok-run.rest.now (map gap c.in_ok-children.children.items) c.in_ok-children.rest.now (omega arith) c.in_ok-letter.ensures (omega arith) c.in_ok-run.ensures c.in_ok-children.ensures)
 
 pub gap-returns-then-letter-eq66 : goal.gap-returns-then-letter-eq66

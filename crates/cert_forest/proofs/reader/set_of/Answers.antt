@@ -1,7 +1,7 @@
 use Rattle.std.proofs.Common.{◌≡◌, take, ap, ◌∙◌, arith}
 use Rattle.std.specs.FinSet as set
 use Rattle.std.proofs.lemmas.Grind.{common_steps}
-use Rattle.gap_sets.specs.Gaps.{gaps_in}
+use Rattle.gap_sets.specs.Gaps.{numbers_of_set}
 use Rattle.cert_forest.proofs.Sets.{gaps_in_list, gap_below, from_list_more}
 use Rattle.cert_forest.proofs.reader.set_of.Goals as goal
 
@@ -14,4 +14,4 @@ loop-gap-preserved c = c.with-set.ensures ∙ from_list_more c.args.gaps.now c.l
 pub returns : goal.returns
 returns c =
     let all : take c.loop-gap.gap-index c.args.gaps.now ≡ c.args.gaps.now = grind (arith, common_steps) in
-    ap gaps_in (c.loop-gap.invariant ∙ ap set.from_list all) ∙ gaps_in_list c.args.gaps.now c.requires
+    ap numbers_of_set (c.loop-gap.invariant ∙ ap set.from_list all) ∙ gaps_in_list c.args.gaps.now c.requires

@@ -1,7 +1,7 @@
 use Rattle.std.proofs.Common.{◌≡◌, take, ap, ◌∙◌, arith}
 use Rattle.std.specs.FinSet as set
 use Rattle.std.proofs.lemmas.Grind.{common_steps}
-use Rattle.gap_sets.specs.Gaps.{gaps_in}
+use Rattle.gap_sets.specs.Gaps.{numbers_of_set}
 use Rattle.cert_forest.proofs.Sets.{places_in_list, place_below, from_list_more}
 use Rattle.cert_forest.proofs.shown.names_at.Goals as goal
 
@@ -14,4 +14,4 @@ loop-place-preserved c = c.with_place-names.ensures ∙ from_list_more c.args.pl
 pub returns : goal.returns
 returns c =
     let all : take c.loop-place.place-index c.args.places.now ≡ c.args.places.now = grind (arith, common_steps) in
-    ap gaps_in (c.loop-place.invariant ∙ ap set.from_list all) ∙ places_in_list c.args.places.now c.requires
+    ap numbers_of_set (c.loop-place.invariant ∙ ap set.from_list all) ∙ places_in_list c.args.places.now c.requires

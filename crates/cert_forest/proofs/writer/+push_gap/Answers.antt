@@ -5,7 +5,7 @@ use Rattle.std.proofs.lemmas.Grind.{common_steps}
 use Rattle.cert_forest.specs.declared.tree.GapTree.TheViews.{the_lemmas}
 use Rattle.cert_forest.specs.declared.tree.GapTree.TheFolds.{fold-roll-GapTree, fold_out-GapTree}
 use Rattle.cert_forest.specs.Views.{gap, gap_node}
-use Rattle.cert_forest.specs.Trees.{Gap, Split, gaps_of}
+use Rattle.cert_forest.specs.Trees.{Gap, Split, gap_trees_of}
 use Rattle.cert_words.specs.Lines.{texts_of}
 use Rattle.cert_forest.proofs.TreeTexts.{gap_text, gaps_text}
 use Rattle.cert_forest.proofs.Writing.{pushed, on_ok, split_written}
@@ -14,7 +14,7 @@ use Rattle.cert_forest.proofs.writer.+push_gap.Goals as goal
 pub push_gap-returns-in_ok-push_len-in-Split : goal.push_gap-returns-in_ok-push_len-in-Split
 push_gap-returns-in_ok-push_len-in-Split t c =
     let kids = map gap c.in-Split.children.items in
-    let is : gap c.args.tree.now ≡ Split c.in-Split.run' (gaps_of kids) = search (rules, the_lemmas, fold-roll-GapTree Gap gap_node, fold_out-GapTree Gap gap_node) in
+    let is : gap c.args.tree.now ≡ Split c.in-Split.run' (gap_trees_of kids) = search (rules, the_lemmas, fold-roll-GapTree Gap gap_node, fold_out-GapTree Gap gap_node) in
     let len : c.len.result ≡ length kids = omega (arith, length-map c.in-Split.children.items gap, c.in-Split.children.ok.0, c.len.ensures) in
     on_ok c.push_gaps.result (λ e.
     split_written (string_bytes c.args.out.now) (string_bytes c.push_word.new.out) (string_bytes c.push_number.new.out) (string_bytes c.push_len.new.out) (string_bytes c.push_gaps.new.out) c.in-Split.run' c.len.result kids

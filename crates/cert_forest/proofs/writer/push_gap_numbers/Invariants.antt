@@ -1,10 +1,10 @@
 use Rattle.std.proofs.Common.{◌≡◌, ◌++◌, map}
 use Rattle.std.specs.Prelude.{string_bytes}
 use Rattle.std.specs.Fmt.{decimal}
-use Rattle.gap_sets.specs.Gaps.{gaps_in}
+use Rattle.gap_sets.specs.Gaps.{numbers_of_set}
 use Rattle.cert_words.specs.Lines.{texts_of, spaced}
 use Rattle.cert_forest.proofs.writer.push_gap_numbers.Given as goal
 
 -- the text so far, and that of the gaps to come
 abbrev pub invariant-loop-gap : goal.invariant-loop-gap
-invariant-loop-gap l = string_bytes l.out ++ texts_of spaced (map decimal l.gap-iterator) ≡ string_bytes l.fn.out ++ texts_of spaced (map decimal (gaps_in l.fn.set))
+invariant-loop-gap l = string_bytes l.out ++ texts_of spaced (map decimal l.gap-iterator) ≡ string_bytes l.fn.out ++ texts_of spaced (map decimal (numbers_of_set l.fn.set))

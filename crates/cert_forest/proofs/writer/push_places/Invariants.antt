@@ -1,10 +1,10 @@
 use Rattle.std.proofs.Common.{◌≡◌, ◌++◌, map}
 use Rattle.std.specs.Prelude.{string_bytes}
-use Rattle.gap_sets.specs.Gaps.{gaps_in}
+use Rattle.gap_sets.specs.Gaps.{numbers_of_set}
 use Rattle.cert_words.specs.Lines.{texts_of, spaced}
 use Rattle.cert_forest.specs.Texts.{place_word}
 use Rattle.cert_forest.proofs.writer.push_places.Given as goal
 
 -- the text so far, and that of the places to come
 abbrev pub invariant-loop-place : goal.invariant-loop-place
-invariant-loop-place l = string_bytes l.out ++ texts_of spaced (map place_word l.place-iterator) ≡ string_bytes l.fn.out ++ texts_of spaced (map place_word (gaps_in l.names))
+invariant-loop-place l = string_bytes l.out ++ texts_of spaced (map place_word l.place-iterator) ≡ string_bytes l.fn.out ++ texts_of spaced (map place_word (numbers_of_set l.names))

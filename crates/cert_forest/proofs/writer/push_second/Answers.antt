@@ -1,6 +1,6 @@
 use Rattle.std.proofs.Common.{List, ℕ, [], ◌∷◌, ◌++◌, map, ap, ◌∙◌, append_assoc}
 use Rattle.std.specs.Prelude.{string_bytes, codes}
-use Rattle.gap_sets.specs.Gaps.{gaps_in}
+use Rattle.gap_sets.specs.Gaps.{numbers_of_set}
 use Rattle.cert_words.specs.Lines.{line}
 use Rattle.cert_forest.specs.Texts.{place_word}
 use Rattle.cert_forest.proofs.Writing.{on_ok}
@@ -9,5 +9,5 @@ use Rattle.cert_forest.proofs.writer.push_second.Goals as goal
 pub returns : goal.returns
 returns c =
     let first : List ℕ = line (codes "FENCECERT") (codes "2" ∷ []) in
-    let second : List ℕ = line (codes "shown") (map place_word (gaps_in c.args.names.now)) in
+    let second : List ℕ = line (codes "shown") (map place_word (numbers_of_set c.args.names.now)) in
     on_ok c.push_shown.result (λ e. e ∙ ap (λ (w : List ℕ). w ++ second) c.in_ok-push_str.ensures.bytes ∙ append_assoc (string_bytes c.args.out.now) first second) c.push_shown.ensures

@@ -3,12 +3,12 @@ use Rattle.std.specs.Prelude.{Result, MatchResult}
 use Rattle.tso_program.specs.declared.listing.Thread.{Thread}
 use Rattle.cost_text.specs.declared.fault.CostTextFault.{CostTextFault}
 use Rattle.cost_text.specs.declared.fault.CostTextFault.TheVariants as fault
-use Rattle.cost_text.specs.CostTexts.{IsCostText, Refuses}
+use Rattle.cost_text.specs.CostTexts.{IsCostText, RefusesCosts}
 use Rattle.cost_text.specs.GivenCosts.{AreNotGiven, IsNoCostText}
 use Rattle.cost_text.proofs.given.given_costs.Goals as goal
 
 -- what a reader refuses is no cost text
-no_cost_text : (text : List ℕ) (threads : List Thread) (r : Result (List ℕ) CostTextFault) → IfErr r (Refuses text threads)
+no_cost_text : (text : List ℕ) (threads : List Thread) (r : Result (List ℕ) CostTextFault) → IfErr r (RefusesCosts text threads)
     → ((costs : List ℕ) → IsCostText text threads costs → MatchResult r (λ read. read ≡ costs) (λ why. why ≡ fault.OutOfMemory)) → IfErr r (IsNoCostText text threads)
 no_cost_text text threads (Ok costs) refused only = tt
 no_cost_text text threads (Err why) refused only = record { refused = refused; none = only }

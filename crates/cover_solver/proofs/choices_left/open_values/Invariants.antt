@@ -4,7 +4,7 @@ use Rattle.exec_axioms.specs.Parts.{mode_in, sketch_of}
 use Rattle.cover_solver.specs.Choices.{IsOpen}
 use Rattle.cover_solver.proofs.choices_left.open_values.Given as goal
 
--- each of these is open, and where there is none the threads so far have no next read
+-- each of these is open; if the list is empty, the threads so far have no next read
 abbrev pub invariant-loop-t : goal.invariant-loop-t
 invariant-loop-t l = record {
   each : All (IsOpen l.sketch) l.left.items;

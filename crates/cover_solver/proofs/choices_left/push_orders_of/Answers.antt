@@ -2,7 +2,7 @@ use Rattle.std.proofs.Common.{All, sym, subst, ap, ◌∙◌, arith}
 use Rattle.std.proofs.lemmas.List.Elements.{All-push}
 use Rattle.std.specs.Global.{Vec}
 use Rattle.exec_axioms.proofs.Lookups.{each_more}
-use Rattle.cover_solver.specs.ChoicesLeft.{IsInOrder}
+use Rattle.cover_solver.specs.ChoicesLeft.{AreWritesInOrder}
 use Rattle.cover_solver.specs.declared.choices_left.OpenChoice.{OpenChoice}
 use Rattle.cover_solver.specs.Choices.{IsOpen}
 use Rattle.cover_solver.proofs.NothingLeft.{leaves_one, leaves_same, of_each}
@@ -12,7 +12,7 @@ use Rattle.cover_solver.proofs.choices_left.push_orders_of.Goals.{then-needs_ord
 pub loop-second-preserved : goal.loop-second-preserved
 loop-second-preserved c =
     let s = c.args.sketch.now in
-    let seen = each_more (IsInOrder s c.args.first) c.args.others.now c.loop-second.second-index (record { thread = 0; access = 0 }) c.loop-second-test.true in
+    let seen = each_more (AreWritesInOrder s c.args.first) c.args.others.now c.loop-second.second-index (record { thread = 0; access = 0 }) c.loop-second-test.true in
     elim c.if-needs_order.branch [
       | then-needs_order+in_ok-push w ↦ (
           let pushed = ap (λ (v : Vec OpenChoice). v.items) w.left-is ∙ w.in_ok-push.ensures.items in
@@ -31,5 +31,5 @@ loop-second-preserved c =
 pub returns-clause-none : goal.returns-clause-none
 returns-clause-none c = record {
   before = c.loop-second.invariant.none.before;
-  since = λ e. of_each (IsInOrder c.args.sketch.now c.args.first) c.args.others.now c.loop-second.second-index (omega (arith, c.loop-second-test.false)) (c.loop-second.invariant.none.since e);
+  since = λ e. of_each (AreWritesInOrder c.args.sketch.now c.args.first) c.args.others.now c.loop-second.second-index (omega (arith, c.loop-second-test.false)) (c.loop-second.invariant.none.since e);
 }

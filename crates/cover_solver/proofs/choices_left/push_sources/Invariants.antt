@@ -6,7 +6,7 @@ use Rattle.cover_solver.specs.Choices.{IsOpen}
 use Rattle.cover_solver.specs.ChoicesLeft.{LeavesNone}
 use Rattle.cover_solver.proofs.choices_left.push_sources.Given as goal
 
--- each of these is open, and where there is none the accesses so far have their sources
+-- each of these is open; if the list is empty, the accesses so far have their sources
 abbrev pub invariant-loop-access : goal.invariant-loop-access
 invariant-loop-access l = record {
   each : All (IsOpen l.sketch) l.left.items;

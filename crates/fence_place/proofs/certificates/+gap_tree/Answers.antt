@@ -6,7 +6,7 @@ use Rattle.cert_forest.specs.declared.tree.GapTree.TheFolds.{fold-roll-GapTree, 
 use Rattle.cert_forest.specs.Views.{gap, gap_node}
 use Rattle.cert_forest.specs.declared.tree.GapTree.{GapTree}
 use Rattle.cert_forest.specs.declared.tree.GapTree.TheVariants as tree
-use Rattle.cert_forest.specs.Trees.{Gap, Split, Bound, gaps_of}
+use Rattle.cert_forest.specs.Trees.{Gap, Split, Bound, gap_trees_of}
 use Rattle.search_core.specs.Nodes.{open_gaps}
 use Rattle.search_core.specs.Entries.{is_closed}
 use Rattle.fence_place.specs.Recorded.{IsRecorded, AreRecorded}
@@ -51,7 +51,7 @@ gap_tree-returns t c =
     ∙ (λ i. length (open_gaps (same_run i).passed (same_node i).never)) in
     let kids = map gap c.in_ok-children.children.items in
     let run = get_or c.args.numbers.now number 0 in
-    let is : gap (tree.Split run c.in_ok-children.children) ≡ Split run (gaps_of kids) = search (rules, the_lemmas, fold-roll-GapTree Gap gap_node, fold_out-GapTree Gap gap_node) in
+    let is : gap (tree.Split run c.in_ok-children.children) ≡ Split run (gap_trees_of kids) = search (rules, the_lemmas, fold-roll-GapTree Gap gap_node, fold_out-GapTree Gap gap_node) in
     subst (λ (g : Gap). IsRecorded o.entries c.args.numbers.now g number) (sym is) (
       e,
       f,
@@ -59,12 +59,12 @@ gap_tree-returns t c =
       there,
       split,
       slice_get-get_or c.args.numbers.now number 0 c.requires.there,
-      subst (λ n. AreRecorded o.entries c.args.numbers.now (gaps_of kids) first n) count c.in_ok-children.ensures,
+      subst (λ n. AreRecorded o.entries c.args.numbers.now (gap_trees_of kids) first n) count c.in_ok-children.ensures,
     )
 
 pub gap_trees-loop-i-preserved : goal.gap_trees-loop-i-preserved
 gap_trees-loop-i-preserved t c =
     let o = c.args.finished.now in
-    subst (λ (ts : List GapTree). AreRecorded o.entries c.args.numbers.now (gaps_of (map gap ts)) c.args.first (c.loop-i.i + 1)) (sym c.in_ok-push.ensures.items)
-    (subst (λ (gs : List Gap). AreRecorded o.entries c.args.numbers.now (gaps_of gs) c.args.first (c.loop-i.i + 1)) (sym (map-append gap c.loop-i.trees.items (c.in_ok-tree.tree ∷ [])))
+    subst (λ (ts : List GapTree). AreRecorded o.entries c.args.numbers.now (gap_trees_of (map gap ts)) c.args.first (c.loop-i.i + 1)) (sym c.in_ok-push.ensures.items)
+    (subst (λ (gs : List Gap). AreRecorded o.entries c.args.numbers.now (gap_trees_of gs) c.args.first (c.loop-i.i + 1)) (sym (map-append gap c.loop-i.trees.items (c.in_ok-tree.tree ∷ [])))
     (recorded_more o.entries c.args.numbers.now (map gap c.loop-i.trees.items) (gap c.in_ok-tree.tree) c.args.first c.loop-i.i c.loop-i.invariant c.in_ok-tree.ensures))

@@ -3,17 +3,17 @@ use Rattle.program_streams.proofs.Printed.{prints_more, prints_line}
 use Rattle.report.specs.Faults.{file_line}
 use Rattle.fencecheck.specs.Verdicts.{IsVerdict}
 use Rattle.fencecheck.specs.Replies.{IsReplyToFiles, judged, no_file}
-use Rattle.fencecheck.specs.Names.{names_of}
+use Rattle.fencecheck.specs.Names.{file_names_of}
 use Rattle.fencecheck.proofs.command.run_files.Goals as goal
 
 pub returns-in-Ok : goal.returns-in-Ok
 returns-in-Ok g c =
     let texts = c.in-Ok.texts in
-    prints_more (IsVerdict texts.litmus.items texts.certificate.items (option_map (λ text. text.items) texts.costs)) (IsReplyToFiles (names_of c.args.names) (g.R.Read.remaining c.args.input.now) (g.S.FileStore.held c.args.files.now)) _ _ c.tell_texts.result
+    prints_more (IsVerdict texts.litmus.items texts.certificate.items (option_map (λ text. text.items) texts.costs)) (IsReplyToFiles (file_names_of c.args.names) (g.R.Read.remaining c.args.input.now) (g.S.FileStore.held c.args.files.now)) _ _ c.tell_texts.result
     (λ status text is. judged texts.litmus.items texts.certificate.items (option_map (λ text. text.items) texts.costs) status text c.in-Ok.ensures.texts is) c.tell_texts.ensures
 
 pub returns-in-Err : goal.returns-in-Err
 returns-in-Err g c =
     let why = c.in-Err.fault in
-    prints_line c.file_line.result 1 (file_line why) (IsReplyToFiles (names_of c.args.names) (g.R.Read.remaining c.args.input.now) (g.S.FileStore.held c.args.files.now)) _ _ c.say.result
+    prints_line c.file_line.result 1 (file_line why) (IsReplyToFiles (file_names_of c.args.names) (g.R.Read.remaining c.args.input.now) (g.S.FileStore.held c.args.files.now)) _ _ c.say.result
     (no_file why c.in-Err.ensures.err) c.file_line.ensures c.say.ensures

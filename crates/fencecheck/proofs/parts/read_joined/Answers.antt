@@ -2,7 +2,7 @@ use Rattle.std.proofs.Common.{◌+◌, ◌-◌, ◌≤◌, length, subst, arith,
 use Rattle.cover_judge.proofs.Answered.{err_up}
 use Rattle.program_streams.specs.Streams.{IsReadFault}
 use Rattle.fencecheck.specs.declared.parts.TheConstants.{CERTIFICATE_LIMIT}
-use Rattle.fencecheck.specs.Inputs.{IsStart, IsTooLongInput}
+use Rattle.fencecheck.specs.Inputs.{IsCertificateStart, IsTooLongInput}
 use Rattle.fencecheck.proofs.Joined.{end_or_full, long_litmus, parts_read, reads_rest, rest_fault}
 use Rattle.fencecheck.proofs.parts.read_joined.Goals as goal
 
@@ -11,7 +11,7 @@ returns-then-start-gt-TEXT_LIMIT-clause-err g c =
     let start = c.certificate_start-start.result in
     let found = c.certificate_start-start.ensures in
     long_litmus (g.R.Read.remaining c.args.input.now) (g.R.Read.remaining c.read_on.new.input) c.new-bytes.result.items c.read_on.new.bytes.items c.new-bytes.ensures.items c.in_ok-ended.ensures.more
-    start (subst (λ xs. IsStart xs start) c.deref.ensures.value found.start) (subst (λ xs. start ≤ length xs) c.deref.ensures.value found.within) (omega (arith, c.if-start-gt-TEXT_LIMIT.true))
+    start (subst (λ xs. IsCertificateStart xs start) c.deref.ensures.value found.start) (subst (λ xs. start ≤ length xs) c.deref.ensures.value found.within) (omega (arith, c.if-start-gt-TEXT_LIMIT.true))
     (end_or_full c.in_ok-ended.ended c.in_ok-ended.ensures.end (λ e. omega (arith, c.read_on.new.bytes.ok.0, c.in_ok-ended.ensures.full e)))
 
 pub returns-in_err-read_rest_up_to-clause-err : goal.returns-in_err-read_rest_up_to-clause-err
@@ -22,7 +22,7 @@ returns-in_err-read_rest_up_to-clause-err g c =
     let full = c.in_ok-ended.ensures.full c.if-ended.false in
     err_up c.from_residual-in_err-read_rest_up_to.result why (IsReadFault (IsTooLongInput old)) c.from_residual-in_err-read_rest_up_to.ensures.1
     (rest_fault old (g.R.Read.remaining c.read_on.new.input) c.new-bytes.result.items c.read_on.new.bytes.items c.new-bytes.ensures.items c.in_ok-ended.ensures.more
-    start (subst (λ xs. IsStart xs start) c.deref.ensures.value c.certificate_start-start.ensures.start) c.if-start-gt-TEXT_LIMIT.false (omega (arith, c.read_on.new.bytes.ok.0, full))
+    start (subst (λ xs. IsCertificateStart xs start) c.deref.ensures.value c.certificate_start-start.ensures.start) c.if-start-gt-TEXT_LIMIT.false (omega (arith, c.read_on.new.bytes.ok.0, full))
     (g.R.Read.remaining c.read_rest_up_to.new.input) (start + CERTIFICATE_LIMIT + 1 - vec_len c.read_on.new.bytes) why c.in_err-read_rest_up_to.ensures.err
     (omega (arith, c.read_on.new.bytes.ok.0, full)))
 
@@ -31,7 +31,7 @@ returns-in_err-read_rest_up_to-clause-read g c =
     let start = c.certificate_start-start.result in
     let full = c.in_ok-ended.ensures.full c.if-ended.false in
     reads_rest (g.R.Read.remaining c.args.input.now) (g.R.Read.remaining c.read_on.new.input) c.new-bytes.result.items c.read_on.new.bytes.items c.new-bytes.ensures.items c.in_ok-ended.ensures.more
-    start (subst (λ xs. IsStart xs start) c.deref.ensures.value c.certificate_start-start.ensures.start) c.if-start-gt-TEXT_LIMIT.false (omega (arith, c.read_on.new.bytes.ok.0, full))
+    start (subst (λ xs. IsCertificateStart xs start) c.deref.ensures.value c.certificate_start-start.ensures.start) c.if-start-gt-TEXT_LIMIT.false (omega (arith, c.read_on.new.bytes.ok.0, full))
     (g.R.Read.remaining c.read_rest_up_to.new.input) (start + CERTIFICATE_LIMIT + 1 - vec_len c.read_on.new.bytes) c.read_rest_up_to.ensures.taken (omega (arith, c.read_on.new.bytes.ok.0, full))
 
 pub returns-clause-parts : goal.returns-clause-parts
@@ -39,7 +39,7 @@ returns-clause-parts g c =
     let start = c.certificate_start-start.result in
     let full = c.in_ok-ended.ensures.full c.if-ended.false in
     parts_read (g.R.Read.remaining c.args.input.now) (g.R.Read.remaining c.read_on.new.input) c.new-bytes.result.items c.read_on.new.bytes.items c.new-bytes.ensures.items c.in_ok-ended.ensures.more
-    start (subst (λ xs. IsStart xs start) c.deref.ensures.value c.certificate_start-start.ensures.start) c.if-start-gt-TEXT_LIMIT.false (omega (arith, c.read_on.new.bytes.ok.0, full))
+    start (subst (λ xs. IsCertificateStart xs start) c.deref.ensures.value c.certificate_start-start.ensures.start) c.if-start-gt-TEXT_LIMIT.false (omega (arith, c.read_on.new.bytes.ok.0, full))
     c.read_rest_up_to.new.bytes.items c.in_ok-read_rest_up_to.ensures.whole (omega (arith, c.read_rest_up_to.new.bytes.ok.0, c.in_ok-read_rest_up_to.ensures.within))
 
 pub returns-clause-read : goal.returns-clause-read
@@ -47,5 +47,5 @@ returns-clause-read g c =
     let start = c.certificate_start-start.result in
     let full = c.in_ok-ended.ensures.full c.if-ended.false in
     reads_rest (g.R.Read.remaining c.args.input.now) (g.R.Read.remaining c.read_on.new.input) c.new-bytes.result.items c.read_on.new.bytes.items c.new-bytes.ensures.items c.in_ok-ended.ensures.more
-    start (subst (λ xs. IsStart xs start) c.deref.ensures.value c.certificate_start-start.ensures.start) c.if-start-gt-TEXT_LIMIT.false (omega (arith, c.read_on.new.bytes.ok.0, full))
+    start (subst (λ xs. IsCertificateStart xs start) c.deref.ensures.value c.certificate_start-start.ensures.start) c.if-start-gt-TEXT_LIMIT.false (omega (arith, c.read_on.new.bytes.ok.0, full))
     (g.R.Read.remaining c.read_rest_up_to.new.input) (start + CERTIFICATE_LIMIT + 1 - vec_len c.read_on.new.bytes) c.read_rest_up_to.ensures.taken (omega (arith, c.read_on.new.bytes.ok.0, full))

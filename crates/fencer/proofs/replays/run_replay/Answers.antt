@@ -1,6 +1,6 @@
 use Rattle.report.specs.Faults.{file_line}
 use Rattle.program_streams.proofs.Printed.{prints_line, prints_more}
-use Rattle.fencer.specs.Replays.{run_text, HasNoRun, IsReplay, PrintsRun}
+use Rattle.fencer.specs.Replays.{label_words_text, HasNoRun, IsReplay, PrintsRun}
 use Rattle.fencer.specs.Refusals.{IsTold}
 use Rattle.fencer.specs.TextAnswers.{no_file}
 use Rattle.fencer.proofs.Told.{told_answer}
@@ -8,7 +8,7 @@ use Rattle.fencer.proofs.replays.run_replay.Goals as goal
 
 pub returns-in-Ok : goal.returns-in-Ok
 returns-in-Ok g c =
-    let labels = run_text c.args.labels.now in
+    let labels = label_words_text c.args.labels.now in
     let input = g.R.Read.remaining c.args.input.now in
     let files = g.S.FileStore.held c.args.files.now in
     prints_more (IsTold c.replay_lines.result) (IsReplay c.args.model labels c.args.litmus.now input files) _ _ c.tell.result
@@ -18,5 +18,5 @@ returns-in-Ok g c =
 
 pub returns-in-Err : goal.returns-in-Err
 returns-in-Err g c =
-    prints_line c.file_line.result 1 (file_line c.in-Err.fault) (IsReplay c.args.model (run_text c.args.labels.now) c.args.litmus.now (g.R.Read.remaining c.args.input.now) (g.S.FileStore.held c.args.files.now)) _ _ c.say.result
+    prints_line c.file_line.result 1 (file_line c.in-Err.fault) (IsReplay c.args.model (label_words_text c.args.labels.now) c.args.litmus.now (g.R.Read.remaining c.args.input.now) (g.S.FileStore.held c.args.files.now)) _ _ c.say.result
     (no_file c.in-Err.fault c.in-Err.ensures.err) c.file_line.ensures c.say.ensures

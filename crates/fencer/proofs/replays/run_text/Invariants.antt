@@ -1,7 +1,7 @@
 use Rattle.std.proofs.Common.{◌≡◌, take}
-use Rattle.fencer.specs.Replays.{run_text}
+use Rattle.fencer.specs.Replays.{label_words_text}
 use Rattle.fencer.proofs.replays.run_text.Given as goal
 
 -- the words so far are written
 abbrev pub invariant-loop-word : goal.invariant-loop-word
-invariant-loop-word l = l.text.items ≡ run_text (take l.word-index l.words)
+invariant-loop-word l = l.text.items ≡ label_words_text (take l.word-index l.words)

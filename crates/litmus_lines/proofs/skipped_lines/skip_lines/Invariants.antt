@@ -3,7 +3,7 @@ use Rattle.litmus_lines.specs.SkippedLines.{AreSkipped}
 use Rattle.litmus_lines.specs.Faults.{BeginsSkipped}
 use Rattle.litmus_lines.proofs.skipped_lines.skip_lines.Given as goal
 
--- where the lines end behind the rest, they end behind the whole, and the other way round
+-- where the lines end after the rest, they end after the whole, and the other way round
 abbrev pub invariant-loop-rest : goal.invariant-loop-rest
 invariant-loop-rest l = record {
   forth : (end : List ℕ) → AreSkipped l.rest end → AreSkipped l.lines end;

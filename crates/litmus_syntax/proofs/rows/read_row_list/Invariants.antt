@@ -1,14 +1,14 @@
 use Rattle.std.proofs.Common.{◌≡◌, ◌++◌, map, length}
 use Rattle.text_tokens.specs.Tokens.{toks}
 use Rattle.litmus_syntax.specs.Views.{row_view, label_view}
-use Rattle.litmus_syntax.specs.Grammar.{labels_of}
+use Rattle.litmus_syntax.specs.Grammar.{labels_in_rows}
 use Rattle.litmus_syntax.proofs.RowLaws.{RowsSoFar}
 use Rattle.litmus_syntax.proofs.rows.read_row_list.Given as goal
 
 abbrev pub invariant-loop-alloc : goal.invariant-loop-alloc
 invariant-loop-alloc l = record {
   rows : RowsSoFar l.threads (toks l.tokens) (map row_view l.rows.items) (toks l.rest);
-  labels : map label_view l.labels.items ≡ map label_view l.fn.labels.items ++ labels_of (map row_view l.rows.items);
+  labels : map label_view l.labels.items ≡ map label_view l.fn.labels.items ++ labels_in_rows (map row_view l.rows.items);
 }
 
 abbrev pub decreases-loop-alloc : goal.decreases-loop-alloc

@@ -1,5 +1,5 @@
 use Rattle.std.proofs.Common.{◌≡◌, map, take}
-use Rattle.conditions.specs.Tokens.{sign_of as token_sign}
+use Rattle.conditions.specs.Tokens.{sign_of_token as token_sign}
 use Rattle.litmus_syntax.specs.Views.{sign_at_view}
 use Rattle.litmus_text.specs.Filling.{byte_in}
 use Rattle.litmus_text.specs.Reading.{numbered_signs}

@@ -3,7 +3,7 @@ use Rattle.litmus_syntax.specs.Views.{row_view}
 use Rattle.litmus_text.specs.Labels.{column, labels_behind, thread_labels}
 use Rattle.litmus_text.proofs.label.thread_labels.Given as goal
 
--- the labels of the rows so far are there, and those of the others stand behind the instructions so far
+-- the labels of the rows so far are there, and those of the others follow the instructions so far
 abbrev pub invariant-loop-row : goal.invariant-loop-row
 invariant-loop-row l = record {
   few : l.position ≤ l.row-index;

@@ -9,7 +9,7 @@ use Rattle.tso_program.specs.declared.listing.Thread.{Thread}
 use Rattle.litmus_syntax.specs.declared.cell.Cell.{Cell}
 use Rattle.litmus_syntax.specs.Views.{row_view}
 use Rattle.litmus_text.specs.Filling.{byte_in, byte_at, thread_in}
-use Rattle.litmus_text.specs.Meaning.{code_of}
+use Rattle.litmus_text.specs.Meaning.{code_in}
 use Rattle.litmus_text.proofs.program.threads_of.Goals as goal
 
 made : (c d : List Instr) (r s : List ℕ) → c ≡ d → r ≡ s → ◌≡◌ {A = Thread} (record { code = c; registers = r }) (record { code = d; registers = s })
@@ -22,8 +22,8 @@ loop-thread-preserved c =
     let rows = map row_view c.args.body.now.rows.items in
     let targets = c.args.targets.now in
     let own : c.index-targets-thread.result ≡ get_or targets t [] = c.index-targets-thread.is ∙ get_or_default targets t c.index-targets-thread.result [] c.loop-thread-test.true in
-    let code : c.of.result ≡ code_of numbered (byte_at (get_or targets t [])) rows t =
-    c.of.ensures ∙ c.in_ok-code.ensures ∙ (λ i. code_of numbered (byte_at (own i)) (map row_view (c.as_slice.ensures.value i)) t) in
+    let code : c.of.result ≡ code_in numbered (byte_at (get_or targets t [])) rows t =
+    c.of.ensures ∙ c.in_ok-code.ensures ∙ (λ i. code_in numbered (byte_at (own i)) (map row_view (c.as_slice.ensures.value i)) t) in
     let registers = c.unwrap_or.ensures ∙ ap (λ (o : Option (List ℕ)). unwrap_or o (replicate 6 0)) c.copied.ensures ∙ c.get.ensures.lookup.4 (omega arith) (replicate 6 0) in
     c.in_ok-push.ensures.items
     ∙ ap (λ (ts : List Thread). ts ++ record { code = c.of.result; registers = c.unwrap_or.result } ∷ []) c.loop-thread.invariant

@@ -4,12 +4,12 @@ use Rattle.tso_program.specs.Shown.{Question}
 use Rattle.cover_solver.specs.declared.oracle.Verdict.{Verdict}
 use Rattle.cover_solver.specs.declared.oracle.Verdict.TheVariants as verdict
 use Rattle.cover_solver.specs.Facts.{Serving}
-use Rattle.cover_solver.specs.Verdicts.{IsVerdict}
+use Rattle.cover_solver.specs.Verdicts.{IsVerdictOf}
 use Rattle.search_core.specs.declared.node.Node.{Node}
 use Rattle.outcome_lists.proofs.search.confirm.Goals as goal
 
-of_set : (q : Question) (gaps : SetOfGaps) (v : Verdict) (b : Serving) → v ≡ verdict.Serves b → IsVerdict q gaps v → b.gaps ≡ gaps
-of_set q gaps v b e h = (subst (IsVerdict q gaps) e h).1
+of_set : (q : Question) (gaps : SetOfGaps) (v : Verdict) (b : Serving) → v ≡ verdict.Serves b → IsVerdictOf q gaps v → b.gaps ≡ gaps
+of_set q gaps v b e h = (subst (IsVerdictOf q gaps) e h).1
 
 pub confirm-requires-clause-of_node : goal.confirm-requires-clause-of_node
 confirm-requires-clause-of_node c = λ node holds.

@@ -5,7 +5,7 @@ use Rattle.tso_program.specs.declared.shown.Shown.{Shown}
 use Rattle.tso_program.specs.Shown.{asked}
 use Rattle.cover_judge.proofs.Answered.{err_up}
 use Rattle.fence_place.specs.Placements.{IsPlacement}
-use Rattle.placed_text.specs.PlacedTexts.{IsWritten}
+use Rattle.placed_text.specs.PlacedTexts.{AreWrittenTexts}
 use Rattle.placed_text.specs.TextFaults.{HasNoPlacedText}
 use Rattle.placed_text.proofs.GapsThere.{none_missing}
 use Rattle.placed_text.proofs.Judged.{one_each, placed_text, no_program, no_costs, no_placement}
@@ -43,4 +43,4 @@ returns-in-Ok-clause-placed g c =
     let placed = c.in_ok-placed.placed in
     placed_text c.args.litmus.now (option_map (λ text. text.now) c.args.costs) c.args.observed c.in-Ok.texts source c.in_ok-costs.costs placed c.in_ok-source.ensures.found c.in_ok-costs.ensures.given
     (subst (λ (shown : Shown). IsPlacement (asked source.program shown) c.in_ok-costs.costs placed) c.shown_as-shown.ensures c.in_ok-placed.ensures.placed)
-    (subst (λ (shown : Shown). IsWritten source shown placed c.in-Ok.texts) c.shown_as-shown.ensures c.in-Ok.ensures)
+    (subst (λ (shown : Shown). AreWrittenTexts source shown placed c.in-Ok.texts) c.shown_as-shown.ensures c.in-Ok.ensures)

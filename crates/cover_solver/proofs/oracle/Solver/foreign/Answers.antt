@@ -2,7 +2,7 @@ use Rattle.std.proofs.Common.{◌≡◌, true, sym, subst, ap, ◌∙◌}
 use Rattle.std.specs.FinSet as set
 use Rattle.tso_program.specs.Shown.{Question, asked}
 use Rattle.tso_machine.specs.Machine.{Fenced, no_gaps}
-use Rattle.tso_machine.specs.Faults.{FaultIs}
+use Rattle.tso_machine.specs.Faults.{ReplayFaultIs}
 use Rattle.tso_machine.specs.Modes.{ArePassed}
 use Rattle.tso_machine.specs.Outcomes.{IsShownRun, IsForeignRun}
 use Rattle.cover_solver.specs.Facts.{Asked, IsListOf}
@@ -53,5 +53,5 @@ of_run-requires c =
     let labels = c.args.run.labels.items in
     let question = ap (λ (a : Asked). a.question) c.self.view_is in
     replays_unfenced s.question c.args.set.now labels c.args.run.outcome c.in-Err.fault c.requires.is_run
-    (subst (λ (q : Question). FaultIs q.program (Fenced no_gaps) labels c.in-Err.fault) question
-    (subst (λ ls. FaultIs c.self.inside.program (Fenced no_gaps) ls c.in-Err.fault) c.deref.ensures.value c.in-Err.ensures.fault))
+    (subst (λ (q : Question). ReplayFaultIs q.program (Fenced no_gaps) labels c.in-Err.fault) question
+    (subst (λ ls. ReplayFaultIs c.self.inside.program (Fenced no_gaps) ls c.in-Err.fault) c.deref.ensures.value c.in-Err.ensures.fault))

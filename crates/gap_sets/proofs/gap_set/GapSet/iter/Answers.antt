@@ -1,4 +1,4 @@
-use Rattle.gap_sets.specs.Bits.{list_of, gaps_of}
+use Rattle.gap_sets.specs.Bits.{list_of, gaps_of_bits}
 use Rattle.gap_sets.proofs.Listed.{list_of-rises, list_of-gaps_in}
 use Rattle.gap_sets.specs.Bits.{has_bit}
 use Rattle.gap_sets.proofs.Ranges.{below_end}
@@ -12,7 +12,7 @@ pub returns-clause-ascending : goal.returns-clause-ascending
 returns-clause-ascending c = list_of-rises c.self.inside.bits
 
 pub returns-clause-members : goal.returns-clause-members
-unfolding gaps_of
+unfolding gaps_of_bits
 returns-clause-members c = c.self.view_is
 
 pub returns-clause-below : goal.returns-clause-below

@@ -1,6 +1,6 @@
 use Rattle.std.proofs.Common.{◌≡◌, Option, Some, None, sym, ◌∙◌, subst}
 use Rattle.search_core.specs.contracts.tree.SearchTree.{the_view}
-use Rattle.search_core.specs.States.{State, IsDone}
+use Rattle.search_core.specs.States.{SearchState, IsDone}
 use Rattle.std.specs.Prelude.{IfSome, IfNone}
 use Rattle.std.specs.Option.{option_copied}
 use Rattle.std.specs.Borrow.{Bor}
@@ -23,7 +23,7 @@ returns-then-is_done-clause-answer c =
     let s = the_view c.self.inside in
     let done : IsDone s = subst IsDone (sym c.self.view_is) (c.is_done.ensures.0 c.if-is_done.true) in
     if_some (λ b. (b.question ≡ c.args.self.now.question) × IsTheAnswer c.args.self.now.question c.args.self.now.costs b.gaps) c.as_ref.result c.self.inside.best c.as_ref.ensures.value
-    (λ b is. subst (λ (t : State). (b.question ≡ t.question) × IsTheAnswer t.question t.costs b.gaps) c.self.view_is (found_is_answer s b c.self.invariant done is))
+    (λ b is. subst (λ (t : SearchState). (b.question ≡ t.question) × IsTheAnswer t.question t.costs b.gaps) c.self.view_is (found_is_answer s b c.self.invariant done is))
 
 pub returns-then-is_done-clause-none : goal.returns-then-is_done-clause-none
 returns-then-is_done-clause-none c = if_none (¬ IsDone c.args.self.now) c.as_ref.result c.self.inside.best c.as_ref.ensures.value

@@ -1,6 +1,6 @@
 use Rattle.std.proofs.Common.{Some, refl, subst, inl, inr}
 use Rattle.search_core.specs.contracts.tree.SearchTree.{the_view}
-use Rattle.search_core.specs.States.{State}
+use Rattle.search_core.specs.States.{SearchState}
 use Rattle.search_core.specs.Events.{Confirms, confirms}
 use Rattle.search_core.specs.Histories.{goes_on}
 use Rattle.search_core.proofs.Moves.{seated, holds_nothing, held_within, confirm_event}
@@ -27,10 +27,10 @@ pub invariant_of-self : goal.invariant_of-self
 invariant_of-self c = goes_on (the_view c.self.inside) (record (the_view c.self.inside) { entries = c.mark.new.entries.items }) c.args.seat c.self.invariant (seated (the_view c.self.inside) c.args.self.now c.self.view_is c.args.seat c.requires.seat) (confirms c.args.served (older c))
 
 pub returns-then-not-better-clause-confirmed : goal.returns-then-not-better-clause-confirmed
-returns-then-not-better-clause-confirmed c = subst (λ (s : State). Confirms s (record (the_view c.self.inside) { entries = c.mark.new.entries.items }) c.args.seat c.args.served) c.self.view_is (older c)
+returns-then-not-better-clause-confirmed c = subst (λ (s : SearchState). Confirms s (record (the_view c.self.inside) { entries = c.mark.new.entries.items }) c.args.seat c.args.served) c.self.view_is (older c)
 
 pub invariant_of-self-2 : goal.invariant_of-self-2
 invariant_of-self-2 c = goes_on (the_view c.self.inside) (record (the_view c.self.inside) { entries = c.mark.new.entries.items; best = Some c.args.served }) c.args.seat c.self.invariant (seated (the_view c.self.inside) c.args.self.now c.self.view_is c.args.seat c.requires.seat) (confirms c.args.served (newer c))
 
 pub returns-clause-confirmed : goal.returns-clause-confirmed
-returns-clause-confirmed c = subst (λ (s : State). Confirms s (record (the_view c.self.inside) { entries = c.mark.new.entries.items; best = Some c.args.served }) c.args.seat c.args.served) c.self.view_is (newer c)
+returns-clause-confirmed c = subst (λ (s : SearchState). Confirms s (record (the_view c.self.inside) { entries = c.mark.new.entries.items; best = Some c.args.served }) c.args.seat c.args.served) c.self.view_is (newer c)

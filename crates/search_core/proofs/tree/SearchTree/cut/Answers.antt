@@ -1,6 +1,6 @@
 use Rattle.std.proofs.Common.{◌≡◌, true, false, sym, ◌∙◌, subst}
 use Rattle.search_core.specs.contracts.tree.SearchTree.{the_view}
-use Rattle.search_core.specs.States.{State}
+use Rattle.search_core.specs.States.{SearchState}
 use Rattle.search_core.specs.Events.{Cuts, cuts}
 use Rattle.search_core.specs.Faults.{IsReasonOf, CutsNode}
 use Rattle.search_core.specs.Histories.{goes_on}
@@ -14,7 +14,7 @@ pub returns-then-not-cuts-clause-fault : goal.returns-then-not-cuts-clause-fault
 returns-then-not-cuts-clause-fault c = (
   c.in-Some.node,
   does_hold (the_view c.self.inside) c.args.self.now c.self.view_is c.deref.result.now c.deref.ensures.value c.args.seat c.in-Some.place c.in-Some.node c.in-Some.ensures,
-  subst (λ (s : State). ¬ CutsNode s c.args.reason c.in-Some.node) c.self.view_is (λ may. (let yes = c.cuts.ensures.value.1 may in let no : true ≡ false = sym yes ∙ c.if-not-cuts.true in absurd cc)),
+  subst (λ (s : SearchState). ¬ CutsNode s c.args.reason c.in-Some.node) c.self.view_is (λ may. (let yes = c.cuts.ensures.value.1 may in let no : true ≡ false = sym yes ∙ c.if-not-cuts.true in absurd cc)),
 )
 
 pub mark-requires : goal.mark-requires
@@ -22,17 +22,17 @@ mark-requires c = held_within (the_view c.self.inside) c.args.self.now c.self.vi
 
 event : (c : goal.Joined-reason-5) → Cuts (the_view c.self.inside) (record (the_view c.self.inside) { entries = c.mark.new.entries.items }) c.args.seat
 event c = cut_event (the_view c.self.inside) c.args.self.now c.self.view_is c.deref.result.now c.deref.ensures.value c.mark.new.entries.items c.args.seat c.in-Some.place c.in-Some.node
-    c.in-Some.ensures (why_cut (the_view c.self.inside) c.args.reason c.in-Some.node (subst (λ (s : State). IsReasonOf s c.args.reason) (sym c.self.view_is) c.requires.of_search) c.cuts.ensures.bound (c.cuts.ensures.value.0 c.if-not-cuts.false)) c.mark.ensures
+    c.in-Some.ensures (why_cut (the_view c.self.inside) c.args.reason c.in-Some.node (subst (λ (s : SearchState). IsReasonOf s c.args.reason) (sym c.self.view_is) c.requires.of_search) c.cuts.ensures.bound (c.cuts.ensures.value.0 c.if-not-cuts.false)) c.mark.ensures
 
 pub invariant_of-self : goal.invariant_of-self
 invariant_of-self c = goes_on (the_view c.self.inside) (record (the_view c.self.inside) { entries = c.mark.new.entries.items }) c.args.seat c.self.invariant (seated (the_view c.self.inside) c.args.self.now c.self.view_is c.args.seat c.requires.seat) (cuts (event c))
 
 pub returns-clause-cut : goal.returns-clause-cut
-returns-clause-cut c = subst (λ (s : State). Cuts s (record (the_view c.self.inside) { entries = c.mark.new.entries.items }) c.args.seat) c.self.view_is (event c)
+returns-clause-cut c = subst (λ (s : SearchState). Cuts s (record (the_view c.self.inside) { entries = c.mark.new.entries.items }) c.args.seat) c.self.view_is (event c)
 
 pub returns-clause-lawful : goal.returns-clause-lawful
 returns-clause-lawful c = (
   c.in-Some.node,
   does_hold (the_view c.self.inside) c.args.self.now c.self.view_is c.deref.result.now c.deref.ensures.value c.args.seat c.in-Some.place c.in-Some.node c.in-Some.ensures,
-  subst (λ (s : State). CutsNode s c.args.reason c.in-Some.node) c.self.view_is (c.cuts.ensures.value.0 c.if-not-cuts.false),
+  subst (λ (s : SearchState). CutsNode s c.args.reason c.in-Some.node) c.self.view_is (c.cuts.ensures.value.0 c.if-not-cuts.false),
 )

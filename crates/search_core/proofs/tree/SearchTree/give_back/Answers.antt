@@ -1,6 +1,6 @@
 use Rattle.std.proofs.Common.{refl, subst}
 use Rattle.search_core.specs.contracts.tree.SearchTree.{the_view}
-use Rattle.search_core.specs.States.{State}
+use Rattle.search_core.specs.States.{SearchState}
 use Rattle.search_core.specs.Events.{GivesBack, gives_back}
 use Rattle.search_core.specs.Histories.{goes_on}
 use Rattle.search_core.proofs.Moves.{seated, holds_nothing, held_within, give_event}
@@ -20,4 +20,4 @@ pub invariant_of-self : goal.invariant_of-self
 invariant_of-self c = goes_on (the_view c.self.inside) (record (the_view c.self.inside) { entries = c.mark.new.entries.items }) c.args.seat c.self.invariant (seated (the_view c.self.inside) c.args.self.now c.self.view_is c.args.seat c.requires) (gives_back (event c))
 
 pub returns-clause-given : goal.returns-clause-given
-returns-clause-given c = subst (λ (s : State). GivesBack s (record (the_view c.self.inside) { entries = c.mark.new.entries.items }) c.args.seat) c.self.view_is (event c)
+returns-clause-given c = subst (λ (s : SearchState). GivesBack s (record (the_view c.self.inside) { entries = c.mark.new.entries.items }) c.args.seat) c.self.view_is (event c)

@@ -2,7 +2,7 @@ use Rattle.std.proofs.Common.{◌≡◌, ℕ, ◌<◌, ◌↔◌, IsTrue, Bool, 
 use Rattle.search_core.specs.declared.node.Node.{Node}
 use Rattle.search_core.specs.declared.entry.Entry.{Entry}
 use Rattle.search_core.specs.contracts.tree.SearchTree.{the_view}
-use Rattle.search_core.specs.States.{State}
+use Rattle.search_core.specs.States.{SearchState}
 use Rattle.std.specs.Prelude.{slice_set}
 use Rattle.std.specs.FinSet as set
 use Rattle.gap_sets.specs.Gaps.{SetOfGaps}
@@ -10,7 +10,7 @@ use Rattle.cover_solver.specs.Facts.{Foreign}
 use Rattle.search_core.specs.declared.entry.Status.TheVariants.{Split}
 use Rattle.search_core.specs.Nodes.{children}
 use Rattle.search_core.specs.Entries.{entry}
-use Rattle.search_core.specs.Events.{opened, Splits, splits}
+use Rattle.search_core.specs.Events.{open_entries, Splits, splits}
 use Rattle.search_core.specs.Faults.{DoMeet}
 use Rattle.search_core.specs.Histories.{goes_on}
 use Rattle.search_core.proofs.Moves.{seated, holds_nothing, does_hold, held_within, split_event, set_front}
@@ -24,11 +24,11 @@ longer : (es cs : List Entry) (place : ℕ) → place < length es → place < le
 longer es cs place h = omega (arith, length-append es cs)
 
 -- the entries after a split
-after_split : (es all items cs : List Entry) (place seat first : ℕ) (n : Node) (kept f : Foreign) → place < length es → kept ≡ f → first ≡ length es → cs ≡ opened seat (children n f.passed) → all ≡ es ++ cs →
-    items ≡ slice_set all place (entry n seat (Split kept first)) → items ≡ slice_set es place (entry n seat (Split f (length es))) ++ opened seat (children n f.passed)
+after_split : (es all items cs : List Entry) (place seat first : ℕ) (n : Node) (kept f : Foreign) → place < length es → kept ≡ f → first ≡ length es → cs ≡ open_entries seat (children n f.passed) → all ≡ es ++ cs →
+    items ≡ slice_set all place (entry n seat (Split kept first)) → items ≡ slice_set es place (entry n seat (Split f (length es))) ++ open_entries seat (children n f.passed)
 after_split es all items cs place seat first n kept f within same at kids e is =
     is ∙ (λ i. slice_set (e i) place (entry n seat (Split (same i) (at i)))) ∙ (λ i. slice_set (es ++ kids i) place (entry n seat (Split f (length es))))
-    ∙ set_front es (opened seat (children n f.passed)) place (entry n seat (Split f (length es))) within
+    ∙ set_front es (open_entries seat (children n f.passed)) place (entry n seat (Split f (length es))) within
 
 pub returns-in_default-clause-fault : goal.returns-in_default-clause-fault
 returns-in_default-clause-fault c = holds_nothing (the_view c.self.inside) c.args.self.now c.self.view_is c.deref.result.now c.deref.ensures.value c.args.seat c.in_default.ensures
@@ -56,10 +56,10 @@ event c =
     c.in-Some.ensures f c.requires.of_question c.program.ensures.foreign
     (subst (λ (a : SetOfGaps). (gap : ℕ) → set.contains a gap ≡ true → set.contains c.in-Some.node.must gap ≡ true → ⊥) c.passed-passed.ensures (apart c.passed-passed.result c.in-Some.node.must c.meets.result c.meets.ensures c.if-meets.false))
     (after_split s.entries c.append.new.self.items c.mark.new.entries.items c.in_ok-opened.opened.items c.in-Some.place c.args.seat c.len-first.result c.in-Some.node c.in_ok-kept.kept f within
-    c.in_ok-kept.ensures (omega arith) (c.in_ok-opened.ensures ∙ ap (λ (a : SetOfGaps). opened c.args.seat (children c.in-Some.node a)) c.passed-passed.ensures) c.in_ok-append.ensures.items c.mark.ensures)
+    c.in_ok-kept.ensures (omega arith) (c.in_ok-opened.ensures ∙ ap (λ (a : SetOfGaps). open_entries c.args.seat (children c.in-Some.node a)) c.passed-passed.ensures) c.in_ok-append.ensures.items c.mark.ensures)
 
 pub invariant_of-self-2 : goal.invariant_of-self-2
 invariant_of-self-2 c = goes_on (the_view c.self.inside) (record (the_view c.self.inside) { entries = c.mark.new.entries.items }) c.args.seat c.self.invariant (seated (the_view c.self.inside) c.args.self.now c.self.view_is c.args.seat c.requires.seat) (splits c.args.run.now (event c))
 
 pub returns-clause-split : goal.returns-clause-split
-returns-clause-split c = subst (λ (s : State). Splits s (record (the_view c.self.inside) { entries = c.mark.new.entries.items }) c.args.seat c.args.run.now) c.self.view_is (event c)
+returns-clause-split c = subst (λ (s : SearchState). Splits s (record (the_view c.self.inside) { entries = c.mark.new.entries.items }) c.args.seat c.args.run.now) c.self.view_is (event c)

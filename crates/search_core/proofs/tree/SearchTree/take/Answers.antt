@@ -1,20 +1,20 @@
 use Rattle.std.proofs.Common.{◌≡◌, ℕ, true, false, Option, Some, None, sym, ◌∙◌, subst}
 use Rattle.search_core.specs.declared.node.Node.{Node}
 use Rattle.search_core.specs.contracts.tree.SearchTree.{the_view}
-use Rattle.search_core.specs.States.{State, Holds, HoldsNothing, HoldsOnly}
+use Rattle.search_core.specs.States.{SearchState, HoldsNode, HoldsNothing, HoldsOnly}
 use Rattle.std.specs.Prelude.{MatchOption}
 use Rattle.std.specs.Option.{is_some}
-use Rattle.search_core.specs.Events.{Takes, takes}
+use Rattle.search_core.specs.Events.{TakesNode, takes}
 use Rattle.search_core.specs.Histories.{IsReached, goes_on}
 use Rattle.search_core.proofs.OneNode.{taken_only}
 use Rattle.search_core.proofs.Moves.{seated, open_within, open_gaps, no_open, take_event}
 use Rattle.search_core.proofs.tree.SearchTree.take.Goals as goal
 
-some_held : (s : State) (seat : ℕ) (o : Option Node) → is_some o ≡ true → MatchOption o (HoldsNothing s seat) (HoldsOnly s seat) → (n : Node) × Holds s seat n
+some_held : (s : SearchState) (seat : ℕ) (o : Option Node) → is_some o ≡ true → MatchOption o (HoldsNothing s seat) (HoldsOnly s seat) → (n : Node) × HoldsNode s seat n
 some_held s seat None e h = absurd cc
 some_held s seat (Some n) e h = (n, h.held)
 
-none_held : (s : State) (seat : ℕ) (o : Option Node) → is_some o ≡ false → MatchOption o (HoldsNothing s seat) (HoldsOnly s seat) → HoldsNothing s seat
+none_held : (s : SearchState) (seat : ℕ) (o : Option Node) → is_some o ≡ false → MatchOption o (HoldsNothing s seat) (HoldsOnly s seat) → HoldsNothing s seat
 none_held s seat None e h = h
 none_held s seat (Some n) e h = absurd cc
 
@@ -30,7 +30,7 @@ returns-in_default-clause-fault c = (
 pub mark-requires : goal.mark-requires
 mark-requires c = open_within (the_view c.self.inside) c.args.self.now c.self.view_is c.deref.result.now c.deref.ensures.value c.in-Some.place c.in-Some.node c.in-Some.ensures
 
-event : (c : goal.After-mark) → Takes (the_view c.self.inside) (record (the_view c.self.inside) { entries = c.mark.new.entries.items }) c.args.seat c.in-Some.node
+event : (c : goal.After-mark) → TakesNode (the_view c.self.inside) (record (the_view c.self.inside) { entries = c.mark.new.entries.items }) c.args.seat c.in-Some.node
 event c = take_event (the_view c.self.inside) c.args.self.now c.self.view_is c.deref.result.now c.deref.ensures.value c.mark.new.entries.items c.args.seat c.in-Some.place c.in-Some.node
     (none_held c.args.self.now c.args.seat c.held-held.result (sym c.is_some.ensures ∙ c.if-is_some.false) c.held-held.ensures.value) c.in-Some.ensures c.mark.ensures
 
@@ -44,7 +44,7 @@ pub returns-clause-holds : goal.returns-clause-holds
 returns-clause-holds c = taken_only (the_view c.self.inside) (record (the_view c.self.inside) { entries = c.mark.new.entries.items }) c.args.seat c.in-Some.node (reached c) (event c)
 
 pub returns-clause-taken : goal.returns-clause-taken
-returns-clause-taken c = subst (λ (s : State). Takes s (record (the_view c.self.inside) { entries = c.mark.new.entries.items }) c.args.seat c.in-Some.node) c.self.view_is (event c)
+returns-clause-taken c = subst (λ (s : SearchState). TakesNode s (record (the_view c.self.inside) { entries = c.mark.new.entries.items }) c.args.seat c.in-Some.node) c.self.view_is (event c)
 
 pub returns-clause-of_program : goal.returns-clause-of_program
 returns-clause-of_program c = open_gaps (the_view c.self.inside) c.args.self.now c.self.view_is c.deref.result.now c.deref.ensures.value c.self.invariant c.in-Some.place c.in-Some.node c.in-Some.ensures
