@@ -51,6 +51,7 @@ use Rattle.canonical_text.proofs.NamedByText.{places_printable, names_good, name
 use Rattle.canonical_text.proofs.NamesAgain.{locations_again, registers_again}
 use Rattle.canonical_text.proofs.SaidSigns.{Said, view_of, IsSaid, IsSayable, text_said, sayable, enclosed_said, signs_are, spelled_again, signs_printable, signs_known, enclosed_apart}
 use Rattle.canonical_text.proofs.GoodTokens.{AreGood, lexed_good, after_body, after_ending}
+use Rattle.tso_program.specs.declared.limits.TheConstants.{MAX_THREADS}
 
 -- a text's parts, which can be printed
 record IsGoodText (b : BodyView) (e : EndingView) (f : Tree Said) : Type 0 where
@@ -360,7 +361,7 @@ fenced_text name b e f tokens gaps visible whole parts limits =
     let threads : List Thread = (source name b e f).program.threads in
     let count : length threads ≡ b.threads = length-map-range_with_len (thread_read (number_in (names_of b e).locations) b) 0 b.threads in
     let some : 0 < b.threads = let h : 0 < length threads = limits.shared.some_thread in omega (arith, h, count) in
-    let few : IsTextNumber b.threads = let h : length threads ≤ 8 = limits.shared.few_threads in omega (arith, h, count) in (
+    let few : IsTextNumber b.threads = let h : length threads ≤ MAX_THREADS = limits.shared.few_threads in omega (arith, h, count) in (
       stands b e f (parts_good tokens b e f whole parts some few) (gaps_in (source name b e f).program gaps) name visible,
       fencing_stays_within_limits (source name b e f).program gaps limits,
     )

@@ -8,7 +8,7 @@ ghost use Rattle.canonical_text.specs.Canonical.{location_entry, location_entrie
 use crate::words::{name_at, push_location_value, push_register_value};
 use litmus_text::NameTable;
 use std::alloc::{AllocError, Global};
-use tso_program::{Reg, Thread};
+use tso_program::{REGISTERS, Reg, Thread};
 
 /// ` x=n;`
 fn push_location(
@@ -47,7 +47,7 @@ fn push_named(
     out: &mut Vec<u8>,
     names: &NameTable,
     thread: usize,
-    values: [u32; 6],
+    values: [u32; REGISTERS],
     register: Reg,
 ) -> Result<(), AllocError>
     requires { thread ≤ 255 }
@@ -68,7 +68,7 @@ fn push_thread(
     out: &mut Vec<u8>,
     names: &NameTable,
     thread: usize,
-    values: [u32; 6],
+    values: [u32; REGISTERS],
 ) -> Result<(), AllocError>
     requires { thread ≤ 255 }
     ensures { OnOk result (out.new.items ≡ out.old.items ++ text_of (flat_map entry_pieces (thread_entries names.now thread values))) }

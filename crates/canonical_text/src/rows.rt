@@ -1,11 +1,12 @@
 //! The header row and the rows of instructions.
-ghost use Rattle.std.specs.Prelude.{◌≡◌, ◌<◌, ◌≤◌, ◌++◌, [], OnOk, codes, length, if◌then◌else◌, nat_lt};
+ghost use Rattle.std.specs.Prelude.{◌≡◌, ◌<◌, ◌≤◌, ◌+◌, ◌++◌, [], OnOk, codes, length, if◌then◌else◌, nat_lt};
 ghost use Rattle.std.specs.List.{flat_map};
 ghost use Rattle.text_tokens.specs.Pieces.{text_of};
 ghost use Rattle.tso_program.specs.Listings.{instr_at};
 ghost use Rattle.tso_program.specs.Fences.{gaps_in};
 ghost use Rattle.canonical_text.specs.Spelling.{bar, cell_pieces, row_pieces, header_pieces, column_pieces};
 ghost use Rattle.canonical_text.specs.Canonical.{own_labels, moved_labels, cell_of, row_of, rows_of, cell_count, most_cells};
+ghost use Rattle.tso_program.specs.declared.limits.TheConstants.{MAX_FENCED_INSTRUCTIONS};
 
 use crate::code::push_code;
 use crate::labels::{has_label, push_labels};
@@ -105,9 +106,9 @@ fn push_row(
 
 /// How many cells thread t has.
 fn cell_count(litmus: &Litmus<Program>, gaps: &GapSet, thread: &Thread, t: u8) -> usize
-    requires { length thread.now.code ≤ 127 }
+    requires { length thread.now.code ≤ MAX_FENCED_INSTRUCTIONS }
     ensures value { result ≡ cell_count (own_labels (moved_labels (gaps_in litmus.now.program gaps.now) 0 litmus.now.labels) t) thread.now }
-    ensures few { result ≤ 128 }
+    ensures few { result ≤ MAX_FENCED_INSTRUCTIONS + 1 }
 {
     let len = thread.code.len();
     if has_label(litmus, gaps, t, len as u8) {
@@ -120,7 +121,7 @@ fn cell_count(litmus: &Litmus<Program>, gaps: &GapSet, thread: &Thread, t: u8) -
 /// How many cells the thread with most of them has.
 fn most_cells(litmus: &Litmus<Program>, gaps: &GapSet, fenced: &FencedProgram) -> usize
     ensures value { result ≡ most_cells (moved_labels (gaps_in litmus.now.program gaps.now) 0 litmus.now.labels) 0 fenced.now.threads }
-    ensures few { result ≤ 128 }
+    ensures few { result ≤ MAX_FENCED_INSTRUCTIONS + 1 }
 {
     let mut most = 0;
     for (t, thread) in fenced.threads().iter().enumerate() {

@@ -1,12 +1,13 @@
 -- A certificate's parts put together.
 use Rattle.std.proofs.Common.{ℕ, zero, suc, List, [], ◌∷◌, All, Contains, take, subst, arith}
 use Rattle.std.specs.List.{AllZip}
+use Rattle.gap_sets.specs.Regions.{all_sets}
 use Rattle.tso_program.specs.Shown.{Question}
 use Rattle.tso_program.specs.declared.outcome.Outcome.{Outcome}
 use Rattle.tso_machine.specs.declared.label.Label.{Label}
 use Rattle.tso_machine.specs.Machine.{Fenced, no_gaps}
 use Rattle.tso_machine.specs.Outcomes.{IsShownRun}
-use Rattle.tree_laws.specs.GapTrees.{root, IsValidGap}
+use Rattle.tree_laws.specs.GapTrees.{IsValidGap}
 use Rattle.tree_laws.specs.Certificates.{Certificate, IsRunOutside, IsValidCertificate}
 use Rattle.cert_check.specs.Faults.{IsFirstWithout, HasServingSet}
 use Rattle.cert_check.specs.Replays.{IsOutside}
@@ -45,7 +46,7 @@ module _ (q : Question) (list : List Outcome) where
 
 -- a certificate whose parts are right is valid
 pub assembled : (q : Question) (costs : List ℕ) (c : Certificate) (outcomes : List Outcome) → HasServingSet q costs c outcomes →
-    IsValidGap q.program costs c.gaps c.runs c.gap_tree root → IsValidCertificate q costs c
+    IsValidGap q.program costs c.gaps c.runs c.gap_tree all_sets → IsValidCertificate q costs c
 assembled q costs c outcomes has least = record {
   shown = has.runs.replayed.complete.listed.head.shown;
   of_program = has.runs.replayed.complete.listed.head.of_program;

@@ -1,8 +1,9 @@
 -- A certificate that has a fault is not valid.
 use Rattle.std.proofs.Common.{◌≡◌, ℕ, zero, suc, List, [], ◌∷◌, length, All, refl, sym, ap, ◌∙◌, subst}
-use Rattle.std.specs.FinSet as set
 use Rattle.std.proofs.lemmas.Option.{same_Some}
 use Rattle.gap_sets.specs.Gaps.{SetOfGaps}
+use Rattle.gap_sets.specs.Regions.{without_gap, children_of}
+use Rattle.gap_sets.specs.declared.region.Region.{Region}
 use Rattle.tso_program.specs.declared.listing.Listing.{Listing}
 use Rattle.tso_program.specs.declared.outcome.Outcome.{Outcome}
 use Rattle.tso_program.specs.Shown.{Question, show}
@@ -12,7 +13,7 @@ use Rattle.tso_machine.specs.Outcomes.{IsShownRun}
 use Rattle.cert_forest.specs.Trees.{Gap, Split, Bound, GapTrees, NoGap, MoreGaps}
 use Rattle.cert_forest.specs.Texts.{count_gaps}
 use Rattle.tree_laws.specs.CoverTrees.{IsValidCover}
-use Rattle.tree_laws.specs.GapTrees.{Node, children_of, IsValidGap, AreValidGaps}
+use Rattle.tree_laws.specs.GapTrees.{IsValidGap, AreValidGaps}
 use Rattle.tree_laws.specs.Certificates.{Certificate, AreSequentialRuns, IsRunOutside, IsValidCertificate}
 use Rattle.tree_laws.proofs.Lists.{found_has}
 use Rattle.tree_laws.proofs.OneList.{one_list_of_gaps}
@@ -51,18 +52,18 @@ pub none_without : {A : Type 0} (P : A → Type 0) (xs : List A) (n : ℕ) → A
 none_without P xs n all first = first.without (found_has P xs n first.value first.there all)
 
 module _ (p : Listing) (costs : List ℕ) (answer : SetOfGaps) (runs : List (List Label)) where
-  long : (numbers : List ℕ) (n : Node) → length (children_of n numbers) ≡ length numbers
+  long : (numbers : List ℕ) (n : Region) → length (children_of n numbers) ≡ length numbers
   long [] n = refl
-  long (gap ∷ numbers) n = ap suc (long numbers (record n { never = set.insert n.never gap }))
+  long (gap ∷ numbers) n = ap suc (long numbers (without_gap n gap))
 
-  many_gaps : (trees : GapTrees) (ns : List Node) → AreValidGaps p costs answer runs trees ns → count_gaps trees ≡ length ns
+  many_gaps : (trees : GapTrees) (ns : List Region) → AreValidGaps p costs answer runs trees ns → count_gaps trees ≡ length ns
   many_gaps NoGap [] valid = refl
   many_gaps NoGap (n ∷ ns) valid = absurd valid
   many_gaps (MoreGaps tree trees) [] valid = absurd valid
   many_gaps (MoreGaps tree trees) (n ∷ ns) valid = ap suc (many_gaps trees ns valid.1)
 
   mutual
-    pub valid_gap_is_not_wrong : (tree : Gap) (n : Node) (path : List ℕ) → IsValidGap p costs answer runs tree n → gaps.FirstWrongGap p costs answer runs tree n path → ⊥
+    pub valid_gap_is_not_wrong : (tree : Gap) (n : Region) (path : List ℕ) → IsValidGap p costs answer runs tree n → gaps.FirstWrongGap p costs answer runs tree n path → ⊥
     valid_gap_is_not_wrong (Split number children) n [] (numbers, split, valid) wrong =
         wrong numbers split (many_gaps children (children_of n numbers) valid ∙ long numbers n)
     valid_gap_is_not_wrong (Split number children) n (child ∷ path) (numbers, split, valid) (others, split_too, many, wrong) =
@@ -71,7 +72,7 @@ module _ (p : Listing) (costs : List ℕ) (answer : SetOfGaps) (runs : List (Lis
     valid_gap_is_not_wrong Bound n [] valid wrong = valid wrong
     valid_gap_is_not_wrong Bound n (child ∷ path) valid wrong = wrong
 
-    valid_gaps_have_no_wrong : (trees : GapTrees) (ns : List Node) (child : ℕ) (path : List ℕ) → AreValidGaps p costs answer runs trees ns →
+    valid_gaps_have_no_wrong : (trees : GapTrees) (ns : List Region) (child : ℕ) (path : List ℕ) → AreValidGaps p costs answer runs trees ns →
         gaps.FirstWrongGapChild p costs answer runs trees ns child path → ⊥
     valid_gaps_have_no_wrong NoGap ns child path valid wrong = wrong
     valid_gaps_have_no_wrong (MoreGaps tree trees) [] child path valid wrong = wrong

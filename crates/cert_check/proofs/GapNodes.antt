@@ -6,17 +6,17 @@ use Rattle.std.specs.FinSet as set
 use Rattle.std.proofs.lemmas.Option.{same_Some}
 use Rattle.gap_sets.specs.Gaps.{SetOfGaps}
 use Rattle.gap_sets.specs.Order.{Better}
+use Rattle.gap_sets.specs.declared.region.Region.{Region}
 use Rattle.tso_program.specs.declared.listing.Listing.{Listing}
 use Rattle.tso_machine.specs.declared.label.Label.{Label}
 use Rattle.tso_machine.specs.Machine.{Fenced, no_gaps}
 use Rattle.tso_machine.specs.Modes.{ArePassed}
 use Rattle.cert_forest.specs.Trees.{Gap, Split, Bound, gap_trees_of}
 use Rattle.cert_forest.proofs.TreeTexts.{gaps_count}
-use Rattle.tree_laws.specs.GapTrees.{PassesGap, IsSplitBy}
+use Rattle.tree_laws.specs.GapTrees.{PassesGap, IsSplitBy, IsValidGap}
 use Rattle.tree_laws.proofs.OneList.{one_list_of_gaps}
-use Rattle.cert_check.specs.declared.gap.Region.{Region}
-use Rattle.cert_check.specs.Regions.{node_of, IsValidIn, IsWrongIn, AreValidIn, IsWrongChildIn}
-use Rattle.cert_check.specs.GapDefects.{HasNoSplit}
+use Rattle.cert_check.specs.GapDefects.{HasNoSplit, FirstWrongGap}
+use Rattle.cert_check.specs.Children.{AreValidIn, IsWrongChildIn}
 use Rattle.cert_check.specs.Replays.{HavePassed}
 use Rattle.cover_judge.specs.Judged.{IsAtRoot, IsBelow}
 
@@ -40,25 +40,25 @@ nothing_at R (run ∷ runs) (x ∷ xs) (suc n) labels each e h = nothing_at R ru
 
 module _ (p : Listing) (runs : List (List Label)) (passed : List SetOfGaps) (region : Region) (n : ℕ) (each : HavePassed p runs passed) where
   -- no such run
-  pub not_there : slice_get passed n ≡ None → (count : ℕ) → HasNoSplit p runs (node_of region) n count
+  pub not_there : slice_get passed n ≡ None → (count : ℕ) → HasNoSplit p runs region n count
   not_there none count gaps split e = nothing_at (ArePassed p (Fenced no_gaps)) runs passed n split.labels each none split.is_run
 
   module _ (these : SetOfGaps) (there : slice_get passed n ≡ Some these) where
     run : (labels : List Label) × (slice_get runs n ≡ Some labels) × ArePassed p (Fenced no_gaps) labels these
     run = labels_at (ArePassed p (Fenced no_gaps)) runs passed n these each there
 
-    same_labels : (gaps : List ℕ) (split : IsSplitBy p runs (node_of region) n gaps) → run.0 ≡ split.labels
+    same_labels : (gaps : List ℕ) (split : IsSplitBy p runs region n gaps) → run.0 ≡ split.labels
     same_labels gaps split = same_Some run.0 split.labels (sym run.1 ∙ split.is_run)
 
     -- the run passes a gap that the sets must have
-    pub must_pass : (gap : ℕ) → set.contains these gap ≡ true → set.contains region.must gap ≡ true → (count : ℕ) → HasNoSplit p runs (node_of region) n count
+    pub must_pass : (gap : ℕ) → set.contains these gap ≡ true → set.contains region.must gap ≡ true → (count : ℕ) → HasNoSplit p runs region n count
     must_pass gap passes must count gaps split e =
         split.passes_none gap must (subst (λ labels. PassesGap p labels gap) (same_labels gaps split) ((run.2 gap).0 passes))
 
     -- the gaps that it passes and that the sets may have split the region
     pub splits : (gaps : List ℕ) → ((gap : ℕ) → set.contains these gap ≡ true → set.contains region.must gap ≡ true → ⊥) → IsStrictlyIncreasing gaps →
         ((gap : ℕ) → Contains gaps gap ↔ ((set.contains these gap ≡ true) × (set.contains region.never gap ≡ false))) →
-        IsSplitBy p runs (node_of region) n gaps
+        IsSplitBy p runs region n gaps
     splits gaps meets ascending exact = record {
       labels = run.0;
       is_run = run.1;
@@ -71,24 +71,24 @@ module _ (p : Listing) (runs : List (List Label)) (passed : List SetOfGaps) (reg
     }
 
 -- they are not so many
-pub not_as_many : (p : Listing) (runs : List (List Label)) (region : Region) (n count : ℕ) (gaps : List ℕ) → IsSplitBy p runs (node_of region) n gaps →
-    (length gaps ≡ count → ⊥) → HasNoSplit p runs (node_of region) n count
+pub not_as_many : (p : Listing) (runs : List (List Label)) (region : Region) (n count : ℕ) (gaps : List ℕ) → IsSplitBy p runs region n gaps →
+    (length gaps ≡ count → ⊥) → HasNoSplit p runs region n count
 not_as_many p runs region n count gaps split differ others other e =
-    differ (ap length (one_list_of_gaps p runs (node_of region) n gaps others split other) ∙ sym e)
+    differ (ap length (one_list_of_gaps p runs region n gaps others split other) ∙ sym e)
 
 module _ (p : Listing) (costs : List ℕ) (answer : SetOfGaps) (runs : List (List Label)) (region : Region) where
-  pub bound_here : (path : List ℕ) → IsAtRoot (Better costs region.must answer) path → IsWrongIn p costs answer runs Bound region path
-  bound_here path (at, better) = subst (IsWrongIn p costs answer runs Bound region) (sym at) better
+  pub bound_here : (path : List ℕ) → IsAtRoot (Better costs region.must answer) path → FirstWrongGap p costs answer runs Bound region path
+  bound_here path (at, better) = subst (FirstWrongGap p costs answer runs Bound region) (sym at) better
 
   module _ (n : ℕ) (trees : List Gap) where
-    pub split_here : (path : List ℕ) → IsAtRoot (HasNoSplit p runs (node_of region) n (length trees)) path → IsWrongIn p costs answer runs (Split n (gap_trees_of trees)) region path
-    split_here path (at, none) = subst (IsWrongIn p costs answer runs (Split n (gap_trees_of trees)) region) (sym at) (λ gaps split e. none gaps split (sym (gaps_count trees) ∙ e))
+    pub split_here : (path : List ℕ) → IsAtRoot (HasNoSplit p runs region n (length trees)) path → FirstWrongGap p costs answer runs (Split n (gap_trees_of trees)) region path
+    split_here path (at, none) = subst (FirstWrongGap p costs answer runs (Split n (gap_trees_of trees)) region) (sym at) (λ gaps split e. none gaps split (sym (gaps_count trees) ∙ e))
 
-    module _ (gaps : List ℕ) (split : IsSplitBy p runs (node_of region) n gaps) where
-      pub split_valid : AreValidIn p costs answer runs trees region gaps → IsValidIn p costs answer runs (Split n (gap_trees_of trees)) region
+    module _ (gaps : List ℕ) (split : IsSplitBy p runs region n gaps) where
+      pub split_valid : AreValidIn p costs answer runs trees region gaps → IsValidGap p costs answer runs (Split n (gap_trees_of trees)) region
       split_valid valid = (gaps, split, valid)
 
       pub split_below : length trees ≡ length gaps → (path : List ℕ) → IsBelow (IsWrongChildIn p costs answer runs trees region gaps) path →
-          IsWrongIn p costs answer runs (Split n (gap_trees_of trees)) region path
+          FirstWrongGap p costs answer runs (Split n (gap_trees_of trees)) region path
       split_below as_many [] wrong = absurd wrong
       split_below as_many (child ∷ path) wrong = (gaps, split, gaps_count trees ∙ as_many, wrong)

@@ -1,14 +1,17 @@
 -- The children of a split, judged in order: what is left to be judged decides.
 use Rattle.std.proofs.Common.{◌≡◌, ℕ, suc, ◌+◌, ◌<◌, List, [], ◌∷◌, length, map, drop, get_or, sym, subst, arith}
 use Rattle.gap_sets.specs.Gaps.{SetOfGaps}
+use Rattle.gap_sets.specs.Regions.{with_gap, without_gap}
+use Rattle.gap_sets.specs.declared.region.Region.{Region}
 use Rattle.tso_program.specs.declared.listing.Listing.{Listing}
 use Rattle.tso_machine.specs.declared.label.Label.{Label}
 use Rattle.cert_forest.specs.declared.tree.GapTree.{GapTree}
 use Rattle.cert_forest.specs.Views.{gap}
 use Rattle.cert_forest.specs.Trees.{Gap}
+use Rattle.tree_laws.specs.GapTrees.{IsValidGap}
 use Rattle.cover_judge.proofs.Mapped.{left_from, mapped_from}
-use Rattle.cert_check.specs.declared.gap.Region.{Region}
-use Rattle.cert_check.specs.Regions.{with_gap, without_gap, IsValidIn, IsWrongIn, AreValidIn, IsWrongChildIn}
+use Rattle.cert_check.specs.GapDefects.{FirstWrongGap}
+use Rattle.cert_check.specs.Children.{AreValidIn, IsWrongChildIn}
 use Rattle.cover_judge.specs.Judged.{IsBelow}
 
 module _ (p : Listing) (costs : List ℕ) (answer : SetOfGaps) (runs : List (List Label)) (trees : List Gap) (region : Region) (gaps : List ℕ) where
@@ -23,7 +26,7 @@ module _ (p : Listing) (costs : List ℕ) (answer : SetOfGaps) (runs : List (Lis
 
   module _ (judged : ℕ) (tree : Gap) (left : List Gap) (rest : Region) (gap : ℕ) (left_gaps : List ℕ) (is : IsLeft judged (tree ∷ left) rest (gap ∷ left_gaps)) where
     -- the next one is valid
-    pub next_valid : IsValidIn p costs answer runs tree (with_gap rest gap) → IsLeft (judged + 1) left (without_gap rest gap) left_gaps
+    pub next_valid : IsValidGap p costs answer runs tree (with_gap rest gap) → IsLeft (judged + 1) left (without_gap rest gap) left_gaps
     next_valid valid = record {
       valid = λ others. is.valid (valid, others);
       wrong = λ number path wrong. (let same : judged + suc number ≡ judged + 1 + number = omega arith in
@@ -31,7 +34,7 @@ module _ (p : Listing) (costs : List ℕ) (answer : SetOfGaps) (runs : List (Lis
     }
 
     -- or wrong
-    pub next_wrong : (path : List ℕ) → IsBelow (λ n others. (n ≡ judged) × IsWrongIn p costs answer runs tree (with_gap rest gap) others) path →
+    pub next_wrong : (path : List ℕ) → IsBelow (λ n others. (n ≡ judged) × FirstWrongGap p costs answer runs tree (with_gap rest gap) others) path →
         IsBelow (IsWrongChildIn p costs answer runs trees region gaps) path
     next_wrong [] wrong = absurd wrong
     next_wrong (number ∷ path) (at, wrong) = (let same : judged + 0 ≡ number = omega arith in
@@ -52,14 +55,14 @@ module _ (p : Listing) (costs : List ℕ) (answer : SetOfGaps) (runs : List (Lis
       (subst (λ gs. IsLeft p costs answer runs (map gap trees) region gaps n (map gap (drop n trees)) rest gs) (left_from gaps n 0 (omega arith)) is)
 
   -- the tree in memory is valid for the region that must have its gap
-  pub go_on : (child next : Region) → child ≡ with_gap rest this → next ≡ without_gap rest this → IsValidIn p costs answer runs (gap x) child →
+  pub go_on : (child next : Region) → child ≡ with_gap rest this → next ≡ without_gap rest this → IsValidGap p costs answer runs (gap x) child →
       IsLeft p costs answer runs (map gap trees) region gaps (n + 1) (map gap (drop (n + 1) trees)) next (drop (n + 1) gaps)
   go_on child next same e valid = subst (λ r. IsLeft p costs answer runs (map gap trees) region gaps (n + 1) (map gap (drop (n + 1) trees)) r (drop (n + 1) gaps)) (sym e)
-      (next_valid p costs answer runs (map gap trees) region gaps n (gap x) (map gap (drop (n + 1) trees)) rest this (drop (n + 1) gaps) first (subst (IsValidIn p costs answer runs (gap x)) same valid))
+      (next_valid p costs answer runs (map gap trees) region gaps n (gap x) (map gap (drop (n + 1) trees)) rest this (drop (n + 1) gaps) first (subst (IsValidGap p costs answer runs (gap x)) same valid))
 
   -- or wrong
-  pub stop_here : (child : Region) → child ≡ with_gap rest this → (path : List ℕ) → IsBelow (λ m others. (m ≡ n) × IsWrongIn p costs answer runs (gap x) child others) path →
+  pub stop_here : (child : Region) → child ≡ with_gap rest this → (path : List ℕ) → IsBelow (λ m others. (m ≡ n) × FirstWrongGap p costs answer runs (gap x) child others) path →
       IsBelow (IsWrongChildIn p costs answer runs (map gap trees) region gaps) path
   stop_here child same path wrong =
       next_wrong p costs answer runs (map gap trees) region gaps n (gap x) (map gap (drop (n + 1) trees)) rest this (drop (n + 1) gaps) first path
-      (subst (λ r. IsBelow (λ m others. (m ≡ n) × IsWrongIn p costs answer runs (gap x) r others) path) same wrong)
+      (subst (λ r. IsBelow (λ m others. (m ≡ n) × FirstWrongGap p costs answer runs (gap x) r others) path) same wrong)

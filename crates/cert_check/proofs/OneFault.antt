@@ -4,6 +4,8 @@ use Rattle.std.proofs.lemmas.Bool.{cases_lt}
 use Rattle.std.proofs.lemmas.List.{get_or-take, length-take}
 use Rattle.std.proofs.lemmas.Option.{slice_get_within, get_or_from_slice_get}
 use Rattle.gap_sets.specs.Gaps.{SetOfGaps}
+use Rattle.gap_sets.specs.Regions.{all_sets, children_of}
+use Rattle.gap_sets.specs.declared.region.Region.{Region}
 use Rattle.tso_program.specs.declared.listing.Listing.{Listing}
 use Rattle.tso_program.specs.declared.outcome.Outcome.{Outcome}
 use Rattle.tso_program.specs.Fences.{gaps_in}
@@ -14,7 +16,6 @@ use Rattle.tso_machine.specs.Outcomes.{IsShownRun, AreGapsOf}
 use Rattle.candidate_executions.specs.Sketches.{empty_sketch}
 use Rattle.cert_forest.specs.Trees.{Cover, Gap, Split, Bound, GapTrees, NoGap, MoreGaps}
 use Rattle.tree_laws.specs.CoverTrees.{IsValidCover}
-use Rattle.tree_laws.specs.GapTrees.{Node, root, children_of}
 use Rattle.tree_laws.specs.Certificates.{Certificate, AreSequentialRuns, IsRunOutside}
 use Rattle.tree_laws.proofs.OneList.{one_list_of_gaps}
 use Rattle.cert_check.specs.declared.fault.CheckFault.{CheckFault}
@@ -47,7 +48,7 @@ one_number P xs n m first also = elim (cases_lt n m) [
 module _ (p : Listing) (costs : List ℕ) (answer : SetOfGaps) (runs : List (List Label)) where
   mutual
     -- one node of a gap tree is the first wrong one
-    pub one_wrong_gap : (tree : Gap) (n : Node) (path other : List ℕ) → gaps.FirstWrongGap p costs answer runs tree n path → gaps.FirstWrongGap p costs answer runs tree n other → path ≡ other
+    pub one_wrong_gap : (tree : Gap) (n : Region) (path other : List ℕ) → gaps.FirstWrongGap p costs answer runs tree n path → gaps.FirstWrongGap p costs answer runs tree n other → path ≡ other
     one_wrong_gap (Split number children) n [] [] wrong also = refl
     one_wrong_gap (Split number children) n [] (j ∷ other) wrong (numbers, split, many, below) = absurd (wrong numbers split many)
     one_wrong_gap (Split number children) n (i ∷ path) [] (numbers, split, many, below) wrong = absurd (wrong numbers split many)
@@ -58,7 +59,7 @@ module _ (p : Listing) (costs : List ℕ) (answer : SetOfGaps) (runs : List (Lis
     one_wrong_gap Bound n [] (j ∷ other) wrong also = absurd also
     one_wrong_gap Bound n (i ∷ path) other wrong also = absurd wrong
 
-    one_wrong_gap_child : (trees : GapTrees) (ns : List Node) (i j : ℕ) (path other : List ℕ) → gaps.FirstWrongGapChild p costs answer runs trees ns i path →
+    one_wrong_gap_child : (trees : GapTrees) (ns : List Region) (i j : ℕ) (path other : List ℕ) → gaps.FirstWrongGapChild p costs answer runs trees ns i path →
         gaps.FirstWrongGapChild p costs answer runs trees ns j other → i ∷ path ≡ j ∷ other
     one_wrong_gap_child NoGap ns i j path other wrong also = absurd wrong
     one_wrong_gap_child (MoreGaps tree trees) [] i j path other wrong also = absurd wrong
@@ -131,7 +132,7 @@ module _ (q : Question) (costs : List ℕ) (c : Certificate) where
 
   -- the parts, from the last on
   abbrev OfGaps : CheckFault → Type 0
-  OfGaps why = OfPart (List ℕ) fault.GapTree (gaps.FirstWrongGap p costs c.gaps c.runs c.gap_tree root) ⊥ (λ why. ⊥) why
+  OfGaps why = OfPart (List ℕ) fault.GapTree (gaps.FirstWrongGap p costs c.gaps c.runs c.gap_tree all_sets) ⊥ (λ why. ⊥) why
 
   abbrev OfFenced : CheckFault → Type 0
   OfFenced why = OfPart (List ℕ) fault.FencedTree (WrongCover (Fenced (gaps_in p c.gaps)) c.fenced_tree) (RightCover (Fenced (gaps_in p c.gaps)) c.fenced_tree) OfGaps why
@@ -159,8 +160,8 @@ module _ (q : Question) (costs : List ℕ) (c : Certificate) where
 
   -- in each part there is one
   one_of_gaps : IsOfOne OfGaps
-  one_of_gaps = one_of_part (List ℕ) fault.GapTree (gaps.FirstWrongGap p costs c.gaps c.runs c.gap_tree root) ⊥ (λ why. ⊥)
-      (λ path other wrong also. ap fault.GapTree (one_wrong_gap p costs c.gaps c.runs c.gap_tree root path other wrong also)) (λ path wrong none. none) (λ why other none also. absurd none)
+  one_of_gaps = one_of_part (List ℕ) fault.GapTree (gaps.FirstWrongGap p costs c.gaps c.runs c.gap_tree all_sets) ⊥ (λ why. ⊥)
+      (λ path other wrong also. ap fault.GapTree (one_wrong_gap p costs c.gaps c.runs c.gap_tree all_sets path other wrong also)) (λ path wrong none. none) (λ why other none also. absurd none)
 
   one_of_fenced : IsOfOne OfFenced
   one_of_fenced = one_of_part (List ℕ) fault.FencedTree (WrongCover (Fenced (gaps_in p c.gaps)) c.fenced_tree) (RightCover (Fenced (gaps_in p c.gaps)) c.fenced_tree) OfGaps

@@ -1,102 +1,23 @@
--- The gaps of one set that are not in another.
-use Rattle.std.proofs.Common.{◌≡◌, ◌↔◌, ◌⊎◌, ℕ, ◌<◌, Bool, true, false, not, List, [], ◌∷◌, ◌++◌, ◌||◌, nat_eq, cond, All, Contains, refl, sym, ap, ◌∙◌, subst, inl, inr, arith, append_assoc}
-use Rattle.std.specs.List.{filter, list_any}
+-- The gaps of one set that are not in another, where the gaps of the first are listed.
+use Rattle.std.proofs.Common.{◌≡◌, ◌↔◌, ℕ, ◌<◌, true, false, List, All, Contains, sym, ap, ◌∙◌, subst}
+use Rattle.std.specs.List.{filter}
 use Rattle.std.specs.List.Sorted.{IsStrictlyIncreasing}
 use Rattle.std.specs.FinSet as set
-use Rattle.std.proofs.lemmas.Bool.Decides.{nat_tests}
 use Rattle.std.proofs.lemmas.List.Elements.{All-filter}
 use Rattle.std.proofs.lemmas.List.Kept.{IsStrictlyIncreasing-filter}
-use Rattle.std.proofs.lemmas.List.{append-nil}
 use Rattle.gap_sets.specs.Gaps.{SetOfGaps}
-use Rattle.tree_laws.proofs.Lists.{none_here, first_or_later, first_is_here, later_is_here}
-
-module _ (p : ℕ → Bool) where
-  of_test : (y : ℕ) (ys : List ℕ) (x : ℕ) (b : Bool) → p y ≡ b → (Contains (filter p ys) x → Contains ys x × (p x ≡ true)) →
-      Contains (cond b (y ∷ filter p ys) (filter p ys)) x → Contains (y ∷ ys) x × (p x ≡ true)
-  of_test y ys x true e rest here = elim (first_or_later y (filter p ys) x here) [
-    | inl same ↦ (subst (Contains (y ∷ ys)) same (first_is_here y ys), ap p (sym same) ∙ e)
-    | inr later ↦ (later_is_here y ys x (rest later).0, (rest later).1)
-  ]
-  of_test y ys x false e rest here = (later_is_here y ys x (rest here).0, (rest here).1)
-
-  of_filter : (xs : List ℕ) (x : ℕ) → Contains (filter p xs) x → Contains xs x × (p x ≡ true)
-  of_filter [] x here = absurd (none_here x here)
-  of_filter (y ∷ ys) x here = of_test y ys x (p y) refl (of_filter ys x) here
-
-  to_test : (y : ℕ) (rest : List ℕ) (x : ℕ) (b : Bool) → p y ≡ b → Contains rest x → Contains (cond b (y ∷ rest) rest) x
-  to_test y rest x true e here = later_is_here y rest x here
-  to_test y rest x false e here = here
-
-  to_first : (y : ℕ) (rest : List ℕ) (b : Bool) → b ≡ true → Contains (cond b (y ∷ rest) rest) y
-  to_first y rest true e = first_is_here y rest
-  to_first y rest false e = absurd cc
-
-  to_filter : (xs : List ℕ) (x : ℕ) → Contains xs x → p x ≡ true → Contains (filter p xs) x
-  to_filter [] x here e = absurd (none_here x here)
-  to_filter (y ∷ ys) x here e = elim (first_or_later y ys x here) [
-    | inl same ↦ subst (Contains (filter p (y ∷ ys))) same (to_first y (filter p ys) (p y) (ap p same ∙ e))
-    | inr later ↦ to_test y (filter p ys) x (p y) refl (to_filter ys x later e)
-  ]
-
-either : (a b : Bool) → (a || b) ≡ true → (a ≡ true) ⊎ (b ≡ true)
-either true b e = inl refl
-either false b e = inr e
-
-has_any : (xs : List ℕ) (g : ℕ) → list_any (λ y. nat_eq y g) xs ≡ true → Contains xs g
-has_any [] g e = absurd cc
-has_any (x ∷ xs) g e = elim (either (nat_eq x g) (list_any (λ y. nat_eq y g) xs) e) [
-  | inl same ↦ (let is : x ≡ g = grind (arith, nat_tests) in subst (Contains (x ∷ xs)) is (first_is_here x xs))
-  | inr later ↦ later_is_here x xs g (has_any xs g later)
-]
-
-or_left : (a b : Bool) → a ≡ true → (a || b) ≡ true
-or_left true b e = refl
-or_left false b e = absurd cc
-
-or_right : (a b : Bool) → b ≡ true → (a || b) ≡ true
-or_right true b e = refl
-or_right false b e = e
-
-any_has : (xs : List ℕ) (g : ℕ) → Contains xs g → list_any (λ y. nat_eq y g) xs ≡ true
-any_has [] g here = absurd (none_here g here)
-any_has (x ∷ xs) g here = elim (first_or_later x xs g here) [
-  | inl same ↦ (let is : nat_eq x g ≡ true = grind (arith, nat_tests) in or_left (nat_eq x g) _ is)
-  | inr later ↦ or_right (nat_eq x g) _ (any_has xs g later)
-]
-
-not_true : (b : Bool) → not b ≡ true → b ≡ false
-not_true true e = absurd cc
-not_true false e = refl
-
-not_false : (b : Bool) → b ≡ false → not b ≡ true
-not_false true e = absurd cc
-not_false false e = refl
-
--- whether a gap is not in the set
-abbrev pub is_free : SetOfGaps → ℕ → Bool
-is_free never g = not (set.contains never g)
-
--- one gap of those to come, which is free or not
-module _ (p : ℕ → Bool) (old left rest whole : List ℕ) (gap : ℕ) (next : left ≡ gap ∷ rest) (so : old ++ filter p left ≡ whole) where
-  pub one_taken : (more : List ℕ) → more ≡ old ++ gap ∷ [] → p gap ≡ true → more ++ filter p rest ≡ whole
-  one_taken more pushed e =
-      ap (λ (xs : List ℕ). xs ++ filter p rest) pushed ∙ append_assoc old (gap ∷ []) (filter p rest)
-      ∙ ap (λ b. old ++ cond b (gap ∷ filter p rest) (filter p rest)) (sym e) ∙ ap (λ xs. old ++ filter p xs) (sym next) ∙ so
-
-  pub one_left_out : p gap ≡ false → old ++ filter p rest ≡ whole
-  one_left_out e = ap (λ b. old ++ cond b (gap ∷ filter p rest) (filter p rest)) (sym e) ∙ ap (λ xs. old ++ filter p xs) (sym next) ∙ so
-
--- none is to come
-pub none_to_come : (p : ℕ → Bool) (gaps left whole : List ℕ) → left ≡ [] → gaps ++ filter p left ≡ whole → gaps ≡ whole
-none_to_come p gaps left whole none so = sym (append-nil gaps) ∙ ap (λ xs. gaps ++ filter p xs) (sym none) ∙ so
+use Rattle.gap_sets.specs.Regions.{is_free}
+use Rattle.gap_sets.specs.declared.gap_set.TheConstants.{MAX_GAPS}
+use Rattle.tree_laws.proofs.Filtered.{of_filter, to_filter, has_any, any_has}
+use Rattle.tree_laws.proofs.OpenGaps.{not_true, not_false}
 
 -- where the gaps of a set are listed, those that are free are the ones that are in it and not in the other
 module _ (passed never : SetOfGaps) (listed gaps : List ℕ) (is : gaps ≡ filter (is_free never) listed) where
   pub free_ascending : IsStrictlyIncreasing listed → IsStrictlyIncreasing gaps
   free_ascending ascending = subst IsStrictlyIncreasing (sym is) (IsStrictlyIncreasing-filter (is_free never) listed ascending)
 
-  pub free_below : All (λ g. g < 64) listed → All (λ g. g < 64) gaps
-  free_below below = subst (All (λ g. g < 64)) (sym is) (All-filter (is_free never) (λ g. g < 64) listed below)
+  pub free_below : All (λ g. g < MAX_GAPS) listed → All (λ g. g < MAX_GAPS) gaps
+  free_below below = subst (All (λ g. g < MAX_GAPS)) (sym is) (All-filter (is_free never) (λ g. g < MAX_GAPS) listed below)
 
   pub free_exact : set.from_list listed ≡ passed → (g : ℕ) → Contains gaps g ↔ ((set.contains passed g ≡ true) × (set.contains never g ≡ false))
   free_exact members g = (

@@ -1,6 +1,7 @@
 -- What is wrong first with a certificate.
 use Rattle.std.specs.Prelude.{◌≡◌, ℕ, List, Some, slice_get, take, length, All}
 use Rattle.gap_sets.specs.Order.{total}
+use Rattle.gap_sets.specs.Regions.{all_sets}
 use Rattle.tso_program.specs.declared.listing.Listing.{Listing}
 use Rattle.tso_program.specs.declared.outcome.Outcome.{Outcome}
 use Rattle.tso_program.specs.Shown.{Question}
@@ -11,7 +12,6 @@ use Rattle.tso_machine.specs.Machine.{Mode, Sequential, Fenced, no_gaps, IsRun}
 use Rattle.tso_machine.specs.Outcomes.{AreGapsOf}
 use Rattle.candidate_executions.specs.Sketches.{empty_sketch}
 use Rattle.tree_laws.specs.CoverTrees.{IsValidCover}
-use Rattle.tree_laws.specs.GapTrees.{root}
 use Rattle.tree_laws.specs.Certificates.{Certificate, AreSequentialRuns, IsRunOutside}
 use Rattle.cert_check.specs.declared.fault.CheckFault.{CheckFault}
 use Rattle.cert_check.specs.declared.fault.CheckFault.TheVariants as fault
@@ -78,5 +78,5 @@ module _ (q : Question) (costs : List ℕ) (c : Certificate) where
   CheckFaultIs (fault.NotForeign number) = (outcomes : List Outcome) × HasRuns outcomes × IsFirstWithout (IsRunOutside q outcomes) c.runs number
   CheckFaultIs (fault.FencedTree path) =
       (outcomes : List Outcome) × HasForeignRuns outcomes × FirstWrongCover q (Fenced (gaps_in q.program c.gaps)) outcomes c.fenced_tree empty_sketch path
-  CheckFaultIs (fault.GapTree path) = (outcomes : List Outcome) × HasServingSet outcomes × FirstWrongGap q.program costs c.gaps c.runs c.gap_tree root path
+  CheckFaultIs (fault.GapTree path) = (outcomes : List Outcome) × HasServingSet outcomes × FirstWrongGap q.program costs c.gaps c.runs c.gap_tree all_sets path
   CheckFaultIs fault.OutOfMemory = HasHead

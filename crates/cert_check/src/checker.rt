@@ -2,6 +2,7 @@
 ghost use Rattle.std.specs.Prelude.{◌≡◌, ℕ, List, OnOk, IfOk, IfErr, IsOkUnless, All};
 ghost use Rattle.gap_sets.specs.Gaps.{SetOfGaps};
 ghost use Rattle.gap_sets.specs.Order.{total};
+ghost use Rattle.gap_sets.specs.Regions.{all_sets};
 ghost use Rattle.tso_program.specs.declared.listing.Listing.{Listing};
 ghost use Rattle.tso_program.specs.declared.outcome.Outcome.{Outcome};
 ghost use Rattle.tso_program.specs.Shown.{Question, asked};
@@ -10,7 +11,7 @@ ghost use Rattle.tso_machine.specs.Machine.{Sequential, Fenced};
 ghost use Rattle.tso_machine.specs.Outcomes.{Headline, IsTheAnswer};
 ghost use Rattle.candidate_executions.specs.Sketches.{empty_sketch};
 ghost use Rattle.tree_laws.specs.CoverTrees.{IsValidCover};
-ghost use Rattle.tree_laws.specs.GapTrees.{root, IsValidGap};
+ghost use Rattle.tree_laws.specs.GapTrees.{IsValidGap};
 ghost use Rattle.tree_laws.specs.Laws.{IsProved};
 ghost use Rattle.tree_laws.specs.Certificates as trees;
 ghost use Rattle.tree_laws.specs.Certificates.{AreSequentialRuns, IsRunOutside, IsValidCertificate};
@@ -22,12 +23,12 @@ ghost use Rattle.cert_check.specs.Replays.{HavePassed};
 use crate::CheckFault;
 use crate::cover::judge_from_start;
 use crate::fault::RunsFault;
-use crate::gap::{Bounds, Region, judge_gap};
+use crate::gap::{Bounds, judge_gap};
 use crate::runs::{first_listed, replay_all};
 use cert_forest::Certificate;
 use cover_judge::TreeFault;
 use exec_axioms::Mode;
-use gap_sets::{Costs, GapSet};
+use gap_sets::{Costs, GapSet, Region};
 use std::alloc::Global;
 use the_answer::the_headline_tells_the_answer;
 use tree_laws::a_valid_certificate_proves_the_headline;
@@ -233,7 +234,7 @@ fn check_gaps(
     passed: &[GapSet],
 ) -> Result<(), CheckFault>
     ensures least { (p : Listing) → HavePassed p (claim_of certificate.now).runs passed.now
-        → OnOk result (IsValidGap p costs.now certificate.now.set (claim_of certificate.now).runs (claim_of certificate.now).gap_tree root) }
+        → OnOk result (IsValidGap p costs.now certificate.now.set (claim_of certificate.now).runs (claim_of certificate.now).gap_tree all_sets) }
     ensures fault { (q : Question) (outcomes : List Outcome) → HavePassed q.program (claim_of certificate.now).runs passed.now
         → HasServingSet q costs.now (claim_of certificate.now) outcomes → IfErr result (CheckFaultIs q costs.now (claim_of certificate.now)) }
 {
@@ -242,7 +243,7 @@ fn check_gaps(
         answer: certificate.set,
         passed,
     };
-    match judge_gap(alloc, &certificate.gap_tree, &Region::root(), &bounds) {
+    match judge_gap(alloc, &certificate.gap_tree, &Region::all(), &bounds) {
         Ok(()) => Ok(()),
         Err(TreeFault::Wrong(path)) => Err(CheckFault::GapTree(path)),
         Err(TreeFault::OutOfMemory) => Err(CheckFault::OutOfMemory),

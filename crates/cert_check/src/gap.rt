@@ -3,61 +3,21 @@ ghost use Rattle.std.specs.Prelude.{◌≡◌, ◌↔◌, ℕ, List, ◌<◌, tr
 ghost use Rattle.std.specs.List.Sorted.{IsStrictlyIncreasing};
 ghost use Rattle.std.specs.FinSet as set;
 ghost use Rattle.gap_sets.specs.Order.{Better};
+ghost use Rattle.gap_sets.specs.declared.gap_set.TheConstants.{MAX_GAPS};
 ghost use Rattle.tso_program.specs.declared.listing.Listing.{Listing};
 ghost use Rattle.tso_machine.specs.declared.label.Label.{Label};
 ghost use Rattle.cert_forest.specs.Views.{gap};
-ghost use Rattle.tree_laws.specs.GapTrees.{root, IsSplitBy, IsValidGap};
+ghost use Rattle.tree_laws.specs.GapTrees.{IsSplitBy, IsValidGap};
 ghost use Rattle.cert_check.specs.Replays.{HavePassed};
 ghost use Rattle.cert_check.specs.GapDefects.{HasNoSplit, FirstWrongGap};
 ghost use Rattle.cover_judge.specs.Judged.{IfWrong, IsAtRoot, IsBelow};
-ghost use Rattle.cert_check.specs.Regions.{node_of, with_gap, without_gap, IsValidIn, IsWrongIn, AreValidIn, IsWrongChildIn};
+ghost use Rattle.cert_check.specs.Children.{AreValidIn, IsWrongChildIn};
 
 use crate::runs::passed_by;
 use cert_forest::GapTree;
 use cover_judge::TreeFault;
-use gap_sets::{Costs, GapSet};
+use gap_sets::{Costs, GapSet, Region};
 use std::alloc::{AllocError, Global};
-
-/// The sets that hold `must` and avoid `never`.
-#[derive(Clone, Copy, Debug)]
-pub(crate) struct Region {
-    must: GapSet,
-    never: GapSet,
-}
-
-impl Region {
-    /// All sets.
-    pub(crate) fn root() -> Region
-        ensures { node_of result ≡ root }
-    {
-        Region {
-            must: GapSet::empty(),
-            never: GapSet::empty(),
-        }
-    }
-
-    /// Those that hold the gap too.
-    fn with(&self, gap: u8) -> Region
-        requires { gap < 64 }
-        ensures { result ≡ with_gap self.now gap }
-    {
-        Region {
-            must: self.must.with(gap),
-            never: self.never,
-        }
-    }
-
-    /// Those that avoid the gap too.
-    fn without(&self, gap: u8) -> Region
-        requires { gap < 64 }
-        ensures { result ≡ without_gap self.now gap }
-    {
-        Region {
-            must: self.must,
-            never: self.never.with(gap),
-        }
-    }
-}
 
 /// What gap trees are judged by: the costs, the set that is to be the answer, and the gaps that each foreign
 /// run passes.
@@ -77,9 +37,9 @@ pub(crate) fn judge_gap(
     bounds: &Bounds,
 ) -> Result<(), TreeFault>
     ensures valid { (p : Listing) (runs : List (List Label)) → HavePassed p runs bounds.now.passed.now
-        → OnOk result (IsValidIn p bounds.now.costs.now bounds.now.answer runs (gap tree.now) region.now) }
+        → OnOk result (IsValidGap p bounds.now.costs.now bounds.now.answer runs (gap tree.now) region.now) }
     ensures wrong { (p : Listing) (runs : List (List Label)) → HavePassed p runs bounds.now.passed.now
-        → IfErr result (IfWrong (IsWrongIn p bounds.now.costs.now bounds.now.answer runs (gap tree.now) region.now)) }
+        → IfErr result (IfWrong (FirstWrongGap p bounds.now.costs.now bounds.now.answer runs (gap tree.now) region.now)) }
 {
     match tree {
         GapTree::Bound => judge_bound(alloc, region, bounds),
@@ -99,7 +59,7 @@ fn judge_gaps(
     gaps: &[u8],
     bounds: &Bounds,
 ) -> Result<(), TreeFault>
-    requires below { All (λ gap. gap < 64) gaps.now }
+    requires below { All (λ gap. gap < MAX_GAPS) gaps.now }
     requires as_many { length trees.now ≡ length gaps.now }
     ensures valid { (p : Listing) (runs : List (List Label)) → HavePassed p runs bounds.now.passed.now
         → OnOk result (AreValidIn p bounds.now.costs.now bounds.now.answer runs (map gap trees.now) region.now gaps.now) }
@@ -126,10 +86,10 @@ fn judge_gap_child(
     bounds: &Bounds,
 ) -> Result<(), TreeFault>
     ensures valid { (p : Listing) (runs : List (List Label)) → HavePassed p runs bounds.now.passed.now
-        → OnOk result (IsValidIn p bounds.now.costs.now bounds.now.answer runs (gap tree.now) region.now) }
+        → OnOk result (IsValidGap p bounds.now.costs.now bounds.now.answer runs (gap tree.now) region.now) }
     ensures wrong { (p : Listing) (runs : List (List Label)) → HavePassed p runs bounds.now.passed.now
         → IfErr result (IfWrong (IsBelow (λ n path. (n ≡ number)
-        × IsWrongIn p bounds.now.costs.now bounds.now.answer runs (gap tree.now) region.now path))) }
+        × FirstWrongGap p bounds.now.costs.now bounds.now.answer runs (gap tree.now) region.now path))) }
 {
     match judge_gap(alloc, tree, region, bounds) {
         Ok(()) => Ok(()),
@@ -159,11 +119,11 @@ fn split_gaps(
     passed: &[GapSet],
 ) -> Result<Vec<u8>, TreeFault>
     ensures split { (p : Listing) (labels : List (List Label)) → HavePassed p labels passed.now
-        → IfOk result (λ gaps. IsSplitBy p labels (node_of region.now) run gaps.items) }
+        → IfOk result (λ gaps. IsSplitBy p labels region.now run gaps.items) }
     ensures as_many { IfOk result (λ gaps. count ≡ length gaps.items) }
-    ensures below { IfOk result (λ gaps. All (λ gap. gap < 64) gaps.items) }
+    ensures below { IfOk result (λ gaps. All (λ gap. gap < MAX_GAPS) gaps.items) }
     ensures wrong { (p : Listing) (labels : List (List Label)) → HavePassed p labels passed.now
-        → IfErr result (IfWrong (IsAtRoot (HasNoSplit p labels (node_of region.now) run count))) }
+        → IfErr result (IfWrong (IsAtRoot (HasNoSplit p labels region.now run count))) }
 {
     let Some(passed) = passed_by(passed, run) else {
         return Err(TreeFault::at_root(alloc));
@@ -182,7 +142,7 @@ fn split_gaps(
 fn open_gaps(alloc: Global, passed: GapSet, never: GapSet) -> Result<Vec<u8>, AllocError>
     ensures ascending { IfOk result (λ gaps. IsStrictlyIncreasing gaps.items) }
     ensures exact { IfOk result (λ gaps. (gap : ℕ) → Contains gaps.items gap ↔ ((set.contains passed gap ≡ true) × (set.contains never gap ≡ false))) }
-    ensures below { IfOk result (λ gaps. All (λ gap. gap < 64) gaps.items) }
+    ensures below { IfOk result (λ gaps. All (λ gap. gap < MAX_GAPS) gaps.items) }
 {
     let mut gaps = Vec::new(alloc);
     for gap in passed.iter() {

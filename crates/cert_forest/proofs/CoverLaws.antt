@@ -5,6 +5,7 @@ use Rattle.std.specs.List.{AllByRecursion}
 use Rattle.std.proofs.lemmas.Bool.{eqb-true}
 use Rattle.std.proofs.lemmas.List.{append-nil}
 use Rattle.candidate_executions.specs.declared.event.Kind.{Kind}
+use Rattle.cert_words.specs.declared.numbers.TheConstants.{MAX_COUNT}
 use Rattle.cert_forest.specs.declared.tree.AccessId.{AccessId}
 use Rattle.cert_forest.specs.Trees.{Cover, Value, Source, Order, Cycle, Known, Covers, covers_of}
 use Rattle.cert_words.specs.Lines.{texts_of, spaced}
@@ -37,10 +38,10 @@ abbrev pub head_text : Head → List ℕ
 head_text h = spaced (letter h ∷ []) ++ rest_text h
 
 abbrev pub HeadFits : Head → Type 0
-HeadFits (ValueHead thread n) = (thread ≤ 255) × (n ≤ 1024)
-HeadFits (SourceHead read n) = IsAccessId read × (n ≤ 1024)
+HeadFits (ValueHead thread n) = (thread ≤ 255) × (n ≤ MAX_COUNT)
+HeadFits (SourceHead read n) = IsAccessId read × (n ≤ MAX_COUNT)
 HeadFits (OrderHead first second) = IsAccessId first × IsAccessId second
-HeadFits (CycleHead kind events) = (length events ≤ 1024) × AllByRecursion IsAccessId events
+HeadFits (CycleHead kind events) = (length events ≤ MAX_COUNT) × AllByRecursion IsAccessId events
 HeadFits (KnownHead run) = run ≤ 18446744073709551615
 
 -- what is read after a letter
@@ -53,14 +54,14 @@ fits255 = omega arith
 value_takes : Takes 86 value_head_at
 unfolding value_head_at
 value_takes bytes x e =
-    let t = takes_two (number_within_at 255) count_at number_text number_text (λ n. n ≤ 255) (λ n. n ≤ 1024) (number_exact 255 fits255) count_exact ValueHead bytes x e in
+    let t = takes_two (number_within_at 255) count_at number_text number_text (λ n. n ≤ 255) (λ n. n ≤ MAX_COUNT) (number_exact 255 fits255) count_exact ValueHead bytes x e in
     let here : bytes ≡ rest_text (ValueHead t.0 t.1) ++ x.1 = t.5 ∙ sym (append_assoc (number_text t.0) (number_text t.1) x.1) in
     subst (λ (h : Head). (bytes ≡ rest_text h ++ x.1) × HeadFits h × (letter h ≡ 86)) t.4 (here, (t.2, t.3), refl)
 
 source_takes : Takes 83 source_head_at
 unfolding source_head_at
 source_takes bytes x e =
-    let t = takes_two access_at count_at access_text number_text IsAccessId (λ n. n ≤ 1024) access_exact count_exact SourceHead bytes x e in
+    let t = takes_two access_at count_at access_text number_text IsAccessId (λ n. n ≤ MAX_COUNT) access_exact count_exact SourceHead bytes x e in
     let here : bytes ≡ rest_text (SourceHead t.0 t.1) ++ x.1 = t.5 ∙ sym (append_assoc (access_text t.0) (number_text t.1) x.1) in
     subst (λ (h : Head). (bytes ≡ rest_text h ++ x.1) × HeadFits h × (letter h ≡ 83)) t.4 (here, (t.2, t.3), refl)
 
@@ -90,7 +91,7 @@ cycle_takes bytes x e =
     let second : k.0.1 ≡ number_text (length es.0.0) ++ (texts_of access_text es.0.0 ++ es.0.1) = n-is.0 ∙ (λ i. number_text (len i) ++ text i) in
     let here : bytes ≡ rest_text (CycleHead k.0.0 es.0.0) ++ es.0.1 = k-is.0 ∙ ap (λ (v : List ℕ). kind_text k.0.0 ++ v) second ∙ three (kind_text k.0.0) (number_text (length es.0.0)) (texts_of access_text es.0.0) es.0.1 in
     let all : AllByRecursion IsAccessId es.0.0 = subst (AllByRecursion IsAccessId) (sym events-is) es-are.4 in
-    let small : length es.0.0 ≤ 1024 = omega (arith, n-is.1, len) in
+    let small : length es.0.0 ≤ MAX_COUNT = omega (arith, n-is.1, len) in
     subst (λ (y : Head × List ℕ). (bytes ≡ rest_text y.0 ++ y.1) × HeadFits y.0 × (letter y.0 ≡ 67)) same (here, (small, all), refl)
 
 known_takes : Takes 75 known_at
@@ -127,17 +128,17 @@ head_takes bytes x e =
     let first : bytes ≡ spaced (letter x.0 ∷ []) ++ a.0.1 = letter_takes bytes a.0 a.1 ∙ ap (λ (l : ℕ). spaced (l ∷ []) ++ a.0.1) (sym t.2) in
     (first ∙ ap (λ (v : List ℕ). spaced (letter x.0 ∷ []) ++ v) t.0, t.1)
 
-value_again : (t n : ℕ) (rest : List ℕ) → t ≤ 255 → n ≤ 1024 → Starts rest → value_head_at ((number_text t ++ number_text n) ++ rest) ≡ Some (ValueHead t n, rest)
+value_again : (t n : ℕ) (rest : List ℕ) → t ≤ 255 → n ≤ MAX_COUNT → Starts rest → value_head_at ((number_text t ++ number_text n) ++ rest) ≡ Some (ValueHead t n, rest)
 unfolding value_head_at
 value_again t n rest a b st =
     ap value_head_at (append_assoc (number_text t) (number_text n) rest)
-    ∙ again_two (number_within_at 255) count_at number_text number_text (λ n. n ≤ 255) (λ n. n ≤ 1024) (number_exact 255 fits255) count_exact ValueHead t n rest a b st
+    ∙ again_two (number_within_at 255) count_at number_text number_text (λ n. n ≤ 255) (λ n. n ≤ MAX_COUNT) (number_exact 255 fits255) count_exact ValueHead t n rest a b st
 
-source_again : (event : AccessId) (n : ℕ) (rest : List ℕ) → IsAccessId event → n ≤ 1024 → Starts rest → source_head_at ((access_text event ++ number_text n) ++ rest) ≡ Some (SourceHead event n, rest)
+source_again : (event : AccessId) (n : ℕ) (rest : List ℕ) → IsAccessId event → n ≤ MAX_COUNT → Starts rest → source_head_at ((access_text event ++ number_text n) ++ rest) ≡ Some (SourceHead event n, rest)
 unfolding source_head_at
 source_again event n rest a b st =
     ap source_head_at (append_assoc (access_text event) (number_text n) rest)
-    ∙ again_two access_at count_at access_text number_text IsAccessId (λ n. n ≤ 1024) access_exact count_exact SourceHead event n rest a b st
+    ∙ again_two access_at count_at access_text number_text IsAccessId (λ n. n ≤ MAX_COUNT) access_exact count_exact SourceHead event n rest a b st
 
 order_again : (first second : AccessId) (rest : List ℕ) → IsAccessId first → IsAccessId second → Starts rest → order_head_at ((access_text first ++ access_text second) ++ rest) ≡ Some (OrderHead first second, rest)
 unfolding order_head_at
@@ -145,7 +146,7 @@ order_again first second rest a b st =
     ap order_head_at (append_assoc (access_text first) (access_text second) rest)
     ∙ again_two access_at access_at access_text access_text IsAccessId IsAccessId access_exact access_exact OrderHead first second rest a b st
 
-cycle_again : (kind : Kind) (events : List AccessId) (rest : List ℕ) → length events ≤ 1024 → AllByRecursion IsAccessId events → Starts rest → cycle_at ((kind_text kind ++ (number_text (length events) ++ texts_of access_text events)) ++ rest) ≡ Some (CycleHead kind events, rest)
+cycle_again : (kind : Kind) (events : List AccessId) (rest : List ℕ) → length events ≤ MAX_COUNT → AllByRecursion IsAccessId events → Starts rest → cycle_at ((kind_text kind ++ (number_text (length events) ++ texts_of access_text events)) ++ rest) ≡ Some (CycleHead kind events, rest)
 unfolding cycle_at
 cycle_again kind events rest few all st =
     let whole = sym (three (kind_text kind) (number_text (length events)) (texts_of access_text events) rest) in
@@ -212,7 +213,7 @@ below_takes d takes (ValueHead t n) bytes x fits e =
     let to = covers_to d more.0 more.4 in
     let text : head_text (ValueHead t n) ++ bytes ≡ cover_text (Value t (covers_of more.0)) ++ u.0.1 = (λ i. head_text (ValueHead t (sym more.3 i)) ++ more.2 i) ∙ value_text t more.0 u.0.1 in
     let deep : suc (covers_depth (covers_of more.0)) ≤ suc d = omega (arith, to.0) in
-    let small : count_covers (covers_of more.0) ≤ 1024 = omega (arith, covers_count more.0, more.3, fits.1) in
+    let small : count_covers (covers_of more.0) ≤ MAX_COUNT = omega (arith, covers_count more.0, more.3, fits.1) in
     let low : t < 256 = omega (arith, fits.0) in
     let made : pair (Value t (covers_of more.0)) u.0.1 ≡ x = ap (λ (ts : List Cover). pair (Value t (covers_of ts)) u.0.1) (sym more.1) ∙ some_is (Value t (covers_of u.0.0), u.0.1) x u.2 in
     subst (λ (y : Cover × List ℕ). (head_text (ValueHead t n) ++ bytes ≡ cover_text y.0 ++ y.1) × IsCoverTo (suc d) y.0) made (text, (deep, (low, small, to.1)))
@@ -222,7 +223,7 @@ below_takes d takes (SourceHead event n) bytes x fits e =
     let to = covers_to d more.0 more.4 in
     let text : head_text (SourceHead event n) ++ bytes ≡ cover_text (Source event (covers_of more.0)) ++ u.0.1 = (λ i. head_text (SourceHead event (sym more.3 i)) ++ more.2 i) ∙ source_text event more.0 u.0.1 in
     let deep : suc (covers_depth (covers_of more.0)) ≤ suc d = omega (arith, to.0) in
-    let small : count_covers (covers_of more.0) ≤ 1024 = omega (arith, covers_count more.0, more.3, fits.1) in
+    let small : count_covers (covers_of more.0) ≤ MAX_COUNT = omega (arith, covers_count more.0, more.3, fits.1) in
     let made : pair (Source event (covers_of more.0)) u.0.1 ≡ x = ap (λ (ts : List Cover). pair (Source event (covers_of ts)) u.0.1) (sym more.1) ∙ some_is (Source event (covers_of u.0.0), u.0.1) x u.2 in
     subst (λ (y : Cover × List ℕ). (head_text (SourceHead event n) ++ bytes ≡ cover_text y.0 ++ y.1) × IsCoverTo (suc d) y.0) made (text, (deep, (fits.0, small, to.1)))
 below_takes d takes (OrderHead first second) bytes x fits e =
@@ -274,7 +275,7 @@ value_node : (d : ℕ) → IsExact (cover_at d) cover_text (IsCoverTo d) → (t 
 value_node d exact t ts rest fits st =
     let deep : covers_depth (covers_of ts) ≤ d = omega (arith, fits.0) in
     let c = children_again d exact ts rest deep fits.1.2 st in
-    let few : length ts ≤ 1024 = omega (arith, covers_count ts, fits.1.1) in
+    let few : length ts ≤ MAX_COUNT = omega (arith, covers_count ts, fits.1.1) in
     let low : t ≤ 255 = omega (arith, fits.1.0) in
     let below : below_at (cover_at d) (ValueHead t (length ts)) (texts_of cover_text ts ++ rest) ≡ Some (Value t (covers_of ts), rest) = rw c.0 refl in
     ap (cover_at (suc d)) (sym (value_text t ts rest))
@@ -285,7 +286,7 @@ source_node : (d : ℕ) → IsExact (cover_at d) cover_text (IsCoverTo d) → (e
 source_node d exact e ts rest fits st =
     let deep : covers_depth (covers_of ts) ≤ d = omega (arith, fits.0) in
     let c = children_again d exact ts rest deep fits.1.2 st in
-    let few : length ts ≤ 1024 = omega (arith, covers_count ts, fits.1.1) in
+    let few : length ts ≤ MAX_COUNT = omega (arith, covers_count ts, fits.1.1) in
     let below : below_at (cover_at d) (SourceHead e (length ts)) (texts_of cover_text ts ++ rest) ≡ Some (Source e (covers_of ts), rest) = rw c.0 refl in
     ap (cover_at (suc d)) (sym (source_text e ts rest))
     ∙ node_again d (SourceHead e (length ts)) (texts_of cover_text ts ++ rest) (Source e (covers_of ts), rest) (fits.1.0, few) c.1 below

@@ -4,6 +4,7 @@ use Rattle.std.specs.Fmt.{decimal}
 use Rattle.std.proofs.lemmas.Fmt.{decimal_digit}
 use Rattle.candidate_executions.specs.declared.event.Kind.{Kind}
 use Rattle.candidate_executions.specs.declared.event.Kind.TheVariants as kinds
+use Rattle.cert_forest.specs.declared.tree.TheConstants.{MAX_COVER_DEPTH}
 use Rattle.cert_forest.specs.Limits.{IsCoverTo, HasNumbers}
 use Rattle.cert_forest.specs.Laws.{TheExamplesAreCertificates, crossed, either, observed_tree}
 
@@ -54,13 +55,13 @@ crossed_numbers kind = (
   ),
 )
 
-crossed_fits : (kind : Kind) → IsCoverTo 400 (crossed kind)
+crossed_fits : (kind : Kind) → IsCoverTo MAX_COVER_DEPTH (crossed kind)
 crossed_fits kind = (lit≤ tt, crossed_numbers kind)
 
 either_numbers : HasNumbers either
 either_numbers = (lit< tt, lit≤ tt, (lit< tt, (lit< tt, tt)))
 
-observed_fits : IsCoverTo 400 observed_tree
+observed_fits : IsCoverTo MAX_COVER_DEPTH observed_tree
 observed_fits = (lit≤ tt, (lit< tt, lit≤ tt, (either_numbers, (either_numbers, (either_numbers, tt)))))
 
 pub told : TheExamplesAreCertificates

@@ -2,6 +2,7 @@
 use Rattle.std.proofs.Common.{◌≡◌, ℕ, zero, suc, ◌<◌, ◌≤◌, ◌==◌, ◌^◌, cond, List, [], ◌∷◌, ◌++◌, length, Some, None, refl, sym, ap, subst, ◌∙◌, append_assoc, arith, inl, inr}
 use Rattle.std.specs.Prelude.{codes}
 use Rattle.std.proofs.lemmas.Bool.{eqb-true}
+use Rattle.cert_words.specs.declared.numbers.TheConstants.{MAX_COUNT}
 use Rattle.cert_forest.specs.Trees.{Gap, Split, Bound, GapTrees, gap_trees_of}
 use Rattle.cert_words.specs.Lines.{texts_of, spaced}
 use Rattle.cert_forest.specs.Texts.{count_gaps}
@@ -18,19 +19,19 @@ both run n = (run, n)
 abbrev split_text : ℕ × ℕ → List ℕ
 split_text node = number_text node.0 ++ number_text node.1
 
-split_takes : (bytes : List ℕ) (x : (ℕ × ℕ) × List ℕ) → split_at bytes ≡ Some x → (bytes ≡ split_text x.0 ++ x.1) × (x.0.0 < 2 ^ 64) × (x.0.1 ≤ 1024)
+split_takes : (bytes : List ℕ) (x : (ℕ × ℕ) × List ℕ) → split_at bytes ≡ Some x → (bytes ≡ split_text x.0 ++ x.1) × (x.0.0 < 2 ^ 64) × (x.0.1 ≤ MAX_COUNT)
 unfolding split_at
 split_takes bytes x e =
-    let t = takes_two (number_within_at 18446744073709551615) count_at number_text number_text (λ n. n ≤ 18446744073709551615) (λ n. n ≤ 1024) (number_exact 18446744073709551615 below64) count_exact both bytes x e in
+    let t = takes_two (number_within_at 18446744073709551615) count_at number_text number_text (λ n. n ≤ 18446744073709551615) (λ n. n ≤ MAX_COUNT) (number_exact 18446744073709551615 below64) count_exact both bytes x e in
     let here : bytes ≡ split_text (both t.0 t.1) ++ x.1 = t.5 ∙ sym (append_assoc (number_text t.0) (number_text t.1) x.1) in
     let low : t.0 < 2 ^ 64 = omega (arith, t.2) in
-    subst (λ (h : ℕ × ℕ). (bytes ≡ split_text h ++ x.1) × (h.0 < 2 ^ 64) × (h.1 ≤ 1024)) t.4 (here, low, t.3)
+    subst (λ (h : ℕ × ℕ). (bytes ≡ split_text h ++ x.1) × (h.0 < 2 ^ 64) × (h.1 ≤ MAX_COUNT)) t.4 (here, low, t.3)
 
-split_again : (run n : ℕ) (rest : List ℕ) → run ≤ 18446744073709551615 → n ≤ 1024 → Starts rest → split_at ((number_text run ++ number_text n) ++ rest) ≡ Some ((run, n), rest)
+split_again : (run n : ℕ) (rest : List ℕ) → run ≤ 18446744073709551615 → n ≤ MAX_COUNT → Starts rest → split_at ((number_text run ++ number_text n) ++ rest) ≡ Some ((run, n), rest)
 unfolding split_at
 split_again run n rest a b st =
     ap split_at (append_assoc (number_text run) (number_text n) rest)
-    ∙ again_two (number_within_at 18446744073709551615) count_at number_text number_text (λ n. n ≤ 18446744073709551615) (λ n. n ≤ 1024) (number_exact 18446744073709551615 below64) count_exact both run n rest a b st
+    ∙ again_two (number_within_at 18446744073709551615) count_at number_text number_text (λ n. n ≤ 18446744073709551615) (λ n. n ≤ MAX_COUNT) (number_exact 18446744073709551615 below64) count_exact both run n rest a b st
 
 split_node_text : (run : ℕ) (ts : List Gap) (rest : List ℕ) → (spaced (codes "P") ++ split_text (both run (length ts))) ++ (texts_of gap_text ts ++ rest) ≡ gap_text (Split run (gap_trees_of ts)) ++ rest
 split_node_text run ts rest =
@@ -55,7 +56,7 @@ by_takes d takes l bytes x e =
           let behind : bytes ≡ split_text (both node.0.0.0 (length more.0)) ++ (texts_of gap_text more.0 ++ u.0.1) = s.0 ∙ (λ i. split_text (both node.0.0.0 (sym more.3 i)) ++ more.2 i) in
           let text : spaced (l ∷ []) ++ bytes ≡ gap_text (Split node.0.0.0 (gap_trees_of more.0)) ++ u.0.1 = (λ i. spaced (first i ∷ []) ++ behind i) ∙ split_node_text node.0.0.0 more.0 u.0.1 in
           let deep : suc (gaps_depth (gap_trees_of more.0)) ≤ suc d = omega (arith, to.0) in
-          let small : count_gaps (gap_trees_of more.0) ≤ 1024 = omega (arith, gaps_count more.0, more.3, s.2) in
+          let small : count_gaps (gap_trees_of more.0) ≤ MAX_COUNT = omega (arith, gaps_count more.0, more.3, s.2) in
           let made : pair (Split node.0.0.0 (gap_trees_of more.0)) u.0.1 ≡ x = ap (λ (ts : List Gap). pair (Split node.0.0.0 (gap_trees_of ts)) u.0.1) (sym more.1) ∙ some_is (Split node.0.0.0 (gap_trees_of u.0.0), u.0.1) x u.2 in
           subst (λ (y : Gap × List ℕ). (spaced (l ∷ []) ++ bytes ≡ gap_text y.0 ++ y.1) × IsGapTo (suc d) y.0) made (text, (deep, (s.1, small, to.1)))
       | inr h ↦
@@ -83,7 +84,7 @@ split_node : (d : ℕ) → IsExact (gap_at d) gap_text (IsGapTo d) → (run : �
 unfolding gap_at
 split_node d exact run ts rest fits st =
     let deep : gaps_depth (gap_trees_of ts) ≤ d = omega (arith, fits.0) in
-    let few : length ts ≤ 1024 = omega (arith, gaps_count ts, fits.1.1) in
+    let few : length ts ≤ MAX_COUNT = omega (arith, gaps_count ts, fits.1.1) in
     let low : run ≤ 18446744073709551615 = omega (arith, fits.1.0) in
     let all = gaps_from d ts deep fits.1.2 in
     let after = starts_all gap_text (IsGapTo d) exact.starts ts rest all st in

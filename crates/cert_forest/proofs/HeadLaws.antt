@@ -1,5 +1,5 @@
 -- The head of a certificate's text is read exactly: its version, and what is shown.
-use Rattle.std.proofs.Common.{◌≡◌, ℕ, zero, suc, ◌+◌, ◌<◌, ◌≤◌, Bool, true, false, cond, List, [], ◌∷◌, ◌++◌, length, map, Option, Some, None, refl, sym, ap, subst, ◌∙◌, append_assoc, arith, inl, inr}
+use Rattle.std.proofs.Common.{◌≡◌, ℕ, zero, suc, ◌+◌, ◌≤◌, Bool, true, false, cond, List, [], ◌∷◌, ◌++◌, length, map, Option, Some, None, refl, sym, ap, subst, ◌∙◌, append_assoc, arith, inl, inr}
 use Rattle.std.specs.Prelude.{codes, nat_lt}
 use Rattle.std.specs.Str.{bytes_eq}
 use Rattle.std.proofs.lemmas.Bool.{ltb-false, le-ltb}
@@ -9,6 +9,7 @@ use Rattle.cert_words.specs.Lines.{texts_of, spaced, line}
 use Rattle.cert_words.specs.Words.{◌>>=◌, word_at, line_name_at, end_at, begins_word}
 use Rattle.cert_words.proofs.Steps.{bind_some, guarded, kept_out, chosen, some_is, Starts, done_with}
 use Rattle.cert_words.proofs.WordLaws.{word_takes, word_again, name_takes, name_again, end_takes, end_again}
+use Rattle.tso_program.specs.declared.shown.TheConstants.{PLACES}
 use Rattle.cert_forest.specs.Texts.{place_word, head_lines}
 use Rattle.cert_forest.specs.Limits.{PlacesFrom, AreShownPlaces}
 use Rattle.cert_forest.specs.Reading.{place_word_at, places_at, shown_line_at, version_at, header_at, shown_words_at, shown_at}
@@ -43,7 +44,7 @@ places_start : (ps : List ℕ) (rest : List ℕ) → Starts (texts_of place_text
 places_start [] rest = refl
 places_start (p ∷ ps) rest = refl
 
-places_few : (least : ℕ) (ps : List ℕ) → least ≤ 56 → PlacesFrom least ps → length ps + least ≤ 56
+places_few : (least : ℕ) (ps : List ℕ) → least ≤ PLACES → PlacesFrom least ps → length ps + least ≤ PLACES
 places_few least [] le up = omega arith
 places_few least (p ∷ ps) le up = omega (arith, up.0, up.1, places_few (p + 1) ps (omega (arith, up.1)) up.2)
 
@@ -65,20 +66,20 @@ places_again (suc n) least (p ∷ ps) found rest up few =
 pub shown_line_takes : (bytes : List ℕ) (x : List ℕ × List ℕ) → shown_line_at bytes ≡ Some x → (bytes ≡ line (codes "shown") (map place_word x.0) ++ x.1) × PlacesFrom 0 x.0
 unfolding shown_line_at
 shown_line_takes bytes x e =
-    let t = line_takes (places_at 56 0 []) (λ ps. texts_of place_text ps) (PlacesFrom 0) read (codes "shown") bytes x e in
+    let t = line_takes (places_at PLACES 0 []) (λ ps. texts_of place_text ps) (PlacesFrom 0) read (codes "shown") bytes x e in
     (t.0 ∙ ap (λ (w : List ℕ). line_of (codes "shown") w ++ x.1) (sym (texts_map place_word x.0)), t.1)
   where
-    read : (bytes : List ℕ) (x : List ℕ × List ℕ) → places_at 56 0 [] bytes ≡ Some x → (bytes ≡ texts_of place_text x.0 ++ x.1) × PlacesFrom 0 x.0
+    read : (bytes : List ℕ) (x : List ℕ × List ℕ) → places_at PLACES 0 [] bytes ≡ Some x → (bytes ≡ texts_of place_text x.0 ++ x.1) × PlacesFrom 0 x.0
     read bytes x e =
-        let p = places_take 56 0 [] bytes x e in
+        let p = places_take PLACES 0 [] bytes x e in
         subst (λ (ps : List ℕ). (bytes ≡ texts_of place_text ps ++ x.1) × PlacesFrom 0 ps) (sym p.1) (p.2, p.3)
 
 shown_line_again : (ps : List ℕ) (rest : List ℕ) → PlacesFrom 0 ps → shown_line_at (line (codes "shown") (map place_word ps) ++ rest) ≡ Some (ps, rest)
 unfolding shown_line_at
 shown_line_again ps rest up =
-    let few : length ps ≤ 56 = omega (arith, places_few 0 ps (omega arith) up) in
-    ap (λ (w : List ℕ). line_at (codes "shown") (places_at 56 0 []) (line_of (codes "shown") w ++ rest)) (texts_map place_word ps)
-    ∙ line_again (places_at 56 0 []) (texts_of place_text ps) (codes "shown") ps rest refl (places_start ps rest) (places_again 56 0 ps [] rest up few)
+    let few : length ps ≤ PLACES = omega (arith, places_few 0 ps (omega arith) up) in
+    ap (λ (w : List ℕ). line_at (codes "shown") (places_at PLACES 0 []) (line_of (codes "shown") w ++ rest)) (texts_map place_word ps)
+    ∙ line_again (places_at PLACES 0 []) (texts_of place_text ps) (codes "shown") ps rest refl (places_start ps rest) (places_again PLACES 0 ps [] rest up few)
 
 -- ---- the first line
 

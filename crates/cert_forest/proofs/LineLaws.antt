@@ -1,22 +1,23 @@
 -- Lines are read exactly.
-use Rattle.std.proofs.Common.{◌≡◌, ℕ, zero, suc, ◌+◌, ◌<◌, ◌≤◌, ◌^◌, true, false, cond, List, [], ◌∷◌, ◌++◌, length, map, Option, Some, None, refl, sym, ap, subst, ◌∙◌, append_assoc, arith, inl, inr}
+use Rattle.std.proofs.Common.{◌≡◌, ℕ, zero, suc, ◌+◌, ◌-◌, ◌<◌, ◌≤◌, ◌^◌, true, false, cond, List, [], ◌∷◌, ◌++◌, length, map, Option, Some, None, refl, sym, ap, subst, ◌∙◌, append_assoc, arith, inl, inr}
 use Rattle.std.specs.Prelude.{codes, nat_lt}
 use Rattle.std.specs.List.{AllByRecursion, list_all}
 use Rattle.std.specs.Fmt.{decimal}
-use Rattle.std.specs.Str.{bytes_eq}
 use Rattle.std.proofs.lemmas.Bool.{ltb-false, le-ltb}
-use Rattle.std.proofs.lemmas.Slice.Eq.{bytes_eq-Decides}
 use Rattle.std.proofs.lemmas.List.{append-nil}
 use Rattle.tso_machine.specs.declared.label.Label.{Label}
 use Rattle.tso_machine.specs.RunTexts.{spelling, IsLabel}
+use Rattle.gap_sets.specs.declared.gap_set.TheConstants.{MAX_GAPS}
+use Rattle.cert_words.specs.declared.numbers.TheConstants.{MAX_COUNT}
+use Rattle.cert_forest.specs.declared.tree.TheConstants.{MAX_COVER_DEPTH, MAX_GAP_DEPTH}
 use Rattle.cert_forest.specs.Trees.{Cover, Gap}
-use Rattle.cert_words.specs.Lines.{texts_of, spaced, line}
+use Rattle.cert_words.specs.Lines.{texts_of, line}
 use Rattle.cert_forest.specs.Texts.{cover_words, gap_words, labels_line, runs_lines}
 use Rattle.cert_forest.specs.Limits.{AscendFrom, IsWrittenRun, AreRuns, IsCoverTo, IsGapTo}
-use Rattle.cert_words.specs.Words.{◌>>=◌, is_inner, word_at, line_name_at, end_at, begins_word, number_within_at, repeat_at}
-use Rattle.cert_forest.specs.Reading.{label_word_at, run_labels_at, gaps_at, run_at, runs_at, set_at, cost_at, cover_at, gap_at, cover_line_at, gap_line_at}
-use Rattle.cert_words.proofs.Steps.{bind_some, guarded, kept_out, chosen, some_is, Starts, done_with, repeat_takes, repeat_free}
-use Rattle.cert_words.proofs.WordLaws.{word_takes, word_again, name_takes, name_again, end_takes, end_again, number_text, number_exact, below64}
+use Rattle.cert_words.specs.Words.{◌>>=◌, is_inner, line_name_at, end_at, begins_word, number_within_at, repeat_at}
+use Rattle.cert_forest.specs.Reading.{label_word_at, run_labels_at, gap_number_at, gaps_at, run_at, runs_at, set_at, cost_at, cover_at, gap_at, cover_line_at, gap_line_at}
+use Rattle.cert_words.proofs.Steps.{bind_some, kept_out, chosen, some_is, Starts, done_with, repeat_takes, repeat_free}
+use Rattle.cert_words.proofs.WordLaws.{name_takes, name_again, end_takes, end_again, number_text, number_exact, below64}
 use Rattle.cert_forest.proofs.NameLaws.{label_text, label_exact}
 use Rattle.cert_forest.proofs.TreeTexts.{texts_map, cover_text, gap_text}
 use Rattle.cert_forest.proofs.CoverLaws.{cover_exact}
@@ -98,14 +99,14 @@ gaps_take zero least found bytes x e =
     let same = some_is (found, bytes) x k.1 in
     ([], sym (ap (λ p. p.0) same) ∙ sym (append-nil found), ap (λ p. p.1) same, tt)
 gaps_take (suc n) least found bytes x e =
-    elim (chosen (begins_word bytes) (number_within_at 63 bytes >>= λ gap. cond (nat_lt gap.0 least) None (gaps_at n (gap.0 + 1) (found ++ gap.0 ∷ []) gap.1)) (Some (found, bytes)) (Some x) e) [
+    elim (chosen (begins_word bytes) (gap_number_at bytes >>= λ gap. cond (nat_lt gap.0 least) None (gaps_at n (gap.0 + 1) (found ++ gap.0 ∷ []) gap.1)) (Some (found, bytes)) (Some x) e) [
       | inl h ↦
-          let u = bind_some (number_within_at 63 bytes) (λ gap. cond (nat_lt gap.0 least) None (gaps_at n (gap.0 + 1) (found ++ gap.0 ∷ []) gap.1)) x h.1 in
+          let u = bind_some (gap_number_at bytes) (λ gap. cond (nat_lt gap.0 least) None (gaps_at n (gap.0 + 1) (found ++ gap.0 ∷ []) gap.1)) x h.1 in
           let k = kept_out (nat_lt u.0.0 least) (gaps_at n (u.0.0 + 1) (found ++ u.0.0 ∷ []) u.0.1) x u.2 in
           let above : least ≤ u.0.0 = ltb-false _ _ k.0 in
-          let one = (number_exact 63 (omega arith)).takes bytes u.0 u.1 in
+          let one = (number_exact (MAX_GAPS - 1) (omega arith)).takes bytes u.0 u.1 in
           let others = gaps_take n (u.0.0 + 1) (found ++ u.0.0 ∷ []) u.0.1 x k.1 in
-          let below : u.0.0 < 64 = omega (arith, one.1) in
+          let below : u.0.0 < MAX_GAPS = omega (arith, one.1) in
           (u.0.0 ∷ others.0, others.1 ∙ append_assoc found (u.0.0 ∷ []) others.0, one.0 ∙ ap (λ (w : List ℕ). number_text u.0.0 ++ w) others.2 ∙ sym (append_assoc (number_text u.0.0) (texts_of number_text others.0) x.1), (above, below, others.3))
       | inr h ↦
           let same = some_is (found, bytes) x h.1 in
@@ -116,7 +117,7 @@ gaps_start : (gs : List ℕ) (rest : List ℕ) → Starts (texts_of number_text 
 gaps_start [] rest = refl
 gaps_start (g ∷ gs) rest = refl
 
-gaps_few : (least : ℕ) (gs : List ℕ) → least ≤ 64 → AscendFrom least gs → length gs + least ≤ 64
+gaps_few : (least : ℕ) (gs : List ℕ) → least ≤ MAX_GAPS → AscendFrom least gs → length gs + least ≤ MAX_GAPS
 gaps_few least [] le up = omega arith
 gaps_few least (g ∷ gs) le up = omega (arith, up.0, up.1, gaps_few (g + 1) gs (omega (arith, up.1)) up.2)
 
@@ -126,8 +127,8 @@ gaps_again zero least [] found rest up few = ap (done_with (10 ∷ rest)) (sym (
 gaps_again zero least (g ∷ gs) found rest up few = absurd (omega arith)
 gaps_again (suc n) least [] found rest up few = ap (done_with (10 ∷ rest)) (sym (append-nil found))
 gaps_again (suc n) least (g ∷ gs) found rest up few =
-    let here : number_within_at 63 (number_text g ++ (texts_of number_text gs ++ 10 ∷ rest)) ≡ Some (g, texts_of number_text gs ++ 10 ∷ rest) = (number_exact 63 (omega arith)).again g (texts_of number_text gs ++ 10 ∷ rest) (omega (arith, up.1)) (gaps_start gs rest) in
-    let whole : number_within_at 63 ((number_text g ++ texts_of number_text gs) ++ 10 ∷ rest) ≡ Some (g, texts_of number_text gs ++ 10 ∷ rest) = ap (number_within_at 63) (append_assoc (number_text g) (texts_of number_text gs) (10 ∷ rest)) ∙ here in
+    let here : gap_number_at (number_text g ++ (texts_of number_text gs ++ 10 ∷ rest)) ≡ Some (g, texts_of number_text gs ++ 10 ∷ rest) = (number_exact (MAX_GAPS - 1) (omega arith)).again g (texts_of number_text gs ++ 10 ∷ rest) (omega (arith, up.1)) (gaps_start gs rest) in
+    let whole : gap_number_at ((number_text g ++ texts_of number_text gs) ++ 10 ∷ rest) ≡ Some (g, texts_of number_text gs ++ 10 ∷ rest) = ap gap_number_at (append_assoc (number_text g) (texts_of number_text gs) (10 ∷ rest)) ∙ here in
     let above : nat_lt g least ≡ false = le-ltb _ _ up.0 in
     ap (λ o. o >>= λ gap. cond (nat_lt gap.0 least) None (gaps_at n (gap.0 + 1) (found ++ gap.0 ∷ []) gap.1)) whole
     ∙ rw above (gaps_again n (g + 1) gs (found ++ g ∷ []) rest up.2 (omega arith))
@@ -138,19 +139,19 @@ gaps_again (suc n) least (g ∷ gs) found rest up few =
 pub run_takes : (bytes : List ℕ) (x : List Label × List ℕ) → run_at bytes ≡ Some x → (bytes ≡ labels_line x.0 ++ x.1) × IsWrittenRun x.0
 unfolding run_at
 run_takes bytes x e =
-    let t = line_takes (run_labels_at 1024 []) (λ ls. texts_of label_text ls) IsWrittenRun read (codes "run") bytes x e in
+    let t = line_takes (run_labels_at MAX_COUNT []) (λ ls. texts_of label_text ls) IsWrittenRun read (codes "run") bytes x e in
     (t.0 ∙ ap (λ (w : List ℕ). line_of (codes "run") w ++ x.1) (sym (texts_map spelling x.0)), t.1)
   where
-    read : (bytes : List ℕ) (x : List Label × List ℕ) → run_labels_at 1024 [] bytes ≡ Some x → (bytes ≡ texts_of label_text x.0 ++ x.1) × IsWrittenRun x.0
+    read : (bytes : List ℕ) (x : List Label × List ℕ) → run_labels_at MAX_COUNT [] bytes ≡ Some x → (bytes ≡ texts_of label_text x.0 ++ x.1) × IsWrittenRun x.0
     read bytes x e =
-        let l = labels_take 1024 [] bytes x e in
+        let l = labels_take MAX_COUNT [] bytes x e in
         subst (λ (ls : List Label). (bytes ≡ texts_of label_text ls ++ x.1) × IsWrittenRun ls) (sym l.1) (l.2, (l.3, l.4))
 
 pub run_again : (ls : List Label) (rest : List ℕ) → IsWrittenRun ls → run_at (labels_line ls ++ rest) ≡ Some (ls, rest)
 unfolding run_at
 run_again ls rest fits =
-    ap (λ (w : List ℕ). line_at (codes "run") (run_labels_at 1024 []) (line_of (codes "run") w ++ rest)) (texts_map spelling ls)
-    ∙ line_again (run_labels_at 1024 []) (texts_of label_text ls) (codes "run") ls rest refl (labels_start ls rest) (labels_again 1024 ls [] rest fits.1 fits.0)
+    ap (λ (w : List ℕ). line_at (codes "run") (run_labels_at MAX_COUNT []) (line_of (codes "run") w ++ rest)) (texts_map spelling ls)
+    ∙ line_again (run_labels_at MAX_COUNT []) (texts_of label_text ls) (codes "run") ls rest refl (labels_start ls rest) (labels_again MAX_COUNT ls [] rest fits.1 fits.0)
 
 counted : (name n texts rest : List ℕ) → name ++ (n ++ (10 ∷ (texts ++ rest))) ≡ ((name ++ ((n ++ []) ++ 10 ∷ [])) ++ texts) ++ rest
 counted name n texts rest = simp (append_assoc, append-nil)
@@ -181,20 +182,20 @@ runs_again name rs rest word fits =
 pub set_takes : (bytes : List ℕ) (x : List ℕ × List ℕ) → set_at bytes ≡ Some x → (bytes ≡ line (codes "set") (map decimal x.0) ++ x.1) × AscendFrom 0 x.0
 unfolding set_at
 set_takes bytes x e =
-    let t = line_takes (gaps_at 64 0 []) (λ gs. texts_of number_text gs) (AscendFrom 0) read (codes "set") bytes x e in
+    let t = line_takes (gaps_at MAX_GAPS 0 []) (λ gs. texts_of number_text gs) (AscendFrom 0) read (codes "set") bytes x e in
     (t.0 ∙ ap (λ (w : List ℕ). line_of (codes "set") w ++ x.1) (sym (texts_map decimal x.0)), t.1)
   where
-    read : (bytes : List ℕ) (x : List ℕ × List ℕ) → gaps_at 64 0 [] bytes ≡ Some x → (bytes ≡ texts_of number_text x.0 ++ x.1) × AscendFrom 0 x.0
+    read : (bytes : List ℕ) (x : List ℕ × List ℕ) → gaps_at MAX_GAPS 0 [] bytes ≡ Some x → (bytes ≡ texts_of number_text x.0 ++ x.1) × AscendFrom 0 x.0
     read bytes x e =
-        let g = gaps_take 64 0 [] bytes x e in
+        let g = gaps_take MAX_GAPS 0 [] bytes x e in
         subst (λ (gs : List ℕ). (bytes ≡ texts_of number_text gs ++ x.1) × AscendFrom 0 gs) (sym g.1) (g.2, g.3)
 
 pub set_again : (gs : List ℕ) (rest : List ℕ) → AscendFrom 0 gs → set_at (line (codes "set") (map decimal gs) ++ rest) ≡ Some (gs, rest)
 unfolding set_at
 set_again gs rest up =
-    let few : length gs ≤ 64 = omega (arith, gaps_few 0 gs (omega arith) up) in
-    ap (λ (w : List ℕ). line_at (codes "set") (gaps_at 64 0 []) (line_of (codes "set") w ++ rest)) (texts_map decimal gs)
-    ∙ line_again (gaps_at 64 0 []) (texts_of number_text gs) (codes "set") gs rest refl (gaps_start gs rest) (gaps_again 64 0 gs [] rest up few)
+    let few : length gs ≤ MAX_GAPS = omega (arith, gaps_few 0 gs (omega arith) up) in
+    ap (λ (w : List ℕ). line_at (codes "set") (gaps_at MAX_GAPS 0 []) (line_of (codes "set") w ++ rest)) (texts_map decimal gs)
+    ∙ line_again (gaps_at MAX_GAPS 0 []) (texts_of number_text gs) (codes "set") gs rest refl (gaps_start gs rest) (gaps_again MAX_GAPS 0 gs [] rest up few)
 
 pub cost_takes : (bytes : List ℕ) (x : ℕ × List ℕ) → cost_at bytes ≡ Some x → (bytes ≡ line (codes "cost") (decimal x.0 ∷ []) ++ x.1) × (x.0 < 2 ^ 64)
 unfolding cost_at
@@ -208,20 +209,20 @@ cost_again n rest fits =
     ap (λ (w : List ℕ). line_at (codes "cost") (number_within_at 18446744073709551615) (line_of (codes "cost") w ++ rest)) (append-nil (number_text n))
     ∙ line_again (number_within_at 18446744073709551615) (number_text n) (codes "cost") n rest refl refl ((number_exact 18446744073709551615 below64).again n (10 ∷ rest) (omega arith) refl)
 
-pub cover_line_takes : (name bytes : List ℕ) (x : Cover × List ℕ) → cover_line_at name bytes ≡ Some x → (bytes ≡ line name (cover_words x.0) ++ x.1) × IsCoverTo 400 x.0
+pub cover_line_takes : (name bytes : List ℕ) (x : Cover × List ℕ) → cover_line_at name bytes ≡ Some x → (bytes ≡ line name (cover_words x.0) ++ x.1) × IsCoverTo MAX_COVER_DEPTH x.0
 unfolding cover_line_at
-cover_line_takes name bytes x e = line_takes (cover_at 400) cover_text (IsCoverTo 400) (cover_exact 400).takes name bytes x e
+cover_line_takes name bytes x e = line_takes (cover_at MAX_COVER_DEPTH) cover_text (IsCoverTo MAX_COVER_DEPTH) (cover_exact MAX_COVER_DEPTH).takes name bytes x e
 
-pub cover_line_again : (name : List ℕ) (t : Cover) (rest : List ℕ) → list_all is_inner name ≡ true → IsCoverTo 400 t → cover_line_at name (line name (cover_words t) ++ rest) ≡ Some (t, rest)
+pub cover_line_again : (name : List ℕ) (t : Cover) (rest : List ℕ) → list_all is_inner name ≡ true → IsCoverTo MAX_COVER_DEPTH t → cover_line_at name (line name (cover_words t) ++ rest) ≡ Some (t, rest)
 unfolding cover_line_at
 cover_line_again name t rest word fits =
-    line_again (cover_at 400) (cover_text t) name t rest word ((cover_exact 400).starts t (10 ∷ rest) fits refl) ((cover_exact 400).again t (10 ∷ rest) fits refl)
+    line_again (cover_at MAX_COVER_DEPTH) (cover_text t) name t rest word ((cover_exact MAX_COVER_DEPTH).starts t (10 ∷ rest) fits refl) ((cover_exact MAX_COVER_DEPTH).again t (10 ∷ rest) fits refl)
 
-pub gap_line_takes : (bytes : List ℕ) (x : Gap × List ℕ) → gap_line_at bytes ≡ Some x → (bytes ≡ line (codes "gaps") (gap_words x.0) ++ x.1) × IsGapTo 65 x.0
+pub gap_line_takes : (bytes : List ℕ) (x : Gap × List ℕ) → gap_line_at bytes ≡ Some x → (bytes ≡ line (codes "gaps") (gap_words x.0) ++ x.1) × IsGapTo MAX_GAP_DEPTH x.0
 unfolding gap_line_at
-gap_line_takes bytes x e = line_takes (gap_at 65) gap_text (IsGapTo 65) (gap_exact 65).takes (codes "gaps") bytes x e
+gap_line_takes bytes x e = line_takes (gap_at MAX_GAP_DEPTH) gap_text (IsGapTo MAX_GAP_DEPTH) (gap_exact MAX_GAP_DEPTH).takes (codes "gaps") bytes x e
 
-pub gap_line_again : (t : Gap) (rest : List ℕ) → IsGapTo 65 t → gap_line_at (line (codes "gaps") (gap_words t) ++ rest) ≡ Some (t, rest)
+pub gap_line_again : (t : Gap) (rest : List ℕ) → IsGapTo MAX_GAP_DEPTH t → gap_line_at (line (codes "gaps") (gap_words t) ++ rest) ≡ Some (t, rest)
 unfolding gap_line_at
 gap_line_again t rest fits =
-    line_again (gap_at 65) (gap_text t) (codes "gaps") t rest refl ((gap_exact 65).starts t (10 ∷ rest) fits refl) ((gap_exact 65).again t (10 ∷ rest) fits refl)
+    line_again (gap_at MAX_GAP_DEPTH) (gap_text t) (codes "gaps") t rest refl ((gap_exact MAX_GAP_DEPTH).starts t (10 ∷ rest) fits refl) ((gap_exact MAX_GAP_DEPTH).again t (10 ∷ rest) fits refl)

@@ -5,8 +5,8 @@ use Rattle.std.proofs.lemmas.Bool.{lt-ltb, le-ltb}
 use Rattle.tso_machine.specs.declared.label.Label.{Label}
 use Rattle.cert_words.specs.declared.refusal.Stop.{Stop}
 use Rattle.cert_words.specs.declared.refusal.Stop.TheVariants.{Refused, OutOfMemory}
-use Rattle.cert_words.specs.Words.{Fails, begins_word, repeat_at, number_within_at}
-use Rattle.cert_forest.specs.Reading.{label_word_at, run_labels_at, gaps_at, place_word_at, places_at}
+use Rattle.cert_words.specs.Words.{Fails, begins_word, repeat_at}
+use Rattle.cert_forest.specs.Reading.{label_word_at, run_labels_at, gap_number_at, gaps_at, place_word_at, places_at}
 
 one_less : (n k : ℕ) → k < n → n - k ≡ suc (n - (k + 1))
 one_less n k lt = omega arith
@@ -66,7 +66,7 @@ labels_past n k found bytes all le word so =
 
 -- ---- gaps
 
-pub gaps_more : (n k least : ℕ) (found : List ℕ) (bytes : List ℕ) (x : ℕ) (rest : List ℕ) (all : Option (List ℕ × List ℕ)) → k < n → begins_word bytes ≡ true → number_within_at 63 bytes ≡ Some (x, rest) → least ≤ x
+pub gaps_more : (n k least : ℕ) (found : List ℕ) (bytes : List ℕ) (x : ℕ) (rest : List ℕ) (all : Option (List ℕ × List ℕ)) → k < n → begins_word bytes ≡ true → gap_number_at bytes ≡ Some (x, rest) → least ≤ x
     → gaps_at (n - k) least found bytes ≡ all → gaps_at (n - (k + 1)) (x + 1) (found ++ x ∷ []) rest ≡ all
 unfolding gaps_at
 gaps_more n k least found bytes x rest all lt word e le so =
@@ -74,7 +74,7 @@ gaps_more n k least found bytes x rest all lt word e le so =
     let step : gaps_at (suc (n - (k + 1))) least found bytes ≡ gaps_at (n - (k + 1)) (x + 1) (found ++ x ∷ []) rest = rw (word, e, above) refl in
     sym step ∙ ap (λ (m : ℕ). gaps_at m least found bytes) (sym (one_less n k lt)) ∙ so
 
-pub gaps_low : (n k least : ℕ) (found : List ℕ) (bytes : List ℕ) (x : ℕ) (rest : List ℕ) (all : Option (List ℕ × List ℕ)) → k < n → begins_word bytes ≡ true → number_within_at 63 bytes ≡ Some (x, rest) → x < least
+pub gaps_low : (n k least : ℕ) (found : List ℕ) (bytes : List ℕ) (x : ℕ) (rest : List ℕ) (all : Option (List ℕ × List ℕ)) → k < n → begins_word bytes ≡ true → gap_number_at bytes ≡ Some (x, rest) → x < least
     → gaps_at (n - k) least found bytes ≡ all → all ≡ None
 unfolding gaps_at
 gaps_low n k least found bytes x rest all lt word e below so =
@@ -82,7 +82,7 @@ gaps_low n k least found bytes x rest all lt word e below so =
     let step : gaps_at (suc (n - (k + 1))) least found bytes ≡ None = rw (word, e, under) refl in
     sym so ∙ ap (λ (m : ℕ). gaps_at m least found bytes) (one_less n k lt) ∙ step
 
-pub gaps_stop : (n k least : ℕ) (found : List ℕ) (bytes : List ℕ) (all : Option (List ℕ × List ℕ)) → k < n → begins_word bytes ≡ true → number_within_at 63 bytes ≡ None
+pub gaps_stop : (n k least : ℕ) (found : List ℕ) (bytes : List ℕ) (all : Option (List ℕ × List ℕ)) → k < n → begins_word bytes ≡ true → gap_number_at bytes ≡ None
     → gaps_at (n - k) least found bytes ≡ all → all ≡ None
 unfolding gaps_at
 gaps_stop n k least found bytes all lt word e so =

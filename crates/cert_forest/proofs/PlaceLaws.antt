@@ -1,15 +1,18 @@
 -- The words of registers and locations: what the reader takes of each, and that it takes each again.
-use Rattle.std.proofs.Common.{◌≡◌, ℕ, zero, suc, ◌+◌, ◌-◌, ◌*◌, ◌/◌, ◌%◌, ◌<◌, ◌≤◌, ◌==◌, ◌&&◌, Bool, true, false, cond, List, [], ◌∷◌, ◌++◌, length, Some, None, refl, sym, ap, subst, ◌∙◌, arith, inl, inr}
+use Rattle.std.proofs.Common.{◌≡◌, ℕ, ◌+◌, ◌-◌, ◌/◌, ◌%◌, ◌<◌, ◌≤◌, ◌==◌, ◌&&◌, Bool, true, false, cond, List, [], ◌∷◌, ◌++◌, Some, None, refl, sym, ap, subst, ◌∙◌, arith, inl, inr}
 use Rattle.std.specs.Prelude.{nat_lt, nat_le}
 use Rattle.std.specs.List.{list_all}
 use Rattle.std.specs.Fmt.{decimal}
-use Rattle.std.proofs.lemmas.Bool.{and_parts, and_from, eqb-true, leb-true, le-leb, lt-ltb, le-ltb, cases_lt}
+use Rattle.std.proofs.lemmas.Bool.{and_parts, eqb-true, leb-true, le-leb, lt-ltb, le-ltb, cases_lt}
 use Rattle.std.proofs.lemmas.Fmt.{decimal_digit}
 use Rattle.tso_program.specs.Names.{register_place, location_place}
 use Rattle.cert_words.specs.Lines.{spaced}
 use Rattle.cert_words.specs.Words.{◌>>=◌, is_inner, word_at}
 use Rattle.cert_words.proofs.Steps.{bind_some, guarded, some_is, Starts, IsExact}
 use Rattle.cert_words.proofs.WordLaws.{word_takes, word_again}
+use Rattle.tso_program.specs.declared.instruction.TheConstants.{REGISTERS}
+use Rattle.tso_program.specs.declared.limits.TheConstants.{MAX_THREADS, MAX_LOCATIONS}
+use Rattle.tso_program.specs.declared.shown.TheConstants.{REGISTER_PLACES, PLACES}
 use Rattle.cert_forest.specs.Texts.{register_word, location_word, place_word}
 use Rattle.cert_forest.specs.Reading.{digit_of, shown_location, register_of, shown_place, place_word_at}
 
@@ -37,48 +40,48 @@ digit_again limit d fits =
 
 location_at : (l : ℕ) → place_word (location_place l) ≡ location_word l
 location_at l =
-    let later : nat_lt (location_place l) 48 ≡ false = le-ltb (location_place l) 48 (omega arith) in
-    let back : location_place l - 48 ≡ l = omega arith in
+    let later : nat_lt (location_place l) REGISTER_PLACES ≡ false = le-ltb (location_place l) REGISTER_PLACES (omega arith) in
+    let back : location_place l - REGISTER_PLACES ≡ l = omega arith in
     rw later (ap location_word back)
 
-register_at : (t r : ℕ) → t < 8 → r < 6 → place_word (register_place t r) ≡ register_word t r
+register_at : (t r : ℕ) → t < MAX_THREADS → r < REGISTERS → place_word (register_place t r) ≡ register_word t r
 register_at t r thread register =
-    let sooner : nat_lt (register_place t r) 48 ≡ true = lt-ltb (register_place t r) 48 (omega arith) in
-    let over : register_place t r / 6 ≡ t = omega arith in
-    let left : register_place t r % 6 ≡ r = omega arith in
+    let sooner : nat_lt (register_place t r) REGISTER_PLACES ≡ true = lt-ltb (register_place t r) REGISTER_PLACES (omega arith) in
+    let over : register_place t r / REGISTERS ≡ t = omega arith in
+    let left : register_place t r % REGISTERS ≡ r = omega arith in
     rw sooner (λ i. register_word (over i) (left i))
 
 abbrev IsOf : List ℕ → ℕ → Type 0
-IsOf word place = (word ≡ place_word place) × (place < 56)
+IsOf word place = (word ≡ place_word place) × (place < PLACES)
 
 location_takes : (a b p : ℕ) → shown_location a b ≡ Some p → IsOf (a ∷ (b ∷ [])) p
 location_takes a b p e = by_test (a == 108) refl e
   where
-    by_test : (t : Bool) → (a == 108) ≡ t → cond t (digit_of 7 b >>= λ l. Some (location_place l)) None ≡ Some p → IsOf (a ∷ (b ∷ [])) p
+    by_test : (t : Bool) → (a == 108) ≡ t → cond t (digit_of (MAX_LOCATIONS - 1) b >>= λ l. Some (location_place l)) None ≡ Some p → IsOf (a ∷ (b ∷ [])) p
     by_test false q h = absurd cc
     by_test true q h =
-        let u = bind_some (digit_of 7 b) (λ l. Some (location_place l)) p h in
-        let d = digit_takes 7 b u.0 (omega arith) u.1 in
+        let u = bind_some (digit_of (MAX_LOCATIONS - 1) b) (λ l. Some (location_place l)) p h in
+        let d = digit_takes (MAX_LOCATIONS - 1) b u.0 (omega arith) u.1 in
         let first : a ≡ 108 = eqb-true a 108 q in
         let word : a ∷ (b ∷ []) ≡ location_word u.0 = λ i. first i ∷ d.0 i in
-        let small : location_place u.0 < 56 = omega (arith, d.1) in
+        let small : location_place u.0 < PLACES = omega (arith, d.1) in
         subst (IsOf (a ∷ (b ∷ []))) (some_is (location_place u.0) p u.2) (word ∙ sym (location_at u.0), small)
 
 register_takes : (a b c d p : ℕ) → register_of a b c d ≡ Some p → IsOf (a ∷ (b ∷ (c ∷ (d ∷ [])))) p
 register_takes a b c d p e = by_test (a == 114 && c == 46) refl e
   where
-    by_test : (t : Bool) → (a == 114 && c == 46) ≡ t → cond t (digit_of 7 b >>= λ x. digit_of 5 d >>= λ y. Some (register_place x y)) None ≡ Some p → IsOf (a ∷ (b ∷ (c ∷ (d ∷ [])))) p
+    by_test : (t : Bool) → (a == 114 && c == 46) ≡ t → cond t (digit_of (MAX_THREADS - 1) b >>= λ x. digit_of (REGISTERS - 1) d >>= λ y. Some (register_place x y)) None ≡ Some p → IsOf (a ∷ (b ∷ (c ∷ (d ∷ [])))) p
     by_test false q h = absurd cc
     by_test true q h =
         let both = and_parts (a == 114) (c == 46) q in
-        let u = bind_some (digit_of 7 b) (λ x. digit_of 5 d >>= λ y. Some (register_place x y)) p h in
-        let v = bind_some (digit_of 5 d) (λ y. Some (register_place u.0 y)) p u.2 in
-        let t = digit_takes 7 b u.0 (omega arith) u.1 in
-        let r = digit_takes 5 d v.0 (omega arith) v.1 in
+        let u = bind_some (digit_of (MAX_THREADS - 1) b) (λ x. digit_of (REGISTERS - 1) d >>= λ y. Some (register_place x y)) p h in
+        let v = bind_some (digit_of (REGISTERS - 1) d) (λ y. Some (register_place u.0 y)) p u.2 in
+        let t = digit_takes (MAX_THREADS - 1) b u.0 (omega arith) u.1 in
+        let r = digit_takes (REGISTERS - 1) d v.0 (omega arith) v.1 in
         let first : a ≡ 114 = eqb-true a 114 both.0 in
         let stop : c ≡ 46 = eqb-true c 46 both.1 in
         let word : a ∷ (b ∷ (c ∷ (d ∷ []))) ≡ register_word u.0 v.0 = λ i. first i ∷ (t.0 i ++ stop i ∷ r.0 i) in
-        let small : register_place u.0 v.0 < 56 = omega (arith, t.1, r.1) in
+        let small : register_place u.0 v.0 < PLACES = omega (arith, t.1, r.1) in
         subst (IsOf (a ∷ (b ∷ (c ∷ (d ∷ []))))) (some_is (register_place u.0 v.0) p v.2) (word ∙ sym (register_at u.0 v.0 (omega (arith, t.1)) (omega (arith, r.1))), small)
 
 place_takes : (word : List ℕ) (p : ℕ) → shown_place word ≡ Some p → IsOf word p
@@ -90,30 +93,30 @@ place_takes (a ∷ (b ∷ (c ∷ (d ∷ [])))) p e = register_takes a b c d p e
 place_takes (a ∷ (b ∷ (c ∷ (d ∷ (x ∷ word))))) p e = absurd cc
 
 -- what holds of the word of a register, and of that of a location, holds of that of a place
-by_place : (P : ℕ → Type 0) → ((t r : ℕ) → t < 8 → r < 6 → P (register_place t r)) → ((l : ℕ) → l < 8 → P (location_place l)) → (p : ℕ) → p < 56 → P p
-by_place P register location p small = elim (cases_lt p 48) [
+by_place : (P : ℕ → Type 0) → ((t r : ℕ) → t < MAX_THREADS → r < REGISTERS → P (register_place t r)) → ((l : ℕ) → l < MAX_LOCATIONS → P (location_place l)) → (p : ℕ) → p < PLACES → P p
+by_place P register location p small = elim (cases_lt p REGISTER_PLACES) [
   | inl sooner ↦
-      let is : register_place (p / 6) (p % 6) ≡ p = omega arith in
-      subst P is (register (p / 6) (p % 6) (omega arith) (omega arith))
+      let is : register_place (p / REGISTERS) (p % REGISTERS) ≡ p = omega arith in
+      subst P is (register (p / REGISTERS) (p % REGISTERS) (omega arith) (omega arith))
   | inr later ↦
-      let is : location_place (p - 48) ≡ p = omega arith in
-      subst P is (location (p - 48) (omega arith))
+      let is : location_place (p - REGISTER_PLACES) ≡ p = omega arith in
+      subst P is (location (p - REGISTER_PLACES) (omega arith))
 ]
 
-place_again : (p : ℕ) → p < 56 → shown_place (place_word p) ≡ Some p
+place_again : (p : ℕ) → p < PLACES → shown_place (place_word p) ≡ Some p
 place_again = by_place (λ p. shown_place (place_word p) ≡ Some p) register location
   where
-    register : (t r : ℕ) → t < 8 → r < 6 → shown_place (place_word (register_place t r)) ≡ Some (register_place t r)
+    register : (t r : ℕ) → t < MAX_THREADS → r < REGISTERS → shown_place (place_word (register_place t r)) ≡ Some (register_place t r)
     register t r thread fits =
         let one : decimal t ≡ (48 + t) ∷ [] = decimal_digit t (omega arith) in
         let two : decimal r ≡ (48 + r) ∷ [] = decimal_digit r (omega arith) in
         ap shown_place (register_at t r thread fits ∙ (λ i. 114 ∷ (one i ++ 46 ∷ two i)))
-        ∙ rw (digit_again 7 t (omega arith), digit_again 5 r (omega arith)) refl
+        ∙ rw (digit_again (MAX_THREADS - 1) t (omega arith), digit_again (REGISTERS - 1) r (omega arith)) refl
 
-    location : (l : ℕ) → l < 8 → shown_place (place_word (location_place l)) ≡ Some (location_place l)
+    location : (l : ℕ) → l < MAX_LOCATIONS → shown_place (place_word (location_place l)) ≡ Some (location_place l)
     location l fits =
         let one : decimal l ≡ (48 + l) ∷ [] = decimal_digit l (omega arith) in
-        ap shown_place (location_at l ∙ (λ i. 108 ∷ one i)) ∙ rw (digit_again 7 l (omega arith)) refl
+        ap shown_place (location_at l ∙ (λ i. 108 ∷ one i)) ∙ rw (digit_again (MAX_LOCATIONS - 1) l (omega arith)) refl
 
 digit_inner : (d : ℕ) → d < 10 → is_inner (48 + d) ≡ true
 digit_inner d fits =
@@ -128,17 +131,17 @@ digit_inner d fits =
         by_answer false e = refl
         by_answer true e = absurd (ne (eqb-true m n e))
 
-place_inner : (p : ℕ) → p < 56 → list_all is_inner (place_word p) ≡ true
+place_inner : (p : ℕ) → p < PLACES → list_all is_inner (place_word p) ≡ true
 place_inner = by_place (λ p. list_all is_inner (place_word p) ≡ true) register location
   where
-    register : (t r : ℕ) → t < 8 → r < 6 → list_all is_inner (place_word (register_place t r)) ≡ true
+    register : (t r : ℕ) → t < MAX_THREADS → r < REGISTERS → list_all is_inner (place_word (register_place t r)) ≡ true
     register t r thread fits =
         let one : decimal t ≡ (48 + t) ∷ [] = decimal_digit t (omega arith) in
         let two : decimal r ≡ (48 + r) ∷ [] = decimal_digit r (omega arith) in
         ap (list_all is_inner) (register_at t r thread fits ∙ (λ i. 114 ∷ (one i ++ 46 ∷ two i)))
         ∙ rw (digit_inner t (omega arith), digit_inner r (omega arith)) refl
 
-    location : (l : ℕ) → l < 8 → list_all is_inner (place_word (location_place l)) ≡ true
+    location : (l : ℕ) → l < MAX_LOCATIONS → list_all is_inner (place_word (location_place l)) ≡ true
     location l fits =
         let one : decimal l ≡ (48 + l) ∷ [] = decimal_digit l (omega arith) in
         ap (list_all is_inner) (location_at l ∙ (λ i. 108 ∷ one i)) ∙ rw (digit_inner l (omega arith)) refl
@@ -146,17 +149,17 @@ place_inner = by_place (λ p. list_all is_inner (place_word p) ≡ true) registe
 abbrev pub place_text : ℕ → List ℕ
 place_text p = spaced (place_word p)
 
-pub place_exact : IsExact place_word_at place_text (λ p. p < 56)
+pub place_exact : IsExact place_word_at place_text (λ p. p < PLACES)
 unfolding place_word_at
 place_exact = record { takes = taken; again = λ p rest fits st. again p rest fits st; starts = λ p rest fits st. refl }
   where
-    taken : (bytes : List ℕ) (x : ℕ × List ℕ) → place_word_at bytes ≡ Some x → (bytes ≡ place_text x.0 ++ x.1) × (x.0 < 56)
+    taken : (bytes : List ℕ) (x : ℕ × List ℕ) → place_word_at bytes ≡ Some x → (bytes ≡ place_text x.0 ++ x.1) × (x.0 < PLACES)
     taken bytes x e =
         let a = bind_some (word_at bytes) (λ w. shown_place w.0 >>= λ place. Some (place, w.1)) x e in
         let b = bind_some (shown_place a.0.0) (λ place. Some (place, a.0.1)) x a.2 in
         let t = place_takes a.0.0 b.0 b.1 in
         let here : bytes ≡ place_text b.0 ++ a.0.1 = word_takes bytes a.0 a.1 ∙ ap (λ (v : List ℕ). spaced v ++ a.0.1) t.0 in
-        subst (λ (y : ℕ × List ℕ). (bytes ≡ place_text y.0 ++ y.1) × (y.0 < 56)) (some_is (b.0, a.0.1) x b.2) (here, t.1)
+        subst (λ (y : ℕ × List ℕ). (bytes ≡ place_text y.0 ++ y.1) × (y.0 < PLACES)) (some_is (b.0, a.0.1) x b.2) (here, t.1)
 
-    again : (p : ℕ) (rest : List ℕ) → p < 56 → Starts rest → place_word_at (place_text p ++ rest) ≡ Some (p, rest)
+    again : (p : ℕ) (rest : List ℕ) → p < PLACES → Starts rest → place_word_at (place_text p ++ rest) ≡ Some (p, rest)
     again p rest fits st = rw (word_again (place_word p) rest (place_inner p fits) st, place_again p fits) refl

@@ -8,7 +8,9 @@ use Rattle.std.proofs.lemmas.Bool.{cases_lt}
 use Rattle.std.proofs.lemmas.Bool.Decides.{nat_tests}
 use Rattle.std.specs.Cmp.{nat_cmp_total}
 use Rattle.std.proofs.lemmas.List.{take_more}
+use Rattle.gap_sets.specs.declared.gap_set.TheConstants.{MAX_GAPS}
 use Rattle.gap_sets.specs.Gaps.{SetOfGaps, numbers_of_set}
+use Rattle.tso_program.specs.declared.shown.TheConstants.{PLACES}
 use Rattle.cert_forest.specs.Limits.{AscendFrom, PlacesFrom}
 
 abbrev is_in : List ℕ → ℕ → Bool
@@ -29,7 +31,7 @@ absent least q [] lt up = refl
 absent least q (g ∷ gs) lt up = rw (differs g q (omega (arith, up.0)), absent (g + 1) q gs (omega (arith, up.0)) up.2) refl
 
 -- the numbers from a on that a test picks, which are those of the list
-picks : (p : ℕ → Bool) (a n : ℕ) (gs : List ℕ) → a + n ≡ 64 → AscendFrom a gs → ((q : ℕ) → a ≤ q → p q ≡ is_in gs q) → filter p (range_with_len a n) ≡ gs
+picks : (p : ℕ → Bool) (a n : ℕ) (gs : List ℕ) → a + n ≡ MAX_GAPS → AscendFrom a gs → ((q : ℕ) → a ≤ q → p q ≡ is_in gs q) → filter p (range_with_len a n) ≡ gs
 picks p a zero [] e up same = refl
 picks p a zero (g ∷ gs) e up same = absurd (omega (arith, up.0, up.1))
 picks p a (suc n) [] e up same =
@@ -51,9 +53,9 @@ picks p a (suc n) (g ∷ gs) e up same =
 
 pub gaps_in_list : (gs : List ℕ) → AscendFrom 0 gs → numbers_of_set (set.from_list gs) ≡ gs
 unfolding numbers_of_set
-gaps_in_list gs up = picks (set.contains (set.from_list gs)) 0 64 gs refl up (λ q _. contains-from_list_nat gs q)
+gaps_in_list gs up = picks (set.contains (set.from_list gs)) 0 MAX_GAPS gs refl up (λ q _. contains-from_list_nat gs q)
 
-pub gap_below : (least : ℕ) (gs : List ℕ) (i : ℕ) → AscendFrom least gs → i < length gs → get_or gs i 0 < 64
+pub gap_below : (least : ℕ) (gs : List ℕ) (i : ℕ) → AscendFrom least gs → i < length gs → get_or gs i 0 < MAX_GAPS
 gap_below least [] i up lt = absurd (omega arith)
 gap_below least (g ∷ gs) zero up lt = up.1
 gap_below least (g ∷ gs) (suc i) up lt = gap_below (g + 1) gs i up.2 (omega arith)
@@ -64,7 +66,7 @@ from_list_more gs i s lt so =
     let more : take (i + 1) gs ≡ take i gs ++ get_or gs i 0 ∷ [] = take_more gs i 0 lt in
     ap (λ (t : SetOfGaps). set.insert t (get_or gs i 0)) so ∙ sym (set.from_list_push nat_cmp_total set.nat_cmp-IsAntisymmetric (take i gs) (get_or gs i 0)) ∙ ap set.from_list (sym more)
 
--- places are numbers below 64 too
+-- places are numbers of gaps too
 ascend : (least : ℕ) (ps : List ℕ) → PlacesFrom least ps → AscendFrom least ps
 ascend least [] up = tt
 ascend least (p ∷ ps) up = (up.0, omega (arith, up.1), ascend (p + 1) ps up.2)
@@ -72,7 +74,7 @@ ascend least (p ∷ ps) up = (up.0, omega (arith, up.1), ascend (p + 1) ps up.2)
 pub places_in_list : (ps : List ℕ) → PlacesFrom 0 ps → numbers_of_set (set.from_list ps) ≡ ps
 places_in_list ps up = gaps_in_list ps (ascend 0 ps up)
 
-pub place_below : (least : ℕ) (ps : List ℕ) (i : ℕ) → PlacesFrom least ps → i < length ps → get_or ps i 0 < 56
+pub place_below : (least : ℕ) (ps : List ℕ) (i : ℕ) → PlacesFrom least ps → i < length ps → get_or ps i 0 < PLACES
 place_below least [] i up lt = absurd (omega arith)
 place_below least (p ∷ ps) zero up lt = up.1
 place_below least (p ∷ ps) (suc i) up lt = place_below (p + 1) ps i up.2 (omega arith)

@@ -5,6 +5,7 @@ use Rattle.std.specs.Fmt.{decimal}
 use Rattle.std.proofs.Math.Seq.{take-append_seam}
 use Rattle.std.proofs.lemmas.List.{append-nil, length-append, length-drop, take-append-drop}
 use Rattle.tso_machine.specs.declared.label.Label.{Label}
+use Rattle.cert_forest.specs.declared.tree.TheConstants.{MAX_COVER_DEPTH, MAX_GAP_DEPTH}
 use Rattle.cert_forest.specs.Trees.{Cover, Gap}
 use Rattle.cert_forest.specs.Certificates.{Cert}
 use Rattle.cert_words.specs.Lines.{line}
@@ -33,10 +34,10 @@ told : (a : List ℕ) (c : Cert) (b0 b1 b2 b3 b4 b5 b6 b7 b8 : List ℕ) → a �
     → (b1 ≡ line (codes "set") (map decimal c.gaps) ++ b2) × AscendFrom 0 c.gaps
     → (b2 ≡ line (codes "cost") (decimal c.cost ∷ []) ++ b3) × (c.cost < 2 ^ 64)
     → (b3 ≡ runs_lines (codes "seq") c.seq_runs ++ b4) × AreRuns c.seq_runs
-    → (b4 ≡ line (codes "tree") (cover_words c.seq_tree) ++ b5) × IsCoverTo 400 c.seq_tree
+    → (b4 ≡ line (codes "tree") (cover_words c.seq_tree) ++ b5) × IsCoverTo MAX_COVER_DEPTH c.seq_tree
     → (b5 ≡ runs_lines (codes "runs") c.runs ++ b6) × AreRuns c.runs
-    → (b6 ≡ line (codes "fenced") (cover_words c.fenced_tree) ++ b7) × IsCoverTo 400 c.fenced_tree
-    → (b7 ≡ line (codes "gaps") (gap_words c.gap_tree) ++ b8) × IsGapTo 65 c.gap_tree
+    → (b6 ≡ line (codes "fenced") (cover_words c.fenced_tree) ++ b7) × IsCoverTo MAX_COVER_DEPTH c.fenced_tree
+    → (b7 ≡ line (codes "gaps") (gap_words c.gap_tree) ++ b8) × IsGapTo MAX_GAP_DEPTH c.gap_tree
     → (b0 ≡ certificate_text c ++ b8) × IsWithin c
 told a c b0 b1 b2 b3 b4 b5 b6 b7 b8 e h0 h1 h2 h3 h4 h5 h6 h7 = (
   join (head_lines c.shown) (line (codes "set") (map decimal c.gaps)) (line (codes "cost") (decimal c.cost ∷ [])) (runs_lines (codes "seq") c.seq_runs) (line (codes "tree") (cover_words c.seq_tree)) (runs_lines (codes "runs") c.runs) (line (codes "fenced") (cover_words c.fenced_tree)) (line (codes "gaps") (gap_words c.gap_tree))

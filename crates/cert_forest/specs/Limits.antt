@@ -1,22 +1,26 @@
 -- What a certificate's text may hold.
 use Rattle.std.specs.Prelude.{◌≡◌, ℕ, suc, ◌+◌, ◌<◌, ◌≤◌, ◌^◌, List, [], ◌∷◌, Option, Some, None, length, max}
 use Rattle.std.specs.List.{AllByRecursion}
+use Rattle.gap_sets.specs.declared.gap_set.TheConstants.{MAX_GAPS}
+use Rattle.tso_program.specs.declared.shown.TheConstants.{PLACES}
 use Rattle.tso_machine.specs.declared.label.Label.{Label}
 use Rattle.tso_machine.specs.RunTexts.{IsLabel}
+use Rattle.cert_words.specs.declared.numbers.TheConstants.{MAX_COUNT}
+use Rattle.cert_forest.specs.declared.tree.TheConstants.{MAX_COVER_DEPTH, MAX_GAP_DEPTH}
 use Rattle.cert_forest.specs.declared.tree.AccessId.{AccessId}
 use Rattle.cert_forest.specs.Trees.{Cover, Value, Source, Order, Cycle, Known, Covers, NoCover, MoreCovers, Gap, Split, Bound, GapTrees, NoGap, MoreGaps}
 use Rattle.cert_forest.specs.Texts.{count_covers, count_gaps, certificate_text}
 use Rattle.cert_forest.specs.Certificates.{Cert}
 
--- numbers from this one on, below 64, each greater than the one before
+-- numbers from this one on, below `MAX_GAPS`, each greater than the one before
 abbrev pub AscendFrom : ℕ → List ℕ → Type 0
 AscendFrom least [] = Unit {0}
-AscendFrom least (gap ∷ gaps) = (least ≤ gap) × (gap < 64) × AscendFrom (gap + 1) gaps
+AscendFrom least (gap ∷ gaps) = (least ≤ gap) × (gap < MAX_GAPS) × AscendFrom (gap + 1) gaps
 
--- places from this one on, below 56, each greater than the one before
+-- places from this one on, below `PLACES`, each greater than the one before
 abbrev pub PlacesFrom : ℕ → List ℕ → Type 0
 PlacesFrom least [] = Unit {0}
-PlacesFrom least (place ∷ places) = (least ≤ place) × (place < 56) × PlacesFrom (place + 1) places
+PlacesFrom least (place ∷ places) = (least ≤ place) × (place < PLACES) × PlacesFrom (place + 1) places
 
 abbrev pub AreShownPlaces : Option (List ℕ) → Type 0
 AreShownPlaces None = Unit {0}
@@ -26,9 +30,9 @@ AreShownPlaces (Some places) = PlacesFrom 0 places
 abbrev pub IsAccessId : AccessId → Type 0
 IsAccessId event = (event.thread < 256) × (event.access < 256)
 
--- a run: at most 1,024 labels
+-- a run: at most `MAX_COUNT` labels
 abbrev pub IsWrittenRun : List Label → Type 0
-IsWrittenRun labels = (length labels ≤ 1024) × AllByRecursion IsLabel labels
+IsWrittenRun labels = (length labels ≤ MAX_COUNT) × AllByRecursion IsLabel labels
 
 -- how many nodes lie on the longest way from the root, the root included
 abbrev mutual
@@ -52,13 +56,13 @@ abbrev mutual
   gaps_depth NoGap = 0
   gaps_depth (MoreGaps t ts) = max (gap_depth t) (gaps_depth ts)
 
--- numbers that the text can hold, and at most 1,024 children or events
+-- numbers that the text can hold, and at most `MAX_COUNT` children or events
 abbrev mutual
   pub HasNumbers : Cover → Type 0
-  HasNumbers (Value thread children) = (thread < 256) × (count_covers children ≤ 1024) × HaveNumbers children
-  HasNumbers (Source read children) = IsAccessId read × (count_covers children ≤ 1024) × HaveNumbers children
+  HasNumbers (Value thread children) = (thread < 256) × (count_covers children ≤ MAX_COUNT) × HaveNumbers children
+  HasNumbers (Source read children) = IsAccessId read × (count_covers children ≤ MAX_COUNT) × HaveNumbers children
   HasNumbers (Order first second first_before second_before) = IsAccessId first × IsAccessId second × HasNumbers first_before × HasNumbers second_before
-  HasNumbers (Cycle kind events) = (length events ≤ 1024) × AllByRecursion IsAccessId events
+  HasNumbers (Cycle kind events) = (length events ≤ MAX_COUNT) × AllByRecursion IsAccessId events
   HasNumbers (Known run) = run < 2 ^ 64
 
   pub HaveNumbers : Covers → Type 0
@@ -67,7 +71,7 @@ abbrev mutual
 
 abbrev mutual
   pub HasGapNumbers : Gap → Type 0
-  HasGapNumbers (Split run children) = (run < 2 ^ 64) × (count_gaps children ≤ 1024) × HaveGapNumbers children
+  HasGapNumbers (Split run children) = (run < 2 ^ 64) × (count_gaps children ≤ MAX_COUNT) × HaveGapNumbers children
   HasGapNumbers Bound = Unit {0}
 
   pub HaveGapNumbers : GapTrees → Type 0
@@ -85,16 +89,16 @@ IsGapTo depth tree = (gap_depth tree ≤ depth) × HasGapNumbers tree
 abbrev pub AreRuns : List (List Label) → Type 0
 AreRuns runs = (length runs < 2 ^ 64) × AllByRecursion IsWrittenRun runs
 
--- a certificate within the limits: cover trees to depth 400, a gap tree to depth 65
+-- a certificate within the limits
 pub record IsWithin (c : Cert) : Type 0 where
   pub shown : AreShownPlaces c.shown
   pub gaps : AscendFrom 0 c.gaps
   pub cost : c.cost < 2 ^ 64
   pub seq_runs : AreRuns c.seq_runs
-  pub seq_tree : IsCoverTo 400 c.seq_tree
+  pub seq_tree : IsCoverTo MAX_COVER_DEPTH c.seq_tree
   pub runs : AreRuns c.runs
-  pub fenced_tree : IsCoverTo 400 c.fenced_tree
-  pub gap_tree : IsGapTo 65 c.gap_tree
+  pub fenced_tree : IsCoverTo MAX_COVER_DEPTH c.fenced_tree
+  pub gap_tree : IsGapTo MAX_GAP_DEPTH c.gap_tree
 
 -- the text is the certificate's
 pub record IsCertificate (text : List ℕ) (c : Cert) : Type 0 where

@@ -2,6 +2,10 @@
 use Rattle.std.specs.Prelude.{◌==◌, ◌&&◌, ◌-◌, nat_le, true, false, ℕ, zero, suc, ◌+◌, Bool, List, [], ◌∷◌, ◌++◌, take, drop, codes, nat_lt, not, Option, Some, None, if◌then◌else◌}
 use Rattle.std.specs.List.{prefix_len}
 use Rattle.std.specs.Str.{bytes_eq}
+use Rattle.gap_sets.specs.declared.gap_set.TheConstants.{MAX_GAPS}
+use Rattle.tso_program.specs.declared.instruction.TheConstants.{REGISTERS}
+use Rattle.tso_program.specs.declared.limits.TheConstants.{MAX_THREADS, MAX_LOCATIONS}
+use Rattle.tso_program.specs.declared.shown.TheConstants.{PLACES}
 use Rattle.tso_program.specs.Names.{register_place, location_place}
 use Rattle.candidate_executions.specs.declared.event.Kind.{Kind}
 use Rattle.candidate_executions.specs.declared.event.Kind.TheVariants as kinds
@@ -9,6 +13,8 @@ use Rattle.tso_machine.specs.declared.label.Label.{Label}
 use Rattle.tso_machine.specs.RunTexts.{label_at}
 use Rattle.text_tokens.specs.Numbers.{plain_number_at}
 use Rattle.cert_words.specs.Words.{◌>>=◌, word_at, line_name_at, end_at, begins_word, number_within_at, count_at, letter_at, repeat_at}
+use Rattle.cert_words.specs.declared.numbers.TheConstants.{MAX_COUNT}
+use Rattle.cert_forest.specs.declared.tree.TheConstants.{MAX_COVER_DEPTH, MAX_GAP_DEPTH}
 use Rattle.cert_forest.specs.declared.tree.AccessId.{AccessId}
 use Rattle.cert_forest.specs.Trees.{Cover, Value, Source, Order, Cycle, Known, covers_of, Gap, Split, Bound, gap_trees_of}
 use Rattle.cert_forest.specs.Certificates.{Cert}
@@ -44,11 +50,15 @@ kind_at bytes = do
 
 -- ---- lists
 
+-- a gap's number
+abbrev pub gap_number_at : List ℕ → Option (ℕ × List ℕ)
+gap_number_at bytes = number_within_at (MAX_GAPS - 1) bytes
+
 -- gaps from the least on, at most so many
 unfoldable pub gaps_at : ℕ → ℕ → List ℕ → List ℕ → Option (List ℕ × List ℕ)
 gaps_at zero least found bytes = if begins_word bytes then None else Some (found, bytes)
 gaps_at (suc n) least found bytes =
-    if begins_word bytes then (number_within_at 63 bytes >>= λ gap. if nat_lt gap.0 least then None else gaps_at n (gap.0 + 1) (found ++ gap.0 ∷ []) gap.1)
+    if begins_word bytes then (gap_number_at bytes >>= λ gap. if nat_lt gap.0 least then None else gaps_at n (gap.0 + 1) (found ++ gap.0 ∷ []) gap.1)
     else Some (found, bytes)
 
 unfoldable pub label_word_at : List ℕ → Option (Label × List ℕ)
@@ -155,7 +165,7 @@ gap_at (suc depth) bytes = do
 unfoldable pub run_at : List ℕ → Option (List Label × List ℕ)
 run_at bytes = do
   labels_text ← line_name_at (codes "run") bytes
-  labels ← run_labels_at 1024 [] labels_text
+  labels ← run_labels_at MAX_COUNT [] labels_text
   rest ← end_at labels.1
   Some (labels.0, rest)
 
@@ -169,7 +179,7 @@ runs_at name bytes = do
 unfoldable pub set_at : List ℕ → Option (List ℕ × List ℕ)
 set_at bytes = do
   gaps_text ← line_name_at (codes "set") bytes
-  gaps ← gaps_at 64 0 [] gaps_text
+  gaps ← gaps_at MAX_GAPS 0 [] gaps_text
   rest ← end_at gaps.1
   Some (gaps.0, rest)
 
@@ -183,14 +193,14 @@ cost_at bytes = do
 unfoldable pub cover_line_at : List ℕ → List ℕ → Option (Cover × List ℕ)
 cover_line_at name bytes = do
   tree_text ← line_name_at name bytes
-  tree ← cover_at 400 tree_text
+  tree ← cover_at MAX_COVER_DEPTH tree_text
   rest ← end_at tree.1
   Some (tree.0, rest)
 
 unfoldable pub gap_line_at : List ℕ → Option (Gap × List ℕ)
 gap_line_at bytes = do
   tree_text ← line_name_at (codes "gaps") bytes
-  tree ← gap_at 65 tree_text
+  tree ← gap_at MAX_GAP_DEPTH tree_text
   rest ← end_at tree.1
   Some (tree.0, rest)
 
@@ -201,11 +211,11 @@ abbrev pub digit_of : ℕ → ℕ → Option ℕ
 digit_of limit b = if nat_le 48 b && nat_le b (48 + limit) then Some (b - 48) else None
 
 abbrev pub shown_location : ℕ → ℕ → Option ℕ
-shown_location first digit = if first == 108 then (digit_of 7 digit >>= λ location. Some (location_place location)) else None
+shown_location first digit = if first == 108 then (digit_of (MAX_LOCATIONS - 1) digit >>= λ location. Some (location_place location)) else None
 
 abbrev pub register_of : ℕ → ℕ → ℕ → ℕ → Option ℕ
 register_of first thread stop register =
-    if first == 114 && stop == 46 then (digit_of 7 thread >>= λ t. digit_of 5 register >>= λ r. Some (register_place t r)) else None
+    if first == 114 && stop == 46 then (digit_of (MAX_THREADS - 1) thread >>= λ t. digit_of (REGISTERS - 1) register >>= λ r. Some (register_place t r)) else None
 
 -- the place whose word this is
 abbrev pub shown_place : List ℕ → Option ℕ
@@ -232,7 +242,7 @@ places_at (suc n) least found bytes =
 unfoldable pub shown_line_at : List ℕ → Option (List ℕ × List ℕ)
 shown_line_at bytes = do
   places_text ← line_name_at (codes "shown") bytes
-  places ← places_at 56 0 [] places_text
+  places ← places_at PLACES 0 [] places_text
   rest ← end_at places.1
   Some (places.0, rest)
 

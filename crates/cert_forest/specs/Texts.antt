@@ -3,6 +3,8 @@ use Rattle.std.specs.Prelude.{ℕ, suc, ◌-◌, ◌/◌, ◌%◌, nat_lt, if◌
 use Rattle.std.specs.Fmt.{decimal}
 use Rattle.candidate_executions.specs.declared.event.Kind.{Kind}
 use Rattle.candidate_executions.specs.declared.event.Kind.TheVariants.{Sequential, Location, Global}
+use Rattle.tso_program.specs.declared.instruction.TheConstants.{REGISTERS}
+use Rattle.tso_program.specs.declared.shown.TheConstants.{REGISTER_PLACES}
 use Rattle.tso_machine.specs.declared.label.Label.{Label}
 use Rattle.tso_machine.specs.RunTexts.{spelling}
 use Rattle.cert_words.specs.Lines.{line, texts_of}
@@ -30,7 +32,7 @@ abbrev pub location_word : ℕ → List ℕ
 location_word location = 108 ∷ decimal location
 
 abbrev pub place_word : ℕ → List ℕ
-place_word place = if nat_lt place 48 then register_word (place / 6) (place % 6) else location_word (place - 48)
+place_word place = if nat_lt place REGISTER_PLACES then register_word (place / REGISTERS) (place % REGISTERS) else location_word (place - REGISTER_PLACES)
 
 -- ---- trees: what a node says, how many children it has where that is not fixed, and then the children
 

@@ -22,7 +22,7 @@ pub enum CertFault {
     /// The node that begins at this place is deeper than its tree may be.
     #[error("4 TooDeep {0}")]
     TooDeep(usize),
-    /// A count of children or events past 1,024, or the 1,025th label of a run.
+    /// A count of children or events past `MAX_COUNT` of `cert_words`, or one label more than that in a run.
     #[error("5 TooMany {0}")]
     TooMany(usize),
     /// The bytes end where more are needed, and some certificate's text goes on behind them, as far as single tokens

@@ -1,14 +1,16 @@
 //! Certificates, read from their text.
 
-ghost use Rattle.std.specs.Prelude.{◌≡◌, ℕ, ◌<◌, ◌⊎◌, [], IfOk, IfErr, IsErrAnd};
+ghost use Rattle.std.specs.Prelude.{◌≡◌, ℕ, ◌<◌, ◌-◌, ◌⊎◌, [], length, IfOk, IfErr, IsErrAnd};
+ghost use Rattle.gap_sets.specs.declared.gap_set.TheConstants.{MAX_GAPS};
 ghost use Rattle.gap_sets.specs.Gaps.{numbers_of_set};
 ghost use Rattle.cert_forest.specs.Certificates.{Cert, certificate};
 ghost use Rattle.cert_forest.specs.Limits.{IsCertificate, AscendFrom};
 ghost use Rattle.cert_forest.specs.PartsViews.{parts_view};
 ghost use Rattle.cert_forest.specs.Exact.{GivesExactly, HasMore};
 ghost use Rattle.cert_forest.specs.declared.fault.CertFault.TheVariants.{Trailing, OutOfMemory};
-ghost use Rattle.cert_words.specs.Words.{Gives, GivesUnlessMemory, number_within_at};
-ghost use Rattle.cert_forest.specs.Reading.{gaps_at, set_at, cost_at, parts_at};
+ghost use Rattle.cert_words.specs.Words.{Gives, GivesUnlessMemory};
+ghost use Rattle.cert_words.specs.Completions.{CanBecome};
+ghost use Rattle.cert_forest.specs.Reading.{gap_number_at, gaps_at, set_at, cost_at, parts_at};
 
 use crate::certificate::Certificate;
 use crate::cover_tree::cover_line;
@@ -17,27 +19,36 @@ use crate::gap_tree::gap_line;
 use crate::runs::runs;
 use crate::shown::{head, shown_of};
 use crate::tree::{CoverTree, GapTree};
-use cert_words::{Refusal, Stop, Wrong, begins_word, end, name, number, refused_unless_cut};
+use cert_words::{
+    Refusal, Stop, Wrong, begins_word, can_become, end, name, number, refused_unless_cut,
+};
 use gap_sets::{GapSet, MAX_GAPS};
 use std::alloc::Global;
 use tso_machine::Label;
 
-/// What is wrong with a gap that is below the least which may stand there.
-fn below_least(gap: u8, least: u8, bytes: &[u8], rest: &[u8]) -> Refusal {
-    let could_go_on = gap > 0 && gap <= 6 && u64::from(least) <= (u64::from(gap) * 10 + 9).min(63);
+/// The greatest number of a gap.
+const LAST_GAP: u64 = MAX_GAPS as u64 - 1;
+
+/// What is wrong with a gap that is below the least which may stand there. Where nothing follows it and more digits
+/// can make it one that may, the bytes have ended.
+fn below_least(gap: u8, least: u8, bytes: &[u8], rest: &[u8]) -> Refusal
+    ensures ended { rest.now ≡ [] → CanBecome gap least (MAX_GAPS - 1) → result ≡ record { wrong = Wrong.Ended; left = 0 } }
+    ensures token { ((rest.now ≡ []) × CanBecome gap least (MAX_GAPS - 1) → ⊥) → result ≡ record { wrong = Wrong.Token; left = length bytes.now - 1 } }
+{
+    let could_go_on = can_become(u64::from(gap), u64::from(least), LAST_GAP);
     refused_unless_cut(Wrong::Token, could_go_on, bytes, rest)
 }
 
 /// A gap's number.
 fn gap_number(bytes: &[u8]) -> Result<(u8, &[u8]), Refusal>
-    ensures gives { Gives (λ x. (x.0, x.1.now)) result (number_within_at 63 bytes.now) }
-    ensures below { IfOk result (λ x. x.0 < 64) }
+    ensures gives { Gives (λ x. (x.0, x.1.now)) result (gap_number_at bytes.now) }
+    ensures below { IfOk result (λ x. x.0 < MAX_GAPS) }
 {
-    let (gap, rest) = number(63, bytes)?;
+    let (gap, rest) = number(LAST_GAP, bytes)?;
     Ok((gap as u8, rest))
 }
 
-/// What is wrong with a word behind 64 gaps.
+/// What is wrong with a word after `MAX_GAPS` gaps.
 fn after_all(bytes: &[u8]) -> Refusal {
     match gap_number(bytes) {
         Ok((gap, rest)) => below_least(gap, MAX_GAPS, bytes, rest),
@@ -47,7 +58,7 @@ fn after_all(bytes: &[u8]) -> Refusal {
 
 /// The gaps of the set, ascending, as long as words follow.
 fn gaps(alloc: Global, bytes: &[u8]) -> Result<(Vec<u8>, &[u8]), Stop>
-    ensures { GivesUnlessMemory (λ x. (x.0.items, x.1.now)) result (gaps_at 64 0 [] bytes.now) }
+    ensures { GivesUnlessMemory (λ x. (x.0.items, x.1.now)) result (gaps_at MAX_GAPS 0 [] bytes.now) }
 {
     let mut found = Vec::new(alloc);
     let mut least: u8 = 0;

@@ -4,18 +4,16 @@ ghost use Rattle.std.specs.Prelude.{◌≡◌, map, []};
 ghost use Rattle.tso_machine.specs.RunTexts.{label_at};
 ghost use Rattle.text_tokens.specs.Numbers.{plain_number_at};
 ghost use Rattle.cert_forest.specs.Certificates.{labels_of};
+ghost use Rattle.cert_words.specs.declared.numbers.TheConstants.{MAX_COUNT};
 ghost use Rattle.cert_words.specs.Words.{Gives, GivesUnlessMemory, repeat_at};
 ghost use Rattle.cert_forest.specs.Reading.{label_word_at, run_labels_at, run_at, runs_at};
 
 use cert_words::{
-    Refusal, Stop, Wrong, are_digits, begins_word, end, first_word, name, number, plain_number,
-    refused, refused_unless_cut, refused_word, word,
+    MAX_COUNT, Refusal, Stop, Wrong, are_digits, begins_word, end, first_word, name, number,
+    plain_number, refused, refused_unless_cut, refused_word, word,
 };
 use std::alloc::Global;
 use tso_machine::Label;
-
-/// How many labels a run has at most.
-const MAX_LABELS: u16 = 1024;
 
 fn thread_of(digits: &[u8]) -> Option<u8>
     ensures { result ≡ plain_number_at 255 digits.now }
@@ -83,11 +81,11 @@ fn one_too_many(bytes: &[u8]) -> Refusal {
 
 /// Labels, as long as words follow.
 fn labels(alloc: Global, bytes: &[u8]) -> Result<(Vec<Label>, &[u8]), Stop>
-    ensures { GivesUnlessMemory (λ x. (x.0.items, x.1.now)) result (run_labels_at 1024 [] bytes.now) }
+    ensures { GivesUnlessMemory (λ x. (x.0.items, x.1.now)) result (run_labels_at MAX_COUNT [] bytes.now) }
 {
     let mut found = Vec::new(alloc);
     let mut rest = bytes;
-    for _ in 0..MAX_LABELS {
+    for _ in 0..MAX_COUNT {
         if !begins_word(rest) {
             return Ok((found, rest));
         }

@@ -2,6 +2,7 @@
 
 ghost use Rattle.std.specs.Prelude.{◌≡◌, ◌<◌, IfOk, IfSome, []};
 ghost use Rattle.gap_sets.specs.Gaps.{numbers_of_set};
+ghost use Rattle.tso_program.specs.declared.shown.TheConstants.{PLACES};
 ghost use Rattle.cert_words.specs.Words.{Gives, GivesUnlessMemory};
 ghost use Rattle.cert_forest.specs.Certificates.{shown_places, listed_places};
 ghost use Rattle.cert_forest.specs.Limits.{PlacesFrom, AreShownPlaces};
@@ -13,12 +14,18 @@ use cert_words::{
     refused_unless_cut, refused_word, word,
 };
 use std::alloc::Global;
-use tso_program::{Names, Shown};
+use tso_program::{MAX_LOCATIONS, MAX_THREADS, Names, PLACES, REGISTER_PLACES, REGISTERS, Shown};
 
 /// How many registers and locations can be named.
-const MAX_PLACES: u8 = 56;
+const MAX_PLACES: u8 = PLACES as u8;
 /// How many registers can be named: their places come before those of locations.
-const MAX_REGISTERS: u8 = 48;
+pub(crate) const MAX_REGISTERS: u8 = REGISTER_PLACES as u8;
+/// How many registers a thread has.
+pub(crate) const THREAD_REGISTERS: u8 = REGISTERS as u8;
+/// The greatest number of a thread.
+const LAST_THREAD: u8 = MAX_THREADS as u8 - 1;
+/// The greatest number of a location.
+const LAST_LOCATION: u8 = MAX_LOCATIONS as u8 - 1;
 
 /// The digit up to a limit that is written so.
 fn digit_of(limit: u8, byte: u8) -> Option<u8>
@@ -35,32 +42,32 @@ fn digit_of(limit: u8, byte: u8) -> Option<u8>
 /// `lN`.
 fn location_of(first: u8, digit: u8) -> Option<u8>
     ensures value { result ≡ shown_location first digit }
-    ensures within { IfSome result (λ place. place < 56) }
+    ensures within { IfSome result (λ place. place < PLACES) }
 {
     if first != b'l' {
         return None;
     }
-    let location = digit_of(7, digit)?;
+    let location = digit_of(LAST_LOCATION, digit)?;
     Some(MAX_REGISTERS + location)
 }
 
 /// `rT.R`.
 fn register_of(first: u8, thread: u8, stop: u8, register: u8) -> Option<u8>
     ensures value { result ≡ register_of first thread stop register }
-    ensures within { IfSome result (λ place. place < 56) }
+    ensures within { IfSome result (λ place. place < PLACES) }
 {
     if first != b'r' || stop != b'.' {
         return None;
     }
-    let thread = digit_of(7, thread)?;
-    let register = digit_of(5, register)?;
-    Some(6 * thread + register)
+    let thread = digit_of(LAST_THREAD, thread)?;
+    let register = digit_of(THREAD_REGISTERS - 1, register)?;
+    Some(THREAD_REGISTERS * thread + register)
 }
 
 /// The place whose word this is.
 fn place_of(word: &[u8]) -> Option<u8>
     ensures value { result ≡ shown_place word.now }
-    ensures within { IfSome result (λ place. place < 56) }
+    ensures within { IfSome result (λ place. place < PLACES) }
 {
     match word {
         [first, digit] => location_of(*first, *digit),
@@ -75,8 +82,8 @@ fn could_go_on(word: &[u8], least: u8) -> bool {
         [] => true,
         [b'l'] => least < MAX_PLACES,
         [b'r'] => least < MAX_REGISTERS,
-        [b'r', thread] | [b'r', thread, b'.'] => match digit_of(7, *thread) {
-            Some(thread) => least <= 6 * thread + 5,
+        [b'r', thread] | [b'r', thread, b'.'] => match digit_of(LAST_THREAD, *thread) {
+            Some(thread) => least < THREAD_REGISTERS * (thread + 1),
             None => false,
         },
         _ => false,
@@ -112,9 +119,11 @@ fn is_register(names: &[u8], is_cut: bool) -> bool {
     match tail.split_first() {
         Some((_, register)) => {
             is_number(register)
-                || is_cut && register.is_empty() && plain_number(7, thread).is_none()
+                || is_cut
+                    && register.is_empty()
+                    && plain_number(u64::from(LAST_THREAD), thread).is_none()
         }
-        None => is_cut && plain_number(7, thread).is_none(),
+        None => is_cut && plain_number(u64::from(LAST_THREAD), thread).is_none(),
     }
 }
 
@@ -122,7 +131,7 @@ fn is_register(names: &[u8], is_cut: bool) -> bool {
 #[tactic(auto, unfolding(crate::specs::Reading::place_word_at))]
 fn place(least: u8, bytes: &[u8]) -> Result<(u8, &[u8]), Refusal>
     ensures gives { Gives (λ x. (x.0, x.1.now)) result (place_word_at bytes.now) }
-    ensures below { IfOk result (λ x. x.0 < 56) }
+    ensures below { IfOk result (λ x. x.0 < PLACES) }
 {
     let (word, rest) = word(bytes)?;
     match place_of(word) {
@@ -136,7 +145,7 @@ fn place(least: u8, bytes: &[u8]) -> Result<(u8, &[u8]), Refusal>
 
 /// The places of what is shown, ascending, as long as words follow.
 fn places(alloc: Global, bytes: &[u8]) -> Result<(Vec<u8>, &[u8]), Stop>
-    ensures { GivesUnlessMemory (λ x. (x.0.items, x.1.now)) result (places_at 56 0 [] bytes.now) }
+    ensures { GivesUnlessMemory (λ x. (x.0.items, x.1.now)) result (places_at PLACES 0 [] bytes.now) }
 {
     let mut found = Vec::new(alloc);
     let mut least: u8 = 0;
@@ -159,7 +168,7 @@ fn places(alloc: Global, bytes: &[u8]) -> Result<(Vec<u8>, &[u8]), Stop>
     Ok((found, rest))
 }
 
-/// What is wrong with a word after 56 places.
+/// What is wrong with a word after `MAX_PLACES` places.
 fn after_all(bytes: &[u8]) -> Refusal {
     match place(MAX_PLACES, bytes) {
         Ok(_) => refused_word(Wrong::Token, bytes),

@@ -3,13 +3,14 @@ ghost use Rattle.std.specs.Prelude.{◌≡◌, IfOk, map};
 ghost use Rattle.cert_forest.specs.Views.{cover, gap};
 
 use candidate_executions::Kind;
+use gap_sets::MAX_GAPS;
 use std::alloc::{AllocError, Global};
 
 /// How deep a cover tree is at most, where it is read; a root alone is of depth 1.
-pub const MAX_COVER_DEPTH: u16 = 400;
+pub const MAX_COVER_DEPTH: u16 = 600;
 
-/// How deep a gap tree is at most, where it is read.
-pub const MAX_GAP_DEPTH: u16 = 65;
+/// How deep a gap tree is at most, where it is read: a node for each gap, and a leaf.
+pub const MAX_GAP_DEPTH: u16 = MAX_GAPS as u16 + 1;
 
 /// An access of a thread, written `t.i`: the thread's number, and the number of the access in its thread, from 0.
 #[derive(Clone, Copy, PartialEq, Eq, Debug)]

@@ -11,6 +11,7 @@ ghost use Rattle.cert_words.specs.Lines.{texts_of, spaced, line};
 ghost use Rattle.cert_forest.specs.Texts.{register_word, location_word, place_word, head_lines, access_word, kind_word, cover_words, covers_words, gap_words, gaps_words, labels_line, runs_lines, certificate_text};
 
 use crate::certificate::Certificate;
+use crate::shown::{MAX_REGISTERS, THREAD_REGISTERS};
 use crate::tree::{AccessId, CoverTree, GapTree};
 use candidate_executions::Kind;
 use gap_sets::GapSet;
@@ -243,10 +244,10 @@ fn push_location(out: &mut String, location: u8) -> Result<(), AllocError>
 fn push_place(out: &mut String, place: u8) -> Result<(), AllocError>
     ensures { OnOk result (string_bytes out.new ≡ string_bytes out.old ++ spaced (place_word place)) }
 {
-    if place < 48 {
-        push_register(out, place / 6, place % 6)
+    if place < MAX_REGISTERS {
+        push_register(out, place / THREAD_REGISTERS, place % THREAD_REGISTERS)
     } else {
-        push_location(out, place - 48)
+        push_location(out, place - MAX_REGISTERS)
     }
 }
 

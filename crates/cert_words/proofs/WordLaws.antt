@@ -12,6 +12,7 @@ use Rattle.std.proofs.lemmas.List.{take_at, drop_at, take-append-drop}
 use Rattle.std.proofs.lemmas.Fmt.{digits_decimal}
 use Rattle.text_tokens.proofs.NumberLaws.{own, plain_number_takes, plain_number_again}
 use Rattle.text_tokens.specs.Numbers.{plain_number_at}
+use Rattle.cert_words.specs.declared.numbers.TheConstants.{MAX_COUNT}
 use Rattle.cert_words.specs.Lines.{spaced}
 use Rattle.cert_words.specs.Words.{◌>>=◌, is_inner, front, after_word, word_at, line_name_at, end_at, number_within_at, count_at, letter_of, letter_at}
 use Rattle.cert_words.proofs.Steps.{bind_some, guarded, kept_out, some_is, Stops, Starts, IsExact}
@@ -121,21 +122,21 @@ number_exact limit fits = record { takes = taken; again = λ n rest le st. again
 pub below64 : 18446744073709551615 < 2 ^ 64
 below64 = omega arith
 
-pub count_exact : IsExact count_at number_text (λ n. n ≤ 1024)
+pub count_exact : IsExact count_at number_text (λ n. n ≤ MAX_COUNT)
 unfolding count_at
 count_exact = record { takes = taken; again = λ n rest le st. again n rest le st; starts = λ n rest le st. refl }
   where
-    taken : (bytes : List ℕ) (x : ℕ × List ℕ) → count_at bytes ≡ Some x → (bytes ≡ number_text x.0 ++ x.1) × (x.0 ≤ 1024)
+    taken : (bytes : List ℕ) (x : ℕ × List ℕ) → count_at bytes ≡ Some x → (bytes ≡ number_text x.0 ++ x.1) × (x.0 ≤ MAX_COUNT)
     taken bytes x e =
-        let a = bind_some (number_within_at 18446744073709551615 bytes) (λ n. cond (nat_lt 1024 n.0) None (Some n)) x e in
-        let k = kept_out (nat_lt 1024 a.0.0) (Some a.0) x a.2 in
-        let small : a.0.0 ≤ 1024 = ltb-false _ _ k.0 in
+        let a = bind_some (number_within_at 18446744073709551615 bytes) (λ n. cond (nat_lt MAX_COUNT n.0) None (Some n)) x e in
+        let k = kept_out (nat_lt MAX_COUNT a.0.0) (Some a.0) x a.2 in
+        let small : a.0.0 ≤ MAX_COUNT = ltb-false _ _ k.0 in
         let here = (number_exact 18446744073709551615 below64).takes bytes a.0 a.1 in
-        subst (λ (y : ℕ × List ℕ). (bytes ≡ number_text y.0 ++ y.1) × (y.0 ≤ 1024)) (some_is a.0 x k.1) (here.0, small)
+        subst (λ (y : ℕ × List ℕ). (bytes ≡ number_text y.0 ++ y.1) × (y.0 ≤ MAX_COUNT)) (some_is a.0 x k.1) (here.0, small)
 
-    again : (n : ℕ) (rest : List ℕ) → n ≤ 1024 → Starts rest → count_at (number_text n ++ rest) ≡ Some (n, rest)
+    again : (n : ℕ) (rest : List ℕ) → n ≤ MAX_COUNT → Starts rest → count_at (number_text n ++ rest) ≡ Some (n, rest)
     again n rest le st =
-        let small : nat_lt 1024 n ≡ false = le-ltb _ _ le in
+        let small : nat_lt MAX_COUNT n ≡ false = le-ltb _ _ le in
         rw ((number_exact 18446744073709551615 below64).again n rest (omega arith) st, small) refl
 
 -- ---- letters

@@ -3,6 +3,7 @@ use Rattle.std.specs.Prelude.{◌≡◌, ◌==◌, ◌||◌, ℕ, zero, suc, Boo
 use Rattle.std.specs.List.{prefix_len}
 use Rattle.std.specs.Str.{bytes_eq}
 use Rattle.text_tokens.specs.Numbers.{plain_number_at}
+use Rattle.cert_words.specs.declared.numbers.TheConstants.{MAX_COUNT}
 use Rattle.cert_words.specs.declared.refusal.Refusal.{Refusal}
 use Rattle.cert_words.specs.declared.refusal.Stop.{Stop}
 use Rattle.cert_words.specs.declared.refusal.Stop.TheVariants.{Refused, OutOfMemory}
@@ -66,7 +67,7 @@ number_within_at limit bytes = do
 unfoldable pub count_at : List ℕ → Option (ℕ × List ℕ)
 count_at bytes = do
   n ← number_within_at 18446744073709551615 bytes
-  if nat_lt 1024 n.0 then None else Some n
+  if nat_lt MAX_COUNT n.0 then None else Some n
 
 -- the byte of a word of one byte
 abbrev pub letter_of : List ℕ → Option ℕ

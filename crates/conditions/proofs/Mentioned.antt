@@ -15,6 +15,7 @@ use Rattle.conditions.specs.declared.atom.Atom.TheVariants as atom
 use Rattle.conditions.specs.Tree.{Tree}
 use Rattle.conditions.specs.Tree as tree
 use Rattle.conditions.specs.Named.{with_register, with_location, with_atom, with_named, SpeaksOfRegister, SpeaksOfLocation, SomeAtom, MentionsRegister, MentionsLocation}
+use Rattle.tso_program.specs.declared.limits.TheConstants.{MAX_THREADS, MAX_LOCATIONS}
 
 -- a place is among names
 abbrev pub Has : set.FinSet nat_cmp → ℕ → Type 0
@@ -51,11 +52,11 @@ new_is_there : (b : Bool) (names : set.FinSet nat_cmp) (new place : ℕ) → b �
 new_is_there false names new place passes e = absurd cc
 new_is_there true names new place passes e = set.contains-insert nat_cmp_total names new place ∙ the_new_one place new (set.contains names place) e
 
-in_range : (n : ℕ) → n < 8 → nat_lt n 8 ≡ true
-in_range n h = grind (arith, nat_tests)
+in_range : (limit n : ℕ) → n < limit → nat_lt n limit ≡ true
+in_range limit n h = grind (arith, nat_tests)
 
-below_eight : (n : ℕ) → nat_lt n 8 ≡ true → n < 8
-below_eight n h = grind (arith, nat_tests)
+below : (limit n : ℕ) → nat_lt n limit ≡ true → n < limit
+below limit n h = grind (arith, nat_tests)
 
 -- ---- one register or location more
 
@@ -70,7 +71,7 @@ nothing_more place names more back on = (λ h. inl (back h), from)
     from (inl h) = on h
     from (inr none) = absurd none
 
-module _ (names : set.FinSet nat_cmp) (t : ℕ) (r : Reg) (few : t < 8) where
+module _ (names : set.FinSet nat_cmp) (t : ℕ) (r : Reg) (few : t < MAX_THREADS) where
   abbrev here : ℕ
   here = register_place t (number r)
 
@@ -78,7 +79,7 @@ module _ (names : set.FinSet nat_cmp) (t : ℕ) (r : Reg) (few : t < 8) where
   register_with_register thread register = (to, from)
     where
       to : Has (with_register names thread (number register)) here → Has names here ⊎ ((thread ≡ t) × (register ≡ r))
-      to h = elim (old_or_new (nat_lt thread 8) names (register_place thread (number register)) here h) [
+      to h = elim (old_or_new (nat_lt thread MAX_THREADS) names (register_place thread (number register)) here h) [
         | inl old ↦ inl old
         | inr (passes, e) ↦
             let same = registers_distinct thread (number register) t (number r) (small_number register) (small_number r) e in
@@ -86,41 +87,41 @@ module _ (names : set.FinSet nat_cmp) (t : ℕ) (r : Reg) (few : t < 8) where
       ]
 
       from : Has names here ⊎ ((thread ≡ t) × (register ≡ r)) → Has (with_register names thread (number register)) here
-      from (inl old) = old_is_there (nat_lt thread 8) names (register_place thread (number register)) here old
+      from (inl old) = old_is_there (nat_lt thread MAX_THREADS) names (register_place thread (number register)) here old
       from (inr (e, f)) =
-          new_is_there (nat_lt thread 8) names (register_place thread (number register)) here (in_range thread (omega arith)) (λ i. register_place (e i) (number (f i)))
+          new_is_there (nat_lt thread MAX_THREADS) names (register_place thread (number register)) here (in_range MAX_THREADS thread (omega arith)) (λ i. register_place (e i) (number (f i)))
 
   pub register_with_location : (location : ℕ) → IsWith ⊥ here names (with_location names location)
-  register_with_location location = nothing_more here names (with_location names location) back (old_is_there (nat_lt location 8) names (location_place location) here)
+  register_with_location location = nothing_more here names (with_location names location) back (old_is_there (nat_lt location MAX_LOCATIONS) names (location_place location) here)
     where
       back : Has (with_location names location) here → Has names here
-      back h = elim (old_or_new (nat_lt location 8) names (location_place location) here h) [
+      back h = elim (old_or_new (nat_lt location MAX_LOCATIONS) names (location_place location) here h) [
         | inl old ↦ old
         | inr (passes, e) ↦ absurd (lie_apart t (number r) location few (small_number r) (sym e))
       ]
 
-module _ (names : set.FinSet nat_cmp) (l : ℕ) (few : l < 8) where
+module _ (names : set.FinSet nat_cmp) (l : ℕ) (few : l < MAX_LOCATIONS) where
   pub location_with_location : (location : ℕ) → IsWith (location ≡ l) (location_place l) names (with_location names location)
   location_with_location location = (to, from)
     where
       to : Has (with_location names location) (location_place l) → Has names (location_place l) ⊎ (location ≡ l)
-      to h = elim (old_or_new (nat_lt location 8) names (location_place location) (location_place l) h) [
+      to h = elim (old_or_new (nat_lt location MAX_LOCATIONS) names (location_place location) (location_place l) h) [
         | inl old ↦ inl old
         | inr (passes, e) ↦ inr (locations_distinct location l e)
       ]
 
       from : Has names (location_place l) ⊎ (location ≡ l) → Has (with_location names location) (location_place l)
-      from (inl old) = old_is_there (nat_lt location 8) names (location_place location) (location_place l) old
-      from (inr e) = new_is_there (nat_lt location 8) names (location_place location) (location_place l) (in_range location (omega arith)) (ap location_place e)
+      from (inl old) = old_is_there (nat_lt location MAX_LOCATIONS) names (location_place location) (location_place l) old
+      from (inr e) = new_is_there (nat_lt location MAX_LOCATIONS) names (location_place location) (location_place l) (in_range MAX_LOCATIONS location (omega arith)) (ap location_place e)
 
   pub location_with_register : (thread : ℕ) (register : Reg) → IsWith ⊥ (location_place l) names (with_register names thread (number register))
   location_with_register thread register =
-      nothing_more (location_place l) names (with_register names thread (number register)) back (old_is_there (nat_lt thread 8) names (register_place thread (number register)) (location_place l))
+      nothing_more (location_place l) names (with_register names thread (number register)) back (old_is_there (nat_lt thread MAX_THREADS) names (register_place thread (number register)) (location_place l))
     where
       back : Has (with_register names thread (number register)) (location_place l) → Has names (location_place l)
-      back h = elim (old_or_new (nat_lt thread 8) names (register_place thread (number register)) (location_place l) h) [
+      back h = elim (old_or_new (nat_lt thread MAX_THREADS) names (register_place thread (number register)) (location_place l) h) [
         | inl old ↦ old
-        | inr (passes, e) ↦ absurd (lie_apart thread (number register) l (below_eight thread passes) (small_number register) e)
+        | inr (passes, e) ↦ absurd (lie_apart thread (number register) l (below MAX_THREADS thread passes) (small_number register) e)
       ]
 
 -- ---- a formula, by its atoms
@@ -151,14 +152,14 @@ by_atoms Speaks place each (tree.And f g) names =
 by_atoms Speaks place each (tree.Or f g) names =
     then_more (SomeAtom Speaks f) (SomeAtom Speaks g) place names (with_named names f) (with_named (with_named names f) g) (by_atoms Speaks place each f names) (by_atoms Speaks place each g (with_named names f))
 
-pub register_mentioned : (t : ℕ) (r : Reg) → t < 8 → (f : Tree Atom) (names : set.FinSet nat_cmp) → IsWith (MentionsRegister f t r) (register_place t (number r)) names (with_named names f)
+pub register_mentioned : (t : ℕ) (r : Reg) → t < MAX_THREADS → (f : Tree Atom) (names : set.FinSet nat_cmp) → IsWith (MentionsRegister f t r) (register_place t (number r)) names (with_named names f)
 register_mentioned t r few = by_atoms (SpeaksOfRegister t r) (register_place t (number r)) each
   where
     each : (names : set.FinSet nat_cmp) (a : Atom) → IsWith (SpeaksOfRegister t r a) (register_place t (number r)) names (with_atom names a)
     each names (atom.Register thread register value) = register_with_register names t r few thread register
     each names (atom.Location location value) = register_with_location names t r few location
 
-pub location_mentioned : (l : ℕ) → l < 8 → (f : Tree Atom) (names : set.FinSet nat_cmp) → IsWith (MentionsLocation f l) (location_place l) names (with_named names f)
+pub location_mentioned : (l : ℕ) → l < MAX_LOCATIONS → (f : Tree Atom) (names : set.FinSet nat_cmp) → IsWith (MentionsLocation f l) (location_place l) names (with_named names f)
 location_mentioned l few = by_atoms (SpeaksOfLocation l) (location_place l) each
   where
     each : (names : set.FinSet nat_cmp) (a : Atom) → IsWith (SpeaksOfLocation l a) (location_place l) names (with_atom names a)

@@ -9,13 +9,14 @@ use Rattle.conditions.specs.declared.atom.Atom.{Atom}
 use Rattle.conditions.specs.declared.atom.Atom.TheVariants as atom
 use Rattle.conditions.specs.Tree.{Tree}
 use Rattle.conditions.specs.Tree as tree
+use Rattle.tso_program.specs.declared.limits.TheConstants.{MAX_THREADS, MAX_LOCATIONS}
 
--- these and a register of a thread, or a location; a number past 7 names nothing
+-- these and a register of a thread, or a location; a number past the limits names nothing
 abbrev pub with_register : set.FinSet nat_cmp → ℕ → ℕ → set.FinSet nat_cmp
-with_register names thread register = if nat_lt thread 8 then set.insert names (register_place thread register) else names
+with_register names thread register = if nat_lt thread MAX_THREADS then set.insert names (register_place thread register) else names
 
 abbrev pub with_location : set.FinSet nat_cmp → ℕ → set.FinSet nat_cmp
-with_location names location = if nat_lt location 8 then set.insert names (location_place location) else names
+with_location names location = if nat_lt location MAX_LOCATIONS then set.insert names (location_place location) else names
 
 -- these and what an atom names
 abbrev pub with_atom : set.FinSet nat_cmp → Atom → set.FinSet nat_cmp

@@ -6,19 +6,17 @@ ghost use Rattle.conditions.specs.Nodes.{nodes_of};
 ghost use Rattle.conditions.specs.Named.{with_register, with_location, with_atom, with_named};
 ghost use Rattle.conditions.specs.NamedNodes.{with_node};
 ghost use Rattle.tso_program.specs.Instructions.{number};
+ghost use Rattle.tso_program.specs.declared.limits.TheConstants.{MAX_THREADS, MAX_LOCATIONS};
 
 use crate::atom::Atom;
 use crate::node::Node;
-use tso_program::{Names, Reg};
-
-/// How many threads and locations can be named.
-const MAX_NAMED: u32 = 8;
+use tso_program::{MAX_LOCATIONS, MAX_THREADS, Names, Reg};
 
 /// These and a register of a thread; a thread past the eighth names nothing.
 pub fn with_register(names: Names, thread: u32, register: Reg) -> Names
     ensures { result ≡ with_register names thread (number register) }
 {
-    if thread < MAX_NAMED {
+    if (thread as usize) < MAX_THREADS {
         names.with_register(thread as u8, register)
     } else {
         names
@@ -29,7 +27,7 @@ pub fn with_register(names: Names, thread: u32, register: Reg) -> Names
 pub fn with_location(names: Names, location: u32) -> Names
     ensures { result ≡ with_location names location }
 {
-    if location < MAX_NAMED {
+    if (location as usize) < MAX_LOCATIONS {
         names.with_location(location as u8)
     } else {
         names

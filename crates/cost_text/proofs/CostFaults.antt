@@ -12,6 +12,7 @@ use Rattle.gap_sets.proofs.CostLimits.{none_found, not_free, not_too_large, not_
 use Rattle.cost_text.specs.CostTexts.{Entry, said_of, costs_of}
 use Rattle.cost_text.specs.TextReading.{cost_or_fault}
 use Rattle.cost_text.proofs.EntryLaws.{IsCost, cost_there, others_within, same_length, few_gaps}
+use Rattle.gap_sets.specs.declared.gap_set.TheConstants.{MAX_GAPS}
 
 -- the first element that passes a test
 position_is : (p : ℕ → Bool) (xs : List ℕ) (i : ℕ) → i < length xs → p (get_or xs i 0) ≡ true → ((k : ℕ) → k < i → p (get_or xs k 0) ≡ false) → position p xs ≡ Some i
@@ -66,7 +67,7 @@ module _ (gaps : ℕ) (entries : List Entry) (e : Entry) (below : e.gap < gaps) 
   long : length (costs_of gaps (entries ++ e ∷ [])) ≡ gaps
   long = same_length gaps entries e below new within
 
-  few : nat_lt 64 (length (costs_of gaps (entries ++ e ∷ []))) ≡ false
+  few : nat_lt MAX_GAPS (length (costs_of gaps (entries ++ e ∷ []))) ≡ false
   few = not_too_many _ (omega (arith, long, few_gaps gaps entries e below new within))
 
   -- the first gap of a test that its cost alone passes

@@ -8,6 +8,7 @@ use Rattle.std.proofs.lemmas.List.FromFn.{fill_by_all, length-map-range_with_len
 use Rattle.gap_sets.specs.CostLists.{IsCostList}
 use Rattle.cost_text.specs.CostTexts.{Entry, said_of, NoGapTwice, costs_of}
 use Rattle.cost_text.specs.TextReading.{table_of}
+use Rattle.gap_sets.specs.declared.gap_set.TheConstants.{MAX_GAPS}
 
 -- ---- what entries say
 
@@ -113,7 +114,7 @@ length-costs_of gaps entries = length-map-range_with_len (λ gap. unwrap_or (sai
 abbrev pub IsCost : ℕ → Type 0
 IsCost cost = (1 ≤ cost) × (cost ≤ 1000000)
 
-pub no_costs : (gaps : ℕ) → gaps ≤ 64 → IsCostList (costs_of gaps [])
+pub no_costs : (gaps : ℕ) → gaps ≤ MAX_GAPS → IsCostList (costs_of gaps [])
 no_costs gaps few = record {
   few = omega (arith, length-costs_of gaps []);
   each = λ k d lt. subst IsCost (sym (costs_at gaps [] k d (omega (arith, length-costs_of gaps [])))) (omega arith, omega arith);
@@ -135,7 +136,7 @@ module _ (gaps : ℕ) (entries : List Entry) (e : Entry) (below : e.gap < gaps) 
   pub same_length : length (costs_of gaps (entries ++ e ∷ [])) ≡ gaps
   same_length = length-costs_of gaps (entries ++ e ∷ [])
 
-  pub few_gaps : gaps ≤ 64
+  pub few_gaps : gaps ≤ MAX_GAPS
   few_gaps = omega (arith, within.few, length-costs_of gaps entries)
 
   pub within_more : 1 ≤ e.cost → e.cost ≤ 1000000 → IsCostList (costs_of gaps (entries ++ e ∷ []))

@@ -15,6 +15,7 @@ use Rattle.cost_text.specs.TextReading.{table_of, IsCostTable, IsNewEntry, IsTab
 use Rattle.cost_text.proofs.LineLaws.{said_once, blank_says_nothing}
 use Rattle.cost_text.proofs.EntryLaws.{IsCost, said_there, once_more, not_twice, table_more, length-table_of, costs_at, length-costs_of, no_costs, within_more, costs_from_table}
 use Rattle.gap_sets.proofs.CostLimits.{no_fault-from_IsCostList}
+use Rattle.gap_sets.specs.declared.gap_set.TheConstants.{MAX_GAPS}
 
 -- ---- one more line
 
@@ -27,7 +28,7 @@ entry_below : (threads : List Thread) (line : List ℕ) (e : Entry) → IsCostEn
 entry_below threads line e is = gap_below threads is.said.thread is.said.instruction e.gap is.gap
 
 -- before the first line
-pub first_table : (threads : List Thread) (table : List (Option ℕ)) → gap_count threads ≤ 64 → table ≡ table_of (gap_count threads) [] → IsTableOf threads [] table
+pub first_table : (threads : List Thread) (table : List (Option ℕ)) → gap_count threads ≤ MAX_GAPS → table ≡ table_of (gap_count threads) [] → IsTableOf threads [] table
 first_table threads table few is = record { entries = []; given = record { lists = none; once = tt; within = no_costs (gap_count threads) few }; table_is = is }
 
 -- what a table of lines says of the one that is read next

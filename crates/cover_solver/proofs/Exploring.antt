@@ -100,11 +100,11 @@ counted_after s (choice.Order first second) lawful may = pair_counted s (event_o
 abbrev pub rounds : Parts → ℕ
 rounds s = 4 * (most_choices + 1 - choice_count s)
 
-fewer : (m n : ℕ) → n ≡ m + 1 → m ≤ 336 → 4 * (337 - n) + 3 < 4 * (337 - m)
-fewer m n e h = omega arith
+fewer : (most m n : ℕ) → n ≡ m + 1 → m ≤ most → 4 * (most + 1 - n) + 3 < 4 * (most + 1 - m)
+fewer most m n e h = omega arith
 
 pub fewer_rounds : (s next : Parts) (c : Choice) → IsLawful s → choice_count s ≤ most_choices → MayChoose s c → next ≡ parts_after s c → rounds next + 3 < rounds s
-fewer_rounds s next c lawful few may same = fewer (choice_count s) (choice_count next) (ap choice_count same ∙ counted_after s c lawful may) few
+fewer_rounds s next c lawful few may same = fewer most_choices (choice_count s) (choice_count next) (ap choice_count same ∙ counted_after s c lawful may) few
 
 -- the search at the sketch after a choice
 module _ (s next : Parts) (shown : Shown) (c : Choice) (old new : Found) (same : next ≡ parts_after s c) (moves : sketch_of next ≡ after (sketch_of s) c) (explores : Explores next shown old new) where

@@ -28,6 +28,7 @@ use Rattle.exec_axioms.specs.Immediates.{any_number}
 use Rattle.exec_axioms.specs.Sizes.{HaveSixRegisters, most_values, most_sources}
 use Rattle.exec_axioms.proofs.KnownValues.{known_all}
 use Rattle.exec_axioms.proofs.EventsCounted.{few_of, all_events, all_events_few, all_events_has}
+use Rattle.tso_program.specs.declared.instruction.TheConstants.{REGISTERS}
 
 -- an instruction's number, 0 where it has none
 abbrev number_or_zero : Instr → ℕ
@@ -43,11 +44,11 @@ one_more : (n : ℕ) → n ≤ (n - 1) + 1
 one_more zero = omega arith
 one_more (suc n) = omega arith
 
-constants_few : (threads : List Thread) → HaveSixRegisters threads → length (constants threads) ≤ gap_count threads + 7 * length threads
+constants_few : (threads : List Thread) → HaveSixRegisters threads → length (constants threads) ≤ gap_count threads + (REGISTERS + 1) * length threads
 constants_few [] six = omega arith
 constants_few (thread ∷ threads) six =
     let rest = constants_few threads (λ t h. six (suc t) (omega arith)) in
-    let here : length thread.registers ≡ 6 = six 0 (omega arith) in
+    let here : length thread.registers ≡ REGISTERS = six 0 (omega arith) in
     let numbers = length-map thread.code number_or_zero in
     let own = length-append (map number_or_zero thread.code) thread.registers in
     let all = length-append (map number_or_zero thread.code ++ thread.registers) (constants threads) in

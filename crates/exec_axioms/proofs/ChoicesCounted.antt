@@ -20,6 +20,7 @@ use Rattle.exec_axioms.specs.Sizes.{choice_count, most_choices}
 use Rattle.exec_axioms.proofs.Accesses.{none_past}
 use Rattle.exec_axioms.proofs.AccessesCounted.{given_few}
 use Rattle.exec_axioms.proofs.EventsCounted.{stays, first_pairs, later_pairs, few_of, rows, rows_many, code_there, all_events, all_events_few, all_events_has}
+use Rattle.tso_program.specs.declared.limits.TheConstants.{MAX_ACCESSES}
 
 abbrev Two : Type 0
 Two = Event × Event
@@ -61,7 +62,7 @@ products_has (z ∷ xs) ys x y here there = elim (first_or_later z xs x here) [
   | inr later ↦ Contains-append_right (map (with_each z) ys) (products xs ys) (x, y) (products_has xs ys x y later there)
 ]
 
-products_few : (xs ys : List Event) → length ys ≤ 24 → length (products xs ys) ≤ length xs * 24
+products_few : (xs ys : List Event) → length ys ≤ MAX_ACCESSES → length (products xs ys) ≤ length xs * MAX_ACCESSES
 products_few [] ys h = omega arith
 products_few (x ∷ xs) ys h =
     let rest = products_few xs ys h in
@@ -77,7 +78,7 @@ module _ (s : Parts) (lawful : IsLawful s) where
   abbrev pub events : List Event
   events = all_events s.program (mode_in s) (given_to s.given) lawful.within
 
-  pub events_few : length events ≤ 24
+  pub events_few : length events ≤ MAX_ACCESSES
   events_few = all_events_few s.program (mode_in s) (given_to s.given) lawful.within
 
   -- an access of a thread is one of them
@@ -119,7 +120,7 @@ module _ (s : Parts) (lawful : IsLawful s) where
   write_has (Initial m) x l at there not_initial = (let is = same_Some _ x at in absurd (not_initial (ap Initial (ap (λ (y : Access). y.location) is ∙ there))))
   write_has (At t i) x l at there not_initial = events_has t i x at
 
-  given_fewer : sum_by length s.given ≤ 24
+  given_fewer : sum_by length s.given ≤ MAX_ACCESSES
   given_fewer =
       let many = rows_many counts s.given (λ t. given_few s.program (mode_in s) (given_to s.given) t (lawful.is_sketch.used t)) (length s.given) (omega arith) in
       let all = ap (λ xs. sum_by length xs) (take_all (length s.given) s.given (omega arith)) in
@@ -127,14 +128,14 @@ module _ (s : Parts) (lawful : IsLawful s) where
       let few = events_few in
       omega arith
 
-  sources_few : length s.sources ≤ 24
+  sources_few : length s.sources ≤ MAX_ACCESSES
   sources_few =
       let few = few_of (λ (a : Two). a.0) s.sources events lawful.one_source
       (λ a has. (let (x, v, at, reads, differ, writes) = lawful.is_sketch.sources a.0 a.1 has in read_has a.0 x v at reads)) in
       let limit = events_few in
       omega arith
 
-  pairs_few : 2 * length s.pairs ≤ 576
+  pairs_few : 2 * length s.pairs ≤ MAX_ACCESSES * MAX_ACCESSES
   pairs_few =
       let few = two_each s.pairs (products events events) lawful.one_order
       (λ a has same. (lawful.is_sketch.pairs a.0 a.1 has).0 (ap (λ (b : Two). b.0) same))

@@ -1,4 +1,4 @@
--- Lists of different elements are no longer than a list that has them all; the accesses of a program's threads are 24 at most.
+-- Lists of different elements are no longer than a list that has them all; a program's threads have no more accesses than a program may have.
 use Rattle.std.proofs.Common.{◌≡◌, ◌≢◌, ℕ, zero, suc, ◌+◌, ◌<◌, ◌≤◌, List, [], ◌∷◌, ◌++◌, Some, take, get_or, length, slice_get, Contains, sum_by, refl, sym, ap, ◌∙◌, subst, inl, inr, arith}
 use Rattle.std.specs.List.{AllPairs, remove}
 use Rattle.std.specs.Option.{option_map_or}
@@ -21,6 +21,7 @@ use Rattle.exec_axioms.specs.Parts.{given_to}
 use Rattle.exec_axioms.proofs.Accesses.{none_past_by}
 use Rattle.exec_axioms.proofs.AccessesCounted.{weight, accesses_few}
 use Rattle.exec_axioms.proofs.Walks.{contains_remove}
+use Rattle.tso_program.specs.declared.limits.TheConstants.{MAX_ACCESSES}
 
 -- what is not the removed element stays
 pub stays : {A : Type 0} (xs : List A) (i : ℕ) (x e : A) → i < length xs → get_or xs i x ≡ x → Contains xs e → (x ≡ e → ⊥) → Contains (remove xs i) e
@@ -116,7 +117,7 @@ module _ (p : Listing) (mode : Mode) (given : ℕ → List ℕ) (within : IsWith
       let same = ap (sum_by weight) code in
       omega arith
 
-  pub all_events_few : length all_events ≤ 24
+  pub all_events_few : length all_events ≤ MAX_ACCESSES
   all_events_few =
       let few = rows_few counts accesses_of p.threads code_there (length p.threads) (omega arith) in
       let all = sum_by-take-le accesses_of p.threads (length p.threads) in

@@ -1,25 +1,29 @@
 -- How many choices a sketch has, and how many choices, values and sources there are at most.
-use Rattle.std.specs.Prelude.{◌≡◌, ℕ, ◌+◌, ◌<◌, List, length, sum_by}
+use Rattle.std.specs.Prelude.{◌≡◌, ℕ, ◌+◌, ◌*◌, ◌/◌, ◌<◌, List, length, sum_by}
 use Rattle.tso_program.specs.declared.listing.Thread.{Thread}
 use Rattle.tso_program.specs.Listings.{start_of}
 use Rattle.exec_axioms.specs.Parts.{Parts}
+use Rattle.gap_sets.specs.declared.gap_set.TheConstants.{MAX_GAPS}
+use Rattle.tso_program.specs.declared.limits.TheConstants.{MAX_THREADS, MAX_LOCATIONS, MAX_ACCESSES}
+use Rattle.tso_program.specs.declared.instruction.TheConstants.{REGISTERS}
+use Rattle.tso_program.specs.declared.shown.TheConstants.{REGISTER_PLACES}
 
 -- the values, sources and pairs of writes that are chosen
 abbrev pub choice_count : Parts → ℕ
 choice_count s = sum_by length s.given + length s.sources + length s.pairs
 
--- no more can be chosen: 24 accesses have 24 values and 24 sources at most, and half of the 576 pairs
+-- no more can be chosen: each access has one value and one source at most, and of each two accesses at most one comes first
 abbrev pub most_choices : ℕ
-most_choices = 336
+most_choices = 2 * MAX_ACCESSES + MAX_ACCESSES * MAX_ACCESSES / 2
 
--- each thread has six registers
+-- each thread has all registers
 abbrev pub HaveSixRegisters : List Thread → Type 0
-HaveSixRegisters threads = (t : ℕ) → t < length threads → length (start_of threads t).registers ≡ 6
+HaveSixRegisters threads = (t : ℕ) → t < length threads → length (start_of threads t).registers ≡ REGISTERS
 
--- no location has more values: 0, the initial values of 8 locations and of 48 registers, and the numbers of 72 instructions (64 gaps and 8 threads)
+-- no location has more values: 0, the initial values of the locations and of the registers, and the numbers of the instructions, of which each thread has one more than gaps
 abbrev pub most_values : ℕ
-most_values = 129
+most_values = 1 + MAX_LOCATIONS + REGISTER_PLACES + MAX_GAPS + MAX_THREADS
 
--- no read has more sources: the initial write of its location, and 24 accesses
+-- no read has more sources: the initial write of its location, and the accesses
 abbrev pub most_sources : ℕ
-most_sources = 25
+most_sources = 1 + MAX_ACCESSES

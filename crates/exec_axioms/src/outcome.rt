@@ -7,7 +7,7 @@ ghost use Rattle.exec_axioms.specs.Endings.{final_registers, IsLastWith, MayEndW
 use crate::Sketch;
 use candidate_executions::Event;
 use std::alloc::AllocError;
-use tso_program::{Items, Outcome, Shown};
+use tso_program::{Items, Outcome, REGISTERS, Shown};
 
 impl Sketch {
     /// The outcome as which the sketch must end, if there is one: the registers at the ends of the
@@ -44,7 +44,7 @@ impl Sketch {
     }
 
     /// The registers where the threads stop.
-    fn end_registers(&self) -> Result<Items<[u32; 6]>, AllocError>
+    fn end_registers(&self) -> Result<Items<[u32; REGISTERS]>, AllocError>
         ensures { IfOk result (λ registers. registers ≡ final_registers self.now) }
     {
         let mut registers = Vec::new(self.alloc);

@@ -8,9 +8,10 @@ use Rattle.tso_program.specs.Shown.{Question}
 use Rattle.tso_program.specs.Listings.{gap_count}
 use Rattle.tso_machine.specs.Outcomes.{AreGapsOf, LeavesOutcome, IsTheAnswer}
 use Rattle.fence_laws.specs.Laws.{TheAnswerIsTheOnlyOne}
+use Rattle.gap_sets.specs.declared.gap_set.TheConstants.{MAX_GAPS}
 
--- the gaps of a program within the limits have numbers below 64
-small : (p : Listing) (s : SetOfGaps) → gap_count p.threads ≤ 64 → AreGapsOf p s → IsGapSet s
+-- the gaps of a program within the limits have numbers below `MAX_GAPS`
+small : (p : Listing) (s : SetOfGaps) → gap_count p.threads ≤ MAX_GAPS → AreGapsOf p s → IsGapSet s
 small p s few of_program gap there = let h = of_program gap there in omega arith
 
 -- an answer is not better than another: that one would leave an outcome

@@ -25,7 +25,7 @@ module _ (p : Listing) (gaps : Gaps) where
   Leads s s' = (js : List Label) × ((ls : List Label) → run p (Fenced gaps) s (js ++ ls) ≡ run p (Fenced gaps) s' ls)
 
   -- an instruction is executed
-  exec_step : (s s' : State) (t : ℕ) → s.buffers t ≡ [] → buffered s t (action p.threads t (s.locals t)) ≡ Some s' → (ls : List Label) →
+  pub exec_step : (s s' : State) (t : ℕ) → s.buffers t ≡ [] → buffered s t (action p.threads t (s.locals t)) ≡ Some s' → (ls : List Label) →
       run p (Fenced gaps) s (Exec t ∷ ls) ≡ run p (Fenced gaps) s' ls
   exec_step s s' t empty e ls = ap (option_and_then (λ next. run p (Fenced gaps) next ls))
       (passes (gaps t (s.locals t).place) (s.buffers t) s (λ z. buffered z t (action p.threads t (s.locals t))) empty ∙ e)
@@ -35,11 +35,11 @@ module _ (p : Listing) (gaps : Gaps) where
   by_step s s' t empty e = (Exec t ∷ [], exec_step s s' t empty e)
 
   -- the state with one more store waiting
-  abbrev stored : State → ℕ → ℕ → ℕ → Local → State
+  abbrev pub stored : State → ℕ → ℕ → ℕ → Local → State
   stored s t l v next = record s { locals = put s.locals t next; buffers = put s.buffers t (s.buffers t ++ record { location = l; value = v } ∷ []) }
 
   -- where it is the only one, its flush leads to the sequential state
-  stored_flushed : (s s' : State) (t l v : ℕ) (next : Local) → s.buffers t ≡ [] → direct s t (Write l v next) ≡ Some s' →
+  pub stored_flushed : (s s' : State) (t l v : ℕ) (next : Local) → s.buffers t ≡ [] → direct s t (Write l v next) ≡ Some s' →
       flushed (stored s t l v next) t ((stored s t l v next).buffers t) ≡ Some s'
   stored_flushed s s' t l v next empty h =
       let w : Pending = record { location = l; value = v } in
@@ -61,7 +61,7 @@ module _ (p : Listing) (gaps : Gaps) where
   one_step s s' t empty (Swap l v to next) e h = by_step s s' t empty (rw e (rw empty h))
 
   -- a sequential step leaves the buffers
-  same_buffers : (s s' : State) (t : ℕ) (a : Action) → direct s t a ≡ Some s' → s'.buffers ≡ s.buffers
+  pub same_buffers : (s s' : State) (t : ℕ) (a : Action) → direct s t a ≡ Some s' → s'.buffers ≡ s.buffers
   same_buffers s s' t Stop h = absurd cc
   same_buffers s s' t (Go next) h = sym (ap (λ (z : State). z.buffers) (same_Some _ s' h))
   same_buffers s s' t (Wait next) h = sym (ap (λ (z : State). z.buffers) (same_Some _ s' h))

@@ -1,11 +1,14 @@
 -- The certificate of a search that is done is valid, and within the limits of a text.
-use Rattle.std.proofs.Common.{◌≡◌, ℕ, ◌+◌, ◌<◌, ◌≤◌, ◌^◌, suc, List, [], ◌∷◌, All, Some, length, sym, ap, ◌∙◌, subst, arith, get_or}
+use Rattle.std.proofs.Common.{◌≡◌, ℕ, ◌+◌, ◌*◌, ◌<◌, ◌≤◌, ◌^◌, suc, List, [], ◌∷◌, All, Some, length, sym, ap, ◌∙◌, subst, arith, get_or}
 use Rattle.std.specs.Prelude.{slice_get}
 use Rattle.std.specs.List.{AllByRecursion}
 use Rattle.std.proofs.lemmas.Option.{slice_get-get_or}
 use Rattle.std.proofs.lemmas.List.Elements.{recursion_from_All}
 use Rattle.gap_sets.specs.Gaps.{SetOfGaps}
 use Rattle.gap_sets.specs.Order.{total}
+use Rattle.gap_sets.specs.declared.costs.TheConstants.{MAX_COST}
+use Rattle.gap_sets.specs.Regions.{all_sets}
+use Rattle.gap_sets.specs.declared.gap_set.TheConstants.{MAX_GAPS}
 use Rattle.tso_program.specs.Shown.{Question}
 use Rattle.tso_program.specs.declared.outcome.Outcome as machine
 use Rattle.tso_program.specs.Limits.{IsWithinLimits}
@@ -16,17 +19,16 @@ use Rattle.tso_machine.specs.Outcomes.{IsTheAnswer, IsShownRun, IsSequentialOutc
 use Rattle.exec_axioms.specs.Sizes.{most_choices}
 use Rattle.cert_forest.specs.Trees.{Cover}
 use Rattle.cert_forest.specs.declared.certificate.Certificate as memory
+use Rattle.cert_forest.specs.declared.tree.TheConstants.{MAX_COVER_DEPTH, MAX_GAP_DEPTH}
 use Rattle.cert_forest.specs.Views.{cover, gap}
 use Rattle.cert_forest.specs.Certificates.{labels_of, shown_places}
 use Rattle.cert_forest.specs.Limits as limits
 use Rattle.cert_forest.specs.Limits.{IsWithin, IsGapTo, gap_depth}
-use Rattle.tree_laws.specs.GapTrees.{root, IsValidGap}
+use Rattle.tree_laws.specs.GapTrees.{IsValidGap}
 use Rattle.tree_laws.specs.Certificates.{IsRunOutside, IsValidCertificate, AreSequentialRuns}
 use Rattle.cert_check.specs.Claims.{claim_of}
 use Rattle.cover_solver.specs.Facts.{Table, Foreign, IsSequentialTable, IsListOf, IsServing, IsForeignValue}
 use Rattle.cover_solver.specs.Covers.{IsWholeCover}
-use Rattle.search_core.specs.States.{root_node}
-use Rattle.search_core.specs.Nodes.{region_of}
 use Rattle.search_core.specs.Work.{undecided}
 use Rattle.search_core.specs.Records.{Outcome, finished_state, IsOutcome}
 use Rattle.search_core.proofs.Kept.{Facts, facts_of}
@@ -61,10 +63,10 @@ pub record IsMade (t : Table) (o : Outcome) (numbers : List ℕ) (c : memory.Cer
   pub few_seq_runs : length (labels_of c.seq_runs.items) < 2 ^ 64
 
 -- a tree of the solver is within the limits of a text
-tree_small : (q : Question) (mode : Mode) (outcomes : List machine.Outcome) (tree : Cover) → IsWholeCover q mode outcomes tree → limits.IsCoverTo 400 tree
+tree_small : (q : Question) (mode : Mode) (outcomes : List machine.Outcome) (tree : Cover) → IsWholeCover q mode outcomes tree → limits.IsCoverTo MAX_COVER_DEPTH tree
 tree_small q mode outcomes tree is = let shallow : limits.cover_depth tree ≤ most_choices + 1 = is.shallow in (omega arith, is.neat.numbers)
 
-module _ (t : Table) (o : Outcome) (numbers : List ℕ) (c : memory.Certificate) (table : IsSequentialTable t) (outcome : IsOutcome o) (serving : IsServing o.served) (low : c.cost ≤ 64000000)
+module _ (t : Table) (o : Outcome) (numbers : List ℕ) (c : memory.Certificate) (table : IsSequentialTable t) (outcome : IsOutcome o) (serving : IsServing o.served) (low : c.cost ≤ MAX_GAPS * MAX_COST)
     (same : t.question ≡ o.question) (of_served : o.served.question ≡ o.question) (answer : IsTheAnswer o.question o.costs o.served.gaps) (made : IsMade t o numbers c) where
   facts : Facts (finished_state o)
   facts = facts_of (finished_state o) outcome.reached
@@ -110,18 +112,18 @@ module _ (t : Table) (o : Outcome) (numbers : List ℕ) (c : memory.Certificate)
     sequential = table_tree.valid;
     foreign = foreign;
     fenced = fenced_tree.valid;
-    least = subst (λ (g : SetOfGaps). IsValidGap o.question.program o.costs g (labels_of c.runs.items) (gap c.gap_tree) root) (sym made.same_set)
-        (valid (finished_state o) facts o.served.gaps answer (labels_of c.runs.items) numbers made.numbered (gap c.gap_tree) 0 root_node made.recorded facts.root);
+    least = subst (λ (g : SetOfGaps). IsValidGap o.question.program o.costs g (labels_of c.runs.items) (gap c.gap_tree) all_sets) (sym made.same_set)
+        (valid (finished_state o) facts o.served.gaps answer (labels_of c.runs.items) numbers made.numbered (gap c.gap_tree) 0 all_sets made.recorded facts.root);
   }
 
-  gap_tree_small : IsGapTo 65 (gap c.gap_tree)
+  gap_tree_small : IsGapTo MAX_GAP_DEPTH (gap c.gap_tree)
   gap_tree_small =
-      let is = small (finished_state o) facts (labels_of c.runs.items) made.few_runs numbers made.numbered (gap c.gap_tree) 0 root_node made.recorded facts.root in
-      let few : undecided (region_of root_node) ≤ 64 = few_undecided (region_of root_node) in
-      let deep : gap_depth (gap c.gap_tree) ≤ suc (undecided (region_of root_node)) = is.deep in
-      (at_most (gap_depth (gap c.gap_tree)) (undecided (region_of root_node)) deep few, is.numbers)
+      let is = small (finished_state o) facts (labels_of c.runs.items) made.few_runs numbers made.numbered (gap c.gap_tree) 0 all_sets made.recorded facts.root in
+      let few : undecided all_sets ≤ MAX_GAPS = few_undecided all_sets in
+      let deep : gap_depth (gap c.gap_tree) ≤ suc (undecided all_sets) = is.deep in
+      (at_most (gap_depth (gap c.gap_tree)) (undecided all_sets) deep few, is.numbers)
     where
-      at_most : (d u : ℕ) → d ≤ suc u → u ≤ 64 → d ≤ 65
+      at_most : (d u : ℕ) → d ≤ suc u → u ≤ MAX_GAPS → d ≤ MAX_GAP_DEPTH
       at_most d u h i = omega arith
 
   foreign_short : All limits.IsWrittenRun (labels_of c.runs.items)

@@ -3,25 +3,23 @@ use Rattle.std.proofs.Common.{◌≡◌, ℕ, suc, ◌+◌, ◌<◌, ◌≤◌, 
 use Rattle.std.specs.Prelude.{slice_get}
 use Rattle.std.proofs.lemmas.Option.{same_Some, slice_get_within}
 use Rattle.std.proofs.lemmas.List.Kept.{AllPairs-from_increasing}
+use Rattle.gap_sets.specs.Regions.{children_of, open_gaps}
+use Rattle.gap_sets.specs.declared.region.Region.{Region}
+use Rattle.gap_sets.specs.declared.gap_set.TheConstants.{MAX_GAPS}
 use Rattle.tso_machine.specs.declared.label.Label.{Label}
 use Rattle.cert_forest.specs.Trees.{Gap, Split, Bound, GapTrees, NoGap, MoreGaps}
 use Rattle.cert_forest.specs.Texts.{count_gaps}
 use Rattle.cert_forest.specs.Limits.{gap_depth, gaps_depth, HasGapNumbers, HaveGapNumbers}
-use Rattle.tree_laws.specs.GapTrees.{children_of}
-use Rattle.tree_laws.specs.GapTrees as trees
-use Rattle.search_core.specs.declared.node.Node.{Node}
 use Rattle.search_core.specs.declared.entry.Entry.{Entry}
-use Rattle.search_core.specs.Nodes.{region_of, search_node, open_gaps}
 use Rattle.search_core.specs.States.{SearchState}
 use Rattle.search_core.specs.Work.{undecided}
-use Rattle.search_core.proofs.Places.{Each, get_mapped}
-use Rattle.search_core.proofs.OpenGaps.{open_ascending}
+use Rattle.search_core.proofs.Places.{Each}
+use Rattle.tree_laws.proofs.OpenGaps.{open_ascending, few_open}
 use Rattle.search_core.proofs.Changes.{HasNode}
 use Rattle.search_core.proofs.Kept.{Facts}
 use Rattle.search_core.proofs.Working.{kids_less, open_undecided}
 use Rattle.fence_place.proofs.PassedGaps.{small_set}
 use Rattle.fence_place.specs.Recorded.{AreNumbersOf, IsRecorded, AreRecorded}
-use Rattle.fence_place.proofs.FewOpen.{few_open}
 use Rattle.fence_place.proofs.GapTreeValid.{as_many}
 
 -- no deeper than this, with numbers that a text can hold
@@ -39,7 +37,7 @@ max_le a b c h i = omega arith
 
 module _ (s : SearchState) (facts : Facts s) (runs : List (List Label)) (few : length runs < 2 ^ 64) (numbers : List ℕ) (listed : AreNumbersOf s.entries runs numbers) where
   mutual
-    pub small : (tree : Gap) (place : ℕ) (n : Node) → IsRecorded s.entries numbers tree place → HasNode s.entries place n → IsSmall (suc (undecided (region_of n))) tree
+    pub small : (tree : Gap) (place : ℕ) (n : Region) → IsRecorded s.entries numbers tree place → HasNode s.entries place n → IsSmall (suc (undecided n)) tree
     small Bound place n (e, there, closed) has = record { deep = omega arith; numbers = tt }
     small (Split number kids) place n (e, f, first, there, split, numbered, recorded) has =
         let same : e ≡ has.here = same_Some e has.here (sym there ∙ has.there) in
@@ -47,26 +45,26 @@ module _ (s : SearchState) (facts : Facts s) (runs : List (List Label)) (few : l
         let at = facts.split place e f first there split in
         let gaps = open_gaps f.passed e.node.never in
         let few_gaps = small_set s.question facts.within f at.of_question at.foreign in
-        let less = kids_less (region_of e.node) gaps (AllPairs-from_increasing gaps (open_ascending f.passed e.node.never)) (open_undecided f.passed e.node few_gaps at.passes_none) in
-        let each : AreSmall (undecided (region_of e.node)) (length (children_of (region_of e.node) gaps)) kids =
-        each_small (undecided (region_of e.node)) kids first (children_of (region_of e.node) gaps) (subst (λ count. AreRecorded s.entries numbers kids first count) (sym (as_many (region_of e.node) gaps)) recorded)
-        (λ j c here. at.kids j (search_node c) (get_mapped search_node (children_of (region_of e.node) gaps) j c here)) less in
-        let deep : gaps_depth kids ≤ undecided (region_of e.node) = each.deep in
-        let count : count_gaps kids ≡ length (children_of (region_of e.node) gaps) = each.as_many in
-        let long : length (children_of (region_of e.node) gaps) ≡ length gaps = as_many (region_of e.node) gaps in
-        let up : length gaps ≤ 64 = few_open f.passed e.node.never in
+        let less = kids_less e.node gaps (AllPairs-from_increasing gaps (open_ascending f.passed e.node.never)) (open_undecided f.passed e.node few_gaps at.passes_none) in
+        let each : AreSmall (undecided e.node) (length (children_of e.node gaps)) kids =
+        each_small (undecided e.node) kids first (children_of e.node gaps) (subst (λ count. AreRecorded s.entries numbers kids first count) (sym (as_many e.node gaps)) recorded)
+        at.kids less in
+        let deep : gaps_depth kids ≤ undecided e.node = each.deep in
+        let count : count_gaps kids ≡ length (children_of e.node gaps) = each.as_many in
+        let long : length (children_of e.node gaps) ≡ length gaps = as_many e.node gaps in
+        let up : length gaps ≤ MAX_GAPS = few_open f.passed e.node.never in
         let within : number < length runs = slice_get_within runs number f.labels ((listed place number numbered).runs_at e f first there split) in
-        subst (λ (m : Node). IsSmall (suc (undecided (region_of m))) (Split number kids)) is
+        subst (λ (m : Region). IsSmall (suc (undecided m)) (Split number kids)) is
         (record { deep = omega arith; numbers = (omega arith, omega arith, each.numbers) })
 
-    each_small : (depth : ℕ) (ts : GapTrees) (first : ℕ) (ns : List trees.Node) → AreRecorded s.entries numbers ts first (length ns) →
-        ((j : ℕ) (c : trees.Node) → slice_get ns j ≡ Some c → HasNode s.entries (first + j) (search_node c)) → Each (λ (c : trees.Node). undecided c < depth) ns → AreSmall depth (length ns) ts
+    each_small : (depth : ℕ) (ts : GapTrees) (first : ℕ) (ns : List Region) → AreRecorded s.entries numbers ts first (length ns) →
+        ((j : ℕ) (c : Region) → slice_get ns j ≡ Some c → HasNode s.entries (first + j) c) → Each (λ (c : Region). undecided c < depth) ns → AreSmall depth (length ns) ts
     each_small depth NoGap first [] recorded has less = record { deep = omega arith; as_many = refl; numbers = tt }
     each_small depth NoGap first (c ∷ cs) recorded has less = absurd recorded
     each_small depth (MoreGaps t ts) first [] recorded has less = absurd recorded
     each_small depth (MoreGaps t ts) first (c ∷ cs) recorded has less =
-        let one = small t first (search_node c) recorded.0 (subst (λ k. HasNode s.entries k (search_node c)) (omega arith) (has 0 c refl)) in
-        let others = each_small depth ts (first + 1) cs recorded.1 (λ j d here. subst (λ k. HasNode s.entries k (search_node d)) (omega arith) (has (suc j) d here)) (λ j d here. less (suc j) d here) in
+        let one = small t first c recorded.0 (subst (λ k. HasNode s.entries k c) (omega arith) (has 0 c refl)) in
+        let others = each_small depth ts (first + 1) cs recorded.1 (λ j d here. subst (λ k. HasNode s.entries k d) (omega arith) (has (suc j) d here)) (λ j d here. less (suc j) d here) in
         let low : undecided c < depth = less 0 c refl in
         let deep : gap_depth t ≤ suc (undecided c) = one.deep in
         let deeper : gaps_depth ts ≤ depth = others.deep in

@@ -5,19 +5,17 @@ use Rattle.std.specs.FinSet as set
 use Rattle.std.proofs.lemmas.Option.{same_Some}
 use Rattle.gap_sets.specs.Gaps.{SetOfGaps}
 use Rattle.gap_sets.specs.Order.{Better}
+use Rattle.gap_sets.specs.Regions.{without_gap, children_of, open_gaps}
+use Rattle.gap_sets.specs.declared.region.Region.{Region}
 use Rattle.tso_program.specs.Shown.{Question}
 use Rattle.tso_machine.specs.declared.label.Label.{Label}
 use Rattle.tso_machine.specs.Outcomes.{IsTheAnswer}
 use Rattle.cert_forest.specs.Trees.{Gap, Split, Bound, GapTrees, NoGap, MoreGaps}
-use Rattle.tree_laws.specs.GapTrees.{children_of, PassesGap, IsOpenGap, IsSplitBy, IsValidGap, AreValidGaps}
-use Rattle.tree_laws.specs.GapTrees as trees
+use Rattle.tree_laws.specs.GapTrees.{PassesGap, IsOpenGap, IsSplitBy, IsValidGap, AreValidGaps}
 use Rattle.cover_solver.specs.Facts.{Foreign}
-use Rattle.search_core.specs.declared.node.Node.{Node}
 use Rattle.search_core.specs.declared.entry.Entry.{Entry}
-use Rattle.search_core.specs.Nodes.{region_of, search_node, open_gaps}
 use Rattle.search_core.specs.States.{SearchState}
-use Rattle.search_core.proofs.Places.{get_mapped}
-use Rattle.search_core.proofs.OpenGaps.{open_exact, open_ascending}
+use Rattle.tree_laws.proofs.OpenGaps.{open_exact, open_ascending}
 use Rattle.search_core.proofs.Changes.{HasNode, IsSplitAt}
 use Rattle.search_core.proofs.Kept.{Facts}
 use Rattle.fence_place.proofs.PassedGaps.{small_set}
@@ -25,14 +23,14 @@ use Rattle.fence_place.specs.Recorded.{AreNumbersOf, IsRecorded, AreRecorded}
 use Rattle.fence_place.proofs.Bounds.{bounded}
 
 -- as many children as gaps
-pub as_many : (n : trees.Node) (gaps : List ℕ) → length (children_of n gaps) ≡ length gaps
+pub as_many : (n : Region) (gaps : List ℕ) → length (children_of n gaps) ≡ length gaps
 as_many n [] = refl
-as_many n (gap ∷ gaps) = let e = as_many (record n { never = set.insert n.never gap }) gaps in omega arith
+as_many n (gap ∷ gaps) = let e = as_many (without_gap n gap) gaps in omega arith
 
 module _ (s : SearchState) (facts : Facts s) (answer : SetOfGaps) (is_answer : IsTheAnswer s.question s.costs answer) (runs : List (List Label)) (numbers : List ℕ) (listed : AreNumbersOf s.entries runs numbers) where
   -- the gaps of a split are those that the run passes and that the sets may have
-  split_by : (n : Node) (place first number : ℕ) (f : Foreign) → IsSplitAt s.question s.entries place n f first → slice_get runs number ≡ Some f.labels →
-      IsSplitBy s.question.program runs (region_of n) number (open_gaps f.passed n.never)
+  split_by : (n : Region) (place first number : ℕ) (f : Foreign) → IsSplitAt s.question s.entries place n f first → slice_get runs number ≡ Some f.labels →
+      IsSplitBy s.question.program runs n number (open_gaps f.passed n.never)
   split_by n place first number f at is =
       let small = small_set s.question facts.within f at.of_question at.foreign in
       record {
@@ -52,34 +50,33 @@ module _ (s : SearchState) (facts : Facts s) (answer : SetOfGaps) (is_answer : I
       to_run : (gap : ℕ) → PassesGap f.question.program f.labels gap → PassesGap s.question.program f.labels gap
       to_run gap h = subst (λ (q : Question). PassesGap q.program f.labels gap) at.of_question h
 
-  abbrev Valid : Gap → Node → Type 0
-  Valid tree n = IsValidGap s.question.program s.costs answer runs tree (region_of n)
+  abbrev Valid : Gap → Region → Type 0
+  Valid tree n = IsValidGap s.question.program s.costs answer runs tree n
 
   mutual
-    pub valid : (tree : Gap) (place : ℕ) (n : Node) → IsRecorded s.entries numbers tree place → HasNode s.entries place n → Valid tree n
+    pub valid : (tree : Gap) (place : ℕ) (n : Region) → IsRecorded s.entries numbers tree place → HasNode s.entries place n → Valid tree n
     valid Bound place n (e, there, closed) has =
         let same : e ≡ has.here = same_Some e has.here (sym there ∙ has.there) in
         let is : e.node ≡ n = ap (λ (x : Entry). x.node) same ∙ has.is_node in
-        subst (λ (m : Node). ¬ Better s.costs m.must answer) is
+        subst (λ (m : Region). ¬ Better s.costs m.must answer) is
         (bounded s.question s.costs e.node.must answer facts.within (facts.of_program place e there) is_answer (facts.closed place e there closed))
     valid (Split number kids) place n (e, f, first, there, split, numbered, recorded) has =
         let same : e ≡ has.here = same_Some e has.here (sym there ∙ has.there) in
         let is : e.node ≡ n = ap (λ (x : Entry). x.node) same ∙ has.is_node in
         let at = facts.split place e f first there split in
         let gaps = open_gaps f.passed e.node.never in
-        subst (λ (m : Node). Valid (Split number kids) m) is (
+        subst (λ (m : Region). Valid (Split number kids) m) is (
           gaps,
           split_by e.node place first number f at ((listed place number numbered).runs_at e f first there split),
-          each_valid kids first (children_of (region_of e.node) gaps) (subst (λ count. AreRecorded s.entries numbers kids first count) (sym (as_many (region_of e.node) gaps)) recorded)
-              (λ j c here. at.kids j (search_node c) (get_mapped search_node (children_of (region_of e.node) gaps) j c here)),
+          each_valid kids first (children_of e.node gaps) (subst (λ count. AreRecorded s.entries numbers kids first count) (sym (as_many e.node gaps)) recorded) at.kids,
         )
 
-    each_valid : (ts : GapTrees) (first : ℕ) (ns : List trees.Node) → AreRecorded s.entries numbers ts first (length ns) →
-        ((j : ℕ) (c : trees.Node) → slice_get ns j ≡ Some c → HasNode s.entries (first + j) (search_node c)) → AreValidGaps s.question.program s.costs answer runs ts ns
+    each_valid : (ts : GapTrees) (first : ℕ) (ns : List Region) → AreRecorded s.entries numbers ts first (length ns) →
+        ((j : ℕ) (c : Region) → slice_get ns j ≡ Some c → HasNode s.entries (first + j) c) → AreValidGaps s.question.program s.costs answer runs ts ns
     each_valid NoGap first [] recorded has = tt
     each_valid NoGap first (c ∷ cs) recorded has = absurd recorded
     each_valid (MoreGaps t ts) first [] recorded has = absurd recorded
     each_valid (MoreGaps t ts) first (c ∷ cs) recorded has = (
-      valid t first (search_node c) recorded.0 (subst (λ k. HasNode s.entries k (search_node c)) (omega arith) (has 0 c refl)),
-      each_valid ts (first + 1) cs recorded.1 (λ j d here. subst (λ k. HasNode s.entries k (search_node d)) (omega arith) (has (suc j) d here)),
+      valid t first c recorded.0 (subst (λ k. HasNode s.entries k c) (omega arith) (has 0 c refl)),
+      each_valid ts (first + 1) cs recorded.1 (λ j d here. subst (λ k. HasNode s.entries k d) (omega arith) (has (suc j) d here)),
     )

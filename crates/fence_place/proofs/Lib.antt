@@ -1,4 +1,3 @@
-pub mod FewOpen
 pub mod PassedGaps
 pub mod Bounds
 pub mod GapTreeValid

@@ -2,14 +2,14 @@
 use Rattle.std.proofs.Common.{◌≡◌, ◌≢◌, ◌⊎◌, Contains, ℕ, zero, suc, ◌+◌, ◌<◌, true, List, [], ◌∷◌, ◌++◌, Some, length, get_or, take, refl, sym, ap, ◌∙◌, subst, inl, inr, arith}
 use Rattle.std.specs.Prelude.{slice_get}
 use Rattle.std.proofs.lemmas.Option.{same_Some, none-some, slice_get_within}
-use Rattle.std.proofs.lemmas.List.{length-map, map-append, take_more}
+use Rattle.std.proofs.lemmas.List.{map-append, take_more}
 use Rattle.std.proofs.lemmas.List.Elements.{Contains-get_or, Contains-push_cases}
 use Rattle.std.proofs.lemmas.List.Quantifiers.{all_pairs_push}
+use Rattle.gap_sets.specs.Regions.{open_gaps}
 use Rattle.tso_machine.specs.declared.label.Label.{Label}
 use Rattle.std.specs.Global.{Vec}
 use Rattle.cert_forest.specs.Certificates.{labels_of}
 use Rattle.cert_forest.specs.Trees.{Gap, gap_trees_of}
-use Rattle.tree_laws.specs.GapTrees.{children_of}
 use Rattle.cover_solver.specs.Facts.{Foreign}
 use Rattle.search_core.specs.declared.entry.Entry.{Entry}
 use Rattle.search_core.specs.declared.entry.Status.{Status}
@@ -17,7 +17,7 @@ use Rattle.search_core.specs.declared.entry.Status.TheVariants as status
 use Rattle.search_core.specs.declared.finished.Event.{Event}
 use Rattle.search_core.specs.declared.finished.Event.TheVariants as event
 use Rattle.search_core.specs.declared.finished.Settled.{Settled}
-use Rattle.search_core.specs.Nodes.{region_of, search_node, open_gaps, children}
+use Rattle.search_core.specs.Children.{children}
 use Rattle.search_core.specs.Entries.{is_closed_status}
 use Rattle.search_core.specs.Records.{Outcome, finished_state, IsOutcome, IsEventOf, IsSettledAs, IsFirstChild}
 use Rattle.search_core.proofs.Places.{get_longer, get_behind, get_mapped}
@@ -64,8 +64,7 @@ pub kids_there : (o : Outcome) → IsOutcome o → (place first : ℕ) (e : Entr
     (place < first) × ((i : ℕ) → i < length (open_gaps f.passed e.node.never) → first + i < length o.entries)
 kids_there o is place first e f there split =
     let at = (facts_of (finished_state o) is.reached).split place e f first there split in
-    let long : length (children e.node f.passed) ≡ length (open_gaps f.passed e.node.never) =
-    length-map (children_of (region_of e.node) (open_gaps f.passed e.node.never)) search_node ∙ as_many (region_of e.node) (open_gaps f.passed e.node.never) in (
+    let long : length (children e.node f.passed) ≡ length (open_gaps f.passed e.node.never) = as_many e.node (open_gaps f.passed e.node.never) in (
       at.later,
       λ i h. (let kid = some_there (children e.node f.passed) i (omega arith) in
           let has = at.kids i kid.0 kid.1 in slice_get_within o.entries (first + i) has.here has.there),

@@ -2,13 +2,14 @@
 use Rattle.std.proofs.Common.{◌≡◌, ℕ, zero, suc, true, false, true≢false, List, [], ◌∷◌, length, Some, refl, sym, ap, ◌∙◌, subst, inl, inr, set as set_at}
 use Rattle.std.specs.Prelude.{slice_get}
 use Rattle.std.proofs.lemmas.Option.{same_Some, none-some}
-use Rattle.search_core.specs.declared.node.Node.{Node}
+use Rattle.gap_sets.specs.Regions.{all_sets}
+use Rattle.gap_sets.specs.declared.region.Region.{Region}
 use Rattle.search_core.specs.declared.entry.Entry.{Entry}
 use Rattle.search_core.specs.declared.entry.Status.{Status}
 use Rattle.search_core.specs.declared.entry.Status.TheVariants.{Open, Held, Split, Cut, Confirmed}
-use Rattle.search_core.specs.Nodes.{children}
+use Rattle.search_core.specs.Children.{children}
 use Rattle.search_core.specs.Entries.{entry, is_live_status, is_held_status, is_open_status}
-use Rattle.search_core.specs.States.{SearchState, IsHeldAt, IsDone, HasNoOpen, IsStart, root_node}
+use Rattle.search_core.specs.States.{SearchState, IsHeldAt, IsDone, HasNoOpen, IsStart}
 use Rattle.search_core.specs.Events.{open_entries, TakesNode, IsSettling, by_cut, by_split, by_confirm}
 use Rattle.search_core.proofs.Places.{Each, each_behind, each_mapped, get_old}
 use Rattle.search_core.proofs.WorkLaws.{held_is}
@@ -29,7 +30,7 @@ dead Confirmed none held = refl
 pub all_done : (s : SearchState) → NothingIsHeld s → HasNoOpen s → IsDone s
 all_done s none no_open place e there = dead e.status (λ h. no_open place e.node (record { before = e; there = there; open_there = h; is_node = refl })) (none place e there)
 
-module _ (s mid : SearchState) (n : Node) (none : NothingIsHeld s) (t : TakesNode s mid 0 n) where
+module _ (s mid : SearchState) (n : Region) (none : NothingIsHeld s) (t : TakesNode s mid 0 n) where
   abbrev taken : Entry
   taken = entry n 0 Held
 
@@ -37,7 +38,7 @@ module _ (s mid : SearchState) (n : Node) (none : NothingIsHeld s) (t : TakesNod
   mid_entries = ap (λ (x : SearchState). x.entries) t.is_after
 
   -- what is held stands where the taken node stands
-  only_there : (place : ℕ) (m : Node) → IsHeldAt mid.entries 0 place m → place ≡ t.place
+  only_there : (place : ℕ) (m : Region) → IsHeldAt mid.entries 0 place m → place ≡ t.place
   only_there place m h =
       elim (get_old s.entries t.place place taken h.before (ap (λ es. slice_get es place) (sym mid_entries) ∙ h.there)) [
         | inl here ↦ here.0
@@ -45,7 +46,7 @@ module _ (s mid : SearchState) (n : Node) (none : NothingIsHeld s) (t : TakesNod
       ]
 
   -- after a change of the held node
-  module _ (place : ℕ) (m : Node) (held : IsHeldAt mid.entries 0 place m) (x : Entry) (not_held : NotHeld x) where
+  module _ (place : ℕ) (m : Region) (held : IsHeldAt mid.entries 0 place m) (x : Entry) (not_held : NotHeld x) where
     none_in : Each NotHeld (set_at mid.entries place x)
     none_in j e at = elim (get_old mid.entries place j x e at) [
       | inl here ↦ subst NotHeld (sym here.1) not_held
@@ -55,7 +56,7 @@ module _ (s mid : SearchState) (n : Node) (none : NothingIsHeld s) (t : TakesNod
       ]
     ]
 
-  fresh : (ns : List Node) → Each NotHeld (open_entries 0 ns)
+  fresh : (ns : List Region) → Each NotHeld (open_entries 0 ns)
   fresh ns = each_mapped (λ k. Unit {0}) NotHeld (λ k. entry k 0 Open) (λ k h. refl) ns (λ k m h. tt)
 
   same_entries : (after : SearchState) (es : List Entry) → after.entries ≡ es → Each NotHeld es → NothingIsHeld after
@@ -73,6 +74,6 @@ module _ (s mid : SearchState) (n : Node) (none : NothingIsHeld s) (t : TakesNod
 pub start_unheld : (s : SearchState) → IsStart s → NothingIsHeld s
 start_unheld s is place e at = only place e (ap (λ es. slice_get es place) (sym is.only_root) ∙ at)
   where
-    only : (k : ℕ) (x : Entry) → slice_get (entry root_node 0 Open ∷ []) k ≡ Some x → is_held_status x.status ≡ false
-    only zero x h = ap (λ (y : Entry). is_held_status y.status) (sym (same_Some (entry root_node 0 Open) x h))
+    only : (k : ℕ) (x : Entry) → slice_get (entry all_sets 0 Open ∷ []) k ≡ Some x → is_held_status x.status ≡ false
+    only zero x h = ap (λ (y : Entry). is_held_status y.status) (sym (same_Some (entry all_sets 0 Open) x h))
     only (suc k) x h = absurd (none-some x h)

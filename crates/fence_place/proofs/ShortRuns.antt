@@ -1,4 +1,4 @@
--- A run of a program within the limits has at most 1,024 labels, and each of them is of a thread that is there.
+-- A run of a program within the limits has no more labels than a text can hold, and each of them is of a thread that is there.
 use Rattle.std.proofs.Common.{◌≡◌, ℕ, ◌+◌, ◌*◌, ◌<◌, ◌≤◌, List, [], ◌∷◌, ◌++◌, Option, Some, None, option_and_then, length, refl, sym, ap, ◌∙◌, subst, inl, inr, arith}
 use Rattle.std.specs.List.{AllByRecursion}
 use Rattle.std.proofs.lemmas.Bool.{cases_lt}
@@ -6,6 +6,7 @@ use Rattle.std.proofs.lemmas.Option.{same_Some}
 use Rattle.tso_program.specs.declared.listing.Listing.{Listing}
 use Rattle.tso_program.specs.declared.outcome.Outcome.{Outcome}
 use Rattle.tso_program.specs.declared.action.Action.TheVariants.{Stop}
+use Rattle.tso_program.specs.declared.limits.TheConstants.{MAX_THREADS, MAX_INSTRUCTIONS}
 use Rattle.tso_program.specs.Fences.{Gaps}
 use Rattle.tso_program.specs.Listings.{action}
 use Rattle.tso_program.specs.Limits.{IsWithinLimits}
@@ -73,7 +74,7 @@ module _ (p : Listing) where
       there : (w : _) (ws : List _) → s.buffers t ≡ w ∷ ws → t < length p.threads
       there w ws b = elim (cases_lt t (length p.threads)) [ inl low ↦ low | inr high ↦ (let none : [] ≡ w ∷ ws = sym (idle t (omega arith)) ∙ b in absurd cc) ]
 
-  module _ (few : length p.threads ≤ 8) where
+  module _ (few : length p.threads ≤ MAX_THREADS) where
     abbrev IsNamed : State → Label → Type 0
     IsNamed z l = IsLabel l × Idle z
 
@@ -97,6 +98,6 @@ module _ (p : Listing) where
 
 pub short_run : (p : Listing) (mode : Mode) (labels : List Label) (o : Outcome) → IsWithinLimits p.threads p.memory → IsRun p mode labels o → limits.IsWrittenRun labels
 short_run p mode labels o within is =
-    let few : length p.threads ≤ 8 = within.shared.few_threads in
-    let long : length labels ≤ length p.threads * (64 + 64) = every_run_is_short p mode labels o 64 within.shared.forward_jumps within.shared.short_threads is in
+    let few : length p.threads ≤ MAX_THREADS = within.shared.few_threads in
+    let long : length labels ≤ length p.threads * (MAX_INSTRUCTIONS + MAX_INSTRUCTIONS) = every_run_is_short p mode labels o MAX_INSTRUCTIONS within.shared.forward_jumps within.shared.short_threads is in
     (omega arith, named p few mode labels (start p) is.0 (λ t h. refl) is.1)

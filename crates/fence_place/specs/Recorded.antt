@@ -1,6 +1,7 @@
 -- Gap trees of the record of a search.
 use Rattle.std.specs.Prelude.{◌≡◌, ◌≢◌, ℕ, zero, suc, ◌+◌, true, List, [], ◌∷◌, ◌++◌, Some, slice_get, length, Contains}
 use Rattle.std.specs.List.{AllPairs}
+use Rattle.gap_sets.specs.Regions.{open_gaps}
 use Rattle.tso_machine.specs.declared.label.Label.{Label}
 use Rattle.cert_forest.specs.Trees.{Gap, Split, Bound, GapTrees, NoGap, MoreGaps}
 use Rattle.cover_solver.specs.Facts.{Foreign}
@@ -8,7 +9,6 @@ use Rattle.search_core.specs.declared.entry.Entry.{Entry}
 use Rattle.search_core.specs.declared.entry.Status.TheVariants as status
 use Rattle.search_core.specs.declared.finished.Event.{Event}
 use Rattle.search_core.specs.declared.finished.Event.TheVariants as event
-use Rattle.search_core.specs.Nodes.{open_gaps}
 use Rattle.search_core.specs.Entries.{is_closed}
 
 -- the run of the split node at this place has this number

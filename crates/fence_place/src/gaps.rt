@@ -1,6 +1,6 @@
 //! Counting the gaps at which a split opens nodes.
 ghost use Rattle.std.specs.Prelude.{◌≡◌, length};
-ghost use Rattle.search_core.specs.Nodes.{open_gaps};
+ghost use Rattle.gap_sets.specs.Regions.{open_gaps};
 
 use gap_sets::GapSet;
 

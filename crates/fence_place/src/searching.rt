@@ -18,8 +18,8 @@ ghost use Rattle.fence_place.specs.Searches.{AreOf, NothingIsHeld};
 use crate::PlaceFault;
 use crate::gaps::count_open;
 use cover_solver::{ForeignRun, Oracle, SeqTable, SolveFault, Verdict};
-use gap_sets::Costs;
-use search_core::{Finished, Node, Reason, SearchTree, TreeFault, settling_lessens_the_work};
+use gap_sets::{Costs, Region};
+use search_core::{Finished, Reason, SearchTree, TreeFault, settling_lessens_the_work};
 use std::alloc::Global;
 
 /// Searches until no node is left.
@@ -86,7 +86,7 @@ fn settle<O: Oracle>(
     tree: &mut SearchTree,
     known: &mut Vec<ForeignRun>,
     oracle: &O,
-    node: &Node,
+    node: &Region,
 ) -> Result<(), PlaceFault>
     requires of_question { O.question oracle.now ≡ tree.old.question }
     requires seats { 0 < tree.old.seats }
@@ -109,7 +109,7 @@ fn settle_anew<O: Oracle>(
     tree: &mut SearchTree,
     known: &mut Vec<ForeignRun>,
     oracle: &O,
-    node: &Node,
+    node: &Region,
 ) -> Result<(), PlaceFault>
     requires of_question { O.question oracle.now ≡ tree.old.question }
     requires seats { 0 < tree.old.seats }
@@ -132,7 +132,7 @@ fn settle_by_oracle<O: Oracle>(
     tree: &mut SearchTree,
     known: &mut Vec<ForeignRun>,
     oracle: &O,
-    node: &Node,
+    node: &Region,
 ) -> Result<(), PlaceFault>
     requires of_question { O.question oracle.now ≡ tree.old.question }
     requires seats { 0 < tree.old.seats }
@@ -160,7 +160,7 @@ fn settle_by_oracle<O: Oracle>(
 }
 
 /// Splits the node that the seat holds by a run that passes no gap which its sets must have.
-fn split(tree: &mut SearchTree, run: &ForeignRun, node: &Node) -> Result<(), PlaceFault>
+fn split(tree: &mut SearchTree, run: &ForeignRun, node: &Region) -> Result<(), PlaceFault>
     requires of_question { run.now.question ≡ tree.old.question }
     requires seats { 0 < tree.old.seats }
     requires holds { HoldsOnly tree.old 0 node.now }
@@ -185,7 +185,7 @@ fn of_split(_fault: TreeFault) -> PlaceFault
 
 /// Of the known runs that pass no gap which the node's sets must have, the place of one that opens the
 /// fewest nodes.
-fn known_run(known: &[ForeignRun], node: &Node) -> Option<usize>
+fn known_run(known: &[ForeignRun], node: &Region) -> Option<usize>
     ensures { IfSome result (λ place. (run : Foreign) × (slice_get known.now place ≡ Some run) × PassesNoneOf node.now.must run) }
 {
     let mut best = None;
@@ -201,7 +201,7 @@ fn known_run(known: &[ForeignRun], node: &Node) -> Option<usize>
 }
 
 /// Whether the run passes no gap which the node's sets must have.
-fn may_split(run: &ForeignRun, node: &Node) -> bool
+fn may_split(run: &ForeignRun, node: &Region) -> bool
     ensures { IsTrue result → PassesNoneOf node.now.must run.now }
 {
     !run.passed().meets(&node.must)

@@ -7,6 +7,8 @@ use Rattle.std.proofs.lemmas.Bool.Decides.{nat_tests}
 use Rattle.std.proofs.lemmas.List.Sums.{fails_before_first, prefix_len_is}
 use Rattle.gap_sets.specs.declared.costs.CostFault.TheVariants.{Zero, TooLarge, TooMany}
 use Rattle.gap_sets.specs.CostLists.{IsCostList, first_free, first_too_large, first_cost_fault, CostLimitsAreTheRefusals}
+use Rattle.gap_sets.specs.declared.gap_set.TheConstants.{MAX_GAPS}
+use Rattle.gap_sets.specs.declared.costs.TheConstants.{MAX_COST}
 
 -- where no place below the end is found, the place is the end
 past_the_end : (place len : ℕ) → cond (nat_lt place len) (Some place) None ≡ None → len ≤ place
@@ -29,20 +31,20 @@ no_fault false (Some gap) too_large e = cc
 no_fault false None (Some gap) e = cc
 no_fault false None None e = (refl, refl, refl)
 
-few : (n : ℕ) → nat_lt 64 n ≡ false → n ≤ 64
+few : (n : ℕ) → nat_lt MAX_GAPS n ≡ false → n ≤ MAX_GAPS
 few n h = grind (arith, nat_tests)
 
 -- what neither test finds is within the limits
-in_range : (cost : ℕ) → (cost == 0) ≡ false → nat_lt 1000000 cost ≡ false → (1 ≤ cost) × (cost ≤ 1000000)
+in_range : (cost : ℕ) → (cost == 0) ≡ false → nat_lt MAX_COST cost ≡ false → (1 ≤ cost) × (cost ≤ MAX_COST)
 in_range cost some small = (grind (arith, nat_tests), grind (arith, nat_tests))
 
 -- the list is within the limits
 pub IsCostList-from_no_fault : (costs : List ℕ) → first_cost_fault costs ≡ None → IsCostList costs
 IsCostList-from_no_fault costs none =
-    let parts = no_fault (nat_lt 64 (length costs)) (first_free costs) (first_too_large costs) none in
+    let parts = no_fault (nat_lt MAX_GAPS (length costs)) (first_free costs) (first_too_large costs) none in
     record {
       few = few (length costs) parts.0;
-      each = λ k d h. in_range (get_or costs k d) (none_passes (λ cost. cost == 0) costs k d parts.1 h) (none_passes (λ cost. nat_lt 1000000 cost) costs k d parts.2 h);
+      each = λ k d h. in_range (get_or costs k d) (none_passes (λ cost. cost == 0) costs k d parts.1 h) (none_passes (λ cost. nat_lt MAX_COST cost) costs k d parts.2 h);
     }
 
 not_less : (n : ℕ) → nat_lt n n ≡ false
@@ -54,20 +56,20 @@ none_found p xs fail =
     let n : position_or_len p xs ≡ length xs = prefix_len_is (λ x. not (p x)) xs (length xs) 0 (omega arith) (λ k h. ap not (fail k h)) (λ h. absurd (omega arith)) in
     rw (n, not_less (length xs)) refl
 
-pub not_free : (cost : ℕ) → (1 ≤ cost) × (cost ≤ 1000000) → (cost == 0) ≡ false
+pub not_free : (cost : ℕ) → (1 ≤ cost) × (cost ≤ MAX_COST) → (cost == 0) ≡ false
 not_free cost within = let low = within.0 in grind (arith, nat_tests)
 
-pub not_too_large : (cost : ℕ) → (1 ≤ cost) × (cost ≤ 1000000) → nat_lt 1000000 cost ≡ false
+pub not_too_large : (cost : ℕ) → (1 ≤ cost) × (cost ≤ MAX_COST) → nat_lt MAX_COST cost ≡ false
 not_too_large cost within = let high = within.1 in grind (arith, nat_tests)
 
-pub not_too_many : (n : ℕ) → n ≤ 64 → nat_lt 64 n ≡ false
+pub not_too_many : (n : ℕ) → n ≤ MAX_GAPS → nat_lt MAX_GAPS n ≡ false
 not_too_many n h = grind (arith, nat_tests)
 
 -- a list within the limits has no fault
 pub no_fault-from_IsCostList : (costs : List ℕ) → IsCostList costs → first_cost_fault costs ≡ None
 no_fault-from_IsCostList costs within =
     let free : first_free costs ≡ None = none_found (λ c. c == 0) costs (λ k lt. not_free (get_or costs k 0) (within.each k 0 lt)) in
-    let large : first_too_large costs ≡ None = none_found (λ c. nat_lt 1000000 c) costs (λ k lt. not_too_large (get_or costs k 0) (within.each k 0 lt)) in
+    let large : first_too_large costs ≡ None = none_found (λ c. nat_lt MAX_COST c) costs (λ k lt. not_too_large (get_or costs k 0) (within.each k 0 lt)) in
     rw (not_too_many (length costs) within.few, free, large) refl
 
 pub limits_are_the_refusals : CostLimitsAreTheRefusals

@@ -11,6 +11,7 @@ use native.Mathlib.Numerals.{unary_clauses}
 use lib.Count.{ones_step}
 use Rattle.gap_sets.specs.Bits.{has_bit, list_of, gaps_of_bits}
 use Rattle.gap_sets.specs.BitsLaws.{any-below}
+use Rattle.gap_sets.specs.declared.gap_set.TheConstants.{MAX_GAPS}
 
 -- a number that is not there yet makes the set larger by one
 one_more : (t : Bool) (a : ℕ) (rest : List ℕ) → set.contains (set.from_list {R = nat_cmp} rest) a ≡ false → set.len (set.from_list {R = nat_cmp} rest) ≡ length rest → set.len (set.from_list {R = nat_cmp} (cond t (a ∷ rest) rest)) ≡ length (cond t (a ∷ rest) rest)
@@ -55,6 +56,6 @@ ones-members (suc k) n h =
     ∙ sym (length-cond (has_bit n 0) _ _)
 
 -- as many bits are 1 as gaps are in the set
-pub len-gaps_of : (bits : ℕ) → bits < 2 ^ 64 → count_ones bits ≡ set.len (gaps_of_bits bits)
+pub len-gaps_of : (bits : ℕ) → bits < 2 ^ MAX_GAPS → count_ones bits ≡ set.len (gaps_of_bits bits)
 unfolding gaps_of_bits list_of
-len-gaps_of bits h = ones-members 64 bits h ∙ sym (len-from_list (has_bit bits) 0 64)
+len-gaps_of bits h = ones-members MAX_GAPS bits h ∙ sym (len-from_list (has_bit bits) 0 MAX_GAPS)

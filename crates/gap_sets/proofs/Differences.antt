@@ -1,6 +1,6 @@
 -- The least gap that is in exactly one of two sets is the lowest bit in which their words differ.
 use Rattle.std.proofs.Common.{◌≡◌, ◌≢◌, ℕ, ◌+◌, ◌%◌, ◌^◌, ◌<◌, ◌==◌, inl, inr, false, sym, ap, ◌∙◌, arith, eqb-true, eq-eqb}
-use Rattle.std.specs.Int.{bit_at, w64, trailing_zeros}
+use Rattle.std.specs.Int.{bit_at, w128, trailing_zeros}
 use Rattle.std.specs.Int.RustNames.{bit_xor}
 use Rattle.std.proofs.lemmas.Bool.{cases_lt}
 use Rattle.std.proofs.lemmas.Bool.Decides.{nat_tests}
@@ -10,6 +10,7 @@ use Rattle.gap_sets.specs.Bits.{gaps_of_bits}
 use Rattle.gap_sets.proofs.WordSets.{contains-word}
 use Rattle.gap_sets.specs.Gaps.{SetOfGaps}
 use Rattle.gap_sets.specs.Order.{HasLeastDifference}
+use Rattle.gap_sets.specs.declared.gap_set.TheConstants.{MAX_GAPS}
 
 -- the words differ at this bit and at none below
 pub record DiffersFirstAt (a b place : ℕ) : Type 0 where
@@ -24,14 +25,14 @@ odd_sum x y h i e = omega arith
 even_sum : (x y : ℕ) → x < 2 → y < 2 → (x + y) % 2 ≡ 0 → x ≡ y
 even_sum x y h i e = omega arith
 
--- the lowest bit of the symmetric difference is below 64
-pub lowest_bit-lt : (a b : ℕ) → a < 2 ^ 64 → b < 2 ^ 64 → bit_xor a b ≢ 0 → trailing_zeros w64 (bit_xor a b) < 64
-lowest_bit-lt a b small_a small_b some = (bit_at-trailing_zeros w64 (bit_xor a b) (omega arith) (xor_lt 64 a b small_a small_b)).0
+-- the lowest bit of the symmetric difference is below MAX_GAPS
+pub lowest_bit-lt : (a b : ℕ) → a < 2 ^ MAX_GAPS → b < 2 ^ MAX_GAPS → bit_xor a b ≢ 0 → trailing_zeros w128 (bit_xor a b) < MAX_GAPS
+lowest_bit-lt a b small_a small_b some = (bit_at-trailing_zeros w128 (bit_xor a b) (omega arith) (xor_lt MAX_GAPS a b small_a small_b)).0
 
 -- the lowest bit of the symmetric difference
-pub differs_at_lowest : (a b : ℕ) → a < 2 ^ 64 → b < 2 ^ 64 → bit_xor a b ≢ 0 → DiffersFirstAt a b (trailing_zeros w64 (bit_xor a b))
+pub differs_at_lowest : (a b : ℕ) → a < 2 ^ MAX_GAPS → b < 2 ^ MAX_GAPS → bit_xor a b ≢ 0 → DiffersFirstAt a b (trailing_zeros w128 (bit_xor a b))
 differs_at_lowest a b small_a small_b some =
-    let found = bit_at-trailing_zeros w64 (bit_xor a b) (omega arith) (xor_lt 64 a b small_a small_b) in
+    let found = bit_at-trailing_zeros w128 (bit_xor a b) (omega arith) (xor_lt MAX_GAPS a b small_a small_b) in
     record {
       differs = odd_sum _ _ (bit_at-lt a _) (bit_at-lt b _) (sym (bit_at_xor a b _) ∙ found.1);
       alike = λ k h. even_sum _ _ (bit_at-lt a k) (bit_at-lt b k) (sym (bit_at_xor a b k) ∙ found.2 k h);
@@ -49,7 +50,7 @@ bit_is_zero x h e = grind (arith, nat_tests)
 same_bits : (x y : ℕ) → x < 2 → y < 2 → (x == 1) ≡ (y == 1) → x ≡ y
 same_bits x y h i e = grind (arith, nat_tests)
 
-module _ (a b : ℕ) (s t : SetOfGaps) (a_is : gaps_of_bits a ≡ s) (b_is : gaps_of_bits b ≡ t) (small_a : a < 2 ^ 64) (small_b : b < 2 ^ 64) where
+module _ (a b : ℕ) (s t : SetOfGaps) (a_is : gaps_of_bits a ≡ s) (b_is : gaps_of_bits b ≡ t) (small_a : a < 2 ^ MAX_GAPS) (small_b : b < 2 ^ MAX_GAPS) where
   -- where the first word has it, its set has the least gap of the difference
   pub least_from_bit : (place : ℕ) → DiffersFirstAt a b place → bit_at a place ≡ 1 → HasLeastDifference s t
   least_from_bit place d one =

@@ -7,11 +7,12 @@ use Rattle.gap_sets.proofs.Ranges.{filter_alike}
 use Rattle.gap_sets.specs.Gaps.{numbers_of_set}
 use Rattle.gap_sets.specs.Order.{total, cost_of, HasLeastDifference}
 use Rattle.gap_sets.specs.Laws.{ThreeGapsOfCostOne, these, ones}
+use Rattle.gap_sets.specs.declared.gap_set.TheConstants.{MAX_GAPS}
 
 -- what a listed set costs, by its list
-pub total-these : (costs gaps : List ℕ) → total costs (these gaps) ≡ sum_by (cost_of costs) (filter (λ q. list_any (λ y. nat_eq y q) gaps) (range_with_len 0 64))
+pub total-these : (costs gaps : List ℕ) → total costs (these gaps) ≡ sum_by (cost_of costs) (filter (λ q. list_any (λ y. nat_eq y q) gaps) (range_with_len 0 MAX_GAPS))
 unfolding total numbers_of_set
-total-these costs gaps = ap (sum_by (cost_of costs)) (filter_alike _ _ 0 64 (λ q _ _. set.contains-from_list_nat gaps q))
+total-these costs gaps = ap (sum_by (cost_of costs)) (filter_alike _ _ 0 MAX_GAPS (λ q _ _. set.contains-from_list_nat gaps q))
 
 -- the first number in one list alone
 listed : (xs ys : List ℕ) (gap : ℕ) → list_any (λ y. nat_eq y gap) xs ≡ true → list_any (λ y. nat_eq y gap) ys ≡ false

@@ -2,7 +2,7 @@
 use Rattle.std.proofs.Common.{◌≡◌, ◌≢◌, ℕ, zero, suc, ◌+◌, ◌*◌, ◌%◌, ◌^◌, ◌<◌, ◌≤◌, ◌==◌, inl, inr, Bool, true, false, List, [], ◌∷◌, cond, length, get_or, refl, sym, ap, ◌∙◌, arith}
 use Rattle.std.specs.List.{filter, range_with_len}
 use Rattle.std.specs.List.Sorted.{IsStrictlyIncreasing}
-use Rattle.std.specs.Int.{bit_at, bit_not, w64, trailing_zeros}
+use Rattle.std.specs.Int.{bit_at, bit_not, w128, trailing_zeros}
 use Rattle.std.specs.Int.RustNames.{bit_and}
 use Rattle.std.proofs.lemmas.Bool.{cases_lt}
 use Rattle.std.proofs.lemmas.Nat.Bits.{bit_at-zero, bit_at-trailing_zeros, bit_at_clear_same, bit_at_clear_other}
@@ -11,6 +11,7 @@ use Rattle.gap_sets.specs.Bits.{has_bit, list_of, gaps_of_bits}
 use Rattle.gap_sets.proofs.WordSets.{contains-word}
 use Rattle.gap_sets.specs.Gaps.{SetOfGaps, numbers_of_set}
 use Rattle.gap_sets.proofs.Ranges.{filter_alike}
+use Rattle.gap_sets.specs.declared.gap_set.TheConstants.{MAX_GAPS}
 
 -- where no number passes the list is empty
 filter_none : (p : ℕ → Bool) (a n : ℕ) → ((q : ℕ) → p q ≡ false) → filter p (range_with_len a n) ≡ []
@@ -20,7 +21,7 @@ filter_none p a (suc n) each = rw (each a) (filter_none p (a + 1) n each)
 -- the word 0 has no bit
 pub list_of-zero : list_of 0 ≡ []
 unfolding list_of
-list_of-zero = filter_none (has_bit 0) 0 64 (λ q. let none : bit_at 0 q ≡ 0 = bit_at-zero q in rw none refl)
+list_of-zero = filter_none (has_bit 0) 0 MAX_GAPS (λ q. let none : bit_at 0 q ≡ 0 = bit_at-zero q in rw none refl)
 
 -- the first number that passes comes first, and the others follow
 filter_first : (p r : ℕ → Bool) (a n t : ℕ) → a ≤ t → t < a + n → ((q : ℕ) → q < t → p q ≡ false) → p t ≡ true → r t ≡ false → ((q : ℕ) → q < a + n → q ≢ t → p q ≡ r q) → filter p (range_with_len a n) ≡ t ∷ filter r (range_with_len a n)
@@ -39,16 +40,16 @@ filter_first p r a (suc n) t low high before here gone others =
     ]
 
 -- the lowest bit comes first, and then the bits of the word without it
-pub list_of-first : (bits : ℕ) → bits ≢ 0 → bits < 2 ^ 64 → list_of bits ≡ trailing_zeros w64 bits ∷ list_of (bit_and bits (bit_not w64 (1 * 2 ^ trailing_zeros w64 bits % 2 ^ 64)))
+pub list_of-first : (bits : ℕ) → bits ≢ 0 → bits < 2 ^ MAX_GAPS → list_of bits ≡ trailing_zeros w128 bits ∷ list_of (bit_and bits (bit_not w128 (1 * 2 ^ trailing_zeros w128 bits % 2 ^ MAX_GAPS)))
 unfolding list_of
 list_of-first bits some fits =
-    let t : ℕ = trailing_zeros w64 bits in
-    let found = bit_at-trailing_zeros w64 bits (omega arith) fits in
-    filter_first (has_bit bits) (has_bit (bit_and bits (bit_not w64 (1 * 2 ^ t % 2 ^ 64)))) 0 64 t (omega arith) found.0
+    let t : ℕ = trailing_zeros w128 bits in
+    let found = bit_at-trailing_zeros w128 bits (omega arith) fits in
+    filter_first (has_bit bits) (has_bit (bit_and bits (bit_not w128 (1 * 2 ^ t % 2 ^ MAX_GAPS)))) 0 MAX_GAPS t (omega arith) found.0
     (λ q h. let none : bit_at bits q ≡ 0 = found.2 q h in rw none refl)
     (let one : bit_at bits t ≡ 1 = found.1 in rw one refl)
-    (let none : bit_at (bit_and bits (bit_not w64 (1 * 2 ^ t % 2 ^ 64))) t ≡ 0 = bit_at_clear_same w64 bits t found.0 in rw none refl)
-    (λ q h d. ap (λ b. b == 1) (sym (bit_at_clear_other w64 bits t found.0 q h d)))
+    (let none : bit_at (bit_and bits (bit_not w128 (1 * 2 ^ t % 2 ^ MAX_GAPS))) t ≡ 0 = bit_at_clear_same w128 bits t found.0 in rw none refl)
+    (λ q h d. ap (λ b. b == 1) (sym (bit_at_clear_other w128 bits t found.0 q h d)))
 
 -- the first number after one is taken or left
 first_of_two : (t : Bool) (a : ℕ) (xs : List ℕ) → (0 < length xs → a + 1 ≤ get_or xs 0 0) → 0 < length (cond t (a ∷ xs) xs) → a ≤ get_or (cond t (a ∷ xs) xs) 0 0
@@ -76,9 +77,9 @@ pub list_of-rises : (bits : ℕ) → IsStrictlyIncreasing (list_of bits)
 unfolding list_of
 list_of-rises bits k h =
     let one : k + 1 ≡ suc k = omega arith in
-    rw one (rises (has_bit bits) 0 64 k (omega arith))
+    rw one (rises (has_bit bits) 0 MAX_GAPS k (omega arith))
 
 -- they are the gaps of the word's set
-pub list_of-gaps_in : (bits : ℕ) (s : SetOfGaps) → gaps_of_bits bits ≡ s → bits < 2 ^ 64 → list_of bits ≡ numbers_of_set s
+pub list_of-gaps_in : (bits : ℕ) (s : SetOfGaps) → gaps_of_bits bits ≡ s → bits < 2 ^ MAX_GAPS → list_of bits ≡ numbers_of_set s
 unfolding list_of numbers_of_set
-list_of-gaps_in bits s is h = filter_alike (has_bit bits) (set.contains s) 0 64 (λ q _ _. sym (contains-word bits q s is h))
+list_of-gaps_in bits s is h = filter_alike (has_bit bits) (set.contains s) 0 MAX_GAPS (λ q _ _. sym (contains-word bits q s is h))

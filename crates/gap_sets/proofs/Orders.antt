@@ -7,6 +7,7 @@ use Rattle.gap_sets.proofs.Tests.{AlikeBelow, first_difference, alike_beyond}
 use Rattle.gap_sets.specs.Gaps.{SetOfGaps, IsGapSet}
 use Rattle.gap_sets.specs.Order.{total, HasLeastDifference}
 use Rattle.gap_sets.specs.Laws.{NoSetIsBetterThanItself, BetterIsTransitive, BetterIsTotal}
+use Rattle.gap_sets.specs.declared.gap_set.TheConstants.{MAX_GAPS}
 
 -- a set does not differ from itself
 differs_not : (a : SetOfGaps) → HasLeastDifference a a → ⊥
@@ -46,8 +47,8 @@ least a b g false true e f differ alike = inr (record { gap = g; in_first = f; n
 -- two sets of gaps are equal, or one of them has the least gap of the difference
 pub compared : (a b : SetOfGaps) → IsGapSet a → IsGapSet b → (a ≡ b) ⊎ (HasLeastDifference a b ⊎ HasLeastDifference b a)
 compared a b small_a small_b =
-    elim (first_difference (set.contains a) (set.contains b) 64) [
-      | inl alike ↦ inl (set.same_set nat_cmp_total set.nat_cmp-IsAntisymmetric a b (alike_beyond (set.contains a) (set.contains b) 64 alike small_a small_b))
+    elim (first_difference (set.contains a) (set.contains b) MAX_GAPS) [
+      | inl alike ↦ inl (set.same_set nat_cmp_total set.nat_cmp-IsAntisymmetric a b (alike_beyond (set.contains a) (set.contains b) MAX_GAPS alike small_a small_b))
       | inr found ↦ inr (least a b found.0 (set.contains a found.0) (set.contains b found.0) refl refl found.1 found.2)
     ]
 

@@ -8,6 +8,7 @@ use Rattle.gap_sets.proofs.Tests.{first_difference, alike_beyond}
 use Rattle.gap_sets.specs.Gaps.{SetOfGaps, IsGapSet, numbers_of_set}
 use Rattle.gap_sets.specs.Order.{total, cost_of}
 use Rattle.gap_sets.specs.Laws.{ProperSubsetIsBetter}
+use Rattle.gap_sets.specs.declared.gap_set.TheConstants.{MAX_GAPS}
 
 -- of two tests of which one passes only with the other, that differ
 left_out : (v w : Bool) → (v ≡ true → w ≡ true) → v ≢ w → (v ≡ false) × (w ≡ true)
@@ -20,8 +21,8 @@ left_out false true within differ = (refl, refl)
 missed : (a b : SetOfGaps) → IsGapSet b → ((gap : ℕ) → set.contains a gap ≡ true → set.contains b gap ≡ true) → a ≢ b
     → (gap : ℕ) × (set.contains a gap ≡ false) × (set.contains b gap ≡ true)
 missed a b small within differ =
-    elim (first_difference (set.contains a) (set.contains b) 64) [
-      | inl alike ↦ absurd (differ (set.same_set nat_cmp_total set.nat_cmp-IsAntisymmetric a b (alike_beyond (set.contains a) (set.contains b) 64 alike (λ k there. small k (within k there)) small)))
+    elim (first_difference (set.contains a) (set.contains b) MAX_GAPS) [
+      | inl alike ↦ absurd (differ (set.same_set nat_cmp_total set.nat_cmp-IsAntisymmetric a b (alike_beyond (set.contains a) (set.contains b) MAX_GAPS alike (λ k there. small k (within k there)) small)))
       | inr found ↦
           let sides = left_out _ _ (within found.0) found.1 in
           (found.0, sides.0, sides.1)
@@ -37,4 +38,4 @@ unfolding total numbers_of_set
 cheaper costs a b each small covered subset differ =
     let within : (gap : ℕ) → set.contains a gap ≡ true → set.contains b gap ≡ true = λ gap there. set.is_subset-contains nat_cmp_total a b subset gap there in
     let gap = missed a b small within differ in
-    inl (sum-lt (cost_of costs) (set.contains a) (set.contains b) 0 64 gap.0 within (omega arith) (omega (arith, small gap.0 gap.2)) gap.1 gap.2 (costs_some costs gap.0 each (covered gap.0 gap.2)))
+    inl (sum-lt (cost_of costs) (set.contains a) (set.contains b) 0 MAX_GAPS gap.0 within (omega arith) (omega (arith, small gap.0 gap.2)) gap.1 gap.2 (costs_some costs gap.0 each (covered gap.0 gap.2)))

@@ -1,5 +1,5 @@
 -- What the gaps of a set cost together at most.
-use Rattle.std.proofs.Common.{◌≡◌, ℕ, ◌+◌, ◌≤◌, inl, inr, List, [], ◌∷◌, length, get_or, sum_by, unwrap_or, ap, ◌∙◌, arith}
+use Rattle.std.proofs.Common.{◌≡◌, ℕ, ◌+◌, ◌*◌, ◌≤◌, inl, inr, List, [], ◌∷◌, length, get_or, sum_by, unwrap_or, ap, ◌∙◌, arith}
 use Rattle.std.specs.List.{range_with_len}
 use Rattle.std.specs.FinSet as set
 use Rattle.std.proofs.lemmas.Option.{slice_get_cases}
@@ -8,9 +8,11 @@ use Rattle.std.proofs.lemmas.List.FromFn.{length-range_with_len}
 use Rattle.gap_sets.specs.CostLists.{IsCostList}
 use Rattle.gap_sets.specs.Gaps.{SetOfGaps, numbers_of_set}
 use Rattle.gap_sets.specs.Order.{cost_of, total}
+use Rattle.gap_sets.specs.declared.gap_set.TheConstants.{MAX_GAPS}
+use Rattle.gap_sets.specs.declared.costs.TheConstants.{MAX_COST}
 
 -- no gap costs more than a million
-cost_of-limit : (costs : List ℕ) (gap : ℕ) → IsCostList costs → cost_of costs gap ≤ 1000000
+cost_of-limit : (costs : List ℕ) (gap : ℕ) → IsCostList costs → cost_of costs gap ≤ MAX_COST
 cost_of-limit costs gap list =
     elim (slice_get_cases costs gap).1 [
       | inl there ↦
@@ -21,20 +23,20 @@ cost_of-limit costs gap list =
       | inr past ↦ let is : cost_of costs gap ≡ 0 = ap (λ o. unwrap_or o 0) past.1 in omega arith
     ]
 
--- a set has at most 64 gaps
-length-gaps_in : (s : SetOfGaps) → length (numbers_of_set s) ≤ 64
+-- a set has at most MAX_GAPS gaps
+length-gaps_in : (s : SetOfGaps) → length (numbers_of_set s) ≤ MAX_GAPS
 unfolding numbers_of_set
 length-gaps_in s =
-    omega (arith, length-filter (set.contains s) (range_with_len 0 64), count_by-le-length (set.contains s) (range_with_len 0 64), length-range_with_len 0 64)
+    omega (arith, length-filter (set.contains s) (range_with_len 0 MAX_GAPS), count_by-le-length (set.contains s) (range_with_len 0 MAX_GAPS), length-range_with_len 0 MAX_GAPS)
 
--- at most 64 gaps of a million each
-sum-limit : (costs : List ℕ) (s : SetOfGaps) → IsCostList costs → sum_by (cost_of costs) (numbers_of_set s) ≤ 64000000
+-- at most MAX_GAPS gaps of a million each
+sum-limit : (costs : List ℕ) (s : SetOfGaps) → IsCostList costs → sum_by (cost_of costs) (numbers_of_set s) ≤ MAX_GAPS * MAX_COST
 sum-limit costs s list =
-    omega (arith, sum_by-le (cost_of costs) 1000000 (numbers_of_set s) (λ k d _. cost_of-limit costs _ list), length-gaps_in s)
+    omega (arith, sum_by-le (cost_of costs) MAX_COST (numbers_of_set s) (λ k d _. cost_of-limit costs _ list), length-gaps_in s)
 
 -- what is added up so far and the next gap's cost are within the limit
 pub next-limit : (costs : List ℕ) (s : SetOfGaps) (left rest : List ℕ) (gap sum : ℕ) → IsCostList costs
-    → sum + sum_by (cost_of costs) left ≡ sum_by (cost_of costs) (numbers_of_set s) → left ≡ gap ∷ rest → sum + cost_of costs gap ≤ 64000000
+    → sum + sum_by (cost_of costs) left ≡ sum_by (cost_of costs) (numbers_of_set s) → left ≡ gap ∷ rest → sum + cost_of costs gap ≤ MAX_GAPS * MAX_COST
 next-limit costs s left rest gap sum list so_far next =
     let parts : sum_by (cost_of costs) left ≡ cost_of costs gap + sum_by (cost_of costs) rest = ap (sum_by (cost_of costs)) next ∙ sum_by-cons (cost_of costs) gap rest in
     omega (arith, sum-limit costs s list)
@@ -45,6 +47,6 @@ unfolding total
 sum-whole costs s left sum so_far none = let parts : sum_by (cost_of costs) left ≡ 0 = ap (sum_by (cost_of costs)) none in omega arith
 
 -- the same of the total
-pub total-limit : (costs : List ℕ) (s : SetOfGaps) → IsCostList costs → total costs s ≤ 64000000
+pub total-limit : (costs : List ℕ) (s : SetOfGaps) → IsCostList costs → total costs s ≤ MAX_GAPS * MAX_COST
 unfolding total
 total-limit costs s list = sum-limit costs s list

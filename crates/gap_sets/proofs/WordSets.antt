@@ -1,6 +1,6 @@
 -- What a word's set contains, and what setting and clearing a bit does to it.
 use Rattle.std.proofs.Common.{◌≡◌, ℕ, ◌*◌, ◌%◌, ◌^◌, ◌<◌, ◌==◌, inl, inr, true, false, ◌&&◌, ◌||◌, not, refl, sym, ap, ◌∙◌, arith}
-use Rattle.std.specs.Int.{bit_at, bit_not, w64}
+use Rattle.std.specs.Int.{bit_at, bit_not, w128}
 use Rattle.std.specs.Int.RustNames.{bit_or, bit_and}
 use Rattle.std.specs.Ordering.{nat_cmp, eq_by_cmp}
 use Rattle.std.specs.Cmp.{nat_cmp_total}
@@ -13,6 +13,7 @@ use Rattle.std.proofs.lemmas.Nat.Bits.{bit_at_above, bit_at_and, bit_at_set_same
 use Rattle.gap_sets.specs.Bits.{has_bit, gaps_of_bits}
 use Rattle.gap_sets.specs.BitsLaws.{contains-gaps_of, no_bit}
 use Rattle.gap_sets.specs.Gaps.{IsGapSet}
+use Rattle.gap_sets.specs.declared.gap_set.TheConstants.{MAX_GAPS}
 
 -- sets that contain alike are equal
 same_gaps : (s t : set.FinSet nat_cmp) → ((q : ℕ) → set.contains s q ≡ set.contains t q) → s ≡ t
@@ -28,54 +29,54 @@ ties : (q g : ℕ) → eq_by_cmp nat_cmp q g ≡ (q == g)
 ties q g = grind (arith, nat_tests)
 
 -- the bits after one is set
-set_bit : (bits g q : ℕ) → g < 64 → has_bit (bit_or bits (1 * 2 ^ g % 2 ^ 64)) q ≡ ((q == g) || has_bit bits q)
+set_bit : (bits g q : ℕ) → g < MAX_GAPS → has_bit (bit_or bits (1 * 2 ^ g % 2 ^ MAX_GAPS)) q ≡ ((q == g) || has_bit bits q)
 set_bit bits g q h =
     elim (eqb_tells q g) [
-      | inl s ↦ let one : bit_at (bit_or bits (1 * 2 ^ g % 2 ^ 64)) q ≡ 1 = rw s.1 (bit_at_set_same w64 bits g h) in rw (s.0, one) refl
-      | inr s ↦ let alike : bit_at (bit_or bits (1 * 2 ^ g % 2 ^ 64)) q ≡ bit_at bits q = bit_at_set_other w64 bits g h q s.1 in rw (s.0, alike) refl
+      | inl s ↦ let one : bit_at (bit_or bits (1 * 2 ^ g % 2 ^ MAX_GAPS)) q ≡ 1 = rw s.1 (bit_at_set_same w128 bits g h) in rw (s.0, one) refl
+      | inr s ↦ let alike : bit_at (bit_or bits (1 * 2 ^ g % 2 ^ MAX_GAPS)) q ≡ bit_at bits q = bit_at_set_other w128 bits g h q s.1 in rw (s.0, alike) refl
     ]
 
 -- to set a bit is to insert its number
-pub gaps_of-insert : (bits g : ℕ) → bits < 2 ^ 64 → g < 64 → bit_or bits (1 * 2 ^ g % 2 ^ 64) < 2 ^ 64 → gaps_of_bits (bit_or bits (1 * 2 ^ g % 2 ^ 64)) ≡ set.insert (gaps_of_bits bits) g
+pub gaps_of-insert : (bits g : ℕ) → bits < 2 ^ MAX_GAPS → g < MAX_GAPS → bit_or bits (1 * 2 ^ g % 2 ^ MAX_GAPS) < 2 ^ MAX_GAPS → gaps_of_bits (bit_or bits (1 * 2 ^ g % 2 ^ MAX_GAPS)) ≡ set.insert (gaps_of_bits bits) g
 gaps_of-insert bits g h below fits =
     same_gaps _ _ (λ q.
     contains-gaps_of _ q fits ∙ set_bit bits g q below
     ∙ sym (set.contains-insert nat_cmp_total (gaps_of_bits bits) g q ∙ (λ i. ties q g i || contains-gaps_of bits q h i)))
 
 -- the bits after one is cleared
-clear_bit : (bits g q : ℕ) → bits < 2 ^ 64 → g < 64 → has_bit (bit_and bits (bit_not w64 (1 * 2 ^ g % 2 ^ 64))) q ≡ (not (q == g) && has_bit bits q)
+clear_bit : (bits g q : ℕ) → bits < 2 ^ MAX_GAPS → g < MAX_GAPS → has_bit (bit_and bits (bit_not w128 (1 * 2 ^ g % 2 ^ MAX_GAPS))) q ≡ (not (q == g) && has_bit bits q)
 clear_bit bits g q below h =
     elim (eqb_tells q g) [
-      | inl s ↦ let none : bit_at (bit_and bits (bit_not w64 (1 * 2 ^ g % 2 ^ 64))) q ≡ 0 = rw s.1 (bit_at_clear_same w64 bits g h) in rw (s.0, none) refl
+      | inl s ↦ let none : bit_at (bit_and bits (bit_not w128 (1 * 2 ^ g % 2 ^ MAX_GAPS))) q ≡ 0 = rw s.1 (bit_at_clear_same w128 bits g h) in rw (s.0, none) refl
       | inr s ↦
-          elim (cases_lt q 64) [
-            | inl low ↦ let alike : bit_at (bit_and bits (bit_not w64 (1 * 2 ^ g % 2 ^ 64))) q ≡ bit_at bits q = bit_at_clear_other w64 bits g h q low s.1 in rw (s.0, alike) refl
+          elim (cases_lt q MAX_GAPS) [
+            | inl low ↦ let alike : bit_at (bit_and bits (bit_not w128 (1 * 2 ^ g % 2 ^ MAX_GAPS))) q ≡ bit_at bits q = bit_at_clear_other w128 bits g h q low s.1 in rw (s.0, alike) refl
             | inr high ↦
-                let none : bit_at bits q ≡ 0 = bit_at_above bits 64 q below high in
-                let both : bit_at (bit_and bits (bit_not w64 (1 * 2 ^ g % 2 ^ 64))) q ≡ 0 = bit_at_and bits _ q ∙ rw none (omega arith) in
+                let none : bit_at bits q ≡ 0 = bit_at_above bits MAX_GAPS q below high in
+                let both : bit_at (bit_and bits (bit_not w128 (1 * 2 ^ g % 2 ^ MAX_GAPS))) q ≡ 0 = bit_at_and bits _ q ∙ rw none (omega arith) in
                 rw (s.0, both, none) refl
           ]
     ]
 
 -- to clear a bit is to remove its number
-pub gaps_of-remove : (bits g : ℕ) → bits < 2 ^ 64 → g < 64 → gaps_of_bits (bit_and bits (bit_not w64 (1 * 2 ^ g % 2 ^ 64))) ≡ set.remove (gaps_of_bits bits) g
+pub gaps_of-remove : (bits g : ℕ) → bits < 2 ^ MAX_GAPS → g < MAX_GAPS → gaps_of_bits (bit_and bits (bit_not w128 (1 * 2 ^ g % 2 ^ MAX_GAPS))) ≡ set.remove (gaps_of_bits bits) g
 gaps_of-remove bits g h below =
     same_gaps _ _ (λ q.
-    contains-gaps_of _ q (omega (arith, and_le_l bits (bit_not w64 (1 * 2 ^ g % 2 ^ 64)))) ∙ clear_bit bits g q h below
+    contains-gaps_of _ q (omega (arith, and_le_l bits (bit_not w128 (1 * 2 ^ g % 2 ^ MAX_GAPS)))) ∙ clear_bit bits g q h below
     ∙ sym (set.contains-remove nat_cmp_total (gaps_of_bits bits) g q ∙ (λ i. not (ties q g i) && contains-gaps_of bits q h i)))
 
 -- what a value of the model contains, from the word that it was opened to
-pub contains-word : (bits q : ℕ) (s : set.FinSet nat_cmp) → gaps_of_bits bits ≡ s → bits < 2 ^ 64 → set.contains s q ≡ has_bit bits q
+pub contains-word : (bits q : ℕ) (s : set.FinSet nat_cmp) → gaps_of_bits bits ≡ s → bits < 2 ^ MAX_GAPS → set.contains s q ≡ has_bit bits q
 contains-word bits q s is h = ap (λ t. set.contains t q) (sym is) ∙ contains-gaps_of bits q h
 
--- a word holds no gap from 64 on
-pub IsGapSet-word : (bits : ℕ) (s : set.FinSet nat_cmp) → gaps_of_bits bits ≡ s → bits < 2 ^ 64 → IsGapSet s
+-- a word holds no gap from MAX_GAPS on
+pub IsGapSet-word : (bits : ℕ) (s : set.FinSet nat_cmp) → gaps_of_bits bits ≡ s → bits < 2 ^ MAX_GAPS → IsGapSet s
 IsGapSet-word bits s is h gap there =
-    elim (cases_lt gap 64) [
+    elim (cases_lt gap MAX_GAPS) [
       | inl low ↦ low
       | inr high ↦ let none : true ≡ false = sym there ∙ contains-word bits gap s is h ∙ sym (no_bit bits gap h high) in cc
     ]
 
 -- the word after a bit is set fits
-pub or_fits : (bits g : ℕ) → bits < 2 ^ 64 → bit_or bits (1 * 2 ^ g % 2 ^ 64) < 2 ^ 64
-or_fits bits g h = or_lt 64 bits _ h (mod-lt _ (omega arith))
+pub or_fits : (bits g : ℕ) → bits < 2 ^ MAX_GAPS → bit_or bits (1 * 2 ^ g % 2 ^ MAX_GAPS) < 2 ^ MAX_GAPS
+or_fits bits g h = or_lt MAX_GAPS bits _ h (mod-lt _ (omega arith))

@@ -10,6 +10,7 @@ use Rattle.std.proofs.lemmas.Nat.{pow_pos}
 use native.Mathlib.Numerals.{unary_clauses}
 use Rattle.std.proofs.lemmas.Nat.Bits.{bit_at_above, bit_at-lt}
 use Rattle.gap_sets.specs.Bits.{has_bit, list_of, gaps_of_bits, bits_below, bits_of}
+use Rattle.gap_sets.specs.declared.gap_set.TheConstants.{MAX_GAPS}
 
 -- whether a number is in the list
 abbrev any : ℕ → List ℕ → Bool
@@ -51,18 +52,18 @@ any-inside p a (suc n) q low h =
       | inr same ↦ let here : a ≡ q = omega arith in rw here (take_it (p q) q _ (any-below p (q + 1) n q (omega arith)))
     ]
 
--- a word has no bit from 64 on
-pub no_bit : (bits q : ℕ) → bits < 2 ^ 64 → 64 ≤ q → false ≡ has_bit bits q
-no_bit bits q h high = let none : bit_at bits q ≡ 0 = bit_at_above bits 64 q h high in rw none
+-- a word has no bit from MAX_GAPS on
+pub no_bit : (bits q : ℕ) → bits < 2 ^ MAX_GAPS → MAX_GAPS ≤ q → false ≡ has_bit bits q
+no_bit bits q h high = let none : bit_at bits q ≡ 0 = bit_at_above bits MAX_GAPS q h high in rw none
 
 -- a word's set contains the numbers of its bits
-pub contains-gaps_of : (bits q : ℕ) → bits < 2 ^ 64 → set.contains (gaps_of_bits bits) q ≡ has_bit bits q
+pub contains-gaps_of : (bits q : ℕ) → bits < 2 ^ MAX_GAPS → set.contains (gaps_of_bits bits) q ≡ has_bit bits q
 unfolding gaps_of_bits list_of
 contains-gaps_of bits q h =
     set.contains-from_list_nat _ q
-    ∙ elim (cases_lt q 64) [
-      | inl low ↦ any-inside (has_bit bits) 0 64 q (omega arith) low
-      | inr high ↦ any-above (has_bit bits) 0 64 q high ∙ no_bit bits q h high
+    ∙ elim (cases_lt q MAX_GAPS) [
+      | inl low ↦ any-inside (has_bit bits) 0 MAX_GAPS q (omega arith) low
+      | inr high ↦ any-above (has_bit bits) 0 MAX_GAPS q high ∙ no_bit bits q h high
     ]
 
 -- a bit adds its power of two or nothing
@@ -92,9 +93,9 @@ bits_below_alike p q zero alike = refl
 bits_below_alike p q (suc n) alike = λ i. bits_below_alike p q n alike i + cond (alike n i) (2 ^ n) 0
 
 -- a word's set gives the word back
-pub bits_of-gaps_of : (bits : ℕ) → bits < 2 ^ 64 → bits_of (gaps_of_bits bits) ≡ bits
+pub bits_of-gaps_of : (bits : ℕ) → bits < 2 ^ MAX_GAPS → bits_of (gaps_of_bits bits) ≡ bits
 unfolding bits_of
 bits_of-gaps_of bits h =
-    bits_below_alike _ (has_bit bits) 64 (λ k. contains-gaps_of bits k h)
-    ∙ bits_below-has_bit bits 64
+    bits_below_alike _ (has_bit bits) MAX_GAPS (λ k. contains-gaps_of bits k h)
+    ∙ bits_below-has_bit bits MAX_GAPS
     ∙ omega arith

@@ -3,11 +3,13 @@ use Rattle.std.specs.Prelude.{◌≡◌, ◌↔◌, ℕ, ◌==◌, ◌≤◌, na
 use Rattle.std.specs.Option.{option_map, option_or}
 use Rattle.gap_sets.specs.declared.costs.CostFault.{CostFault}
 use Rattle.gap_sets.specs.declared.costs.CostFault.TheVariants.{Zero, TooLarge, TooMany}
+use Rattle.gap_sets.specs.declared.gap_set.TheConstants.{MAX_GAPS}
+use Rattle.gap_sets.specs.declared.costs.TheConstants.{MAX_COST}
 
--- at most 64 gaps, each of a cost from 1 to 1,000,000
+-- at most MAX_GAPS gaps, each of a cost from 1 to 1,000,000
 pub record IsCostList (costs : List ℕ) : Type 0 where
-  pub few : length costs ≤ 64
-  pub each : All (λ cost. (1 ≤ cost) × (cost ≤ 1000000)) costs
+  pub few : length costs ≤ MAX_GAPS
+  pub each : All (λ cost. (1 ≤ cost) × (cost ≤ MAX_COST)) costs
 
 -- the first gap of cost 0
 abbrev pub first_free : List ℕ → Option ℕ
@@ -15,12 +17,12 @@ first_free costs = position (λ cost. cost == 0) costs
 
 -- the first gap that costs more than 1,000,000
 abbrev pub first_too_large : List ℕ → Option ℕ
-first_too_large costs = position (λ cost. nat_lt 1000000 cost) costs
+first_too_large costs = position (λ cost. nat_lt MAX_COST cost) costs
 
 -- why a list of numbers is no list of costs: there are too many, else its first gap of cost 0, else its first gap whose cost is too large
 abbrev pub first_cost_fault : List ℕ → Option CostFault
 first_cost_fault costs =
-    if nat_lt 64 (length costs) then Some TooMany
+    if nat_lt MAX_GAPS (length costs) then Some TooMany
     else option_or (option_map Zero (first_free costs)) (option_map TooLarge (first_too_large costs))
 
 -- no refusal applies exactly within the limits

@@ -3,6 +3,7 @@ use Rattle.std.specs.Prelude.{◌≡◌, ℕ, ◌<◌, Bool, true, ◌&&◌, Lis
 use Rattle.std.specs.List.{filter, range_with_len}
 use Rattle.std.specs.Ordering.{nat_cmp}
 use Rattle.std.specs.FinSet as set
+use Rattle.gap_sets.specs.declared.gap_set.TheConstants.{MAX_GAPS}
 
 -- a finite set of numbers
 abbrev pub SetOfGaps : Type 0
@@ -10,11 +11,11 @@ SetOfGaps = set.FinSet nat_cmp
 
 -- gap numbers are 0 to 63
 abbrev pub IsGapSet : SetOfGaps → Type 0
-IsGapSet s = (gap : ℕ) → set.contains s gap ≡ true → gap < 64
+IsGapSet s = (gap : ℕ) → set.contains s gap ≡ true → gap < MAX_GAPS
 
 -- the gaps of a set, ascending: the numbers from 0 to 63 that it contains
 unfoldable pub numbers_of_set : SetOfGaps → List ℕ
-numbers_of_set s = filter (set.contains s) (range_with_len 0 64)
+numbers_of_set s = filter (set.contains s) (range_with_len 0 MAX_GAPS)
 
 -- whether each gap of one set is in the other
 abbrev pub have_same_gaps : SetOfGaps → SetOfGaps → Bool

@@ -4,4 +4,5 @@ pub mod CostLists
 pub mod Gaps
 pub mod Laws
 pub mod Order
+pub mod Regions
 pub mod SameGaps

@@ -1,8 +1,10 @@
 //! What each gap costs, and which of two sets of gaps is better.
-ghost use Rattle.std.specs.Prelude.{◌≡◌, ◌<◌, ◌≤◌, ◌↔◌, IsTrue, None, Some, [], length, slice_get, IfOk, OnOk, IfSome, IsOkUnless};
+ghost use Rattle.std.specs.Prelude.{◌≡◌, ◌<◌, ◌≤◌, ◌*◌, ◌↔◌, IsTrue, None, Some, [], length, slice_get, IfOk, OnOk, IfSome, IsOkUnless};
 ghost use Rattle.gap_sets.specs.CostLists.{IsCostList, CostLimitsAreTheRefusals, first_cost_fault, first_free, first_too_large};
 ghost use Rattle.gap_sets.specs.Order.{total, Better, cost_of};
 ghost use Rattle.gap_sets.specs.declared.costs.CostFault.{CostFault};
+ghost use Rattle.gap_sets.specs.declared.costs.TheConstants.{MAX_COST};
+ghost use Rattle.gap_sets.specs.declared.gap_set.TheConstants.{MAX_GAPS};
 
 use crate::gap_set::{GapSet, MAX_GAPS};
 use std::alloc::{AllocError, AllocFailed, Global};
@@ -116,7 +118,7 @@ impl Costs {
     /// What the gap costs, if the list has it.
     pub fn cost_of(&self, gap: u8) -> Option<u32>
         ensures value { result ≡ slice_get self.now gap }
-        ensures limits { IfSome result (λ cost. (1 ≤ cost) × (cost ≤ 1000000)) }
+        ensures limits { IfSome result (λ cost. (1 ≤ cost) × (cost ≤ MAX_COST)) }
     {
         self.list.get(gap as usize).copied()
     }
@@ -140,7 +142,7 @@ impl Costs {
     /// What the gaps of the set cost together. A gap past the list costs nothing.
     pub fn total(&self, set: &GapSet) -> u64
         ensures value { result ≡ total self.now set.now }
-        ensures limit { result ≤ 64000000 }
+        ensures limit { result ≤ MAX_GAPS * MAX_COST }
     {
         let costs = self.as_slice();
         let mut sum = 0u64;

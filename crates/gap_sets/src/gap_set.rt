@@ -5,16 +5,17 @@ ghost use Rattle.std.specs.List.Sorted.{IsStrictlyIncreasing};
 ghost use Rattle.std.specs.Iterator.{YieldsFirst, item_count};
 ghost use Rattle.gap_sets.specs.Gaps.{IsGapSet, numbers_of_set};
 ghost use Rattle.gap_sets.specs.Order.{HasLeastDifference};
+ghost use Rattle.gap_sets.specs.declared.gap_set.TheConstants.{MAX_GAPS};
 
 use std::marker::Model;
 
 /// How many gaps there are at most: their numbers are below this one.
-pub const MAX_GAPS: u8 = 64;
+pub const MAX_GAPS: u8 = 128;
 
 /// A set of gap numbers, each below `MAX_GAPS`. No call of it takes memory.
 #[derive(Clone, Copy, Debug)]
 pub struct GapSet {
-    bits: u64,
+    bits: u128,
 }
 
 impl Model for GapSet {
@@ -23,6 +24,7 @@ impl Model for GapSet {
     ghost use Rattle.std.specs.Ordering.{nat_cmp};
     ghost use Rattle.std.specs.Coded.{coded_ℕ};
     ghost use Rattle.gap_sets.specs.Bits.{gaps_of_bits, bits_of};
+    ghost use Rattle.gap_sets.specs.declared.gap_set.TheConstants.{MAX_GAPS};
 
     ghost Value = { set.FinSet nat_cmp };
 
@@ -30,7 +32,7 @@ impl Model for GapSet {
 
     ghost view = { λ s. gaps_of_bits s.bits };
 
-    ghost invariant = { λ s. s.bits < 2 ^ 64 };
+    ghost invariant = { λ s. s.bits < 2 ^ MAX_GAPS };
 
     ghost inverse = { λ v. record { bits = bits_of v } };
 
@@ -49,7 +51,7 @@ impl GapSet {
 
     /// The set with this gap too.
     pub fn with(self, gap: u8) -> Self
-        requires { gap < 64 }
+        requires { gap < MAX_GAPS }
         ensures { result ≡ set.insert self gap }
     {
         GapSet {
@@ -59,7 +61,7 @@ impl GapSet {
 
     /// The set without this gap.
     pub fn without(self, gap: u8) -> Self
-        requires { gap < 64 }
+        requires { gap < MAX_GAPS }
         ensures { result ≡ set.remove self gap }
     {
         GapSet {
@@ -70,7 +72,7 @@ impl GapSet {
     /// Whether the gap is in the set.
     pub fn has(&self, gap: u8) -> bool
         ensures value { result ≡ set.contains self.now gap }
-        ensures below { IsTrue result → gap < 64 }
+        ensures below { IsTrue result → gap < MAX_GAPS }
     {
         gap < MAX_GAPS && self.bits >> gap & 1 == 1
     }
@@ -117,7 +119,7 @@ impl GapSet {
         ensures value { result ≡ numbers_of_set self.now }
         ensures ascending { IsStrictlyIncreasing result }
         ensures members { set.from_list result ≡ self.now }
-        ensures below { All (λ gap. gap < 64) result }
+        ensures below { All (λ gap. gap < MAX_GAPS) result }
     {
         Gaps { left: self.bits }
     }
@@ -153,18 +155,19 @@ impl Eq for GapSet {
 /// The gaps of a set that are still to come, ascending.
 #[derive(Drop, Debug)]
 pub struct Gaps {
-    left: u64,
+    left: u128,
 }
 
 impl Model for Gaps {
     ghost use Rattle.std.specs.Prelude.{◌<◌, ◌^◌, List, ℕ};
     ghost use Rattle.gap_sets.specs.Bits.{list_of};
+    ghost use Rattle.gap_sets.specs.declared.gap_set.TheConstants.{MAX_GAPS};
 
     ghost Value = { List ℕ };
 
     ghost view = { λ s. list_of s.left };
 
-    ghost invariant = { λ s. s.left < 2 ^ 64 };
+    ghost invariant = { λ s. s.left < 2 ^ MAX_GAPS };
 }
 
 impl Iterator for Gaps {

@@ -26,6 +26,7 @@ use Rattle.litmus_text.proofs.NamesOnce.{in_order_once, entries_stand}
 use Rattle.litmus_text.proofs.FirstValues.{listing_filled}
 use Rattle.litmus_text.proofs.Faults.{match_map, match_memory}
 use Rattle.litmus_text.proofs.Numbered.{AreLimits, IsOver, byte_same, listing_same, memory_len, over_same, none_long}
+use Rattle.tso_program.specs.declared.limits.TheConstants.{MAX_LOCATIONS}
 
 module _ (text : List ℕ) (read : Litmus Listing) (is : IsReadOf text read) where
   -- what the text stands for: what was read, with the locations' own numbers
@@ -76,7 +77,7 @@ module _ (text : List ℕ) (read : Litmus Listing) (is : IsReadOf text read) whe
       (listing_filled names.locations body (in_order_once (filter_map location_name (places body is.read.ending))) (entries_stand body is.read.ending) is.read.parts.begins.0.1.1)
 
   -- of a text of few locations and short threads that is what was read
-  few_meant : (longest : ℕ) → longest ≤ 255 → length read.names.locations ≤ 8 → is_some (first_long longest read.program.threads) ≡ false → meant ≡ read
+  few_meant : (longest : ℕ) → longest ≤ 255 → length read.names.locations ≤ MAX_LOCATIONS → is_some (first_long longest read.program.threads) ≡ false → meant ≡ read
   few_meant longest small few none =
       let names = read.names.locations in
       let short = ap (λ (l : Listing). is_some (first_long longest l.threads)) (sym is.read.program) ∙ none in
@@ -86,7 +87,7 @@ module _ (text : List ℕ) (read : Litmus Listing) (is : IsReadOf text read) whe
       λ i. record { name = read.name; program = program i; names = read.names; condition = condition i; observed = observed i; labels = read.labels }
 
   module _ (Within : List Thread → List ℕ → Type 0) (first : List Thread → List ℕ → Option ProgramFault) (limits : AreLimits Within first) where
-    few_within : Within read.program.threads read.program.memory → length read.names.locations ≤ 8
+    few_within : Within read.program.threads read.program.memory → length read.names.locations ≤ MAX_LOCATIONS
     few_within within =
         let names = read.names.locations in
         let e : length read.program.memory ≡ length names = ap (λ (l : Listing). length l.memory) is.read.program ∙ memory_len (byte_in names) byte_at (length names) is.read.body in
@@ -109,7 +110,7 @@ module _ (text : List ℕ) (read : Litmus Listing) (is : IsReadOf text read) whe
     same_first =
         let names = read.names.locations in
         let of : Listing → Option ProgramFault = λ l. first l.threads l.memory in
-        elim (cases_lt 8 (length names)) [
+        elim (cases_lt MAX_LOCATIONS (length names)) [
           | inl many ↦ over_first (inl many)
           | inr few ↦ elim (cases_Bool (is_some (first_long limits.longest read.program.threads))) [
             | inl long ↦ over_first (inr (ap (λ (l : Listing). is_some (first_long limits.longest l.threads)) (sym is.read.program) ∙ long))

@@ -23,6 +23,7 @@ use Rattle.litmus_text.specs.Meaning.{code_in}
 use Rattle.litmus_text.specs.Filling.{byte_in, byte_at, is_of_location, entry_atoms, last_said, registers_from, memory_from, thread_by, listing_by}
 use Rattle.litmus_text.proofs.Filled.{range_same}
 use Rattle.litmus_text.proofs.Positions.{code_count, position_same}
+use Rattle.tso_program.specs.declared.limits.TheConstants.{MAX_THREADS, MAX_LOCATIONS, MAX_INSTRUCTIONS, MAX_FENCED_INSTRUCTIONS}
 
 -- ---- few names
 
@@ -35,11 +36,11 @@ number_le names name =
     let n = prefix_len (λ m. not (bytes_eq name m)) names in
     place_le (nat_lt n (length names)) n (length names) (prefix_len-le-length (λ m. not (bytes_eq name m)) names)
 
-byte_is : (n : ℕ) → n ≤ 8 → min 255 n ≡ n
+byte_is : (n : ℕ) → n ≤ MAX_LOCATIONS → min 255 n ≡ n
 byte_is n le = omega arith
 
 -- of a few names each number is a byte
-pub byte_same : (names : List (List ℕ)) → length names ≤ 8 → byte_in names ≡ number_in names
+pub byte_same : (names : List (List ℕ)) → length names ≤ MAX_LOCATIONS → byte_in names ≡ number_in names
 byte_same names few = λ i name. byte_is (number_in names name) (let le = number_le names name in omega arith) i
 
 -- ---- limits
@@ -47,7 +48,7 @@ byte_same names few = λ i name. byte_is (number_in names name) (let le = number
 -- the first refusal where there are too many locations
 abbrev pub past_fault : ℕ → Option ℕ → Option ProgramFault
 past_fault threads long =
-    if threads == 0 then Some NoThreads else if nat_lt 8 threads then Some TooManyThreads else if is_some long then Some (TooLong (unwrap_or long 0)) else Some Locations
+    if threads == 0 then Some NoThreads else if nat_lt MAX_THREADS threads then Some TooManyThreads else if is_some long then Some (TooLong (unwrap_or long 0)) else Some Locations
 
 past_some : (a b c : Bool) (x y z w : ProgramFault) → (if a then Some x else if b then Some y else if c then Some z else Some w) ≡ None → ⊥
 past_some true b c x y z w e = cc
@@ -55,19 +56,19 @@ past_some false true c x y z w e = cc
 past_some false false true x y z w e = cc
 past_some false false false x y z w e = cc
 
--- Limits and their refusals, as far as a reader rests on them: at most 8 locations and 255 instructions a thread, which are refused
+-- Limits and their refusals, as far as a reader rests on them: at most `MAX_LOCATIONS` locations and 255 instructions a thread, which are refused
 -- before what they are used for.
 pub record AreLimits (Within : List Thread → List ℕ → Type 0) (first : List Thread → List ℕ → Option ProgramFault) : Type 0 where
   pub longest : ℕ
   pub small : longest ≤ 255
-  pub few_locations : (threads : List Thread) (memory : List ℕ) → Within threads memory → length memory ≤ 8
+  pub few_locations : (threads : List Thread) (memory : List ℕ) → Within threads memory → length memory ≤ MAX_LOCATIONS
   pub none_broken : (threads : List Thread) (memory : List ℕ) → Within threads memory → first threads memory ≡ None
-  pub past : (threads : List Thread) (memory : List ℕ) → nat_lt 8 (length memory) ≡ true → first threads memory ≡ past_fault (length threads) (first_long longest threads)
+  pub past : (threads : List Thread) (memory : List ℕ) → nat_lt MAX_LOCATIONS (length memory) ≡ true → first threads memory ≡ past_fault (length threads) (first_long longest threads)
   pub long : (threads : List Thread) (memory : List ℕ) → is_some (first_long longest threads) ≡ true → first threads memory ≡ past_fault (length threads) (first_long longest threads)
 
 pub program_limits : AreLimits (λ threads memory. IsWithinLimits threads memory) first_fault
 program_limits = record {
-  longest = 64;
+  longest = MAX_INSTRUCTIONS;
   small = omega arith;
   few_locations = λ threads memory within. within.shared.few_locations;
   none_broken = λ threads memory within. (limits_are_the_refusals threads memory).1 within;
@@ -77,7 +78,7 @@ program_limits = record {
 
 pub fenced_program_limits : AreLimits (λ threads memory. IsWithinFencedLimits threads memory) first_fenced_fault
 fenced_program_limits = record {
-  longest = 127;
+  longest = MAX_FENCED_INSTRUCTIONS;
   small = omega arith;
   few_locations = λ threads memory within. within.few_locations;
   none_broken = λ threads memory within. (fenced_limits_are_the_refusals threads memory).1 within;
@@ -109,7 +110,7 @@ memory_len numbered positioned locations body = length-map-range_with_len (λ l.
 
 -- many locations, or a long thread
 abbrev pub IsOver : ℕ → (List ℕ → ℕ) → (List Label → List ℕ → ℕ) → ℕ → BodyView → Type 0
-IsOver longest numbered positioned locations body = (8 < locations) ⊎ (is_some (first_long longest (listing_by numbered positioned locations body).threads) ≡ true)
+IsOver longest numbered positioned locations body = (MAX_LOCATIONS < locations) ⊎ (is_some (first_long longest (listing_by numbered positioned locations body).threads) ≡ true)
 
 long_len : (longest : ℕ) (a b : List ℕ → ℕ) (p q : List Label → List ℕ → ℕ) (locations : ℕ) (body : BodyView)
     → first_long longest (listing_by a p locations body).threads ≡ first_long longest (listing_by b q locations body).threads
@@ -124,7 +125,7 @@ module _ (Within : List Thread → List ℕ → Type 0) (first : List Thread →
       let listing = listing_by numbered positioned locations body in
       let threads = ap (λ (n : ℕ). past_fault n (first_long limits.longest listing.threads)) (length-map-range_with_len (thread_by numbered positioned body) 0 body.threads) in
       elim over [
-        | inl many ↦ limits.past listing.threads listing.memory (ap (nat_lt 8) (memory_len numbered positioned locations body) ∙ lt-ltb 8 locations many) ∙ threads
+        | inl many ↦ limits.past listing.threads listing.memory (ap (nat_lt MAX_LOCATIONS) (memory_len numbered positioned locations body) ∙ lt-ltb MAX_LOCATIONS locations many) ∙ threads
         | inr long ↦ limits.long listing.threads listing.memory long ∙ threads
       ]
 
@@ -141,7 +142,7 @@ module _ (Within : List Thread → List ℕ → Type 0) (first : List Thread →
   none_long threads memory within =
       let long = first_long limits.longest threads in
       elim (cases_Bool (is_some long)) [
-        | inl e ↦ absurd (past_some (length threads == 0) (nat_lt 8 (length threads)) (is_some long) NoThreads TooManyThreads (TooLong (unwrap_or long 0)) Locations (sym (limits.long threads memory e) ∙ limits.none_broken threads memory within))
+        | inl e ↦ absurd (past_some (length threads == 0) (nat_lt MAX_THREADS (length threads)) (is_some long) NoThreads TooManyThreads (TooLong (unwrap_or long 0)) Locations (sym (limits.long threads memory e) ∙ limits.none_broken threads memory within))
         | inr e ↦ e
       ]
 
@@ -167,7 +168,7 @@ short longest f n none t lt =
     not_past longest (length (f t).code) (ap passes (sym (get_or-map-range_with_len f 0 n t t (f t) lt (omega arith))) ∙ at)
 
 -- of few locations and short threads all numbers are bytes
-pub listing_same : (longest : ℕ) (names : List (List ℕ)) (body : BodyView) → longest ≤ 255 → length names ≤ 8
+pub listing_same : (longest : ℕ) (names : List (List ℕ)) (body : BodyView) → longest ≤ 255 → length names ≤ MAX_LOCATIONS
     → is_some (first_long longest (listing_by (byte_in names) byte_at (length names) body).threads) ≡ false
     → listing_by (byte_in names) byte_at (length names) body ≡ listing_by (number_in names) position_in (length names) body
 listing_same longest names body small few none =

@@ -15,6 +15,7 @@ use Rattle.conditions.proofs.Mentioned.{Has, IsWith, then_more, register_with_re
 use Rattle.litmus_text.specs.declared.observed.Observed.{Observed}
 use Rattle.litmus_text.specs.declared.observed.Observed.TheVariants.{Location, Register}
 use Rattle.litmus_text.specs.Shown.{with_place, with_places, shown_by, ShowsNamedRegisters, ShowsNamedLocations}
+use Rattle.tso_program.specs.declared.limits.TheConstants.{MAX_THREADS, MAX_LOCATIONS}
 
 -- the same said in another way
 said : (One Other : Type 0) (place : ℕ) (names more : set.FinSet nat_cmp) → (One → Other) → (Other → One) → IsWith One place names more → IsWith Other place names more
@@ -56,7 +57,7 @@ by_places x place each (o ∷ os) names =
     said ((o ≡ x) ⊎ Contains os x) (Contains (o ∷ os) x) place names (with_places (with_place names o) os) (here_or_there o os x) (first_or_later o os x)
     (then_more (o ≡ x) (Contains os x) place names (with_place names o) (with_places (with_place names o) os) (each names o) (by_places x place each os (with_place names o)))
 
-each_register : (t : ℕ) (r : Reg) → t < 8 → (names : set.FinSet nat_cmp) (o : Observed) → IsWith (o ≡ Register t r) (register_place t (number r)) names (with_place names o)
+each_register : (t : ℕ) (r : Reg) → t < MAX_THREADS → (names : set.FinSet nat_cmp) (o : Observed) → IsWith (o ≡ Register t r) (register_place t (number r)) names (with_place names o)
 each_register t r few names (Register thread register) =
     said ((thread ≡ t) × (register ≡ r)) (Register thread register ≡ Register t r) (register_place t (number r)) names (with_place names (Register thread register))
     (λ (e, f) i. Register (e i) (f i)) (λ e. (cc, cc)) (register_with_register names t r few thread register)
@@ -64,7 +65,7 @@ each_register t r few names (Location location) =
     said ⊥ (Location location ≡ Register t r) (register_place t (number r)) names (with_place names (Location location))
     (λ none. absurd none) (λ e. cc) (register_with_location names t r few location)
 
-each_location : (l : ℕ) → l < 8 → (names : set.FinSet nat_cmp) (o : Observed) → IsWith (o ≡ Location l) (location_place l) names (with_place names o)
+each_location : (l : ℕ) → l < MAX_LOCATIONS → (names : set.FinSet nat_cmp) (o : Observed) → IsWith (o ≡ Location l) (location_place l) names (with_place names o)
 each_location l few names (Register thread register) =
     said ⊥ (Register thread register ≡ Location l) (location_place l) names (with_place names (Register thread register))
     (λ none. absurd none) (λ e. cc) (location_with_register names l few thread register)
@@ -83,7 +84,7 @@ from_none Spoken place more with_it = (to, λ spoken. with_it.1 (inr spoken))
       | inr spoken ↦ spoken
     ]
 
-in_range : (t : ℕ) (b : Bool) → t < 8 → (nat_lt t 8 && b) ≡ b
+in_range : (t : ℕ) (b : Bool) → t < MAX_THREADS → (nat_lt t MAX_THREADS && b) ≡ b
 in_range t b h = grind (arith, nat_tests)
 
 module _ (formula : Tree Atom) (observed : List Observed) where

@@ -3,7 +3,8 @@ use Rattle.std.specs.Prelude.{ℕ, ◌≤◌, List, length}
 use Rattle.tso_program.specs.declared.listing.Listing.{Listing}
 use Rattle.litmus_text.specs.declared.litmus.Litmus.{Litmus}
 use Rattle.litmus_text.specs.Texts.{IsLitmus}
+use Rattle.tso_program.specs.declared.limits.TheConstants.{MAX_LOCATIONS}
 
--- a text that stands for a program names at most 8 locations
+-- a text that stands for a program names no more locations than a program may have
 abbrev pub NamesFewLocations : Type 0
-NamesFewLocations = (text : List ℕ) (litmus : Litmus Listing) → IsLitmus text litmus → length litmus.names.locations ≤ 8
+NamesFewLocations = (text : List ℕ) (litmus : Litmus Listing) → IsLitmus text litmus → length litmus.names.locations ≤ MAX_LOCATIONS

@@ -14,6 +14,7 @@ use Rattle.conditions.specs.Named.{with_register, with_location, with_named, Men
 use Rattle.litmus_text.specs.declared.litmus.Litmus.{Litmus}
 use Rattle.litmus_text.specs.declared.observed.Observed.{Observed}
 use Rattle.litmus_text.specs.declared.observed.Observed.TheVariants.{Location, Register}
+use Rattle.tso_program.specs.declared.limits.TheConstants.{MAX_THREADS, MAX_LOCATIONS}
 
 -- these and an observed place
 abbrev pub with_place : set.FinSet nat_cmp → Observed → set.FinSet nat_cmp
@@ -39,10 +40,10 @@ question_of litmus observed = asked litmus.program (shown_as litmus observed)
 
 -- register r of thread t is shown exactly where the formula mentions it or it is an observed place
 abbrev pub ShowsNamedRegisters : Tree Atom → List Observed → Shown → Type 0
-ShowsNamedRegisters formula observed shown = (t : ℕ) (r : Reg) → t < 8 →
+ShowsNamedRegisters formula observed shown = (t : ℕ) (r : Reg) → t < MAX_THREADS →
     (shows_register shown t (number r) ≡ true) ↔ (MentionsRegister formula t r ⊎ Contains observed (Register t r))
 
 -- a location is shown exactly where the formula mentions it or it is an observed place
 abbrev pub ShowsNamedLocations : Tree Atom → List Observed → Shown → Type 0
-ShowsNamedLocations formula observed shown = (l : ℕ) → l < 8 →
+ShowsNamedLocations formula observed shown = (l : ℕ) → l < MAX_LOCATIONS →
     (shows_location shown l ≡ true) ↔ (MentionsLocation formula l ⊎ Contains observed (Location l))

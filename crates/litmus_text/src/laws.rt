@@ -2,7 +2,7 @@
 ghost use Rattle.litmus_text.specs.Example.{StoreBuffering, NamesStoreBuffering};
 ghost use Rattle.litmus_text.specs.Laws.{NamesFewLocations};
 
-/// A text that stands for a program names at most 8 locations, so that their numbers are bytes.
+/// A text that stands for a program names at most `MAX_LOCATIONS` locations, so that their numbers are bytes.
 pub fn texts_name_few_locations()
     ensures { NamesFewLocations }
 {}

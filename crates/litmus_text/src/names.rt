@@ -10,13 +10,13 @@ use indexmap::IndexSet;
 use litmus_syntax::Place;
 use std::alloc::{AllocError, Global};
 use std::marker::Model;
-use tso_program::Reg;
+use tso_program::{REGISTERS, Reg};
 
 /// The names of a text: its locations by number, and which registers of each thread it names.
 #[derive(Drop)]
 pub struct NameTable {
     locations: IndexSet<Vec<u8>>,
-    registers: Vec<[bool; 6]>,
+    registers: Vec<[bool; REGISTERS]>,
 }
 
 impl Model for NameTable {
@@ -35,7 +35,7 @@ impl NameTable {
     {
         Ok(NameTable {
             locations: IndexSet::new(alloc),
-            registers: vec![in alloc; [false; 6]; threads]?,
+            registers: vec![in alloc; [false; REGISTERS]; threads]?,
         })
     }
 

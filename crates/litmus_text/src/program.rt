@@ -16,7 +16,7 @@ use crate::names::NameTable;
 use conditions::Atom;
 use litmus_syntax::{Body, Cell, Code, Entry, Place};
 use std::alloc::{AllocError, Global};
-use tso_program::{FencedProgram, Instr, Items, Listing, Program, ProgramFault, Thread};
+use tso_program::{FencedProgram, Instr, Items, Listing, Program, ProgramFault, REGISTERS, Thread};
 
 /// That a place has a value, with the location's number.
 pub(crate) fn atom(names: &NameTable, place: Place<'_>, value: u32) -> Atom
@@ -120,7 +120,7 @@ fn store(memory: &mut [u32], atom: Atom)
 }
 
 /// What an initial value changes in the registers.
-fn load(registers: &mut [[u32; 6]], atom: Atom)
+fn load(registers: &mut [[u32; REGISTERS]], atom: Atom)
     ensures { registers.new ≡ with_initial registers.old atom }
 {
     if let Atom::Register {
@@ -148,7 +148,11 @@ fn memory_of(alloc: Global, locations: usize, atoms: &[Atom]) -> Result<Vec<u32>
 }
 
 /// What the registers of so many threads hold at first.
-fn registers_of(alloc: Global, threads: usize, atoms: &[Atom]) -> Result<Vec<[u32; 6]>, AllocError>
+fn registers_of(
+    alloc: Global,
+    threads: usize,
+    atoms: &[Atom],
+) -> Result<Vec<[u32; REGISTERS]>, AllocError>
     ensures { IfOk result (λ registers. registers.items ≡ map (registers_from atoms.now) (range_with_len 0 threads)) }
 {
     let mut registers = vec![in alloc; [0u32; 6]; threads]?;
@@ -164,7 +168,7 @@ fn threads_of(
     names: &NameTable,
     targets: &[Targets],
     body: &Body<'_>,
-    registers: &[[u32; 6]],
+    registers: &[[u32; REGISTERS]],
 ) -> Result<Vec<Thread>, AllocError>
     ensures { IfOk result (λ threads. threads.items
         ≡ map (thread_in (byte_in names.now.locations) (body_view body.now).rows registers.now targets.now) (range_with_len 0 (length targets.now))) }

@@ -1,7 +1,7 @@
 //! The parts of the input.
 
 use exec_axioms::Mode;
-use gap_sets::GapSet;
+use gap_sets::{GapSet, MAX_GAPS};
 use text_tokens::plain_number_up_to;
 
 /// A request for lists of outcomes, or for measurements.
@@ -28,7 +28,7 @@ pub fn split_at_byte(bytes: &[u8], byte: u8) -> (&[u8], &[u8]) {
 pub fn gaps_of(words: &[u8]) -> GapSet {
     let mut gaps = GapSet::empty();
     for word in words.split(|byte| *byte == b' ') {
-        if let Some(gap) = plain_number_up_to(63, word) {
+        if let Some(gap) = plain_number_up_to(u32::from(MAX_GAPS - 1), word) {
             gaps = gaps.with(gap as u8);
         }
     }

@@ -3,10 +3,9 @@
 use crate::trees::size_of;
 use cert_forest::CoverTree;
 use cover_solver::{ForeignRun, SeqTable};
-use gap_sets::GapSet;
+use gap_sets::{GapSet, Region};
 use litmus_text::NameTable;
 use report::{outcome_line, passed_line};
-use search_core::Node;
 use std::alloc::{AllocError, Global};
 use tso_machine::{Label, write_run};
 use tso_program::{Outcome, Shown};
@@ -93,7 +92,7 @@ pub fn set_line(alloc: Global, set: &GapSet) -> Result<Vec<u8>, AllocError> {
 }
 
 /// The gaps that a node's sets must have, and those that they never have.
-pub fn node_line(alloc: Global, node: &Node) -> Result<Vec<u8>, AllocError> {
+pub fn node_line(alloc: Global, node: &Region) -> Result<Vec<u8>, AllocError> {
     let mut line = Vec::from_slice(alloc, b"must")?;
     push_gaps(alloc, &node.must, &mut line)?;
     line.extend_from_slice(b" never")?;

@@ -9,6 +9,7 @@ use Rattle.tso_program.specs.declared.listing.Listing.{Listing}
 use Rattle.tso_program.specs.Listings.{gap_count}
 use Rattle.tso_program.specs.Fences.{first_missing}
 use Rattle.tso_machine.specs.Outcomes.{AreGapsOf}
+use Rattle.gap_sets.specs.declared.gap_set.TheConstants.{MAX_GAPS}
 
 not_above : (n gap : ℕ) → gap < n → nat_le n gap ≡ false
 not_above n gap below = grind (arith, nat_tests)
@@ -25,4 +26,4 @@ none_found p q (x ∷ xs) fails = none_next p q x xs (none_found p q xs fails) (
 -- so none of them is missing
 pub none_missing : (p : Listing) (gaps : SetOfGaps) → AreGapsOf p gaps → first_missing p gaps ≡ None
 unfolding numbers_of_set
-none_missing p gaps there = none_found (λ gap. nat_le (gap_count p.threads) gap) (set.contains gaps) (range_with_len 0 64) (λ gap has. not_above (gap_count p.threads) gap (there gap has))
+none_missing p gaps there = none_found (λ gap. nat_le (gap_count p.threads) gap) (set.contains gaps) (range_with_len 0 MAX_GAPS) (λ gap has. not_above (gap_count p.threads) gap (there gap has))

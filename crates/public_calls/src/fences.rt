@@ -4,7 +4,7 @@ use crate::input::{byte_of, push_bytes, split_at_byte};
 use crate::refusal::Refusal;
 use crate::same::is_fenced_source;
 use canonical_text::write_litmus;
-use gap_sets::GapSet;
+use gap_sets::{GapSet, MAX_GAPS};
 use litmus_text::{Litmus, read_fenced, read_litmus};
 use std::alloc::Global;
 use text_tokens::plain_number_up_to;
@@ -14,7 +14,7 @@ use tso_program::Program;
 fn gap_of(program: &Program, word: &[u8]) -> Option<u8> {
     let (first, second) = split_at_byte(word, b':');
     if second.is_empty() {
-        return Some(plain_number_up_to(63, first)? as u8);
+        return Some(plain_number_up_to(u32::from(MAX_GAPS - 1), first)? as u8);
     }
     program.gap_number(byte_of(first).ok()?, byte_of(second).ok()?)
 }
@@ -24,7 +24,7 @@ fn gaps_of(program: &Program, words: &[&[u8]]) -> GapSet {
     let mut gaps = GapSet::empty();
     for word in words.iter().skip(1) {
         match gap_of(program, word) {
-            Some(gap) if gap < 64 => gaps = gaps.with(gap),
+            Some(gap) if gap < MAX_GAPS => gaps = gaps.with(gap),
             _ => {}
         }
     }

@@ -1,7 +1,7 @@
 //! The parts of the input.
 
 use crate::refusal::Refusal;
-use gap_sets::GapSet;
+use gap_sets::{GapSet, MAX_GAPS};
 use std::alloc::{AllocError, Global};
 use text_tokens::plain_number_up_to;
 
@@ -58,12 +58,12 @@ pub fn numbers_of(alloc: Global, word: &[u8]) -> Result<Vec<u32>, Refusal> {
     Ok(numbers)
 }
 
-/// The set of the gaps below 64 whose numbers a word has.
+/// The set of the gaps below `MAX_GAPS` whose numbers a word has.
 pub fn gap_set_of(alloc: Global, word: &[u8]) -> Result<GapSet, Refusal> {
     let mut gaps = GapSet::empty();
     for number in &numbers_of(alloc, word)? {
         let gap = u8::try_from(*number).unwrap_or(u8::MAX);
-        if gap < 64 {
+        if gap < MAX_GAPS {
             gaps = gaps.with(gap);
         }
     }

@@ -1,6 +1,6 @@
 //! Whether two tests are the same.
 
-use gap_sets::GapSet;
+use gap_sets::{GapSet, MAX_GAPS};
 use litmus_text::{Label, Litmus, NameTable};
 use tso_program::{FencedProgram, Items, Program, Reg};
 
@@ -43,7 +43,7 @@ fn lies_before(program: &Program, gaps: &GapSet, gap: u8, t: usize, position: us
 /// How many fences stand before a position of thread t.
 fn fences_before(program: &Program, gaps: &GapSet, t: usize, position: usize) -> usize {
     let mut fences: usize = 0;
-    for gap in 0..64 {
+    for gap in 0..MAX_GAPS {
         if lies_before(program, gaps, gap, t, position) {
             fences = fences.saturating_add(1);
         }

@@ -2,7 +2,7 @@
 
 use crate::input::{byte_of, gap_set_of, numbers_of, word_at};
 use crate::refusal::Refusal;
-use gap_sets::{Costs, GapSet};
+use gap_sets::{Costs, GapSet, MAX_GAPS};
 use std::alloc::{AllocError, Global};
 
 /// The gaps of a set, ascending.
@@ -18,7 +18,7 @@ fn push_changed(
     gap: u8,
     printed: &mut String,
 ) -> Result<(), AllocError> {
-    if gap < 64 {
+    if gap < MAX_GAPS {
         printed.push_str("with ")?;
         push_gaps(alloc, &gaps.with(gap), printed)?;
         printed.push_str("without ")?;

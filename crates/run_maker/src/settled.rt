@@ -3,9 +3,7 @@
 
 use exec_axioms::{Event, Kind, Sketch};
 use std::alloc::{AllocError, Global};
-
-/// How many places a row has a bit for. A program has no more accesses.
-const PLACES: usize = 32;
+use tso_program::MAX_ACCESSES;
 
 /// The events, listed by thread and index, in an order that turns round as few pairs of a thread as it
 /// can: a run passes the gaps between a store and a later load that comes before it. Each two events of
@@ -86,7 +84,7 @@ fn row_at(rows: &[u32], place: usize) -> u32 {
 /// The events, those with the shortest rows first.
 fn by_count(alloc: Global, rows: &[u32], events: &[Event]) -> Result<Vec<Event>, AllocError> {
     let mut order = Vec::new(alloc);
-    for count in 1..PLACES + 1 {
+    for count in 1..MAX_ACCESSES + 1 {
         push_those(rows, events, count as u32, &mut order)?;
     }
     Ok(order)
@@ -107,9 +105,9 @@ fn push_those(
     Ok(())
 }
 
-/// The bit of a place in a row.
+/// The bit of a place in a row, which has one for each access of a program.
 fn bit(place: usize) -> u32 {
-    if place < PLACES { 1 << place } else { 0 }
+    if place < MAX_ACCESSES { 1 << place } else { 0 }
 }
 
 /// Whether both are accesses of one thread.

@@ -16,7 +16,7 @@ use Rattle.std.specs.List.{range_with_len}
 use Rattle.std.proofs.Common.{zero-add, ◌+◌}
 use Rattle.std.proofs.lemmas.List.FromFn.{length-range_with_len, get_or-range_with_len}
 use Rattle.fence_laws.proofs.AllGapsFenced.{all_serve}
-use Rattle.search_core.proofs.OpenGaps.{has_any, any_has}
+use Rattle.tree_laws.proofs.Filtered.{has_any, any_has}
 use Rattle.search_core.proofs.Sets.{unserved, gap_set}
 use Rattle.search_core.proofs.Kept.{Facts, facts_of}
 

@@ -5,33 +5,33 @@ use Rattle.std.proofs.lemmas.Option.{same_Some, none-some}
 use native.Mathlib.Decide.{ℕ_discrete}
 use Rattle.std.proofs.lemmas.List.{length-set}
 use Rattle.gap_sets.specs.Gaps.{SetOfGaps}
+use Rattle.gap_sets.specs.Regions.{IsInRegion}
+use Rattle.gap_sets.specs.declared.region.Region.{Region}
 use Rattle.tso_program.specs.Shown.{Question}
-use Rattle.tree_laws.specs.GapTrees.{IsInRegion}
 use Rattle.cover_solver.specs.Facts.{Foreign, IsForeignValue}
 use Rattle.cover_solver.specs.Verdicts.{PassesNoneOf}
-use Rattle.search_core.specs.declared.node.Node.{Node}
 use Rattle.search_core.specs.declared.entry.Entry.{Entry}
 use Rattle.search_core.specs.declared.entry.Status.{Status}
 use Rattle.search_core.specs.declared.entry.Status.TheVariants.{Open, Split}
-use Rattle.search_core.specs.Nodes.{region_of, children}
+use Rattle.search_core.specs.Children.{children}
 use Rattle.search_core.specs.Entries.{entry, is_live, is_live_status}
 use Rattle.search_core.specs.Events.{open_entries}
 use Rattle.search_core.specs.Laws.{IsLive}
 use Rattle.search_core.proofs.Places.{get_here, get_else, get_longer, get_behind, get_either, get_old, get_mapped, Each, each_mapped}
 
 -- at the place stands the node
-pub record HasNode (es : List Entry) (place : ℕ) (n : Node) : Type 0 where
+pub record HasNode (es : List Entry) (place : ℕ) (n : Region) : Type 0 where
   pub here : Entry
   pub there : slice_get es place ≡ Some here
   pub is_node : here.node ≡ n
 
 -- the node is split by a foreign run of the question, and its children stand from a later place on
-pub record IsSplitAt (q : Question) (es : List Entry) (place : ℕ) (n : Node) (f : Foreign) (first : ℕ) : Type 0 where
+pub record IsSplitAt (q : Question) (es : List Entry) (place : ℕ) (n : Region) (f : Foreign) (first : ℕ) : Type 0 where
   pub of_question : f.question ≡ q
   pub foreign : IsForeignValue f
   pub passes_none : PassesNoneOf n.must f
   pub later : place < first
-  pub kids : (j : ℕ) (c : Node) → slice_get (children n f.passed) j ≡ Some c → HasNode es (first + j) c
+  pub kids : (j : ℕ) (c : Region) → slice_get (children n f.passed) j ≡ Some c → HasNode es (first + j) c
 
 -- so it is with each split node
 abbrev pub SplitsHold : Question → List Entry → Type 0
@@ -49,7 +49,7 @@ module _ (es : List Entry) (place : ℕ) (e x : Entry) (there : slice_get es pla
   is_there = get_longer (set es place x) more place x (get_here es place e x there)
 
   -- nodes never move
-  pub node_stays : (j : ℕ) (n : Node) → HasNode es j n → HasNode changed j n
+  pub node_stays : (j : ℕ) (n : Region) → HasNode es j n → HasNode changed j n
   node_stays j n has = elim (ℕ_discrete j place) [
     | yes at ↦ (let is : e ≡ has.here = same_Some e has.here (sym there ∙ ap (slice_get es) (sym at) ∙ has.there) in
         record { here = x; there = ap (slice_get changed) at ∙ is_there; is_node = same ∙ ap (λ (y : Entry). y.node) is ∙ has.is_node })
@@ -57,10 +57,10 @@ module _ (es : List Entry) (place : ℕ) (e x : Entry) (there : slice_get es pla
   ]
 
   -- a set stays in a live node's region, or was in that of the changed one
-  pub moved : (A : Type 0) (gaps : SetOfGaps) → (IsInRegion (region_of e.node) gaps → A) → (IsLive changed gaps → A) → IsLive es gaps → A
+  pub moved : (A : Type 0) (gaps : SetOfGaps) → (IsInRegion e.node gaps → A) → (IsLive changed gaps → A) → IsLive es gaps → A
   moved A gaps at stays l = elim (ℕ_discrete l.place place) [
     | yes here ↦ (let is : l.entry ≡ e = same_Some l.entry e (sym l.there ∙ ap (slice_get es) here ∙ there) in
-        at (subst (λ (y : Entry). IsInRegion (region_of y.node) gaps) is l.inside))
+        at (subst (λ (y : Entry). IsInRegion y.node gaps) is l.inside))
     | no apart ↦ stays (record {
       place = l.place;
       entry = l.entry;
@@ -71,8 +71,8 @@ module _ (es : List Entry) (place : ℕ) (e x : Entry) (there : slice_get es pla
   ]
 
   -- a set in the region of the changed node is in a live node's, if that one is live
-  pub still_live : is_live x ≡ true → (gaps : SetOfGaps) → IsInRegion (region_of e.node) gaps → IsLive changed gaps
-  still_live live gaps inside = record { place = place; entry = x; there = is_there; live = live; inside = subst (λ (n : Node). IsInRegion (region_of n) gaps) (sym same) inside }
+  pub still_live : is_live x ≡ true → (gaps : SetOfGaps) → IsInRegion e.node gaps → IsLive changed gaps
+  still_live live gaps inside = record { place = place; entry = x; there = is_there; live = live; inside = subst (λ (n : Region). IsInRegion n gaps) (sym same) inside }
 
   -- each split node keeps its children
   pub splits_stay : (q : Question) → SplitsHold q es → ((f : Foreign) (first : ℕ) → x.status ≡ Split f first → IsSplitAt q changed place x.node f first) →
@@ -94,7 +94,7 @@ module _ (es : List Entry) (place : ℕ) (e x : Entry) (there : slice_get es pla
   ]
 
 -- nodes that are opened are live
-pub opened_live : (seat : ℕ) (ns : List Node) → Each (λ y. is_live y ≡ true) (open_entries seat ns)
+pub opened_live : (seat : ℕ) (ns : List Region) → Each (λ y. is_live y ≡ true) (open_entries seat ns)
 opened_live seat ns = each_mapped (λ n. Unit {0}) (λ y. is_live y ≡ true) (λ n. entry n seat Open) (λ n h. refl) ns (λ k n h. tt)
 
 -- none more
@@ -102,7 +102,7 @@ pub none_live : Each (λ (y : Entry). is_live y ≡ true) []
 none_live k y e = absurd (none-some y e)
 
 -- the children of a node that is split follow the entries
-pub kids_behind : (es : List Entry) (place seat : ℕ) (x : Entry) (ns : List Node) (j : ℕ) (c : Node) → slice_get ns j ≡ Some c → HasNode (set es place x ++ open_entries seat ns) (length es + j) c
+pub kids_behind : (es : List Entry) (place seat : ℕ) (x : Entry) (ns : List Region) (j : ℕ) (c : Region) → slice_get ns j ≡ Some c → HasNode (set es place x ++ open_entries seat ns) (length es + j) c
 kids_behind es place seat x ns j c e = record {
   here = entry c seat Open;
   there = (let long : length (set es place x) ≡ length es = length-set es place x in

@@ -6,30 +6,30 @@ use Rattle.std.specs.Ordering.{nat_cmp}
 use Rattle.std.proofs.lemmas.Option.{same_Some, none-some, slice_get_within}
 use Rattle.gap_sets.specs.Gaps.{SetOfGaps}
 use Rattle.gap_sets.specs.Order.{total, Better}
+use Rattle.gap_sets.specs.Regions.{all_sets, with_gap, without_gap, children_of, open_gaps}
+use Rattle.gap_sets.specs.declared.region.Region.{Region}
 use Rattle.gap_sets.proofs.Orders.{not_itself}
 use Rattle.tso_program.specs.declared.listing.Listing.{Listing}
 use Rattle.tso_program.specs.Shown.{Question}
 use Rattle.tso_program.specs.Listings.{gap_count}
 use Rattle.tso_program.specs.Limits.{IsWithinLimits}
 use Rattle.tso_machine.specs.Outcomes.{Serves, AreGapsOf}
-use Rattle.tree_laws.specs.GapTrees.{HaveCosts, children_of}
-use Rattle.tree_laws.specs.GapTrees as trees
+use Rattle.tree_laws.specs.GapTrees.{HaveCosts}
 use Rattle.tree_laws.proofs.Regions.{new_or_old, in_root}
 use Rattle.tree_laws.proofs.Lists.{first_is_here, later_is_here}
 use Rattle.cover_solver.specs.Facts.{Foreign, Serving, IsForeignValue, IsServing}
 use Rattle.cover_solver.specs.Verdicts.{PassesNoneOf}
-use Rattle.search_core.specs.declared.node.Node.{Node}
 use Rattle.search_core.specs.declared.entry.Entry.{Entry}
 use Rattle.search_core.specs.declared.entry.Status.{Status}
 use Rattle.search_core.specs.declared.entry.Status.TheVariants.{Open, Held, Split, Cut, Confirmed}
-use Rattle.search_core.specs.Nodes.{region_of, search_node, open_gaps, children}
+use Rattle.search_core.specs.Children.{children}
 use Rattle.search_core.specs.Entries.{entry, is_live, is_closed, is_closed_status, is_live_status}
 use Rattle.search_core.specs.Ceilings.{IsCeiling}
-use Rattle.search_core.specs.States.{SearchState, IsStart, root_node}
+use Rattle.search_core.specs.States.{SearchState, IsStart}
 use Rattle.search_core.specs.Events.{open_entries, IsBeatenBy, IsBestAfter, TakesNode, GivesBack, Splits, Cuts, Confirms, IsEvent, takes, gives_back, splits, cuts, confirms}
 use Rattle.search_core.specs.Histories.{IsReached, starts, goes_on}
 use Rattle.search_core.proofs.Places.{Each, each_behind, each_set, each_mapped}
-use Rattle.search_core.proofs.OpenGaps.{open_exact}
+use Rattle.tree_laws.proofs.OpenGaps.{open_exact}
 use Rattle.search_core.proofs.Sets.{gap_set, passed_gaps, not_better}
 use Rattle.search_core.proofs.Changes.{HasNode, IsSplitAt, SplitsHold, changed, node_stays, splits_stay, opened_live, none_live, kids_behind}
 use Rattle.search_core.proofs.NoneLost.{NoneLost, lost_by_none, lost_by_no_cut, lost_by_no_confirming, lost_by_no_split}
@@ -58,23 +58,22 @@ pub record Facts (s : SearchState) : Type 0 where
   pub of_program : AreOfProgram s.question.program s.entries
   pub closed : ClosedAreBelow s.question s.costs s.entries
   pub split : SplitsHold s.question s.entries
-  pub root : HasNode s.entries 0 root_node
+  pub root : HasNode s.entries 0 all_sets
   pub none_lost : NoneLost s.question s.costs within have_costs s.entries s.best
 
 -- the gaps that children must have are the program's
 module _ (p : Listing) where
-  kids_of : (n : trees.Node) (gaps : List ℕ) → AreGapsOf p n.must → ((gap : ℕ) → Contains gaps gap → gap < gap_count p.threads) → Each (λ (c : trees.Node). AreGapsOf p c.must) (children_of n gaps)
+  kids_of : (n : Region) (gaps : List ℕ) → AreGapsOf p n.must → ((gap : ℕ) → Contains gaps gap → gap < gap_count p.threads) → Each (λ (c : Region). AreGapsOf p c.must) (children_of n gaps)
   kids_of n [] of each k c e = absurd (none-some c e)
-  kids_of n (gap ∷ gaps) of each zero c e = subst (λ (d : trees.Node). AreGapsOf p d.must) (same_Some (record n { must = set.insert n.must gap }) c e)
+  kids_of n (gap ∷ gaps) of each zero c e = subst (λ (d : Region). AreGapsOf p d.must) (same_Some (with_gap n gap) c e)
       (λ q h. elim (new_or_old n.must gap q h) [ inl same ↦ subst (λ g. g < gap_count p.threads) same (each gap (first_is_here gap gaps)) | inr old ↦ of q old ])
-  kids_of n (gap ∷ gaps) of each (suc k) c e = kids_of (record n { never = set.insert n.never gap }) gaps of (λ q h. each q (later_is_here gap gaps q h)) k c e
+  kids_of n (gap ∷ gaps) of each (suc k) c e = kids_of (without_gap n gap) gaps of (λ q h. each q (later_is_here gap gaps q h)) k c e
 
-  pub opened_of : IsWithinLimits p.threads p.memory → (f : Foreign) (seat : ℕ) (n : Node) → f.question.program ≡ p → IsForeignValue f → AreGapsOf p n.must → AreOfProgram p (open_entries seat (children n f.passed))
+  pub opened_of : IsWithinLimits p.threads p.memory → (f : Foreign) (seat : ℕ) (n : Region) → f.question.program ≡ p → IsForeignValue f → AreGapsOf p n.must → AreOfProgram p (open_entries seat (children n f.passed))
   opened_of within f seat n of_program foreign of =
-      each_mapped (λ (m : Node). AreGapsOf p m.must) (λ (e : Entry). AreGapsOf p e.node.must) (λ m. entry m seat Open) (λ m h. h) (children n f.passed)
-      (each_mapped (λ (c : trees.Node). AreGapsOf p c.must) (λ (m : Node). AreGapsOf p m.must) search_node (λ c h. h) (children_of (region_of n) (open_gaps f.passed n.never))
-      (kids_of (region_of n) (open_gaps f.passed n.never) of (λ gap here. subst (λ (q : Listing). gap < gap_count q.threads) of_program
-      (passed_gaps f foreign gap ((open_exact f.passed n.never (gap_set f.question.program (subst (λ (q : Listing). IsWithinLimits q.threads q.memory) (sym of_program) within) f.passed (passed_gaps f foreign)) gap).0 here).0))))
+      each_mapped (λ (m : Region). AreGapsOf p m.must) (λ (e : Entry). AreGapsOf p e.node.must) (λ m. entry m seat Open) (λ m h. h) (children n f.passed)
+      (kids_of n (open_gaps f.passed n.never) of (λ gap here. subst (λ (q : Listing). gap < gap_count q.threads) of_program
+      (passed_gaps f foreign gap ((open_exact f.passed n.never (gap_set f.question.program (subst (λ (q : Listing). IsWithinLimits q.threads q.memory) (sym of_program) within) f.passed (passed_gaps f foreign)) gap).0 here).0)))
 
 not_closed : (e : Entry) → is_live e ≡ true → is_closed e ≡ true → ⊥
 not_closed e live closed = by_status e.status live closed
@@ -89,7 +88,7 @@ not_closed e live closed = by_status e.status live closed
 -- the start
 at_start : (s : SearchState) → IsStart s → Facts s
 at_start s is =
-    let only : List Entry = entry root_node 0 Open ∷ [] in
+    let only : List Entry = entry all_sets 0 Open ∷ [] in
     record {
       within = is.within;
       have_costs = is.have_costs;
@@ -97,13 +96,13 @@ at_start s is =
       of_program = subst (AreOfProgram s.question.program) (sym is.only_root) (λ k e at. each_root (λ (x : Entry). AreGapsOf s.question.program x.node.must) (λ q h. let no : true ≡ false = sym h ∙ set.contains-empty nat_cmp q in absurd cc) k e at);
       closed = subst (ClosedAreBelow s.question s.costs) (sym is.only_root) (each_root (λ (x : Entry). is_closed x ≡ true → IsBelow s.question s.costs x.node.must) (λ h. absurd cc));
       split = subst (SplitsHold s.question) (sym is.only_root) (λ k e f first at h. absurd (each_root (λ (x : Entry). x.status ≡ Split f first → ⊥) (λ q. cc) k e at h));
-      root = subst (λ es. HasNode es 0 root_node) (sym is.only_root) (record { here = entry root_node 0 Open; there = refl; is_node = refl });
+      root = subst (λ es. HasNode es 0 all_sets) (sym is.only_root) (record { here = entry all_sets 0 Open; there = refl; is_node = refl });
       none_lost = subst (λ es. NoneLost s.question s.costs is.within is.have_costs es s.best) (sym is.only_root)
-          (λ gaps of better. inr (inr (record { place = 0; entry = entry root_node 0 Open; there = refl; live = refl; inside = in_root gaps })));
+          (λ gaps of better. inr (inr (record { place = 0; entry = entry all_sets 0 Open; there = refl; live = refl; inside = in_root gaps })));
     }
   where
-    each_root : (P : Entry → Type 0) → P (entry root_node 0 Open) → Each P (entry root_node 0 Open ∷ [])
-    each_root P h zero e at = subst P (same_Some (entry root_node 0 Open) e at) h
+    each_root : (P : Entry → Type 0) → P (entry all_sets 0 Open) → Each P (entry all_sets 0 Open ∷ [])
+    each_root P h zero e at = subst P (same_Some (entry all_sets 0 Open) e at) h
     each_root P h (suc k) e at = absurd (none-some e at)
 
 module _ (s : SearchState) (facts : Facts s) where
@@ -119,11 +118,11 @@ module _ (s : SearchState) (facts : Facts s) where
       have_costs = facts.have_costs;
       best_serves = serves;
       of_program = each_behind (λ (y : Entry). AreGapsOf s.question.program y.node.must) (set_at s.entries place x) more
-          (each_set (λ (y : Entry). AreGapsOf s.question.program y.node.must) s.entries place x facts.of_program (subst (λ (n : Node). AreGapsOf s.question.program n.must) (sym same) (facts.of_program place e there))) of;
+          (each_set (λ (y : Entry). AreGapsOf s.question.program y.node.must) s.entries place x facts.of_program (subst (λ (n : Region). AreGapsOf s.question.program n.must) (sym same) (facts.of_program place e there))) of;
       closed = each_behind (λ (y : Entry). is_closed y ≡ true → IsBelow s.question s.costs y.node.must) (set_at s.entries place x) more
           (each_set (λ (y : Entry). is_closed y ≡ true → IsBelow s.question s.costs y.node.must) s.entries place x facts.closed closed) (λ k y at c. absurd (not_closed y (live k y at) c));
       split = splits_stay s.entries place e x there same more s.question facts.split split live;
-      root = node_stays s.entries place e x there same more 0 root_node facts.root;
+      root = node_stays s.entries place e x there same more 0 all_sets facts.root;
       none_lost = lost;
     }
 
@@ -133,7 +132,7 @@ module _ (s : SearchState) (facts : Facts s) where
     by_status best serves closed split lost = subst (λ (l : List Entry). Facts (record s { entries = l; best = best })) (append-nil (set_at s.entries place x))
         (by_change [] best serves (λ k y at. absurd (none-some y at)) closed (λ f first h. absurd (split f first h)) none_live lost)
 
-  taken : (after : SearchState) (seat : ℕ) (n : Node) → TakesNode s after seat n → Facts after
+  taken : (after : SearchState) (seat : ℕ) (n : Region) → TakesNode s after seat n → Facts after
   taken after seat n t =
       let e = t.there.before in
       let x = entry n seat Held in
@@ -166,7 +165,7 @@ module _ (s : SearchState) (facts : Facts s) where
       (λ c. elim t.why [ inl why ↦ below_best t.node.must why | inr why ↦ below_ceiling t.node.must why.0 why.1 why.2 ])
       (λ f first h. cc)
       (lost_by_no_cut s.question s.costs facts.within facts.have_costs s.entries t.place e x t.there.there (sym t.there.is_node) [] s.best
-      (subst (λ (n : Node). IsBeatenBy s.costs s.best n.must ⊎ ((cost : ℕ) × IsCeiling s.question s.costs cost × (cost < total s.costs n.must))) (sym t.there.is_node) t.why) facts.none_lost))
+      (subst (λ (n : Region). IsBeatenBy s.costs s.best n.must ⊎ ((cost : ℕ) × IsCeiling s.question s.costs cost × (cost < total s.costs n.must))) (sym t.there.is_node) t.why) facts.none_lost))
 
   still_serves : (b : Serving) (best : Option Serving) → b.question ≡ s.question → AreGapsOf s.question.program b.gaps → IsServing b → IsBestAfter s.costs b s.best best → BestServes s.question best
   still_serves b best of gaps serves (inl (now, older)) c is =
@@ -179,7 +178,7 @@ module _ (s : SearchState) (facts : Facts s) where
   confirmed after seat b t =
       let e = t.there.before in
       let x = entry t.node seat Confirmed in
-      let gaps = subst (λ (n : Node). AreGapsOf s.question.program n.must) t.there.is_node (facts.of_program t.place e t.there.there) in
+      let gaps = subst (λ (n : Region). AreGapsOf s.question.program n.must) t.there.is_node (facts.of_program t.place e t.there.there) in
       subst Facts (sym t.is_after) (by_status t.place e x t.there.there (sym t.there.is_node) t.best (still_serves b t.best t.of_question (subst (λ (g : SetOfGaps). AreGapsOf s.question.program g) (sym t.of_node) gaps) t.serves t.best_after)
       (λ c. record {
         other = t.node.must;
@@ -189,9 +188,9 @@ module _ (s : SearchState) (facts : Facts s) where
       })
       (λ f first h. cc)
       (lost_by_no_confirming s.question s.costs facts.within facts.have_costs s.entries t.place e x t.there.there (sym t.there.is_node) [] b s.best t.best
-      (t.of_node ∙ ap (λ (n : Node). n.must) (sym t.there.is_node)) t.best_after facts.none_lost))
+      (t.of_node ∙ ap (λ (n : Region). n.must) (sym t.there.is_node)) t.best_after facts.none_lost))
 
-  new_split : (place : ℕ) (e : Entry) (seat : ℕ) (n : Node) (f : Foreign) → slice_get s.entries place ≡ Some e → f.question ≡ s.question → IsForeignValue f → PassesNoneOf n.must f →
+  new_split : (place : ℕ) (e : Entry) (seat : ℕ) (n : Region) (f : Foreign) → slice_get s.entries place ≡ Some e → f.question ≡ s.question → IsForeignValue f → PassesNoneOf n.must f →
       (g : Foreign) (first : ℕ) → Split f (length s.entries) ≡ Split g first →
       IsSplitAt s.question (set_at s.entries place (entry n seat (Split f (length s.entries))) ++ open_entries seat (children n f.passed)) place n g first
   new_split place e seat n f there of foreign apart g first h =
@@ -214,12 +213,12 @@ module _ (s : SearchState) (facts : Facts s) where
       let x = entry t.node seat (Split f (length s.entries)) in
       let more = open_entries seat (children t.node f.passed) in
       subst Facts (sym t.is_after) (by_change t.place e x t.there.there (sym t.there.is_node) more s.best facts.best_serves
-      (opened_of s.question.program facts.within f seat t.node (ap (λ (q : Question). q.program) t.of_question) t.foreign (subst (λ (n : Node). AreGapsOf s.question.program n.must) t.there.is_node (facts.of_program t.place e t.there.there)))
+      (opened_of s.question.program facts.within f seat t.node (ap (λ (q : Question). q.program) t.of_question) t.foreign (subst (λ (n : Region). AreGapsOf s.question.program n.must) t.there.is_node (facts.of_program t.place e t.there.there)))
       (λ c. absurd cc)
       (λ g first h. new_split t.place e seat t.node f t.there.there t.of_question t.foreign t.passes_none g first h)
       (opened_live seat (children t.node f.passed))
       (lost_by_no_split s.question s.costs facts.within facts.have_costs s.entries t.place e x t.there.there (sym t.there.is_node) more f t.of_question t.foreign seat
-      (ap (λ (n : Node). open_entries seat (children n f.passed)) (sym t.there.is_node)) s.best facts.none_lost))
+      (ap (λ (n : Region). open_entries seat (children n f.passed)) (sym t.there.is_node)) s.best facts.none_lost))
 
   after_event : (after : SearchState) (seat : ℕ) → IsEvent s after seat → Facts after
   after_event after seat (takes n t) = taken after seat n t

@@ -1,5 +1,4 @@
 pub mod Places
-pub mod OpenGaps
 pub mod Sets
 pub mod OfProgram
 pub mod Changes

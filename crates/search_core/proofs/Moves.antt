@@ -3,16 +3,16 @@ use Rattle.std.proofs.Common.{◌≡◌, ◌⊎◌, ℕ, zero, suc, ◌<◌, Lis
 use Rattle.std.specs.Prelude.{slice_get, slice_set, IfSome, MatchOption}
 use Rattle.std.proofs.lemmas.Option.{slice_get_within}
 use Rattle.gap_sets.specs.Order.{total}
+use Rattle.gap_sets.specs.declared.region.Region.{Region}
 use Rattle.tso_program.specs.Shown.{Question}
 use Rattle.tso_machine.specs.Outcomes.{AreGapsOf}
 use Rattle.cover_solver.specs.Facts.{Foreign, Serving, IsForeignValue, IsServing}
 use Rattle.cover_solver.specs.Verdicts.{PassesNoneOf}
-use Rattle.search_core.specs.declared.node.Node.{Node}
 use Rattle.search_core.specs.declared.entry.Entry.{Entry}
 use Rattle.search_core.specs.declared.entry.Status.TheVariants.{Open, Held, Split, Cut, Confirmed}
 use Rattle.search_core.specs.declared.ceiling.Reason.{Reason}
 use Rattle.search_core.specs.declared.ceiling.Reason.TheVariants as reason
-use Rattle.search_core.specs.Nodes.{children}
+use Rattle.search_core.specs.Children.{children}
 use Rattle.search_core.specs.Entries.{entry}
 use Rattle.search_core.specs.Ceilings.{Bound, IsCeiling, IsBound, IsCeilingOf}
 use Rattle.search_core.specs.States.{SearchState, IsOpenAt, IsHeldAt, HoldsNode, HoldsNothing, HoldsOnly, HasNoOpen, IsSameSearch}
@@ -35,33 +35,33 @@ module _ (s old : SearchState) (is : s ≡ old) (seen : List Entry) (at : seen �
   seen_old : seen ≡ old.entries
   seen_old = at ∙ ap (λ (t : SearchState). t.entries) is
 
-  pub holds_nothing : (seat : ℕ) → ((place : ℕ) (n : Node) → ¬ IsHeldAt seen seat place n) → HoldsNothing old seat
+  pub holds_nothing : (seat : ℕ) → ((place : ℕ) (n : Region) → ¬ IsHeldAt seen seat place n) → HoldsNothing old seat
   holds_nothing seat none n held = none held.0 n (subst (λ es. IsHeldAt es seat held.0 n) (sym seen_old) held.1)
 
-  pub does_hold : (seat place : ℕ) (n : Node) → IsHeldAt seen seat place n → HoldsNode old seat n
+  pub does_hold : (seat place : ℕ) (n : Region) → IsHeldAt seen seat place n → HoldsNode old seat n
   does_hold seat place n held = (place, subst (λ es. IsHeldAt es seat place n) seen_old held)
 
-  pub holds_only : IsReached s → (seat place : ℕ) (n : Node) → IsHeldAt seen seat place n → HoldsOnly old seat n
+  pub holds_only : IsReached s → (seat place : ℕ) (n : Region) → IsHeldAt seen seat place n → HoldsOnly old seat n
   holds_only r seat place n held = subst (λ (t : SearchState). HoldsOnly t seat n) is (only_node s seat place n r (subst (λ es. IsHeldAt es seat place n) at held))
 
-  pub no_open : ((place : ℕ) (n : Node) → ¬ IsOpenAt seen place n) → HasNoOpen old
+  pub no_open : ((place : ℕ) (n : Region) → ¬ IsOpenAt seen place n) → HasNoOpen old
   no_open none place n open_there = none place n (subst (λ es. IsOpenAt es place n) (sym seen_old) open_there)
 
-  pub held_within : (seat place : ℕ) (n : Node) → IsHeldAt seen seat place n → place < length s.entries
+  pub held_within : (seat place : ℕ) (n : Region) → IsHeldAt seen seat place n → place < length s.entries
   held_within seat place n held = subst (λ es. place < length es) at (slice_get_within seen place held.before held.there)
 
-  pub open_within : (place : ℕ) (n : Node) → IsOpenAt seen place n → place < length s.entries
+  pub open_within : (place : ℕ) (n : Region) → IsOpenAt seen place n → place < length s.entries
   open_within place n open_there = subst (λ es. place < length es) at (slice_get_within seen place open_there.before open_there.there)
 
-  pub held_gaps : IsReached s → (seat place : ℕ) (n : Node) → IsHeldAt seen seat place n → AreGapsOf old.question.program n.must
+  pub held_gaps : IsReached s → (seat place : ℕ) (n : Region) → IsHeldAt seen seat place n → AreGapsOf old.question.program n.must
   held_gaps r seat place n held = subst (λ (t : SearchState). AreGapsOf t.question.program n.must) is
-      (subst (λ (m : Node). AreGapsOf s.question.program m.must) held.is_node ((facts_of s r).of_program place held.before (ap (λ es. slice_get es place) (sym at) ∙ held.there)))
+      (subst (λ (m : Region). AreGapsOf s.question.program m.must) held.is_node ((facts_of s r).of_program place held.before (ap (λ es. slice_get es place) (sym at) ∙ held.there)))
 
-  pub open_gaps : IsReached s → (place : ℕ) (n : Node) → IsOpenAt seen place n → AreGapsOf old.question.program n.must
+  pub open_gaps : IsReached s → (place : ℕ) (n : Region) → IsOpenAt seen place n → AreGapsOf old.question.program n.must
   open_gaps r place n h = subst (λ (t : SearchState). AreGapsOf t.question.program n.must) is
-      (subst (λ (m : Node). AreGapsOf s.question.program m.must) h.is_node ((facts_of s r).of_program place h.before (ap (λ es. slice_get es place) (sym at) ∙ h.there)))
+      (subst (λ (m : Region). AreGapsOf s.question.program m.must) h.is_node ((facts_of s r).of_program place h.before (ap (λ es. slice_get es place) (sym at) ∙ h.there)))
 
-  module _ (items : List Entry) (seat place : ℕ) (n : Node) where
+  module _ (items : List Entry) (seat place : ℕ) (n : Region) where
     abbrev pub after : SearchState
     after = record s { entries = items }
 
@@ -83,7 +83,7 @@ module _ (s old : SearchState) (is : s ≡ old) (seen : List Entry) (at : seen �
       pub cut_event : IsBeaten s n ⊎ IsTooDear s n → items ≡ slice_set s.entries place (entry n seat Cut) → Cuts s after seat
       cut_event why e = record { node = n; place = place; there = held_there; why = why; is_after = ap (λ es. record s { entries = es }) e }
 
-      pub confirm_event : (b : Serving) (best : Option Serving) → b.question ≡ old.question → ((m : Node) → HoldsNode old seat m → b.gaps ≡ m.must) → IsServing b → IsBestAfter s.costs b s.best best →
+      pub confirm_event : (b : Serving) (best : Option Serving) → b.question ≡ old.question → ((m : Region) → HoldsNode old seat m → b.gaps ≡ m.must) → IsServing b → IsBestAfter s.costs b s.best best →
           items ≡ slice_set s.entries place (entry n seat Confirmed) → Confirms s (record s { entries = items; best = best }) seat b
       confirm_event b best of of_node serves best_after e = record {
         node = n;
@@ -110,7 +110,7 @@ module _ (s old : SearchState) (is : s ≡ old) (seen : List Entry) (at : seen �
       }
 
 -- a reason that cuts a node
-pub why_cut : (s : SearchState) (why : Reason) (n : Node) → IsReasonOf s why → HasBound why → CutsMust s.costs s.best why n.must → IsBeaten s n ⊎ IsTooDear s n
+pub why_cut : (s : SearchState) (why : Reason) (n : Region) → IsReasonOf s why → HasBound why → CutsMust s.costs s.best why n.must → IsBeaten s n ⊎ IsTooDear s n
 why_cut s reason.Best n of bound cuts = inl cuts
 why_cut s (reason.Ceiling ceiling) n of bound cuts = inr (by_ceiling ceiling of bound cuts)
   where

@@ -6,25 +6,26 @@ use Rattle.std.proofs.lemmas.List.{length-set}
 use Rattle.std.specs.FinSet as set
 use Rattle.gap_sets.specs.Gaps.{SetOfGaps, IsGapSet}
 use Rattle.gap_sets.specs.Order.{total, Better}
+use Rattle.gap_sets.specs.Regions.{IsInRegion, children_of, HasNoneOf, open_gaps}
+use Rattle.gap_sets.specs.declared.region.Region.{Region}
 use Rattle.gap_sets.proofs.Orders.{not_itself, chained}
 use Rattle.tso_program.specs.Shown.{Question}
 use Rattle.tso_program.specs.Limits.{IsWithinLimits}
 use Rattle.tso_machine.specs.Outcomes.{LeavesOutcome, AreGapsOf}
-use Rattle.tree_laws.specs.GapTrees.{IsInRegion, HaveCosts, HasNoneOf, PassesGap, children_of}
-use Rattle.tree_laws.specs.GapTrees as trees
+use Rattle.tree_laws.specs.GapTrees.{HaveCosts, PassesGap}
 use Rattle.tree_laws.proofs.BetterSets.{still_better}
 use Rattle.tree_laws.proofs.Regions.{split_loses_no_set, true_or_false}
 use Rattle.tree_laws.proofs.AvoidedGaps.{Avoids, leaves_outcome}
 use Rattle.cover_solver.specs.Facts.{Foreign, Serving, IsForeignValue}
 use Rattle.search_core.specs.declared.entry.Entry.{Entry}
 use Rattle.search_core.specs.declared.entry.Status.TheVariants.{Open}
-use Rattle.search_core.specs.Nodes.{region_of, search_node, open_gaps, children}
+use Rattle.search_core.specs.Children.{children}
 use Rattle.search_core.specs.Entries.{entry, is_live}
 use Rattle.search_core.specs.Ceilings.{IsCeiling}
 use Rattle.search_core.specs.Events.{open_entries, IsBeatenBy, IsBestAfter}
 use Rattle.search_core.specs.Laws.{IsLive, IsUndercut}
 use Rattle.search_core.proofs.Places.{get_behind, get_mapped}
-use Rattle.search_core.proofs.OpenGaps.{open_exact}
+use Rattle.tree_laws.proofs.OpenGaps.{open_exact}
 use Rattle.search_core.proofs.Sets.{no_dearer, gap_set, passed_gaps}
 use Rattle.search_core.proofs.Changes.{changed, moved, still_live}
 
@@ -36,7 +37,7 @@ module _ (q : Question) (costs : List ℕ) (within : IsWithinLimits q.program.th
   NoneLost es best = (gaps : SetOfGaps) → AreGapsOf q.program gaps → IfSome best (λ b. Better costs gaps b.gaps) → Fate es gaps
 
   module _ (es : List Entry) (place : ℕ) (e x : Entry) (there : slice_get es place ≡ Some e) (same : x.node ≡ e.node) (more : List Entry) where
-    fate_moves : (gaps : SetOfGaps) → (IsInRegion (region_of e.node) gaps → Fate (changed es place e x there same more) gaps) → Fate es gaps → Fate (changed es place e x there same more) gaps
+    fate_moves : (gaps : SetOfGaps) → (IsInRegion e.node gaps → Fate (changed es place e x there same more) gaps) → Fate es gaps → Fate (changed es place e x there same more) gaps
     fate_moves gaps at (inl left) = inl left
     fate_moves gaps at (inr (inl undercut)) = inr (inl undercut)
     fate_moves gaps at (inr (inr live)) = moved es place e x there same more (Fate (changed es place e x there same more) gaps) gaps at (λ l. inr (inr l)) live
@@ -46,12 +47,12 @@ module _ (q : Question) (costs : List ℕ) (within : IsWithinLimits q.program.th
     lost_by_none live best kept gaps of better = fate_moves gaps (λ inside. inr (inr (still_live es place e x there same more live gaps inside))) (kept gaps of better)
 
     -- it is cut
-    beaten : (gaps : SetOfGaps) (best : Option Serving) → AreGapsOf q.program gaps → IfSome best (λ b. Better costs gaps b.gaps) → IsInRegion (region_of e.node) gaps → IsBeatenBy costs best e.node.must → ⊥
+    beaten : (gaps : SetOfGaps) (best : Option Serving) → AreGapsOf q.program gaps → IfSome best (λ b. Better costs gaps b.gaps) → IsInRegion e.node gaps → IsBeatenBy costs best e.node.must → ⊥
     beaten gaps best of better inside why =
         let here : Better costs gaps why.0.gaps = subst (λ (o : Option Serving). IfSome o (λ b. Better costs gaps b.gaps)) why.1 better in
         why.2 (still_better q.program costs within have e.node.must gaps why.0.gaps of inside.holds here)
 
-    too_dear : (gaps : SetOfGaps) (cost : ℕ) → AreGapsOf q.program gaps → IsInRegion (region_of e.node) gaps → IsCeiling q costs cost → cost < total costs e.node.must → IsUndercut q costs gaps
+    too_dear : (gaps : SetOfGaps) (cost : ℕ) → AreGapsOf q.program gaps → IsInRegion e.node gaps → IsCeiling q costs cost → cost < total costs e.node.must → IsUndercut q costs gaps
     too_dear gaps cost of inside ceiling dear =
         let some : total costs e.node.must ≤ total costs gaps = no_dearer q.program within costs have e.node.must gaps of inside.holds in
         let low : total costs ceiling.gaps ≤ cost = ceiling.within in
@@ -87,37 +88,36 @@ module _ (q : Question) (costs : List ℕ) (within : IsWithinLimits q.program.th
       passed : (gap : ℕ) → PassesGap f.question.program f.labels gap → set.contains f.passed gap ≡ true
       passed gap h = (foreign.passed gap).1 h
 
-      avoids : (gaps : SetOfGaps) → IsInRegion (region_of e.node) gaps → HasNoneOf gaps (open_gaps f.passed e.node.never) → Avoids f.question.program gaps f.labels
+      avoids : (gaps : SetOfGaps) → IsInRegion e.node gaps → HasNoneOf gaps (open_gaps f.passed e.node.never) → Avoids f.question.program gaps f.labels
       avoids gaps inside none gap there passes = elim (true_or_false (set.contains e.node.never gap)) [
         | inl never ↦ (let no : true ≡ false = sym there ∙ inside.avoids gap never in absurd cc)
         | inr free ↦ (let here : Contains (open_gaps f.passed e.node.never) gap = (open_exact f.passed e.node.never small gap).1 (passed gap passes, free) in
             let no : true ≡ false = sym there ∙ none gap here in absurd cc)
       ]
 
-      leaves : (gaps : SetOfGaps) → IsInRegion (region_of e.node) gaps → HasNoneOf gaps (open_gaps f.passed e.node.never) → LeavesOutcome q gaps
+      leaves : (gaps : SetOfGaps) → IsInRegion e.node gaps → HasNoneOf gaps (open_gaps f.passed e.node.never) → LeavesOutcome q gaps
       leaves gaps inside none = subst (λ (r : Question). LeavesOutcome r gaps) of_question (leaves_outcome f.question gaps f.labels f.outcome foreign.foreign (avoids gaps inside none))
 
       -- the children follow the entries
       module _ (seat : ℕ) (behind : more ≡ open_entries seat (children e.node f.passed)) where
-        in_child : (gaps : SetOfGaps) (child : trees.Node) → Contains (children_of (region_of e.node) (open_gaps f.passed e.node.never)) child → IsInRegion child gaps →
+        in_child : (gaps : SetOfGaps) (child : Region) → Contains (children_of e.node (open_gaps f.passed e.node.never)) child → IsInRegion child gaps →
             IsLive (changed es place e x there same more) gaps
         in_child gaps child here inside =
-            let regions = children_of (region_of e.node) (open_gaps f.passed e.node.never) in
+            let regions = children_of e.node (open_gaps f.passed e.node.never) in
             let at : slice_get regions here.0 ≡ Some child = slice_get-get_or regions here.0 child here.1 ∙ ap Some here.2 in
-            let kid : slice_get (children e.node f.passed) here.0 ≡ Some (search_node child) = get_mapped search_node regions here.0 child at in
             record {
               place = length es + here.0;
-              entry = entry (search_node child) seat Open;
+              entry = entry child seat Open;
               there = ap (λ m. slice_get (set_at es place x ++ m) (length es + here.0)) behind
                   ∙ ap (λ l. slice_get (set_at es place x ++ open_entries seat (children e.node f.passed)) (l + here.0)) (sym (length-set es place x))
                   ∙ get_behind (set_at es place x) (open_entries seat (children e.node f.passed)) here.0
-                  ∙ get_mapped (λ n. entry n seat Open) (children e.node f.passed) here.0 (search_node child) kid;
+                  ∙ get_mapped (λ n. entry n seat Open) (children e.node f.passed) here.0 child at;
               live = refl;
               inside = inside;
             }
 
-        divided : (gaps : SetOfGaps) → IsInRegion (region_of e.node) gaps → Fate (changed es place e x there same more) gaps
-        divided gaps inside = elim (split_loses_no_set (region_of e.node) (open_gaps f.passed e.node.never) gaps inside) [
+        divided : (gaps : SetOfGaps) → IsInRegion e.node gaps → Fate (changed es place e x there same more) gaps
+        divided gaps inside = elim (split_loses_no_set e.node (open_gaps f.passed e.node.never) gaps inside) [
           | inl (child, here, in_region) ↦ inr (inr (in_child gaps child here in_region))
           | inr none ↦ inl (leaves gaps inside none)
         ]

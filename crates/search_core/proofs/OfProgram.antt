@@ -9,13 +9,14 @@ use Rattle.std.proofs.lemmas.List.FromFn.{length-range_with_len, get_or-range_wi
 use Rattle.gap_sets.specs.Gaps.{SetOfGaps, numbers_of_set}
 use Rattle.gap_sets.specs.Order.{total, cost_of}
 use Rattle.gap_sets.specs.SameGaps.{alike}
+use Rattle.gap_sets.specs.declared.gap_set.TheConstants.{MAX_GAPS}
 use Rattle.tso_program.specs.declared.listing.Listing.{Listing}
 use Rattle.tso_program.specs.Listings.{gap_count, gap_number}
 use Rattle.tso_program.specs.Shown.{Question}
 use Rattle.tso_program.specs.Fences as fences
 use Rattle.tso_program.proofs.Gaps.{gap_below}
 use Rattle.tso_machine.specs.Outcomes.{Serves, AreGapsOf, IsStoreBufferOutcome, IsSequentialOutcome}
-use Rattle.search_core.proofs.OpenGaps.{has_any, any_has, of_filter, to_filter}
+use Rattle.tree_laws.proofs.Filtered.{has_any, any_has, of_filter, to_filter}
 
 -- one term more, where a test passes
 one_more : (f : ℕ → ℕ) (v w : Bool) (x : ℕ) (xs ys : List ℕ) → (v ≡ true → w ≡ true) → sum_by f xs ≤ sum_by f ys → sum_by f (cond v (x ∷ xs) xs) ≤ sum_by f (cond w (x ∷ ys) ys)
@@ -65,7 +66,7 @@ module _ (p : Listing) (gaps : SetOfGaps) where
 
   pub part_costs_less : (costs : List ℕ) → total costs part ≤ total costs gaps
   unfolding total numbers_of_set
-  part_costs_less costs = fewer_terms (cost_of costs) (set.contains part) (set.contains gaps) (range_with_len 0 64) (λ gap h. (in_part gap h).1)
+  part_costs_less costs = fewer_terms (cost_of costs) (set.contains part) (set.contains gaps) (range_with_len 0 MAX_GAPS) (λ gap h. (in_part gap h).1)
 
 pub part_serves : (q : Question) (gaps : SetOfGaps) → Serves q gaps → Serves q (part q.program gaps)
 part_serves q gaps serves o = subst (λ (fenced : fences.Gaps). IsStoreBufferOutcome q fenced o ↔ IsSequentialOutcome q o) (sym (fun_ext (λ t. fun_ext (λ k. same_fences q.program gaps t k)))) (serves o)

@@ -3,12 +3,13 @@ use Rattle.std.proofs.Common.{◌≡◌, ◌⊎◌, ℕ, zero, suc, ◌==◌, tr
 use Rattle.std.specs.Prelude.{slice_get}
 use Rattle.std.proofs.lemmas.Option.{same_Some, none-some}
 use Rattle.std.proofs.lemmas.Bool.Decides.{nat_tests}
-use Rattle.search_core.specs.declared.node.Node.{Node}
+use Rattle.gap_sets.specs.Regions.{all_sets}
+use Rattle.gap_sets.specs.declared.region.Region.{Region}
 use Rattle.search_core.specs.declared.entry.Entry.{Entry}
 use Rattle.search_core.specs.declared.entry.Status.TheVariants.{Open, Held, Cut, Confirmed}
-use Rattle.search_core.specs.Nodes.{children}
+use Rattle.search_core.specs.Children.{children}
 use Rattle.search_core.specs.Entries.{entry, is_held_by}
-use Rattle.search_core.specs.States.{SearchState, IsHeldAt, HoldsNothing, HoldsOnly, root_node}
+use Rattle.search_core.specs.States.{SearchState, IsHeldAt, HoldsNothing, HoldsOnly}
 use Rattle.search_core.specs.Events.{open_entries, TakesNode, IsEvent, takes, gives_back, splits, cuts, confirms}
 use Rattle.search_core.specs.Histories.{IsReached, starts, goes_on}
 use Rattle.search_core.specs.Laws.{ASeatHoldsOneNode}
@@ -16,7 +17,7 @@ use Rattle.search_core.proofs.Places.{get_here, Each, each_mapped, get_either, g
 
 -- each seat holds its nodes at one place
 abbrev AtOnePlace : List Entry → Type 0
-AtOnePlace es = (seat place other : ℕ) (n m : Node) → IsHeldAt es seat place n → IsHeldAt es seat other m → place ≡ other
+AtOnePlace es = (seat place other : ℕ) (n m : Region) → IsHeldAt es seat place n → IsHeldAt es seat other m → place ≡ other
 
 -- no seat holds them
 abbrev NoneHeld : List Entry → Type 0
@@ -25,11 +26,11 @@ NoneHeld es = Each (λ e. (seat : ℕ) → is_held_by seat e ≡ true → ⊥) e
 nothing_held : NoneHeld []
 nothing_held k e at = absurd (none-some e at)
 
-opened_not_held : (seat : ℕ) (ns : List Node) → NoneHeld (open_entries seat ns)
+opened_not_held : (seat : ℕ) (ns : List Region) → NoneHeld (open_entries seat ns)
 opened_not_held seat ns = each_mapped (λ n. Unit {0}) (λ e. (other : ℕ) → is_held_by other e ≡ true → ⊥) (λ n. entry n seat Open) (λ n h other held. cc) ns (λ k n h. tt)
 
 -- what is held was held, or is the changed node
-held_before : (es : List Entry) (place : ℕ) (x : Entry) (more : List Entry) (seat j : ℕ) (n : Node) → NoneHeld more → IsHeldAt (set_at es place x ++ more) seat j n →
+held_before : (es : List Entry) (place : ℕ) (x : Entry) (more : List Entry) (seat j : ℕ) (n : Region) → NoneHeld more → IsHeldAt (set_at es place x ++ more) seat j n →
     ((j ≡ place) × (is_held_by seat x ≡ true)) ⊎ IsHeldAt es seat j n
 held_before es place x more seat j n none h = elim (get_either (set_at es place x) more j h.before h.there) [
   | inr behind ↦ absurd (none behind.0 h.before behind.1 seat h.held_there)
@@ -53,11 +54,11 @@ module _ (es : List Entry) (place : ℕ) (x : Entry) (more : List Entry) (none :
 plain : (es : List Entry) (place : ℕ) (x : Entry) → AtOnePlace (set_at es place x ++ []) → AtOnePlace (set_at es place x)
 plain es place x one = subst AtOnePlace (append-nil (set_at es place x)) one
 
-same_seat : (seat other : ℕ) (n : Node) → is_held_by other (entry n seat Held) ≡ true → seat ≡ other
+same_seat : (seat other : ℕ) (n : Region) → is_held_by other (entry n seat Held) ≡ true → seat ≡ other
 same_seat seat other n h = let q : (seat == other) ≡ true = h in grind (arith, nat_tests)
 
 -- where a seat that holds nothing takes it
-taken : (s : SearchState) (place seat : ℕ) (m : Node) → HoldsNothing s seat → AtOnePlace s.entries → AtOnePlace (set_at s.entries place (entry m seat Held) ++ [])
+taken : (s : SearchState) (place seat : ℕ) (m : Region) → HoldsNothing s seat → AtOnePlace s.entries → AtOnePlace (set_at s.entries place (entry m seat Held) ++ [])
 taken s place seat m free one other j k n o h i = elim (held_before s.entries place (entry m seat Held) [] other j n nothing_held h) [
   | inl here ↦ elim (held_before s.entries place (entry m seat Held) [] other k o nothing_held i) [
     | inl there ↦ here.0 ∙ sym there.0
@@ -69,8 +70,8 @@ taken s place seat m free one other j k n o h i = elim (held_before s.entries pl
   ]
 ]
 
-at_start : (seat place : ℕ) (n : Node) → IsHeldAt (entry root_node 0 Open ∷ []) seat place n → ⊥
-at_start seat zero n h = let is = same_Some (entry root_node 0 Open) h.before h.there in let held : is_held_by seat (entry root_node 0 Open) ≡ true = subst (λ (e : Entry). is_held_by seat e ≡ true) (sym is) h.held_there in cc
+at_start : (seat place : ℕ) (n : Region) → IsHeldAt (entry all_sets 0 Open ∷ []) seat place n → ⊥
+at_start seat zero n h = let is = same_Some (entry all_sets 0 Open) h.before h.there in let held : is_held_by seat (entry all_sets 0 Open) ≡ true = subst (λ (e : Entry). is_held_by seat e ≡ true) (sym is) h.held_there in cc
 at_start seat (suc place) n h = none-some h.before h.there
 
 module _ (s after : SearchState) (seat : ℕ) (one : AtOnePlace s.entries) where
@@ -90,7 +91,7 @@ pub one_node : ASeatHoldsOneNode
 one_node s seat place other n m r = one_place s r seat place other n m
 
 -- what a seat holds is the only node that it holds
-pub only_node : (s : SearchState) (seat place : ℕ) (n : Node) → IsReached s → IsHeldAt s.entries seat place n → HoldsOnly s seat n
+pub only_node : (s : SearchState) (seat place : ℕ) (n : Region) → IsReached s → IsHeldAt s.entries seat place n → HoldsOnly s seat n
 only_node s seat place n r here = record {
   held = (place, here);
   only = λ m held.
@@ -100,7 +101,7 @@ only_node s seat place n r here = record {
 }
 
 -- so a seat holds what it takes
-pub taken_only : (s after : SearchState) (seat : ℕ) (n : Node) → IsReached after → TakesNode s after seat n → HoldsOnly after seat n
+pub taken_only : (s after : SearchState) (seat : ℕ) (n : Region) → IsReached after → TakesNode s after seat n → HoldsOnly after seat n
 taken_only s after seat n r t =
     let itself : (seat == seat) ≡ true = grind (arith, nat_tests) in
     only_node after seat t.place n r (record {

@@ -5,6 +5,7 @@ use Rattle.std.specs.FinSet as set
 use Rattle.gap_sets.specs.Gaps.{SetOfGaps, IsGapSet, have_same_gaps}
 use Rattle.gap_sets.specs.Order.{total, Better}
 use Rattle.gap_sets.specs.SameGaps.{have_same_gaps-same}
+use Rattle.gap_sets.specs.declared.gap_set.TheConstants.{MAX_GAPS}
 use Rattle.gap_sets.proofs.Subsets.{cheaper}
 use Rattle.tso_program.specs.declared.listing.Listing.{Listing}
 use Rattle.tso_program.specs.Shown.{Question}
@@ -25,7 +26,7 @@ passed_gaps f is gap there = let p = (is.passed gap).0 there in gap_below f.ques
 
 module _ (p : Listing) (within : IsWithinLimits p.threads p.memory) where
   pub gap_set : (gaps : SetOfGaps) → AreGapsOf p gaps → IsGapSet gaps
-  gap_set gaps of gap there = let below : gap < gap_count p.threads = of gap there in let few : gap_count p.threads ≤ 64 = within.few_gaps in omega arith
+  gap_set gaps of gap there = let below : gap < gap_count p.threads = of gap there in let few : gap_count p.threads ≤ MAX_GAPS = within.few_gaps in omega arith
 
   module _ (costs : List ℕ) (have : HaveCosts p costs) where
     -- a subset is no dearer

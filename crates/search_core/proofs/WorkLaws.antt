@@ -1,13 +1,13 @@
 -- What each event leaves of the work.
 use Rattle.std.proofs.Common.{◌≡◌, ℕ, ◌<◌, Bool, true, false, List, [], ◌++◌, ◌&&◌, ◌==◌, length, refl, sym, ap, ◌∙◌, subst, arith, set as set_at, append-nil}
 use Rattle.std.proofs.Math.Nat.{one-le-pow}
+use Rattle.gap_sets.specs.declared.region.Region.{Region}
 use Rattle.tso_program.specs.Shown.{Question}
 use Rattle.tso_program.specs.Limits.{IsWithinLimits}
-use Rattle.search_core.specs.declared.node.Node.{Node}
 use Rattle.search_core.specs.declared.entry.Entry.{Entry}
 use Rattle.search_core.specs.declared.entry.Status.{Status}
 use Rattle.search_core.specs.declared.entry.Status.TheVariants.{Open, Held, Split, Cut, Confirmed}
-use Rattle.search_core.specs.Nodes.{region_of, children}
+use Rattle.search_core.specs.Children.{children}
 use Rattle.search_core.specs.Entries.{entry, is_live, is_live_status, is_open_status, is_held_status, is_held_by}
 use Rattle.search_core.specs.States.{SearchState, IsHeldAt}
 use Rattle.search_core.specs.Events.{open_entries, by_split, by_cut, by_confirm}
@@ -39,16 +39,16 @@ open_live (Split f first) h = absurd cc
 open_live Cut h = absurd cc
 open_live Confirmed h = absurd cc
 
-some_work : (n : Node) → 0 < work_of (region_of n)
-some_work n = one-le-pow (undecided (region_of n)) 2 (omega arith)
+some_work : (n : Region) → 0 < work_of n
+some_work n = one-le-pow (undecided n) 2 (omega arith)
 
-module _ (s : SearchState) (seat place : ℕ) (n : Node) (held : IsHeldAt s.entries seat place n) (x : Entry) where
+module _ (s : SearchState) (seat place : ℕ) (n : Region) (held : IsHeldAt s.entries seat place n) (x : Entry) where
   live : is_live held.before ≡ true
   live = held_live held.before.status (held_is seat held.before held.held_there)
 
-  less_behind : (more : List Entry) → is_live x ≡ false → work_left more < work_of (region_of n) → work_left (set_at s.entries place x ++ more) < work_left s.entries
+  less_behind : (more : List Entry) → is_live x ≡ false → work_left more < work_of n → work_left (set_at s.entries place x ++ more) < work_left s.entries
   less_behind more settled less =
-      settled_work s.entries place held.before x held.there more live settled (subst (λ (k : Node). work_left more < work_of (region_of k)) (sym held.is_node) less)
+      settled_work s.entries place held.before x held.there more live settled (subst (λ (k : Region). work_left more < work_of k) (sym held.is_node) less)
 
   less_alone : is_live x ≡ false → work_left (set_at s.entries place x) < work_left s.entries
   less_alone settled = subst (λ es. work_left es < work_left s.entries) (append-nil (set_at s.entries place x)) (less_behind [] settled (some_work n))

@@ -14,20 +14,20 @@ use Rattle.std.proofs.Math.Nat.{one-le-pow, two-pow-succ}
 use Rattle.std.proofs.lemmas.List.FromFn.{length-range_with_len}
 use Rattle.std.proofs.lemmas.List.Sums.{sum_by-cons, sum_by-le, length-filter, count_by-le-length, sum_by-set, sum_by-append}
 use Rattle.gap_sets.specs.Gaps.{SetOfGaps, IsGapSet}
+use Rattle.gap_sets.specs.Regions.{with_gap, without_gap, children_of, open_gaps}
+use Rattle.gap_sets.specs.declared.region.Region.{Region}
+use Rattle.gap_sets.specs.declared.gap_set.TheConstants.{MAX_GAPS}
 use Rattle.gap_sets.proofs.Ranges.{sum-lt}
-use Rattle.tree_laws.specs.GapTrees.{children_of}
-use Rattle.tree_laws.specs.GapTrees as trees
 use Rattle.tree_laws.proofs.Regions.{new_or_old, true_or_false}
 use Rattle.tree_laws.proofs.Lists.{first_is_here, later_is_here}
-use Rattle.search_core.specs.declared.node.Node.{Node}
 use Rattle.search_core.specs.declared.entry.Entry.{Entry}
 use Rattle.search_core.specs.declared.entry.Status.TheVariants.{Open}
-use Rattle.search_core.specs.Nodes.{region_of, search_node, open_gaps, children}
+use Rattle.search_core.specs.Children.{children}
 use Rattle.search_core.specs.Entries.{entry, is_live}
 use Rattle.search_core.specs.Events.{open_entries}
 use Rattle.search_core.specs.Work.{is_undecided, undecided, work_of, live_work, work_left}
 use Rattle.search_core.proofs.Places.{Each}
-use Rattle.search_core.proofs.OpenGaps.{open_exact, open_ascending}
+use Rattle.tree_laws.proofs.OpenGaps.{open_exact, open_ascending}
 
 -- a set has what it had, and the new gap
 kept_old : (s : SetOfGaps) (gap q : ℕ) → set.contains s q ≡ true → set.contains (set.insert s gap) q ≡ true
@@ -68,21 +68,21 @@ outside : (a b : Bool) → (a ≡ true → b ≡ true) → b ≡ false → a ≡
 outside true b h e = let no : true ≡ false = sym (h refl) ∙ e in no
 outside false b h e = refl
 
-module _ (n : trees.Node) (gap : ℕ) (low : gap < 64) (open_gap : is_undecided n gap ≡ true) where
-  abbrev with_it : trees.Node
-  with_it = record n { must = set.insert n.must gap }
+module _ (n : Region) (gap : ℕ) (low : gap < MAX_GAPS) (open_gap : is_undecided n gap ≡ true) where
+  abbrev with_it : Region
+  with_it = with_gap n gap
 
-  abbrev without_it : trees.Node
-  without_it = record n { never = set.insert n.never gap }
+  abbrev without_it : Region
+  without_it = without_gap n gap
 
   with_less : undecided with_it < undecided n
-  with_less = sum-lt (λ (q : ℕ). 1) (is_undecided with_it) (is_undecided n) 0 64 gap
+  with_less = sum-lt (λ (q : ℕ). 1) (is_undecided with_it) (is_undecided n) 0 MAX_GAPS gap
       (λ q h. let p = both (set.contains with_it.must q) (set.contains with_it.never q) h in
       neither (set.contains n.must q) (set.contains n.never q) (outside (set.contains n.must q) (set.contains with_it.must q) (kept_old n.must gap q) p.0) p.1)
       (omega arith) (omega arith) (left_in (set.contains with_it.must gap) (set.contains with_it.never gap) (has_new n.must gap)) open_gap (omega arith)
 
   without_less : undecided without_it < undecided n
-  without_less = sum-lt (λ (q : ℕ). 1) (is_undecided without_it) (is_undecided n) 0 64 gap
+  without_less = sum-lt (λ (q : ℕ). 1) (is_undecided without_it) (is_undecided n) 0 MAX_GAPS gap
       (λ q h. let p = both (set.contains without_it.must q) (set.contains without_it.never q) h in
       neither (set.contains n.must q) (set.contains n.never q) p.0 (outside (set.contains n.never q) (set.contains without_it.never q) (kept_old n.never gap q) p.1))
       (omega arith) (omega arith) (right_in (set.contains without_it.must gap) (set.contains without_it.never gap) (has_new n.never gap)) open_gap (omega arith)
@@ -106,9 +106,9 @@ halves a b (suc d) h i =
     let e : 2 ^ suc d ≡ 2 ^ d + 2 ^ d = two-pow-succ d in
     omega arith
 
--- each gap is below 64, and undecided
-abbrev pub AreUndecided : trees.Node → List ℕ → Type 0
-AreUndecided n gaps = (gap : ℕ) → Contains gaps gap → (gap < 64) × (is_undecided n gap ≡ true)
+-- each is a gap's number, and undecided
+abbrev pub AreUndecided : Region → List ℕ → Type 0
+AreUndecided n gaps = (gap : ℕ) → Contains gaps gap → (gap < MAX_GAPS) × (is_undecided n gap ≡ true)
 
 -- the first of ascending numbers is not among the others
 not_again : (x : ℕ) (xs : List ℕ) → AllPairs (λ a b. a < b) (x ∷ xs) → (q : ℕ) → Contains xs q → x ≢ q
@@ -120,44 +120,44 @@ later : (x : ℕ) (xs : List ℕ) → AllPairs (λ a b. a < b) (x ∷ xs) → Al
 later x xs up i j d h l = up (suc i) (suc j) d (omega arith) (omega arith)
 
 -- of the others
-after_first : (n : trees.Node) (gap : ℕ) (gaps : List ℕ) → AllPairs (λ a b. a < b) (gap ∷ gaps) → AreUndecided n (gap ∷ gaps) → AreUndecided (record n { never = set.insert n.never gap }) gaps
+after_first : (n : Region) (gap : ℕ) (gaps : List ℕ) → AllPairs (λ a b. a < b) (gap ∷ gaps) → AreUndecided n (gap ∷ gaps) → AreUndecided (without_gap n gap) gaps
 after_first n gap gaps up each q here =
     let first = each gap (first_is_here gap gaps) in
     let old = each q (later_is_here gap gaps q here) in
     (old.0, still_open n gap first.0 first.1 q (not_again gap gaps up q here) old.1)
 
 -- the children's work together is less
-pub kids_work : (n : trees.Node) (gaps : List ℕ) → AllPairs (λ a b. a < b) gaps → AreUndecided n gaps → sum_by work_of (children_of n gaps) < work_of n
+pub kids_work : (n : Region) (gaps : List ℕ) → AllPairs (λ a b. a < b) gaps → AreUndecided n gaps → sum_by work_of (children_of n gaps) < work_of n
 kids_work n [] up each = one-le-pow (undecided n) 2 (omega arith)
 kids_work n (gap ∷ gaps) up each =
     let first = each gap (first_is_here gap gaps) in
-    let child = record n { must = set.insert n.must gap } in
-    let rest = record n { never = set.insert n.never gap } in
+    let child = with_gap n gap in
+    let rest = without_gap n gap in
     let others : sum_by work_of (children_of rest gaps) < work_of rest = kids_work rest gaps (later gap gaps up) (after_first n gap gaps up each) in
     let parts : sum_by work_of (child ∷ children_of rest gaps) ≡ work_of child + sum_by work_of (children_of rest gaps) = sum_by-cons work_of child (children_of rest gaps) in
     let two : work_of child + work_of rest ≤ work_of n = halves (undecided child) (undecided rest) (undecided n) (with_less n gap first.0 first.1) (without_less n gap first.0 first.1) in
     omega arith
 
 -- and each decides more
-pub kids_less : (n : trees.Node) (gaps : List ℕ) → AllPairs (λ a b. a < b) gaps → AreUndecided n gaps → Each (λ (c : trees.Node). undecided c < undecided n) (children_of n gaps)
+pub kids_less : (n : Region) (gaps : List ℕ) → AllPairs (λ a b. a < b) gaps → AreUndecided n gaps → Each (λ (c : Region). undecided c < undecided n) (children_of n gaps)
 kids_less n [] up each k c e = absurd (none-some c e)
 kids_less n (gap ∷ gaps) up each zero c e =
     let first = each gap (first_is_here gap gaps) in
-    subst (λ (d : trees.Node). undecided d < undecided n) (same_Some (record n { must = set.insert n.must gap }) c e) (with_less n gap first.0 first.1)
+    subst (λ (d : Region). undecided d < undecided n) (same_Some (with_gap n gap) c e) (with_less n gap first.0 first.1)
 kids_less n (gap ∷ gaps) up each (suc k) c e =
     let first = each gap (first_is_here gap gaps) in
-    let rest = record n { never = set.insert n.never gap } in
+    let rest = without_gap n gap in
     let below : undecided c < undecided rest = kids_less rest gaps (later gap gaps up) (after_first n gap gaps up each) k c e in
     let less : undecided rest < undecided n = without_less n gap first.0 first.1 in
     omega arith
 
--- at most 64 gaps are undecided
-few : (p : ℕ → Bool) → sum_by (λ (gap : ℕ). 1) (filter p (range_with_len 0 64)) ≤ 64
+-- at most `MAX_GAPS` gaps are undecided
+few : (p : ℕ → Bool) → sum_by (λ (gap : ℕ). 1) (filter p (range_with_len 0 MAX_GAPS)) ≤ MAX_GAPS
 few p =
-    let a : sum_by (λ (gap : ℕ). 1) (filter p (range_with_len 0 64)) ≤ length (filter p (range_with_len 0 64)) * 1 = sum_by-le (λ (gap : ℕ). 1) 1 (filter p (range_with_len 0 64)) (λ k d h. omega arith) in
-    omega (arith, length-filter p (range_with_len 0 64), count_by-le-length p (range_with_len 0 64), length-range_with_len 0 64)
+    let a : sum_by (λ (gap : ℕ). 1) (filter p (range_with_len 0 MAX_GAPS)) ≤ length (filter p (range_with_len 0 MAX_GAPS)) * 1 = sum_by-le (λ (gap : ℕ). 1) 1 (filter p (range_with_len 0 MAX_GAPS)) (λ k d h. omega arith) in
+    omega (arith, length-filter p (range_with_len 0 MAX_GAPS), count_by-le-length p (range_with_len 0 MAX_GAPS), length-range_with_len 0 MAX_GAPS)
 
-pub few_undecided : (n : trees.Node) → undecided n ≤ 64
+pub few_undecided : (n : Region) → undecided n ≤ MAX_GAPS
 few_undecided n = few (is_undecided n)
 
 -- no gap is in both sets
@@ -165,7 +165,7 @@ abbrev pub AreApart : SetOfGaps → SetOfGaps → Type 0
 AreApart passed must = (gap : ℕ) → set.contains passed gap ≡ true → set.contains must gap ≡ true → ⊥
 
 -- what is open for a split is undecided
-pub open_undecided : (passed : SetOfGaps) (n : Node) → IsGapSet passed → AreApart passed n.must → AreUndecided (region_of n) (open_gaps passed n.never)
+pub open_undecided : (passed : SetOfGaps) (n : Region) → IsGapSet passed → AreApart passed n.must → AreUndecided n (open_gaps passed n.never)
 open_undecided passed n small apart gap here =
     let both = (open_exact passed n.never small gap).0 here in
     (small gap both.0, neither (set.contains n.must gap) (set.contains n.never gap) (not_there (set.contains n.must gap) refl both.0) both.1)
@@ -175,18 +175,18 @@ open_undecided passed n small apart gap here =
     not_there false e there = refl
 
 -- the work of nodes that are opened
-opened_work : (seat : ℕ) (cs : List trees.Node) → work_left (open_entries seat (map search_node cs)) ≡ sum_by work_of cs
+opened_work : (seat : ℕ) (cs : List Region) → work_left (open_entries seat cs) ≡ sum_by work_of cs
 opened_work seat [] = refl
 opened_work seat (c ∷ cs) =
-    let e = entry (search_node c) seat Open in
-    sum_by-cons live_work e (open_entries seat (map search_node cs)) ∙ ap (λ (k : ℕ). work_of c + k) (opened_work seat cs) ∙ sym (sum_by-cons work_of c cs)
+    let e = entry c seat Open in
+    sum_by-cons live_work e (open_entries seat cs) ∙ ap (λ (k : ℕ). work_of c + k) (opened_work seat cs) ∙ sym (sum_by-cons work_of c cs)
 
-pub split_work : (seat : ℕ) (passed : SetOfGaps) (n : Node) → IsGapSet passed → AreApart passed n.must → work_left (open_entries seat (children n passed)) < work_of (region_of n)
+pub split_work : (seat : ℕ) (passed : SetOfGaps) (n : Region) → IsGapSet passed → AreApart passed n.must → work_left (open_entries seat (children n passed)) < work_of n
 split_work seat passed n small apart =
     let gaps = open_gaps passed n.never in
-    let less : sum_by work_of (children_of (region_of n) gaps) < work_of (region_of n) =
-    kids_work (region_of n) gaps (AllPairs-from_increasing gaps (open_ascending passed n.never)) (open_undecided passed n small apart) in
-    let same : work_left (open_entries seat (children n passed)) ≡ sum_by work_of (children_of (region_of n) gaps) = opened_work seat (children_of (region_of n) gaps) in
+    let less : sum_by work_of (children_of n gaps) < work_of n =
+    kids_work n gaps (AllPairs-from_increasing gaps (open_ascending passed n.never)) (open_undecided passed n small apart) in
+    let same : work_left (open_entries seat (children n passed)) ≡ sum_by work_of (children_of n gaps) = opened_work seat (children_of n gaps) in
     omega arith
 
 -- a live node changes, and others are opened
@@ -198,16 +198,16 @@ module _ (es : List Entry) (place : ℕ) (e x : Entry) (there : slice_get es pla
       let c : work_left (set_at es place x ++ more) ≡ sum_by live_work (set_at es place x) + work_left more = sum_by-append live_work (set_at es place x) more in
       omega arith
 
-  live_is : is_live e ≡ true → live_work e ≡ work_of (region_of e.node)
-  live_is live = ap (λ (b : Bool). if b then work_of (region_of e.node) else 0) live
+  live_is : is_live e ≡ true → live_work e ≡ work_of e.node
+  live_is live = ap (λ (b : Bool). if b then work_of e.node else 0) live
 
   dead_is : is_live x ≡ false → live_work x ≡ 0
-  dead_is dead = ap (λ (b : Bool). if b then work_of (region_of x.node) else 0) dead
+  dead_is dead = ap (λ (b : Bool). if b then work_of x.node else 0) dead
 
-  pub settled_work : (more : List Entry) → is_live e ≡ true → is_live x ≡ false → work_left more < work_of (region_of e.node) → work_left (set_at es place x ++ more) < work_left es
+  pub settled_work : (more : List Entry) → is_live e ≡ true → is_live x ≡ false → work_left more < work_of e.node → work_left (set_at es place x ++ more) < work_left es
   settled_work more live dead less =
       let a = change_work more in
-      let b : live_work e ≡ work_of (region_of e.node) = live_is live in
+      let b : live_work e ≡ work_of e.node = live_is live in
       let c : live_work x ≡ 0 = dead_is dead in
       omega arith
 
@@ -215,6 +215,6 @@ module _ (es : List Entry) (place : ℕ) (e x : Entry) (there : slice_get es pla
   moved_work live too same =
       let a : sum_by live_work (set_at es place x) + live_work (get_or es place e) ≡ work_left es + live_work x = sum_by-set live_work es place x e (slice_get_within es place e there) in
       let b : live_work (get_or es place e) ≡ live_work e = ap live_work (get_or_from_slice_get es place e e there) in
-      let c : live_work e ≡ work_of (region_of e.node) = live_is live in
-      let d : live_work x ≡ work_of (region_of e.node) = ap (λ (b : Bool). if b then work_of (region_of x.node) else 0) too ∙ ap (λ (n : Node). work_of (region_of n)) same in
+      let c : live_work e ≡ work_of e.node = live_is live in
+      let d : live_work x ≡ work_of e.node = ap (λ (b : Bool). if b then work_of x.node else 0) too ∙ ap (λ (n : Region). work_of n) same in
       omega arith

@@ -2,18 +2,18 @@
 use Rattle.std.specs.Prelude.{◌≡◌, ◌⊎◌, ℕ, ◌<◌, List, ◌++◌, Option, Some, IfSome, slice_set, map, length}
 use Rattle.gap_sets.specs.Gaps.{SetOfGaps}
 use Rattle.gap_sets.specs.Order.{total, Better}
+use Rattle.gap_sets.specs.declared.region.Region.{Region}
 use Rattle.cover_solver.specs.Facts.{Foreign, Serving, IsForeignValue, IsServing}
 use Rattle.cover_solver.specs.Verdicts.{PassesNoneOf}
-use Rattle.search_core.specs.declared.node.Node.{Node}
 use Rattle.search_core.specs.declared.entry.Entry.{Entry}
 use Rattle.search_core.specs.declared.entry.Status.TheVariants.{Open, Held, Split, Cut, Confirmed}
-use Rattle.search_core.specs.Nodes.{children}
+use Rattle.search_core.specs.Children.{children}
 use Rattle.search_core.specs.Entries.{entry}
 use Rattle.search_core.specs.Ceilings.{IsCeiling}
 use Rattle.search_core.specs.States.{SearchState, IsOpenAt, IsHeldAt, HoldsNothing, put_at}
 
 -- nodes that are open
-abbrev pub open_entries : ℕ → List Node → List Entry
+abbrev pub open_entries : ℕ → List Region → List Entry
 open_entries seat nodes = map (λ n. entry n seat Open) nodes
 
 -- there is a best set that this one is not better than
@@ -21,11 +21,11 @@ abbrev pub IsBeatenBy : List ℕ → Option Serving → SetOfGaps → Type 0
 IsBeatenBy costs best gaps = (b : Serving) × (best ≡ Some b) × (¬ Better costs gaps b.gaps)
 
 -- so it is with what the node's sets must have
-abbrev pub IsBeaten : SearchState → Node → Type 0
+abbrev pub IsBeaten : SearchState → Region → Type 0
 IsBeaten s n = IsBeatenBy s.costs s.best n.must
 
 -- what the node's sets must have costs more than a ceiling
-abbrev pub IsTooDear : SearchState → Node → Type 0
+abbrev pub IsTooDear : SearchState → Region → Type 0
 IsTooDear s n = (cost : ℕ) × IsCeiling s.question s.costs cost × (cost < total s.costs n.must)
 
 -- the best set after another one is confirmed: that one, where it is better or the first, or the one before
@@ -36,7 +36,7 @@ IsBestAfter costs b before after =
 
 module _ (s after : SearchState) (seat : ℕ) where
   -- the seat takes an open node
-  pub record TakesNode (n : Node) : Type 0 where
+  pub record TakesNode (n : Region) : Type 0 where
     pub free : HoldsNothing s seat
     pub place : ℕ
     pub there : IsOpenAt s.entries place n
@@ -44,14 +44,14 @@ module _ (s after : SearchState) (seat : ℕ) where
 
   -- the seat's node is open again
   pub record GivesBack : Type 0 where
-    pub node : Node
+    pub node : Region
     pub place : ℕ
     pub there : IsHeldAt s.entries seat place node
     pub is_after : after ≡ put_at s place (entry node seat Open)
 
   -- the seat's node is split by a foreign run that passes no gap of its `must`: its children are open
   pub record Splits (f : Foreign) : Type 0 where
-    pub node : Node
+    pub node : Region
     pub place : ℕ
     pub there : IsHeldAt s.entries seat place node
     pub of_question : f.question ≡ s.question
@@ -61,7 +61,7 @@ module _ (s after : SearchState) (seat : ℕ) where
 
   -- the seat's node is cut
   pub record Cuts : Type 0 where
-    pub node : Node
+    pub node : Region
     pub place : ℕ
     pub there : IsHeldAt s.entries seat place node
     pub why : IsBeaten s node ⊎ IsTooDear s node
@@ -69,7 +69,7 @@ module _ (s after : SearchState) (seat : ℕ) where
 
   -- what the sets of the seat's node must have serves
   pub record Confirms (b : Serving) : Type 0 where
-    pub node : Node
+    pub node : Region
     pub place : ℕ
     pub there : IsHeldAt s.entries seat place node
     pub of_question : b.question ≡ s.question
@@ -86,7 +86,7 @@ module _ (s after : SearchState) (seat : ℕ) where
     by_confirm : (b : Serving) → Confirms b → IsSettling
 
   pub data IsEvent : Type 0 where
-    takes : (n : Node) → TakesNode n → IsEvent
+    takes : (n : Region) → TakesNode n → IsEvent
     gives_back : GivesBack → IsEvent
     splits : (f : Foreign) → Splits f → IsEvent
     cuts : Cuts → IsEvent

@@ -3,8 +3,8 @@ use Rattle.std.specs.Prelude.{◌≡◌, ℕ, ◌<◌, true, List, Option, IfSom
 use Rattle.std.specs.FinSet as set
 use Rattle.gap_sets.specs.Gaps.{SetOfGaps}
 use Rattle.gap_sets.specs.Order.{total}
+use Rattle.gap_sets.specs.declared.region.Region.{Region}
 use Rattle.cover_solver.specs.Facts.{Serving}
-use Rattle.search_core.specs.declared.node.Node.{Node}
 use Rattle.search_core.specs.declared.ceiling.Reason.{Reason}
 use Rattle.search_core.specs.declared.ceiling.Reason.TheVariants as reason
 use Rattle.search_core.specs.declared.fault.TreeFault.{TreeFault}
@@ -28,12 +28,12 @@ abbrev pub CutsMust : List ℕ → Option Serving → Reason → SetOfGaps → T
 CutsMust costs best reason.Best must = IsBeatenBy costs best must
 CutsMust costs best (reason.Ceiling ceiling) must = MatchOption ceiling ⊥ (λ b. b.cost < total costs must)
 
-abbrev pub CutsNode : SearchState → Reason → Node → Type 0
+abbrev pub CutsNode : SearchState → Reason → Region → Type 0
 CutsNode s why n = CutsMust s.costs s.best why n.must
 
 -- the reason cuts the node that the seat holds
 abbrev pub IsCutBy : SearchState → ℕ → Reason → Type 0
-IsCutBy s seat why = (n : Node) × HoldsNode s seat n × CutsNode s why n
+IsCutBy s seat why = (n : Region) × HoldsNode s seat n × CutsNode s why n
 
 -- some gap is in both sets
 abbrev pub DoMeet : SetOfGaps → SetOfGaps → Type 0
@@ -42,7 +42,7 @@ DoMeet a b = (gap : ℕ) × (set.contains a gap ≡ true) × (set.contains b gap
 module _ (s : SearchState) (seat : ℕ) where
   abbrev pub TakeFaultIs : TreeFault → Type 0
   TakeFaultIs NothingOpen = HoldsNothing s seat × HasNoOpen s
-  TakeFaultIs SeatHolds = (n : Node) × HoldsNode s seat n
+  TakeFaultIs SeatHolds = (n : Region) × HoldsNode s seat n
   TakeFaultIs SeatHoldsNothing = ⊥
   TakeFaultIs Hit = ⊥
   TakeFaultIs StillBetter = ⊥
@@ -53,7 +53,7 @@ module _ (s : SearchState) (seat : ℕ) where
   SplitFaultIs passed NothingOpen = ⊥
   SplitFaultIs passed SeatHolds = ⊥
   SplitFaultIs passed SeatHoldsNothing = HoldsNothing s seat
-  SplitFaultIs passed Hit = (n : Node) × HoldsNode s seat n × DoMeet passed n.must
+  SplitFaultIs passed Hit = (n : Region) × HoldsNode s seat n × DoMeet passed n.must
   SplitFaultIs passed StillBetter = ⊥
   SplitFaultIs passed OutOfMemory = Unit {0}
 
@@ -62,7 +62,7 @@ module _ (s : SearchState) (seat : ℕ) where
   CutFaultIs why SeatHolds = ⊥
   CutFaultIs why SeatHoldsNothing = HoldsNothing s seat
   CutFaultIs why Hit = ⊥
-  CutFaultIs why StillBetter = (n : Node) × HoldsNode s seat n × (¬ CutsNode s why n)
+  CutFaultIs why StillBetter = (n : Region) × HoldsNode s seat n × (¬ CutsNode s why n)
   CutFaultIs why OutOfMemory = ⊥
 
   -- of a call that only needs a node

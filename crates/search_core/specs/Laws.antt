@@ -2,13 +2,12 @@
 use Rattle.std.specs.Prelude.{◌≡◌, ◌⊎◌, ℕ, ◌<◌, true, List, Some, IfSome, slice_get}
 use Rattle.gap_sets.specs.Gaps.{SetOfGaps}
 use Rattle.gap_sets.specs.Order.{total, Better}
+use Rattle.gap_sets.specs.Regions.{IsInRegion}
+use Rattle.gap_sets.specs.declared.region.Region.{Region}
 use Rattle.tso_program.specs.Shown.{Question}
 use Rattle.tso_machine.specs.Outcomes.{Serves, LeavesOutcome, AreGapsOf, IsTheAnswer}
-use Rattle.tree_laws.specs.GapTrees.{IsInRegion}
 use Rattle.cover_solver.specs.Facts.{Serving}
-use Rattle.search_core.specs.declared.node.Node.{Node}
 use Rattle.search_core.specs.declared.entry.Entry.{Entry}
-use Rattle.search_core.specs.Nodes.{region_of}
 use Rattle.search_core.specs.Entries.{is_live}
 use Rattle.search_core.specs.States.{SearchState, IsHeldAt, IsDone}
 use Rattle.search_core.specs.Events.{TakesNode, GivesBack, IsSettling}
@@ -21,7 +20,7 @@ pub record IsLive (entries : List Entry) (gaps : SetOfGaps) : Type 0 where
   pub entry : Entry
   pub there : slice_get entries place ≡ Some entry
   pub live : is_live entry ≡ true
-  pub inside : IsInRegion (region_of entry.node) gaps
+  pub inside : IsInRegion entry.node gaps
 
 -- the best set is this one
 pub record IsBestSet (s : SearchState) (gaps : SetOfGaps) : Type 0 where
@@ -53,7 +52,7 @@ ADoneStateHasTheAnswer = (s : SearchState) → IsReached s → IsDone s → (gap
 
 -- a seat holds one node at most
 abbrev pub ASeatHoldsOneNode : Type 0
-ASeatHoldsOneNode = (s : SearchState) (seat place other : ℕ) (n m : Node) → IsReached s → IsHeldAt s.entries seat place n → IsHeldAt s.entries seat other m → place ≡ other
+ASeatHoldsOneNode = (s : SearchState) (seat place other : ℕ) (n m : Region) → IsReached s → IsHeldAt s.entries seat place n → IsHeldAt s.entries seat other m → place ≡ other
 
 -- a node that is split, cut or confirmed leaves less work: so a search ends
 abbrev pub SettlingLessensTheWork : Type 0
@@ -61,7 +60,7 @@ SettlingLessensTheWork = (s after : SearchState) (seat : ℕ) → IsReached s �
 
 -- a node that is taken or given back leaves as much
 abbrev pub TakingLeavesTheWork : Type 0
-TakingLeavesTheWork = (s after : SearchState) (seat : ℕ) (n : Node) → TakesNode s after seat n → work_left after.entries ≡ work_left s.entries
+TakingLeavesTheWork = (s after : SearchState) (seat : ℕ) (n : Region) → TakesNode s after seat n → work_left after.entries ≡ work_left s.entries
 
 abbrev pub GivingBackLeavesTheWork : Type 0
 GivingBackLeavesTheWork = (s after : SearchState) (seat : ℕ) → GivesBack s after seat → work_left after.entries ≡ work_left s.entries

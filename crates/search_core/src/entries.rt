@@ -1,21 +1,20 @@
 //! The nodes of a search, each with what became of it.
 ghost use Rattle.std.specs.Prelude.{◌≡◌, ◌↔◌, ◌<◌, ℕ, false, Some, IfOk, IsTrue, MatchOption, slice_get, slice_set, length};
 ghost use Rattle.gap_sets.specs.Order.{Better};
-ghost use Rattle.search_core.specs.declared.node.Node.{Node};
+ghost use Rattle.gap_sets.specs.declared.region.Region.{Region};
 ghost use Rattle.search_core.specs.declared.entry.Entry.{Entry};
-ghost use Rattle.search_core.specs.Nodes.{children};
+ghost use Rattle.search_core.specs.Children.{children};
 ghost use Rattle.search_core.specs.Entries.{entry, is_live};
 ghost use Rattle.search_core.specs.States.{IsOpenAt, IsHeldAt};
 ghost use Rattle.search_core.specs.Events.{open_entries};
 
-use crate::Node;
 use crate::entry::{Entry, Status};
-use gap_sets::{Costs, GapSet};
+use gap_sets::{Costs, GapSet, Region};
 use std::alloc::{AllocError, Global};
 
 /// The open node whose `must` is best, the first of equals, with its place.
-pub(crate) fn best_open(costs: &Costs, entries: &[Entry]) -> Option<(usize, Node)>
-    ensures { MatchOption result ((place : ℕ) (n : Node) → ¬ IsOpenAt entries.now place n) (λ found. IsOpenAt entries.now found.0 found.1) }
+pub(crate) fn best_open(costs: &Costs, entries: &[Entry]) -> Option<(usize, Region)>
+    ensures { MatchOption result ((place : ℕ) (n : Region) → ¬ IsOpenAt entries.now place n) (λ found. IsOpenAt entries.now found.0 found.1) }
 {
     let mut best = None;
     for (place, entry) in entries.iter().enumerate() {
@@ -27,7 +26,7 @@ pub(crate) fn best_open(costs: &Costs, entries: &[Entry]) -> Option<(usize, Node
 }
 
 /// Whether the `must` of the node is better than that of the best so far, or there is no best yet.
-fn is_first_or_better(costs: &Costs, node: &Node, best: &Option<(usize, Node)>) -> bool
+fn is_first_or_better(costs: &Costs, node: &Region, best: &Option<(usize, Region)>) -> bool
     ensures { MatchOption best.now (IsTrue result) (λ found. IsTrue result ↔ Better costs.now node.now.must found.1.must) }
 {
     match best {
@@ -37,8 +36,8 @@ fn is_first_or_better(costs: &Costs, node: &Node, best: &Option<(usize, Node)>) 
 }
 
 /// The node that the seat holds, with its place.
-pub(crate) fn find_held(entries: &[Entry], seat: u8) -> Option<(usize, Node)>
-    ensures { MatchOption result ((place : ℕ) (n : Node) → ¬ IsHeldAt entries.now seat place n) (λ found. IsHeldAt entries.now seat found.0 found.1) }
+pub(crate) fn find_held(entries: &[Entry], seat: u8) -> Option<(usize, Region)>
+    ensures { MatchOption result ((place : ℕ) (n : Region) → ¬ IsHeldAt entries.now seat place n) (λ found. IsHeldAt entries.now seat found.0 found.1) }
 {
     for (place, entry) in entries.iter().enumerate() {
         if entry.is_held_by(seat) {
@@ -49,7 +48,7 @@ pub(crate) fn find_held(entries: &[Entry], seat: u8) -> Option<(usize, Node)>
 }
 
 /// Says what became of the node at the place.
-pub(crate) fn mark(entries: &mut Vec<Entry>, place: usize, node: &Node, seat: u8, status: Status)
+pub(crate) fn mark(entries: &mut Vec<Entry>, place: usize, node: &Region, seat: u8, status: Status)
     requires { place < length entries.old.items }
     ensures { entries.new.items ≡ slice_set entries.old.items place (entry node.now seat status) }
 {
@@ -63,7 +62,7 @@ pub(crate) fn mark(entries: &mut Vec<Entry>, place: usize, node: &Node, seat: u8
 /// The children of a node, split by a run that passes these gaps.
 pub(crate) fn open_children(
     alloc: Global,
-    node: &Node,
+    node: &Region,
     seat: u8,
     passed: GapSet,
 ) -> Result<Vec<Entry>, AllocError>
@@ -73,16 +72,12 @@ pub(crate) fn open_children(
     let mut rest = *node;
     for gap in passed.iter() {
         if !node.never.has(gap) {
-            let child = Node {
-                must: rest.must.with(gap),
-                never: rest.never,
-            };
             found.push(Entry {
-                node: child,
+                node: rest.with(gap),
                 seat,
                 status: Status::Open,
             })?;
-            rest.never = rest.never.with(gap);
+            rest = rest.without(gap);
         }
     }
     Ok(found)

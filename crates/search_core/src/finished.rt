@@ -3,10 +3,9 @@ ghost use Rattle.std.specs.Prelude.{◌≡◌, ℕ, Some, None, IfSome, IfNone, 
 ghost use Rattle.tso_machine.specs.Outcomes.{IsTheAnswer};
 ghost use Rattle.search_core.specs.Records.{IsOutcome, IsSettledAs, IsFirstChild};
 
-use crate::Node;
 use crate::entry::{Entry, Status};
 use cover_solver::{ForeignRun, Served};
-use gap_sets::Costs;
+use gap_sets::{Costs, Region};
 use std::marker::Model;
 use tso_program::{Program, Shown};
 
@@ -50,10 +49,10 @@ pub enum Event<'a> {
     Confirmed,
 }
 
-/// A node, the seat that settled it, and how.
+/// A node by its region, the seat that settled it, and how.
 #[derive(Clone, Copy)]
 pub struct Settled<'a> {
-    pub node: Node,
+    pub node: Region,
     pub seat: u8,
     pub event: Event<'a>,
 }

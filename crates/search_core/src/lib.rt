@@ -1,6 +1,5 @@
-//! The search for the best set of gaps that serves, as events on a tree of nodes. A node stands for the
-//! sets that hold some gaps and avoid others; a run that a node's sets can't forbid splits it, a set
-//! that serves closes it. There are no threads here: a call is one event.
+//! The search for the best set of gaps that serves, as events on a tree of nodes. A node stands for a
+//! region of sets; a run that these sets can't forbid splits it, a set that serves closes it. There are no threads here: a call is one event.
 #![tactic(auto)]
 
 mod best;
@@ -10,7 +9,6 @@ mod entry;
 mod fault;
 mod finished;
 mod laws;
-mod node;
 mod tree;
 
 pub use ceiling::{Ceiling, Reason};
@@ -20,5 +18,4 @@ pub use laws::{
     a_done_state_has_the_answer, a_seat_holds_one_node, settling_lessens_the_work,
     the_answer_is_never_lost,
 };
-pub use node::Node;
 pub use tree::{MAX_SEATS, SearchTree};

@@ -1,8 +1,8 @@
 //! The search as events.
 ghost use Rattle.std.specs.Prelude.{◌≡◌, ◌↔◌, ◌<◌, ℕ, Some, IfSome, IfNone, IfOk, IfErr, OnOk, OnErr, IsTrue, MatchOption, length};
+ghost use Rattle.gap_sets.specs.declared.region.Region.{Region};
 ghost use Rattle.tso_program.specs.Listings.{gap_count};
 ghost use Rattle.tso_machine.specs.Outcomes.{AreGapsOf, IsTheAnswer};
-ghost use Rattle.search_core.specs.declared.node.Node.{Node};
 ghost use Rattle.search_core.specs.States.{HoldsNothing, HoldsOnly, HoldsNode, IsDone, IsSameSearch, IsSeatCount, IsStart};
 ghost use Rattle.search_core.specs.Events.{TakesNode, GivesBack, Splits, Cuts, Confirms};
 ghost use Rattle.search_core.specs.Faults.{IsReasonOf, IsCutBy, TakeFaultIs, SplitFaultIs, CutFaultIs, IsWithoutNode};
@@ -12,9 +12,9 @@ ghost use Rattle.search_core.specs.Records.{finished_state};
 use crate::best::{cuts, is_better};
 use crate::entries::{all_settled, best_open, find_held, mark, open_children};
 use crate::entry::{Entry, Status};
-use crate::{Finished, Node, Reason, TreeFault};
+use crate::{Finished, Reason, TreeFault};
 use cover_solver::{ForeignRun, SeqTable, Served};
-use gap_sets::{Costs, GapSet};
+use gap_sets::{Costs, Region};
 use std::alloc::Global;
 use std::marker::Model;
 use tso_program::{Program, Shown};
@@ -74,12 +74,8 @@ impl SearchTree {
         let _ = program.threads();
         let _ = costs.len();
         let mut entries = Vec::new(alloc);
-        let node = Node {
-            must: GapSet::empty(),
-            never: GapSet::empty(),
-        };
         entries.push(Entry {
-            node,
+            node: Region::all(),
             seat: 0,
             status: Status::Open,
         })?;
@@ -119,7 +115,7 @@ impl SearchTree {
     }
 
     /// The node that the seat holds.
-    pub fn held(&self, seat: u8) -> Option<Node>
+    pub fn held(&self, seat: u8) -> Option<Region>
         requires { seat < self.now.seats }
         ensures value { MatchOption result (HoldsNothing self.now seat) (HoldsOnly self.now seat) }
         ensures of_program { IfSome result (λ node. AreGapsOf self.now.question.program node.must) }
@@ -130,7 +126,7 @@ impl SearchTree {
 
     /// The seat takes an open node. It is the one whose `must` is best, the first of equals: a preference, on which
     /// no clause rests.
-    pub fn take(&mut self, seat: u8) -> Result<Node, TreeFault>
+    pub fn take(&mut self, seat: u8) -> Result<Region, TreeFault>
         requires { seat < self.old.seats }
         ensures taken { IfOk result (TakesNode self.old self.new seat) }
         ensures holds { IfOk result (HoldsOnly self.new seat) }
@@ -217,7 +213,7 @@ impl SearchTree {
     pub fn confirm(&mut self, seat: u8, served: Served) -> Result<(), TreeFault>
         requires seat { seat < self.old.seats }
         requires of_question { served.question ≡ self.old.question }
-        requires of_node { (node : Node) → HoldsNode self.old seat node → served.gaps ≡ node.must }
+        requires of_node { (node : Region) → HoldsNode self.old seat node → served.gaps ≡ node.must }
         ensures confirmed { OnOk result (Confirms self.old self.new seat served) }
         ensures same { IsSameSearch self.old self.new }
         ensures unchanged { OnErr result (self.new ≡ self.old) }

@@ -18,6 +18,8 @@ use Rattle.tso_program.specs.Listings.{gap_count, gap_number}
 use Rattle.tso_machine.specs.Machine.{Mode, Sequential, Fenced, start}
 use Rattle.the_answer.specs.OutcomeLists.{outcomes_within, most_labels, outcomes_of}
 use Rattle.the_answer.specs.Answers.{are_among, does_serve, cheaper, best_of, the_answer}
+use Rattle.gap_sets.specs.declared.gap_set.TheConstants.{MAX_GAPS}
+use Rattle.tso_program.specs.declared.limits.TheConstants.{MAX_THREADS}
 
 -- the set of a list has these numbers
 abbrev pub is_listed : List ℕ → ℕ → Bool
@@ -26,7 +28,7 @@ is_listed xs k = list_any (λ y. nat_eq y k) xs
 -- what is shown of an outcome, by a test of places
 abbrev show_by : (ℕ → Bool) → Outcome → Outcome
 show_by has o = record {
-  registers = map (λ t. map (λ r. value_if (nat_lt t 8 && has (register_place t r)) (slice_index (slice_index_or o.registers t []) r)) (range_with_len 0 (length (slice_index_or o.registers t []))))
+  registers = map (λ t. map (λ r. value_if (nat_lt t MAX_THREADS && has (register_place t r)) (slice_index (slice_index_or o.registers t []) r)) (range_with_len 0 (length (slice_index_or o.registers t []))))
       (range_with_len 0 (length o.registers));
   memory = map (λ l. value_if (has (location_place l)) (slice_index o.memory l)) (range_with_len 0 (length o.memory));
 }
@@ -49,7 +51,7 @@ module _ (seen : Outcome → Outcome) (p : Listing) where
 
 -- what a list of gaps costs
 abbrev pub total_by : List ℕ → List ℕ → ℕ
-total_by costs gaps = sum_by (cost_of costs) (filter (is_listed gaps) (range_with_len 0 64))
+total_by costs gaps = sum_by (cost_of costs) (filter (is_listed gaps) (range_with_len 0 MAX_GAPS))
 
 abbrev pub cheaper_by : List ℕ → Option (List ℕ) → Option (List ℕ) → Option (List ℕ)
 cheaper_by costs None other = other

@@ -5,6 +5,7 @@ use Rattle.std.specs.FinSet as set
 use Rattle.gap_sets.specs.Gaps.{SetOfGaps, have_same_gaps}
 use Rattle.gap_sets.specs.Order.{Better}
 use Rattle.gap_sets.specs.SameGaps.{have_same_gaps-same}
+use Rattle.gap_sets.specs.declared.gap_set.TheConstants.{MAX_GAPS}
 use Rattle.gap_sets.proofs.Subsets.{cheaper}
 use Rattle.gap_sets.proofs.Orders.{chained}
 use Rattle.tso_program.specs.declared.listing.Listing.{Listing}
@@ -29,7 +30,7 @@ module _ (p : Listing) (costs : List ℕ) (within : IsWithinLimits p.threads p.m
     | inl same ↦ subst (λ (s : SetOfGaps). Better costs s answer) (sym same) better
     | inr differ ↦ chained costs part whole answer
         (cheaper costs part whole have.positive
-        (λ gap there. let below : gap < gap_count p.threads = of_program gap there in let few : gap_count p.threads ≤ 64 = within.few_gaps in omega arith)
+        (λ gap there. let below : gap < gap_count p.threads = of_program gap there in let few : gap_count p.threads ≤ MAX_GAPS = within.few_gaps in omega arith)
         (λ gap there. let below : gap < gap_count p.threads = of_program gap there in let each : length costs ≡ gap_count p.threads = have.one_each in omega arith)
         (set.contains-is_subset nat_cmp_total part whole held) differ) better
   ]

@@ -1,13 +1,13 @@
 -- The headline holds of the set of a valid certificate.
 use Rattle.std.proofs.Common.{ℕ, ◌≤◌, List, All}
 use Rattle.std.proofs.lemmas.List.Elements.{All-weaker}
+use Rattle.gap_sets.specs.Regions.{all_sets}
 use Rattle.tso_program.specs.Shown.{Question}
 use Rattle.tso_program.specs.declared.outcome.Outcome.{Outcome}
 use Rattle.tso_program.specs.Limits.{IsWithinLimits}
 use Rattle.tso_machine.specs.declared.label.Label.{Label}
 use Rattle.tso_machine.specs.Outcomes.{IsTheAnswer}
 use Rattle.fence_laws.proofs.HeadlineIsTheAnswer.{headline_is_the_answer}
-use Rattle.tree_laws.specs.GapTrees.{root}
 use Rattle.tree_laws.specs.Certificates.{Certificate, IsRunOutside, IsValidCertificate}
 use Rattle.tree_laws.specs.Laws.{IsSequentialList, IsForeign, AValidCertificateProves}
 use Rattle.tree_laws.proofs.ListedOutcomes.{sequential_list, fenced_tree_serves}
@@ -29,7 +29,7 @@ module _ (q : Question) (costs : List ℕ) (c : Certificate) (within : IsWithinL
     of_program = valid.of_program;
     serves = fenced_tree_serves q c.gaps valid.outcomes c.fenced_tree within.shared.forward_jumps list valid.fenced;
     least = root_has_every_set q costs c.gaps
-        (no_better_left q costs c.gaps c.runs c.gap_tree root within (record { one_each = valid.one_cost_each; positive = positive }) foreign valid.least);
+        (no_better_left q costs c.gaps c.runs c.gap_tree all_sets within (record { one_each = valid.one_cost_each; positive = positive }) foreign valid.least);
   }
 
 pub certificate_proves : AValidCertificateProves

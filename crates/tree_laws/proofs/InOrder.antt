@@ -1,4 +1,4 @@
--- Children are judged in their order, each at its own sketch or node.
+-- Children are judged in their order, each at its own sketch or for its own region.
 use Rattle.std.proofs.Common.{[], ◌∷◌}
 use Rattle.tree_laws.specs.Laws.{CoversAreJudgedInOrder, GapsAreJudgedInOrder}
 

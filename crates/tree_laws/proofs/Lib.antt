@@ -1,4 +1,5 @@
 pub mod Lists
+pub mod Filtered
 pub mod OneList
 pub mod InOrder
 -- cover trees
@@ -7,6 +8,7 @@ pub mod ListedOutcomes
 -- gap trees
 pub mod AvoidedGaps
 pub mod BetterSets
+pub mod OpenGaps
 pub mod Regions
 pub mod NoBetterLeft
 -- certificates

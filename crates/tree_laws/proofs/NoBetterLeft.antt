@@ -2,12 +2,14 @@
 use Rattle.std.proofs.Common.{◌≡◌, ℕ, true, false, List, [], ◌∷◌, Contains, All, sym, ◌∙◌, subst, inl, inr}
 use Rattle.std.specs.FinSet as set
 use Rattle.gap_sets.specs.Gaps.{SetOfGaps}
+use Rattle.gap_sets.specs.Regions.{IsInRegion, children_of, HasNoneOf}
+use Rattle.gap_sets.specs.declared.region.Region.{Region}
 use Rattle.tso_program.specs.declared.listing.Listing.{Listing}
 use Rattle.tso_program.specs.Shown.{Question}
 use Rattle.tso_program.specs.Limits.{IsWithinLimits}
 use Rattle.tso_machine.specs.declared.label.Label.{Label}
 use Rattle.cert_forest.specs.Trees.{Gap, Split, Bound, GapTrees, NoGap, MoreGaps}
-use Rattle.tree_laws.specs.GapTrees.{Node, IsInRegion, children_of, HasNoneOf, IsSplitBy, IsValidGap, AreValidGaps, EachBetterOfRegionLeavesOutcome, HaveCosts}
+use Rattle.tree_laws.specs.GapTrees.{IsSplitBy, IsValidGap, AreValidGaps, EachBetterOfRegionLeavesOutcome, HaveCosts}
 use Rattle.tree_laws.specs.Laws.{IsForeign, AValidGapTreeLeavesNoBetter, SoNoServingSetIsBetter, TheRootHasEverySet}
 use Rattle.tree_laws.proofs.Lists.{none_here, first_or_later, found_has}
 use Rattle.tree_laws.proofs.AvoidedGaps.{Avoids, leaves_outcome}
@@ -18,23 +20,23 @@ module _ (q : Question) (costs : List ℕ) (answer : SetOfGaps) where
   abbrev p : Listing
   p = q.program
 
-  -- each of the nodes has what a valid tree means
-  abbrev EachMeans : List Node → Type 0
-  EachMeans ns = (n : Node) → Contains ns n → EachBetterOfRegionLeavesOutcome q costs answer n
+  -- each of the regions has what a valid tree means
+  abbrev EachMeans : List Region → Type 0
+  EachMeans ns = (n : Region) → Contains ns n → EachBetterOfRegionLeavesOutcome q costs answer n
 
-  one_more : (n : Node) (ns : List Node) → EachBetterOfRegionLeavesOutcome q costs answer n → EachMeans ns → EachMeans (n ∷ ns)
+  one_more : (n : Region) (ns : List Region) → EachBetterOfRegionLeavesOutcome q costs answer n → EachMeans ns → EachMeans (n ∷ ns)
   one_more n ns first later m here = elim (first_or_later n ns m here) [ inl e ↦ subst (EachBetterOfRegionLeavesOutcome q costs answer) e first | inr there ↦ later m there ]
 
   module _ (runs : List (List Label)) where
     -- what the run passes and the set has is one of the gaps of the split
-    passes_none_of : (n : Node) (number : ℕ) (gaps : List ℕ) (split : IsSplitBy p runs n number gaps) (other : SetOfGaps) → IsInRegion n other → HasNoneOf other gaps →
+    passes_none_of : (n : Region) (number : ℕ) (gaps : List ℕ) (split : IsSplitBy p runs n number gaps) (other : SetOfGaps) → IsInRegion n other → HasNoneOf other gaps →
         Avoids p other split.labels
     passes_none_of n number gaps split other inside none gap there passed = elim (true_or_false (set.contains n.never gap)) [
       | inl never ↦ (let no : true ≡ false = sym there ∙ inside.avoids gap never in absurd cc)
       | inr free ↦ (let no : true ≡ false = sym there ∙ none gap ((split.exact gap).1 (passed, free)) in absurd cc)
     ]
 
-    by_split : All (IsForeign q) runs → (n : Node) (number : ℕ) (gaps : List ℕ) → IsSplitBy p runs n number gaps → EachMeans (children_of n gaps) →
+    by_split : All (IsForeign q) runs → (n : Region) (number : ℕ) (gaps : List ℕ) → IsSplitBy p runs n number gaps → EachMeans (children_of n gaps) →
         EachBetterOfRegionLeavesOutcome q costs answer n
     by_split foreign n number gaps split each other of_program inside better = elim (split_loses_no_set n gaps other inside) [
       | inl (child, here, in_child) ↦ each child here other of_program in_child better
@@ -44,11 +46,11 @@ module _ (q : Question) (costs : List ℕ) (answer : SetOfGaps) where
 
     module _ (within : IsWithinLimits p.threads p.memory) (have : HaveCosts p costs) (foreign : All (IsForeign q) runs) where
       mutual
-        means : (tree : Gap) (n : Node) → IsValidGap p costs answer runs tree n → EachBetterOfRegionLeavesOutcome q costs answer n
+        means : (tree : Gap) (n : Region) → IsValidGap p costs answer runs tree n → EachBetterOfRegionLeavesOutcome q costs answer n
         means (Split number children) n (gaps, split, valid) = by_split foreign n number gaps split (each_means children (children_of n gaps) valid)
         means Bound n not_better = λ other of_program inside better. absurd (not_better (still_better p costs within have n.must other answer of_program inside.holds better))
 
-        each_means : (trees : GapTrees) (ns : List Node) → AreValidGaps p costs answer runs trees ns → EachMeans ns
+        each_means : (trees : GapTrees) (ns : List Region) → AreValidGaps p costs answer runs trees ns → EachMeans ns
         each_means NoGap [] valid = λ n here. absurd (none_here n here)
         each_means NoGap (n ∷ ns) valid = absurd valid
         each_means (MoreGaps tree trees) [] valid = absurd valid

@@ -1,11 +1,12 @@
--- The regions of a node's children: a set of the node's region is in that of the child for the first of the gaps that it has.
+-- The children of a region: a set of the region is in the child for the first of the gaps that it has.
 use Rattle.std.proofs.Common.{◌≡◌, ◌⊎◌, ◌||◌, ℕ, Bool, true, false, List, [], ◌∷◌, refl, sym, ◌∙◌, subst, inl, inr, arith}
 use Rattle.std.specs.Ordering.{nat_cmp, eq_by_cmp}
 use Rattle.std.specs.Cmp.{nat_cmp_total}
 use Rattle.std.specs.FinSet as set
 use Rattle.std.proofs.lemmas.Bool.Decides.{nat_tests}
 use Rattle.gap_sets.specs.Gaps.{SetOfGaps}
-use Rattle.tree_laws.specs.GapTrees.{Node, root, IsInRegion, children_of, HasNoneOf}
+use Rattle.gap_sets.specs.Regions.{all_sets, with_gap, without_gap, IsInRegion, children_of, HasNoneOf}
+use Rattle.gap_sets.specs.declared.region.Region.{Region}
 use Rattle.tree_laws.specs.Laws.{ASplitLosesNoSet}
 use Rattle.tree_laws.proofs.Lists.{none_here, first_or_later, first_is_here, later_is_here}
 
@@ -17,14 +18,14 @@ tied q g false h = inl (grind (arith, nat_tests))
 pub new_or_old : (s : SetOfGaps) (gap q : ℕ) → set.contains (set.insert s gap) q ≡ true → (gap ≡ q) ⊎ (set.contains s q ≡ true)
 new_or_old s gap q h = tied q gap (set.contains s q) (sym (set.contains-insert nat_cmp_total s gap q) ∙ h)
 
-module _ (n : Node) (other : SetOfGaps) (inside : IsInRegion n other) (gap : ℕ) where
-  with_it : set.contains other gap ≡ true → IsInRegion (record n { must = set.insert n.must gap }) other
+module _ (n : Region) (other : SetOfGaps) (inside : IsInRegion n other) (gap : ℕ) where
+  with_it : set.contains other gap ≡ true → IsInRegion (with_gap n gap) other
   with_it there = record {
     holds = λ q h. elim (new_or_old n.must gap q h) [ inl e ↦ subst (λ (g : ℕ). set.contains other g ≡ true) e there | inr old ↦ inside.holds q old ];
     avoids = inside.avoids;
   }
 
-  without_it : set.contains other gap ≡ false → IsInRegion (record n { never = set.insert n.never gap }) other
+  without_it : set.contains other gap ≡ false → IsInRegion (without_gap n gap) other
   without_it missing = record {
     holds = inside.holds;
     avoids = λ q h. elim (new_or_old n.never gap q h) [ inl e ↦ subst (λ (g : ℕ). set.contains other g ≡ false) e missing | inr old ↦ inside.avoids q old ];
@@ -44,8 +45,8 @@ none_of gap gaps other missing none q here = elim (first_or_later gap gaps q her
 pub split_loses_no_set : ASplitLosesNoSet
 split_loses_no_set n [] other inside = inr (λ gap here. absurd (none_here gap here))
 split_loses_no_set n (gap ∷ gaps) other inside =
-    let first : Node = record n { must = set.insert n.must gap } in
-    let rest : Node = record n { never = set.insert n.never gap } in
+    let first : Region = with_gap n gap in
+    let rest : Region = without_gap n gap in
     elim (true_or_false (set.contains other gap)) [
       | inl there ↦ inl (first, first_is_here first (children_of rest gaps), with_it n other inside gap there)
       | inr missing ↦ elim (split_loses_no_set rest gaps other (without_it n other inside gap missing)) [
@@ -54,8 +55,8 @@ split_loses_no_set n (gap ∷ gaps) other inside =
       ]
     ]
 
--- every set is in the root's region
-pub in_root : (other : SetOfGaps) → IsInRegion root other
+-- every set is in the region of all sets
+pub in_root : (other : SetOfGaps) → IsInRegion all_sets other
 in_root other = record {
   holds = λ q h. (let no : true ≡ false = sym h ∙ set.contains-empty nat_cmp q in absurd cc);
   avoids = λ q h. (let no : true ≡ false = sym h ∙ set.contains-empty nat_cmp q in absurd cc);

@@ -7,10 +7,12 @@ use Rattle.std.specs.FinSet as set
 use Rattle.std.proofs.lemmas.Bool.Decides.{nat_tests}
 use Rattle.gap_sets.specs.Gaps.{SetOfGaps}
 use Rattle.gap_sets.specs.Order.{Better}
+use Rattle.gap_sets.specs.Regions.{all_sets, with_gap, without_gap}
+use Rattle.gap_sets.specs.declared.region.Region.{Region}
 use Rattle.gap_sets.specs.Laws.{these}
 use Rattle.gap_sets.proofs.Orders.{not_itself}
 use Rattle.tso_machine.specs.Examples.{store_buffering, waiting_stores}
-use Rattle.tree_laws.specs.GapTrees.{Node, root, PassesGap, IsSplitBy, IsValidGap}
+use Rattle.tree_laws.specs.GapTrees.{PassesGap, IsSplitBy, IsValidGap}
 use Rattle.tree_laws.specs.StoreBuffering.{second_waits, first_waits, gap_tree, costs}
 use Rattle.tree_laws.proofs.Lists.{none_here, first_or_later, first_is_here}
 use Rattle.tree_laws.proofs.Regions.{new_or_old}
@@ -37,7 +39,7 @@ two_ascend (suc k) h = absurd (omega arith)
 below_two : (gap : ℕ) → Contains zero_one gap → gap < 2
 below_two gap here = elim (of_zero_one gap here) [ inl e ↦ omega arith | inr e ↦ omega arith ]
 
-split_at_root : IsSplitBy store_buffering runs root 0 zero_one
+split_at_root : IsSplitBy store_buffering runs all_sets 0 zero_one
 split_at_root = record {
   labels = waiting_stores;
   is_run = refl;
@@ -46,9 +48,9 @@ split_at_root = record {
   exact = λ gap. ((λ here. (both_passed gap (below_two gap here), set.contains-empty nat_cmp gap)), (λ passed. in_zero_one gap (passed_below waiting_stores gap passed.0)));
 }
 
--- the node that must have the first gap
-abbrev with_first : Node
-with_first = record { must = set.insert set.empty 0; never = set.empty }
+-- the sets that hold the first gap
+abbrev with_first : Region
+with_first = with_gap all_sets 0
 
 only_one : (gap : ℕ) → gap < 2 → (gap ≡ 0 → ⊥) → Contains (1 ∷ []) gap
 only_one zero h differ = absurd (differ refl)
@@ -73,9 +75,9 @@ split_with_first = record {
       | inr rest ↦ absurd (none_here gap rest)
     ]
 
--- the node that must have the second gap and never the first
-abbrev without_first : Node
-without_first = record { must = set.insert set.empty 1; never = set.insert set.empty 0 }
+-- the sets that hold the second gap and not the first
+abbrev without_first : Region
+without_first = with_gap (without_gap all_sets 0) 1
 
 itself : (gap : ℕ) (s : SetOfGaps) → set.contains (set.insert s gap) gap ≡ true
 itself gap s = set.contains-insert nat_cmp_total s gap gap ∙ tests (set.contains s gap)
@@ -118,5 +120,5 @@ same_gaps = set.same_set nat_cmp_total set.nat_cmp-IsAntisymmetric _ _ (λ q.
 not_better : ¬ Better costs (set.insert (set.insert set.empty 0) 1) both_gaps
 not_better better = not_itself costs both_gaps (subst (λ (s : SetOfGaps). Better costs s both_gaps) same_gaps better)
 
-pub gap_tree_is_valid : IsValidGap store_buffering costs both_gaps runs gap_tree root
+pub gap_tree_is_valid : IsValidGap store_buffering costs both_gaps runs gap_tree all_sets
 gap_tree_is_valid = (zero_one, split_at_root, ((1 ∷ [], split_with_first, (not_better, tt)), (([], split_without_first, tt), tt)))

@@ -3,6 +3,7 @@ use Rattle.std.specs.Prelude.{◌≡◌, ℕ, List, Contains, length, All}
 use Rattle.std.specs.List.{AllZip}
 use Rattle.gap_sets.specs.Gaps.{SetOfGaps}
 use Rattle.gap_sets.specs.Order.{total}
+use Rattle.gap_sets.specs.Regions.{all_sets}
 use Rattle.tso_program.specs.declared.outcome.Outcome.{Outcome}
 use Rattle.tso_program.specs.declared.shown.Shown.{Shown}
 use Rattle.tso_program.specs.Shown.{Question}
@@ -14,7 +15,7 @@ use Rattle.tso_machine.specs.Outcomes.{IsShownRun, AreGapsOf}
 use Rattle.candidate_executions.specs.Sketches.{empty_sketch}
 use Rattle.cert_forest.specs.Trees.{Cover, Gap}
 use Rattle.tree_laws.specs.CoverTrees.{IsValidCover}
-use Rattle.tree_laws.specs.GapTrees.{root, IsValidGap}
+use Rattle.tree_laws.specs.GapTrees.{IsValidGap}
 
 -- what is shown of outcomes; a set of gaps and its cost; sequential runs, and a tree that shows that there are no other sequential outcomes; foreign
 -- runs; a tree that shows that the set serves, and one that shows that no better set does
@@ -47,4 +48,4 @@ pub record IsValidCertificate (q : Question) (costs : List ℕ) (c : Certificate
   pub sequential : IsValidCover q Sequential outcomes c.seq_tree empty_sketch
   pub foreign : All (IsRunOutside q outcomes) c.runs
   pub fenced : IsValidCover q (Fenced (gaps_in q.program c.gaps)) outcomes c.fenced_tree empty_sketch
-  pub least : IsValidGap q.program costs c.gaps c.runs c.gap_tree root
+  pub least : IsValidGap q.program costs c.gaps c.runs c.gap_tree all_sets

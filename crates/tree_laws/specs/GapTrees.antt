@@ -4,6 +4,8 @@ use Rattle.std.specs.List.Sorted.{IsStrictlyIncreasing}
 use Rattle.std.specs.FinSet as set
 use Rattle.gap_sets.specs.Gaps.{SetOfGaps}
 use Rattle.gap_sets.specs.Order.{Better}
+use Rattle.gap_sets.specs.Regions.{IsInRegion, children_of}
+use Rattle.gap_sets.specs.declared.region.Region.{Region}
 use Rattle.tso_program.specs.declared.listing.Listing.{Listing}
 use Rattle.tso_program.specs.Shown.{Question}
 use Rattle.tso_program.specs.Listings.{gap_count}
@@ -12,29 +14,6 @@ use Rattle.tso_machine.specs.Machine.{Fenced, no_gaps, start}
 use Rattle.tso_machine.specs.Modes.{Passes}
 use Rattle.tso_machine.specs.Outcomes.{Serves, LeavesOutcome, AreGapsOf}
 use Rattle.cert_forest.specs.Trees.{Gap, Split, Bound, GapTrees, NoGap, MoreGaps}
-
--- a node stands for a region of sets: those that hold `must` and avoid `never`
-pub record Node : Type 0 where
-  pub must : SetOfGaps
-  pub never : SetOfGaps
-
--- the node of all sets
-abbrev pub root : Node
-root = record { must = set.empty; never = set.empty }
-
--- the set is in the node's region
-pub record IsInRegion (n : Node) (gaps : SetOfGaps) : Type 0 where
-  pub holds : (gap : ℕ) → set.contains n.must gap ≡ true → set.contains gaps gap ≡ true
-  pub avoids : (gap : ℕ) → set.contains n.never gap ≡ true → set.contains gaps gap ≡ false
-
--- for each of the gaps in order, the node that must have it and never the earlier ones
-abbrev pub children_of : Node → List ℕ → List Node
-children_of n [] = []
-children_of n (gap ∷ gaps) = record n { must = set.insert n.must gap } ∷ children_of (record n { never = set.insert n.never gap }) gaps
-
--- the set has none of these gaps
-abbrev pub HasNoneOf : SetOfGaps → List ℕ → Type 0
-HasNoneOf gaps others = (gap : ℕ) → Contains others gap → set.contains gaps gap ≡ false
 
 -- with no gap fenced, the labels pass the gap of this number
 abbrev pub PassesGap : Listing → List Label → ℕ → Type 0
@@ -46,36 +25,36 @@ IsOpenGap p labels never gap = PassesGap p labels gap × (set.contains never gap
 
 module _ (p : Listing) (runs : List (List Label)) where
   -- the run of this number passes no gap of `must`, and these are the gaps that it passes outside `never`, ascending
-  pub record IsSplitBy (n : Node) (number : ℕ) (gaps : List ℕ) : Type 0 where
+  pub record IsSplitBy (region : Region) (number : ℕ) (gaps : List ℕ) : Type 0 where
     pub labels : List Label
     pub is_run : slice_get runs number ≡ Some labels
-    pub passes_none : (gap : ℕ) → set.contains n.must gap ≡ true → ¬ PassesGap p labels gap
+    pub passes_none : (gap : ℕ) → set.contains region.must gap ≡ true → ¬ PassesGap p labels gap
     pub ascending : IsStrictlyIncreasing gaps
-    pub exact : (gap : ℕ) → Contains gaps gap ↔ IsOpenGap p labels n.never gap
+    pub exact : (gap : ℕ) → Contains gaps gap ↔ IsOpenGap p labels region.never gap
 
 module _ (p : Listing) (costs : List ℕ) (answer : SetOfGaps) (runs : List (List Label)) where
   abbrev mutual
-    -- the tree is valid at the node: a child for each gap that a run passes and that the sets may have, or nothing better than the answer is left
-    pub IsValidGap : Gap → Node → Type 0
-    IsValidGap (Split number children) n = (gaps : List ℕ) × IsSplitBy p runs n number gaps × AreValidGaps children (children_of n gaps)
-    IsValidGap Bound n = ¬ Better costs n.must answer
+    -- the tree is valid for the region: a child for each gap that a run passes and that the sets may have, or nothing better than the answer is left
+    pub IsValidGap : Gap → Region → Type 0
+    IsValidGap (Split number children) region = (gaps : List ℕ) × IsSplitBy p runs region number gaps × AreValidGaps children (children_of region gaps)
+    IsValidGap Bound region = ¬ Better costs region.must answer
 
-    -- as many trees as nodes, each valid at its own
-    pub AreValidGaps : GapTrees → List Node → Type 0
+    -- as many trees as regions, each valid for its own
+    pub AreValidGaps : GapTrees → List Region → Type 0
     AreValidGaps NoGap [] = Unit {0}
-    AreValidGaps NoGap (n ∷ ns) = ⊥
+    AreValidGaps NoGap (region ∷ regions) = ⊥
     AreValidGaps (MoreGaps tree trees) [] = ⊥
-    AreValidGaps (MoreGaps tree trees) (n ∷ ns) = IsValidGap tree n × AreValidGaps trees ns
+    AreValidGaps (MoreGaps tree trees) (region ∷ regions) = IsValidGap tree region × AreValidGaps trees regions
 
 module _ (q : Question) (costs : List ℕ) (answer : SetOfGaps) where
   -- what a valid tree means: each better set of the region leaves an outcome that no sequential run has
-  abbrev pub EachBetterOfRegionLeavesOutcome : Node → Type 0
-  EachBetterOfRegionLeavesOutcome n =
-      (other : SetOfGaps) → AreGapsOf q.program other → IsInRegion n other → Better costs other answer → LeavesOutcome q other
+  abbrev pub EachBetterOfRegionLeavesOutcome : Region → Type 0
+  EachBetterOfRegionLeavesOutcome region =
+      (other : SetOfGaps) → AreGapsOf q.program other → IsInRegion region other → Better costs other answer → LeavesOutcome q other
 
   -- so no serving set of the region is better
-  abbrev pub NoServingSetIsBetter : Node → Type 0
-  NoServingSetIsBetter n = (other : SetOfGaps) → AreGapsOf q.program other → IsInRegion n other → Serves q other → ¬ Better costs other answer
+  abbrev pub NoServingSetIsBetter : Region → Type 0
+  NoServingSetIsBetter region = (other : SetOfGaps) → AreGapsOf q.program other → IsInRegion region other → Serves q other → ¬ Better costs other answer
 
 -- each gap of the program has a cost, and none is 0
 pub record HaveCosts (p : Listing) (costs : List ℕ) : Type 0 where

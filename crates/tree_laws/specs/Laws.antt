@@ -2,6 +2,8 @@
 use Rattle.std.specs.Prelude.{◌≡◌, ◌↔◌, ◌⊎◌, ℕ, ◌≤◌, List, Contains, All}
 use Rattle.std.specs.List.{AllZip}
 use Rattle.gap_sets.specs.Gaps.{SetOfGaps}
+use Rattle.gap_sets.specs.Regions.{all_sets, IsInRegion, children_of, HasNoneOf}
+use Rattle.gap_sets.specs.declared.region.Region.{Region}
 use Rattle.tso_program.specs.declared.listing.Listing.{Listing}
 use Rattle.tso_program.specs.declared.outcome.Outcome.{Outcome}
 use Rattle.tso_program.specs.Shown.{Question, show}
@@ -14,7 +16,7 @@ use Rattle.candidate_executions.specs.declared.event.Event.{Event}
 use Rattle.candidate_executions.specs.Sketches.{Sketch, empty_sketch, IsSketch}
 use Rattle.cert_forest.specs.Trees.{Cover, Gap, covers_of, gap_trees_of}
 use Rattle.tree_laws.specs.CoverTrees.{HasNextValues, HasSources, IsValidCover, AreValidCovers, IsCovered}
-use Rattle.tree_laws.specs.GapTrees.{Node, root, IsInRegion, children_of, HasNoneOf, IsSplitBy, IsValidGap, AreValidGaps, EachBetterOfRegionLeavesOutcome, NoServingSetIsBetter, HaveCosts}
+use Rattle.tree_laws.specs.GapTrees.{IsSplitBy, IsValidGap, AreValidGaps, EachBetterOfRegionLeavesOutcome, NoServingSetIsBetter, HaveCosts}
 use Rattle.tree_laws.specs.Certificates.{Certificate, AreSequentialRuns, IsValidCertificate}
 
 -- a valid cover tree at a sketch covers it
@@ -49,36 +51,36 @@ AValidFencedTreeServes = (q : Question) (gaps : SetOfGaps) (outcomes : List Outc
 abbrev pub IsForeign : Question → List Label → Type 0
 IsForeign q labels = (o : Outcome) × IsForeignRun q labels o
 
--- a set of a node's region has none of the gaps that split it, or is in the region of a child
+-- a set of a region has none of the gaps that split it, or is in the region of a child
 abbrev pub ASplitLosesNoSet : Type 0
-ASplitLosesNoSet = (n : Node) (gaps : List ℕ) (other : SetOfGaps) → IsInRegion n other →
-    ((child : Node) × Contains (children_of n gaps) child × IsInRegion child other) ⊎ HasNoneOf other gaps
+ASplitLosesNoSet = (region : Region) (gaps : List ℕ) (other : SetOfGaps) → IsInRegion region other →
+    ((child : Region) × Contains (children_of region gaps) child × IsInRegion child other) ⊎ HasNoneOf other gaps
 
--- a valid gap tree over foreign runs says of its node's region that each better set leaves an outcome
+-- a valid gap tree over foreign runs says of its region that each better set leaves an outcome
 abbrev pub AValidGapTreeLeavesNoBetter : Type 0
-AValidGapTreeLeavesNoBetter = (q : Question) (costs : List ℕ) (answer : SetOfGaps) (runs : List (List Label)) (tree : Gap) (n : Node) →
+AValidGapTreeLeavesNoBetter = (q : Question) (costs : List ℕ) (answer : SetOfGaps) (runs : List (List Label)) (tree : Gap) (region : Region) →
     IsWithinLimits q.program.threads q.program.memory → HaveCosts q.program costs → All (IsForeign q) runs →
-    IsValidGap q.program costs answer runs tree n → EachBetterOfRegionLeavesOutcome q costs answer n
+    IsValidGap q.program costs answer runs tree region → EachBetterOfRegionLeavesOutcome q costs answer region
 
 -- so no serving set of the region is better
 abbrev pub SoNoServingSetIsBetter : Type 0
-SoNoServingSetIsBetter = (q : Question) (costs : List ℕ) (answer : SetOfGaps) (n : Node) →
-    EachBetterOfRegionLeavesOutcome q costs answer n → NoServingSetIsBetter q costs answer n
+SoNoServingSetIsBetter = (q : Question) (costs : List ℕ) (answer : SetOfGaps) (region : Region) →
+    EachBetterOfRegionLeavesOutcome q costs answer region → NoServingSetIsBetter q costs answer region
 
--- at the root the region has every set
+-- what holds of the root, whose region is that of all sets, holds of every set of the program's gaps
 abbrev pub TheRootHasEverySet : Type 0
 TheRootHasEverySet = (q : Question) (costs : List ℕ) (answer : SetOfGaps) →
-    EachBetterOfRegionLeavesOutcome q costs answer root → EachBetterLeavesOutcome q costs answer
+    EachBetterOfRegionLeavesOutcome q costs answer all_sets → EachBetterLeavesOutcome q costs answer
 
 -- trees in order are valid exactly where there are as many as sketches, each valid at its own
 abbrev pub CoversAreJudgedInOrder : Type 0
 CoversAreJudgedInOrder = (q : Question) (mode : Mode) (outcomes : List Outcome) (trees : List Cover) (ks : List Sketch) →
     AreValidCovers q mode outcomes (covers_of trees) ks ↔ AllZip (IsValidCover q mode outcomes) trees ks
 
--- the same of gap trees and nodes
+-- the same of gap trees and regions
 abbrev pub GapsAreJudgedInOrder : Type 0
-GapsAreJudgedInOrder = (p : Listing) (costs : List ℕ) (answer : SetOfGaps) (runs : List (List Label)) (trees : List Gap) (ns : List Node) →
-    AreValidGaps p costs answer runs (gap_trees_of trees) ns ↔ AllZip (IsValidGap p costs answer runs) trees ns
+GapsAreJudgedInOrder = (p : Listing) (costs : List ℕ) (answer : SetOfGaps) (runs : List (List Label)) (trees : List Gap) (regions : List Region) →
+    AreValidGaps p costs answer runs (gap_trees_of trees) regions ↔ AllZip (IsValidGap p costs answer runs) trees regions
 
 -- what the children of a node are for is determined, and so their number: the values of a read
 abbrev pub TheValuesAreOneList : Type 0
@@ -92,8 +94,8 @@ TheSourcesAreOneList = (p : Listing) (mode : Mode) (k : Sketch) (e : Event) (xs 
 
 -- the gaps that split a region
 abbrev pub TheGapsAreOneList : Type 0
-TheGapsAreOneList = (p : Listing) (runs : List (List Label)) (n : Node) (number : ℕ) (xs ys : List ℕ) →
-    IsSplitBy p runs n number xs → IsSplitBy p runs n number ys → xs ≡ ys
+TheGapsAreOneList = (p : Listing) (runs : List (List Label)) (region : Region) (number : ℕ) (xs ys : List ℕ) →
+    IsSplitBy p runs region number xs → IsSplitBy p runs region number ys → xs ≡ ys
 
 -- the headline holds of the set of a valid certificate, and the set is the answer
 pub record IsProved (q : Question) (costs : List ℕ) (c : Certificate) : Type 0 where

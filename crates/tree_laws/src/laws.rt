@@ -20,20 +20,20 @@ pub fn a_valid_fenced_tree_serves()
     ensures { AValidFencedTreeServes }
 {}
 
-/// The children of a node stand for every set of its region that has one of the gaps.
+/// The children of a region hold every set of it that has one of the gaps.
 pub fn a_split_loses_no_set()
     ensures { ASplitLosesNoSet }
 {}
 
-/// A valid gap tree over foreign runs says of each better set of its node's region which outcome it
-/// leaves, so that none of them serves. At the root that is every set of the program's gaps.
+/// A valid gap tree over foreign runs says of each better set of its region which outcome it leaves, so that
+/// none of them serves. At the root that is every set of the program's gaps.
 pub fn a_valid_gap_tree_leaves_no_better()
     ensures leaves { AValidGapTreeLeavesNoBetter }
     ensures serving { SoNoServingSetIsBetter }
     ensures root { TheRootHasEverySet }
 {}
 
-/// Children are judged in their order, each at its own sketch or node.
+/// Children are judged in their order, each at its own sketch or for its own region.
 pub fn children_are_judged_in_order()
     ensures covers { CoversAreJudgedInOrder }
     ensures gaps { GapsAreJudgedInOrder }

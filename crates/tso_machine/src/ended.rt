@@ -8,6 +8,7 @@ ghost use Rattle.tso_machine.specs.declared.ended.ReplayFault.TheVariants.{OutOf
 ghost use Rattle.tso_machine.specs.Machine.{IsRun};
 ghost use Rattle.tso_machine.specs.Modes.{mode_of, ArePassed};
 ghost use Rattle.tso_machine.specs.Faults.{ReplayFaultIs, fault_of};
+ghost use Rattle.gap_sets.specs.declared.gap_set.TheConstants.{MAX_GAPS};
 
 use crate::label::StepFault;
 use crate::state::State;
@@ -99,7 +100,7 @@ fn fault_at(fault: StepFault, n: usize) -> ReplayFault
 
 /// The set with the gap, if there is one.
 fn with_gap(gaps: GapSet, gap: Option<u8>) -> GapSet
-    requires { IfSome gap (λ g. g < 64) }
+    requires { IfSome gap (λ g. g < MAX_GAPS) }
     ensures { result ≡ option_map_or (set.insert gaps) gap gaps }
 {
     match gap {

@@ -10,6 +10,7 @@ ghost use Rattle.tso_machine.specs.Modes.{mode_of};
 ghost use Rattle.tso_program.specs.Fences.{gaps_in};
 ghost use Rattle.tso_machine.specs.Cores.{state_of, first_cores, Fits, passed_gap, gap_passed_by, core_at, Finished};
 ghost use Rattle.tso_machine.specs.Faults.{StepFaultIs, IsUnfinished};
+ghost use Rattle.gap_sets.specs.declared.gap_set.TheConstants.{MAX_GAPS};
 
 use crate::cores::Core;
 use crate::label::StepFault;
@@ -52,7 +53,7 @@ impl State {
     /// The gap that a step passes, if it passes one.
     pub(crate) fn passed_gap(&self, program: &Program, label: Label) -> Option<u8>
         ensures value { result ≡ passed_gap program.now.threads self.now.cores label }
-        ensures below { IfSome result (λ gap. gap < 64) }
+        ensures below { IfSome result (λ gap. gap < MAX_GAPS) }
     {
         match label {
             Label::Exec(t) => self.gap_before(program, t),
@@ -63,7 +64,7 @@ impl State {
     /// The gap that thread t passes by its next instruction, if it passes one.
     fn gap_before(&self, program: &Program, t: u8) -> Option<u8>
         ensures value { result ≡ gap_passed_by program.now.threads t (core_at self.now.cores t) }
-        ensures below { IfSome result (λ gap. gap < 64) }
+        ensures below { IfSome result (λ gap. gap < MAX_GAPS) }
     {
         match self.cores.as_slice().get(t as usize) {
             Some(core) => gap_passed(program, t, core),
@@ -180,7 +181,7 @@ fn is_fenced(program: &Program, fenced: &GapSet, t: u8, k: u8) -> bool
 /// The gap that a thread passes by its next instruction, if it passes one.
 fn gap_passed(program: &Program, t: u8, core: &Core) -> Option<u8>
     ensures value { result ≡ gap_passed_by program.now.threads t core.now }
-    ensures below { IfSome result (λ gap. gap < 64) }
+    ensures below { IfSome result (λ gap. gap < MAX_GAPS) }
 {
     if core.is_settled() {
         None

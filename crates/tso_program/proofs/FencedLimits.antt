@@ -11,6 +11,7 @@ use Rattle.tso_program.specs.Listings.{code_of, instr_at, accesses_of}
 use Rattle.tso_program.specs.Limits.{IsWithinLimits, IsWithinFencedLimits}
 use Rattle.tso_program.specs.Fences.{Gaps, gaps_in, place_of, moved, fenced_code, fenced_threads, fence, FencingStaysWithinLimits}
 use Rattle.tso_program.proofs.FencedPlaces.{fenced_code_of, same_count}
+use Rattle.tso_program.specs.declared.limits.TheConstants.{MAX_INSTRUCTIONS, MAX_FENCED_INSTRUCTIONS}
 
 module _ (gap : ℕ → Bool) where
   -- the place of the next instruction
@@ -179,10 +180,10 @@ module _ (p : Listing) (gaps : Gaps) (w : IsWithinLimits p.threads p.memory) (be
   abbrev fenced : List Thread
   fenced = fenced_threads gaps 0 p.threads
 
-  short : (t : ℕ) → length (code_of fenced t) ≤ 127
+  short : (t : ℕ) → length (code_of fenced t) ≤ MAX_FENCED_INSTRUCTIONS
   short t =
       let long : length (code_of fenced t) ≡ place_of (gaps t) (length (code_of p.threads t)) = ap length (fenced_code_of gaps t p.threads) ∙ ends (gaps t) (code_of p.threads t) in
-      let h = place_small (gaps t) 63 (length (code_of p.threads t)) (before_first t) (w.shared.short_threads t) in
+      let h = place_small (gaps t) (MAX_INSTRUCTIONS - 1) (length (code_of p.threads t)) (before_first t) (w.shared.short_threads t) in
       omega arith
 
   located : (t q l : ℕ) (x : Instr) → instr_at fenced t q ≡ Some x → location_of x ≡ Some l → l < length p.memory

@@ -8,6 +8,9 @@ use Rattle.std.proofs.lemmas.Bool.{cases_lt}
 use Rattle.std.proofs.lemmas.Bool.Decides.{nat_tests}
 use Rattle.tso_program.specs.Names.{register_place, ArePlaces}
 use Rattle.tso_program.specs.Laws.{RegisterPlacesAreDistinct, LocationPlacesAreDistinct, RegistersLieApartFromLocations, IsRegisterPlace, EachPlaceIsNamed}
+use Rattle.tso_program.specs.declared.instruction.TheConstants.{REGISTERS}
+use Rattle.tso_program.specs.declared.shown.TheConstants.{REGISTER_PLACES, PLACES}
+use Rattle.tso_program.specs.declared.limits.TheConstants.{MAX_THREADS}
 
 pub none_placed : ArePlaces set.empty
 none_placed place h = let no : true ≡ false = sym h ∙ set.contains-empty nat_cmp place in absurd cc
@@ -16,14 +19,14 @@ tied : (place new : ℕ) (b : Bool) → (eq_by_cmp nat_cmp place new || b) ≡ t
 tied place new true h = inr refl
 tied place new false h = inl (grind (arith, nat_tests))
 
-pub one_more_placed : (names : set.FinSet nat_cmp) (new : ℕ) → ArePlaces names → new < 56 → ArePlaces (set.insert names new)
+pub one_more_placed : (names : set.FinSet nat_cmp) (new : ℕ) → ArePlaces names → new < PLACES → ArePlaces (set.insert names new)
 one_more_placed names new placed below place h =
     elim (tied place new (set.contains names place) (sym (set.contains-insert nat_cmp_total names new place) ∙ h)) [
       | inl e ↦ omega arith
       | inr old ↦ placed place old
     ]
 
-pub register_placed : (t r : ℕ) → t < 8 → r < 6 → register_place t r < 56
+pub register_placed : (t r : ℕ) → t < MAX_THREADS → r < REGISTERS → register_place t r < PLACES
 register_placed t r thread register = omega arith
 
 -- ---- no two have one place
@@ -39,17 +42,17 @@ lie_apart t r l thread register e = omega arith
 
 -- ---- each place is a register's or a location's
 
-pub on_register : (place : ℕ) → place < 48 → IsRegisterPlace place
-on_register place h = let e = div-add-mod place 6 in let small = mod-lt place {m = 6} (omega arith) in record {
-  thread = place / 6;
-  register = place % 6;
+pub on_register : (place : ℕ) → place < REGISTER_PLACES → IsRegisterPlace place
+on_register place h = let e = div-add-mod place REGISTERS in let small = mod-lt place {m = REGISTERS} (omega arith) in record {
+  thread = place / REGISTERS;
+  register = place % REGISTERS;
   few_threads = omega arith;
   few_registers = small;
   value = sym e;
 }
 
 pub each_named : EachPlaceIsNamed
-each_named place h = elim (cases_lt place 48) [
+each_named place h = elim (cases_lt place REGISTER_PLACES) [
   | inl below ↦ inl (on_register place below)
-  | inr above ↦ inr (record { location = place - 48; few_locations = omega arith; value = omega arith })
+  | inr above ↦ inr (record { location = place - REGISTER_PLACES; few_locations = omega arith; value = omega arith })
 ]

@@ -4,8 +4,9 @@ use Rattle.std.specs.Prelude.{if◌then◌else◌}
 use Rattle.tso_program.specs.declared.instruction.Reg.{Reg}
 use Rattle.tso_program.specs.declared.instruction.Reg.TheVariants.{Eax, Ebx, Ecx, Edx, Esi, Edi}
 use Rattle.tso_program.specs.Instructions.{number}
+use Rattle.tso_program.specs.declared.instruction.TheConstants.{REGISTERS}
 
-pub small_number : (r : Reg) → number r < 6
+pub small_number : (r : Reg) → number r < REGISTERS
 small_number Eax = omega arith
 small_number Ebx = omega arith
 small_number Ecx = omega arith

@@ -13,6 +13,8 @@ use Rattle.tso_program.specs.Instructions.{location_of, target_of}
 use Rattle.tso_program.specs.Listings.{code_of, instr_at, accesses_of, gap_count}
 use Rattle.tso_program.specs.Limits.{IsWithinSharedLimits, IsWithinLimits, IsWithinFencedLimits, first_long, is_astray, some_astray, is_backward, is_past_end, first_backward_in, first_past_end_in, first_found, first_true, at_place, shared_refusals, first_fault, first_fenced_fault, ProgramLimitsAreTheRefusals, FencedLimitsAreTheRefusals}
 use Rattle.tso_program.proofs.Found.{instr_found, code_found, enumerated, enumerated_back, not_found, none_found, neither, not_any, none_any, found_nowhere, nowhere_found}
+use Rattle.tso_program.specs.declared.limits.TheConstants.{MAX_THREADS, MAX_LOCATIONS, MAX_INSTRUCTIONS, MAX_FENCED_INSTRUCTIONS, MAX_ACCESSES}
+use Rattle.gap_sets.specs.declared.gap_set.TheConstants.{MAX_GAPS}
 
 -- what each test says
 
@@ -64,8 +66,8 @@ after_accesses threads = at_place BackwardJump (first_found first_backward_in 0 
 
 abbrev after_long : List Thread → List ℕ → List (Bool × ProgramFault)
 after_long threads memory =
-    (nat_lt 8 (length memory) || some_astray (length memory) threads, Locations)
-    ∷ (nat_lt 24 (sum_by accesses_of threads), TooManyAccesses)
+    (nat_lt MAX_LOCATIONS (length memory) || some_astray (length memory) threads, Locations)
+    ∷ (nat_lt MAX_ACCESSES (sum_by accesses_of threads), TooManyAccesses)
     ∷ after_accesses threads
 
 abbrev after_many : ℕ → List Thread → List ℕ → List (Bool × ProgramFault)
@@ -74,11 +76,11 @@ after_many longest threads memory = (is_some (first_long longest threads), TooLo
 -- every shared test fails
 record NoTest (longest : ℕ) (threads : List Thread) (memory : List ℕ) : Type 0 where
   none : (length threads == 0) ≡ false
-  many : nat_lt 8 (length threads) ≡ false
+  many : nat_lt MAX_THREADS (length threads) ≡ false
   long : is_some (first_long longest threads) ≡ false
-  places : nat_lt 8 (length memory) ≡ false
+  places : nat_lt MAX_LOCATIONS (length memory) ≡ false
   astray : some_astray (length memory) threads ≡ false
-  accesses : nat_lt 24 (sum_by accesses_of threads) ≡ false
+  accesses : nat_lt MAX_ACCESSES (sum_by accesses_of threads) ≡ false
   backward : is_some (first_found first_backward_in 0 threads) ≡ false
   past_end : is_some (first_found first_past_end_in 0 threads) ≡ false
 
@@ -87,14 +89,14 @@ next_test f fs e = no_fault f.0 f.1 (first_true fs) e
 
 tests : (longest : ℕ) (threads : List Thread) (memory : List ℕ) → first_true (shared_refusals longest threads memory) ≡ None → NoTest longest threads memory
 tests longest threads memory e =
-    let one = next_test (length threads == 0, NoThreads) ((nat_lt 8 (length threads), TooManyThreads) ∷ after_many longest threads memory) e in
-    let two = next_test (nat_lt 8 (length threads), TooManyThreads) (after_many longest threads memory) one.1 in
+    let one = next_test (length threads == 0, NoThreads) ((nat_lt MAX_THREADS (length threads), TooManyThreads) ∷ after_many longest threads memory) e in
+    let two = next_test (nat_lt MAX_THREADS (length threads), TooManyThreads) (after_many longest threads memory) one.1 in
     let three = next_test (is_some (first_long longest threads), TooLong (unwrap_or (first_long longest threads) 0)) (after_long threads memory) two.1 in
-    let four = next_test (nat_lt 8 (length memory) || some_astray (length memory) threads, Locations) ((nat_lt 24 (sum_by accesses_of threads), TooManyAccesses) ∷ after_accesses threads) three.1 in
-    let five = next_test (nat_lt 24 (sum_by accesses_of threads), TooManyAccesses) (after_accesses threads) four.1 in
+    let four = next_test (nat_lt MAX_LOCATIONS (length memory) || some_astray (length memory) threads, Locations) ((nat_lt MAX_ACCESSES (sum_by accesses_of threads), TooManyAccesses) ∷ after_accesses threads) three.1 in
+    let five = next_test (nat_lt MAX_ACCESSES (sum_by accesses_of threads), TooManyAccesses) (after_accesses threads) four.1 in
     let six = next_test (at_place BackwardJump (first_found first_backward_in 0 threads)) (at_place JumpPastEnd (first_found first_past_end_in 0 threads) ∷ []) five.1 in
     let seven = next_test (at_place JumpPastEnd (first_found first_past_end_in 0 threads)) [] six.1 in
-    let place = neither (nat_lt 8 (length memory)) (some_astray (length memory) threads) four.0 in
+    let place = neither (nat_lt MAX_LOCATIONS (length memory)) (some_astray (length memory) threads) four.0 in
     record { none = one.0; many = two.0; long = three.0; places = place.0; astray = place.1; accesses = five.0; backward = six.0; past_end = seven.0 }
 
 no_tests : (longest : ℕ) (threads : List Thread) (memory : List ℕ) → NoTest longest threads memory → first_true (shared_refusals longest threads memory) ≡ None
@@ -115,11 +117,11 @@ all_short longest most threads small e k d h =
     omega arith
 
 -- where no shared refusal applies, each thread is short
-pub short_where_none : (threads : List Thread) (memory : List ℕ) → first_true (shared_refusals 64 threads memory) ≡ None → All (λ t. length t.code ≤ 64) threads
-short_where_none threads memory e = all_short 64 64 threads (omega arith) (tests 64 threads memory e).long
+pub short_where_none : (threads : List Thread) (memory : List ℕ) → first_true (shared_refusals MAX_INSTRUCTIONS threads memory) ≡ None → All (λ t. length t.code ≤ MAX_INSTRUCTIONS) threads
+short_where_none threads memory e = all_short MAX_INSTRUCTIONS MAX_INSTRUCTIONS threads (omega arith) (tests MAX_INSTRUCTIONS threads memory e).long
 
-pub few_where_none : (threads : List Thread) (memory : List ℕ) → first_true (shared_refusals 64 threads memory) ≡ None → length threads ≤ 8
-few_where_none threads memory e = few 8 (length threads) (tests 64 threads memory e).many
+pub few_where_none : (threads : List Thread) (memory : List ℕ) → first_true (shared_refusals MAX_INSTRUCTIONS threads memory) ≡ None → length threads ≤ MAX_THREADS
+few_where_none threads memory e = few MAX_THREADS (length threads) (tests MAX_INSTRUCTIONS threads memory e).many
 
 module _ (threads : List Thread) (t k : ℕ) (x : Instr) (there : instr_at threads t k ≡ Some x) where
   astray_fact : (locations l : ℕ) → some_astray locations threads ≡ false → location_of x ≡ Some l → l < locations
@@ -148,25 +150,25 @@ shared_within longest threads memory e =
     let t = tests longest threads memory e in
     record {
       some_thread = some_of (length threads) t.none;
-      few_threads = few 8 (length threads) t.many;
+      few_threads = few MAX_THREADS (length threads) t.many;
       short_threads = λ u. short_code longest threads u t.long;
-      few_locations = few 8 (length memory) t.places;
+      few_locations = few MAX_LOCATIONS (length memory) t.places;
       located = λ u k l x there is. astray_fact threads u k x there (length memory) l t.astray is;
-      few_accesses = few 24 (sum_by accesses_of threads) t.accesses;
+      few_accesses = few MAX_ACCESSES (sum_by accesses_of threads) t.accesses;
       forward_jumps = λ u k target x there is. forward_fact threads u k x there target t.backward is;
       inner_jumps = λ u k target x there is. inner_fact threads u k x there target t.past_end is;
     }
 
 pub within : (threads : List Thread) (memory : List ℕ) → first_fault threads memory ≡ None → IsWithinLimits threads memory
 within threads memory e =
-    let both = no_fault_of_both (shared_refusals 64 threads memory) ((nat_lt 64 (gap_count threads), TooManyGaps) ∷ []) e in
+    let both = no_fault_of_both (shared_refusals MAX_INSTRUCTIONS threads memory) ((nat_lt MAX_GAPS (gap_count threads), TooManyGaps) ∷ []) e in
     record {
-      shared = shared_within 64 threads memory both.0;
-      few_gaps = few 64 (gap_count threads) (next_test (nat_lt 64 (gap_count threads), TooManyGaps) [] both.1).0;
+      shared = shared_within MAX_INSTRUCTIONS threads memory both.0;
+      few_gaps = few MAX_GAPS (gap_count threads) (next_test (nat_lt MAX_GAPS (gap_count threads), TooManyGaps) [] both.1).0;
     }
 
 pub within_fenced : (threads : List Thread) (memory : List ℕ) → first_fenced_fault threads memory ≡ None → IsWithinFencedLimits threads memory
-within_fenced threads memory e = shared_within 127 threads memory e
+within_fenced threads memory e = shared_within MAX_FENCED_INSTRUCTIONS threads memory e
 
 -- from the facts to the tests
 
@@ -201,22 +203,22 @@ module _ (longest : ℕ) (threads : List Thread) (memory : List ℕ) (w : IsWith
   shared_refused_not : first_true (shared_refusals longest threads memory) ≡ None
   shared_refused_not = no_tests longest threads memory (record {
     none = not_none (length threads) w.some_thread;
-    many = not_more 8 (length threads) w.few_threads;
+    many = not_more MAX_THREADS (length threads) w.few_threads;
     long = no_long;
-    places = not_more 8 (length memory) w.few_locations;
+    places = not_more MAX_LOCATIONS (length memory) w.few_locations;
     astray = no_astray;
-    accesses = not_more 24 (sum_by accesses_of threads) w.few_accesses;
+    accesses = not_more MAX_ACCESSES (sum_by accesses_of threads) w.few_accesses;
     backward = no_backward;
     past_end = no_past_end;
   })
 
 refused_not : (threads : List Thread) (memory : List ℕ) → IsWithinLimits threads memory → first_fault threads memory ≡ None
 refused_not threads memory w =
-    no_fault_then (shared_refusals 64 threads memory) ((nat_lt 64 (gap_count threads), TooManyGaps) ∷ []) (shared_refused_not 64 threads memory w.shared)
-    ∙ rw (not_more 64 (gap_count threads) w.few_gaps) refl
+    no_fault_then (shared_refusals MAX_INSTRUCTIONS threads memory) ((nat_lt MAX_GAPS (gap_count threads), TooManyGaps) ∷ []) (shared_refused_not MAX_INSTRUCTIONS threads memory w.shared)
+    ∙ rw (not_more MAX_GAPS (gap_count threads) w.few_gaps) refl
 
 pub limits_are_the_refusals : ProgramLimitsAreTheRefusals
 limits_are_the_refusals threads memory = (within threads memory, refused_not threads memory)
 
 pub fenced_limits_are_the_refusals : FencedLimitsAreTheRefusals
-fenced_limits_are_the_refusals threads memory = (within_fenced threads memory, shared_refused_not 127 threads memory)
+fenced_limits_are_the_refusals threads memory = (within_fenced threads memory, shared_refused_not MAX_FENCED_INSTRUCTIONS threads memory)

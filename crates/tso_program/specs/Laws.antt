@@ -5,10 +5,12 @@ use Rattle.tso_program.specs.declared.shown.Shown.{Shown}
 use Rattle.tso_program.specs.declared.shown.Shown.TheVariants.{All}
 use Rattle.tso_program.specs.Names.{register_place, location_place}
 use Rattle.tso_program.specs.Shown.{shows_register, shows_location, show}
+use Rattle.tso_program.specs.declared.instruction.TheConstants.{REGISTERS}
+use Rattle.tso_program.specs.declared.limits.TheConstants.{MAX_THREADS, MAX_LOCATIONS}
 
 -- no two registers have one place
 abbrev pub RegisterPlacesAreDistinct : Type 0
-RegisterPlacesAreDistinct = (t r u s : ℕ) → r < 6 → s < 6 → register_place t r ≡ register_place u s → (t ≡ u) × (r ≡ s)
+RegisterPlacesAreDistinct = (t r u s : ℕ) → r < REGISTERS → s < REGISTERS → register_place t r ≡ register_place u s → (t ≡ u) × (r ≡ s)
 
 -- no two locations have one place
 abbrev pub LocationPlacesAreDistinct : Type 0
@@ -16,20 +18,20 @@ LocationPlacesAreDistinct = (l m : ℕ) → location_place l ≡ location_place 
 
 -- no register of the first 8 threads has a location's place
 abbrev pub RegistersLieApartFromLocations : Type 0
-RegistersLieApartFromLocations = (t r l : ℕ) → t < 8 → r < 6 → register_place t r ≢ location_place l
+RegistersLieApartFromLocations = (t r l : ℕ) → t < MAX_THREADS → r < REGISTERS → register_place t r ≢ location_place l
 
 -- a register of the first 8 threads whose place this is
 pub record IsRegisterPlace (place : ℕ) : Type 0 where
   pub thread : ℕ
   pub register : ℕ
-  pub few_threads : thread < 8
-  pub few_registers : register < 6
+  pub few_threads : thread < MAX_THREADS
+  pub few_registers : register < REGISTERS
   pub value : place ≡ register_place thread register
 
 -- a location of the first 8 whose place this is
 pub record IsLocationPlace (place : ℕ) : Type 0 where
   pub location : ℕ
-  pub few_locations : location < 8
+  pub few_locations : location < MAX_LOCATIONS
   pub value : place ≡ location_place location
 
 -- each place below 56 is a register's or a location's
@@ -69,7 +71,7 @@ OtherLocationsAreZero = (shown : Shown) (o : Outcome) (l : ℕ) → shows_locati
 
 -- each register and each location that the one shows, the other shows
 pub record IsPartOf (small large : Shown) : Type 0 where
-  pub registers : (t r : ℕ) → r < 6 → shows_register small t r ≡ true → shows_register large t r ≡ true
+  pub registers : (t r : ℕ) → r < REGISTERS → shows_register small t r ≡ true → shows_register large t r ≡ true
   pub locations : (l : ℕ) → shows_location small l ≡ true → shows_location large l ≡ true
 
 -- where everything is shown, each other choice is a part of it

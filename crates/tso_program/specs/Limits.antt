@@ -8,6 +8,8 @@ use Rattle.tso_program.specs.declared.limits.ProgramFault.{ProgramFault}
 use Rattle.tso_program.specs.declared.limits.ProgramFault.TheVariants.{NoThreads, TooManyThreads, TooLong, Locations, TooManyAccesses, BackwardJump, JumpPastEnd, TooManyGaps}
 use Rattle.tso_program.specs.Instructions.{location_of, target_of}
 use Rattle.tso_program.specs.Listings.{code_of, instr_at, accesses_of, gap_count}
+use Rattle.tso_program.specs.declared.limits.TheConstants.{MAX_THREADS, MAX_LOCATIONS, MAX_INSTRUCTIONS, MAX_FENCED_INSTRUCTIONS, MAX_ACCESSES}
+use Rattle.gap_sets.specs.declared.gap_set.TheConstants.{MAX_GAPS}
 
 -- each jump leads to a later instruction, or past the last one
 abbrev pub JumpForward : List Thread → Type 0
@@ -16,22 +18,22 @@ JumpForward threads = (t k target : ℕ) (x : Instr) → instr_at threads t k �
 -- threads and initial values within the limits that programs and fenced programs share; a thread has at most so many instructions
 pub record IsWithinSharedLimits (longest : ℕ) (threads : List Thread) (memory : List ℕ) : Type 0 where
   pub some_thread : 0 < length threads
-  pub few_threads : length threads ≤ 8
+  pub few_threads : length threads ≤ MAX_THREADS
   pub short_threads : (t : ℕ) → length (code_of threads t) ≤ longest
-  pub few_locations : length memory ≤ 8
+  pub few_locations : length memory ≤ MAX_LOCATIONS
   pub located : (t k l : ℕ) (x : Instr) → instr_at threads t k ≡ Some x → location_of x ≡ Some l → l < length memory
-  pub few_accesses : sum_by accesses_of threads ≤ 24
+  pub few_accesses : sum_by accesses_of threads ≤ MAX_ACCESSES
   pub forward_jumps : JumpForward threads
   pub inner_jumps : (t k target : ℕ) (x : Instr) → instr_at threads t k ≡ Some x → target_of x ≡ Some target → target ≤ length (code_of threads t)
 
 -- a program within the limits
 pub record IsWithinLimits (threads : List Thread) (memory : List ℕ) : Type 0 where
-  pub shared : IsWithinSharedLimits 64 threads memory
-  pub few_gaps : gap_count threads ≤ 64
+  pub shared : IsWithinSharedLimits MAX_INSTRUCTIONS threads memory
+  pub few_gaps : gap_count threads ≤ MAX_GAPS
 
--- a fenced program within its limits: each thread has 64 instructions and a fence in each of their 63 gaps at most; it may have any number of gaps
+-- a fenced program within its limits: each thread has `MAX_INSTRUCTIONS` instructions at most, and a fence in each of the gaps between them; it may have any number of gaps
 abbrev pub IsWithinFencedLimits : List Thread → List ℕ → Type 0
-IsWithinFencedLimits threads memory = IsWithinSharedLimits 127 threads memory
+IsWithinFencedLimits threads memory = IsWithinSharedLimits MAX_FENCED_INSTRUCTIONS threads memory
 
 -- the first thread of more instructions than that
 abbrev pub first_long : ℕ → List Thread → Option ℕ
@@ -77,21 +79,21 @@ at_place fault found = (is_some found, fault (unwrap_or found (0, 0)).0 (unwrap_
 abbrev pub shared_refusals : ℕ → List Thread → List ℕ → List (Bool × ProgramFault)
 shared_refusals longest threads memory =
     (length threads == 0, NoThreads)
-    ∷ (nat_lt 8 (length threads), TooManyThreads)
+    ∷ (nat_lt MAX_THREADS (length threads), TooManyThreads)
     ∷ (is_some (first_long longest threads), TooLong (unwrap_or (first_long longest threads) 0))
-    ∷ (nat_lt 8 (length memory) || some_astray (length memory) threads, Locations)
-    ∷ (nat_lt 24 (sum_by accesses_of threads), TooManyAccesses)
+    ∷ (nat_lt MAX_LOCATIONS (length memory) || some_astray (length memory) threads, Locations)
+    ∷ (nat_lt MAX_ACCESSES (sum_by accesses_of threads), TooManyAccesses)
     ∷ at_place BackwardJump (first_found first_backward_in 0 threads)
     ∷ at_place JumpPastEnd (first_found first_past_end_in 0 threads)
     ∷ []
 
 -- the first refusal of a program that applies
 abbrev pub first_fault : List Thread → List ℕ → Option ProgramFault
-first_fault threads memory = first_true (shared_refusals 64 threads memory ++ (nat_lt 64 (gap_count threads), TooManyGaps) ∷ [])
+first_fault threads memory = first_true (shared_refusals MAX_INSTRUCTIONS threads memory ++ (nat_lt MAX_GAPS (gap_count threads), TooManyGaps) ∷ [])
 
 -- the first refusal of a fenced program that applies
 abbrev pub first_fenced_fault : List Thread → List ℕ → Option ProgramFault
-first_fenced_fault threads memory = first_true (shared_refusals 127 threads memory)
+first_fenced_fault threads memory = first_true (shared_refusals MAX_FENCED_INSTRUCTIONS threads memory)
 
 -- no refusal applies exactly within the limits
 abbrev pub ProgramLimitsAreTheRefusals : Type 0

@@ -7,11 +7,12 @@ use Rattle.tso_program.specs.declared.outcome.Outcome.{Outcome}
 use Rattle.tso_program.specs.declared.shown.Shown.{Shown}
 use Rattle.tso_program.specs.declared.shown.Shown.TheVariants.{All, Only}
 use Rattle.tso_program.specs.Names.{register_place, location_place}
+use Rattle.tso_program.specs.declared.limits.TheConstants.{MAX_THREADS}
 
 -- whether register r of thread t is shown
 abbrev pub shows_register : Shown → ℕ → ℕ → Bool
 shows_register All t r = true
-shows_register (Only names) t r = nat_lt t 8 && set.contains names (register_place t r)
+shows_register (Only names) t r = nat_lt t MAX_THREADS && set.contains names (register_place t r)
 
 -- whether a location is shown
 abbrev pub shows_location : Shown → ℕ → Bool

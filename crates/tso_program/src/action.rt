@@ -2,14 +2,14 @@
 ghost use Rattle.std.specs.Prelude.{◌≡◌, ◌<◌};
 ghost use Rattle.tso_program.specs.Actions.{act, onward, value_in, loaded, compared, jumped};
 
-use crate::{Instr, Reg};
+use crate::{Instr, REGISTERS, Reg};
 
 /// What belongs to one thread alone: the number of its next instruction, its registers, its zero
 /// flag.
 #[derive(Clone, Copy, PartialEq, Eq, Debug)]
 pub struct Local {
     pub place: u8,
-    pub registers: [u32; 6],
+    pub registers: [u32; REGISTERS],
     pub flag: bool,
 }
 

@@ -1,6 +1,7 @@
 //! Programs with an MFENCE in each gap of a set.
 ghost use Rattle.std.specs.Prelude.{◌≡◌, ◌≤◌, ◌*◌, ◌++◌, ◌∷◌, [], ℕ, None, Some, Err, IfSome, IfOk, OnOk, IsOkUnless, length, All, if◌then◌else◌};
 ghost use Rattle.tso_program.specs.Limits.{IsWithinLimits, IsWithinFencedLimits, first_fenced_fault};
+ghost use Rattle.tso_program.specs.declared.limits.TheConstants.{MAX_LOCATIONS, MAX_INSTRUCTIONS};
 ghost use Rattle.tso_program.specs.Instructions.{target_of};
 ghost use Rattle.tso_program.specs.Fences.{gaps_in, place_of, moved, fenced_code, fenced_threads, fence, first_missing, FencingStaysWithinLimits};
 ghost use Rattle.tso_program.specs.declared.instruction.Instr.TheVariants.{Fence};
@@ -97,7 +98,7 @@ impl FencedProgram {
     /// What the locations hold at first.
     pub fn memory(&self) -> &[u32]
         ensures value { result.now ≡ self.now.memory }
-        ensures few { length result.now ≤ 8 }
+        ensures few { length result.now ≤ MAX_LOCATIONS }
     {
         self.listing.memory.as_slice()
     }
@@ -165,8 +166,8 @@ fn fenced_thread(
     t: u8,
     thread: &Thread,
 ) -> Result<Thread, AllocError>
-    requires short { length thread.now.code ≤ 64 }
-    requires inner { All (λ x. IfSome (target_of x) (λ k. k ≤ 64)) thread.now.code }
+    requires short { length thread.now.code ≤ MAX_INSTRUCTIONS }
+    requires inner { All (λ x. IfSome (target_of x) (λ k. k ≤ MAX_INSTRUCTIONS)) thread.now.code }
     ensures { IfOk result (λ fenced. fenced ≡ record { code = fenced_code (gaps_in program.now gaps.now t) 0 thread.now.code; registers = thread.now.registers }) }
 {
     let code = thread.code.as_slice();
@@ -194,7 +195,7 @@ fn push_fenced(code: &mut Items<Instr>, is_fenced: bool, instr: Instr) -> Result
 
 /// The instruction, with its jump moved past the fences.
 fn moved(program: &Program, gaps: &GapSet, t: u8, instr: Instr) -> Instr
-    requires { IfSome (target_of instr) (λ k. k ≤ 64) }
+    requires { IfSome (target_of instr) (λ k. k ≤ MAX_INSTRUCTIONS) }
     ensures { result ≡ moved (gaps_in program.now gaps.now t) instr }
 {
     match instr {
@@ -207,7 +208,7 @@ fn moved(program: &Program, gaps: &GapSet, t: u8, instr: Instr) -> Instr
 
 /// Where place k of thread t lies in the fenced thread.
 fn fenced_place(program: &Program, gaps: &GapSet, t: u8, k: u8) -> u8
-    requires { k ≤ 64 }
+    requires { k ≤ MAX_INSTRUCTIONS }
     ensures value { result ≡ place_of (gaps_in program.now gaps.now t) k }
     ensures small { result ≤ 2 * k }
 {

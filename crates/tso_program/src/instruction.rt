@@ -1,6 +1,10 @@
 //! Registers and instructions.
 ghost use Rattle.std.specs.Prelude.{◌≡◌, ◌<◌};
+ghost use Rattle.tso_program.specs.declared.instruction.TheConstants.{REGISTERS};
 ghost use Rattle.tso_program.specs.Instructions.{number, location_of, target_of};
+
+/// How many registers a thread has.
+pub const REGISTERS: usize = 6;
 
 /// A register.
 #[derive(Clone, Copy, PartialEq, Eq, PartialOrd, Ord, Debug)]
@@ -15,12 +19,12 @@ pub enum Reg {
 
 impl Reg {
     /// The six registers, in the order of their numbers.
-    pub const ALL: [Reg; 6] = [Reg::Eax, Reg::Ebx, Reg::Ecx, Reg::Edx, Reg::Esi, Reg::Edi];
+    pub const ALL: [Reg; REGISTERS] = [Reg::Eax, Reg::Ebx, Reg::Ecx, Reg::Edx, Reg::Esi, Reg::Edi];
 
     /// The register's number, from 0 for EAX to 5 for EDI.
     pub fn index(self) -> usize
         ensures value { result ≡ number self }
-        ensures small { result < 6 }
+        ensures small { result < REGISTERS }
     {
         self as usize
     }

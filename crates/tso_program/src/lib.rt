@@ -18,11 +18,14 @@ mod shown;
 
 pub use action::{Action, Local};
 pub use fenced::{FenceFault, FencedProgram, fencing_stays_within_limits};
-pub use instruction::{Instr, Reg};
+pub use instruction::{Instr, REGISTERS, Reg};
 pub use items::Items;
 pub use laws::{a_part_is_shown_of_the_whole, places_are_distinct, what_is_shown_is_kept};
-pub use limits::{ProgramFault, limits_are_the_refusals};
+pub use limits::{
+    MAX_ACCESSES, MAX_FENCED_INSTRUCTIONS, MAX_INSTRUCTIONS, MAX_LOCATIONS, MAX_THREADS,
+    ProgramFault, limits_are_the_refusals,
+};
 pub use listing::{Listing, Thread};
 pub use outcome::Outcome;
 pub use program::Program;
-pub use shown::{Names, Shown};
+pub use shown::{Names, PLACES, REGISTER_PLACES, Shown};

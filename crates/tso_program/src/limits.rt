@@ -2,10 +2,12 @@
 ghost use Rattle.std.specs.Prelude.{◌≡◌, ◌≤◌, ◌<◌, length, All, IfSome, sum_by};
 ghost use Rattle.std.specs.List.{list_any};
 ghost use Rattle.tso_program.specs.Listings.{accesses_of, gaps_of_thread, gap_count};
+ghost use Rattle.tso_program.specs.declared.limits.TheConstants.{MAX_THREADS, MAX_INSTRUCTIONS, MAX_FENCED_INSTRUCTIONS};
 ghost use Rattle.tso_program.specs.declared.limits.ProgramFault.TheVariants.{OutOfMemory};
 ghost use Rattle.tso_program.specs.Limits.{shared_refusals, first_true, first_fault, first_fenced_fault, first_long, is_astray, some_astray, first_backward_in, first_past_end_in, first_found, ProgramLimitsAreTheRefusals, FencedLimitsAreTheRefusals};
 
 use crate::Thread;
+use gap_sets::MAX_GAPS;
 use std::alloc::{AllocError, AllocFailed};
 use thiserror::Error;
 
@@ -13,14 +15,12 @@ use thiserror::Error;
 pub const MAX_THREADS: usize = 8;
 /// The most instructions of a thread of a program.
 pub const MAX_INSTRUCTIONS: usize = 64;
-/// The most instructions of a thread of a fenced program: 64, and a fence in each of their 63 gaps.
-pub const MAX_FENCED_INSTRUCTIONS: usize = 127;
+/// The most instructions of a thread of a fenced program: `MAX_INSTRUCTIONS`, and a fence in each gap between them.
+pub const MAX_FENCED_INSTRUCTIONS: usize = 2 * MAX_INSTRUCTIONS - 1;
 /// The most locations of a program.
 pub const MAX_LOCATIONS: usize = 8;
 /// The most accesses of a program; an exchange is one.
-pub const MAX_ACCESSES: usize = 24;
-/// The most gaps of a program.
-pub const MAX_GAPS: usize = 64;
+pub const MAX_ACCESSES: usize = 32;
 
 /// Why threads and initial values make no program: the first of these that applies.
 #[derive(Clone, Copy, PartialEq, Eq, Debug, Error)]
@@ -29,10 +29,10 @@ pub enum ProgramFault {
     NoThreads,
     #[error("2 TooManyThreads")]
     TooManyThreads,
-    /// A thread of more than 64 instructions, or 127 in a fenced program.
+    /// A thread of more than `MAX_INSTRUCTIONS` instructions, or `MAX_FENCED_INSTRUCTIONS` in a fenced program.
     #[error("3 TooLong {0}")]
     TooLong(u8),
-    /// More than 8 initial values, or an instruction that names a location without one.
+    /// More than `MAX_LOCATIONS` initial values, or an instruction that names a location without one.
     #[error("4 Locations")]
     Locations,
     #[error("5 TooManyAccesses")]
@@ -134,9 +134,9 @@ fn past_end_in(thread: &Thread) -> Option<usize>
 
 /// The first jump, by thread and instruction, that doesn't lead to a later place.
 fn first_backward(threads: &[Thread]) -> Option<(usize, usize)>
-    requires { All (λ t. length t.code ≤ 127) threads.now }
+    requires { All (λ t. length t.code ≤ MAX_FENCED_INSTRUCTIONS) threads.now }
     ensures value { result ≡ first_found first_backward_in 0 threads.now }
-    ensures within { IfSome result (λ p. (p.0 < length threads.now) × (p.1 < 127)) }
+    ensures within { IfSome result (λ p. (p.0 < length threads.now) × (p.1 < MAX_FENCED_INSTRUCTIONS)) }
 {
     for (t, thread) in threads.iter().enumerate() {
         if let Some(k) = backward_in(thread) {
@@ -148,9 +148,9 @@ fn first_backward(threads: &[Thread]) -> Option<(usize, usize)>
 
 /// The first jump, by thread and instruction, that leads past its thread's end.
 fn first_past_end(threads: &[Thread]) -> Option<(usize, usize)>
-    requires { All (λ t. length t.code ≤ 127) threads.now }
+    requires { All (λ t. length t.code ≤ MAX_FENCED_INSTRUCTIONS) threads.now }
     ensures value { result ≡ first_found first_past_end_in 0 threads.now }
-    ensures within { IfSome result (λ p. (p.0 < length threads.now) × (p.1 < 127)) }
+    ensures within { IfSome result (λ p. (p.0 < length threads.now) × (p.1 < MAX_FENCED_INSTRUCTIONS)) }
 {
     for (t, thread) in threads.iter().enumerate() {
         if let Some(k) = past_end_in(thread) {
@@ -161,8 +161,8 @@ fn first_past_end(threads: &[Thread]) -> Option<(usize, usize)>
 }
 
 fn all_accesses(threads: &[Thread]) -> usize
-    requires few { length threads.now ≤ 8 }
-    requires short { All (λ t. length t.code ≤ 127) threads.now }
+    requires few { length threads.now ≤ MAX_THREADS }
+    requires short { All (λ t. length t.code ≤ MAX_FENCED_INSTRUCTIONS) threads.now }
     ensures { result ≡ sum_by accesses_of threads.now }
 {
     let mut total = 0;
@@ -174,8 +174,8 @@ fn all_accesses(threads: &[Thread]) -> usize
 
 /// How many gaps threads have.
 pub(crate) fn all_gaps(threads: &[Thread]) -> usize
-    requires few { length threads.now ≤ 8 }
-    requires short { All (λ t. length t.code ≤ 64) threads.now }
+    requires few { length threads.now ≤ MAX_THREADS }
+    requires short { All (λ t. length t.code ≤ MAX_INSTRUCTIONS) threads.now }
     ensures { result ≡ gap_count threads.now }
 {
     let mut total = 0;
@@ -188,7 +188,7 @@ pub(crate) fn all_gaps(threads: &[Thread]) -> usize
 /// The first limit that threads and initial values break, of those that programs and fenced
 /// programs share.
 fn broken_shared_limit(threads: &[Thread], memory: &[u32], longest: usize) -> Option<ProgramFault>
-    requires { longest ≤ 127 }
+    requires { longest ≤ MAX_FENCED_INSTRUCTIONS }
     ensures { result ≡ first_true (shared_refusals longest threads.now memory.now) }
 {
     if threads.is_empty() {
@@ -222,7 +222,7 @@ pub(crate) fn broken_limit(threads: &[Thread], memory: &[u32]) -> Option<Program
     if let Some(fault) = broken_shared_limit(threads, memory, MAX_INSTRUCTIONS) {
         return Some(fault);
     }
-    if all_gaps(threads) > MAX_GAPS {
+    if all_gaps(threads) > MAX_GAPS as usize {
         return Some(ProgramFault::TooManyGaps);
     }
     None

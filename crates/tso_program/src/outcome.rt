@@ -2,7 +2,7 @@
 ghost use Rattle.std.specs.Prelude.{◌≡◌, IfOk};
 ghost use Rattle.tso_program.specs.Shown.{show, show_registers, show_memory};
 
-use crate::{Items, Shown};
+use crate::{Items, REGISTERS, Shown};
 use std::alloc::{AllocError, Global};
 
 /// The final registers of each thread, and the final value of each location. Outcomes of one program
@@ -10,7 +10,7 @@ use std::alloc::{AllocError, Global};
 /// .., then the locations.
 #[derive(PartialEq, Eq, PartialOrd, Ord, Debug, Drop)]
 pub struct Outcome {
-    pub registers: Items<[u32; 6]>,
+    pub registers: Items<[u32; REGISTERS]>,
     pub memory: Items<u32>,
 }
 
@@ -34,7 +34,7 @@ impl Outcome {
     }
 }
 
-fn show_registers(registers: &mut Items<[u32; 6]>, shown: &Shown)
+fn show_registers(registers: &mut Items<[u32; REGISTERS]>, shown: &Shown)
     ensures { registers.new ≡ show_registers shown.now registers.old }
 {
     for t in 0..registers.len() {

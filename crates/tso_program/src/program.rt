@@ -1,6 +1,8 @@
 //! A program within the limits.
 ghost use Rattle.std.specs.Prelude.{◌≡◌, ◌≤◌, ◌<◌, ℕ, None, Some, Err, OnOk, IsOkUnless, length, IfSome, IfOk, nat_lt};
 ghost use Rattle.std.specs.FinSet as set;
+ghost use Rattle.tso_program.specs.declared.limits.TheConstants.{MAX_LOCATIONS};
+ghost use Rattle.gap_sets.specs.declared.gap_set.TheConstants.{MAX_GAPS};
 ghost use Rattle.tso_program.specs.Limits.{IsWithinLimits, first_fault};
 ghost use Rattle.tso_program.specs.Listings.{action, code_of, gap_count, gap_number, instr_at};
 ghost use Rattle.tso_program.specs.Actions.{IsLocated};
@@ -68,7 +70,7 @@ impl Program {
     /// What the locations hold at first.
     pub fn memory(&self) -> &[u32]
         ensures value { result.now ≡ self.now.memory }
-        ensures few { length result.now ≤ 8 }
+        ensures few { length result.now ≤ MAX_LOCATIONS }
     {
         self.listing.memory.as_slice()
     }
@@ -76,7 +78,7 @@ impl Program {
     /// How many gaps there are.
     pub fn gaps(&self) -> u8
         ensures value { result ≡ gap_count self.now.threads }
-        ensures few { result ≤ 64 }
+        ensures few { result ≤ MAX_GAPS }
     {
         all_gaps(self.threads()) as u8
     }
@@ -84,7 +86,7 @@ impl Program {
     /// The number of the gap before instruction k of thread t.
     pub fn gap_number(&self, t: u8, k: u8) -> Option<u8>
         ensures value { result ≡ gap_number self.now.threads t k }
-        ensures below { IfSome result (λ gap. gap < 64) }
+        ensures below { IfSome result (λ gap. gap < MAX_GAPS) }
     {
         let threads = self.threads();
         let place = t as usize;

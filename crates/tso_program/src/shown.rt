@@ -4,21 +4,23 @@ ghost use Rattle.std.specs.FinSet as set;
 ghost use Rattle.tso_program.specs.Instructions.{number};
 ghost use Rattle.gap_sets.specs.Gaps.{numbers_of_set};
 ghost use Rattle.tso_program.specs.Names.{register_place, location_place, ArePlaces};
+ghost use Rattle.tso_program.specs.declared.instruction.TheConstants.{REGISTERS};
+ghost use Rattle.tso_program.specs.declared.limits.TheConstants.{MAX_THREADS, MAX_LOCATIONS};
 ghost use Rattle.tso_program.specs.Shown.{shows_register, shows_location, value_if, shown_registers, shown_value};
 
-use crate::Reg;
+use crate::{MAX_LOCATIONS, MAX_THREADS, REGISTERS, Reg};
 use gap_sets::{GapSet, Gaps};
 use std::marker::Model;
 
-/// How many threads and locations can be named.
-const MAX_NAMED: usize = 8;
-/// How many registers a thread has.
-const REGISTERS: usize = 6;
+/// How many places of registers there are.
+pub const REGISTER_PLACES: usize = REGISTERS * MAX_THREADS;
+/// How many places of registers and of locations there are.
+pub const PLACES: usize = REGISTER_PLACES + MAX_LOCATIONS;
 
 /// A set of registers, each of a thread, and of locations. No call of it takes memory.
 #[derive(Clone, Copy, Debug)]
 pub struct Names {
-    /// By their places, of which there are 56: those of registers by thread and number, then those of
+    /// By their places, of which there are `PLACES`: those of registers by thread and number, then those of
     /// locations.
     places: GapSet,
 }
@@ -50,18 +52,18 @@ pub enum Shown {
 }
 
 fn register_place(t: usize, register: usize) -> usize
-    requires thread { t < 8 }
-    requires register { register < 6 }
+    requires thread { t < MAX_THREADS }
+    requires register { register < REGISTERS }
     ensures { result ≡ register_place t register }
 {
     REGISTERS * t + register
 }
 
 fn location_place(location: usize) -> usize
-    requires { location < 8 }
+    requires { location < MAX_LOCATIONS }
     ensures { result ≡ location_place location }
 {
-    REGISTERS * MAX_NAMED + location
+    REGISTER_PLACES + location
 }
 
 impl Names {
@@ -76,7 +78,7 @@ impl Names {
 
     /// These and register r of thread t.
     pub fn with_register(self, t: u8, r: Reg) -> Names
-        requires { t < 8 }
+        requires { t < MAX_THREADS }
         ensures { result ≡ set.insert self (register_place t (number r)) }
     {
         let place = register_place(t as usize, r.index());
@@ -87,7 +89,7 @@ impl Names {
 
     /// These and location l.
     pub fn with_location(self, l: u8) -> Names
-        requires { l < 8 }
+        requires { l < MAX_LOCATIONS }
         ensures { result ≡ set.insert self (location_place l) }
     {
         let place = location_place(l as usize);
@@ -98,7 +100,7 @@ impl Names {
 
     /// Whether register r of thread t is among them.
     pub fn has_register(&self, t: u8, r: Reg) -> bool
-        requires { t < 8 }
+        requires { t < MAX_THREADS }
         ensures { result ≡ set.contains self.now (register_place t (number r)) }
     {
         let place = register_place(t as usize, r.index());
@@ -107,15 +109,15 @@ impl Names {
 
     /// Whether location l is among them.
     pub fn has_location(&self, l: u8) -> bool
-        requires { l < 8 }
+        requires { l < MAX_LOCATIONS }
         ensures { result ≡ set.contains self.now (location_place l) }
     {
         let place = location_place(l as usize);
         self.places.has(place as u8)
     }
 
-    /// These and the register or location at a place: register r of thread t is at 6 t + r, location l at
-    /// 48 + l.
+    /// These and the register or location at a place: register r of thread t is at `REGISTERS * t + r`, location l
+    /// at `REGISTER_PLACES + l`.
     pub fn with_place(self, place: u8) -> Names
         requires { place < 56 }
         ensures { result ≡ set.insert self place }
@@ -155,13 +157,13 @@ impl Shown {
 
     /// Whether the register of this number of thread t is shown.
     pub fn shows_register(&self, t: usize, register: usize) -> bool
-        requires { register < 6 }
+        requires { register < REGISTERS }
         ensures { result ≡ shows_register self.now t register }
     {
         match self {
             Shown::All => true,
             Shown::Only(names) => {
-                t < MAX_NAMED && names.places.has(register_place(t, register) as u8)
+                t < MAX_THREADS && names.places.has(register_place(t, register) as u8)
             }
         }
     }
@@ -173,13 +175,13 @@ impl Shown {
         match self {
             Shown::All => true,
             Shown::Only(names) => {
-                location < MAX_NAMED && names.places.has(location_place(location) as u8)
+                location < MAX_LOCATIONS && names.places.has(location_place(location) as u8)
             }
         }
     }
 
     /// What is shown of the registers of thread t: 0 in place of each other one.
-    pub fn registers(&self, t: usize, held: [u32; 6]) -> [u32; 6]
+    pub fn registers(&self, t: usize, held: [u32; REGISTERS]) -> [u32; REGISTERS]
         ensures { result ≡ shown_registers self.now t held }
     {
         let mut left = held;

@@ -1,10 +1,11 @@
-use Rattle.std.proofs.Common.{◌≡◌, ◌≤◌, drop, max}
+use Rattle.std.proofs.Common.{◌≡◌, ◌+◌, ◌≤◌, drop, max}
 use Rattle.tso_program.specs.Fences.{gaps_in}
 use Rattle.canonical_text.specs.Canonical.{moved_labels, most_cells}
 use Rattle.canonical_text.proofs.rows.most_cells.Given as goal
+use Rattle.tso_program.specs.declared.limits.TheConstants.{MAX_FENCED_INSTRUCTIONS}
 
 -- the most so far, or of those that are left
 abbrev pub invariant-loop-t : goal.invariant-loop-t
 invariant-loop-t l =
     (max l.most (most_cells (moved_labels (gaps_in l.litmus.program l.gaps) 0 l.litmus.labels) l.t (drop l.t l.fenced.threads))
-    ≡ most_cells (moved_labels (gaps_in l.litmus.program l.gaps) 0 l.litmus.labels) 0 l.fenced.threads) × (l.most ≤ 128)
+    ≡ most_cells (moved_labels (gaps_in l.litmus.program l.gaps) 0 l.litmus.labels) 0 l.fenced.threads) × (l.most ≤ MAX_FENCED_INSTRUCTIONS + 1)

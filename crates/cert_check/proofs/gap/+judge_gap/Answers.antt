@@ -7,8 +7,8 @@ use Rattle.cert_forest.specs.Views.{gap, gap_node}
 use Rattle.cert_forest.specs.Trees.{Gap, Split, gap_trees_of}
 use Rattle.cover_judge.specs.declared.fault.TreeFault.{TreeFault}
 use Rattle.cover_judge.specs.Judged.{IfWrong, IsAtRoot, IsBelow}
-use Rattle.cert_check.specs.GapDefects.{HasNoSplit}
-use Rattle.cert_check.specs.Regions.{node_of, IsWrongIn, IsWrongChildIn}
+use Rattle.cert_check.specs.GapDefects.{HasNoSplit, FirstWrongGap}
+use Rattle.cert_check.specs.Children.{IsWrongChildIn}
 use Rattle.cover_judge.proofs.Answered.{err_up, if_err}
 use Rattle.cover_judge.proofs.ChoicesJudged.{if_wrong}
 use Rattle.cert_check.proofs.GapNodes.{split_here, split_below}
@@ -22,12 +22,12 @@ judge_gap-returns-in_err-gaps-in-Split-clause-wrong t c p runs each =
     let len : c.len.result ≡ length kids = omega (arith, length-map c.in-Split.children.items gap, c.in-Split.children.ok.0, c.len.ensures) in
     let bounds = c.args.bounds.now in
     let region = c.args.region.now in
-    let P : TreeFault → Type 0 = IfWrong (IsWrongIn p bounds.costs.now bounds.answer runs (gap c.args.tree.now) region) in
+    let P : TreeFault → Type 0 = IfWrong (FirstWrongGap p bounds.costs.now bounds.answer runs (gap c.args.tree.now) region) in
     err_up c.from_residual.result c.in_err-gaps-in-Split.field-0.0 P c.from_residual.ensures.1
-    (subst (λ tree. IfWrong (IsWrongIn p bounds.costs.now bounds.answer runs tree region) c.in_err-gaps-in-Split.field-0.0) (sym is)
-    (if_wrong (IsAtRoot (HasNoSplit p runs (node_of region) c.in-Split.run' (length kids))) (IsWrongIn p bounds.costs.now bounds.answer runs (Split c.in-Split.run' (gap_trees_of kids)) region) c.in_err-gaps-in-Split.field-0.0
+    (subst (λ tree. IfWrong (FirstWrongGap p bounds.costs.now bounds.answer runs tree region) c.in_err-gaps-in-Split.field-0.0) (sym is)
+    (if_wrong (IsAtRoot (HasNoSplit p runs region c.in-Split.run' (length kids))) (FirstWrongGap p bounds.costs.now bounds.answer runs (Split c.in-Split.run' (gap_trees_of kids)) region) c.in_err-gaps-in-Split.field-0.0
     (split_here p bounds.costs.now bounds.answer runs region c.in-Split.run' kids)
-    (subst (λ n. IfWrong (IsAtRoot (HasNoSplit p runs (node_of region) c.in-Split.run' n)) c.in_err-gaps-in-Split.field-0.0) len (c.in_err-gaps-in-Split.ensures.wrong p runs each))))
+    (subst (λ n. IfWrong (IsAtRoot (HasNoSplit p runs region c.in-Split.run' n)) c.in_err-gaps-in-Split.field-0.0) len (c.in_err-gaps-in-Split.ensures.wrong p runs each))))
 
 pub judge_gap-returns-in_ok-gaps-in-Split-clause-wrong : goal.judge_gap-returns-in_ok-gaps-in-Split-clause-wrong
 judge_gap-returns-in_ok-gaps-in-Split-clause-wrong t c p runs each =
@@ -38,9 +38,9 @@ judge_gap-returns-in_ok-gaps-in-Split-clause-wrong t c p runs each =
     let bounds = c.args.bounds.now in
     let region = c.args.region.now in
     let wrong = rw c.deref.ensures.value at (rw c.deref-in-Split.ensures.value at (c.judge_gaps.ensures.wrong p runs each)) in
-    subst (λ tree. IfErr c.judge_gaps.result (IfWrong (IsWrongIn p bounds.costs.now bounds.answer runs tree region))) (sym is)
-    (if_err c.judge_gaps.result (IfWrong (IsBelow (IsWrongChildIn p bounds.costs.now bounds.answer runs kids region gaps))) (IfWrong (IsWrongIn p bounds.costs.now bounds.answer runs (Split c.in-Split.run' (gap_trees_of kids)) region))
-    (λ fault. if_wrong (IsBelow (IsWrongChildIn p bounds.costs.now bounds.answer runs kids region gaps)) (IsWrongIn p bounds.costs.now bounds.answer runs (Split c.in-Split.run' (gap_trees_of kids)) region) fault
+    subst (λ tree. IfErr c.judge_gaps.result (IfWrong (FirstWrongGap p bounds.costs.now bounds.answer runs tree region))) (sym is)
+    (if_err c.judge_gaps.result (IfWrong (IsBelow (IsWrongChildIn p bounds.costs.now bounds.answer runs kids region gaps))) (IfWrong (FirstWrongGap p bounds.costs.now bounds.answer runs (Split c.in-Split.run' (gap_trees_of kids)) region))
+    (λ fault. if_wrong (IsBelow (IsWrongChildIn p bounds.costs.now bounds.answer runs kids region gaps)) (FirstWrongGap p bounds.costs.now bounds.answer runs (Split c.in-Split.run' (gap_trees_of kids)) region) fault
     (split_below p bounds.costs.now bounds.answer runs region c.in-Split.run' kids gaps (c.in_ok-gaps-in-Split.ensures.split p runs each) (sym len ∙ c.in_ok-gaps-in-Split.ensures.as_many)))
     wrong)
 
@@ -52,7 +52,7 @@ judge_gaps-returns-in_err-judge_gap_child-clause-wrong t c p runs each =
     let x = c.index-trees-number.result in
     let below = IsBelow (IsWrongChildIn p bounds.costs.now bounds.answer runs (map gap c.args.trees.now) region c.args.gaps.now) in
     err_up c.from_residual.result c.in_err-judge_gap_child.field-0.0 (IfWrong below) c.from_residual.ensures.1
-    (if_wrong (IsBelow (λ m others. (m ≡ number) × IsWrongIn p bounds.costs.now bounds.answer runs (gap x) c.with-child.result others)) below c.in_err-judge_gap_child.field-0.0
+    (if_wrong (IsBelow (λ m others. (m ≡ number) × FirstWrongGap p bounds.costs.now bounds.answer runs (gap x) c.with-child.result others)) below c.in_err-judge_gap_child.field-0.0
     (stop_here p bounds.costs.now bounds.answer runs c.args.trees.now region c.args.gaps.now number x c.loop-number.rest c.loop-number-test.true c.index-trees-number.is c.requires.as_many
     (c.loop-number.invariant p runs each) c.with-child.result c.with-child.ensures)
     (c.in_err-judge_gap_child.ensures.wrong p runs each))

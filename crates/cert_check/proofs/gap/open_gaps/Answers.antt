@@ -3,7 +3,10 @@ use Rattle.std.specs.List.{filter}
 use Rattle.std.specs.List.Sorted.{IsStrictlyIncreasing}
 use Rattle.std.specs.FinSet as set
 use Rattle.gap_sets.specs.Gaps.{numbers_of_set}
-use Rattle.cert_check.proofs.OpenGaps.{is_free, one_taken, one_left_out, none_to_come, free_ascending, free_exact, free_below}
+use Rattle.gap_sets.specs.Regions.{is_free}
+use Rattle.gap_sets.specs.declared.gap_set.TheConstants.{MAX_GAPS}
+use Rattle.tree_laws.proofs.OpenGaps.{one_taken, one_left_out, none_to_come}
+use Rattle.cert_check.proofs.OpenGaps.{free_ascending, free_exact, free_below}
 use Rattle.cert_check.proofs.gap.open_gaps.Goals as goal
 
 pub loop-gap-init : goal.loop-gap-init
@@ -34,4 +37,4 @@ returns-clause-exact c =
 pub returns-clause-below : goal.returns-clause-below
 returns-clause-below c =
     let is = none_to_come (is_free c.args.never) c.loop-gap.gaps.items c.loop-gap.gap-iterator (filter (is_free c.args.never) (numbers_of_set c.args.passed)) c.in-None.ensures.steps.0 c.loop-gap.invariant in
-    free_below c.args.passed c.args.never (numbers_of_set c.args.passed) c.loop-gap.gaps.items is (subst (All (λ g. g < 64)) c.iter-gap-items.ensures.value c.iter-gap-items.ensures.below)
+    free_below c.args.passed c.args.never (numbers_of_set c.args.passed) c.loop-gap.gaps.items is (subst (All (λ g. g < MAX_GAPS)) c.iter-gap-items.ensures.value c.iter-gap-items.ensures.below)

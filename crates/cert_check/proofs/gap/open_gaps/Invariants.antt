@@ -1,7 +1,7 @@
 use Rattle.std.proofs.Common.{◌≡◌, ◌++◌}
 use Rattle.std.specs.List.{filter}
 use Rattle.gap_sets.specs.Gaps.{numbers_of_set}
-use Rattle.cert_check.proofs.OpenGaps.{is_free}
+use Rattle.gap_sets.specs.Regions.{is_free}
 use Rattle.cert_check.proofs.gap.open_gaps.Given as goal
 
 -- the free gaps so far, and those to come

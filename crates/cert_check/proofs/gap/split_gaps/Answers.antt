@@ -1,20 +1,19 @@
 use Rattle.std.proofs.Common.{◌≡◌, true, false, sym, ◌∙◌, arith}
 use Rattle.cert_check.specs.GapDefects.{HasNoSplit}
-use Rattle.cert_check.specs.Regions.{node_of}
 use Rattle.cover_judge.proofs.ChoicesJudged.{here}
 use Rattle.cert_check.proofs.GapNodes.{not_there, must_pass, splits, not_as_many}
 use Rattle.cert_check.proofs.gap.split_gaps.Goals as goal
 
 pub returns-in_default-clause-wrong : goal.returns-in_default-clause-wrong
 returns-in_default-clause-wrong c p labels each =
-    here (HasNoSplit p labels (node_of c.args.region.now) c.args.run c.args.count) c.at_root.result c.at_root.ensures
+    here (HasNoSplit p labels c.args.region.now c.args.run c.args.count) c.at_root.result c.at_root.ensures
     (not_there p labels c.args.passed.now c.args.region.now c.args.run each (sym c.in_default.ensures) c.args.count)
 
 pub returns-then-meets-clause-wrong : goal.returns-then-meets-clause-wrong
 returns-then-meets-clause-wrong c p labels each =
     let these = c.in-Some.passed in
     let meets = c.meets.ensures.0 c.if-meets.true in
-    here (HasNoSplit p labels (node_of c.args.region.now) c.args.run c.args.count) c.at_root-then-meets.result c.at_root-then-meets.ensures
+    here (HasNoSplit p labels c.args.region.now c.args.run c.args.count) c.at_root-then-meets.result c.at_root-then-meets.ensures
     (must_pass p labels c.args.passed.now c.args.region.now c.args.run each these (sym c.in-Some.ensures) meets.0 meets.1 meets.2 c.args.count)
 
 pub returns-clause-split : goal.returns-clause-split
@@ -28,5 +27,5 @@ returns-then-len-count-clause-wrong c p labels each =
     let these = c.in-Some.passed in
     let split = splits p labels c.args.passed.now c.args.region.now c.args.run each these (sym c.in-Some.ensures) c.in_ok-gaps.gaps.items
     (λ gap passed must. (let yes = c.meets.ensures.1 (gap, passed, must) in let no : true ≡ false = sym yes ∙ c.if-meets.false in cc)) c.in_ok-gaps.ensures.ascending c.in_ok-gaps.ensures.exact in
-    here (HasNoSplit p labels (node_of c.args.region.now) c.args.run c.args.count) c.at_root-then-len-count.result c.at_root-then-len-count.ensures
+    here (HasNoSplit p labels c.args.region.now c.args.run c.args.count) c.at_root-then-len-count.result c.at_root-then-len-count.ensures
     (not_as_many p labels c.args.region.now c.args.run c.args.count c.in_ok-gaps.gaps.items split (λ e. c.if-len-count.true (let long = c.in_ok-gaps.gaps.ok.0 in let len = c.len.ensures in omega arith)))

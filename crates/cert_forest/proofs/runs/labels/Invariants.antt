@@ -1,6 +1,7 @@
 use Rattle.std.proofs.Common.{◌≡◌, ◌-◌, []}
+use Rattle.cert_words.specs.declared.numbers.TheConstants.{MAX_COUNT}
 use Rattle.cert_forest.specs.Reading.{run_labels_at}
 use Rattle.cert_forest.proofs.runs.labels.Given as goal
 
 abbrev pub invariant-loop : goal.invariant-loop
-invariant-loop l = run_labels_at (1024 - l.counter) l.found.items l.rest ≡ run_labels_at 1024 [] l.bytes
+invariant-loop l = run_labels_at (MAX_COUNT - l.counter) l.found.items l.rest ≡ run_labels_at MAX_COUNT [] l.bytes

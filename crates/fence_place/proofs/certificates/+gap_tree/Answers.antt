@@ -1,13 +1,13 @@
 use Rattle.std.proofs.Common.{◌≡◌, ◌∙◌, ◌<◌, ◌+◌, ◌-◌, ◌*◌, List, [], ◌∷◌, map, length, sym, subst, rules, arith, true, get_or}
 use Rattle.std.proofs.lemmas.List.{map-append}
 use Rattle.std.proofs.lemmas.Option.{slice_get-get_or}
+use Rattle.gap_sets.specs.Regions.{open_gaps}
 use Rattle.cert_forest.specs.declared.tree.GapTree.TheViews.{the_lemmas}
 use Rattle.cert_forest.specs.declared.tree.GapTree.TheFolds.{fold-roll-GapTree, fold_out-GapTree}
 use Rattle.cert_forest.specs.Views.{gap, gap_node}
 use Rattle.cert_forest.specs.declared.tree.GapTree.{GapTree}
 use Rattle.cert_forest.specs.declared.tree.GapTree.TheVariants as tree
 use Rattle.cert_forest.specs.Trees.{Gap, Split, Bound, gap_trees_of}
-use Rattle.search_core.specs.Nodes.{open_gaps}
 use Rattle.search_core.specs.Entries.{is_closed}
 use Rattle.fence_place.specs.Recorded.{IsRecorded, AreRecorded}
 use Rattle.fence_place.proofs.Recording.{split_event, other_event, kids_there, recorded_more, split_facts}

@@ -1,11 +1,11 @@
 use Rattle.std.proofs.Common.{◌≡◌, ◌∙◌, ap, sym, subst}
 use Rattle.gap_sets.specs.Gaps.{SetOfGaps}
+use Rattle.gap_sets.specs.declared.region.Region.{Region}
 use Rattle.tso_program.specs.Shown.{Question}
 use Rattle.cover_solver.specs.declared.oracle.Verdict.{Verdict}
 use Rattle.cover_solver.specs.declared.oracle.Verdict.TheVariants as verdict
 use Rattle.cover_solver.specs.Facts.{Serving}
 use Rattle.cover_solver.specs.Verdicts.{IsVerdictOf}
-use Rattle.search_core.specs.declared.node.Node.{Node}
 use Rattle.search_core.specs.Events.{by_confirm}
 use Rattle.fence_place.proofs.searching.settle_by_oracle.Goals as goal
 
@@ -15,7 +15,7 @@ of_set q gaps v b e h = (subst (IsVerdictOf q gaps) e h).1
 pub confirm-requires-clause-of_node : goal.confirm-requires-clause-of_node
 confirm-requires-clause-of_node g c = λ node holds.
     of_set (g.O.Oracle.question c.args.oracle.now) c.args.node.now.must c.in-Ok-Serves.field-0 c.in-Ok-Serves.served c.in-Ok-Serves.field-0-is c.in-Ok-Serves.ensures.verdict
-    ∙ ap (λ (n : Node). n.must) (sym (c.requires.holds.only node holds))
+    ∙ ap (λ (n : Region). n.must) (sym (c.requires.holds.only node holds))
 
 pub returns-in-Ok-clause-settled : goal.returns-in-Ok-clause-settled
 returns-in-Ok-clause-settled g c = by_confirm c.in-Ok-Serves.served c.in-Ok.ensures.confirmed

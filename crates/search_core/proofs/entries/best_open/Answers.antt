@@ -1,7 +1,7 @@
 use Rattle.std.proofs.Common.{◌≡◌, ℕ, ◌+◌, ◌<◌, ◌≤◌, Bool, true, false, true≢false, List, Option, Some, None, length, get_or, IsTrue, refl, sym, ◌∙◌, subst}
 use Rattle.std.specs.Prelude.{MatchOption, ◌↔◌, slice_get}
 use Rattle.gap_sets.specs.Order.{Better}
-use Rattle.search_core.specs.declared.node.Node.{Node}
+use Rattle.gap_sets.specs.declared.region.Region.{Region}
 use Rattle.search_core.specs.declared.entry.Entry.{Entry}
 use Rattle.search_core.specs.Entries.{is_open}
 use Rattle.search_core.specs.States.{IsOpenAt}
@@ -10,21 +10,21 @@ use Rattle.search_core.proofs.entries.best_open.Goals as goal
 use Rattle.search_core.proofs.entries.best_open.Goals.{then-is_open+then-is_first_or_better, else-is_open, else-is_open-via-then-is_open+else-is_first_or_better, else-is_open-via-else-is_open}
 
 -- none is open before the place, or an open one is found
-abbrev IsFound : List Entry → ℕ → Option (ℕ × Node) → Type 0
+abbrev IsFound : List Entry → ℕ → Option (ℕ × Region) → Type 0
 IsFound es k best = MatchOption best ((j : ℕ) (e : Entry) → j < k → slice_get es j ≡ Some e → is_open e ≡ true → ⊥) (λ found. IsOpenAt es found.0 found.1)
 
 -- one more that is not open
-not_open : (es : List Entry) (k : ℕ) (a : Entry) (best : Option (ℕ × Node)) → k < length es → a ≡ get_or es k a → is_open a ≡ false → IsFound es k best → IsFound es (k + 1) best
+not_open : (es : List Entry) (k : ℕ) (a : Entry) (best : Option (ℕ × Region)) → k < length es → a ≡ get_or es k a → is_open a ≡ false → IsFound es k best → IsFound es (k + 1) best
 not_open es k a None h is fails none = none_so_far is_open es k a h is fails none
 not_open es k a (Some found) h is fails here = here
 
 -- one more that is not better: one was found
-not_better : (es : List Entry) (k : ℕ) (best : Option (ℕ × Node)) (r : Bool) (costs : List ℕ) (n : Node) →
+not_better : (es : List Entry) (k : ℕ) (best : Option (ℕ × Region)) (r : Bool) (costs : List ℕ) (n : Region) →
     MatchOption best (IsTrue r) (λ found. IsTrue r ↔ Better costs n.must found.1.must) → r ≡ false → IsFound es k best → IsFound es (k + 1) best
 not_better es k None r costs n first fails here = absurd (true≢false (sym first ∙ fails))
 not_better es k (Some found) r costs n first fails here = here
 
-all_seen : (es : List Entry) (k : ℕ) (best : Option (ℕ × Node)) → length es ≤ k → IsFound es k best → MatchOption best ((place : ℕ) (n : Node) → ¬ IsOpenAt es place n) (λ found. IsOpenAt es found.0 found.1)
+all_seen : (es : List Entry) (k : ℕ) (best : Option (ℕ × Region)) → length es ≤ k → IsFound es k best → MatchOption best ((place : ℕ) (n : Region) → ¬ IsOpenAt es place n) (λ found. IsOpenAt es found.0 found.1)
 all_seen es k None all none = λ place n h. none_at_all is_open es k all none place h.before h.there h.open_there
 all_seen es k (Some found) all here = here
 

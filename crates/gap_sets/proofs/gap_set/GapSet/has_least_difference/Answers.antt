@@ -1,5 +1,5 @@
 use Rattle.std.proofs.Common.{◌≢◌, ℕ, IsTrue, not, nat_eq, sym, ◌∙◌, arith, eqb-true, eq-eqb}
-use Rattle.std.specs.Int.{w64, trailing_zeros}
+use Rattle.std.specs.Int.{w128, trailing_zeros}
 use Rattle.std.specs.Int.RustNames.{bit_xor}
 use Rattle.std.proofs.lemmas.Bool.Decides.{nat_tests}
 use Rattle.std.proofs.lemmas.Nat.Bits.{shr_and_one}
@@ -16,7 +16,7 @@ pub returns-then-differing-ne0 : goal.returns-then-differing-ne0
 returns-then-differing-ne0 c =
     let a : ℕ = c.self.inside.bits in
     let b : ℕ = c.other.inside.bits in
-    let place : ℕ = trailing_zeros w64 (bit_xor a b) in
+    let place : ℕ = trailing_zeros w128 (bit_xor a b) in
     let first = differs_at_lowest a b c.self.invariant c.other.invariant c.if-differing-ne0.true in (
       λ one. least_from_bit a b _ _ c.self.view_is c.other.view_is c.self.invariant c.other.invariant place first (sym (shr_and_one a place) ∙ eqb-true _ _ one),
       λ least. eq-eqb _ _ (shr_and_one a place ∙ bit_from_least a b _ _ c.self.view_is c.other.view_is c.self.invariant c.other.invariant place first least),

@@ -1,6 +1,6 @@
 use Rattle.std.proofs.Common.{◌≡◌, ℕ, ◌∙◌, inl, inr, sym, refl, true, false, Bool}
 use mathlib.Core.Bool.{true≢false}
-use Rattle.std.specs.Int.{bit_not, w64}
+use Rattle.std.specs.Int.{bit_not, w128}
 use Rattle.std.specs.Int.RustNames.{bit_and}
 use Rattle.std.specs.FinSet as set
 use Rattle.std.specs.Cmp.{nat_cmp_total}
@@ -16,7 +16,7 @@ pub returns : goal.returns
 returns c =
     let a : ℕ = c.other.inside.bits in
     let b : ℕ = c.self.inside.bits in
-    elim (eqb_tells (bit_and a (bit_not w64 b)) 0) [
+    elim (eqb_tells (bit_and a (bit_not w128 b)) 0) [
       | inl s ↦
           s.0 ∙ sym (set.contains-is_subset nat_cmp_total _ _ (λ q p.
           contains-word b q _ c.self.view_is c.self.invariant ∙ within a b c.other.invariant s.1 c.self.invariant q (sym (contains-word a q _ c.other.view_is c.other.invariant) ∙ p)))

@@ -4,6 +4,7 @@ use Rattle.gap_sets.specs.Bits.{has_bit}
 use Rattle.gap_sets.proofs.Ranges.{below_end}
 use Rattle.std.proofs.Common.{refl}
 use Rattle.gap_sets.proofs.gap_set.GapSet.iter.Goals as goal
+use Rattle.gap_sets.specs.declared.gap_set.TheConstants.{MAX_GAPS}
 
 pub returns-clause-value : goal.returns-clause-value
 returns-clause-value c = list_of-gaps_in c.self.inside.bits c.args.self.now c.self.view_is c.self.invariant
@@ -17,4 +18,4 @@ returns-clause-members c = c.self.view_is
 
 pub returns-clause-below : goal.returns-clause-below
 unfolding list_of
-returns-clause-below c = below_end (has_bit c.self.inside.bits) 0 64 64 refl
+returns-clause-below c = below_end (has_bit c.self.inside.bits) 0 MAX_GAPS MAX_GAPS refl

@@ -1,13 +1,13 @@
 use Rattle.std.proofs.Common.{Option, sym, subst}
-use Rattle.search_core.specs.declared.node.Node.{Node}
 use Rattle.search_core.specs.contracts.tree.SearchTree.{the_view}
 use Rattle.search_core.specs.States.{HoldsNothing, HoldsOnly}
 use Rattle.std.specs.Prelude.{MatchOption}
+use Rattle.gap_sets.specs.declared.region.Region.{Region}
 use Rattle.search_core.proofs.Moves.{holds_nothing, holds_only, held_gaps}
 use Rattle.search_core.proofs.tree.SearchTree.held.Goals as goal
 
 pub returns-in_err-node-clause-value : goal.returns-in_err-node-clause-value
-returns-in_err-node-clause-value c = subst (λ (o : Option Node). MatchOption o (HoldsNothing c.args.self.now c.args.seat) (HoldsOnly c.args.self.now c.args.seat)) (sym c.from_residual.ensures)
+returns-in_err-node-clause-value c = subst (λ (o : Option Region). MatchOption o (HoldsNothing c.args.self.now c.args.seat) (HoldsOnly c.args.self.now c.args.seat)) (sym c.from_residual.ensures)
     (holds_nothing (the_view c.self.inside) c.args.self.now c.self.view_is c.deref.result.now c.deref.ensures.value c.args.seat c.in_err-node.ensures)
 
 pub returns-clause-value : goal.returns-clause-value

@@ -1,7 +1,7 @@
 use Rattle.std.proofs.Common.{◌≡◌, ◌∙◌, ℕ, List, [], ◌∷◌, ◌++◌, length, None, sym, ap, subst, refl}
-use Rattle.std.specs.FinSet as set
-use Rattle.gap_sets.specs.Gaps.{SetOfGaps}
 use Rattle.gap_sets.specs.CostLists.{IsCostList}
+use Rattle.gap_sets.specs.Regions.{all_sets}
+use Rattle.gap_sets.specs.declared.region.Region.{Region}
 use Rattle.tso_program.specs.declared.listing.Listing.{Listing}
 use Rattle.tso_program.specs.Shown.{Question, asked}
 use Rattle.tso_program.specs.Limits.{IsWithinLimits}
@@ -9,7 +9,6 @@ use Rattle.tso_program.specs.Listings.{gap_count}
 use Rattle.tree_laws.specs.GapTrees.{HaveCosts}
 use Rattle.search_core.specs.declared.entry.Entry.{Entry}
 use Rattle.search_core.specs.declared.entry.Status.TheVariants.{Open}
-use Rattle.search_core.specs.Nodes.{node}
 use Rattle.search_core.specs.Entries.{entry}
 use Rattle.search_core.specs.States.{IsStart, IsSeatCount}
 use Rattle.search_core.specs.Histories.{starts}
@@ -18,18 +17,18 @@ use Rattle.search_core.proofs.tree.SearchTree.new.Goals as goal
 have : (p : Listing) (costs : List ℕ) → length costs ≡ gap_count p.threads → IsCostList costs → HaveCosts p costs
 have p costs each list = record { one_each = each; positive = λ k d h. (list.each k d h).0 }
 
-start : (p q : Question) (costs list : List ℕ) (seats : ℕ) (entries : List Entry) (must never : SetOfGaps) → q ≡ p → list ≡ costs → IsWithinLimits p.program.threads p.program.memory → HaveCosts p.program costs → IsSeatCount seats →
-    must ≡ set.empty → never ≡ set.empty → entries ≡ entry (node must never) 0 Open ∷ [] → IsStart (record { question = q; costs = list; seats = seats; entries = entries; best = None })
-start p q costs list seats entries must never e f within have seats_are a b is =
+start : (p q : Question) (costs list : List ℕ) (seats : ℕ) (entries : List Entry) (root : Region) → q ≡ p → list ≡ costs → IsWithinLimits p.program.threads p.program.memory → HaveCosts p.program costs → IsSeatCount seats →
+    root ≡ all_sets → entries ≡ entry root 0 Open ∷ [] → IsStart (record { question = q; costs = list; seats = seats; entries = entries; best = None })
+start p q costs list seats entries root e f within have seats_are same is =
     subst (λ (r : Question). IsStart (record { question = r; costs = list; seats = seats; entries = entries; best = None })) (sym e)
     (subst (λ (l : List ℕ). IsStart (record { question = p; costs = l; seats = seats; entries = entries; best = None })) (sym f)
-    (record { within = within; have_costs = have; seats = seats_are; only_root = is ∙ (λ i. entry (node (a i) (b i)) 0 Open ∷ []); no_best = refl }))
+    (record { within = within; have_costs = have; seats = seats_are; only_root = is ∙ ap (λ (r : Region). entry r 0 Open ∷ []) same; no_best = refl }))
 
 begun : (c : goal.In_ok-copy-2) → IsStart (record { question = asked c.in_ok-copy.field-0 c.shown.result.now; costs = c.in_ok-copy-2.field-0; seats = c.args.seats; entries = c.push.new.self.items; best = None })
-begun c = start c.args.table.now.question (asked c.in_ok-copy.field-0 c.shown.result.now) c.args.costs.now c.in_ok-copy-2.field-0 c.args.seats c.push.new.self.items c.empty.result c.empty-2.result
+begun c = start c.args.table.now.question (asked c.in_ok-copy.field-0 c.shown.result.now) c.args.costs.now c.in_ok-copy-2.field-0 c.args.seats c.push.new.self.items c.all.result
     (λ i. asked ((c.in_ok-copy.ensures ∙ c.program-program.ensures.value) i) (c.shown.ensures i)) c.in_ok-copy-2.ensures (subst (λ (p : Listing). IsWithinLimits p.threads p.memory) c.program-program.ensures.value c.threads.ensures.within)
-    (have c.args.table.now.question.program c.args.costs.now c.requires.one_each c.len.ensures.limits) c.requires.seats c.empty.ensures c.empty-2.ensures
-    (c.in_ok-push.ensures.items ∙ ap (λ l. l ++ entry (node c.empty.result c.empty-2.result) 0 Open ∷ []) c.new-entries.ensures.items)
+    (have c.args.table.now.question.program c.args.costs.now c.requires.one_each c.len.ensures.limits) c.requires.seats c.all.ensures
+    (c.in_ok-push.ensures.items ∙ ap (λ l. l ++ entry c.all.result 0 Open ∷ []) c.new-entries.ensures.items)
 
 pub invariant_of-result : goal.invariant_of-result
 invariant_of-result c = starts _ (begun c)

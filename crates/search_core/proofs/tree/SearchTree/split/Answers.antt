@@ -1,14 +1,14 @@
 use Rattle.std.proofs.Common.{◌≡◌, ℕ, ◌<◌, ◌↔◌, IsTrue, Bool, true, false, List, ◌++◌, sym, ap, ◌∙◌, subst, arith, length, length-append}
-use Rattle.search_core.specs.declared.node.Node.{Node}
 use Rattle.search_core.specs.declared.entry.Entry.{Entry}
 use Rattle.search_core.specs.contracts.tree.SearchTree.{the_view}
 use Rattle.search_core.specs.States.{SearchState}
 use Rattle.std.specs.Prelude.{slice_set}
 use Rattle.std.specs.FinSet as set
 use Rattle.gap_sets.specs.Gaps.{SetOfGaps}
+use Rattle.gap_sets.specs.declared.region.Region.{Region}
 use Rattle.cover_solver.specs.Facts.{Foreign}
 use Rattle.search_core.specs.declared.entry.Status.TheVariants.{Split}
-use Rattle.search_core.specs.Nodes.{children}
+use Rattle.search_core.specs.Children.{children}
 use Rattle.search_core.specs.Entries.{entry}
 use Rattle.search_core.specs.Events.{open_entries, Splits, splits}
 use Rattle.search_core.specs.Faults.{DoMeet}
@@ -24,7 +24,7 @@ longer : (es cs : List Entry) (place : ℕ) → place < length es → place < le
 longer es cs place h = omega (arith, length-append es cs)
 
 -- the entries after a split
-after_split : (es all items cs : List Entry) (place seat first : ℕ) (n : Node) (kept f : Foreign) → place < length es → kept ≡ f → first ≡ length es → cs ≡ open_entries seat (children n f.passed) → all ≡ es ++ cs →
+after_split : (es all items cs : List Entry) (place seat first : ℕ) (n : Region) (kept f : Foreign) → place < length es → kept ≡ f → first ≡ length es → cs ≡ open_entries seat (children n f.passed) → all ≡ es ++ cs →
     items ≡ slice_set all place (entry n seat (Split kept first)) → items ≡ slice_set es place (entry n seat (Split f (length es))) ++ open_entries seat (children n f.passed)
 after_split es all items cs place seat first n kept f within same at kids e is =
     is ∙ (λ i. slice_set (e i) place (entry n seat (Split (same i) (at i)))) ∙ (λ i. slice_set (es ++ kids i) place (entry n seat (Split f (length es))))

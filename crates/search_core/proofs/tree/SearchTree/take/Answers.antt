@@ -1,20 +1,20 @@
 use Rattle.std.proofs.Common.{◌≡◌, ℕ, true, false, Option, Some, None, sym, ◌∙◌, subst}
-use Rattle.search_core.specs.declared.node.Node.{Node}
 use Rattle.search_core.specs.contracts.tree.SearchTree.{the_view}
 use Rattle.search_core.specs.States.{SearchState, HoldsNode, HoldsNothing, HoldsOnly}
 use Rattle.std.specs.Prelude.{MatchOption}
 use Rattle.std.specs.Option.{is_some}
+use Rattle.gap_sets.specs.declared.region.Region.{Region}
 use Rattle.search_core.specs.Events.{TakesNode, takes}
 use Rattle.search_core.specs.Histories.{IsReached, goes_on}
 use Rattle.search_core.proofs.OneNode.{taken_only}
 use Rattle.search_core.proofs.Moves.{seated, open_within, open_gaps, no_open, take_event}
 use Rattle.search_core.proofs.tree.SearchTree.take.Goals as goal
 
-some_held : (s : SearchState) (seat : ℕ) (o : Option Node) → is_some o ≡ true → MatchOption o (HoldsNothing s seat) (HoldsOnly s seat) → (n : Node) × HoldsNode s seat n
+some_held : (s : SearchState) (seat : ℕ) (o : Option Region) → is_some o ≡ true → MatchOption o (HoldsNothing s seat) (HoldsOnly s seat) → (n : Region) × HoldsNode s seat n
 some_held s seat None e h = absurd cc
 some_held s seat (Some n) e h = (n, h.held)
 
-none_held : (s : SearchState) (seat : ℕ) (o : Option Node) → is_some o ≡ false → MatchOption o (HoldsNothing s seat) (HoldsOnly s seat) → HoldsNothing s seat
+none_held : (s : SearchState) (seat : ℕ) (o : Option Region) → is_some o ≡ false → MatchOption o (HoldsNothing s seat) (HoldsOnly s seat) → HoldsNothing s seat
 none_held s seat None e h = h
 none_held s seat (Some n) e h = absurd cc
 
