@@ -13,9 +13,9 @@ use Rattle.tso_program.specs.Shown.{Question, show, asked}
 use Rattle.tso_machine.specs.declared.label.Label.{Label}
 use Rattle.tso_machine.specs.declared.label.Model.{Model}
 use Rattle.tso_machine.specs.declared.label.Model.TheVariants as models
-use Rattle.tso_machine.specs.declared.ended.Ended.{Ended}
-use Rattle.tso_machine.specs.declared.ended.ReplayFault.{ReplayFault}
-use Rattle.tso_machine.specs.declared.ended.ReplayFault.TheVariants as replays
+use Rattle.tso_machine.specs.declared.replaying.Ended.{Ended}
+use Rattle.tso_machine.specs.declared.replaying.ReplayFault.{ReplayFault}
+use Rattle.tso_machine.specs.declared.replaying.ReplayFault.TheVariants as replays
 use Rattle.gap_sets.specs.Gaps.{SetOfGaps}
 use Rattle.cert_check.specs.declared.fault.RunsFault.{RunsFault}
 use Rattle.cert_check.specs.declared.fault.RunsFault.TheVariants as runs
@@ -27,7 +27,7 @@ use Rattle.tso_machine.proofs.Refused.{no_fault}
 use Rattle.fence_laws.proofs.GapsAvoided.{empty_fences_nothing}
 use Rattle.cert_forest.specs.Certificates.{labels_of}
 use Rattle.cert_check.specs.Faults.{IsRunOf, IsFirstWithout}
-use Rattle.cert_check.specs.Replays.{machine_of, IsReplayOf, AreReplaysOf, IsNoRunAt, IsFaultFrom, RunsFaultIs}
+use Rattle.cert_check.specs.Internal.Replays.{machine_of, IsReplayOf, AreReplaysOf, IsNoRunAt, IsFaultFrom, RunsFaultIs}
 
 -- with the empty set fenced a model's machine is the one with no gap fenced
 pub machine_is : (p : Listing) (model : Model) → mode_of p set.empty model ≡ machine_of model

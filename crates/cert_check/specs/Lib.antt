@@ -1,6 +1,4 @@
-pub mod Claims
 pub mod GapDefects
-pub mod Children
 pub mod Faults
 pub mod Laws
-pub mod Replays
+pub mod Internal

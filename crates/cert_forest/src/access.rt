@@ -2,12 +2,14 @@
 
 ghost use Rattle.std.specs.Prelude.{◌≡◌, ◌≤◌, length, []};
 ghost use Rattle.std.specs.List.{prefix_len};
-ghost use Rattle.cert_words.specs.Words.{Gives, GivesUnlessMemory, repeat_at};
-ghost use Rattle.cert_forest.specs.Reading.{is_no_stop, access_tail, access_of, access_at};
+ghost use Rattle.text_tokens.specs.Steps.{Gives, GivesUnless};
+ghost use Rattle.cert_words.specs.Words.{repeat_at, stops_for_memory};
+ghost use Rattle.cert_forest.specs.Internal.Reading.{is_no_stop, access_tail, access_of, access_at};
 
 use crate::tree::AccessId;
-use cert_words::{Refusal, Stop, Wrong, are_digits, plain_number, refused_unless_cut, word};
+use cert_words::{Refusal, Stop, Wrong, refused_unless_cut, word};
 use std::alloc::Global;
+use text_tokens::{are_digits, plain_number};
 
 /// How many bytes stand before a full stop.
 pub(crate) fn stop_len(bytes: &[u8]) -> usize
@@ -30,7 +32,7 @@ fn access_tail(thread: u8, bytes: &[u8]) -> Option<AccessId>
 }
 
 /// The access whose name is written so.
-#[tactic(auto, unfolding(crate::specs::Reading::access_of))]
+#[tactic(auto, unfolding(crate::specs::Internal::Reading::access_of))]
 fn access_of(word: &[u8]) -> Option<AccessId>
     ensures { result ≡ access_of word.now }
 {
@@ -65,7 +67,7 @@ fn fault_of(word: &[u8]) -> (Wrong, bool) {
 }
 
 /// A space, and the name of an access.
-#[tactic(auto, unfolding(crate::specs::Reading::access_at))]
+#[tactic(auto, unfolding(crate::specs::Internal::Reading::access_at))]
 pub(crate) fn access(bytes: &[u8]) -> Result<(AccessId, &[u8]), Refusal>
     ensures { Gives (λ x. (x.0, x.1.now)) result (access_at bytes.now) }
 {
@@ -85,7 +87,7 @@ pub(crate) fn accesses(
     count: u64,
     bytes: &[u8],
 ) -> Result<(Vec<AccessId>, &[u8]), Stop>
-    ensures { GivesUnlessMemory (λ x. (x.0.items, x.1.now)) result (repeat_at access_at count [] bytes.now) }
+    ensures { GivesUnless stops_for_memory (λ x. (x.0.items, x.1.now)) result (repeat_at access_at count [] bytes.now) }
 {
     let mut found = Vec::new(alloc);
     let mut rest = bytes;

@@ -1,30 +1,17 @@
 -- What each function of the words gives: a value, and the bytes after it; or nothing.
-use Rattle.std.specs.Prelude.{◌≡◌, ◌==◌, ◌||◌, ℕ, zero, suc, Bool, false, List, [], ◌∷◌, ◌++◌, take, drop, nat_lt, not, Option, Some, None, Result, Ok, Err, option_and_then, if◌then◌else◌}
+use Rattle.std.specs.Prelude.{◌==◌, ◌||◌, ℕ, zero, suc, Bool, true, false, List, [], ◌∷◌, ◌++◌, take, drop, nat_lt, not, Option, Some, None, if◌then◌else◌}
 use Rattle.std.specs.List.{prefix_len}
 use Rattle.std.specs.Str.{bytes_eq}
 use Rattle.text_tokens.specs.Numbers.{plain_number_at}
+use Rattle.text_tokens.specs.Steps.{◌>>=◌}
 use Rattle.cert_words.specs.declared.numbers.TheConstants.{MAX_COUNT}
-use Rattle.cert_words.specs.declared.refusal.Refusal.{Refusal}
 use Rattle.cert_words.specs.declared.refusal.Stop.{Stop}
 use Rattle.cert_words.specs.declared.refusal.Stop.TheVariants.{Refused, OutOfMemory}
 
-infixl 10 ◌>>=◌
-abbrev pub ◌>>=◌ : {A B : Type 0} → Option A → (A → Option B) → Option B
-o >>= f = option_and_then f o
-
--- what was returned, seen by view, is what reading gives
-abbrev pub Gives : {X Y : Type 0} → (X → Y) → Result X Refusal → Option Y → Type 0
-Gives view (Ok x) read = read ≡ Some (view x)
-Gives view (Err e) read = read ≡ None
-
--- the same where memory can run out
-abbrev pub Fails : {Y : Type 0} → Stop → Option Y → Type 0
-Fails OutOfMemory read = Unit {0}
-Fails (Refused r) read = read ≡ None
-
-abbrev pub GivesUnlessMemory : {X Y : Type 0} → (X → Y) → Result X Stop → Option Y → Type 0
-GivesUnlessMemory view (Ok x) read = read ≡ Some (view x)
-GivesUnlessMemory view (Err e) read = Fails e read
+-- the reason to stop is out of memory
+abbrev pub stops_for_memory : Stop → Bool
+stops_for_memory OutOfMemory = true
+stops_for_memory (Refused r) = false
 
 -- ---- words, and ends of lines
 
@@ -43,6 +30,13 @@ unfoldable pub word_at : List ℕ → Option (List ℕ × List ℕ)
 word_at [] = None
 word_at (b ∷ bytes) = if b == 32 then Some (front bytes, after_word bytes) else None
 
+-- a space, and then a word as far as it goes, which spells a value
+abbrev pub spaced_word_at : {A : Type 0} → (List ℕ → Option A) → List ℕ → Option (A × List ℕ)
+spaced_word_at spelled bytes = do
+  w ← word_at bytes
+  x ← spelled w.0
+  Some (x, w.1)
+
 -- the first word of a line
 unfoldable pub line_name_at : List ℕ → List ℕ → Option (List ℕ)
 line_name_at name bytes = if bytes_eq (front bytes) name then Some (after_word bytes) else None
@@ -58,10 +52,7 @@ begins_word (b ∷ bytes) = b == 32
 
 -- a number up to the limit
 unfoldable pub number_within_at : ℕ → List ℕ → Option (ℕ × List ℕ)
-number_within_at limit bytes = do
-  w ← word_at bytes
-  n ← plain_number_at limit w.0
-  Some (n, w.1)
+number_within_at limit bytes = spaced_word_at (plain_number_at limit) bytes
 
 -- a number of children or events
 unfoldable pub count_at : List ℕ → Option (ℕ × List ℕ)
@@ -76,14 +67,11 @@ letter_of (b ∷ []) = Some b
 letter_of (b ∷ (d ∷ word)) = None
 
 unfoldable pub letter_at : List ℕ → Option (ℕ × List ℕ)
-letter_at bytes = do
-  w ← word_at bytes
-  letter ← letter_of w.0
-  Some (letter, w.1)
+letter_at bytes = spaced_word_at letter_of bytes
 
 -- ---- lists
 
--- so many values, behind those that there are
+-- so many values, after those that there are
 abbrev pub repeat_at : {A : Type 0} → (List ℕ → Option (A × List ℕ)) → ℕ → List A → List ℕ → Option (List A × List ℕ)
 repeat_at read zero found bytes = Some (found, bytes)
 repeat_at read (suc n) found bytes = do

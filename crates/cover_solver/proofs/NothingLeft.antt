@@ -12,15 +12,15 @@ use Rattle.cover_judge.specs.declared.choice.Choice.{Choice}
 use Rattle.cover_judge.specs.declared.choice.Choice.TheVariants as choice
 use Rattle.cover_judge.specs.Choices.{MayChoose, MayChooseEach}
 use Rattle.cover_judge.proofs.ChoicesJudged.{other_way, turned}
-use Rattle.exec_axioms.proofs.CoursesKept.{no_action}
+use Rattle.exec_axioms.proofs.TracesKept.{no_action}
 use Rattle.exec_axioms.proofs.Lookups.{same_default}
 use Rattle.run_maker.specs.Complete.{IsComplete, HasItsSource}
 use Rattle.run_maker.proofs.Completeness.{read_there, first_there, second_there}
 use Rattle.cover_solver.specs.declared.choices_left.OpenChoice.{OpenChoice}
 use Rattle.cert_forest.specs.declared.tree.AccessId.{AccessId}
 use Rattle.tree_laws.specs.CoverTrees.{event_of}
-use Rattle.cover_solver.specs.Accesses.{HasAccesses}
-use Rattle.cover_solver.specs.ChoicesLeft.{LeavesNone, HasEachSource, AreWritesInOrder, IsInOrderWithEach, IsEachInOrder}
+use Rattle.cover_solver.specs.Internal.Accesses.{HasAccesses}
+use Rattle.cover_solver.specs.Internal.ChoicesLeft.{LeavesNone, HasEachSource, AreWritesInOrder, IsInOrderWithEach, IsEachInOrder}
 
 -- a list with one more at its end is not empty
 pub pushed_some : {A : Type 0} (xs ys : List A) (x : A) → ys ≡ xs ++ x ∷ [] → ys ≡ [] → ⊥

@@ -21,11 +21,11 @@ use Rattle.candidate_executions.specs.Candidates.{access_by}
 use Rattle.candidate_executions.specs.Events.{ComesBefore}
 use Rattle.candidate_executions.specs.Sketches.{Sketch, IsSourceOf}
 use Rattle.candidate_executions.specs.Values.{IsKnown, IsValueOf}
-use Rattle.candidate_executions.proofs.Lists.{first_is_here, later_is_here, mapped}
+use Rattle.candidate_executions.proofs.Orders.Lists.{first_is_here, later_is_here, mapped}
 use Rattle.exec_axioms.specs.Parts.{Parts, mode_in, sketch_of}
 use Rattle.exec_axioms.specs.Kept.{IsLawful}
-use Rattle.exec_axioms.specs.Immediates.{any_number}
-use Rattle.exec_axioms.specs.Sizes.{HaveSixRegisters, most_values, most_sources}
+use Rattle.exec_axioms.specs.Internal.Immediates.{any_number}
+use Rattle.exec_axioms.specs.Sizes.{HaveAllRegisters, most_values, most_sources}
 use Rattle.exec_axioms.proofs.KnownValues.{known_all}
 use Rattle.exec_axioms.proofs.EventsCounted.{few_of, all_events, all_events_few, all_events_has}
 use Rattle.tso_program.specs.declared.instruction.TheConstants.{REGISTERS}
@@ -44,7 +44,7 @@ one_more : (n : ℕ) → n ≤ (n - 1) + 1
 one_more zero = omega arith
 one_more (suc n) = omega arith
 
-constants_few : (threads : List Thread) → HaveSixRegisters threads → length (constants threads) ≤ gap_count threads + (REGISTERS + 1) * length threads
+constants_few : (threads : List Thread) → HaveAllRegisters threads → length (constants threads) ≤ gap_count threads + (REGISTERS + 1) * length threads
 constants_few [] six = omega arith
 constants_few (thread ∷ threads) six =
     let rest = constants_few threads (λ t h. six (suc t) (omega arith)) in
@@ -102,7 +102,7 @@ module _ (p : Listing) where
   ]
 
   -- so different values of a location are few
-  pub few_values : (l : ℕ) (values : List ℕ) → IsWithinLimits p.threads p.memory → HaveSixRegisters p.threads → IsStrictlyIncreasing values → ((v : ℕ) → Contains values v → IsValueOf p l v) →
+  pub few_values : (l : ℕ) (values : List ℕ) → IsWithinLimits p.threads p.memory → HaveAllRegisters p.threads → IsStrictlyIncreasing values → ((v : ℕ) → Contains values v → IsValueOf p l v) →
       length values ≤ most_values
   few_values l values within six ascending are =
       let rises = AllPairs-from_increasing values ascending in
@@ -115,7 +115,7 @@ module _ (p : Listing) where
       omega arith
 
 -- no event comes before itself
-not_before_itself : (e : Event) → ComesBefore e e → ⊥
+pub not_before_itself : (e : Event) → ComesBefore e e → ⊥
 not_before_itself (Initial l) h = omega arith
 not_before_itself (At t i) (inl h) = omega arith
 not_before_itself (At t i) (inr h) = let less = h.1 in omega arith

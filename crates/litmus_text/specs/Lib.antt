@@ -1,12 +1,10 @@
-pub mod Names
-pub mod Places
-pub mod Labels
-pub mod Meaning
-pub mod Faults
-pub mod Texts
-pub mod Outcomes
-pub mod Shown
-pub mod Filling
-pub mod Reading
-pub mod Laws
-pub mod Example
+-- What the contracts of these calls cite, handed on from the crates where it stands.
+pub use Rattle.canonical_text.specs.Canonical
+pub use Rattle.conditions.specs.Truth
+pub use Rattle.cost_text.specs.CostTexts
+pub use Rattle.cost_text.specs.GivenCosts
+pub use Rattle.litmus_reader.specs.Outcomes
+pub use Rattle.litmus_reader.specs.Shown
+pub use Rattle.litmus_reader.specs.Texts
+pub use Rattle.tso_program.specs.Fences
+pub use Rattle.tso_program.specs.Listings

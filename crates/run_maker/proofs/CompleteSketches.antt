@@ -18,20 +18,20 @@ use Rattle.candidate_executions.specs.declared.event.Event.{Event}
 use Rattle.candidate_executions.specs.declared.event.Event.TheVariants.{Initial, Access as At}
 use Rattle.candidate_executions.specs.declared.event.Kind.{Kind}
 use Rattle.candidate_executions.specs.declared.event.Kind.TheVariants as union
-use Rattle.candidate_executions.specs.Traces.{gaps_of}
+use Rattle.candidate_executions.specs.Traces.{fenced_gaps}
 use Rattle.candidate_executions.specs.Candidates.{Candidate, Writes, IsCandidate, EndsWith, HasOutcome}
 use Rattle.candidate_executions.specs.Consistency.{IsOfMode, Relates, Edge, IsAcyclic, IsConsistent}
 use Rattle.candidate_executions.specs.Sketches.{Completes, IsBefore, KnownRelates, KnownFromReads, MayBeLast}
 use Rattle.candidate_executions.specs.Orders.{followed_union, labels_along, IsOrder}
 use Rattle.candidate_executions.specs.RunCandidates.{IsCandidateOf}
-use Rattle.candidate_executions.proofs.AcyclicIsOrdered.{In}
-use Rattle.candidate_executions.proofs.CandidatesAreRuns.{every_order}
-use Rattle.candidate_executions.proofs.LastWrites.{one_end, ends_with}
-use Rattle.candidate_executions.proofs.Linear.{contains_in, pairs_ordered}
-use Rattle.candidate_executions.proofs.Lists.{some_value}
-use Rattle.candidate_executions.proofs.MoreValues.{end_or_read}
-use Rattle.candidate_executions.proofs.StepsSuffice.{advance}
-use Rattle.candidate_executions.proofs.WiderRelations.{acyclic_narrower}
+use Rattle.candidate_executions.proofs.Orders.AcyclicIsOrdered.{In}
+use Rattle.candidate_executions.proofs.ToRuns.CandidatesAreRuns.{every_order}
+use Rattle.candidate_executions.proofs.Candidates.LastWrites.{one_end, ends_with}
+use Rattle.candidate_executions.proofs.ToRuns.Linear.{contains_in, pairs_ordered}
+use Rattle.candidate_executions.proofs.Orders.Lists.{some_value}
+use Rattle.candidate_executions.proofs.Sketches.MoreValues.{end_or_read}
+use Rattle.candidate_executions.proofs.FromRuns.StepsSuffice.{advance}
+use Rattle.candidate_executions.proofs.Orders.WiderRelations.{acyclic_narrower}
 use Rattle.exec_axioms.specs.Parts.{Parts, mode_in, sketch_of, given_to, trace_in, access_in}
 use Rattle.exec_axioms.specs.Kept.{IsLawful}
 use Rattle.exec_axioms.specs.Known.{IsKnownEdge, HasNoCycle, IsAccess}
@@ -41,7 +41,7 @@ use Rattle.exec_axioms.proofs.Chosen.{once}
 use Rattle.exec_axioms.proofs.Ends.{ends_only}
 use Rattle.exec_axioms.proofs.LastWrites.{of_followed, pair_edge}
 use Rattle.run_maker.specs.Complete.{IsComplete, IsMadeRun}
-use Rattle.run_maker.specs.Orders.{IsKnownOrder}
+use Rattle.run_maker.specs.Internal.Orders.{IsKnownOrder}
 use Rattle.run_maker.proofs.Completeness.{first_there, second_there}
 use Rattle.run_maker.proofs.PlacesInOrder.{place, place_before, place_same, chosen, chosen_is}
 
@@ -126,7 +126,7 @@ module _ (s : Parts) (lawful : IsLawful s) (whole : IsComplete s) (acyclic : Has
   pub is_candidate : IsCandidate p mode become
   is_candidate = record {
     whole = λ t. (
-      end_or_read (action p.threads t) (gaps_of mode t) (length (code_of p.threads t)) (λ l. advance p lawful.within.shared.forward_jumps t l) (length (code_of p.threads t)) 0
+      end_or_read (action p.threads t) (fenced_gaps mode t) (length (code_of p.threads t)) (λ l. advance p lawful.within.shared.forward_jumps t l) (length (code_of p.threads t)) 0
           (start_of p.threads t) (given_to s.given t) (omega arith) (whole.whole t),
       lawful.is_sketch.used t,
     );

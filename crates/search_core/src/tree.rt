@@ -17,10 +17,10 @@ use cover_solver::{ForeignRun, SeqTable, Served};
 use gap_sets::{Costs, Region};
 use std::alloc::Global;
 use std::marker::Model;
-use tso_program::{Program, Shown};
+use tso_program::{MAX_WORKERS, Program, Shown};
 
-/// The most seats that a search may have.
-pub const MAX_SEATS: u8 = 32;
+/// The most seats that a search may have: one for each worker.
+pub const MAX_SEATS: u8 = MAX_WORKERS;
 
 /// A search whose state some history of events reaches. It keeps the allocator that it was made with.
 #[derive(Drop)]
@@ -41,7 +41,7 @@ impl Model for SearchTree {
 
     ghost use Rattle.gap_sets.specs.contracts.gap_set.GapSet as gap_set;
     ghost use Rattle.std.specs.Coded.{codes};
-    ghost use Rattle.tree_laws.specs.CoverCodes.{coded_cover};
+    ghost use Rattle.cert_forest.specs.CoverCodes.{coded_cover};
 
     ghost coded = { Prim.hlevel (codes, gap_set.the_row.coded, coded_cover) };
 

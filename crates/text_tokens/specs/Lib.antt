@@ -3,8 +3,9 @@ pub mod Numbers
 pub mod Marks
 pub mod Comments
 pub mod Space
+pub mod Steps
 pub mod Tokens
 pub mod Lexing
-pub mod Front
 pub mod Parts
 pub mod Pieces
+pub mod Internal

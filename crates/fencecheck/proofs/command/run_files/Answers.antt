@@ -1,9 +1,9 @@
 use Rattle.std.specs.Prelude.{option_map}
 use Rattle.program_streams.proofs.Printed.{prints_more, prints_line}
-use Rattle.report.specs.Faults.{file_line}
+use Rattle.program_streams.specs.FileLines.{file_line}
 use Rattle.fencecheck.specs.Verdicts.{IsVerdict}
 use Rattle.fencecheck.specs.Replies.{IsReplyToFiles, judged, no_file}
-use Rattle.fencecheck.specs.Names.{file_names_of}
+use Rattle.fencecheck.specs.Internal.Names.{file_names_of}
 use Rattle.fencecheck.proofs.command.run_files.Goals as goal
 
 pub returns-in-Ok : goal.returns-in-Ok
@@ -15,5 +15,5 @@ returns-in-Ok g c =
 pub returns-in-Err : goal.returns-in-Err
 returns-in-Err g c =
     let why = c.in-Err.fault in
-    prints_line c.file_line.result 1 (file_line why) (IsReplyToFiles (file_names_of c.args.names) (g.R.Read.remaining c.args.input.now) (g.S.FileStore.held c.args.files.now)) _ _ c.say.result
-    (no_file why c.in-Err.ensures.err) c.file_line.ensures c.say.ensures
+    prints_line c.file_line.result 1 (file_line why) (IsReplyToFiles (file_names_of c.args.names) (g.R.Read.remaining c.args.input.now) (g.S.FileStore.held c.args.files.now)) _ _ c.print.result
+    (no_file why c.in-Err.ensures.err) c.file_line.ensures c.print.ensures

@@ -1,7 +1,7 @@
 use Rattle.std.proofs.Common.{refl}
 use Rattle.std.specs.Prelude.{option_map}
 use Rattle.program_streams.proofs.Printed.{prints_line, prints_more}
-use Rattle.report.specs.Faults.{file_line}
+use Rattle.program_streams.specs.FileLines.{file_line}
 use Rattle.fencer.specs.Placements.{of_texts, no_texts}
 use Rattle.fencer.proofs.place.run_place.Goals as goal
 
@@ -11,4 +11,4 @@ returns-in-Ok-clause-told g c =
 
 pub returns-in-Err-clause-told : goal.returns-in-Err-clause-told
 returns-in-Err-clause-told g c =
-    prints_line c.file_line.result 1 (file_line c.in-Err.fault) _ _ _ c.say.result (no_texts c.in-Err.fault c.in-Err.ensures.err (λ name. refl)) c.file_line.ensures c.say.ensures
+    prints_line c.file_line.result 1 (file_line c.in-Err.fault) _ _ _ c.print.result (no_texts c.in-Err.fault c.in-Err.ensures.err (λ name. refl)) c.file_line.ensures c.print.ensures

@@ -1,0 +1,11 @@
+pub mod Names
+pub mod Places
+pub mod Labels
+pub mod Meaning
+pub mod Faults
+pub mod Texts
+pub mod Outcomes
+pub mod Shown
+pub mod Laws
+pub mod Example
+pub mod Internal
