@@ -1,6 +1,6 @@
 //! Calls of `cert_forest` and `cert_check`.
 
-use crate::input::push_bytes;
+use crate::input::{push_bytes, word_at};
 use crate::programs::program_of;
 use crate::refusal::Refusal;
 use crate::sets::{costs_of, push_gaps};
@@ -45,7 +45,7 @@ fn acceptance(alloc: Global, accepted: &Accepted) -> Result<String, AllocError> 
 /// What the checker says of a certificate, for a test of which everything is shown, and the costs that are given.
 pub fn checked(alloc: Global, words: &[&[u8]], text: &[u8]) -> Result<String, Refusal> {
     let (litmus, certificate) = split_texts(text);
-    let costs = costs_of(alloc, words, 1)?;
+    let costs = costs_of(alloc, word_at(words, 0)?)?;
     let program = program_of(alloc, litmus)?;
     let certificate = read_cert(alloc, certificate)?;
     let accepted = check(alloc, &program, &Shown::All, &costs, &certificate)?;

@@ -1,10 +1,11 @@
 //! Calls of `conditions`.
 
 use crate::input::split_line;
+use crate::machines::outcome_in;
 use crate::refusal::Refusal;
 use conditions::{Atom, Condition, Formula, Quantifier, Token, holds};
 use std::alloc::{AllocError, Global};
-use tso_program::{Items, Outcome, Reg};
+use tso_program::{Outcome, Reg};
 
 /// That a register of a thread ends with a value.
 fn register(thread: u32, register: Reg, value: u32) -> Atom {
@@ -72,15 +73,6 @@ fn push_line(tokens: &[Token], printed: &mut String) -> Result<(), AllocError> {
     printed.push('\n')
 }
 
-/// Thread 0 ends with EAX 1, thread 1 with EDI 7, and the two locations with 0 and 2.
-fn outcome(alloc: Global) -> Result<Outcome, AllocError> {
-    let registers = Vec::from_slice(alloc, &[[1, 0, 0, 0, 0, 0], [0, 0, 0, 0, 0, 7]])?;
-    Ok(Outcome {
-        registers: Items::of(registers),
-        memory: Items::of(Vec::from_slice(alloc, &[0, 2])?),
-    })
-}
-
 fn condition(
     alloc: Global,
     quantifier: Quantifier,
@@ -99,16 +91,20 @@ fn is_read_again(alloc: Global, formula: &Formula, enclosed: &[Token]) -> Result
     Ok(formula.same(&again))
 }
 
-/// Whether a formula holds at that outcome, alone and as a condition's.
-fn push_held(alloc: Global, formula: &Formula, printed: &mut String) -> Result<(), AllocError> {
-    let outcome = outcome(alloc)?;
+/// Whether a formula holds at an outcome, alone and as a condition's.
+fn push_held(
+    alloc: Global,
+    formula: &Formula,
+    outcome: &Outcome,
+    printed: &mut String,
+) -> Result<(), AllocError> {
     let condition = condition(alloc, Quantifier::Forall, formula)?;
     write!(
         printed,
         "holds {} {:?} {}",
-        formula.holds(&outcome),
+        formula.holds(outcome),
         condition.quantifier,
-        holds(&condition, &outcome)
+        holds(&condition, outcome)
     )
 }
 
@@ -119,24 +115,32 @@ fn push_tokens(alloc: Global, formula: &Formula, printed: &mut String) -> Result
 fn lines(
     alloc: Global,
     formula: &Formula,
+    outcome: &Outcome,
     enclosed: &[Token],
     again: bool,
 ) -> Result<String, AllocError> {
     let mut printed = String::new(alloc);
-    push_held(alloc, formula, &mut printed)?;
+    push_held(alloc, formula, outcome, &mut printed)?;
     write!(&mut printed, " again {again}\n")?;
     push_tokens(alloc, formula, &mut printed)?;
     push_line(enclosed, &mut printed)?;
     Ok(printed)
 }
 
-/// Whether a formula holds at that outcome, as a condition's too; its tokens, alone and as a condition's, and whether
-/// the latter spell it.
+/// Whether a formula holds where thread 0 ends with EAX 1, thread 1 with EDI 7, and the two locations with 0 and 2, as
+/// a condition's too; its tokens, alone and as a condition's, and whether the latter spell it.
 pub fn formula(alloc: Global, text: &[u8]) -> Result<String, Refusal> {
     let formula = formula_of(alloc, text)?;
+    let outcome = outcome_in(alloc, b"1,0,0,0,0,0 0,0,0,0,0,7 0,2")?;
     let enclosed = formula.enclosed_tokens(alloc)?;
     let again = is_read_again(alloc, &formula, enclosed.as_slice())?;
-    Ok(lines(alloc, &formula, enclosed.as_slice(), again)?)
+    Ok(lines(
+        alloc,
+        &formula,
+        &outcome,
+        enclosed.as_slice(),
+        again,
+    )?)
 }
 
 /// Whether the condition that a formula holds of some outcome is the same as another condition.

@@ -1,6 +1,6 @@
 //! Calls of `tso_machine`, and the order of outcomes.
 
-use crate::input::{gap_set_of, numbers_of, push_bytes, split_line, word_at, words_of};
+use crate::input::{gap_set_of, numbers_of, push_bytes, split_line, words_of};
 use crate::programs::program_of;
 use crate::refusal::Refusal;
 use crate::sets::push_gaps;
@@ -17,10 +17,10 @@ fn model_of(word: &[u8]) -> Result<Model, Refusal> {
     }
 }
 
-/// The label of each word from the third argument on.
-fn labels_of(alloc: Global, words: &[&[u8]]) -> Result<Vec<Label>, Refusal> {
+/// The labels that words spell.
+pub fn labels_of(alloc: Global, words: &[&[u8]]) -> Result<Vec<Label>, Refusal> {
     let mut labels = Vec::new(alloc);
-    for word in words.iter().skip(3) {
+    for word in words {
         labels.extend_from_slice(&read_run(alloc, word)?)?;
     }
     Ok(labels)
@@ -46,9 +46,12 @@ fn ending(alloc: Global, ended: &Ended) -> Result<String, AllocError> {
 
 /// The outcome of a run, and the gaps that it passed.
 pub fn replayed(alloc: Global, words: &[&[u8]], text: &[u8]) -> Result<String, Refusal> {
-    let model = model_of(word_at(words, 1)?)?;
-    let fenced = gap_set_of(alloc, word_at(words, 2)?)?;
-    let labels = labels_of(alloc, words)?;
+    let [model, fenced, labels @ ..] = words else {
+        return Err(Refusal::Call);
+    };
+    let model = model_of(model)?;
+    let fenced = gap_set_of(alloc, fenced)?;
+    let labels = labels_of(alloc, labels)?;
     let program = program_of(alloc, text)?;
     let ended = replay(alloc, &program, &fenced, model, labels.as_slice())?;
     Ok(ending(alloc, &ended)?)
@@ -69,9 +72,12 @@ pub fn outcome_of(alloc: Global, words: &[&[u8]]) -> Result<Outcome, Refusal> {
     let mut memory = Vec::new(alloc);
     for word in words {
         let numbers = numbers_of(alloc, word)?;
-        match numbers.as_slice() {
-            [a, b, c, d, e, f] => registers.push([*a, *b, *c, *d, *e, *f])?,
-            values => memory.extend_from_slice(values)?,
+        if numbers.len() == 6 {
+            let mut six = [0; 6];
+            six.copy_from_slice(&numbers);
+            registers.push(six)?;
+        } else {
+            memory.extend_from_slice(&numbers)?;
         }
     }
     Ok(Outcome {
@@ -80,7 +86,8 @@ pub fn outcome_of(alloc: Global, words: &[&[u8]]) -> Result<Outcome, Refusal> {
     })
 }
 
-fn outcome_in(alloc: Global, line: &[u8]) -> Result<Outcome, Refusal> {
+/// The outcome of a line.
+pub fn outcome_in(alloc: Global, line: &[u8]) -> Result<Outcome, Refusal> {
     let words = words_of(alloc, line)?;
     outcome_of(alloc, words.as_slice())
 }

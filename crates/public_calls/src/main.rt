@@ -9,13 +9,16 @@ mod certificates;
 mod fences;
 mod formulas;
 mod input;
+mod lines;
 mod machines;
 mod observations;
+mod placing;
 mod programs;
 mod refusal;
-mod same;
+mod search;
 mod sets;
 mod sketches;
+mod solver;
 mod syntax;
 mod texts;
 mod tokens;
@@ -25,6 +28,6 @@ use std::io::{self, Read, Write};
 fn main(rt: HostRuntime) -> io::Result<()> {
     let mut bytes = Vec::new(rt.alloc());
     rt.stdin().read_to_end(&mut bytes)?;
-    let printed = answer::answer(rt.alloc(), &bytes)?;
-    rt.stdout().write_all(printed.as_bytes())
+    let printed = answer::answer(&rt, &rt, rt.alloc(), &bytes)?;
+    rt.stdout().write_all(&printed)
 }

@@ -19,7 +19,7 @@ fn quantifier_of(word: &[u8]) -> Result<Quantifier, Refusal> {
 /// An outcome for each word from the second argument on, which is the last value of location 0.
 fn outcomes_of(alloc: Global, words: &[&[u8]]) -> Result<Vec<Outcome>, Refusal> {
     let mut outcomes = Vec::new(alloc);
-    for word in words.iter().skip(2) {
+    for word in words.iter().skip(1) {
         outcomes.push(Outcome {
             registers: Items::of(Vec::new(alloc)),
             memory: Items::of(Vec::from_slice(alloc, &[number_of(word)?])?),
@@ -50,7 +50,7 @@ fn lines(alloc: Global, condition: &Condition, outcomes: &[Outcome]) -> Result<S
 
 /// What outcomes show of the condition that location 0 ends as 1.
 pub fn condition(alloc: Global, words: &[&[u8]]) -> Result<String, Refusal> {
-    let condition = condition_of(alloc, word_at(words, 1)?)?;
+    let condition = condition_of(alloc, word_at(words, 0)?)?;
     let outcomes = outcomes_of(alloc, words)?;
     Ok(lines(alloc, &condition, outcomes.as_slice())?)
 }

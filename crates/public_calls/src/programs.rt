@@ -41,7 +41,7 @@ fn threads_of(alloc: Global, name: &[u8]) -> Result<Vec<Thread>, Refusal> {
 
 /// A program that no litmus text spells.
 pub fn program(alloc: Global, words: &[&[u8]]) -> Result<String, Refusal> {
-    let threads = threads_of(alloc, word_at(words, 1)?)?;
+    let threads = threads_of(alloc, word_at(words, 0)?)?;
     let program = Program::new(alloc, threads, Vec::from_slice(alloc, &[0, 0])?)?;
     Ok(format!(in alloc; "threads {:?}\n", program.threads())?)
 }
@@ -65,9 +65,10 @@ fn push_gap_lines(
 
 /// The gaps of a program, the number of a gap and the place of a gap, as a copy of the program has them.
 pub fn gaps(alloc: Global, words: &[&[u8]], text: &[u8]) -> Result<String, Refusal> {
-    let thread = byte_of(word_at(words, 1)?)?;
-    let instruction = byte_of(word_at(words, 2)?)?;
-    let gap = byte_of(word_at(words, 3)?)?;
+    let [thread, instruction, gap] = words else {
+        return Err(Refusal::Call);
+    };
+    let (thread, instruction, gap) = (byte_of(thread)?, byte_of(instruction)?, byte_of(gap)?);
     let program = program_of(alloc, text)?.copy()?;
     let mut printed = String::new(alloc);
     push_gap_lines(&program, thread, instruction, gap, &mut printed)?;
@@ -85,7 +86,7 @@ fn listing(alloc: Global, threads: &[Thread], memory: &[u32]) -> Result<String, 
 
 /// A program with fences in some gaps, as a copy has it.
 pub fn fenced(alloc: Global, words: &[&[u8]], text: &[u8]) -> Result<String, Refusal> {
-    let gaps = gap_set_of(alloc, word_at(words, 1)?)?;
+    let gaps = gap_set_of(alloc, word_at(words, 0)?)?;
     let program = program_of(alloc, text)?;
     let fenced = fenced_copy(alloc, &program, &gaps)?;
     Ok(listing(alloc, fenced.threads(), fenced.memory())?)
@@ -93,9 +94,9 @@ pub fn fenced(alloc: Global, words: &[&[u8]], text: &[u8]) -> Result<String, Ref
 
 /// What a thread does next at a place, where its registers hold 0.
 pub fn action(alloc: Global, words: &[&[u8]], text: &[u8]) -> Result<String, Refusal> {
-    let thread = byte_of(word_at(words, 1)?)?;
+    let thread = byte_of(word_at(words, 0)?)?;
     let local = Local {
-        place: byte_of(word_at(words, 2)?)?,
+        place: byte_of(word_at(words, 1)?)?,
         registers: [0; 6],
         flag: false,
     };

@@ -3,21 +3,26 @@
 use cert_check::CheckFault;
 use cert_forest::CertFault;
 use conditions::FormulaFault;
+use cover_solver::{ForeignFault, SolveFault};
 use exec_axioms::SketchFault;
+use fence_place::PlaceFault;
 use gap_sets::CostFault;
 use litmus_syntax::SyntaxFault;
 use litmus_text::ReadFault;
 use run_maker::MakeFault;
+use search_core::TreeFault;
 use std::alloc::AllocError;
 use thiserror::Error;
 use tso_machine::{ReplayFault, RunFault};
 use tso_program::{FenceFault, ProgramFault};
 
-/// A refusal by the call; or `Call`, where the first line is no call.
+/// A refusal by the call; `Call`, where the first line is no call; or `Gap`, where the program has not each of the gaps.
 #[derive(Debug, Drop, Error)]
 pub enum Refusal {
     #[error("call")]
     Call,
+    #[error("gap")]
+    Gap,
     #[error("memory")]
     Memory(#[from(alloc)] AllocError),
     #[error("costs {0}")]
@@ -44,4 +49,12 @@ pub enum Refusal {
     Certificate(#[from] CertFault),
     #[error("check {0}")]
     Check(#[from] CheckFault),
+    #[error("solve {0}")]
+    Solve(#[from] SolveFault),
+    #[error("foreign {0}")]
+    Foreign(#[from] ForeignFault),
+    #[error("tree {0}")]
+    Tree(#[from] TreeFault),
+    #[error("place {0}")]
+    Place(#[from] PlaceFault),
 }

@@ -1,6 +1,6 @@
 //! Calls of `gap_sets`.
 
-use crate::input::{byte_of, gap_set_of, numbers_of, word_at};
+use crate::input::{byte_of, gap_set_of, numbers_of};
 use crate::refusal::Refusal;
 use gap_sets::{Costs, GapSet};
 use std::alloc::{AllocError, Global};
@@ -55,18 +55,20 @@ fn push_pair(gaps: &GapSet, other: &GapSet, printed: &mut String) -> Result<(), 
 
 /// What a set, another set and a gap have to do with each other.
 pub fn sets(alloc: Global, words: &[&[u8]]) -> Result<String, Refusal> {
-    let gaps = gap_set_of(alloc, word_at(words, 1)?)?;
-    let other = gap_set_of(alloc, word_at(words, 2)?)?;
-    let gap = byte_of(word_at(words, 3)?)?;
+    let [gaps, other, gap] = words else {
+        return Err(Refusal::Call);
+    };
+    let (gaps, other) = (gap_set_of(alloc, gaps)?, gap_set_of(alloc, other)?);
+    let gap = byte_of(gap)?;
     let mut printed = String::new(alloc);
     push_set(alloc, &gaps, gap, &mut printed)?;
     push_pair(&gaps, &other, &mut printed)?;
     Ok(printed)
 }
 
-/// The costs whose numbers the word with this index has.
-pub fn costs_of(alloc: Global, words: &[&[u8]], index: usize) -> Result<Costs, Refusal> {
-    let numbers = numbers_of(alloc, word_at(words, index)?)?;
+/// The costs whose numbers a word has.
+pub fn costs_of(alloc: Global, word: &[u8]) -> Result<Costs, Refusal> {
+    let numbers = numbers_of(alloc, word)?;
     Ok(Costs::new(alloc, &numbers)?)
 }
 
@@ -109,11 +111,12 @@ fn push_totals(
 
 /// What costs say of themselves, of other costs, of two sets and of a gap; of the latter a copy says it.
 pub fn costs(alloc: Global, words: &[&[u8]]) -> Result<String, Refusal> {
-    let first = gap_set_of(alloc, word_at(words, 3)?)?;
-    let second = gap_set_of(alloc, word_at(words, 4)?)?;
-    let gap = byte_of(word_at(words, 5)?)?;
-    let costs = costs_of(alloc, words, 1)?;
-    let other = costs_of(alloc, words, 2)?;
+    let [costs, other, first, second, gap] = words else {
+        return Err(Refusal::Call);
+    };
+    let (first, second) = (gap_set_of(alloc, first)?, gap_set_of(alloc, second)?);
+    let gap = byte_of(gap)?;
+    let (costs, other) = (costs_of(alloc, costs)?, costs_of(alloc, other)?);
     let mut printed = String::new(alloc);
     push_costs(&costs, &other, &mut printed)?;
     push_totals(&costs.copy()?, &first, &second, gap, &mut printed)?;

@@ -263,7 +263,7 @@ fn push_answer(
 /// What a sketch answers at each step, a word from the second argument on.
 fn answers(alloc: Global, mut sketch: Sketch, words: &[&[u8]]) -> Result<String, Refusal> {
     let mut printed = String::new(alloc);
-    for step in words.iter().skip(2) {
+    for step in words.iter().skip(1) {
         let parts = parts_of(alloc, step, b':')?;
         push_answer(alloc, &mut sketch, parts.as_slice(), &mut printed)?;
         printed.push('\n')?;
@@ -273,7 +273,7 @@ fn answers(alloc: Global, mut sketch: Sketch, words: &[&[u8]]) -> Result<String,
 
 /// What a sketch of a program in a mode answers at each step of a script.
 pub fn sketch(alloc: Global, words: &[&[u8]], text: &[u8]) -> Result<String, Refusal> {
-    let mode = mode_of(alloc, word_at(words, 1)?)?;
+    let mode = mode_of(alloc, word_at(words, 0)?)?;
     let sketch = Sketch::new(alloc, &program_of(alloc, text)?, mode)?;
     answers(alloc, sketch, words)
 }

@@ -21,7 +21,7 @@ pub fn body(alloc: Global, text: &[u8]) -> Result<String, Refusal> {
 
 /// What the ending of a test of so many threads has.
 pub fn ending(alloc: Global, words: &[&[u8]], text: &[u8]) -> Result<String, Refusal> {
-    let threads = number_of(word_at(words, 1)?)?;
+    let threads = number_of(word_at(words, 0)?)?;
     let tokens = lex(alloc, text, 1)?;
     let ending = read_ending(alloc, tokens.as_slice(), threads as usize)?;
     Ok(format!(in alloc;

@@ -20,7 +20,7 @@ fn kind(token: &Token) -> char {
 
 /// The kinds of a text's tokens, and the lines of them and of its end; the text begins in the line that is given.
 pub fn tokens(alloc: Global, words: &[&[u8]], text: &[u8]) -> Result<String, Refusal> {
-    let tokens = lex(alloc, text, number_of(word_at(words, 1)?)?)?;
+    let tokens = lex(alloc, text, number_of(word_at(words, 0)?)?)?;
     let mut printed = String::new(alloc);
     for token in tokens.as_slice() {
         printed.push(kind(token))?;
@@ -34,6 +34,6 @@ pub fn tokens(alloc: Global, words: &[&[u8]], text: &[u8]) -> Result<String, Ref
 
 /// The number up to a limit that a text spells without leading zeros.
 pub fn plain_number(alloc: Global, words: &[&[u8]], text: &[u8]) -> Result<String, Refusal> {
-    let limit = number_of(word_at(words, 1)?)?;
+    let limit = number_of(word_at(words, 0)?)?;
     Ok(format!(in alloc; "{:?}\n", plain_number_up_to(limit, text))?)
 }

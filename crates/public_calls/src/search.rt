@@ -2,14 +2,15 @@
 ghost use Rattle.std.specs.Prelude.{◌≡◌, ◌<◌};
 ghost use Rattle.search_core.specs.States.{IsSameSearch};
 
-use crate::input::split_at_byte;
-use crate::lines::{node_line, set_line};
-use crate::placing::costs_of;
+use crate::input::{parts_of, split_at_byte};
+use crate::lines::gaps_after;
+use crate::machines::labels_of;
+use crate::placing::equal_costs;
 use crate::refusal::Refusal;
+use crate::solver::{options, table_of};
 use cover_solver::{ForeignRun, Oracle, SeqTable, Solver, Verdict};
 use search_core::{Reason, SearchTree};
 use std::alloc::{AllocError, Global};
-use tso_machine::read_run;
 
 /// How many seats the search has.
 const SEATS: u8 = 2;
@@ -20,7 +21,10 @@ fn take(alloc: Global, tree: &mut SearchTree, seat: u8) -> Result<Vec<u8>, Refus
     ensures { IsSameSearch tree.old tree.new }
 {
     let node = tree.take(seat)?;
-    Ok(node_line(alloc, &node)?)
+    let mut line = gaps_after(alloc, b"must", &node.must)?;
+    line.extend_from_slice(&gaps_after(alloc, b" never", &node.never)?)?;
+    line.push(b'\n')?;
+    Ok(line)
 }
 
 /// The seat's node is split by the run of these labels.
@@ -35,9 +39,8 @@ fn split(
     requires of_table { tree.old.question ≡ table.now.question }
     ensures { IsSameSearch tree.old tree.new }
 {
-    let labels = with_spaces(alloc, labels)?;
-    let labels = read_run(alloc, &labels)?;
-    let run = ForeignRun::new(alloc, table, &labels)?;
+    let labels = labels_of(alloc, parts_of(alloc, labels, b',')?.as_slice())?;
+    let run = ForeignRun::new(alloc, table, labels.as_slice())?;
     tree.split(seat, &run)?;
     Ok(Vec::from_slice(alloc, b"split\n")?)
 }
@@ -84,10 +87,12 @@ fn give_back(alloc: Global, tree: &mut SearchTree, seat: u8) -> Result<Vec<u8>, 
 
 /// The answer, if the search is done.
 fn answer(alloc: Global, tree: &SearchTree) -> Result<Vec<u8>, AllocError> {
-    match tree.answer() {
-        Some(served) => set_line(alloc, &served.set()),
-        None => Vec::from_slice(alloc, b"not done\n"),
-    }
+    let Some(served) = tree.answer() else {
+        return Vec::from_slice(alloc, b"not done\n");
+    };
+    let mut line = gaps_after(alloc, b"set", &served.set())?;
+    line.push(b'\n')?;
+    Ok(line)
 }
 
 /// The event of this name, by this seat.
@@ -156,22 +161,15 @@ fn word_lines(
     }
 }
 
-/// The bytes with a space in place of each comma.
-fn with_spaces(alloc: Global, bytes: &[u8]) -> Result<Vec<u8>, AllocError> {
-    let mut spaced = Vec::new(alloc);
-    for byte in bytes {
-        spaced.push(if *byte == b',' { b' ' } else { *byte })?;
-    }
-    Ok(spaced)
-}
-
 /// The lines of a script over the search for the best set of gaps, each of which costs 1.
-pub fn searched(alloc: Global, table: &SeqTable, script: &[u8]) -> Result<Vec<u8>, Refusal> {
-    let costs = costs_of(alloc, table)?;
-    let mut tree = SearchTree::new(alloc, table, &costs, SEATS)?;
+pub fn searched(alloc: Global, words: &[&[u8]], text: &[u8]) -> Result<Vec<u8>, Refusal> {
+    let (observed, script) = options(words);
+    let (_, table) = table_of(alloc, observed, text)?;
+    let costs = equal_costs(alloc, &table)?;
+    let mut tree = SearchTree::new(alloc, &table, &costs, SEATS)?;
     let mut lines = Vec::new(alloc);
-    for word in script.split(|byte| *byte == b' ') {
-        lines.extend_from_slice(&word_lines(alloc, table, &mut tree, word)?)?;
+    for word in script {
+        lines.extend_from_slice(&word_lines(alloc, &table, &mut tree, word)?)?;
     }
     Ok(lines)
 }

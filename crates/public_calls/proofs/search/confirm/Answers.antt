@@ -6,7 +6,7 @@ use Rattle.cover_solver.specs.declared.oracle.Verdict.TheVariants as verdict
 use Rattle.cover_solver.specs.Facts.{Serving}
 use Rattle.cover_solver.specs.Verdicts.{IsVerdictOf}
 use Rattle.search_core.specs.declared.node.Node.{Node}
-use Rattle.outcome_lists.proofs.search.confirm.Goals as goal
+use Rattle.public_calls.proofs.search.confirm.Goals as goal
 
 of_set : (q : Question) (gaps : SetOfGaps) (v : Verdict) (b : Serving) → v ≡ verdict.Serves b → IsVerdictOf q gaps v → b.gaps ≡ gaps
 of_set q gaps v b e h = (subst (IsVerdictOf q gaps) e h).1
