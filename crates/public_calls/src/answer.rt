@@ -1,5 +1,6 @@
 //! What is printed for an input.
 
+use crate::calls::{Call, call_of};
 use crate::input::{split_line, words_of};
 use crate::refusal::Refusal;
 use crate::{
@@ -11,22 +12,17 @@ use std::sync::Wait;
 use std::thread::Threads;
 
 /// The answer to a call of tokens, texts and formulas.
-fn text_answer(
-    alloc: Global,
-    name: &[u8],
-    words: &[&[u8]],
-    text: &[u8],
-) -> Result<String, Refusal> {
-    match name {
-        b"tokens" => tokens::tokens(alloc, words, text),
-        b"plain-number" => tokens::plain_number(alloc, words, text),
-        b"body" => syntax::body(alloc, text),
-        b"ending" => syntax::ending(alloc, words, text),
-        b"read" => texts::read(alloc, text),
-        b"read-fenced" => texts::read_with_fences(alloc, text),
-        b"formula" => formulas::formula(alloc, text),
-        b"formulas" => formulas::formulas(alloc, text),
-        b"condition" => observations::condition(alloc, words),
+fn text_answer(alloc: Global, call: Call, words: &[&[u8]], text: &[u8]) -> Result<String, Refusal> {
+    match call {
+        Call::Tokens => tokens::tokens(alloc, words, text),
+        Call::PlainNumber => tokens::plain_number(alloc, words, text),
+        Call::Body => syntax::body(alloc, text),
+        Call::Ending => syntax::ending(alloc, words, text),
+        Call::Read => texts::read(alloc, text),
+        Call::ReadFenced => texts::read_with_fences(alloc, text),
+        Call::Formula => formulas::formula(alloc, text),
+        Call::Formulas => formulas::formulas(alloc, text),
+        Call::Condition => observations::condition(alloc, words),
         _ => Err(Refusal::Call),
     }
 }
@@ -34,24 +30,24 @@ fn text_answer(
 /// The answer to a call of sets, programs, machines, sketches and certificates, or to one of texts.
 fn program_answer(
     alloc: Global,
-    name: &[u8],
+    call: Call,
     words: &[&[u8]],
     text: &[u8],
 ) -> Result<String, Refusal> {
-    match name {
-        b"sets" => sets::sets(alloc, words),
-        b"costs" => sets::costs(alloc, words),
-        b"program" => programs::program(alloc, words),
-        b"gaps" => programs::gaps(alloc, words, text),
-        b"fenced" => programs::fenced(alloc, words, text),
-        b"action" => programs::action(alloc, words, text),
-        b"outcomes" => machines::outcomes(alloc, text),
-        b"replay" => machines::replayed(alloc, words, text),
-        b"run" => machines::run(alloc, text),
-        b"sketch" => sketches::sketch(alloc, words, text),
-        b"certificate" => certificates::certificate(alloc, text),
-        b"check" => certificates::checked(alloc, words, text),
-        _ => text_answer(alloc, name, words, text),
+    match call {
+        Call::Sets => sets::sets(alloc, words),
+        Call::Costs => sets::costs(alloc, words),
+        Call::Program => programs::program(alloc, words),
+        Call::Gaps => programs::gaps(alloc, words, text),
+        Call::Fenced => programs::fenced(alloc, words, text),
+        Call::Action => programs::action(alloc, words, text),
+        Call::Outcomes => machines::outcomes(alloc, text),
+        Call::Replay => machines::replayed(alloc, words, text),
+        Call::Run => machines::run(alloc, text),
+        Call::Sketch => sketches::sketch(alloc, words, text),
+        Call::Certificate => certificates::certificate(alloc, text),
+        Call::Check => certificates::checked(alloc, words, text),
+        _ => text_answer(alloc, call, words, text),
     }
 }
 
@@ -60,18 +56,18 @@ fn named_answer<R: Threads + Sync, W: Wait + Sync>(
     rt: &R,
     wait: &W,
     alloc: Global,
-    name: &[u8],
+    call: Call,
     words: &[&[u8]],
     text: &[u8],
 ) -> Result<Vec<u8>, Refusal> {
-    match name {
-        b"sequential" => solver::outcomes(alloc, words, text),
-        b"ask" => solver::asked(alloc, words, text),
-        b"foreign" => solver::foreign(alloc, words, text),
-        b"search" => search::searched(alloc, words, text),
-        b"place" => placing::placed(rt, wait, alloc, words, text),
-        b"canonical" => fences::canonical(alloc, words, text),
-        _ => Ok(program_answer(alloc, name, words, text)?.into_bytes()),
+    match call {
+        Call::Sequential => solver::outcomes(alloc, words, text),
+        Call::Ask => solver::asked(alloc, words, text),
+        Call::Foreign => solver::foreign(alloc, words, text),
+        Call::Search => search::searched(alloc, words, text),
+        Call::Place => placing::placed(rt, wait, alloc, words, text),
+        Call::Canonical => fences::canonical(alloc, words, text),
+        _ => Ok(program_answer(alloc, call, words, text)?.into_bytes()),
     }
 }
 
@@ -83,10 +79,13 @@ fn answer_to<R: Threads + Sync, W: Wait + Sync>(
 ) -> Result<Vec<u8>, Refusal> {
     let (line, text) = split_line(input);
     let words = words_of(alloc, line)?;
-    match words.as_slice() {
-        [name, words @ ..] => named_answer(rt, wait, alloc, name, words, text),
-        [] => Err(Refusal::Call),
-    }
+    let Some((name, words)) = words.as_slice().split_first() else {
+        return Err(Refusal::Call);
+    };
+    let Some(call) = call_of(name) else {
+        return Err(Refusal::Call);
+    };
+    named_answer(rt, wait, alloc, call, words, text)
 }
 
 /// What is printed for an input.

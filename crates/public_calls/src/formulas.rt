@@ -134,13 +134,7 @@ pub fn formula(alloc: Global, text: &[u8]) -> Result<String, Refusal> {
     let outcome = outcome_in(alloc, b"1,0,0,0,0,0 0,0,0,0,0,7 0,2")?;
     let enclosed = formula.enclosed_tokens(alloc)?;
     let again = is_read_again(alloc, &formula, enclosed.as_slice())?;
-    Ok(lines(
-        alloc,
-        &formula,
-        &outcome,
-        enclosed.as_slice(),
-        again,
-    )?)
+    Ok(lines(alloc, &formula, &outcome, enclosed.as_slice(), again)?)
 }
 
 /// Whether the condition that a formula holds of some outcome is the same as another condition.

@@ -20,7 +20,11 @@ fn push_run(alloc: Global, labels: &[Label], lines: &mut Vec<u8>) -> Result<(), 
 }
 
 /// How many outcomes there are, and each of them.
-fn outcome_lines(alloc: Global, names: &NameTable, table: &SeqTable) -> Result<Vec<u8>, AllocError> {
+fn outcome_lines(
+    alloc: Global,
+    names: &NameTable,
+    table: &SeqTable,
+) -> Result<Vec<u8>, AllocError> {
     let count = table.outcomes().len();
     let mut lines = format!(in alloc; "outcomes {count}\n")?.into_bytes();
     for outcome in table.outcomes() {

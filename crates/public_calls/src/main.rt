@@ -1,10 +1,13 @@
-//! A program of the tests: it makes one public call of the libraries, or a script of calls of one sketch, and prints what they answer.
+//! A program of the tests: it makes one public call of the libraries, or a script of calls of one sketch or of one search, and prints
+//! what they answer.
 //!
-//! The first line of its input names the call and gives its arguments, and the rest is the text that the call takes.
-//! `tests/calls.tsv` has one input in each line.
+//! The first line of its input names the call and gives its arguments, and the rest is the text that the call takes. After the names
+//! `sequential`, `ask`, `foreign`, `search` and `place` the word `--observed` may stand, for what the litmus text names; of their
+//! answers, what a search may choose comes last. `tests/calls.tsv` and `tests/solver.tsv` have one input in each line.
 #![tactic(auto)]
 
 mod answer;
+mod calls;
 mod certificates;
 mod fences;
 mod formulas;

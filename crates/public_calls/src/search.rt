@@ -108,13 +108,18 @@ fn event(
     requires of_table { tree.old.question ≡ table.now.question }
     ensures { IsSameSearch tree.old tree.new }
 {
-    match name {
-        b"take" => take(alloc, tree, seat),
-        b"split" => split(alloc, table, tree, seat, labels),
-        b"cut" => cut(alloc, tree, seat),
-        b"confirm" => confirm(alloc, table, tree, seat),
-        b"give" => give_back(alloc, tree, seat),
-        _ => Err(Refusal::Call),
+    if name == b"take".as_slice() {
+        take(alloc, tree, seat)
+    } else if name == b"split".as_slice() {
+        split(alloc, table, tree, seat, labels)
+    } else if name == b"cut".as_slice() {
+        cut(alloc, tree, seat)
+    } else if name == b"confirm".as_slice() {
+        confirm(alloc, table, tree, seat)
+    } else if name == b"give".as_slice() {
+        give_back(alloc, tree, seat)
+    } else {
+        Err(Refusal::Call)
     }
 }
 

@@ -118,14 +118,20 @@ fn push_of_all(
     name: &[u8],
     printed: &mut String,
 ) -> Result<(), Refusal> {
-    match name {
-        b"memory" => Ok(write!(printed, "{:?}", sketch.program().memory())?),
-        b"mode" => Ok(write!(printed, "{:?}", sketch.mode())?),
-        b"whole" => Ok(write!(printed, "{}", sketch.is_whole())?),
-        b"copy" => Ok(replace(sketch)?),
-        b"find-cycle" => Ok(push_cycle(sketch, printed)?),
-        b"run" => push_run(alloc, sketch, printed),
-        _ => Err(Refusal::Call),
+    if name == b"memory".as_slice() {
+        Ok(write!(printed, "{:?}", sketch.program().memory())?)
+    } else if name == b"mode".as_slice() {
+        Ok(write!(printed, "{:?}", sketch.mode())?)
+    } else if name == b"whole".as_slice() {
+        Ok(write!(printed, "{}", sketch.is_whole())?)
+    } else if name == b"copy".as_slice() {
+        Ok(replace(sketch)?)
+    } else if name == b"find-cycle".as_slice() {
+        Ok(push_cycle(sketch, printed)?)
+    } else if name == b"run".as_slice() {
+        push_run(alloc, sketch, printed)
+    } else {
+        Err(Refusal::Call)
     }
 }
 
@@ -136,12 +142,16 @@ fn push_of_number(
     number: u8,
     printed: &mut String,
 ) -> Result<(), Refusal> {
-    match name {
-        b"next" => Ok(write!(printed, "{:?}", sketch.next_read(number))?),
-        b"values" => Ok(push_values(sketch, number, printed)?),
-        b"given" => Ok(write!(printed, "{:?}", sketch.given(number))?),
-        b"accesses" => Ok(write!(printed, "{}", sketch.accesses(number))?),
-        _ => Err(Refusal::Call),
+    if name == b"next".as_slice() {
+        Ok(write!(printed, "{:?}", sketch.next_read(number))?)
+    } else if name == b"values".as_slice() {
+        Ok(push_values(sketch, number, printed)?)
+    } else if name == b"given".as_slice() {
+        Ok(write!(printed, "{:?}", sketch.given(number))?)
+    } else if name == b"accesses".as_slice() {
+        Ok(write!(printed, "{}", sketch.accesses(number))?)
+    } else {
+        Err(Refusal::Call)
     }
 }
 
@@ -156,10 +166,12 @@ fn push_of_one(
     word: &[u8],
     printed: &mut String,
 ) -> Result<(), Refusal> {
-    match name {
-        b"sources" => Ok(push_sources(sketch, event_of(word)?, printed)?),
-        b"source" => Ok(write!(printed, "{:?}", sketch.source(event_of(word)?))?),
-        _ => push_of_number(sketch, name, byte_of(word)?, printed),
+    if name == b"sources".as_slice() {
+        Ok(push_sources(sketch, event_of(word)?, printed)?)
+    } else if name == b"source".as_slice() {
+        Ok(write!(printed, "{:?}", sketch.source(event_of(word)?))?)
+    } else {
+        push_of_number(sketch, name, byte_of(word)?, printed)
     }
 }
 
@@ -171,11 +183,14 @@ fn push_of_events(
     second: Event,
     printed: &mut String,
 ) -> Result<(), Refusal> {
-    match name {
-        b"choose" => Ok(write!(printed, "{:?}", sketch.choose_source(first, second))?),
-        b"order" => Ok(write!(printed, "{:?}", sketch.choose_order(first, second))?),
-        b"before" => Ok(write!(printed, "{}", sketch.before(first, second))?),
-        _ => Err(Refusal::Call),
+    if name == b"choose".as_slice() {
+        Ok(write!(printed, "{:?}", sketch.choose_source(first, second))?)
+    } else if name == b"order".as_slice() {
+        Ok(write!(printed, "{:?}", sketch.choose_order(first, second))?)
+    } else if name == b"before".as_slice() {
+        Ok(write!(printed, "{}", sketch.before(first, second))?)
+    } else {
+        Err(Refusal::Call)
     }
 }
 
@@ -248,15 +263,17 @@ fn push_answer(
     let Some((name, words)) = parts.split_first() else {
         return Err(Refusal::Call);
     };
-    match *name {
-        b"is-edge" | b"is-cycle" => push_of_kind(alloc, sketch, name, words, printed),
-        b"must-end" => push_must_end(alloc, sketch, words, printed),
-        _ => match words {
-            [] => push_of_all(alloc, sketch, name, printed),
-            [word] => push_of_one(sketch, name, word, printed),
-            [first, second] => push_of_two(sketch, name, first, second, printed),
-            _ => Err(Refusal::Call),
-        },
+    if *name == b"is-edge".as_slice() || *name == b"is-cycle".as_slice() {
+        return push_of_kind(alloc, sketch, name, words, printed);
+    }
+    if *name == b"must-end".as_slice() {
+        return push_must_end(alloc, sketch, words, printed);
+    }
+    match words {
+        [] => push_of_all(alloc, sketch, name, printed),
+        [word] => push_of_one(sketch, name, word, printed),
+        [first, second] => push_of_two(sketch, name, first, second, printed),
+        _ => Err(Refusal::Call),
     }
 }
 

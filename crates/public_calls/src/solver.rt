@@ -14,8 +14,8 @@ use tso_program::{Program, Shown};
 
 /// Whether the call asks for what the litmus text names alone, which the word `--observed` says, and the words after it.
 pub fn options<'w, 'i>(words: &'w [&'i [u8]]) -> (bool, &'w [&'i [u8]]) {
-    match words {
-        [option, rest @ ..] if *option == b"--observed".as_slice() => (true, rest),
+    match words.split_first() {
+        Some((option, rest)) if *option == b"--observed".as_slice() => (true, rest),
         _ => (false, words),
     }
 }
@@ -27,11 +27,7 @@ pub fn table_of(
     text: &[u8],
 ) -> Result<(Litmus<Program>, SeqTable), Refusal> {
     let litmus = read_litmus(alloc, text)?;
-    let shown = if observed {
-        litmus.shown()
-    } else {
-        Shown::All
-    };
+    let shown = if observed { litmus.shown() } else { Shown::All };
     let table = sequential(alloc, &litmus.program, &shown)?;
     Ok((litmus, table))
 }
