@@ -83,8 +83,8 @@ def steps(test, fenced, buffered, state):
                 yield put(threads, t, after[0]), after[1]
 
 
-def outcome_lines(test, model, gaps):
-    """A line for each outcome, ascending; in the model `buffered` the gaps with these numbers are fenced."""
+def outcomes(test, model, gaps):
+    """The outcomes, ascending; in the model `buffered` the gaps with these numbers are fenced."""
     fenced = {place for gap, place in enumerate(test.gaps()) if gap in gaps}
     first = tuple((0, False, registers, ()) for registers in test.registers), test.memory
     seen, to_walk, found = {first}, [first], set()
@@ -95,4 +95,4 @@ def outcome_lines(test, model, gaps):
         to_walk += after
         if all(place == len(code) and not waiting for (place, _, _, waiting), code in zip(state[0], test.code)):
             found.add((tuple(registers for _, _, registers, _ in state[0]), state[1]))
-    return "".join(test.line(outcome) for outcome in sorted(found)).encode()
+    return sorted(found)

@@ -1,91 +1,113 @@
 //! What is printed for an input.
 
-use crate::calls::{Call, call_of};
-use crate::input::{split_line, words_of};
+use crate::calls::{CALLS, Call, TestCall};
+use crate::input::{named, split_line, words_of};
 use crate::refusal::Refusal;
 use crate::{
-    certificates, fences, formulas, machines, observations, placing, programs, search, sets,
-    sketches, solver, syntax, texts, tokens,
+    certificates, fences, formulas, machines, observations, programs, sets, sketches, solver,
+    syntax, texts, tokens,
 };
+use litmus_text::{Litmus, read_litmus};
 use std::alloc::{AllocError, Global};
 use std::sync::Wait;
 use std::thread::Threads;
+use tso_program::Program;
 
-/// The answer to a call of tokens, texts and formulas.
-fn text_answer(alloc: Global, call: Call, words: &[&[u8]], text: &[u8]) -> Result<String, Refusal> {
+/// The answer to a call with the test of a litmus text.
+fn push_of_test<R: Threads + Sync, W: Wait + Sync>(
+    rt: &R,
+    wait: &W,
+    alloc: Global,
+    call: TestCall,
+    words: &[&[u8]],
+    litmus: &Litmus<Program>,
+    printed: &mut String,
+) -> Result<(), Refusal> {
+    let program = &litmus.program;
     match call {
-        Call::Tokens => tokens::tokens(alloc, words, text),
-        Call::PlainNumber => tokens::plain_number(alloc, words, text),
-        Call::Body => syntax::body(alloc, text),
-        Call::Ending => syntax::ending(alloc, words, text),
-        Call::Read => texts::read(alloc, text),
-        Call::ReadFenced => texts::read_with_fences(alloc, text),
-        Call::Formula => formulas::formula(alloc, text),
-        Call::Formulas => formulas::formulas(alloc, text),
-        Call::Condition => observations::condition(alloc, words),
-        _ => Err(Refusal::Call),
+        TestCall::Read => Ok(texts::push_read(alloc, litmus, printed)?),
+        TestCall::Canonical => fences::push_canonical(alloc, words, litmus, printed),
+        TestCall::Gaps => programs::push_gaps_of(alloc, words, program, printed),
+        TestCall::Fenced => programs::push_fenced(alloc, words, program, printed),
+        TestCall::Action => programs::push_action(words, program, printed),
+        TestCall::Replay => machines::push_replayed(alloc, words, program, printed),
+        TestCall::Sketch => sketches::push_sketch(alloc, words, program, printed),
+        TestCall::Solver(call) => {
+            solver::push_answer(rt, wait, alloc, call, words, litmus, printed)
+        }
     }
 }
 
-/// The answer to a call of sets, programs, machines, sketches and certificates, or to one of texts.
-fn program_answer(
+/// The answer to a call with a litmus text.
+fn push_of_litmus<R: Threads + Sync, W: Wait + Sync>(
+    rt: &R,
+    wait: &W,
     alloc: Global,
-    call: Call,
+    call: TestCall,
     words: &[&[u8]],
     text: &[u8],
-) -> Result<String, Refusal> {
-    match call {
-        Call::Sets => sets::sets(alloc, words),
-        Call::Costs => sets::costs(alloc, words),
-        Call::Program => programs::program(alloc, words),
-        Call::Gaps => programs::gaps(alloc, words, text),
-        Call::Fenced => programs::fenced(alloc, words, text),
-        Call::Action => programs::action(alloc, words, text),
-        Call::Outcomes => machines::outcomes(alloc, text),
-        Call::Replay => machines::replayed(alloc, words, text),
-        Call::Run => machines::run(alloc, text),
-        Call::Sketch => sketches::sketch(alloc, words, text),
-        Call::Certificate => certificates::certificate(alloc, text),
-        Call::Check => certificates::checked(alloc, words, text),
-        _ => text_answer(alloc, call, words, text),
-    }
+    printed: &mut String,
+) -> Result<(), Refusal> {
+    let litmus = read_litmus(alloc, text)?;
+    push_of_test(rt, wait, alloc, call, words, &litmus, printed)
 }
 
-/// The answer to a call of the solver, the search and the placer, or of canonical texts, or to one of the others.
-fn named_answer<R: Threads + Sync, W: Wait + Sync>(
+/// The answer to a call.
+fn push_of_call<R: Threads + Sync, W: Wait + Sync>(
     rt: &R,
     wait: &W,
     alloc: Global,
     call: Call,
     words: &[&[u8]],
     text: &[u8],
-) -> Result<Vec<u8>, Refusal> {
+    printed: &mut String,
+) -> Result<(), Refusal> {
     match call {
-        Call::Sequential => solver::outcomes(alloc, words, text),
-        Call::Ask => solver::asked(alloc, words, text),
-        Call::Foreign => solver::foreign(alloc, words, text),
-        Call::Search => search::searched(alloc, words, text),
-        Call::Place => placing::placed(rt, wait, alloc, words, text),
-        Call::Canonical => fences::canonical(alloc, words, text),
-        _ => Ok(program_answer(alloc, call, words, text)?.into_bytes()),
+        Call::Tokens => tokens::push_tokens(alloc, words, text, printed),
+        Call::PlainNumber => tokens::push_plain_number(words, text, printed),
+        Call::Body => syntax::push_body(alloc, text, printed),
+        Call::Ending => syntax::push_ending(alloc, words, text, printed),
+        Call::ReadFenced => texts::push_read_fenced(alloc, text, printed),
+        Call::Formula => formulas::push_formula(alloc, text, printed),
+        Call::Formulas => formulas::push_formulas(alloc, text, printed),
+        Call::Condition => observations::push_observed(alloc, words, printed),
+        Call::Sets => sets::push_sets(alloc, words, printed),
+        Call::Costs => sets::push_costs_of(alloc, words, printed),
+        Call::Program => programs::push_program(alloc, words, printed),
+        Call::Outcomes => machines::push_compared(alloc, text, printed),
+        Call::Run => machines::push_run(alloc, text, printed),
+        Call::Certificate => certificates::push_certificate(alloc, text, printed),
+        Call::Check => certificates::push_checked(alloc, words, text, printed),
+        Call::Test(call) => push_of_litmus(rt, wait, alloc, call, words, text, printed),
     }
 }
 
-fn answer_to<R: Threads + Sync, W: Wait + Sync>(
+/// The answer to the call of the first of these words.
+fn push_of_words<R: Threads + Sync, W: Wait + Sync>(
+    rt: &R,
+    wait: &W,
+    alloc: Global,
+    words: &[&[u8]],
+    text: &[u8],
+    printed: &mut String,
+) -> Result<(), Refusal> {
+    let Some((name, words)) = words.split_first() else {
+        return Err(Refusal::Call);
+    };
+    let call = named(&CALLS, name)?;
+    push_of_call(rt, wait, alloc, call, words, text, printed)
+}
+
+fn push_answer<R: Threads + Sync, W: Wait + Sync>(
     rt: &R,
     wait: &W,
     alloc: Global,
     input: &[u8],
-) -> Result<Vec<u8>, Refusal> {
+    printed: &mut String,
+) -> Result<(), Refusal> {
     let (line, text) = split_line(input);
     let words = words_of(alloc, line)?;
-    let Some((name, words)) = words.as_slice().split_first() else {
-        return Err(Refusal::Call);
-    };
-    let Some(call) = call_of(name) else {
-        return Err(Refusal::Call);
-    };
-    named_answer(rt, wait, alloc, call, words, text)
+    push_of_words(rt, wait, alloc, words.as_slice(), text, printed)
 }
 
 /// What is printed for an input.
@@ -94,9 +116,10 @@ pub fn answer<R: Threads + Sync, W: Wait + Sync>(
     wait: &W,
     alloc: Global,
     input: &[u8],
-) -> Result<Vec<u8>, AllocError> {
-    match answer_to(rt, wait, alloc, input) {
-        Ok(printed) => Ok(printed),
-        Err(refusal) => Ok(format!(in alloc; "refused {refusal}\n")?.into_bytes()),
+) -> Result<String, AllocError> {
+    let mut printed = String::new(alloc);
+    match push_answer(rt, wait, alloc, input, &mut printed) {
+        Ok(()) => Ok(printed),
+        Err(refusal) => format!(in alloc; "refused {refusal}\n"),
     }
 }

@@ -7,24 +7,36 @@ pub enum Call {
     PlainNumber,
     Body,
     Ending,
-    Read,
     ReadFenced,
-    Canonical,
     Formula,
     Formulas,
     Condition,
     Sets,
     Costs,
     Program,
+    Outcomes,
+    Run,
+    Certificate,
+    Check,
+    Test(TestCall),
+}
+
+/// A call with a litmus text.
+#[derive(Clone, Copy)]
+pub enum TestCall {
+    Read,
+    Canonical,
     Gaps,
     Fenced,
     Action,
-    Outcomes,
     Replay,
-    Run,
     Sketch,
-    Certificate,
-    Check,
+    Solver(SolverCall),
+}
+
+/// A call with the sequential outcomes of a litmus text.
+#[derive(Clone, Copy)]
+pub enum SolverCall {
     Sequential,
     Ask,
     Foreign,
@@ -32,42 +44,38 @@ pub enum Call {
     Place,
 }
 
-const NAMES: [(&[u8], Call); 27] = [
+pub const CALLS: [(&[u8], Call); 27] = [
     (b"tokens", Call::Tokens),
     (b"plain-number", Call::PlainNumber),
     (b"body", Call::Body),
     (b"ending", Call::Ending),
-    (b"read", Call::Read),
+    (b"read", Call::Test(TestCall::Read)),
     (b"read-fenced", Call::ReadFenced),
-    (b"canonical", Call::Canonical),
+    (b"canonical", Call::Test(TestCall::Canonical)),
     (b"formula", Call::Formula),
     (b"formulas", Call::Formulas),
     (b"condition", Call::Condition),
     (b"sets", Call::Sets),
     (b"costs", Call::Costs),
     (b"program", Call::Program),
-    (b"gaps", Call::Gaps),
-    (b"fenced", Call::Fenced),
-    (b"action", Call::Action),
+    (b"gaps", Call::Test(TestCall::Gaps)),
+    (b"fenced", Call::Test(TestCall::Fenced)),
+    (b"action", Call::Test(TestCall::Action)),
     (b"outcomes", Call::Outcomes),
-    (b"replay", Call::Replay),
+    (b"replay", Call::Test(TestCall::Replay)),
     (b"run", Call::Run),
-    (b"sketch", Call::Sketch),
+    (b"sketch", Call::Test(TestCall::Sketch)),
     (b"certificate", Call::Certificate),
     (b"check", Call::Check),
-    (b"sequential", Call::Sequential),
-    (b"ask", Call::Ask),
-    (b"foreign", Call::Foreign),
-    (b"search", Call::Search),
-    (b"place", Call::Place),
+    (
+        b"sequential",
+        Call::Test(TestCall::Solver(SolverCall::Sequential)),
+    ),
+    (b"ask", Call::Test(TestCall::Solver(SolverCall::Ask))),
+    (
+        b"foreign",
+        Call::Test(TestCall::Solver(SolverCall::Foreign)),
+    ),
+    (b"search", Call::Test(TestCall::Solver(SolverCall::Search))),
+    (b"place", Call::Test(TestCall::Solver(SolverCall::Place))),
 ];
-
-/// The call of a name.
-pub fn call_of(name: &[u8]) -> Option<Call> {
-    for (word, call) in &NAMES {
-        if *word == name {
-            return Some(*call);
-        }
-    }
-    None
-}

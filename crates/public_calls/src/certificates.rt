@@ -1,13 +1,14 @@
 //! Calls of `cert_forest` and `cert_check`.
 
-use crate::input::{push_bytes, word_at};
-use crate::programs::program_of;
+use crate::input::push_bytes;
 use crate::refusal::Refusal;
-use crate::sets::{costs_of, push_gaps};
-use cert_check::{Accepted, check};
+use crate::sets::{costs_at, push_gaps};
+use cert_check::{Accepted, CheckFault, check};
 use cert_forest::{Certificate, read_cert, write_cert};
+use gap_sets::Costs;
+use litmus_text::read_litmus;
 use std::alloc::{AllocError, Global};
-use tso_program::Shown;
+use tso_program::{Program, Shown};
 
 fn copy_trees(alloc: Global, certificate: &mut Certificate) -> Result<(), AllocError> {
     certificate.seq_tree = certificate.seq_tree.copy(alloc)?;
@@ -16,17 +17,19 @@ fn copy_trees(alloc: Global, certificate: &mut Certificate) -> Result<(), AllocE
     Ok(())
 }
 
-fn written(alloc: Global, certificate: &Certificate) -> Result<String, AllocError> {
-    let mut printed = String::new(alloc);
-    push_bytes(&mut printed, &write_cert(alloc, certificate)?)?;
-    Ok(printed)
+fn push_written(
+    alloc: Global,
+    certificate: &mut Certificate,
+    printed: &mut String,
+) -> Result<(), AllocError> {
+    copy_trees(alloc, certificate)?;
+    push_bytes(printed, &write_cert(alloc, certificate)?)
 }
 
 /// The text of a certificate whose trees are copies.
-pub fn certificate(alloc: Global, text: &[u8]) -> Result<String, Refusal> {
+pub fn push_certificate(alloc: Global, text: &[u8], printed: &mut String) -> Result<(), Refusal> {
     let mut certificate = read_cert(alloc, text)?;
-    copy_trees(alloc, &mut certificate)?;
-    Ok(written(alloc, &certificate)?)
+    Ok(push_written(alloc, &mut certificate, printed)?)
 }
 
 /// The litmus text and the certificate of a text; the first word `FENCECERT` begins the latter.
@@ -36,18 +39,47 @@ fn split_texts(text: &[u8]) -> (&[u8], &[u8]) {
     text.split_at(start.unwrap_or(0))
 }
 
-fn acceptance(alloc: Global, accepted: &Accepted) -> Result<String, AllocError> {
-    let mut printed = format!(in alloc; "accepted cost {} set ", accepted.cost)?;
-    push_gaps(alloc, &accepted.set, &mut printed)?;
-    Ok(printed)
+fn push_acceptance(
+    alloc: Global,
+    accepted: &Accepted,
+    printed: &mut String,
+) -> Result<(), AllocError> {
+    write!(printed, "accepted cost {} set ", accepted.cost)?;
+    push_gaps(alloc, &accepted.set, printed)
+}
+
+fn push_judgment(
+    alloc: Global,
+    judged: Result<Accepted, CheckFault>,
+    printed: &mut String,
+) -> Result<(), AllocError> {
+    match judged {
+        Ok(accepted) => push_acceptance(alloc, &accepted, printed),
+        Err(fault) => write!(printed, "refused check {fault}\n"),
+    }
+}
+
+fn push_judged(
+    alloc: Global,
+    program: &Program,
+    costs: &Costs,
+    text: &[u8],
+    printed: &mut String,
+) -> Result<(), Refusal> {
+    let certificate = read_cert(alloc, text)?;
+    let judged = check(alloc, program, &Shown::All, costs, &certificate);
+    Ok(push_judgment(alloc, judged, printed)?)
 }
 
 /// What the checker says of a certificate, for a test of which everything is shown, and the costs that are given.
-pub fn checked(alloc: Global, words: &[&[u8]], text: &[u8]) -> Result<String, Refusal> {
+pub fn push_checked(
+    alloc: Global,
+    words: &[&[u8]],
+    text: &[u8],
+    printed: &mut String,
+) -> Result<(), Refusal> {
     let (litmus, certificate) = split_texts(text);
-    let costs = costs_of(alloc, word_at(words, 0)?)?;
-    let program = program_of(alloc, litmus)?;
-    let certificate = read_cert(alloc, certificate)?;
-    let accepted = check(alloc, &program, &Shown::All, &costs, &certificate)?;
-    Ok(acceptance(alloc, &accepted)?)
+    let costs = costs_at(alloc, words, 0)?;
+    let litmus = read_litmus(alloc, litmus)?;
+    push_judged(alloc, &litmus.program, &costs, certificate, printed)
 }

@@ -1,10 +1,10 @@
 //! Calls of `canonical_text`.
 
-use crate::input::{byte_of, split_at_byte};
+use crate::input::{byte_of, push_bytes, split_at_byte};
 use crate::refusal::Refusal;
 use canonical_text::write_litmus;
 use gap_sets::GapSet;
-use litmus_text::read_litmus;
+use litmus_text::Litmus;
 use std::alloc::Global;
 use text_tokens::plain_number_up_to;
 use tso_program::Program;
@@ -22,17 +22,22 @@ fn gap_of(program: &Program, word: &[u8]) -> Option<u8> {
 pub fn gaps_of(program: &Program, words: &[&[u8]]) -> GapSet {
     let mut gaps = GapSet::empty();
     for word in words {
-        match gap_of(program, word) {
-            Some(gap) if gap < 64 => gaps = gaps.with(gap),
-            _ => {}
+        let gap = gap_of(program, word).unwrap_or(64);
+        if gap < 64 {
+            gaps = gaps.with(gap);
         }
     }
     gaps
 }
 
 /// The canonical text of a test with fences in the gaps that are given.
-pub fn canonical(alloc: Global, words: &[&[u8]], text: &[u8]) -> Result<Vec<u8>, Refusal> {
-    let source = read_litmus(alloc, text)?;
-    let gaps = gaps_of(&source.program, words);
-    Ok(write_litmus(alloc, &source, &gaps)?)
+pub fn push_canonical(
+    alloc: Global,
+    words: &[&[u8]],
+    litmus: &Litmus<Program>,
+    printed: &mut String,
+) -> Result<(), Refusal> {
+    let gaps = gaps_of(&litmus.program, words);
+    let text = write_litmus(alloc, litmus, &gaps)?;
+    Ok(push_bytes(printed, &text)?)
 }

@@ -1,74 +1,82 @@
 //! Calls of `conditions`.
 
-use crate::input::split_line;
+use crate::input::{named, push_bytes, split_line};
 use crate::machines::outcome_in;
 use crate::refusal::Refusal;
 use conditions::{Atom, Condition, Formula, Quantifier, Token, holds};
 use std::alloc::{AllocError, Global};
 use tso_program::{Outcome, Reg};
 
-/// That a register of a thread ends with a value.
-fn register(thread: u32, register: Reg, value: u32) -> Atom {
-    Atom::Register {
-        thread,
-        register,
-        value,
-    }
-}
-
-/// That a location ends with a value.
-fn location(location: u32, value: u32) -> Atom {
-    Atom::Location { location, value }
-}
-
-/// The token that a letter or a sign stands for.
-fn token_of(letter: u8) -> Result<Token, Refusal> {
-    Ok(match letter {
-        b'a' => Token::Atom(register(0, Reg::Eax, 1)),
-        b'b' => Token::Atom(register(1, Reg::Edi, 7)),
-        b'c' => Token::Atom(location(1, 2)),
-        b'd' => Token::Atom(register(2, Reg::Eax, 0)),
-        b'e' => Token::Atom(location(2, 0)),
-        b't' => Token::Const(true),
-        b'f' => Token::Const(false),
-        b'!' => Token::Not,
-        b'&' => Token::And,
-        b'|' => Token::Or,
-        b'(' => Token::Open,
-        b')' => Token::Close,
-        _ => return Err(Refusal::Call),
-    })
-}
+/// The letters and signs that stand for tokens.
+const TOKENS: [(&[u8], Token); 12] = [
+    (
+        b"a",
+        Token::Atom(Atom::Register {
+            thread: 0,
+            register: Reg::Eax,
+            value: 1,
+        }),
+    ),
+    (
+        b"b",
+        Token::Atom(Atom::Register {
+            thread: 1,
+            register: Reg::Edi,
+            value: 7,
+        }),
+    ),
+    (
+        b"c",
+        Token::Atom(Atom::Location {
+            location: 1,
+            value: 2,
+        }),
+    ),
+    (
+        b"d",
+        Token::Atom(Atom::Register {
+            thread: 2,
+            register: Reg::Eax,
+            value: 0,
+        }),
+    ),
+    (
+        b"e",
+        Token::Atom(Atom::Location {
+            location: 2,
+            value: 0,
+        }),
+    ),
+    (b"t", Token::Const(true)),
+    (b"f", Token::Const(false)),
+    (b"!", Token::Not),
+    (b"&", Token::And),
+    (b"|", Token::Or),
+    (b"(", Token::Open),
+    (b")", Token::Close),
+];
 
 /// The letter or the sign of a token.
-fn letter_of(token: &Token) -> char {
-    match token {
-        Token::Atom(Atom::Register { thread: 0, .. }) => 'a',
-        Token::Atom(Atom::Register { thread: 1, .. }) => 'b',
-        Token::Atom(Atom::Register { .. }) => 'd',
-        Token::Atom(Atom::Location { location: 1, .. }) => 'c',
-        Token::Atom(Atom::Location { .. }) => 'e',
-        Token::Const(true) => 't',
-        Token::Const(false) => 'f',
-        Token::Not => '!',
-        Token::And => '&',
-        Token::Or => '|',
-        Token::Open => '(',
-        Token::Close => ')',
+fn letter_of(token: Token) -> &'static [u8] {
+    for (letter, it) in &TOKENS {
+        if *it == token {
+            return letter;
+        }
     }
+    b"?"
 }
 
 fn formula_of(alloc: Global, letters: &[u8]) -> Result<Formula, Refusal> {
     let mut tokens = Vec::new(alloc);
-    for letter in letters {
-        tokens.push(token_of(*letter)?)?;
+    for letter in letters.chunks(1) {
+        tokens.push(named(&TOKENS, letter)?)?;
     }
     Ok(Formula::read(alloc, tokens.as_slice())?)
 }
 
 fn push_line(tokens: &[Token], printed: &mut String) -> Result<(), AllocError> {
     for token in tokens {
-        printed.push(letter_of(token))?;
+        push_bytes(printed, letter_of(*token))?;
     }
     printed.push('\n')
 }
@@ -85,10 +93,19 @@ fn condition(
     condition.copy(alloc)
 }
 
-/// Whether a formula's tokens as a condition's spell it.
-fn is_read_again(alloc: Global, formula: &Formula, enclosed: &[Token]) -> Result<bool, Refusal> {
-    let again = Formula::read(alloc, enclosed)?;
-    Ok(formula.same(&again))
+fn push_holds(
+    formula: &Formula,
+    condition: &Condition,
+    outcome: &Outcome,
+    printed: &mut String,
+) -> Result<(), AllocError> {
+    write!(
+        printed,
+        "holds {} {:?} {}",
+        formula.holds(outcome),
+        condition.quantifier,
+        holds(condition, outcome)
+    )
 }
 
 /// Whether a formula holds at an outcome, alone and as a condition's.
@@ -99,42 +116,49 @@ fn push_held(
     printed: &mut String,
 ) -> Result<(), AllocError> {
     let condition = condition(alloc, Quantifier::Forall, formula)?;
-    write!(
-        printed,
-        "holds {} {:?} {}",
-        formula.holds(outcome),
-        condition.quantifier,
-        holds(&condition, outcome)
-    )
+    push_holds(formula, &condition, outcome, printed)
+}
+
+/// Whether a formula holds where thread 0 ends with EAX 1, thread 1 with EDI 7, and the two locations with 0 and 2.
+fn push_truth(alloc: Global, formula: &Formula, printed: &mut String) -> Result<(), Refusal> {
+    let outcome = outcome_in(alloc, b"1,0,0,0,0,0 0,0,0,0,0,7 0,2")?;
+    Ok(push_held(alloc, formula, &outcome, printed)?)
+}
+
+/// Whether a formula's tokens as a condition's spell it.
+fn is_read_again(alloc: Global, formula: &Formula, enclosed: &[Token]) -> Result<bool, Refusal> {
+    let again = Formula::read(alloc, enclosed)?;
+    Ok(formula.same(&again))
 }
 
 fn push_tokens(alloc: Global, formula: &Formula, printed: &mut String) -> Result<(), AllocError> {
     push_line(formula.tokens(alloc)?.as_slice(), printed)
 }
 
-fn lines(
+/// Whether these tokens spell a formula; its own tokens, and these.
+fn push_again(
     alloc: Global,
     formula: &Formula,
-    outcome: &Outcome,
     enclosed: &[Token],
-    again: bool,
-) -> Result<String, AllocError> {
-    let mut printed = String::new(alloc);
-    push_held(alloc, formula, outcome, &mut printed)?;
-    write!(&mut printed, " again {again}\n")?;
-    push_tokens(alloc, formula, &mut printed)?;
-    push_line(enclosed, &mut printed)?;
-    Ok(printed)
+    printed: &mut String,
+) -> Result<(), Refusal> {
+    let again = is_read_again(alloc, formula, enclosed)?;
+    write!(printed, " again {again}\n")?;
+    push_tokens(alloc, formula, printed)?;
+    Ok(push_line(enclosed, printed)?)
 }
 
-/// Whether a formula holds where thread 0 ends with EAX 1, thread 1 with EDI 7, and the two locations with 0 and 2, as
-/// a condition's too; its tokens, alone and as a condition's, and whether the latter spell it.
-pub fn formula(alloc: Global, text: &[u8]) -> Result<String, Refusal> {
-    let formula = formula_of(alloc, text)?;
-    let outcome = outcome_in(alloc, b"1,0,0,0,0,0 0,0,0,0,0,7 0,2")?;
+fn push_spelled(alloc: Global, formula: &Formula, printed: &mut String) -> Result<(), Refusal> {
     let enclosed = formula.enclosed_tokens(alloc)?;
-    let again = is_read_again(alloc, &formula, enclosed.as_slice())?;
-    Ok(lines(alloc, &formula, &outcome, enclosed.as_slice(), again)?)
+    push_again(alloc, formula, enclosed.as_slice(), printed)
+}
+
+/// Whether a formula holds at an outcome, as a condition's too; its tokens, alone and as a condition's, and whether the
+/// latter spell it.
+pub fn push_formula(alloc: Global, text: &[u8], printed: &mut String) -> Result<(), Refusal> {
+    let formula = formula_of(alloc, text)?;
+    push_truth(alloc, &formula, printed)?;
+    push_spelled(alloc, &formula, printed)
 }
 
 /// Whether the condition that a formula holds of some outcome is the same as another condition.
@@ -148,19 +172,25 @@ fn is_same(
     Ok(exists.same(&condition(alloc, quantifier, second)?))
 }
 
-fn compared(alloc: Global, first: &Formula, second: &Formula) -> Result<String, AllocError> {
+fn push_compared(
+    alloc: Global,
+    first: &Formula,
+    second: &Formula,
+    printed: &mut String,
+) -> Result<(), AllocError> {
     let conditions = is_same(alloc, first, Quantifier::Exists, second)?;
     let quantifiers = is_same(alloc, first, Quantifier::NotExists, first)?;
-    format!(in alloc;
-        "formulas {} conditions {conditions} quantifiers {quantifiers}\n",
-        first.same(second)
+    let formulas = first.same(second);
+    write!(
+        printed,
+        "formulas {formulas} conditions {conditions} quantifiers {quantifiers}\n"
     )
 }
 
 /// Whether the formulas of two lines are the same, alone and as conditions; and the first with two quantifiers.
-pub fn formulas(alloc: Global, text: &[u8]) -> Result<String, Refusal> {
+pub fn push_formulas(alloc: Global, text: &[u8], printed: &mut String) -> Result<(), Refusal> {
     let (line, rest) = split_line(text);
     let first = formula_of(alloc, line)?;
     let second = formula_of(alloc, rest)?;
-    Ok(compared(alloc, &first, &second)?)
+    Ok(push_compared(alloc, &first, &second, printed)?)
 }

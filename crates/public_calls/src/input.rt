@@ -21,7 +21,7 @@ pub fn split_at_byte(bytes: &[u8], byte: u8) -> (&[u8], &[u8]) {
     }
 }
 
-/// The words of the first line, the call's name first.
+/// The words of a line.
 pub fn words_of(alloc: Global, line: &[u8]) -> Result<Vec<&[u8]>, AllocError> {
     parts_of(alloc, line, b' ')
 }
@@ -29,6 +29,16 @@ pub fn words_of(alloc: Global, line: &[u8]) -> Result<Vec<&[u8]>, AllocError> {
 /// What stands between such bytes.
 pub fn parts_of(alloc: Global, word: &[u8], byte: u8) -> Result<Vec<&[u8]>, AllocError> {
     word.split(|other| *other == byte).collect(alloc)
+}
+
+/// What a table has for a name.
+pub fn named<T: Copy>(table: &[(&[u8], T)], name: &[u8]) -> Result<T, Refusal> {
+    for (word, it) in table {
+        if *word == name {
+            return Ok(*it);
+        }
+    }
+    Err(Refusal::Call)
 }
 
 /// The word with this index.
@@ -44,6 +54,11 @@ pub fn number_of(word: &[u8]) -> Result<u32, Refusal> {
 /// The number up to 255 that a word spells.
 pub fn byte_of(word: &[u8]) -> Result<u8, Refusal> {
     u8::try_from(number_of(word)?).map_err(|_| Refusal::Call)
+}
+
+/// The number up to 255 of the word with this index.
+pub fn byte_at(words: &[&[u8]], index: usize) -> Result<u8, Refusal> {
+    byte_of(word_at(words, index)?)
 }
 
 /// The numbers of a word, separated by commas; `-` has none.
@@ -68,6 +83,11 @@ pub fn gap_set_of(alloc: Global, word: &[u8]) -> Result<GapSet, Refusal> {
         }
     }
     Ok(gaps)
+}
+
+/// The set of the gaps of the word with this index.
+pub fn gap_set_at(alloc: Global, words: &[&[u8]], index: usize) -> Result<GapSet, Refusal> {
+    gap_set_of(alloc, word_at(words, index)?)
 }
 
 /// Puts ASCII bytes at the end of a text.

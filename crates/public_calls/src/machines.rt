@@ -1,26 +1,22 @@
 //! Calls of `tso_machine`, and the order of outcomes.
 
-use crate::input::{gap_set_of, numbers_of, push_bytes, split_line, words_of};
-use crate::programs::program_of;
+use crate::input::{gap_set_at, named, numbers_of, push_bytes, split_line, word_at, words_of};
 use crate::refusal::Refusal;
 use crate::sets::push_gaps;
 use std::alloc::{AllocError, Global};
 use std::cmp::Ordering;
 use tso_machine::{Ended, Label, Model, read_run, replay, write_run};
-use tso_program::{Items, Outcome};
+use tso_program::{Items, Outcome, Program};
 
-fn model_of(word: &[u8]) -> Result<Model, Refusal> {
-    match word {
-        b"sequential" => Ok(Model::Sequential),
-        b"buffered" => Ok(Model::Buffered),
-        _ => Err(Refusal::Call),
-    }
-}
+const MODELS: [(&[u8], Model); 2] = [
+    (b"sequential", Model::Sequential),
+    (b"buffered", Model::Buffered),
+];
 
-/// The labels that words spell.
-pub fn labels_of(alloc: Global, words: &[&[u8]]) -> Result<Vec<Label>, Refusal> {
+/// The labels that words spell, from the word with this index on.
+pub fn labels_from(alloc: Global, words: &[&[u8]], index: usize) -> Result<Vec<Label>, Refusal> {
     let mut labels = Vec::new(alloc);
-    for word in words {
+    for word in words.iter().skip(index) {
         labels.extend_from_slice(&read_run(alloc, word)?)?;
     }
     Ok(labels)
@@ -36,50 +32,79 @@ pub fn push_outcome(outcome: &Outcome, printed: &mut String) -> Result<(), Alloc
     )
 }
 
-fn ending(alloc: Global, ended: &Ended) -> Result<String, AllocError> {
-    let mut printed = String::new(alloc);
-    push_outcome(&ended.outcome, &mut printed)?;
+fn push_ended(alloc: Global, ended: &Ended, printed: &mut String) -> Result<(), AllocError> {
+    push_outcome(&ended.outcome, printed)?;
     printed.push_str("\npassed ")?;
-    push_gaps(alloc, &ended.passed, &mut printed)?;
-    Ok(printed)
+    push_gaps(alloc, &ended.passed, printed)
+}
+
+/// The end of a run in a machine: the first two words are the machine and the gaps that are fenced.
+fn ended(
+    alloc: Global,
+    words: &[&[u8]],
+    program: &Program,
+    labels: &[Label],
+) -> Result<Ended, Refusal> {
+    let model = named(&MODELS, word_at(words, 0)?)?;
+    let fenced = gap_set_at(alloc, words, 1)?;
+    Ok(replay(alloc, program, &fenced, model, labels)?)
 }
 
 /// The outcome of a run, and the gaps that it passed.
-pub fn replayed(alloc: Global, words: &[&[u8]], text: &[u8]) -> Result<String, Refusal> {
-    let [model, fenced, labels @ ..] = words else {
-        return Err(Refusal::Call);
-    };
-    let model = model_of(model)?;
-    let fenced = gap_set_of(alloc, fenced)?;
-    let labels = labels_of(alloc, labels)?;
-    let program = program_of(alloc, text)?;
-    let ended = replay(alloc, &program, &fenced, model, labels.as_slice())?;
-    Ok(ending(alloc, &ended)?)
+pub fn push_replayed(
+    alloc: Global,
+    words: &[&[u8]],
+    program: &Program,
+    printed: &mut String,
+) -> Result<(), Refusal> {
+    let labels = labels_from(alloc, words, 2)?;
+    let ended = ended(alloc, words, program, labels.as_slice())?;
+    Ok(push_ended(alloc, &ended, printed)?)
+}
+
+fn push_labels(alloc: Global, labels: &[Label], printed: &mut String) -> Result<(), AllocError> {
+    write!(printed, "{labels:?}\n")?;
+    push_bytes(printed, &write_run(alloc, labels)?)?;
+    printed.push('\n')
 }
 
 /// The labels of a run text, and the text that is written for them.
-pub fn run(alloc: Global, text: &[u8]) -> Result<String, Refusal> {
+pub fn push_run(alloc: Global, text: &[u8], printed: &mut String) -> Result<(), Refusal> {
     let labels = read_run(alloc, text)?;
-    let mut printed = format!(in alloc; "{labels:?}\n")?;
-    push_bytes(&mut printed, &write_run(alloc, labels.as_slice())?)?;
-    printed.push('\n')?;
-    Ok(printed)
+    Ok(push_labels(alloc, labels.as_slice(), printed)?)
+}
+
+/// The numbers of a word are the registers of a thread if there are six, and else values of memory.
+fn push_word(
+    numbers: &[u32],
+    registers: &mut Vec<[u32; 6]>,
+    memory: &mut Vec<u32>,
+) -> Result<(), AllocError> {
+    if numbers.len() != 6 {
+        return memory.extend_from_slice(numbers);
+    }
+    let mut six = [0; 6];
+    six.copy_from_slice(numbers);
+    Ok(registers.push(six)?)
+}
+
+fn push_words(
+    alloc: Global,
+    words: &[&[u8]],
+    registers: &mut Vec<[u32; 6]>,
+    memory: &mut Vec<u32>,
+) -> Result<(), Refusal> {
+    for word in words {
+        push_word(&numbers_of(alloc, word)?, registers, memory)?;
+    }
+    Ok(())
 }
 
 /// An outcome: a word of six numbers for each thread, and a word of the values of memory.
 pub fn outcome_of(alloc: Global, words: &[&[u8]]) -> Result<Outcome, Refusal> {
     let mut registers = Vec::new(alloc);
     let mut memory = Vec::new(alloc);
-    for word in words {
-        let numbers = numbers_of(alloc, word)?;
-        if numbers.len() == 6 {
-            let mut six = [0; 6];
-            six.copy_from_slice(&numbers);
-            registers.push(six)?;
-        } else {
-            memory.extend_from_slice(&numbers)?;
-        }
-    }
+    push_words(alloc, words, &mut registers, &mut memory)?;
     Ok(Outcome {
         registers: Items::of(registers),
         memory: Items::of(memory),
@@ -100,16 +125,24 @@ fn order_of(first: &Outcome, second: &Outcome) -> &'static str {
     }
 }
 
-fn is_copied(alloc: Global, outcome: &Outcome) -> Result<bool, AllocError> {
-    Ok(outcome.copy(alloc)? == *outcome)
+fn push_order(
+    alloc: Global,
+    first: &Outcome,
+    second: &Outcome,
+    printed: &mut String,
+) -> Result<(), AllocError> {
+    let same = first.copy(alloc)? == *first;
+    write!(
+        printed,
+        "{}, copy the same {same}\n",
+        order_of(first, second)
+    )
 }
 
 /// How the outcomes of two lines are ordered, and whether a copy of the first is the same.
-pub fn outcomes(alloc: Global, text: &[u8]) -> Result<String, Refusal> {
+pub fn push_compared(alloc: Global, text: &[u8], printed: &mut String) -> Result<(), Refusal> {
     let (line, rest) = split_line(text);
     let first = outcome_in(alloc, line)?;
     let second = outcome_in(alloc, split_line(rest).0)?;
-    let order = order_of(&first, &second);
-    let same = is_copied(alloc, &first)?;
-    Ok(format!(in alloc; "{order}, copy the same {same}\n")?)
+    Ok(push_order(alloc, &first, &second, printed)?)
 }

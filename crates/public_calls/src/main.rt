@@ -32,5 +32,5 @@ fn main(rt: HostRuntime) -> io::Result<()> {
     let mut bytes = Vec::new(rt.alloc());
     rt.stdin().read_to_end(&mut bytes)?;
     let printed = answer::answer(&rt, &rt, rt.alloc(), &bytes)?;
-    rt.stdout().write_all(&printed)
+    rt.stdout().write_all(printed.as_bytes())
 }

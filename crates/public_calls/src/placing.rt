@@ -2,10 +2,9 @@
 ghost use Rattle.std.specs.Prelude.{◌≡◌, false, IfOk, length};
 ghost use Rattle.tso_program.specs.Listings.{gap_count};
 
-use crate::input::{byte_of, number_of};
-use crate::lines::gaps_after;
+use crate::input::{byte_at, number_of};
+use crate::lines::push_gaps_after;
 use crate::refusal::Refusal;
-use crate::solver::{options, table_of};
 use cover_solver::{Oracle, SeqTable, SolveFault, Solver, Verdict};
 use fence_place::{Placed, place};
 use gap_sets::{Costs, GapSet};
@@ -48,50 +47,71 @@ pub fn equal_costs(alloc: Global, table: &SeqTable) -> Result<Costs, Refusal>
     Ok(Costs::new(alloc, &list)?)
 }
 
-/// The costs that words spell, or 1 for each gap where there is no word.
-fn spelled_costs(alloc: Global, table: &SeqTable, words: &[&[u8]]) -> Result<Costs, Refusal> {
-    if words.is_empty() {
+/// The costs that words spell, from the second on, or 1 for each gap where there is none.
+fn costs_of(alloc: Global, table: &SeqTable, words: &[&[u8]]) -> Result<Costs, Refusal> {
+    if words.len() < 2 {
         return equal_costs(alloc, table);
     }
     let mut list = Vec::new(alloc);
-    for word in words {
+    for word in words.iter().skip(1) {
         list.push(number_of(word)?)?;
     }
     Ok(Costs::new(alloc, &list)?)
 }
 
 /// The set that is placed and its cost, then how many sets the solver was asked about.
-fn placed_lines(alloc: Global, placed: &Placed, asked: &Counting) -> Result<Vec<u8>, AllocError> {
-    let mut lines = gaps_after(alloc, b"set", &placed.set)?;
-    let (serve, asks) = (
-        asked.serve.load(Ordering::SeqCst),
-        asked.asked.load(Ordering::SeqCst),
-    );
-    let counts = format!(in alloc; "\ncost {}\nserve {serve}\nasks {asks}\n", placed.cost)?;
-    lines.extend_from_slice(counts.as_bytes())?;
-    Ok(lines)
+fn push_lines(
+    placed: &Placed,
+    serve: u64,
+    asks: u64,
+    printed: &mut String,
+) -> Result<(), AllocError> {
+    push_gaps_after("set", &placed.set, printed)?;
+    write!(
+        printed,
+        "\ncost {}\nserve {serve}\nasks {asks}\n",
+        placed.cost
+    )
 }
 
-/// Places fences: the first word is the number of workers, and the costs of the gaps may follow.
-pub fn placed<R: Threads + Sync, W: Wait + Sync>(
+fn new_counting(alloc: Global, table: &SeqTable) -> Result<Counting, Refusal>
+    ensures { IfOk result (λ counting. counting.solver.question ≡ table.now.question) }
+{
+    Ok(Counting {
+        solver: Solver::new(alloc, table.program(), table)?,
+        asked: AtomicU64::new(0),
+        serve: AtomicU64::new(0),
+    })
+}
+
+fn push_placed_by<R: Threads + Sync, W: Wait + Sync>(
     rt: &R,
     wait: &W,
     alloc: Global,
+    table: &SeqTable,
+    solver: &Counting,
     words: &[&[u8]],
-    text: &[u8],
-) -> Result<Vec<u8>, Refusal> {
-    let (observed, words) = options(words);
-    let [workers, costs @ ..] = words else {
-        return Err(Refusal::Call);
-    };
-    let workers = byte_of(workers)?;
-    let (_, table) = table_of(alloc, observed, text)?;
-    let costs = spelled_costs(alloc, &table, costs)?;
-    let solver = Counting {
-        solver: Solver::new(alloc, table.program(), &table)?,
-        asked: AtomicU64::new(0),
-        serve: AtomicU64::new(0),
-    };
-    let placed = place(rt, wait, alloc, &solver, &table, &costs, workers)?;
-    Ok(placed_lines(alloc, &placed, &solver)?)
+    printed: &mut String,
+) -> Result<(), Refusal>
+    requires { solver.now.solver.question ≡ table.now.question }
+{
+    let workers = byte_at(words, 0)?;
+    let costs = costs_of(alloc, table, words)?;
+    let placed = place(rt, wait, alloc, solver, table, &costs, workers)?;
+    let serve = solver.serve.load(Ordering::SeqCst);
+    let asks = solver.asked.load(Ordering::SeqCst);
+    Ok(push_lines(&placed, serve, asks, printed)?)
+}
+
+/// Places fences: the first word is the number of workers, and the costs of the gaps may follow.
+pub fn push_placed<R: Threads + Sync, W: Wait + Sync>(
+    rt: &R,
+    wait: &W,
+    alloc: Global,
+    table: &SeqTable,
+    words: &[&[u8]],
+    printed: &mut String,
+) -> Result<(), Refusal> {
+    let solver = new_counting(alloc, table)?;
+    push_placed_by(rt, wait, alloc, table, &solver, words, printed)
 }

@@ -1,6 +1,5 @@
 //! Why a call has no other answer.
 
-use cert_check::CheckFault;
 use cert_forest::CertFault;
 use conditions::FormulaFault;
 use cover_solver::{ForeignFault, SolveFault};
@@ -17,7 +16,7 @@ use tso_machine::{ReplayFault, RunFault};
 use tso_program::{FenceFault, ProgramFault};
 
 /// A refusal by the call; `Call`, where the first line is no call; or `Gap`, where the program has not each of the gaps.
-#[derive(Debug, Drop, Error)]
+#[derive(Clone, Copy, Debug, Error)]
 pub enum Refusal {
     #[error("call")]
     Call,
@@ -47,8 +46,6 @@ pub enum Refusal {
     Litmus(#[from] ReadFault),
     #[error("certificate {0}")]
     Certificate(#[from] CertFault),
-    #[error("check {0}")]
-    Check(#[from] CheckFault),
     #[error("solve {0}")]
     Solve(#[from] SolveFault),
     #[error("foreign {0}")]

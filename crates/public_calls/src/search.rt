@@ -2,29 +2,56 @@
 ghost use Rattle.std.specs.Prelude.{◌≡◌, ◌<◌};
 ghost use Rattle.search_core.specs.States.{IsSameSearch};
 
-use crate::input::{parts_of, split_at_byte};
-use crate::lines::gaps_after;
-use crate::machines::labels_of;
+use crate::input::{named, parts_of, split_at_byte};
+use crate::lines::push_gaps_after;
+use crate::machines::labels_from;
 use crate::placing::equal_costs;
 use crate::refusal::Refusal;
-use crate::solver::{options, table_of};
-use cover_solver::{ForeignRun, Oracle, SeqTable, Solver, Verdict};
-use search_core::{Reason, SearchTree};
+use cover_solver::{ForeignRun, Oracle, SeqTable, Served, Solver, Verdict};
+use search_core::{Node, Reason, SearchTree};
 use std::alloc::{AllocError, Global};
+use tso_machine::Label;
 
 /// How many seats the search has.
 const SEATS: u8 = 2;
 
+/// What a seat does.
+#[derive(Clone, Copy)]
+enum Event {
+    Take,
+    Split,
+    Cut,
+    Confirm,
+    GiveBack,
+}
+
+const EVENTS: [(&[u8], Event); 5] = [
+    (b"take", Event::Take),
+    (b"split", Event::Split),
+    (b"cut", Event::Cut),
+    (b"confirm", Event::Confirm),
+    (b"give", Event::GiveBack),
+];
+
+fn push_node(node: &Node, printed: &mut String) -> Result<(), AllocError> {
+    push_gaps_after("must", &node.must, printed)?;
+    push_gaps_after(" never", &node.never, printed)?;
+    printed.push('\n')
+}
+
 /// The seat takes a node.
-fn take(alloc: Global, tree: &mut SearchTree, seat: u8) -> Result<Vec<u8>, Refusal>
+fn take(tree: &mut SearchTree, seat: u8, printed: &mut String) -> Result<(), Refusal>
     requires { seat < tree.old.seats }
     ensures { IsSameSearch tree.old tree.new }
 {
     let node = tree.take(seat)?;
-    let mut line = gaps_after(alloc, b"must", &node.must)?;
-    line.extend_from_slice(&gaps_after(alloc, b" never", &node.never)?)?;
-    line.push(b'\n')?;
-    Ok(line)
+    Ok(push_node(&node, printed)?)
+}
+
+/// The labels of a word, with a comma between each two of them.
+fn labels_of(alloc: Global, word: &[u8]) -> Result<Vec<Label>, Refusal> {
+    let words = parts_of(alloc, word, b',')?;
+    labels_from(alloc, words.as_slice(), 0)
 }
 
 /// The seat's node is split by the run of these labels.
@@ -34,33 +61,18 @@ fn split(
     tree: &mut SearchTree,
     seat: u8,
     labels: &[u8],
-) -> Result<Vec<u8>, Refusal>
+) -> Result<(), Refusal>
     requires seat { seat < tree.old.seats }
     requires of_table { tree.old.question ≡ table.now.question }
     ensures { IsSameSearch tree.old tree.new }
 {
-    let labels = labels_of(alloc, parts_of(alloc, labels, b',')?.as_slice())?;
+    let labels = labels_of(alloc, labels)?;
     let run = ForeignRun::new(alloc, table, labels.as_slice())?;
-    tree.split(seat, &run)?;
-    Ok(Vec::from_slice(alloc, b"split\n")?)
-}
-
-/// The seat's node is cut by the best set so far.
-fn cut(alloc: Global, tree: &mut SearchTree, seat: u8) -> Result<Vec<u8>, Refusal>
-    requires { seat < tree.old.seats }
-    ensures { IsSameSearch tree.old tree.new }
-{
-    tree.cut(seat, Reason::Best)?;
-    Ok(Vec::from_slice(alloc, b"cut\n")?)
+    Ok(tree.split(seat, &run)?)
 }
 
 /// The seat's node is confirmed, if the gaps that its sets must have serve.
-fn confirm(
-    alloc: Global,
-    table: &SeqTable,
-    tree: &mut SearchTree,
-    seat: u8,
-) -> Result<Vec<u8>, Refusal>
+fn confirm(alloc: Global, table: &SeqTable, tree: &mut SearchTree, seat: u8) -> Result<(), Refusal>
     requires seat { seat < tree.old.seats }
     requires of_table { tree.old.question ≡ table.now.question }
     ensures { IsSameSearch tree.old tree.new }
@@ -72,109 +84,133 @@ fn confirm(
     let Verdict::Serves(served) = solver.ask(&node.must)? else {
         return Err(Refusal::Call);
     };
-    tree.confirm(seat, served)?;
-    Ok(Vec::from_slice(alloc, b"confirmed\n")?)
+    Ok(tree.confirm(seat, served)?)
 }
 
-/// The seat's node is open again.
-fn give_back(alloc: Global, tree: &mut SearchTree, seat: u8) -> Result<Vec<u8>, Refusal>
-    requires { seat < tree.old.seats }
-    ensures { IsSameSearch tree.old tree.new }
-{
-    tree.give_back(seat)?;
-    Ok(Vec::from_slice(alloc, b"given back\n")?)
-}
-
-/// The answer, if the search is done.
-fn answer(alloc: Global, tree: &SearchTree) -> Result<Vec<u8>, AllocError> {
-    let Some(served) = tree.answer() else {
-        return Vec::from_slice(alloc, b"not done\n");
-    };
-    let mut line = gaps_after(alloc, b"set", &served.set())?;
-    line.push(b'\n')?;
-    Ok(line)
-}
-
-/// The event of this name, by this seat.
-fn event(
+/// The event, by this seat, and what it prints.
+fn push_event(
     alloc: Global,
     table: &SeqTable,
     tree: &mut SearchTree,
-    name: &[u8],
+    event: Event,
     seat: u8,
     labels: &[u8],
-) -> Result<Vec<u8>, Refusal>
+    printed: &mut String,
+) -> Result<(), Refusal>
     requires seat { seat < tree.old.seats }
     requires of_table { tree.old.question ≡ table.now.question }
     ensures { IsSameSearch tree.old tree.new }
 {
-    if name == b"take".as_slice() {
-        take(alloc, tree, seat)
-    } else if name == b"split".as_slice() {
-        split(alloc, table, tree, seat, labels)
-    } else if name == b"cut".as_slice() {
-        cut(alloc, tree, seat)
-    } else if name == b"confirm".as_slice() {
-        confirm(alloc, table, tree, seat)
-    } else if name == b"give".as_slice() {
-        give_back(alloc, tree, seat)
-    } else {
-        Err(Refusal::Call)
-    }
+    let done = match event {
+        Event::Take => return take(tree, seat, printed),
+        Event::Split => {
+            split(alloc, table, tree, seat, labels)?;
+            "split\n"
+        }
+        Event::Cut => {
+            tree.cut(seat, Reason::Best)?;
+            "cut\n"
+        }
+        Event::Confirm => {
+            confirm(alloc, table, tree, seat)?;
+            "confirmed\n"
+        }
+        Event::GiveBack => {
+            tree.give_back(seat)?;
+            "given back\n"
+        }
+    };
+    Ok(printed.push_str(done)?)
 }
 
-/// Does what a word names: the event, the seat's number as its last digit, and labels after a colon,
-/// each two of them joined by a comma.
-fn step(
+/// Does what a word names: the event, the seat's number as its last digit, and labels after a colon.
+fn push_step(
     alloc: Global,
     table: &SeqTable,
     tree: &mut SearchTree,
     word: &[u8],
-) -> Result<Vec<u8>, Refusal>
+    printed: &mut String,
+) -> Result<(), Refusal>
     requires seats { tree.old.seats ≡ 2 }
     requires of_table { tree.old.question ≡ table.now.question }
     ensures { IsSameSearch tree.old tree.new }
 {
-    let (named, labels) = split_at_byte(word, b':');
-    let Some((last, name)) = named.split_last() else {
+    let (first, labels) = split_at_byte(word, b':');
+    let Some((last, name)) = first.split_last() else {
         return Err(Refusal::Call);
     };
     let seat = last.wrapping_sub(b'0');
     if seat >= SEATS {
         return Err(Refusal::Call);
     }
-    event(alloc, table, tree, name, seat, labels)
+    push_event(
+        alloc,
+        table,
+        tree,
+        named(&EVENTS, name)?,
+        seat,
+        labels,
+        printed,
+    )
+}
+
+/// The answer, if the search is done.
+fn push_answer(answer: Option<&Served>, printed: &mut String) -> Result<(), AllocError> {
+    match answer {
+        Some(served) => {
+            push_gaps_after("set", &served.set(), printed)?;
+            printed.push('\n')
+        }
+        None => printed.push_str("not done\n"),
+    }
 }
 
 /// The lines of a word: the answer, or what became of an event.
-fn word_lines(
+fn push_word(
     alloc: Global,
     table: &SeqTable,
     tree: &mut SearchTree,
     word: &[u8],
-) -> Result<Vec<u8>, AllocError>
+    printed: &mut String,
+) -> Result<(), AllocError>
     requires seats { tree.old.seats ≡ 2 }
     requires of_table { tree.old.question ≡ table.now.question }
     ensures { IsSameSearch tree.old tree.new }
 {
     if word == b"answer".as_slice() {
-        return answer(alloc, tree);
+        return push_answer(tree.answer(), printed);
     }
-    match step(alloc, table, tree, word) {
-        Ok(line) => Ok(line),
-        Err(refusal) => Ok(format!(in alloc; "refused {refusal}\n")?.into_bytes()),
+    match push_step(alloc, table, tree, word, printed) {
+        Ok(()) => Ok(()),
+        Err(refusal) => write!(printed, "refused {refusal}\n"),
     }
 }
 
-/// The lines of a script over the search for the best set of gaps, each of which costs 1.
-pub fn searched(alloc: Global, words: &[&[u8]], text: &[u8]) -> Result<Vec<u8>, Refusal> {
-    let (observed, script) = options(words);
-    let (_, table) = table_of(alloc, observed, text)?;
-    let costs = equal_costs(alloc, &table)?;
-    let mut tree = SearchTree::new(alloc, &table, &costs, SEATS)?;
-    let mut lines = Vec::new(alloc);
+/// The lines of a script.
+fn push_script(
+    alloc: Global,
+    table: &SeqTable,
+    tree: &mut SearchTree,
+    script: &[&[u8]],
+    printed: &mut String,
+) -> Result<(), AllocError>
+    requires seats { tree.old.seats ≡ 2 }
+    requires of_table { tree.old.question ≡ table.now.question }
+{
     for word in script {
-        lines.extend_from_slice(&word_lines(alloc, &table, &mut tree, word)?)?;
+        push_word(alloc, table, tree, word, printed)?;
     }
-    Ok(lines)
+    Ok(())
+}
+
+/// The lines of a script over the search for the best set of gaps, each of which costs 1.
+pub fn push_searched(
+    alloc: Global,
+    table: &SeqTable,
+    script: &[&[u8]],
+    printed: &mut String,
+) -> Result<(), Refusal> {
+    let costs = equal_costs(alloc, table)?;
+    let mut tree = SearchTree::new(alloc, table, &costs, SEATS)?;
+    Ok(push_script(alloc, table, &mut tree, script, printed)?)
 }

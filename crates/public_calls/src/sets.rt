@@ -1,6 +1,6 @@
 //! Calls of `gap_sets`.
 
-use crate::input::{byte_of, gap_set_of, numbers_of};
+use crate::input::{byte_at, gap_set_at, numbers_of, word_at};
 use crate::refusal::Refusal;
 use gap_sets::{Costs, GapSet};
 use std::alloc::{AllocError, Global};
@@ -11,6 +11,16 @@ pub fn push_gaps(alloc: Global, gaps: &GapSet, printed: &mut String) -> Result<(
     write!(printed, "{numbers:?}\n")
 }
 
+fn push_named_gaps(
+    alloc: Global,
+    name: &str,
+    gaps: &GapSet,
+    printed: &mut String,
+) -> Result<(), AllocError> {
+    printed.push_str(name)?;
+    push_gaps(alloc, gaps, printed)
+}
+
 /// The set with a gap more, and with one less.
 fn push_changed(
     alloc: Global,
@@ -18,27 +28,17 @@ fn push_changed(
     gap: u8,
     printed: &mut String,
 ) -> Result<(), AllocError> {
-    if gap < 64 {
-        printed.push_str("with ")?;
-        push_gaps(alloc, &gaps.with(gap), printed)?;
-        printed.push_str("without ")?;
-        push_gaps(alloc, &gaps.without(gap), printed)?;
+    if gap >= 64 {
+        return Ok(());
     }
-    Ok(())
+    push_named_gaps(alloc, "with ", &gaps.with(gap), printed)?;
+    push_named_gaps(alloc, "without ", &gaps.without(gap), printed)
 }
 
 /// What a set and a gap have to do with each other.
-fn push_set(alloc: Global, gaps: &GapSet, gap: u8, printed: &mut String) -> Result<(), AllocError> {
-    printed.push_str("gaps ")?;
-    push_gaps(alloc, gaps, printed)?;
-    let has = gaps.has(gap);
-    write!(
-        printed,
-        "length {} empty {} has {has}\n",
-        gaps.len(),
-        gaps.is_empty()
-    )?;
-    push_changed(alloc, gaps, gap, printed)
+fn push_set(gaps: &GapSet, gap: u8, printed: &mut String) -> Result<(), AllocError> {
+    let (length, empty, has) = (gaps.len(), gaps.is_empty(), gaps.has(gap));
+    write!(printed, "length {length} empty {empty} has {has}\n")
 }
 
 /// What two sets have to do with each other.
@@ -53,35 +53,51 @@ fn push_pair(gaps: &GapSet, other: &GapSet, printed: &mut String) -> Result<(), 
     )
 }
 
-/// What a set, another set and a gap have to do with each other.
-pub fn sets(alloc: Global, words: &[&[u8]]) -> Result<String, Refusal> {
-    let [gaps, other, gap] = words else {
-        return Err(Refusal::Call);
-    };
-    let (gaps, other) = (gap_set_of(alloc, gaps)?, gap_set_of(alloc, other)?);
-    let gap = byte_of(gap)?;
-    let mut printed = String::new(alloc);
-    push_set(alloc, &gaps, gap, &mut printed)?;
-    push_pair(&gaps, &other, &mut printed)?;
-    Ok(printed)
+fn push_all(
+    alloc: Global,
+    gaps: &GapSet,
+    other: &GapSet,
+    gap: u8,
+    printed: &mut String,
+) -> Result<(), AllocError> {
+    push_named_gaps(alloc, "gaps ", gaps, printed)?;
+    push_set(gaps, gap, printed)?;
+    push_changed(alloc, gaps, gap, printed)?;
+    push_pair(gaps, other, printed)
 }
 
-/// The costs whose numbers a word has.
-pub fn costs_of(alloc: Global, word: &[u8]) -> Result<Costs, Refusal> {
-    let numbers = numbers_of(alloc, word)?;
+/// What a set, another set and a gap have to do with each other.
+pub fn push_sets(alloc: Global, words: &[&[u8]], printed: &mut String) -> Result<(), Refusal> {
+    let gaps = gap_set_at(alloc, words, 0)?;
+    let other = gap_set_at(alloc, words, 1)?;
+    let gap = byte_at(words, 2)?;
+    Ok(push_all(alloc, &gaps, &other, gap, printed)?)
+}
+
+/// The costs whose numbers the word with this index has.
+pub fn costs_at(alloc: Global, words: &[&[u8]], index: usize) -> Result<Costs, Refusal> {
+    let numbers = numbers_of(alloc, word_at(words, index)?)?;
     Ok(Costs::new(alloc, &numbers)?)
 }
 
-/// What costs say of themselves and of other costs.
-fn push_costs(costs: &Costs, other: &Costs, printed: &mut String) -> Result<(), AllocError> {
+/// What costs say of themselves.
+fn push_costs(costs: &Costs, printed: &mut String) -> Result<(), AllocError> {
     write!(
         printed,
         "costs {:?} length {} empty {}\n",
         costs.as_slice(),
         costs.len(),
         costs.is_empty()
-    )?;
-    let copy = costs.copy()?;
+    )
+}
+
+/// What a copy of costs says of them and of other costs.
+fn push_copy(
+    copy: &Costs,
+    costs: &Costs,
+    other: &Costs,
+    printed: &mut String,
+) -> Result<(), AllocError> {
     write!(
         printed,
         "copy {:?} same {} other {}\n",
@@ -109,16 +125,34 @@ fn push_totals(
     )
 }
 
-/// What costs say of themselves, of other costs, of two sets and of a gap; of the latter a copy says it.
-pub fn costs(alloc: Global, words: &[&[u8]]) -> Result<String, Refusal> {
-    let [costs, other, first, second, gap] = words else {
-        return Err(Refusal::Call);
-    };
-    let (first, second) = (gap_set_of(alloc, first)?, gap_set_of(alloc, second)?);
-    let gap = byte_of(gap)?;
-    let (costs, other) = (costs_of(alloc, costs)?, costs_of(alloc, other)?);
-    let mut printed = String::new(alloc);
-    push_costs(&costs, &other, &mut printed)?;
-    push_totals(&costs.copy()?, &first, &second, gap, &mut printed)?;
-    Ok(printed)
+fn push_totals_of(
+    alloc: Global,
+    costs: &Costs,
+    words: &[&[u8]],
+    printed: &mut String,
+) -> Result<(), Refusal> {
+    let first = gap_set_at(alloc, words, 2)?;
+    let second = gap_set_at(alloc, words, 3)?;
+    let gap = byte_at(words, 4)?;
+    Ok(push_totals(costs, &first, &second, gap, printed)?)
+}
+
+fn push_other(
+    alloc: Global,
+    copy: &Costs,
+    costs: &Costs,
+    words: &[&[u8]],
+    printed: &mut String,
+) -> Result<(), Refusal> {
+    let other = costs_at(alloc, words, 1)?;
+    Ok(push_copy(copy, costs, &other, printed)?)
+}
+
+/// What costs say of themselves, of other costs, of two sets and of a gap; of the latter three a copy says it.
+pub fn push_costs_of(alloc: Global, words: &[&[u8]], printed: &mut String) -> Result<(), Refusal> {
+    let costs = costs_at(alloc, words, 0)?;
+    push_costs(&costs, printed)?;
+    let copy = costs.copy()?;
+    push_other(alloc, &copy, &costs, words, printed)?;
+    push_totals_of(alloc, &copy, words, printed)
 }

@@ -2,9 +2,9 @@
 
 use crate::input::push_bytes;
 use crate::refusal::Refusal;
-use litmus_text::{Litmus, NameTable, read_fenced, read_litmus};
+use litmus_text::{Litmus, NameTable, read_fenced};
 use std::alloc::{AllocError, Global};
-use tso_program::{Reg, Thread};
+use tso_program::{FencedProgram, Program, Reg, Thread};
 
 fn push_locations(names: &NameTable, printed: &mut String) -> Result<(), AllocError> {
     printed.push_str("locations")?;
@@ -87,29 +87,39 @@ fn push_condition<P>(
 }
 
 /// All that a test has, with the threads and the memory of its program.
-fn parts<P>(
+fn push_parts<P>(
     alloc: Global,
     litmus: &Litmus<P>,
     threads: &[Thread],
     memory: &[u32],
-) -> Result<String, AllocError> {
-    let mut printed = String::new(alloc);
-    push_program(litmus, threads, memory, &mut printed)?;
-    push_names(litmus, threads.len(), &mut printed)?;
-    push_condition(alloc, litmus, &mut printed)?;
-    Ok(printed)
+    printed: &mut String,
+) -> Result<(), AllocError> {
+    push_program(litmus, threads, memory, printed)?;
+    push_names(litmus, threads.len(), printed)?;
+    push_condition(alloc, litmus, printed)
 }
 
 /// What is read of a test.
-pub fn read(alloc: Global, text: &[u8]) -> Result<String, Refusal> {
-    let litmus = read_litmus(alloc, text)?;
+pub fn push_read(
+    alloc: Global,
+    litmus: &Litmus<Program>,
+    printed: &mut String,
+) -> Result<(), AllocError> {
     let program = &litmus.program;
-    Ok(parts(alloc, &litmus, program.threads(), program.memory())?)
+    push_parts(alloc, litmus, program.threads(), program.memory(), printed)
+}
+
+fn push_fenced(
+    alloc: Global,
+    litmus: &Litmus<FencedProgram>,
+    printed: &mut String,
+) -> Result<(), AllocError> {
+    let program = &litmus.program;
+    push_parts(alloc, litmus, program.threads(), program.memory(), printed)
 }
 
 /// What is read of a test that has its fences.
-pub fn read_with_fences(alloc: Global, text: &[u8]) -> Result<String, Refusal> {
+pub fn push_read_fenced(alloc: Global, text: &[u8], printed: &mut String) -> Result<(), Refusal> {
     let litmus = read_fenced(alloc, text)?;
-    let program = &litmus.program;
-    Ok(parts(alloc, &litmus, program.threads(), program.memory())?)
+    Ok(push_fenced(alloc, &litmus, printed)?)
 }
