@@ -60,12 +60,9 @@ fn costs_of(alloc: Global, table: &SeqTable, words: &[&[u8]]) -> Result<Costs, R
 }
 
 /// The set that is placed and its cost, then how many sets the solver was asked about.
-fn push_lines(
-    placed: &Placed,
-    serve: u64,
-    asks: u64,
-    printed: &mut String,
-) -> Result<(), AllocError> {
+fn push_lines(placed: &Placed, solver: &Counting, printed: &mut String) -> Result<(), AllocError> {
+    let serve = solver.serve.load(Ordering::SeqCst);
+    let asks = solver.asked.load(Ordering::SeqCst);
     push_gaps_after("set", &placed.set, printed)?;
     write!(
         printed,
@@ -84,26 +81,23 @@ fn new_counting(alloc: Global, table: &SeqTable) -> Result<Counting, Refusal>
     })
 }
 
-fn push_placed_by<R: Threads + Sync, W: Wait + Sync>(
+/// What is placed: the first word is the number of workers, and the costs of the gaps may follow.
+fn placed_by<R: Threads + Sync, W: Wait + Sync>(
     rt: &R,
     wait: &W,
     alloc: Global,
     table: &SeqTable,
     solver: &Counting,
     words: &[&[u8]],
-    printed: &mut String,
-) -> Result<(), Refusal>
+) -> Result<Placed, Refusal>
     requires { solver.now.solver.question ≡ table.now.question }
 {
     let workers = byte_at(words, 0)?;
     let costs = costs_of(alloc, table, words)?;
-    let placed = place(rt, wait, alloc, solver, table, &costs, workers)?;
-    let serve = solver.serve.load(Ordering::SeqCst);
-    let asks = solver.asked.load(Ordering::SeqCst);
-    Ok(push_lines(&placed, serve, asks, printed)?)
+    Ok(place(rt, wait, alloc, solver, table, &costs, workers)?)
 }
 
-/// Places fences: the first word is the number of workers, and the costs of the gaps may follow.
+/// Places fences, and says how many sets the solver was asked about.
 pub fn push_placed<R: Threads + Sync, W: Wait + Sync>(
     rt: &R,
     wait: &W,
@@ -113,5 +107,6 @@ pub fn push_placed<R: Threads + Sync, W: Wait + Sync>(
     printed: &mut String,
 ) -> Result<(), Refusal> {
     let solver = new_counting(alloc, table)?;
-    push_placed_by(rt, wait, alloc, table, &solver, words, printed)
+    let placed = placed_by(rt, wait, alloc, table, &solver, words)?;
+    Ok(push_lines(&placed, &solver, printed)?)
 }
