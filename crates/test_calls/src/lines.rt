@@ -1,0 +1,88 @@
+//! The lines of the solver's answers.
+
+use crate::input::push_bytes;
+use cert_forest::CoverTree;
+use cover_solver::{ForeignRun, SeqTable};
+use gap_sets::GapSet;
+use litmus_text::NameTable;
+use report::{outcome_line, passed_line};
+use std::alloc::{AllocError, Global};
+use tso_machine::{Label, write_run};
+
+/// A tree as its derived `Debug` writes it.
+fn push_tree(tree: &CoverTree, printed: &mut String) -> Result<(), AllocError> {
+    write!(printed, "tree {tree:?}\n")
+}
+
+fn push_run(alloc: Global, labels: &[Label], printed: &mut String) -> Result<(), AllocError> {
+    printed.push_str("run ")?;
+    push_bytes(printed, &write_run(alloc, labels)?)?;
+    printed.push('\n')
+}
+
+fn push_runs(alloc: Global, runs: &[Vec<Label>], printed: &mut String) -> Result<(), AllocError> {
+    for run in runs {
+        push_run(alloc, run, printed)?;
+    }
+    Ok(())
+}
+
+/// How many outcomes there are, and each of them.
+fn push_outcomes(
+    alloc: Global,
+    names: &NameTable,
+    table: &SeqTable,
+    printed: &mut String,
+) -> Result<(), AllocError> {
+    write!(printed, "outcomes {}\n", table.outcomes().len())?;
+    for outcome in table.outcomes() {
+        push_bytes(
+            printed,
+            &outcome_line(alloc, names, table.shown(), outcome)?,
+        )?;
+    }
+    Ok(())
+}
+
+/// The sequential outcomes, a run of each, and the tree.
+pub fn push_table(
+    alloc: Global,
+    names: &NameTable,
+    table: &SeqTable,
+    printed: &mut String,
+) -> Result<(), AllocError> {
+    push_outcomes(alloc, names, table, printed)?;
+    push_runs(alloc, table.runs(), printed)?;
+    push_tree(table.tree(), printed)
+}
+
+/// What a foreign run leaves, the gaps that it passes, and its steps.
+pub fn push_foreign_run(
+    alloc: Global,
+    names: &NameTable,
+    run: &ForeignRun,
+    printed: &mut String,
+) -> Result<(), AllocError> {
+    printed.push_str("foreign\n")?;
+    push_bytes(
+        printed,
+        &outcome_line(alloc, names, run.shown(), run.outcome())?,
+    )?;
+    push_bytes(printed, &passed_line(alloc, run.program(), &run.passed())?)?;
+    push_run(alloc, run.labels(), printed)
+}
+
+/// That a set serves, and the tree that shows it.
+pub fn push_serving(tree: &CoverTree, printed: &mut String) -> Result<(), AllocError> {
+    printed.push_str("serves\n")?;
+    push_tree(tree, printed)
+}
+
+/// A word, and the numbers of the gaps of a set.
+pub fn push_gaps_after(word: &str, gaps: &GapSet, printed: &mut String) -> Result<(), AllocError> {
+    printed.push_str(word)?;
+    for gap in gaps.iter() {
+        write!(printed, " {gap}")?;
+    }
+    Ok(())
+}

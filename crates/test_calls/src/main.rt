@@ -1,0 +1,36 @@
+//! A program of the tests: it makes one public call of the libraries, or a script of calls of one sketch or of one search, and prints
+//! what they answer.
+//!
+//! The first line of its input names the call and gives its arguments, and the rest is the text that the call takes. After the names
+//! `sequential`, `ask`, `foreign`, `search` and `place` the word `--observed` may stand, for what the litmus text names; of their
+//! answers, what a search may choose comes last. `tests/calls.tsv` and `tests/solver.tsv` have one input in each line.
+#![tactic(auto)]
+
+mod answer;
+mod calls;
+mod certificates;
+mod fences;
+mod formulas;
+mod input;
+mod lines;
+mod machines;
+mod observations;
+mod placing;
+mod programs;
+mod refusal;
+mod search;
+mod sets;
+mod sketches;
+mod solver;
+mod syntax;
+mod texts;
+mod tokens;
+
+use std::io::{self, Read, Write};
+
+fn main(rt: HostRuntime) -> io::Result<()> {
+    let mut bytes = Vec::new(rt.alloc());
+    rt.stdin().read_to_end(&mut bytes)?;
+    let printed = answer::answer(&rt, &rt, rt.alloc(), &bytes)?;
+    rt.stdout().write_all(printed.as_bytes())
+}

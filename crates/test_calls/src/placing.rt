@@ -1,0 +1,112 @@
+//! Placing fences by a solver that counts what it is asked.
+ghost use Rattle.std.specs.Prelude.{◌≡◌, false, IfOk, length};
+ghost use Rattle.tso_program.specs.Listings.{gap_count};
+
+use crate::input::{byte_at, number_of};
+use crate::lines::push_gaps_after;
+use crate::refusal::Refusal;
+use cover_solver::{Oracle, SeqTable, SolveFault, Solver, Verdict};
+use fence_place::{Placed, place};
+use gap_sets::{Costs, GapSet};
+use std::alloc::{AllocError, Global};
+use std::sync::Wait;
+use std::sync::atomic::{AtomicU64, Ordering};
+use std::thread::Threads;
+
+/// A solver, how many sets it was asked about, and how many of them serve.
+#[derive(Drop)]
+struct Counting {
+    solver: Solver,
+    asked: AtomicU64,
+    serve: AtomicU64,
+}
+
+impl Oracle for Counting {
+    ghost question = { λ c. c.solver.question };
+
+    ghost may_lack_runs = { λ c. false };
+
+    fn ask(&self, set: &GapSet) -> Result<Verdict, SolveFault> {
+        self.asked.fetch_add(1, Ordering::SeqCst);
+        let verdict = self.solver.ask(set)?;
+        if let Verdict::Serves(_) = &verdict {
+            self.serve.fetch_add(1, Ordering::SeqCst);
+        }
+        Ok(verdict)
+    }
+}
+
+/// A cost of 1 for each gap of the table's program.
+pub fn equal_costs(alloc: Global, table: &SeqTable) -> Result<Costs, Refusal>
+    ensures { IfOk result (λ costs. length costs ≡ gap_count table.now.question.program.threads) }
+{
+    let mut list = Vec::new(alloc);
+    for _ in 0..table.program().gaps() {
+        list.push(1)?;
+    }
+    Ok(Costs::new(alloc, &list)?)
+}
+
+/// The costs that words spell, from the second on, or 1 for each gap where there is none.
+fn costs_of(alloc: Global, table: &SeqTable, words: &[&[u8]]) -> Result<Costs, Refusal> {
+    if words.len() < 2 {
+        return equal_costs(alloc, table);
+    }
+    let mut list = Vec::new(alloc);
+    for word in words.iter().skip(1) {
+        list.push(number_of(word)?)?;
+    }
+    Ok(Costs::new(alloc, &list)?)
+}
+
+/// The set that is placed and its cost, then how many sets the solver was asked about.
+fn push_lines(placed: &Placed, solver: &Counting, printed: &mut String) -> Result<(), AllocError> {
+    let serve = solver.serve.load(Ordering::SeqCst);
+    let asks = solver.asked.load(Ordering::SeqCst);
+    push_gaps_after("set", &placed.set, printed)?;
+    write!(
+        printed,
+        "\ncost {}\nserve {serve}\nasks {asks}\n",
+        placed.cost
+    )
+}
+
+fn new_counting(alloc: Global, table: &SeqTable) -> Result<Counting, Refusal>
+    ensures { IfOk result (λ counting. counting.solver.question ≡ table.now.question) }
+{
+    Ok(Counting {
+        solver: Solver::new(alloc, table.program(), table)?,
+        asked: AtomicU64::new(0),
+        serve: AtomicU64::new(0),
+    })
+}
+
+/// What is placed: the first word is the number of workers, and the costs of the gaps may follow.
+fn placed_by<R: Threads + Sync, W: Wait + Sync>(
+    rt: &R,
+    wait: &W,
+    alloc: Global,
+    table: &SeqTable,
+    solver: &Counting,
+    words: &[&[u8]],
+) -> Result<Placed, Refusal>
+    requires { solver.now.solver.question ≡ table.now.question }
+{
+    let workers = byte_at(words, 0)?;
+    let costs = costs_of(alloc, table, words)?;
+    Ok(place(rt, wait, alloc, solver, table, &costs, workers)?)
+}
+
+/// Places fences, and says how many sets the solver was asked about.
+pub fn push_placed<R: Threads + Sync, W: Wait + Sync>(
+    rt: &R,
+    wait: &W,
+    alloc: Global,
+    table: &SeqTable,
+    words: &[&[u8]],
+    printed: &mut String,
+) -> Result<(), Refusal> {
+    let solver = new_counting(alloc, table)?;
+    let placed = placed_by(rt, wait, alloc, table, &solver, words)?;
+    Ok(push_lines(&placed, &solver, printed)?)
+}

@@ -1,0 +1,126 @@
+//! Calls of `cover_solver`.
+ghost use Rattle.std.specs.Prelude.{IfOk};
+ghost use Rattle.tso_machine.specs.Outcomes.{AreGapsOf};
+
+use crate::calls::SolverCall;
+use crate::fences::gaps_of;
+use crate::lines::{push_foreign_run, push_serving, push_table};
+use crate::machines::labels_from;
+use crate::placing::push_placed;
+use crate::refusal::Refusal;
+use crate::search::push_searched;
+use cover_solver::{ForeignRun, Oracle, SeqTable, Solver, Verdict, sequential};
+use gap_sets::GapSet;
+use litmus_text::{Litmus, NameTable};
+use std::alloc::{AllocError, Global};
+use std::sync::Wait;
+use std::thread::Threads;
+use tso_program::{Program, Shown};
+
+/// The set, if each of its gaps is one of the program's.
+fn set_in(program: &Program, set: GapSet) -> Result<GapSet, Refusal>
+    ensures { IfOk result (AreGapsOf program.now) }
+{
+    if program.all_gaps().holds_all(&set) {
+        Ok(set)
+    } else {
+        Err(Refusal::Gap)
+    }
+}
+
+/// What the solver says of the gaps that words name.
+fn verdict(alloc: Global, table: &SeqTable, words: &[&[u8]]) -> Result<Verdict, Refusal> {
+    let set = set_in(table.program(), gaps_of(table.program(), words))?;
+    let solver = Solver::new(alloc, table.program(), table)?;
+    Ok(solver.ask(&set)?)
+}
+
+fn push_verdict(
+    alloc: Global,
+    names: &NameTable,
+    verdict: &Verdict,
+    printed: &mut String,
+) -> Result<(), AllocError> {
+    match verdict {
+        Verdict::Foreign(run) => push_foreign_run(alloc, names, run, printed),
+        Verdict::Serves(served) => push_serving(served.tree(), printed),
+    }
+}
+
+/// Whether a set serves: a tree that shows it, or a foreign run.
+fn push_asked(
+    alloc: Global,
+    names: &NameTable,
+    table: &SeqTable,
+    words: &[&[u8]],
+    printed: &mut String,
+) -> Result<(), Refusal> {
+    let verdict = verdict(alloc, table, words)?;
+    Ok(push_verdict(alloc, names, &verdict, printed)?)
+}
+
+/// The foreign run of the labels that words spell.
+fn foreign(alloc: Global, table: &SeqTable, words: &[&[u8]]) -> Result<ForeignRun, Refusal> {
+    let labels = labels_from(alloc, words, 0)?;
+    Ok(ForeignRun::new(alloc, table, labels.as_slice())?)
+}
+
+fn push_foreign(
+    alloc: Global,
+    names: &NameTable,
+    table: &SeqTable,
+    words: &[&[u8]],
+    printed: &mut String,
+) -> Result<(), Refusal> {
+    let run = foreign(alloc, table, words)?;
+    Ok(push_foreign_run(alloc, names, &run, printed)?)
+}
+
+/// The answer to a call with the sequential outcomes.
+fn push_of_table<R: Threads + Sync, W: Wait + Sync>(
+    rt: &R,
+    wait: &W,
+    alloc: Global,
+    call: SolverCall,
+    words: &[&[u8]],
+    names: &NameTable,
+    table: &SeqTable,
+    printed: &mut String,
+) -> Result<(), Refusal> {
+    match call {
+        SolverCall::Sequential => Ok(push_table(alloc, names, table, printed)?),
+        SolverCall::Ask => push_asked(alloc, names, table, words, printed),
+        SolverCall::Foreign => push_foreign(alloc, names, table, words, printed),
+        SolverCall::Search => push_searched(alloc, table, words, printed),
+        SolverCall::Place => push_placed(rt, wait, alloc, table, words, printed),
+    }
+}
+
+/// Whether the call asks for what the litmus text names alone, which the word `--observed` says, and the words after it.
+fn options<'w, 'i>(words: &'w [&'i [u8]]) -> (bool, &'w [&'i [u8]]) {
+    match words.split_first() {
+        Some((option, rest)) if *option == b"--observed".as_slice() => (true, rest),
+        _ => (false, words),
+    }
+}
+
+/// The sequential outcomes of a test, of which all is shown or what the text names.
+fn table_of(alloc: Global, litmus: &Litmus<Program>, observed: bool) -> Result<SeqTable, Refusal> {
+    let shown = if observed { litmus.shown() } else { Shown::All };
+    Ok(sequential(alloc, &litmus.program, &shown)?)
+}
+
+/// The answer to a call with the sequential outcomes of a test.
+pub fn push_answer<R: Threads + Sync, W: Wait + Sync>(
+    rt: &R,
+    wait: &W,
+    alloc: Global,
+    call: SolverCall,
+    words: &[&[u8]],
+    litmus: &Litmus<Program>,
+    printed: &mut String,
+) -> Result<(), Refusal> {
+    let (observed, words) = options(words);
+    let table = table_of(alloc, litmus, observed)?;
+    push_of_table(rt, wait, alloc, call, words, &litmus.names, &table, printed)
+}

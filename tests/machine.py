@@ -1,0 +1,98 @@
+"""The two machines, walked state by state: what the programs list is compared with the outcomes that are found here.
+
+A program comes as `test_calls` prints what it reads of a litmus text. Its instructions and its states are worked out here alone.
+"""
+import re
+
+REGISTERS = ("Eax", "Ebx", "Ecx", "Edx", "Esi", "Edi")
+JUMPS = ("Jmp", "Je", "Jne")
+
+
+class Test:
+    """The code and the first registers of each thread, the first values of memory, and what an outcome names."""
+
+    def __init__(self, read):
+        threads = re.findall(r"Thread \{ code: Items \{ items: \[(.*?)\] \}, registers: \[(.*?)\] \}", read)
+        self.code = [re.findall(r"(\w+)(?:\((.*?)\))?(?:, |$)", code) for code, _ in threads]
+        self.registers = [numbers(first) for _, first in threads]
+        self.memory = numbers(re.search(r"^memory \[(.*)\]$", read, re.M)[1])
+        self.locations = re.search(r"^locations(.*)$", read, re.M)[1].split()
+        self.named = [names.split() for names in re.findall(r"^registers of \d+(.*)$", read, re.M)]
+
+    def gaps(self):
+        """The place of each gap, as a thread and the instruction after it."""
+        return [(t, k) for t, code in enumerate(self.code) for k in range(1, len(code))]
+
+    def line(self, outcome):
+        registers, memory = outcome
+        items = [f"{t}:{name.upper()}={registers[t][REGISTERS.index(name)]};" for t, names in enumerate(self.named) for name in names]
+        items += [f"{name}={value};" for name, value in zip(self.locations, memory)]
+        return " ".join(["outcome:", *items]) + "\n"
+
+
+def numbers(listed):
+    return tuple(int(number) for number in listed.split(", ") if number)
+
+
+def put(values, index, value):
+    return (*values[:index], value, *values[index + 1:])
+
+
+def executed(instruction, thread, memory, buffered):
+    """A thread and memory after the thread's instruction; nothing where it has to wait until no store of the thread waits."""
+    name, words = instruction[0], instruction[1].split(", ")
+    place, flag, registers, waiting = thread
+
+    def value(word):
+        return registers[REGISTERS.index(word)] if word in REGISTERS else int(word)
+
+    if name in ("Fence", "Xchg") and waiting:
+        return None
+    place += 1
+    if name in JUMPS and {"Jmp": True, "Je": flag, "Jne": not flag}[name]:
+        place = int(words[0])
+    elif name in ("CmpImm", "CmpReg"):
+        flag = value(words[0]) == value(words[1])
+    elif name in ("LoadImm", "Copy"):
+        registers = put(registers, REGISTERS.index(words[0]), value(words[1]))
+    elif name == "Load":
+        location = int(words[1])
+        seen = [stored for at, stored in waiting if at == location] or [memory[location]]
+        registers = put(registers, REGISTERS.index(words[0]), seen[-1])
+    elif name in ("StoreImm", "Store") and buffered:
+        waiting = (*waiting, (int(words[0]), value(words[1])))
+    elif name in ("StoreImm", "Store"):
+        memory = put(memory, int(words[0]), value(words[1]))
+    elif name == "Xchg":
+        location, register = int(words[0]), REGISTERS.index(words[1])
+        registers, memory = put(registers, register, memory[location]), put(memory, location, registers[register])
+    return (place, flag, registers, waiting), memory
+
+
+def steps(test, fenced, buffered, state):
+    """The states after each step that is possible: the oldest waiting store of a thread reaches memory, or an instruction is executed."""
+    threads, memory = state
+    for t, thread in enumerate(threads):
+        place, flag, registers, waiting = thread
+        if waiting:
+            location, value = waiting[0]
+            yield put(threads, t, (place, flag, registers, waiting[1:])), put(memory, location, value)
+        if place < len(test.code[t]) and not (waiting and (t, place) in fenced):
+            after = executed(test.code[t][place], thread, memory, buffered)
+            if after:
+                yield put(threads, t, after[0]), after[1]
+
+
+def outcomes(test, model, gaps):
+    """The outcomes, ascending; in the model `buffered` the gaps with these numbers are fenced."""
+    fenced = {place for gap, place in enumerate(test.gaps()) if gap in gaps}
+    first = tuple((0, False, registers, ()) for registers in test.registers), test.memory
+    seen, to_walk, found = {first}, [first], set()
+    while to_walk:
+        state = to_walk.pop()
+        after = set(steps(test, fenced, model == "buffered", state)) - seen
+        seen |= after
+        to_walk += after
+        if all(place == len(code) and not waiting for (place, _, _, waiting), code in zip(state[0], test.code)):
+            found.add((tuple(registers for _, _, registers, _ in state[0]), state[1]))
+    return sorted(found)
