@@ -47,7 +47,7 @@ pub fn equal_costs(alloc: Global, table: &SeqTable) -> Result<Costs, Refusal>
     Ok(Costs::new(alloc, &list)?)
 }
 
-/// The costs that words spell, from the second on, or 1 for each gap where there is none.
+/// The costs that the words after the first spell, or 1 for each gap where no word comes after it.
 fn costs_of(alloc: Global, table: &SeqTable, words: &[&[u8]]) -> Result<Costs, Refusal> {
     if words.len() < 2 {
         return equal_costs(alloc, table);

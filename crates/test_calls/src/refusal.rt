@@ -15,7 +15,7 @@ use thiserror::Error;
 use tso_machine::{ReplayFault, RunFault};
 use tso_program::{FenceFault, ProgramFault};
 
-/// A refusal by the call; `Call`, where the first line is no call; or `Gap`, where the program has not each of the gaps.
+/// A refusal by the call; `Call`, where the first line is not a call; or `Gap`, where the program lacks one of the gaps.
 #[derive(Clone, Copy, Debug, Error)]
 pub enum Refusal {
     #[error("call")]
