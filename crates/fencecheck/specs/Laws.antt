@@ -10,7 +10,7 @@ use Rattle.cert_forest.specs.Certificates as certificates
 use Rattle.cert_forest.specs.Limits.{IsCertificate}
 use Rattle.tree_laws.specs.Certificates.{IsValidCertificate}
 use Rattle.cert_check.specs.Claims.{claim_of}
-use Rattle.report_check.specs.Lines.{accepted_line}
+use Rattle.report.specs.Answers.{accepted_line}
 use Rattle.fencecheck.specs.Verdicts.{handed_in}
 use Rattle.fencecheck.specs.Replies.{IsReplyToInput}
 

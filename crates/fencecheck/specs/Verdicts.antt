@@ -20,9 +20,10 @@ use Rattle.cost_text.specs.GivenCosts.{AreGiven, AreNotGiven}
 use Rattle.tree_laws.specs.Certificates.{IsValidCertificate}
 use Rattle.cert_check.specs.Claims.{claim_of}
 use Rattle.cert_check.specs.Faults.{CheckFaultIs}
+use Rattle.report.specs.Answers.{accepted_line}
+use Rattle.report.specs.CertificateLines.{certificate_line}
+use Rattle.report.specs.CheckLines.{check_line}
 use Rattle.report.specs.Faults.{litmus_line, costs_line}
-use Rattle.report_check.specs.Lines.{accepted_line, certificate_line}
-use Rattle.report_check.specs.CheckLines.{check_line}
 use Rattle.fencecheck.specs.declared.judge.Refusal.{Refusal}
 use Rattle.fencecheck.specs.declared.judge.Refusal.TheVariants as refusal
 

@@ -34,3 +34,7 @@ set_line word p shown gaps cost = word ++ 32 ∷ observed shown ++ codes "cost "
 -- the set that is the answer
 abbrev pub answer_line : Listing → Shown → SetOfGaps → ℕ → List ℕ
 answer_line = set_line (codes "answer")
+
+-- the set that is accepted
+abbrev pub accepted_line : Listing → Shown → SetOfGaps → ℕ → List ℕ
+accepted_line = set_line (codes "accepted")

@@ -1,10 +1,10 @@
 //! The lines of why the checker refuses a certificate.
 
 ghost use Rattle.std.specs.Prelude.{◌≡◌, IfOk};
-ghost use Rattle.report_check.specs.CheckLines.{check_line, refused_node};
+ghost use Rattle.report.specs.CheckLines.{check_line, refused_node};
 
+use crate::faults::refused_at;
 use cert_check::{CheckFault, Path};
-use report::refused_at;
 use std::alloc::{AllocError, Global};
 
 /// Why a certificate is refused, with the number of a run or the path to a node.

@@ -1,10 +1,10 @@
 //! The lines of why bytes are no certificate's text.
 
 ghost use Rattle.std.specs.Prelude.{◌≡◌, IfOk};
-ghost use Rattle.report_check.specs.Lines.{certificate_line};
+ghost use Rattle.report.specs.CertificateLines.{certificate_line};
 
+use crate::faults::refused_at;
 use cert_forest::CertFault;
-use report::refused_at;
 use std::alloc::{AllocError, Global};
 
 /// Why bytes are no certificate's text, with the byte's offset.

@@ -1,17 +1,8 @@
--- The printed lines, byte for byte.
-use Rattle.std.specs.Prelude.{ℕ, List, [], ◌∷◌, ◌++◌, codes}
-use Rattle.std.specs.Fmt.{decimal}
-use Rattle.gap_sets.specs.Gaps.{SetOfGaps}
-use Rattle.tso_program.specs.declared.listing.Listing.{Listing}
-use Rattle.tso_program.specs.declared.shown.Shown.{Shown}
+-- The lines of why bytes are no certificate's text, byte for byte.
+use Rattle.std.specs.Prelude.{ℕ, List, codes}
 use Rattle.cert_forest.specs.declared.fault.CertFault.{CertFault}
 use Rattle.cert_forest.specs.declared.fault.CertFault.TheVariants as certificate
 use Rattle.report.specs.Faults.{refused, refused_at}
-use Rattle.report.specs.Answers.{set_line}
-
--- the set that is accepted
-abbrev pub accepted_line : Listing → Shown → SetOfGaps → ℕ → List ℕ
-accepted_line = set_line (codes "accepted")
 
 abbrev pub certificate_line : CertFault → List ℕ
 certificate_line certificate.Header = refused (codes "certificate 1 Header")

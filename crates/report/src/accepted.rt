@@ -1,10 +1,10 @@
 //! The line of a certificate that is accepted.
 
 ghost use Rattle.std.specs.Prelude.{◌≡◌, IfOk};
-ghost use Rattle.report_check.specs.Lines.{accepted_line};
+ghost use Rattle.report.specs.Answers.{accepted_line};
 
+use crate::answers::set_line;
 use gap_sets::GapSet;
-use report::set_line;
 use std::alloc::{AllocError, Global};
 use tso_program::{Program, Shown};
 
