@@ -3,8 +3,8 @@ use Rattle.std.specs.Prelude.{◌≡◌, ◌++◌, ℕ, List, Some, replicate}
 use Rattle.tso_program.specs.declared.listing.Listing.{Listing}
 use Rattle.tso_program.specs.Listings.{gap_count}
 use Rattle.tso_program.specs.Shown.{asked}
-use Rattle.litmus_text.specs.declared.litmus.Litmus.{Litmus}
-use Rattle.litmus_text.specs.Texts.{IsLitmus}
+use Rattle.litmus_reader.specs.declared.litmus.Litmus.{Litmus}
+use Rattle.litmus_reader.specs.Texts.{IsLitmus}
 use Rattle.cert_forest.specs.declared.certificate.Certificate.{Certificate}
 use Rattle.cert_forest.specs.Certificates as certificates
 use Rattle.cert_forest.specs.Limits.{IsCertificate}

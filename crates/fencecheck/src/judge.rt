@@ -15,7 +15,7 @@ use cert_check::{CheckFault, check};
 use cert_forest::{CertFault, Certificate, read_cert};
 use cost_text::{CostTextFault, given_costs};
 use gap_sets::Costs;
-use litmus_text::{Litmus, ReadFault, read_litmus};
+use litmus_reader::{Litmus, ReadFault, read_litmus};
 use report::{accepted_line, certificate_line, check_line, costs_line, litmus_line};
 use std::alloc::{AllocError, Global};
 use tso_program::{Program, Shown};

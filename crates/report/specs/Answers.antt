@@ -6,8 +6,8 @@ use Rattle.tso_program.specs.declared.listing.Listing.{Listing}
 use Rattle.tso_program.specs.declared.outcome.Outcome.{Outcome}
 use Rattle.tso_program.specs.declared.shown.Shown.{Shown}
 use Rattle.tso_program.specs.declared.shown.Shown.TheVariants.{All, Only}
-use Rattle.litmus_text.specs.Names.{Names}
-use Rattle.litmus_text.specs.Outcomes.{outcome_text}
+use Rattle.litmus_reader.specs.Names.{Names}
+use Rattle.litmus_reader.specs.Outcomes.{outcome_text}
 use Rattle.report.specs.Places.{gaps_text}
 
 -- a text after a space, or nothing where there is no text

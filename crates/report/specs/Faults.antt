@@ -9,8 +9,8 @@ use Rattle.tso_machine.specs.declared.ended.ReplayFault.{ReplayFault}
 use Rattle.tso_machine.specs.declared.ended.ReplayFault.TheVariants as replay
 use Rattle.tso_machine.specs.declared.run_text.RunFault.{RunFault}
 use Rattle.tso_machine.specs.declared.run_text.RunFault.TheVariants as run
-use Rattle.litmus_text.specs.declared.fault.ReadFault.{ReadFault}
-use Rattle.litmus_text.specs.declared.fault.ReadFault.TheVariants as read
+use Rattle.litmus_reader.specs.declared.fault.ReadFault.{ReadFault}
+use Rattle.litmus_reader.specs.declared.fault.ReadFault.TheVariants as read
 use Rattle.cost_text.specs.declared.fault.CostTextFault.{CostTextFault}
 use Rattle.cost_text.specs.declared.fault.CostTextFault.TheVariants as costs
 

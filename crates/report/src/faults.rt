@@ -5,7 +5,7 @@ ghost use Rattle.report.specs.Faults.{refused, refused_at, litmus_line, program_
 
 use cost_text::CostTextFault;
 use gap_sets::CostFault;
-use litmus_text::ReadFault;
+use litmus_reader::ReadFault;
 use std::alloc::{AllocError, Global};
 use tso_machine::{ReplayFault, RunFault};
 use tso_program::ProgramFault;
