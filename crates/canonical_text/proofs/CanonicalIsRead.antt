@@ -25,17 +25,17 @@ use Rattle.litmus_syntax.specs.declared.ending.Quantifier.TheVariants as word
 use Rattle.litmus_syntax.specs.Views.{PlaceView, Location, Register, EntryView, CellView, BodyView, SignView, EndingView}
 use Rattle.litmus_syntax.specs.Grammar.{NoneTwice, labels_in_rows as all_names}
 use Rattle.litmus_syntax.specs.Places.{same_place}
-use Rattle.litmus_text.specs.declared.litmus.Litmus.{Litmus}
+use Rattle.litmus_reader.specs.declared.litmus.Litmus.{Litmus}
 use Rattle.litmus_lines.specs.FirstLine.{is_visible, AreSome}
-use Rattle.litmus_text.specs.Names.{Names, all_registers, number_in}
-use Rattle.litmus_text.specs.Places.{entry_place, row_places, sign_places, places, location_name, is_register, names_of, names_among}
-use Rattle.litmus_text.specs.Outcomes.{is_named}
-use Rattle.litmus_text.specs.declared.label.Label.{Label}
-use Rattle.litmus_text.specs.Labels.{column, labels_behind, thread_labels, all_labels, position_in, are_found, JumpsAreFound}
-use Rattle.litmus_text.specs.Meaning.{first_value, memory_of, registers_of, thread_read, listing_of, observed_of, numbered_atom, quantifier_of, condition_of}
-use Rattle.litmus_text.specs.Meaning as meaning
-use Rattle.litmus_text.specs.Texts.{AreParts, Means, StandsFor, IsFencedLitmus}
-use Rattle.litmus_text.proofs.NamesOnce.{in_order_once}
+use Rattle.litmus_reader.specs.Names.{Names, all_registers, number_in}
+use Rattle.litmus_reader.specs.Places.{entry_place, row_places, sign_places, places, location_name, is_register, names_of, names_among}
+use Rattle.litmus_reader.specs.Outcomes.{is_named}
+use Rattle.litmus_reader.specs.declared.label.Label.{Label}
+use Rattle.litmus_reader.specs.Labels.{column, labels_behind, thread_labels, all_labels, position_in, are_found, JumpsAreFound}
+use Rattle.litmus_reader.specs.Meaning.{first_value, memory_of, registers_of, thread_read, listing_of, observed_of, numbered_atom, quantifier_of, condition_of}
+use Rattle.litmus_reader.specs.Meaning as meaning
+use Rattle.litmus_reader.specs.Texts.{AreParts, Means, StandsFor, IsFencedLitmus}
+use Rattle.litmus_reader.proofs.NamesOnce.{in_order_once}
 use Rattle.canonical_text.specs.Canonical.{entries_of, own_labels, moved_labels, body_of, place_named, signs_named, word_of, ending_of, litmus_fenced_at, canonical_text}
 use Rattle.canonical_text.specs.Printable.{IsTextNumber, IsLocationName, IsPrintablePlace, IsPrintableEntry, IsPrintableRow, IsPrintable, IsPrintableSign, ArePrintable, IsPrintableEnding}
 use Rattle.canonical_text.specs.Laws.{HasParts, CanonicalTextIsRead}

@@ -10,7 +10,7 @@ use Rattle.std.proofs.lemmas.List.{append-nil, take_more, drop_more}
 use Rattle.std.proofs.lemmas.List.Elements.{filter_map-append}
 use Rattle.tso_program.specs.Fences.{Gaps, place_of}
 use Rattle.tso_program.proofs.FencedLimits.{rises}
-use Rattle.litmus_text.specs.declared.label.Label.{Label}
+use Rattle.litmus_reader.specs.declared.label.Label.{Label}
 use Rattle.canonical_text.specs.Canonical.{named_at, label_names_at, own_labels, moved_label, moved_labels}
 
 -- ---- places of a fenced thread

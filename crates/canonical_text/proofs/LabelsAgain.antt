@@ -12,10 +12,10 @@ use Rattle.tso_program.specs.Listings.{code_of}
 use Rattle.tso_program.specs.Fences.{place_of}
 use Rattle.tso_program.proofs.FencedLimits.{rises}
 use Rattle.litmus_syntax.specs.Views.{CodeView, CellView}
-use Rattle.litmus_text.specs.declared.label.Label.{Label}
-use Rattle.litmus_text.specs.Labels.{column, size, labels_behind, thread_labels}
-use Rattle.litmus_text.specs.Meaning.{instruction_of, instruction_in}
-use Rattle.litmus_text.specs.Meaning as meaning
+use Rattle.litmus_reader.specs.declared.label.Label.{Label}
+use Rattle.litmus_reader.specs.Labels.{column, size, labels_behind, thread_labels}
+use Rattle.litmus_reader.specs.Meaning.{instruction_of, instruction_in}
+use Rattle.litmus_reader.specs.Meaning as meaning
 use Rattle.canonical_text.specs.Canonical.{label_names_at, own_labels, moved_label, code_named, cell_of, row_of, most_cells, rows_of}
 use Rattle.canonical_text.specs.Printable.{IsLabelName, IsPrintableCell, IsPrintableRow}
 use Rattle.canonical_text.proofs.LabelsNamed.{AreGoodLabels, Ascending, ascending_from, Before, none_at_end, before_more, none_past, standing, all_standing}

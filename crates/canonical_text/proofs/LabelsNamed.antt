@@ -8,8 +8,8 @@ use Rattle.std.proofs.lemmas.Bool.{cases_Bool, lt-ltb}
 use Rattle.std.proofs.lemmas.Bool.Decides.{Decides-eqb}
 use Rattle.std.proofs.lemmas.Slice.Eq.{bytes_eq-Decides}
 use Rattle.litmus_syntax.specs.Grammar.{IsNoneOf, NoneTwice}
-use Rattle.litmus_text.specs.declared.label.Label.{Label}
-use Rattle.litmus_text.specs.Labels.{label_in, position_in}
+use Rattle.litmus_reader.specs.declared.label.Label.{Label}
+use Rattle.litmus_reader.specs.Labels.{label_in, position_in}
 use Rattle.canonical_text.specs.Printable.{IsLabelName}
 use Rattle.canonical_text.specs.Canonical.{named_at, label_names_at, label_name_at}
 use Rattle.canonical_text.proofs.LabelPlaces.{here, elsewhere}

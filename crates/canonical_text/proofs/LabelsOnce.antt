@@ -9,7 +9,7 @@ use Rattle.std.proofs.lemmas.List.{append-nil, map-append}
 use Rattle.std.proofs.lemmas.List.Elements.{filter_map-append}
 use Rattle.litmus_syntax.specs.Views.{CellView}
 use Rattle.litmus_syntax.specs.Grammar.{IsNoneOf, NoneTwice, labels_from, row_labels, labels_in_rows}
-use Rattle.litmus_text.specs.Labels.{column, size, labels_behind, thread_labels}
+use Rattle.litmus_reader.specs.Labels.{column, size, labels_behind, thread_labels}
 use Rattle.canonical_text.proofs.LabelsNamed.{label_name}
 
 -- a label with its thread

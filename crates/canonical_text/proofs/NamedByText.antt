@@ -14,10 +14,10 @@ use Rattle.tso_program.specs.Instructions.{number}
 use Rattle.litmus_syntax.specs.Views.{PlaceView, Location, Register, EntryView, CodeView, LoadImm, Copy, Load, StoreImm, Store, Xchg, Fence, CmpImm, CmpReg, Je, Jne, Jmp, CellView, BodyView, SignView, Atom, Const, Not, And, Or, Open, Close, EndingView}
 use Rattle.litmus_syntax.specs.Places.{same_place}
 use Rattle.litmus_syntax.proofs.SeenLaws.{same_place_itself}
-use Rattle.litmus_text.specs.Names.{all_registers, with_name}
-use Rattle.litmus_text.specs.Places.{code_places, cell_places, cells_places, row_places, sign_places, entry_place, places, location_name, is_register, names_of}
-use Rattle.litmus_text.specs.Outcomes.{is_named}
-use Rattle.litmus_text.specs.Meaning.{first_value}
+use Rattle.litmus_reader.specs.Names.{all_registers, with_name}
+use Rattle.litmus_reader.specs.Places.{code_places, cell_places, cells_places, row_places, sign_places, entry_place, places, location_name, is_register, names_of}
+use Rattle.litmus_reader.specs.Outcomes.{is_named}
+use Rattle.litmus_reader.specs.Meaning.{first_value}
 use Rattle.canonical_text.specs.Printable.{IsTextNumber, IsLocationName, IsPrintablePlace, IsPrintableEntry, IsPrintableCode, IsPrintableContent, IsPrintableCell, IsPrintableRow, IsPrintableSign}
 use Rattle.canonical_text.proofs.ToldCode.{IsKnown}
 use Rattle.canonical_text.proofs.Lists.{all_of_both, each_among}

@@ -18,10 +18,10 @@ use Rattle.litmus_syntax.specs.Views.{PlaceView, Location, Register, EntryView}
 use Rattle.litmus_syntax.specs.Grammar.{IsNoneOf, NoneTwice, place_of_entry}
 use Rattle.litmus_syntax.specs.Places.{same_place}
 use Rattle.litmus_syntax.proofs.SeenLaws.{same_place_is}
-use Rattle.litmus_text.specs.Names.{Names, all_registers}
-use Rattle.litmus_text.specs.Places.{location_name, is_register}
-use Rattle.litmus_text.specs.Outcomes.{is_named}
-use Rattle.litmus_text.specs.Meaning.{first_value}
+use Rattle.litmus_reader.specs.Names.{Names, all_registers}
+use Rattle.litmus_reader.specs.Places.{location_name, is_register}
+use Rattle.litmus_reader.specs.Outcomes.{is_named}
+use Rattle.litmus_reader.specs.Meaning.{first_value}
 use Rattle.canonical_text.specs.Canonical.{location_name_at, location_entry, location_entries, named_entry, register_entries}
 use Rattle.canonical_text.specs.Printable.{IsTextNumber, IsLocationName, IsPrintableEntry}
 

@@ -12,8 +12,8 @@ use Rattle.tso_program.specs.declared.instruction.Reg.{Reg}
 use Rattle.litmus_syntax.specs.Views.{PlaceView, Location, Register}
 use Rattle.litmus_syntax.specs.Places.{same_place}
 use Rattle.litmus_syntax.proofs.SeenLaws.{same_place_is}
-use Rattle.litmus_text.specs.Names.{all_registers, with_name, in_order}
-use Rattle.litmus_text.specs.Places.{location_name, is_register, names_among}
+use Rattle.litmus_reader.specs.Names.{all_registers, with_name, in_order}
+use Rattle.litmus_reader.specs.Places.{location_name, is_register, names_among}
 use Rattle.canonical_text.proofs.NamedPlaces.{Named, named_places, threads_places, rising_threads, named_locations, register_among}
 use Rattle.canonical_text.proofs.ToldCode.{IsKnown}
 use Rattle.canonical_text.proofs.Lists.{range_same}

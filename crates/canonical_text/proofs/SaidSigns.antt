@@ -11,10 +11,10 @@ use Rattle.conditions.specs.Canonical.{signs_of, enclosed_signs_of}
 use Rattle.conditions.proofs.CanonicalSigns.{canonical_spell, canonical_mapped}
 use Rattle.litmus_syntax.specs.Views.{PlaceView, Location, Register, SignView}
 use Rattle.litmus_syntax.specs.Views as view
-use Rattle.litmus_text.specs.Names.{number_in}
-use Rattle.litmus_text.specs.Places.{sign_places}
-use Rattle.litmus_text.specs.Meaning.{atom_of, numbered_atom}
-use Rattle.litmus_text.specs.Meaning as meaning
+use Rattle.litmus_reader.specs.Names.{number_in}
+use Rattle.litmus_reader.specs.Places.{sign_places}
+use Rattle.litmus_reader.specs.Meaning.{atom_of, numbered_atom}
+use Rattle.litmus_reader.specs.Meaning as meaning
 use Rattle.canonical_text.specs.Canonical.{atom_named, sign_named, signs_named}
 use Rattle.canonical_text.specs.Printable.{IsTextNumber, IsPrintablePlace, IsPrintableSign, begins_with_a_word, SignsAreApart}
 use Rattle.canonical_text.proofs.NamedPlaces.{Named}

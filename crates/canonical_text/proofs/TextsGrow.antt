@@ -12,7 +12,7 @@ use Rattle.litmus_syntax.specs.declared.ending.Quantifier.{Quantifier}
 use Rattle.litmus_syntax.specs.Views.{PlaceView, EntryView, CodeView, SignView}
 use Rattle.text_tokens.proofs.PieceLaws.{text_of-append}
 use Rattle.tso_program.specs.declared.listing.Thread.{Thread}
-use Rattle.litmus_text.specs.Names.{Names}
+use Rattle.litmus_reader.specs.Names.{Names}
 use Rattle.canonical_text.specs.Spelling.{space, line_end, sign, next, joined_by, gap, code_pieces, label_pieces, cell_pieces, observed_place_pieces, observed_pieces, entry_pieces, initial_pieces, sign_pieces, quantifier_pieces, condition_pieces}
 use Rattle.canonical_text.specs.Canonical.{thread_entries, register_entries}
 

@@ -17,12 +17,12 @@ use Rattle.tso_program.proofs.FencedPlaces.{fenced_code_of}
 use Rattle.tso_program.proofs.FencedLimits.{ends}
 use Rattle.litmus_syntax.specs.Views.{PlaceView, Register, BodyView}
 use Rattle.litmus_syntax.specs.Grammar.{NoneTwice, labels_in_rows as all_names}
-use Rattle.litmus_text.specs.Names.{all_registers, number_in}
-use Rattle.litmus_text.specs.Places.{row_places}
-use Rattle.litmus_text.specs.declared.label.Label.{Label}
-use Rattle.litmus_text.specs.Labels.{thread_labels, all_labels, position_in, JumpsAreFound}
-use Rattle.litmus_text.specs.Meaning.{first_value, thread_read}
-use Rattle.litmus_text.specs.Meaning as meaning
+use Rattle.litmus_reader.specs.Names.{all_registers, number_in}
+use Rattle.litmus_reader.specs.Places.{row_places}
+use Rattle.litmus_reader.specs.declared.label.Label.{Label}
+use Rattle.litmus_reader.specs.Labels.{thread_labels, all_labels, position_in, JumpsAreFound}
+use Rattle.litmus_reader.specs.Meaning.{first_value, thread_read}
+use Rattle.litmus_reader.specs.Meaning as meaning
 use Rattle.canonical_text.specs.Canonical.{own_labels, moved_label, moved_labels}
 use Rattle.canonical_text.specs.Printable.{IsPrintableRow}
 use Rattle.canonical_text.proofs.LabelPlaces.{moved_of}

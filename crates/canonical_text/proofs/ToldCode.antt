@@ -14,13 +14,13 @@ use Rattle.tso_program.specs.Listings.{code_of, instr_at}
 use Rattle.tso_program.specs.Fences.{place_of, moved, fenced_code}
 use Rattle.litmus_syntax.specs.Views.{PlaceView, Location, Register, CodeView, LoadImm, Copy, Load, StoreImm, Store, Xchg, Fence, CmpImm, CmpReg, Je, Jne, Jmp, CellView}
 use Rattle.litmus_syntax.specs.Grammar.{NoneTwice}
-use Rattle.litmus_text.specs.Names.{number_in}
-use Rattle.litmus_text.specs.Places.{code_places, cell_places, cells_places, row_places}
-use Rattle.litmus_text.specs.declared.label.Label.{Label}
-use Rattle.litmus_text.specs.Labels.{label_in, position_in, jump_of, is_found, are_found}
-use Rattle.litmus_text.specs.Meaning.{instruction_of, instruction_in}
-use Rattle.litmus_text.specs.Meaning as meaning
-use Rattle.litmus_text.proofs.NamesOnce.{place_among, number_at}
+use Rattle.litmus_reader.specs.Names.{number_in}
+use Rattle.litmus_reader.specs.Places.{code_places, cell_places, cells_places, row_places}
+use Rattle.litmus_reader.specs.declared.label.Label.{Label}
+use Rattle.litmus_reader.specs.Labels.{label_in, position_in, jump_of, is_found, are_found}
+use Rattle.litmus_reader.specs.Meaning.{instruction_of, instruction_in}
+use Rattle.litmus_reader.specs.Meaning as meaning
+use Rattle.litmus_reader.proofs.NamesOnce.{place_among, number_at}
 use Rattle.canonical_text.specs.Canonical.{location_name_at, label_names_at, label_name_at, own_labels, moved_label, code_named, cell_of, row_of, most_cells, rows_of}
 use Rattle.canonical_text.specs.Printable.{IsLabelName, IsPrintableCode, IsPrintableContent, IsPrintableCell, IsPrintableRow}
 use Rattle.canonical_text.proofs.NamedPlaces.{Named}

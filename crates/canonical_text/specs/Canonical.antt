@@ -23,12 +23,12 @@ use Rattle.litmus_syntax.specs.declared.ending.Quantifier.{Quantifier as Word}
 use Rattle.litmus_syntax.specs.declared.ending.Quantifier.TheVariants as word
 use Rattle.litmus_syntax.specs.Views.{PlaceView, Location, Register, EntryView, CodeView, CellView, BodyView, SignView, EndingView}
 use Rattle.litmus_syntax.specs.Views as view
-use Rattle.litmus_text.specs.declared.label.Label.{Label}
-use Rattle.litmus_text.specs.declared.observed.Observed.{Observed}
-use Rattle.litmus_text.specs.declared.observed.Observed.TheVariants as observed
-use Rattle.litmus_text.specs.declared.litmus.Litmus.{Litmus}
-use Rattle.litmus_text.specs.Names.{Names, all_registers}
-use Rattle.litmus_text.specs.Outcomes.{is_named}
+use Rattle.litmus_reader.specs.declared.label.Label.{Label}
+use Rattle.litmus_reader.specs.declared.observed.Observed.{Observed}
+use Rattle.litmus_reader.specs.declared.observed.Observed.TheVariants as observed
+use Rattle.litmus_reader.specs.declared.litmus.Litmus.{Litmus}
+use Rattle.litmus_reader.specs.Names.{Names, all_registers}
+use Rattle.litmus_reader.specs.Outcomes.{is_named}
 use Rattle.canonical_text.specs.Spelling.{text_with}
 
 -- the name of a location; none where the text has no such location

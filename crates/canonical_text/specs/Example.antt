@@ -9,8 +9,8 @@ use Rattle.tso_program.specs.Fences.{fence}
 use Rattle.conditions.specs.declared.atom.Atom.TheVariants as atom
 use Rattle.conditions.specs.declared.condition.Quantifier.TheVariants.{Exists}
 use Rattle.conditions.specs.Tree as tree
-use Rattle.litmus_text.specs.declared.litmus.Litmus.{Litmus}
-use Rattle.litmus_text.specs.Names.{Names}
+use Rattle.litmus_reader.specs.declared.litmus.Litmus.{Litmus}
+use Rattle.litmus_reader.specs.Names.{Names}
 use Rattle.canonical_text.specs.Canonical.{canonical_text}
 
 -- a thread whose registers are 0 at first

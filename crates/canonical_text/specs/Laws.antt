@@ -9,8 +9,8 @@ use Rattle.litmus_syntax.specs.Grammar.{IsBody, IsEnding}
 use Rattle.litmus_lines.specs.FirstLine.{is_visible, AreSome, IsFirstLine}
 use Rattle.litmus_lines.specs.SkippedLines.{AreSkipped}
 use Rattle.tso_program.specs.declared.listing.Listing.{Listing}
-use Rattle.litmus_text.specs.declared.litmus.Litmus.{Litmus}
-use Rattle.litmus_text.specs.Texts.{IsLitmus, IsFencedLitmus}
+use Rattle.litmus_reader.specs.declared.litmus.Litmus.{Litmus}
+use Rattle.litmus_reader.specs.Texts.{IsLitmus, IsFencedLitmus}
 use Rattle.canonical_text.specs.Canonical.{litmus_fenced_at, canonical_text}
 use Rattle.canonical_text.specs.Spelling.{text_with}
 use Rattle.canonical_text.specs.Printable.{IsPrintable, IsPrintableEnding}

@@ -6,7 +6,7 @@ ghost use Rattle.canonical_text.specs.Spelling.{entry_pieces, initial_pieces};
 ghost use Rattle.canonical_text.specs.Canonical.{location_entry, location_entries, named_entry, thread_entries, register_entries, entries_of};
 
 use crate::words::{name_at, push_location_value, push_register_value};
-use litmus_text::NameTable;
+use litmus_reader::NameTable;
 use std::alloc::{AllocError, Global};
 use tso_program::{REGISTERS, Reg, Thread};
 

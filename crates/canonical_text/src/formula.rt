@@ -8,7 +8,7 @@ ghost use Rattle.canonical_text.specs.Canonical.{atom_named, sign_named, signs_n
 
 use crate::words::{name_at, push_location_value, push_register_value};
 use conditions::{Atom, Condition, Quantifier, Token};
-use litmus_text::NameTable;
+use litmus_reader::NameTable;
 use std::alloc::{AllocError, Global};
 
 fn push_atom(

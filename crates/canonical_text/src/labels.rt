@@ -7,7 +7,7 @@ ghost use Rattle.canonical_text.specs.Canonical.{label_names_at, label_name_at, 
 
 use crate::words::push_gap;
 use gap_sets::GapSet;
-use litmus_text::{Label, Litmus};
+use litmus_reader::{Label, Litmus};
 use std::alloc::AllocError;
 use tso_program::{Items, Program};
 

@@ -5,7 +5,7 @@ ghost use Rattle.canonical_text.specs.Spelling.{observed_place_pieces, observed_
 ghost use Rattle.canonical_text.specs.Canonical.{place_named};
 
 use crate::words::{name_at, push_gap, push_number, push_register};
-use litmus_text::{NameTable, Observed};
+use litmus_reader::{NameTable, Observed};
 use std::alloc::{AllocError, Global};
 
 /// `x;` or `t:REG;`

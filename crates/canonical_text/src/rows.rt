@@ -12,7 +12,7 @@ use crate::code::push_code;
 use crate::labels::{has_label, push_labels};
 use crate::words::{push_gap, push_number};
 use gap_sets::GapSet;
-use litmus_text::Litmus;
+use litmus_reader::Litmus;
 use std::alloc::{AllocError, Global};
 use tso_program::{FencedProgram, Instr, Program, Thread};
 

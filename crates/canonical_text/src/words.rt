@@ -1,13 +1,13 @@
 //! Words and numbers at the end of a text.
 ghost use Rattle.std.specs.Prelude.{◌≡◌, ◌++◌, [], OnOk, nat_lt, slice_index_or, if◌then◌else◌};
 ghost use Rattle.text_tokens.specs.Pieces.{text_of};
-ghost use Rattle.litmus_text.specs.Outcomes.{register_name};
+ghost use Rattle.litmus_reader.specs.Outcomes.{register_name};
 ghost use Rattle.litmus_syntax.specs.Views.{Location, Register};
 ghost use Rattle.canonical_text.specs.Spelling.{register_pieces, valued_pieces, gap};
 ghost use Rattle.canonical_text.specs.Canonical.{location_name_at};
 ghost use Rattle.std.specs.Fmt.{decimal};
 
-use litmus_text::NameTable;
+use litmus_reader::NameTable;
 use std::alloc::{AllocError, Global};
 use tso_program::Reg;
 

@@ -3,7 +3,7 @@ ghost use Rattle.std.specs.Prelude.{◌≡◌, ◌++◌, ℕ, OnOk, IfOk, IsOkUn
 ghost use Rattle.text_tokens.specs.Pieces.{text_of};
 ghost use Rattle.tso_program.specs.Fences.{gaps_in, first_missing};
 ghost use Rattle.tso_program.specs.declared.fenced.FenceFault.TheVariants.{NoSuchGap, OutOfMemory};
-ghost use Rattle.litmus_text.specs.Texts.{IsLitmus, IsFencedLitmus};
+ghost use Rattle.litmus_reader.specs.Texts.{IsLitmus, IsFencedLitmus};
 ghost use Rattle.canonical_text.specs.Spelling.{heading, body_pieces, ending_pieces, text_with};
 ghost use Rattle.canonical_text.specs.Canonical.{body_of, ending_of, moved_labels, canonical_text, litmus_fenced_at};
 
@@ -12,7 +12,7 @@ use crate::formula::push_condition;
 use crate::observed::push_observed;
 use crate::rows::{push_header, push_rows};
 use gap_sets::GapSet;
-use litmus_text::Litmus;
+use litmus_reader::Litmus;
 use std::alloc::{AllocError, Global};
 use tso_program::{FenceFault, FencedProgram, Program};
 

@@ -4,7 +4,7 @@ use Rattle.gap_sets.specs.Order.{total}
 use Rattle.tso_program.specs.Shown.{asked}
 use Rattle.tree_laws.specs.Certificates.{IsValidCertificate}
 use Rattle.cert_check.specs.Claims.{claim_of}
-use Rattle.report_check.specs.Lines.{accepted_line}
+use Rattle.report.specs.Answers.{accepted_line}
 use Rattle.fencecheck.specs.Inputs.{ArePartsOf}
 use Rattle.fencecheck.specs.Verdicts.{IsVerdict, accepted, refused, IsAccepted, handed_in}
 use Rattle.fencecheck.specs.Replies.{IsReplyToInput, judged, no_input}

@@ -3,14 +3,14 @@ use Rattle.std.specs.Prelude.{◌≡◌, ◌++◌, ℕ, List, Some, replicate}
 use Rattle.tso_program.specs.declared.listing.Listing.{Listing}
 use Rattle.tso_program.specs.Listings.{gap_count}
 use Rattle.tso_program.specs.Shown.{asked}
-use Rattle.litmus_text.specs.declared.litmus.Litmus.{Litmus}
-use Rattle.litmus_text.specs.Texts.{IsLitmus}
+use Rattle.litmus_reader.specs.declared.litmus.Litmus.{Litmus}
+use Rattle.litmus_reader.specs.Texts.{IsLitmus}
 use Rattle.cert_forest.specs.declared.certificate.Certificate.{Certificate}
 use Rattle.cert_forest.specs.Certificates as certificates
 use Rattle.cert_forest.specs.Limits.{IsCertificate}
 use Rattle.tree_laws.specs.Certificates.{IsValidCertificate}
 use Rattle.cert_check.specs.Claims.{claim_of}
-use Rattle.report_check.specs.Lines.{accepted_line}
+use Rattle.report.specs.Answers.{accepted_line}
 use Rattle.fencecheck.specs.Verdicts.{handed_in}
 use Rattle.fencecheck.specs.Replies.{IsReplyToInput}
 

@@ -3,7 +3,7 @@ use Rattle.std.specs.Prelude.{◌≡◌, ℕ, List, [], ◌∷◌, ◌++◌, Opt
 use Rattle.program_streams.specs.declared.fault.FileFault.{FileFault}
 use Rattle.program_streams.specs.Files.{AreOfFile, AreOfFileIfNamed, AreWithin, IsFileFault, IsNamedFileFault, IsTooLong}
 use Rattle.program_streams.specs.Streams.{HoldsBytes, IsReadFault}
-use Rattle.report.specs.Faults.{file_line}
+use Rattle.program_streams.specs.FileLines.{file_line}
 use Rattle.program_streams.specs.declared.files.TheConstants.{TEXT_LIMIT}
 use Rattle.fencecheck.specs.declared.parts.TheConstants.{CERTIFICATE_LIMIT}
 use Rattle.fencecheck.specs.Inputs.{ArePartsOf, IsTooLongInput}

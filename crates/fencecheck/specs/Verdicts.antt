@@ -7,9 +7,9 @@ use Rattle.tso_program.specs.declared.shown.Shown.{Shown}
 use Rattle.tso_program.specs.declared.shown.Shown.TheVariants.{All, Only}
 use Rattle.tso_program.specs.Shown.{asked}
 use Rattle.tso_machine.specs.Outcomes.{Headline}
-use Rattle.litmus_text.specs.Shown.{shown_by}
-use Rattle.litmus_text.specs.declared.litmus.Litmus.{Litmus}
-use Rattle.litmus_text.specs.Texts as litmus_texts
+use Rattle.litmus_reader.specs.Shown.{shown_by}
+use Rattle.litmus_reader.specs.declared.litmus.Litmus.{Litmus}
+use Rattle.litmus_reader.specs.Texts as litmus_texts
 use Rattle.cert_forest.specs.declared.certificate.Certificate.{Certificate}
 use Rattle.cert_forest.specs.declared.fault.CertFault.{CertFault}
 use Rattle.cert_forest.specs.declared.fault.CertFault.TheVariants as cert_fault
@@ -20,9 +20,10 @@ use Rattle.cost_text.specs.GivenCosts.{AreGiven, AreNotGiven}
 use Rattle.tree_laws.specs.Certificates.{IsValidCertificate}
 use Rattle.cert_check.specs.Claims.{claim_of}
 use Rattle.cert_check.specs.Faults.{CheckFaultIs}
+use Rattle.report.specs.Answers.{accepted_line}
+use Rattle.report.specs.CertificateLines.{certificate_line}
+use Rattle.report.specs.CheckLines.{check_line}
 use Rattle.report.specs.Faults.{litmus_line, costs_line}
-use Rattle.report_check.specs.Lines.{accepted_line, certificate_line}
-use Rattle.report_check.specs.CheckLines.{check_line}
 use Rattle.fencecheck.specs.declared.judge.Refusal.{Refusal}
 use Rattle.fencecheck.specs.declared.judge.Refusal.TheVariants as refusal
 

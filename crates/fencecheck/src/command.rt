@@ -9,8 +9,9 @@ ghost use Rattle.fencecheck.specs.Names.{file_names_of};
 
 use crate::judge::{judge, refusal_line};
 use crate::parts::{CERTIFICATE_LIMIT, read_joined};
-use program_streams::{FileFault, FileStore, TEXT_LIMIT, bytes_if_named, named_bytes, say};
-use report::file_line;
+use program_streams::{
+    FileFault, FileStore, TEXT_LIMIT, bytes_if_named, file_line, named_bytes, say,
+};
 use std::alloc::{AllocError, Global};
 use std::io::{Read, Write};
 

@@ -8,16 +8,15 @@ ghost use Rattle.cost_text.specs.GivenCosts.{AreGiven, AreNotGiven};
 ghost use Rattle.tree_laws.specs.Certificates.{IsValidCertificate};
 ghost use Rattle.cert_check.specs.Claims.{claim_of};
 ghost use Rattle.cert_check.specs.Faults.{CheckFaultIs};
-ghost use Rattle.report_check.specs.Lines.{accepted_line};
+ghost use Rattle.report.specs.Answers.{accepted_line};
 ghost use Rattle.fencecheck.specs.Verdicts.{handed_in, IsAccepted, IsRefused, refusal_line};
 
 use cert_check::{CheckFault, check};
 use cert_forest::{CertFault, Certificate, read_cert};
 use cost_text::{CostTextFault, given_costs};
 use gap_sets::Costs;
-use litmus_text::{Litmus, ReadFault, read_litmus};
-use report::{costs_line, litmus_line};
-use report_check::{accepted_line, certificate_line, check_line};
+use litmus_reader::{Litmus, ReadFault, read_litmus};
+use report::{accepted_line, certificate_line, check_line, costs_line, litmus_line};
 use std::alloc::{AllocError, Global};
 use tso_program::{Program, Shown};
 

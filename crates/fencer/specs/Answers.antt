@@ -6,7 +6,7 @@ use Rattle.program_streams.specs.declared.fault.FileFault.{FileFault}
 use Rattle.program_streams.specs.declared.files.TheConstants.{TEXT_LIMIT}
 use Rattle.program_streams.specs.Streams.{IsReadFault, TakesLine, TakesOfLine}
 use Rattle.program_streams.specs.Words.{words_of}
-use Rattle.report.specs.Faults.{file_line}
+use Rattle.program_streams.specs.FileLines.{file_line}
 use Rattle.fencer_words.specs.declared.job.Job.{Job}
 use Rattle.fencer_words.specs.declared.job.Job.TheVariants.{Replay, Outcomes, Place}
 use Rattle.fencer_words.specs.CommandLines.{AsksFor, IsNoCommand}

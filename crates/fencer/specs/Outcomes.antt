@@ -9,11 +9,11 @@ use Rattle.tso_program.specs.Shown.{Question}
 use Rattle.tso_machine.specs.declared.label.Model.{Model}
 use Rattle.tso_machine.specs.Machine.{Mode}
 use Rattle.tso_machine.specs.Outcomes.{AllowsShown}
-use Rattle.litmus_text.specs.declared.litmus.Litmus.{Litmus}
-use Rattle.litmus_text.specs.Texts.{IsLitmus, IsNoLitmus}
+use Rattle.litmus_reader.specs.declared.litmus.Litmus.{Litmus}
+use Rattle.litmus_reader.specs.Texts.{IsLitmus, IsNoLitmus}
 use Rattle.cover_solver.specs.declared.fault.SolveFault.TheVariants as solve
 use Rattle.cover_solver.specs.Ordered.{Ascend}
-use Rattle.litmus_text.specs.Shown.{shown_as, question_of}
+use Rattle.litmus_reader.specs.Shown.{shown_as, question_of}
 use Rattle.report.specs.Answers.{outcome_line}
 use Rattle.report.specs.Observations.{observation_line, condition_line}
 use Rattle.fencer.specs.declared.refusals.Refusal.{Refusal}

@@ -5,6 +5,7 @@ use Rattle.std.specs.declared.string.String.{String}
 use Rattle.program_streams.specs.declared.fault.FileFault.{FileFault}
 use Rattle.program_streams.specs.declared.fault.FileFault.TheVariants as file
 use Rattle.program_streams.specs.declared.files.TheConstants.{TEXT_LIMIT}
+use Rattle.program_streams.specs.FileLines.{file_line}
 use Rattle.program_streams.specs.Files.{AreOfFile, AreOfFileIfNamed, IsFileFault, IsNamedFileFault}
 use Rattle.program_streams.specs.Streams.{HoldsBytes}
 use Rattle.fencer_words.specs.declared.job.Placement.{Placement}
@@ -15,7 +16,7 @@ use Rattle.placed_text.specs.declared.fault.TextFault.TheVariants as fault
 use Rattle.placed_text.specs.declared.writing.PlacedText.{PlacedText}
 use Rattle.placed_text.specs.PlacedTexts.{IsPlacedText}
 use Rattle.placed_text.specs.TextFaults.{HasNoPlacedText}
-use Rattle.report.specs.Faults.{refused, litmus_line, costs_line, file_line}
+use Rattle.report.specs.Faults.{refused, litmus_line, costs_line}
 
 -- the name of a file, where one is given
 abbrev pub name_of : {Z : Type 0} → Option (String Z) → Option (List ℕ)

@@ -13,9 +13,9 @@ use clap::Error;
 use clap::error::ErrorKind;
 use fencer_words::{Job, read_words};
 use program_streams::{
-    LineFault, TEXT_LIMIT, WritableFileStore, line_words, read_line_up_to, refuse_words, say,
+    LineFault, TEXT_LIMIT, WritableFileStore, file_line, line_words, read_line_up_to, refuse_words,
+    say,
 };
-use report::file_line;
 use std::alloc::{AllocError, Global};
 use std::io::{Read, Write};
 use std::sync::Wait;

@@ -7,8 +7,8 @@ ghost use Rattle.fencer.specs.Outcomes.{list_text, PrintsOutcomes, HasNoList, Ar
 use crate::refusals::{Refusal, tell};
 use cover_solver::{SolveFault, outcomes};
 use litmus_text::{Litmus, read_litmus};
-use program_streams::{FileStore, TEXT_LIMIT, named_bytes, say};
-use report::{condition_line, file_line, observation_line, outcome_line};
+use program_streams::{FileStore, TEXT_LIMIT, file_line, named_bytes, say};
+use report::{condition_line, observation_line, outcome_line};
 use std::alloc::{AllocError, Global};
 use std::io::{Read, Write};
 use tso_machine::Model;

@@ -9,9 +9,10 @@ use fence_place::PlaceFault;
 use fencer_words::Placement;
 use placed_text::{PlacedText, TextFault, place_text};
 use program_streams::{
-    FileFault, FileStore, TEXT_LIMIT, WritableFileStore, bytes_if_named, named_bytes, say,
+    FileFault, FileStore, TEXT_LIMIT, WritableFileStore, bytes_if_named, file_line, named_bytes,
+    say,
 };
-use report::{costs_line, file_line, litmus_line};
+use report::{costs_line, litmus_line};
 use std::alloc::{AllocError, Global};
 use std::io::{Read, Write};
 use std::sync::Wait;

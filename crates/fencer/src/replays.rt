@@ -9,8 +9,8 @@ ghost use Rattle.fencer.specs.Replays.{label_words_text, PrintsRun, HasNoRun, Is
 use crate::refusals::{Refusal, tell};
 use gap_sets::GapSet;
 use litmus_text::{Litmus, read_litmus};
-use program_streams::{FileStore, TEXT_LIMIT, named_bytes, say};
-use report::{file_line, outcome_line, passed_line};
+use program_streams::{FileStore, TEXT_LIMIT, file_line, named_bytes, say};
+use report::{outcome_line, passed_line};
 use std::alloc::{AllocError, Global};
 use std::io::{Read, Write};
 use tso_machine::{Ended, Label, Model, ReplayFault, RunFault, read_run, replay};

@@ -1,27 +1,19 @@
-//! Litmus texts: which program and which condition a text stands for.
+//! Litmus texts and the cost files that go with them: what reads them, what writes them, and the types of their parts.
+//!
+//! Each item is of a crate below and has its contract there. A crate that needs only a part names that crate itself:
+//! `litmus_reader` reads litmus texts, `canonical_text` writes them, `cost_text` reads cost files.
 #![tactic(auto)]
 
-mod condition;
-mod fault;
-mod jumps;
-mod label;
-mod laws;
-mod lines;
-mod litmus;
-mod mentions;
-mod names;
-mod observed;
-mod outcome;
-mod program;
-mod reader;
-mod shown;
-
-pub use conditions::{Condition, holds};
-pub use fault::ReadFault;
-pub use label::Label;
-pub use laws::{store_buffering_is_read, texts_name_few_locations};
-pub use litmus::Litmus;
-pub use names::NameTable;
-pub use observed::Observed;
-pub use outcome::write_outcome;
-pub use reader::{read_fenced, read_litmus};
+pub use canonical_text::{
+    canonical_text_is_read, printed_parts_are_read, store_buffering_is_written, write_litmus,
+};
+pub use conditions::{Atom, Condition, Formula, Quantifier, holds};
+pub use cost_text::{CostTextFault, given_costs, read_costs};
+pub use gap_sets::{CostFault, Costs, GapSet};
+pub use litmus_reader::{
+    Label, Litmus, NameTable, Observed, ReadFault, read_fenced, read_litmus,
+    store_buffering_is_read, texts_name_few_locations, write_outcome,
+};
+pub use tso_program::{
+    FenceFault, FencedProgram, Items, Names, Outcome, Program, ProgramFault, Reg, Shown,
+};

@@ -6,8 +6,8 @@ use Rattle.tso_program.specs.declared.listing.Listing.{Listing}
 use Rattle.tso_program.specs.declared.shown.Shown.{Shown}
 use Rattle.tso_program.specs.Shown.{Question}
 use Rattle.tso_machine.specs.Outcomes.{Headline, IsTheAnswer}
-use Rattle.litmus_text.specs.declared.litmus.Litmus.{Litmus}
-use Rattle.litmus_text.specs.Texts.{IsLitmus, IsFencedLitmus}
+use Rattle.litmus_reader.specs.declared.litmus.Litmus.{Litmus}
+use Rattle.litmus_reader.specs.Texts.{IsLitmus, IsFencedLitmus}
 use Rattle.canonical_text.specs.Canonical.{canonical_text, litmus_fenced_at}
 use Rattle.cost_text.specs.GivenCosts.{AreGiven}
 use Rattle.cert_forest.specs.declared.certificate.Certificate.{Certificate}
@@ -19,7 +19,7 @@ use Rattle.cert_check.specs.Claims.{claim_of}
 use Rattle.report.specs.Answers.{answer_line}
 use Rattle.fence_place.specs.declared.placing.Placed.{Placed}
 use Rattle.placed_text.specs.declared.writing.PlacedText.{PlacedText}
-use Rattle.litmus_text.specs.Shown.{shown_as, question_of}
+use Rattle.litmus_reader.specs.Shown.{shown_as, question_of}
 
 -- the text is that of a certificate which claims these gaps, and which the checker accepts, since it is valid
 pub record IsCertificateOf (q : Question) (costs : List ℕ) (gaps : SetOfGaps) (text : List ℕ) : Type 0 where

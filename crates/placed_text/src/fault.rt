@@ -1,8 +1,7 @@
 //! Why nothing is placed in the program of a text.
 
-use cost_text::CostTextFault;
 use fence_place::PlaceFault;
-use litmus_text::ReadFault;
+use litmus_text::{CostTextFault, ReadFault};
 use thiserror::Error;
 
 /// Why nothing is placed in the program of a text. Where memory runs out, that is `OutOfMemory`, and no inner

@@ -1,13 +1,12 @@
 //! What the texts stand for.
 ghost use Rattle.std.specs.Prelude.{◌≡◌, IfErr, IfOk, option_map};
-ghost use Rattle.litmus_text.specs.Texts.{IsLitmus};
+ghost use Rattle.litmus_reader.specs.Texts.{IsLitmus};
 ghost use Rattle.cost_text.specs.GivenCosts.{AreGiven};
 ghost use Rattle.placed_text.specs.TextFaults.{HasNoProgram, HasNoCosts};
 
 use crate::TextFault;
-use cost_text::{CostTextFault, given_costs};
 use gap_sets::Costs;
-use litmus_text::{Litmus, ReadFault, read_litmus};
+use litmus_text::{CostTextFault, Litmus, ReadFault, given_costs, read_litmus};
 use std::alloc::Global;
 use tso_program::Program;
 

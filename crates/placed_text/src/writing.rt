@@ -3,10 +3,9 @@ ghost use Rattle.std.specs.Prelude.{◌≡◌, None, IfOk};
 ghost use Rattle.tso_program.specs.Fences.{first_missing};
 ghost use Rattle.placed_text.specs.PlacedTexts.{AreWrittenTexts};
 
-use canonical_text::write_litmus;
 use cert_forest::write_cert;
 use fence_place::Placed;
-use litmus_text::Litmus;
+use litmus_text::{Litmus, write_litmus};
 use report::answer_line;
 use std::alloc::{AllocError, Global};
 use tso_program::{FenceFault, Program, Shown};

@@ -1,3 +1,4 @@
+pub mod FileLines
 pub mod Files
 pub mod Streams
 pub mod Words

@@ -1,4 +1,9 @@
-//! Why a file could not be used.
+//! Why a file could not be used, and the line that says it.
+
+ghost use Rattle.std.specs.Prelude.{◌≡◌, IfOk};
+ghost use Rattle.program_streams.specs.FileLines.{file_line};
+
+use std::alloc::{AllocError, Global};
 
 /// Why a file could not be used.
 #[derive(Clone, Copy, PartialEq, Eq, Debug)]
@@ -9,4 +14,15 @@ pub enum FileFault {
     Write,
     /// It has more bytes than the limit.
     TooLong,
+}
+
+/// The line of why a file could not be used.
+pub fn file_line(alloc: Global, fault: FileFault) -> Result<Vec<u8>, AllocError>
+    ensures { IfOk result (λ line. line.items ≡ file_line fault) }
+{
+    match fault {
+        FileFault::Read => Vec::from_slice(alloc, b"refused file 1 Read\n"),
+        FileFault::Write => Vec::from_slice(alloc, b"refused file 2 Write\n"),
+        FileFault::TooLong => Vec::from_slice(alloc, b"refused file 3 TooLong\n"),
+    }
 }

@@ -9,7 +9,7 @@ mod streams;
 mod words;
 
 pub use command_line::given_words;
-pub use fault::FileFault;
+pub use fault::{FileFault, file_line};
 pub use files::{
     FileStore, SystemFiles, TEXT_LIMIT, WritableFileStore, bytes_if_named, named_bytes,
 };

@@ -6,8 +6,8 @@ use Rattle.tso_program.specs.declared.listing.Listing.{Listing}
 use Rattle.tso_program.specs.declared.outcome.Outcome.{Outcome}
 use Rattle.tso_program.specs.declared.shown.Shown.{Shown}
 use Rattle.tso_program.specs.declared.shown.Shown.TheVariants.{All, Only}
-use Rattle.litmus_text.specs.Names.{Names}
-use Rattle.litmus_text.specs.Outcomes.{outcome_text}
+use Rattle.litmus_reader.specs.Names.{Names}
+use Rattle.litmus_reader.specs.Outcomes.{outcome_text}
 use Rattle.report.specs.Places.{gaps_text}
 
 -- a text after a space, or nothing where there is no text
@@ -34,3 +34,7 @@ set_line word p shown gaps cost = word ++ 32 ∷ observed shown ++ codes "cost "
 -- the set that is the answer
 abbrev pub answer_line : Listing → Shown → SetOfGaps → ℕ → List ℕ
 answer_line = set_line (codes "answer")
+
+-- the set that is accepted
+abbrev pub accepted_line : Listing → Shown → SetOfGaps → ℕ → List ℕ
+accepted_line = set_line (codes "accepted")

@@ -9,12 +9,10 @@ use Rattle.tso_machine.specs.declared.ended.ReplayFault.{ReplayFault}
 use Rattle.tso_machine.specs.declared.ended.ReplayFault.TheVariants as replay
 use Rattle.tso_machine.specs.declared.run_text.RunFault.{RunFault}
 use Rattle.tso_machine.specs.declared.run_text.RunFault.TheVariants as run
-use Rattle.litmus_text.specs.declared.fault.ReadFault.{ReadFault}
-use Rattle.litmus_text.specs.declared.fault.ReadFault.TheVariants as read
+use Rattle.litmus_reader.specs.declared.fault.ReadFault.{ReadFault}
+use Rattle.litmus_reader.specs.declared.fault.ReadFault.TheVariants as read
 use Rattle.cost_text.specs.declared.fault.CostTextFault.{CostTextFault}
 use Rattle.cost_text.specs.declared.fault.CostTextFault.TheVariants as costs
-use Rattle.program_streams.specs.declared.fault.FileFault.{FileFault}
-use Rattle.program_streams.specs.declared.fault.FileFault.TheVariants as file
 
 -- the line of a refusal
 abbrev pub refused : List ℕ → List ℕ
@@ -81,8 +79,3 @@ replay_line (replay.BufferEmpty step) = refused_at (codes "replay 3 BufferEmpty 
 replay_line (replay.FenceWaits step) = refused_at (codes "replay 4 FenceWaits step") step
 replay_line (replay.NotEnded step) = refused_at (codes "replay 5 NotEnded step") step
 replay_line replay.OutOfMemory = refused (codes "replay 6 OutOfMemory")
-
-abbrev pub file_line : FileFault → List ℕ
-file_line file.Read = refused (codes "file 1 Read")
-file_line file.Write = refused (codes "file 2 Write")
-file_line file.TooLong = refused (codes "file 3 TooLong")

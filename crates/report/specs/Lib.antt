@@ -1,4 +1,6 @@
 pub mod Answers
+pub mod CertificateLines
+pub mod CheckLines
 pub mod Faults
 pub mod Laws
 pub mod Observations

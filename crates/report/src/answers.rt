@@ -5,7 +5,7 @@ ghost use Rattle.report.specs.Answers.{outcome_line, passed_line, observed, set_
 
 use crate::places::push_gaps;
 use gap_sets::GapSet;
-use litmus_text::{NameTable, write_outcome};
+use litmus_reader::{NameTable, write_outcome};
 use std::alloc::{AllocError, Global};
 use tso_program::{Outcome, Program, Shown};
 

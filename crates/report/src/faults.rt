@@ -1,12 +1,11 @@
 //! The lines of refusals: the part that refuses, the fault's number and name, and where it shows.
 
 ghost use Rattle.std.specs.Prelude.{◌≡◌, IfOk, string_bytes};
-ghost use Rattle.report.specs.Faults.{refused, refused_at, litmus_line, program_line, program_text, costs_line, cost_line, cost_text, run_line, replay_line, file_line};
+ghost use Rattle.report.specs.Faults.{refused, refused_at, litmus_line, program_line, program_text, costs_line, cost_line, cost_text, run_line, replay_line};
 
 use cost_text::CostTextFault;
 use gap_sets::CostFault;
-use litmus_text::ReadFault;
-use program_streams::FileFault;
+use litmus_reader::ReadFault;
 use std::alloc::{AllocError, Global};
 use tso_machine::{ReplayFault, RunFault};
 use tso_program::ProgramFault;
@@ -120,17 +119,6 @@ pub fn replay_line(alloc: Global, fault: ReplayFault) -> Result<Vec<u8>, AllocEr
         ReplayFault::FenceWaits(step) => refused_at(alloc, "replay 4 FenceWaits step", step as u64),
         ReplayFault::NotEnded(step) => refused_at(alloc, "replay 5 NotEnded step", step as u64),
         ReplayFault::OutOfMemory => refused(alloc, "replay 6 OutOfMemory"),
-    }
-}
-
-/// Why a file could not be used.
-pub fn file_line(alloc: Global, fault: FileFault) -> Result<Vec<u8>, AllocError>
-    ensures { IfOk result (λ line. line.items ≡ file_line fault) }
-{
-    match fault {
-        FileFault::Read => refused(alloc, "file 1 Read"),
-        FileFault::Write => refused(alloc, "file 2 Write"),
-        FileFault::TooLong => refused(alloc, "file 3 TooLong"),
     }
 }
 

@@ -1,7 +1,7 @@
 use Rattle.std.proofs.Common.{◌≡◌, ◌++◌, take}
 use Rattle.std.specs.List.{flat_map}
 use Rattle.text_tokens.specs.Pieces.{text_of}
-use Rattle.litmus_text.specs.Names.{all_registers}
+use Rattle.litmus_reader.specs.Names.{all_registers}
 use Rattle.canonical_text.specs.Spelling.{entry_pieces}
 use Rattle.canonical_text.specs.Canonical.{named_entry}
 use Rattle.canonical_text.proofs.entries.push_thread.Given as goal

@@ -4,7 +4,7 @@ use Rattle.std.proofs.lemmas.List.{append-nil}
 use Rattle.text_tokens.specs.Pieces.{text_of}
 use Rattle.canonical_text.specs.Spelling.{gap, joined_by, label_pieces}
 use Rattle.tso_program.specs.Fences.{gaps_in}
-use Rattle.litmus_text.specs.declared.label.Label.{Label}
+use Rattle.litmus_reader.specs.declared.label.Label.{Label}
 use Rattle.canonical_text.specs.Canonical.{label_names_at, own_labels, moved_labels}
 use Rattle.canonical_text.proofs.LabelPlaces.{moved_at, moved_nowhere}
 use Rattle.canonical_text.proofs.labels.push_labels.Goals as goal

@@ -2,8 +2,8 @@ use Rattle.std.proofs.Common.{◌≡◌, ◌<◌, ℕ, List, ◌++◌, length, m
 use Rattle.std.proofs.lemmas.List.{length-map}
 use Rattle.std.proofs.Math.Seq.{take-length}
 use Rattle.text_tokens.specs.Pieces.{text_of}
-use Rattle.litmus_text.specs.declared.observed.Observed.{Observed}
-use Rattle.litmus_text.specs.declared.observed.Observed.TheVariants as observed
+use Rattle.litmus_reader.specs.declared.observed.Observed.{Observed}
+use Rattle.litmus_reader.specs.declared.observed.Observed.TheVariants as observed
 use Rattle.canonical_text.specs.Spelling.{gap, joined_by, observed_place_pieces}
 use Rattle.canonical_text.specs.Canonical.{place_named}
 use Rattle.canonical_text.proofs.TextsGrow.{between_at, element_column_more, not_none, brackets}

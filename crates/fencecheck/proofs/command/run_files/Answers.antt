@@ -1,6 +1,6 @@
 use Rattle.std.specs.Prelude.{option_map}
 use Rattle.program_streams.proofs.Printed.{prints_more, prints_line}
-use Rattle.report.specs.Faults.{file_line}
+use Rattle.program_streams.specs.FileLines.{file_line}
 use Rattle.fencecheck.specs.Verdicts.{IsVerdict}
 use Rattle.fencecheck.specs.Replies.{IsReplyToFiles, judged, no_file}
 use Rattle.fencecheck.specs.Names.{file_names_of}

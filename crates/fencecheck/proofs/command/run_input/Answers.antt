@@ -1,6 +1,6 @@
 use Rattle.std.proofs.Common.{None}
 use Rattle.program_streams.proofs.Printed.{prints_more, prints_line}
-use Rattle.report.specs.Faults.{file_line}
+use Rattle.program_streams.specs.FileLines.{file_line}
 use Rattle.fencecheck.specs.Verdicts.{IsVerdict}
 use Rattle.fencecheck.specs.Replies.{IsReplyToInput, judged, no_input}
 use Rattle.fencecheck.proofs.Joined.{parts_seen}

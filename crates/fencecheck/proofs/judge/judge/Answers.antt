@@ -3,7 +3,7 @@ use Rattle.tso_program.specs.declared.listing.Listing.{Listing}
 use Rattle.tso_program.specs.declared.shown.Shown.{Shown}
 use Rattle.tso_program.specs.declared.shown.Shown.TheVariants.{All, Only}
 use Rattle.tso_program.specs.Shown.{asked}
-use Rattle.litmus_text.specs.declared.litmus.Litmus.{Litmus}
+use Rattle.litmus_reader.specs.declared.litmus.Litmus.{Litmus}
 use Rattle.cert_check.specs.Claims.{claim_of}
 use Rattle.cert_check.specs.Faults.{CheckFaultIs}
 use Rattle.fencecheck.specs.Verdicts.{handed_in}

@@ -1,6 +1,6 @@
 use Rattle.std.proofs.Common.{◌∙◌, arith, map, sym}
 use Rattle.std.specs.Prelude.{string_bytes}
-use Rattle.report.specs.Faults.{file_line}
+use Rattle.program_streams.specs.FileLines.{file_line}
 use Rattle.program_streams.specs.Words.{words_of, IsUtf8Refusal}
 use Rattle.fencer_words.specs.CommandLines.{no_utf8}
 use Rattle.fencer.specs.Answers.{IsOutput, by_line, no_line}

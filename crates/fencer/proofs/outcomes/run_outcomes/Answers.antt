@@ -1,4 +1,4 @@
-use Rattle.report.specs.Faults.{file_line}
+use Rattle.program_streams.specs.FileLines.{file_line}
 use Rattle.program_streams.proofs.Printed.{prints_line, prints_more}
 use Rattle.fencer.specs.Outcomes.{AreOutcomes, HasNoList, PrintsOutcomes}
 use Rattle.fencer.specs.Refusals.{IsTold}

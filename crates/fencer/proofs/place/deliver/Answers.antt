@@ -3,7 +3,7 @@ use Rattle.std.specs.declared.alloc.AllocError.{AllocError}
 use Rattle.program_streams.specs.declared.fault.FileFault.{FileFault}
 use Rattle.program_streams.specs.declared.fault.FileFault.TheVariants as file
 use Rattle.program_streams.proofs.Printed.{prints_line, prints_made}
-use Rattle.report.specs.Faults.{file_line}
+use Rattle.program_streams.specs.FileLines.{file_line}
 use Rattle.fencer.specs.Placements.{kept, not_kept}
 use Rattle.fencer.proofs.place.deliver.Goals as goal
 

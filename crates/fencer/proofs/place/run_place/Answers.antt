@@ -1,7 +1,7 @@
 use Rattle.std.proofs.Common.{refl}
 use Rattle.std.specs.Prelude.{option_map}
 use Rattle.program_streams.proofs.Printed.{prints_line, prints_more}
-use Rattle.report.specs.Faults.{file_line}
+use Rattle.program_streams.specs.FileLines.{file_line}
 use Rattle.fencer.specs.Placements.{of_texts, no_texts}
 use Rattle.fencer.proofs.place.run_place.Goals as goal
 

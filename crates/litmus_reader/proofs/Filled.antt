@@ -1,0 +1,194 @@
+-- The reader's tables hold what they should after each entry.
+use Rattle.std.proofs.Common.{◌≡◌, ℕ, ◌<◌, Bool, true, false, List, [], ◌∷◌, ◌++◌, length, get_or, set, map, replicate, fold, refl, sym, ap, ◌∙◌, arith, inl, inr}
+use Rattle.std.specs.Prelude.{◌==◌, ◌&&◌, ◌||◌, min, if◌then◌else◌}
+use Rattle.std.specs.Option.{option_map_or}
+use Rattle.std.specs.List.{range_with_len, filter_map, list_any}
+use Rattle.std.proofs.lemmas.Bool.{cases_Bool, eqb-true, eqb-false}
+use Rattle.std.proofs.lemmas.List.{length-replicate, get_or-replicate, length-set, get_or-set_same, get_or-set_other}
+use Rattle.std.proofs.lemmas.List.Sums.{fold-append}
+use Rattle.std.proofs.lemmas.List.FromFn.{fill_by_all, length-map-range_with_len, get_or-map-range_with_len}
+use Rattle.tso_program.specs.declared.instruction.Reg.{Reg}
+use Rattle.tso_program.specs.declared.instruction.Reg.TheVariants.{Eax, Ebx, Ecx, Edx, Esi, Edi}
+use Rattle.tso_program.specs.Instructions.{number}
+use Rattle.conditions.specs.declared.atom.Atom.{Atom}
+use Rattle.conditions.specs.declared.atom.Atom.TheVariants as atom
+use Rattle.litmus_syntax.specs.Views.{PlaceView, Location, Register, BodyView}
+use Rattle.litmus_reader.specs.Names.{Names, all_registers, with_name}
+use Rattle.litmus_reader.specs.Places.{location_name, is_register, names_among}
+use Rattle.litmus_reader.specs.Meaning.{code_in}
+use Rattle.litmus_reader.specs.declared.label.Label.{Label}
+use Rattle.litmus_reader.specs.Labels.{thread_labels, all_labels}
+use Rattle.litmus_reader.specs.Filling.{byte_at, FindsAs, FindAllAs, with_put, no_names, noted, stored, with_initial, value_of, is_of_location, is_of_register, entry_atoms, memory_from, registers_from, thread_in, thread_by}
+
+-- ---- lists of numbers' values
+
+same_map : {X Y : Type 0} (f g : X → Y) (xs : List X) → ((x : X) → f x ≡ g x) → map f xs ≡ map g xs
+same_map f g xs h = λ i. map (λ x. h x i) xs
+
+pub range_same : {X : Type 0} (f g : ℕ → X) (n : ℕ) → ((k : ℕ) → k < n → f k ≡ g k) → map f (range_with_len 0 n) ≡ map g (range_with_len 0 n)
+range_same f g n h =
+    fill_by_all g (map f (range_with_len 0 n)) n (f 0) (length-map-range_with_len f 0 n) (λ k lt. get_or-map-range_with_len f 0 n k k (f 0) lt (omega arith) ∙ h k lt)
+
+set_at : {X : Type 0} (f : ℕ → X) (n k : ℕ) (x : X) (l : ℕ) → l < n → get_or (set (map f (range_with_len 0 n)) k x) l x ≡ (if k == l then x else f l)
+set_at {X} f n k x l lt =
+    let xs : List X = map f (range_with_len 0 n) in
+    elim (cases_Bool (k == l)) [
+      | inl e ↦
+          ap (λ (j : ℕ). get_or (set xs j x) l x) (eqb-true k l e)
+          ∙ get_or-set_same xs l x x (omega (arith, length-map-range_with_len f 0 n))
+          ∙ sym (ap (λ (b : Bool). if b then x else f l) e)
+      | inr e ↦
+          get_or-set_other xs k l x x (λ q. eqb-false k l e (sym q))
+          ∙ get_or-map-range_with_len f 0 n l l x lt (omega arith)
+          ∙ sym (ap (λ (b : Bool). if b then x else f l) e)
+    ]
+
+-- one value of a list of numbers' values is changed
+set_range : {X : Type 0} (f : ℕ → X) (n k : ℕ) (x : X) → set (map f (range_with_len 0 n)) k x ≡ map (λ l. if k == l then x else f l) (range_with_len 0 n)
+set_range {X} f n k x =
+    fill_by_all (λ l. if k == l then x else f l) (set (map f (range_with_len 0 n)) k x) n x (length-set (map f (range_with_len 0 n)) k x ∙ length-map-range_with_len f 0 n) (set_at f n k x)
+
+all_same : {X : Type 0} (n : ℕ) (x : X) → replicate n x ≡ map (λ _. x) (range_with_len 0 n)
+all_same {X} n x =
+    let f : ℕ → X = λ _. x in fill_by_all f (replicate n x) n x (length-replicate n x) (λ k lt. get_or-replicate n k x x lt)
+
+-- ---- tables: a value for each register of each of so many threads
+
+abbrev grid : {X : Type 0} → (ℕ → Reg → X) → ℕ → List (List X)
+grid f n = map (λ t. map (f t) all_registers) (range_with_len 0 n)
+
+row_set : {X : Type 0} (g : Reg → X) (r : Reg) (x : X) → set (map g all_registers) (number r) x ≡ map (λ s. if number r == number s then x else g s) all_registers
+row_set g Eax x = refl
+row_set g Ebx x = refl
+row_set g Ecx x = refl
+row_set g Edx x = refl
+row_set g Esi x = refl
+row_set g Edi x = refl
+
+abbrev changed : {X : Type 0} → (ℕ → Reg → X) → ℕ → Reg → X → ℕ → Reg → X
+changed f t r x u s = if t == u && number r == number s then x else f u s
+
+row_changed : {X : Type 0} (f : ℕ → Reg → X) (t : ℕ) (r : Reg) (x : X) (u n : ℕ) → u < n
+    → (if t == u then set (get_or (grid f n) t []) (number r) x else map (f u) all_registers) ≡ map (changed f t r x u) all_registers
+row_changed {X} f t r x u n lt =
+    let line : ℕ → List X = λ v. map (f v) all_registers in
+    elim (cases_Bool (t == u)) [
+      | inl e ↦
+          let same : t ≡ u = eqb-true t u e in
+          let here : get_or (grid f n) t [] ≡ line u = ap (λ (v : ℕ). get_or (grid f n) v []) same ∙ get_or-map-range_with_len line 0 n u u [] lt (omega arith) in
+          ap (λ (b : Bool). if b then set (get_or (grid f n) t []) (number r) x else line u) e
+          ∙ ap (λ (old : List X). set old (number r) x) here
+          ∙ row_set (f u) r x
+          ∙ sym (ap (λ (b : Bool). map (λ s. if b && number r == number s then x else f u s) all_registers) e)
+      | inr e ↦
+          ap (λ (b : Bool). if b then set (get_or (grid f n) t []) (number r) x else line u) e
+          ∙ sym (ap (λ (b : Bool). map (λ s. if b && number r == number s then x else f u s) all_registers) e)
+    ]
+
+put_grid : {X : Type 0} (f : ℕ → Reg → X) (n t : ℕ) (r : Reg) (x : X) → with_put (grid f n) t (number r) x ≡ grid (changed f t r x) n
+put_grid {X} f n t r x =
+    let row : ℕ → List X = λ u. map (f u) all_registers in
+    let new : List X = set (get_or (grid f n) t []) (number r) x in
+    set_range row n t new ∙ range_same (λ u. if t == u then new else row u) (λ u. map (changed f t r x u) all_registers) n (λ u lt. row_changed f t r x u n lt)
+
+same_grid : {X : Type 0} (f g : ℕ → Reg → X) (n : ℕ) → ((t : ℕ) (r : Reg) → f t r ≡ g t r) → grid f n ≡ grid g n
+same_grid f g n h = λ i. grid (λ t r. h t r i) n
+
+-- ---- memory and registers at the start
+
+stored_range : (f : ℕ → ℕ) (n : ℕ) (a : Atom) → stored (map f (range_with_len 0 n)) a ≡ map (λ l. if is_of_location l a then value_of a else f l) (range_with_len 0 n)
+stored_range f n (atom.Location k x) = set_range f n k x
+stored_range f n (atom.Register t r x) = refl
+
+stored_from : (f : ℕ → ℕ) (n : ℕ) (atoms : List Atom)
+    → fold stored (map f (range_with_len 0 n)) atoms ≡ map (λ l. fold (λ v a. if is_of_location l a then value_of a else v) (f l) atoms) (range_with_len 0 n)
+stored_from f n [] = refl
+stored_from f n (a ∷ atoms) = ap (λ (memory : List ℕ). fold stored memory atoms) (stored_range f n a) ∙ stored_from (λ l. if is_of_location l a then value_of a else f l) n atoms
+
+-- memory after all initial values
+pub stored_all : (n : ℕ) (atoms : List Atom) → fold stored (replicate n 0) atoms ≡ memory_from n atoms
+stored_all n atoms = ap (λ (memory : List ℕ). fold stored memory atoms) (all_same n 0) ∙ stored_from (λ _. 0) n atoms
+
+loaded_grid : (f : ℕ → Reg → ℕ) (n : ℕ) (a : Atom) → with_initial (grid f n) a ≡ grid (λ t r. if is_of_register t r a then value_of a else f t r) n
+loaded_grid f n (atom.Location l x) = refl
+loaded_grid f n (atom.Register t r x) = put_grid f n t r x
+
+loaded_from : (f : ℕ → Reg → ℕ) (n : ℕ) (atoms : List Atom) → fold with_initial (grid f n) atoms ≡ grid (λ t r. fold (λ v a. if is_of_register t r a then value_of a else v) (f t r) atoms) n
+loaded_from f n [] = refl
+loaded_from f n (a ∷ atoms) = ap (λ (table : List (List ℕ)). fold with_initial table atoms) (loaded_grid f n a) ∙ loaded_from (λ t r. if is_of_register t r a then value_of a else f t r) n atoms
+
+-- the registers after all initial values
+pub loaded_all : (n : ℕ) (atoms : List Atom) → fold with_initial (replicate n (replicate 6 0)) atoms ≡ map (registers_from atoms) (range_with_len 0 n)
+loaded_all n atoms = ap (λ (table : List (List ℕ)). fold with_initial table atoms) (all_same n (replicate 6 0)) ∙ loaded_from (λ _ _. 0) n atoms
+
+-- labels that are found alike have the same positions
+same_positions : (found labels : List Label) → FindsAs found labels → byte_at found ≡ byte_at labels
+same_positions found labels h = λ i name. min 255 (option_map_or (λ l. l.position) (h name i) 0)
+
+-- threads with their registers and labels from tables
+pub threads_filled : (numbered : List ℕ → ℕ) (body : BodyView) (registers : List (List ℕ)) (found : List (List Label)) (atoms : List Atom) → atoms ≡ entry_atoms numbered body.entries
+    → registers ≡ map (registers_from atoms) (range_with_len 0 body.threads) → FindAllAs found (all_labels body)
+    → map (thread_in numbered body.rows registers found) (range_with_len 0 (length found)) ≡ map (thread_by numbered byte_at body) (range_with_len 0 body.threads)
+threads_filled numbered body registers found atoms said table known =
+    let own = entry_atoms numbered body.entries in
+    let same : registers ≡ map (registers_from own) (range_with_len 0 body.threads) = table ∙ ap (λ (said_ : List Atom). map (registers_from said_) (range_with_len 0 body.threads)) said in
+    let count : length found ≡ body.threads = known.0 ∙ length-map-range_with_len (thread_labels body.rows) 0 body.threads in
+    ap (λ (n : ℕ). map (thread_in numbered body.rows registers found) (range_with_len 0 n)) count
+    ∙ range_same (thread_in numbered body.rows registers found) (thread_by numbered byte_at body) body.threads
+    (λ t lt i. record {
+      code = code_in numbered ((same_positions (get_or found t []) (get_or (all_labels body) t []) (known.1 t) ∙ ap byte_at (get_or-map-range_with_len (thread_labels body.rows) 0 body.threads t t [] lt (omega arith))) i) body.rows t;
+      registers = (ap (λ (rs : List (List ℕ)). get_or rs t (replicate 6 0)) same ∙ get_or-map-range_with_len (registers_from own) 0 body.threads t t (replicate 6 0) lt (omega arith)) i;
+    })
+
+-- ---- names
+
+some_else : (b c : Bool) → (if b then true else c) ≡ (c || b)
+some_else true true = refl
+some_else true false = refl
+some_else false true = refl
+some_else false false = refl
+
+or_last : (a b c : Bool) → ((a || b) || c) ≡ (a || (b || c))
+or_last true b c = refl
+or_last false b c = refl
+
+noted_from : (n : ℕ) (ls : List (List ℕ)) (f : ℕ → Reg → Bool) (ps : List PlaceView)
+    → fold noted (record { locations = ls; registers = grid f n }) ps ≡ record { locations = fold with_name ls (filter_map location_name ps); registers = grid (λ t r. f t r || list_any (is_register t r) ps) n }
+noted_from n ls f [] = λ i. record { locations = ls; registers = same_grid f (λ t r. f t r || false) n (λ t r. sym (or_false (f t r))) i }
+  where
+    or_false : (b : Bool) → (b || false) ≡ b
+    or_false true = refl
+    or_false false = refl
+noted_from n ls f (Location x ∷ ps) = noted_from n (with_name ls x) f ps
+noted_from n ls f (Register t r ∷ ps) =
+    let g : ℕ → Reg → Bool = λ u s. f u s || (t == u && number r == number s) in
+    let marked : with_put (grid f n) t (number r) true ≡ grid g n = put_grid f n t r true ∙ same_grid (changed f t r true) g n (λ u s. some_else (t == u && number r == number s) (f u s)) in
+    ap (λ (table : List (List Bool)). fold noted (record { locations = ls; registers = table }) ps) marked
+    ∙ noted_from n ls g ps
+    ∙ (λ i. record {
+      locations = fold with_name ls (filter_map location_name ps);
+      registers = same_grid (λ u s. g u s || list_any (is_register u s) ps) (λ u s. f u s || list_any (is_register u s) (Register t r ∷ ps)) n
+          (λ u s. or_last (f u s) (t == u && number r == number s) (list_any (is_register u s) ps)) i;
+    })
+
+-- noting each place gives the names among them
+pub noted_all : (n : ℕ) (ps : List PlaceView) → fold noted (no_names n) ps ≡ names_among n ps
+noted_all n ps =
+    ap (λ (table : List (List Bool)). fold noted (record { locations = []; registers = table }) ps) (all_same n (replicate 6 false)) ∙ noted_from n [] (λ _ _. false) ps
+
+-- noting what each part of a text names
+pub noted_parts : (n : ℕ) (es es' rs rs' os os' ss : List PlaceView) (first second third fourth last : Names) → es' ≡ es → rs' ≡ rs → os' ≡ os → first ≡ no_names n → second ≡ fold noted first es' → third ≡ fold noted second rs'
+    → fourth ≡ fold noted third os' → last ≡ fold noted fourth ss → last ≡ names_among n (es ++ (rs ++ (os ++ ss)))
+noted_parts n es es' rs rs' os os' ss first second third fourth last same_es same_rs same_os e f g h k =
+    k
+    ∙ ap (λ (names : Names). fold noted names ss) h
+    ∙ ap (λ (names : Names). fold noted (fold noted names os') ss) g
+    ∙ ap (λ (names : Names). fold noted (fold noted (fold noted names rs') os') ss) f
+    ∙ ap (λ (names : Names). fold noted (fold noted (fold noted (fold noted names es') rs') os') ss) e
+    ∙ ap (λ (ps : List PlaceView). fold noted (fold noted (fold noted (fold noted (no_names n) ps) rs') os') ss) same_es
+    ∙ ap (λ (ps : List PlaceView). fold noted (fold noted (fold noted (fold noted (no_names n) es) ps) os') ss) same_rs
+    ∙ ap (λ (ps : List PlaceView). fold noted (fold noted (fold noted (fold noted (no_names n) es) rs) ps) ss) same_os
+    ∙ sym (fold-append noted (fold noted (fold noted (no_names n) es) rs) os ss)
+    ∙ sym (fold-append noted (fold noted (no_names n) es) rs (os ++ ss))
+    ∙ sym (fold-append noted (no_names n) es (rs ++ (os ++ ss)))
+    ∙ noted_all n (es ++ (rs ++ (os ++ ss)))

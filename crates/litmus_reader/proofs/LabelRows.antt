@@ -1,0 +1,36 @@
+-- Labels of a thread, one row after another.
+use Rattle.std.proofs.Common.{◌≡◌, ℕ, ◌+◌, ◌<◌, List, [], ◌∷◌, ◌++◌, length, drop, get_or, map, Option, Some, None, refl, sym, ap, ◌∙◌, append_assoc}
+use Rattle.std.specs.Prelude.{slice_get}
+use Rattle.std.specs.List.{cons_option}
+use Rattle.std.specs.Global.{Vec}
+use Rattle.std.proofs.lemmas.List.{at_drop_more}
+use Rattle.litmus_syntax.specs.declared.cell.Cell.{Cell}
+use Rattle.litmus_syntax.specs.Views.{CellView, row_view}
+use Rattle.litmus_reader.specs.declared.label.Label.{Label}
+use Rattle.litmus_reader.specs.Labels.{column, size, labels_behind}
+
+-- the labels of the rows from the i-th on, behind k instructions
+abbrev pub behind : List (Vec Cell) → ℕ → ℕ → ℕ → List Label
+behind rows t k i = labels_behind k (column (map row_view (drop i rows)) t)
+
+row_is : (rows : List (Vec Cell)) (i t k : ℕ) (d : Vec Cell) (o : Option CellView) → i < length rows → slice_get (row_view (get_or rows i d)) t ≡ o
+    → behind rows t k i ≡ labels_behind k (cons_option o (column (map row_view (drop (i + 1) rows)) t))
+row_is rows i t k d o lt is =
+    at_drop_more (λ (rs : List (Vec Cell)). labels_behind k (column (map row_view rs) t)) rows i d lt
+    ∙ ap (λ (o : Option CellView). labels_behind k (cons_option o (column (map row_view (drop (i + 1) rows)) t))) is
+
+-- a row with a cell of the thread
+pub one_cell : (rows : List (Vec Cell)) (i t k : ℕ) (d : Vec Cell) (c : CellView) (before : List Label) → i < length rows → slice_get (row_view (get_or rows i d)) t ≡ Some c
+    → (before ++ map (λ l. record { name = l; position = k }) c.labels) ++ behind rows t (k + size c) (i + 1) ≡ before ++ behind rows t k i
+one_cell rows i t k d c before lt is =
+    append_assoc before (map (λ l. record { name = l; position = k }) c.labels) (behind rows t (k + size c) (i + 1))
+    ∙ ap (λ (ls : List Label). before ++ ls) (sym (row_is rows i t k d (Some c) lt is))
+
+-- a row without one
+pub no_cell : (rows : List (Vec Cell)) (i t k : ℕ) (d : Vec Cell) (before : List Label) → i < length rows → slice_get (row_view (get_or rows i d)) t ≡ None
+    → before ++ behind rows t k (i + 1) ≡ before ++ behind rows t k i
+no_cell rows i t k d before lt is = ap (λ (ls : List Label). before ++ ls) (sym (row_is rows i t k d None lt is))
+
+pub named_labels : {X : Type 0} (now : X → List ℕ) (k : ℕ) (names : List X) → ◌≡◌ {A = List Label} (map (λ n. record { name = now n; position = k }) names) (map (λ l. record { name = l; position = k }) (map now names))
+named_labels now k [] = refl
+named_labels now k (n ∷ names) = ap (λ (ls : List Label). record { name = now n; position = k } ∷ ls) (named_labels now k names)

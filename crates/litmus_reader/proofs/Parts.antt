@@ -1,0 +1,130 @@
+-- The parts that are read are those of the tokens, and no others.
+use Rattle.std.proofs.Common.{◌≡◌, ℕ, List, [], length, map, Option, Some, None, refl, sym, subst}
+use Rattle.std.specs.Prelude.{⊤, Err}
+use Rattle.text_tokens.specs.Tokens.{Tok}
+use Rattle.tso_program.specs.declared.listing.Listing.{Listing}
+use Rattle.conditions.specs.declared.atom.Atom.{Atom}
+use Rattle.conditions.specs.Tree.{Tree, tree_map}
+use Rattle.conditions.proofs.Mapped.{spells_mapped, spells_unmapped}
+use Rattle.conditions.proofs.SpelledIsRead.{spells_one}
+use Rattle.conditions.specs.Grammar.{Spells, Sum}
+use Rattle.conditions.specs.Reads.{SpellsOnly, SpellsNone}
+use Rattle.litmus_syntax.specs.declared.fault.Refusal.{Refusal}
+use Rattle.litmus_syntax.specs.declared.fault.SyntaxFault.{SyntaxFault}
+use Rattle.litmus_syntax.specs.declared.fault.SyntaxFault.TheVariants.{Refused, OutOfMemory as NoMemory}
+use Rattle.litmus_syntax.specs.Exact.{ReadsNone, ReadsEnding, NoEnding}
+use Rattle.litmus_syntax.specs.Views.{PlaceView, BodyView, EndingView}
+use Rattle.litmus_syntax.specs.Grammar.{IsBody, IsEnding}
+use Rattle.litmus_reader.specs.declared.litmus.Litmus.{Litmus}
+use Rattle.litmus_reader.specs.declared.fault.ReadFault.{ReadFault}
+use Rattle.litmus_reader.specs.Faults.{MatchFault}
+use Rattle.litmus_reader.specs.Places.{names_of}
+use Rattle.litmus_reader.specs.Labels.{all_labels, JumpsAreFound}
+use Rattle.litmus_reader.specs.Meaning.{sign_of, numbered_atom, quantifier_of, observed_of}
+use Rattle.litmus_reader.specs.Filling.{byte_in, byte_at, listing_by}
+use Rattle.litmus_reader.specs.Reading.{numbered_signs, ReadsOne, Found, AreReadTokens, IsSyntaxFault, HasNoParts}
+use Rattle.litmus_reader.specs.Texts.{AreParts}
+use Rattle.litmus_reader.proofs.Faults.{match_map}
+
+ending_is : (refusal : Option Refusal) (threads : ℕ) (ending e : EndingView) (others : List Tok) → ReadsOne refusal threads ending others → IsEnding threads e others → (e ≡ ending) × (refusal ≡ None)
+ending_is None threads ending e others h is = (h.1 e is, refl)
+ending_is (Some r) threads ending e others h is = absurd (h e is)
+
+-- other parts are these
+parts_are : (tokens : List Tok) (body b : BodyView) (refusal : Option Refusal) (ending e : EndingView) (f : Tree (PlaceView × ℕ)) → Found tokens body refusal ending → AreParts tokens b e f
+    → (b ≡ body) × (e ≡ ending) × (refusal ≡ None) × Spells Sum f (map sign_of ending.signs) []
+parts_are tokens body b refusal ending e f found parts =
+    let o = found.begins_only b parts.others parts.begins in
+    let others : IsEnding body.threads e found.others =
+    subst (λ (x : List Tok). IsEnding body.threads e x) o.1 (subst (λ (x : BodyView). IsEnding x.threads e parts.others) o.0 parts.ends) in
+    let d = ending_is refusal body.threads ending e found.others found.ends others in
+    (o.0, d.0, d.1, subst (λ (x : EndingView). Spells Sum f (map sign_of x.signs) []) d.0 parts.spells)
+
+ending_found : (refusal : Option Refusal) (threads : ℕ) (ending : EndingView) (others : List Tok) → ReadsOne refusal threads ending others → refusal ≡ None → IsEnding threads ending others
+ending_found None threads ending others h e = h.0
+ending_found (Some r) threads ending others h e = absurd cc
+
+-- what was found, with the formula that the signs spell, are the parts
+found_parts : (tokens : List Tok) (body : BodyView) (refusal : Option Refusal) (ending : EndingView) (f : Tree (PlaceView × ℕ)) → Found tokens body refusal ending → refusal ≡ None
+    → Spells Sum f (map sign_of ending.signs) [] → JumpsAreFound body → AreParts tokens body ending f
+found_parts tokens body refusal ending f found e spells jumps = record {
+  others = found.others;
+  begins = found.begins;
+  ends = ending_found refusal body.threads ending found.others found.ends e;
+  spells = spells;
+  jumps = jumps;
+}
+
+-- what the readers' clauses say of the tokens
+pub found_of : (tokens ts others : List Tok) (body : BodyView) (refusal : Option Refusal) (ending : EndingView) → ts ≡ tokens
+    → IsBody body ts others × ((b : BodyView) (rest : List Tok) → IsBody b ts rest → (b ≡ body) × (rest ≡ others)) → ReadsOne refusal body.threads ending others → Found tokens body refusal ending
+found_of tokens ts others body refusal ending e begins ends =
+    let at : IsBody body tokens others × ((b : BodyView) (rest : List Tok) → IsBody b tokens rest → (b ≡ body) × (rest ≡ others)) =
+    subst (λ (x : List Tok). IsBody body x others × ((b : BodyView) (rest : List Tok) → IsBody b x rest → (b ≡ body) × (rest ≡ others))) e begins in
+    record { others = others; begins = at.0; begins_only = at.1; ends = ends }
+
+-- what a refused token says
+pub refused_body : (tokens ts : List Tok) (refused : SyntaxFault) (fault : ReadFault) → ts ≡ tokens → ReadsNone IsBody refused ts → IsSyntaxFault refused fault → MatchFault fault ⊥ (λ _. ⊥) ⊤ (HasNoParts tokens)
+refused_body tokens ts refused fault e none is =
+    let no_parts : (r : Refusal) × (refused ≡ Refused r) → HasNoParts tokens = λ r body ending f parts.
+    let here : ReadsNone IsBody (Refused r.0) ts = subst (λ (x : SyntaxFault). ReadsNone IsBody x ts) r.1 none in
+    here body parts.others (subst (λ (x : List Tok). IsBody body x parts.others) (sym e) parts.begins) in
+    match_map fault ⊥ ⊥ (λ _. ⊥) (λ _. ⊥) (refused ≡ NoMemory) ⊤ ((r : Refusal) × (refused ≡ Refused r)) (HasNoParts tokens) (λ h. h) (λ _ h. h) (λ _. tt) no_parts is
+
+-- what a refused token after the rows says
+pub refused_ending : (tokens ts others : List Tok) (body : BodyView) (refused : SyntaxFault) (fault : ReadFault) → ts ≡ tokens
+    → IsBody body ts others × ((b : BodyView) (rest : List Tok) → IsBody b ts rest → (b ≡ body) × (rest ≡ others)) → ReadsEnding body.threads (Err refused) others
+    → IsSyntaxFault refused fault → MatchFault fault ⊥ (λ _. ⊥) ⊤ (HasNoParts tokens)
+refused_ending tokens ts others body refused fault e begins none is =
+    let no_parts : (r : Refusal) × (refused ≡ Refused r) → HasNoParts tokens = λ r b ending f parts.
+    let here : NoEnding body.threads others = subst (λ (x : SyntaxFault). ReadsEnding body.threads (Err x) others) r.1 none in
+    let o = begins.1 b parts.others (subst (λ (x : List Tok). IsBody b x parts.others) (sym e) parts.begins) in
+    here ending (subst (λ (x : List Tok). IsEnding body.threads ending x) o.1 (subst (λ (x : BodyView). IsEnding x.threads ending parts.others) o.0 parts.ends)) in
+    match_map fault ⊥ ⊥ (λ _. ⊥) (λ _. ⊥) (refused ≡ NoMemory) ⊤ ((r : Refusal) × (refused ≡ Refused r)) (HasNoParts tokens) (λ h. h) (λ _ h. h) (λ _. tt) no_parts is
+
+-- what a jump to no label says
+pub refused_jump : (tokens : List Tok) (body : BodyView) (refusal : Option Refusal) (ending : EndingView) (fault : ReadFault) → Found tokens body refusal ending
+    → MatchFault fault ⊥ (λ _. ⊥) ⊤ (JumpsAreFound body → ⊥) → MatchFault fault ⊥ (λ _. ⊥) ⊤ (HasNoParts tokens)
+refused_jump tokens body refusal ending fault found is =
+    let no_parts : (JumpsAreFound body → ⊥) → HasNoParts tokens = λ lost b e f parts.
+    lost (subst (λ (x : BodyView). JumpsAreFound x) (parts_are tokens body b refusal ending e f found parts).0 parts.jumps) in
+    match_map fault ⊥ ⊥ (λ _. ⊥) (λ _. ⊥) ⊤ ⊤ (JumpsAreFound body → ⊥) (HasNoParts tokens) (λ h. h) (λ _ h. h) (λ h. h) no_parts is
+
+-- where the numbered signs spell no formula, the tokens have no parts
+no_formula : (tokens : List Tok) (body : BodyView) (refusal : Option Refusal) (ending : EndingView) (numbered : List ℕ → ℕ) → Found tokens body refusal ending
+    → (refusal ≡ None → SpellsNone (numbered_signs numbered ending.signs)) → HasNoParts tokens
+no_formula tokens body refusal ending numbered found none b e f parts =
+    let p = parts_are tokens body b refusal ending e f found parts in
+    none p.2 (tree_map (numbered_atom numbered) f) (spells_mapped (numbered_atom numbered) (map sign_of ending.signs) f p.3)
+
+-- what a refused formula says
+pub refused_formula : (tokens : List Tok) (body : BodyView) (refusal : Option Refusal) (ending : EndingView) (numbered : List ℕ → ℕ) (fault : ReadFault) → Found tokens body refusal ending
+    → MatchFault fault ⊥ (λ _. ⊥) ⊤ (refusal ≡ None → SpellsNone (numbered_signs numbered ending.signs)) → MatchFault fault ⊥ (λ _. ⊥) ⊤ (HasNoParts tokens)
+refused_formula tokens body refusal ending numbered fault found is =
+    match_map fault ⊥ ⊥ (λ _. ⊥) (λ _. ⊥) ⊤ ⊤ (refusal ≡ None → SpellsNone (numbered_signs numbered ending.signs)) (HasNoParts tokens) (λ h. h) (λ _ h. h) (λ h. h)
+    (no_formula tokens body refusal ending numbered found) is
+
+-- the formula that the signs spell, from the one that the numbered signs spell
+unnumbered : (numbered : List ℕ → ℕ) (ending : EndingView) (f : Tree Atom) → SpellsOnly (numbered_signs numbered ending.signs) f
+    → (tree : Tree (PlaceView × ℕ)) × Spells Sum tree (map sign_of ending.signs) [] × (tree_map (numbered_atom numbered) tree ≡ f)
+unnumbered numbered ending f only = spells_unmapped (numbered_atom numbered) (map sign_of ending.signs) f only.0
+
+-- what is read are the tokens' parts, and no others are
+pub parts_read : (tokens : List Tok) (body : BodyView) (refusal : Option Refusal) (ending : EndingView) (litmus : Litmus Listing) → Found tokens body refusal ending → JumpsAreFound body
+    → litmus.names ≡ names_of body ending → litmus.condition.quantifier ≡ quantifier_of ending.quantifier → (refusal ≡ None) × SpellsOnly (numbered_signs (byte_in litmus.names.locations) ending.signs) litmus.condition.formula
+    → litmus.program ≡ listing_by (byte_in litmus.names.locations) byte_at (length litmus.names.locations) body → litmus.observed ≡ map (observed_of (byte_in litmus.names.locations)) ending.observed
+    → litmus.labels ≡ all_labels body → AreReadTokens tokens litmus
+parts_read tokens body refusal ending litmus found jumps names quantifier spelled program observed labels =
+    let u = unnumbered (byte_in litmus.names.locations) ending litmus.condition.formula spelled.1 in
+    record {
+      body = body;
+      ending = ending;
+      formula = u.0;
+      parts = found_parts tokens body refusal ending u.0 found spelled.0 u.1 jumps;
+      only = λ b e f parts. let p = parts_are tokens body b refusal ending e f found parts in (p.0, p.1, spells_one (map sign_of ending.signs) f u.0 p.3 u.1);
+      names = names;
+      program = program;
+      condition = λ i. record { quantifier = quantifier i; formula = sym u.2 i };
+      observed = observed;
+      labels = labels;
+    }

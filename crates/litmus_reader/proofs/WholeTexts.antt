@@ -1,0 +1,84 @@
+-- What the first line, the skipped lines and the tokens of a text say of the whole text.
+use Rattle.std.proofs.Common.{◌≡◌, ℕ, List, sym, ◌∙◌, subst, inl}
+use Rattle.std.specs.Prelude.{⊤}
+use Rattle.std.specs.Str.{IsUtf8}
+use Rattle.text_tokens.specs.Tokens.{Tok, AreAllTokens}
+use Rattle.text_tokens.specs.Lexing.{Lexes, LexesTo}
+use Rattle.tso_program.specs.declared.listing.Listing.{Listing}
+use Rattle.tso_program.specs.declared.limits.ProgramFault.{ProgramFault}
+use Rattle.litmus_reader.specs.declared.litmus.Litmus.{Litmus}
+use Rattle.litmus_reader.specs.declared.fault.ReadFault.{ReadFault}
+use Rattle.litmus_reader.specs.declared.fault.ReadFault.TheVariants.{OutOfMemory}
+use Rattle.litmus_reader.specs.Faults.{MatchFault, of_lines}
+use Rattle.litmus_lines.specs.declared.fault.LineFault.{LineFault}
+use Rattle.litmus_lines.specs.FirstLine.{IsFirstLine}
+use Rattle.litmus_lines.specs.SkippedLines.{AreSkipped}
+use Rattle.litmus_reader.specs.Texts.{Means, StandsFor, StandsForNothing}
+use Rattle.litmus_reader.specs.Reading.{AreReadTokens, IsReadOf, HasNoParts}
+use Rattle.litmus_reader.proofs.Faults.{match_map, match_memory, match_lines}
+use Rattle.litmus_reader.proofs.Whole.{parts_whole}
+
+-- what first line, skipped lines and tokens were found
+pub record Split (text name lines others : List ℕ) (tokens : List Tok) : Type 0 where
+  pub utf8 : IsUtf8 text
+  pub first_line : IsFirstLine text name lines
+  pub first_only : (n rest : List ℕ) → IsFirstLine text n rest → (name ≡ n) × (lines ≡ rest)
+  pub skipped : AreSkipped lines others
+  pub skipped_only : (rest : List ℕ) → AreSkipped lines rest → others ≡ rest
+  pub lexes : AreAllTokens tokens → Lexes others tokens
+  pub lexes_only : (ts : List Tok) → LexesTo others ts → tokens ≡ ts
+
+pub text_read : (text name other lines others : List ℕ) (tokens : List Tok) (litmus : Litmus Listing) → Split text name lines others tokens → other ≡ name → (litmus.name ≡ other) × AreReadTokens tokens litmus → IsReadOf text litmus
+text_read text name other lines others tokens litmus split e h =
+    let own : litmus.name ≡ name = h.0 ∙ e in
+    record {
+      lines = lines;
+      others = others;
+      tokens = tokens;
+      utf8 = split.utf8;
+      first_line = subst (λ (n : List ℕ). IsFirstLine text n lines) (sym own) split.first_line;
+      first_only = λ n rest f. let p = split.first_only n rest f in (own ∙ p.0, p.1);
+      skipped = split.skipped;
+      skipped_only = split.skipped_only;
+      lexes = split.lexes (parts_whole tokens h.1.body h.1.ending h.1.formula h.1.parts);
+      lexes_only = λ ts l. split.lexes_only ts (inl l);
+      read = h.1;
+    }
+
+no_parts : (text name lines others : List ℕ) (tokens : List Tok) → Split text name lines others tokens → HasNoParts tokens → (litmus : Litmus Listing) → StandsFor text litmus → ⊥
+no_parts text name lines others tokens split none litmus st =
+    let p = split.first_only litmus.name st.lines st.first_line in
+    let skipped : AreSkipped lines st.others = subst (λ (l : List ℕ). AreSkipped l st.others) (sym p.1) st.skipped in
+    let same : others ≡ st.others = split.skipped_only st.others skipped in
+    let lexes : Lexes others st.tokens = subst (λ (l : List ℕ). Lexes l st.tokens) (sym same) st.lexes in
+    let m : Means tokens litmus = subst (λ (ts : List Tok). Means ts litmus) (sym (split.lexes_only st.tokens (inl lexes))) st.means in
+    none m.body m.ending m.formula m.parts
+
+pub tokens_refused : (text name lines others : List ℕ) (tokens : List Tok) (fault : ReadFault) → Split text name lines others tokens → MatchFault fault ⊥ (λ _. ⊥) ⊤ (HasNoParts tokens)
+    → MatchFault fault (IsUtf8 text → ⊥) (λ _. ⊥) ⊤ (StandsForNothing text)
+tokens_refused text name lines others tokens fault split h =
+    match_map fault ⊥ (IsUtf8 text → ⊥) (λ _. ⊥) (λ _. ⊥) ⊤ ⊤ (HasNoParts tokens) (StandsForNothing text) (λ x. absurd x) (λ _ x. x) (λ x. x) (λ none. (split.utf8, no_parts text name lines others tokens split none)) h
+
+pub first_line_refused : (text : List ℕ) (fault : LineFault) → IsUtf8 text → ((name rest : List ℕ) → IsFirstLine text name rest → ⊥)
+    → MatchFault (of_lines fault) (IsUtf8 text → ⊥) (λ _. ⊥) ⊤ (StandsForNothing text)
+first_line_refused text fault utf8 none = match_lines fault (IsUtf8 text → ⊥) (λ _. ⊥) ⊤ (StandsForNothing text) (utf8, λ litmus st. none litmus.name st.lines st.first_line)
+
+pub skipped_lines_refused : (text name lines : List ℕ) (fault : LineFault) → IsUtf8 text → ((n rest : List ℕ) → IsFirstLine text n rest → (name ≡ n) × (lines ≡ rest))
+    → ((rest : List ℕ) → AreSkipped lines rest → ⊥) → MatchFault (of_lines fault) (IsUtf8 text → ⊥) (λ _. ⊥) ⊤ (StandsForNothing text)
+skipped_lines_refused text name lines fault utf8 first_only none =
+    match_lines fault (IsUtf8 text → ⊥) (λ _. ⊥) ⊤ (StandsForNothing text)
+    (utf8, λ litmus st. none st.others (subst (λ (l : List ℕ). AreSkipped l st.others) (sym (first_only litmus.name st.lines st.first_line).1) st.skipped))
+
+pub bytes_refused : (text : List ℕ) (fault : ReadFault) → MatchFault fault (IsUtf8 text → ⊥) (λ _. ⊥) ⊥ ⊥ → MatchFault fault (IsUtf8 text → ⊥) (λ _. ⊥) ⊤ (StandsForNothing text)
+bytes_refused text fault h =
+    match_map fault (IsUtf8 text → ⊥) (IsUtf8 text → ⊥) (λ _. ⊥) (λ _. ⊥) ⊥ ⊤ ⊥ (StandsForNothing text) (λ x. x) (λ _ x. x) (λ x. absurd x) (λ x. absurd x) h
+
+-- ---- a reader of texts within limits, where nothing is read
+
+pub nothing_only : (text : List ℕ) (fault : ReadFault) (other : Litmus Listing) → MatchFault fault (IsUtf8 text → ⊥) (λ _. ⊥) ⊤ (StandsForNothing text) → StandsFor text other → fault ≡ OutOfMemory
+nothing_only text fault other h st = match_memory fault (IsUtf8 text → ⊥) (λ _. ⊥) ⊤ (StandsForNothing text) (λ none. none st.utf8) (λ _ x. x) (λ none. none.1 other st) h
+
+pub nothing_refused : (text : List ℕ) (fault : ReadFault) (Breaks : ProgramFault → Type 0) → MatchFault fault (IsUtf8 text → ⊥) (λ _. ⊥) ⊤ (StandsForNothing text)
+    → MatchFault fault (IsUtf8 text → ⊥) Breaks ⊤ (StandsForNothing text)
+nothing_refused text fault Breaks h =
+    match_map fault (IsUtf8 text → ⊥) (IsUtf8 text → ⊥) (λ _. ⊥) Breaks ⊤ ⊤ (StandsForNothing text) (StandsForNothing text) (λ x. x) (λ _ x. absurd x) (λ x. x) (λ x. x) h

@@ -1,0 +1,10 @@
+use Rattle.std.proofs.Common.{◌≡◌, map, take}
+use Rattle.conditions.specs.Tokens.{sign_of_token as token_sign}
+use Rattle.litmus_syntax.specs.Views.{sign_at_view}
+use Rattle.litmus_reader.specs.Filling.{byte_in}
+use Rattle.litmus_reader.specs.Reading.{numbered_signs}
+use Rattle.litmus_reader.proofs.condition.numbered.Given as goal
+
+-- the signs so far are numbered
+abbrev pub invariant-loop-sign : goal.invariant-loop-sign
+invariant-loop-sign l = map token_sign l.tokens.items ≡ numbered_signs (byte_in l.names.locations) (map sign_at_view (take l.sign-index l.signs))

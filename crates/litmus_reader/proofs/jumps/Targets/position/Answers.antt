@@ -1,0 +1,11 @@
+use Rattle.std.proofs.Common.{ℕ, ap, ◌∙◌}
+use Rattle.std.specs.Prelude.{min, unwrap_or, Option}
+use Rattle.litmus_reader.specs.Labels.{label_in}
+use Rattle.litmus_reader.proofs.NameLaws.{byte_of}
+use Rattle.litmus_reader.proofs.Targets.{mapped_or}
+use Rattle.litmus_reader.proofs.jumps.Targets.position.Goals as goal
+
+pub returns : goal.returns
+returns c =
+    c.unwrap_or.ensures ∙ byte_of c.unwrap_or-position.result _ c.try_from.ensures
+    ∙ ap (min 255) (c.unwrap_or-position.ensures ∙ ap (λ (o : Option ℕ). unwrap_or o 0) c.find.ensures ∙ mapped_or (label_in c.args.self.now c.args.name.now))

@@ -1,0 +1,9 @@
+use Rattle.std.proofs.Common.{◌≡◌, map, drop}
+use Rattle.std.specs.List.{list_all}
+use Rattle.litmus_syntax.specs.Views.{row_view}
+use Rattle.litmus_reader.specs.Labels.{are_found}
+use Rattle.litmus_reader.proofs.jumps.lost_jump.Given as goal
+
+-- the jumps so far are found
+abbrev pub invariant-loop-row : goal.invariant-loop-row
+invariant-loop-row l = list_all (are_found l.targets 0) (map row_view l.rows) ≡ list_all (are_found l.targets 0) (map row_view (drop l.row-index l.rows))

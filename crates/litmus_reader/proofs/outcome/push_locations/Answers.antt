@@ -1,0 +1,12 @@
+use Rattle.std.proofs.Common.{ℕ, List, ◌++◌, get_or, ap, ◌∙◌}
+use Rattle.litmus_reader.specs.Filling.{texts}
+use Rattle.litmus_reader.specs.Outcomes.{shown_item}
+use Rattle.litmus_reader.proofs.Joined.{flat_range_more}
+use Rattle.litmus_reader.proofs.outcome.push_locations.Goals as goal
+
+pub loop-location-preserved : goal.loop-location-preserved
+loop-location-preserved c =
+    let items : ℕ → List (List ℕ) = λ l. shown_item c.args.names.now c.args.shown.now l (get_or c.args.memory.now l 0) in
+    c.in_ok-push_location.ensures
+    ∙ ap (λ (ts : List (List ℕ)). ts ++ items c.loop-location.location) c.loop-location.invariant
+    ∙ flat_range_more items (texts c.args.items.now.items) c.loop-location.location

@@ -1,0 +1,8 @@
+use Rattle.std.proofs.Common.{◌≡◌, ◌++◌}
+use Rattle.litmus_reader.specs.Filling.{texts}
+use Rattle.litmus_reader.specs.Outcomes.{location_items}
+use Rattle.litmus_reader.proofs.outcome.push_locations.Given as goal
+
+-- the items of the locations so far
+abbrev pub invariant-loop-location : goal.invariant-loop-location
+invariant-loop-location l = texts l.items.items ≡ texts l.initial.items.items ++ location_items l.names l.shown l.memory l.location

@@ -1,0 +1,12 @@
+use Rattle.std.proofs.Common.{ℕ, List, [], ◌++◌, get_or, ap, ◌∙◌}
+use Rattle.litmus_reader.specs.Filling.{texts}
+use Rattle.litmus_reader.specs.Outcomes.{thread_items}
+use Rattle.litmus_reader.proofs.Joined.{flat_range_more}
+use Rattle.litmus_reader.proofs.outcome.push_threads.Goals as goal
+
+pub loop-thread-preserved : goal.loop-thread-preserved
+loop-thread-preserved c =
+    let items : ℕ → List (List ℕ) = λ t. thread_items c.args.names.now c.args.shown.now t (get_or c.args.registers.now t []) in
+    c.in_ok-push_thread.ensures
+    ∙ ap (λ (ts : List (List ℕ)). ts ++ items c.loop-thread.thread) c.loop-thread.invariant
+    ∙ flat_range_more items (texts c.args.items.now.items) c.loop-thread.thread

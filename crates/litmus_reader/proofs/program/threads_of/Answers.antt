@@ -1,0 +1,31 @@
+use Rattle.std.proofs.Common.{◌≡◌, ℕ, ◌∷◌, ◌++◌, [], List, map, get_or, replicate, sym, ap, ◌∙◌, arith}
+use Rattle.std.specs.Prelude.{Option, unwrap_or}
+use Rattle.std.specs.List.{range_with_len}
+use Rattle.std.specs.Global.{Vec}
+use Rattle.std.proofs.lemmas.List.{get_or_default}
+use Rattle.std.proofs.lemmas.List.FromFn.{map-range_with_len_more}
+use Rattle.tso_program.specs.declared.instruction.Instr.{Instr}
+use Rattle.tso_program.specs.declared.listing.Thread.{Thread}
+use Rattle.litmus_syntax.specs.declared.cell.Cell.{Cell}
+use Rattle.litmus_syntax.specs.Views.{row_view}
+use Rattle.litmus_reader.specs.Filling.{byte_in, byte_at, thread_in}
+use Rattle.litmus_reader.specs.Meaning.{code_in}
+use Rattle.litmus_reader.proofs.program.threads_of.Goals as goal
+
+made : (c d : List Instr) (r s : List ℕ) → c ≡ d → r ≡ s → ◌≡◌ {A = Thread} (record { code = c; registers = r }) (record { code = d; registers = s })
+made c d r s e f = λ i. record { code = e i; registers = f i }
+
+pub loop-thread-preserved : goal.loop-thread-preserved
+loop-thread-preserved c =
+    let numbered = byte_in c.args.names.now.locations in
+    let t = c.loop-thread.thread in
+    let rows = map row_view c.args.body.now.rows.items in
+    let targets = c.args.targets.now in
+    let own : c.index-targets-thread.result ≡ get_or targets t [] = c.index-targets-thread.is ∙ get_or_default targets t c.index-targets-thread.result [] c.loop-thread-test.true in
+    let code : c.of.result ≡ code_in numbered (byte_at (get_or targets t [])) rows t =
+    c.of.ensures ∙ c.in_ok-code.ensures ∙ (λ i. code_in numbered (byte_at (own i)) (map row_view (c.as_slice.ensures.value i)) t) in
+    let registers = c.unwrap_or.ensures ∙ ap (λ (o : Option (List ℕ)). unwrap_or o (replicate 6 0)) c.copied.ensures ∙ c.get.ensures.lookup.4 (omega arith) (replicate 6 0) in
+    c.in_ok-push.ensures.items
+    ∙ ap (λ (ts : List Thread). ts ++ record { code = c.of.result; registers = c.unwrap_or.result } ∷ []) c.loop-thread.invariant
+    ∙ ap (λ (thread : Thread). map (thread_in numbered rows c.args.registers.now targets) (range_with_len 0 t) ++ thread ∷ []) (made _ _ _ _ code registers)
+    ∙ sym (map-range_with_len_more (thread_in numbered rows c.args.registers.now targets) 0 t t (omega arith))

@@ -1,0 +1,38 @@
+use Rattle.std.proofs.Common.{ℕ, List}
+use Rattle.std.proofs.lemmas.Result.{err_from_is_err_and}
+use Rattle.tso_program.specs.declared.listing.Thread.{Thread}
+use Rattle.tso_program.specs.Limits.{IsWithinLimits, first_fault}
+use Rattle.litmus_reader.proofs.Numbered.{program_limits}
+use Rattle.litmus_reader.specs.Texts.{BreaksFirst}
+use Rattle.litmus_reader.proofs.WholeTexts.{nothing_only, nothing_refused}
+use Rattle.litmus_reader.proofs.Meant.{found, found_only, broken, broken_only}
+use Rattle.litmus_reader.proofs.reader.read_litmus.Goals as goal
+
+abbrev Within : List Thread → List ℕ → Type 0
+Within threads memory = IsWithinLimits threads memory
+
+pub returns-in_err-read-clause-refused : goal.returns-in_err-read-clause-refused
+returns-in_err-read-clause-refused c =
+    let p = err_from_is_err_and c.from_residual.result c.from_residual.ensures.1 in
+    rw (p.1, p.2) (nothing_refused c.args.bytes.now c.in_err-read.field-0.0 (BreaksFirst first_fault c.args.bytes.now) c.in_err-read.ensures)
+
+pub returns-in_err-read-clause-only : goal.returns-in_err-read-clause-only
+returns-in_err-read-clause-only c litmus is =
+    let p = err_from_is_err_and c.from_residual.result c.from_residual.ensures.1 in
+    rw (p.1, p.2) (nothing_only c.args.bytes.now c.in_err-read.field-0.0 litmus c.in_err-read.ensures is.0)
+
+pub returns-in_err-program_of-clause-only : goal.returns-in_err-program_of-clause-only
+returns-in_err-program_of-clause-only c litmus is =
+    let p = err_from_is_err_and c.from_residual-in_err-program_of.result c.from_residual-in_err-program_of.ensures.1 in
+    rw (p.1, p.2) (broken_only c.args.bytes.now c.in_ok-read.read c.in_ok-read.ensures Within first_fault program_limits c.in_err-program_of.field-0.0 litmus c.in_err-program_of.ensures is)
+
+pub returns-in_err-program_of-clause-refused : goal.returns-in_err-program_of-clause-refused
+returns-in_err-program_of-clause-refused c =
+    let p = err_from_is_err_and c.from_residual-in_err-program_of.result c.from_residual-in_err-program_of.ensures.1 in
+    rw (p.1, p.2) (broken c.args.bytes.now c.in_ok-read.read c.in_ok-read.ensures Within first_fault program_limits c.in_err-program_of.field-0.0 c.in_err-program_of.ensures)
+
+pub returns-clause-found : goal.returns-clause-found
+returns-clause-found c = found c.args.bytes.now c.in_ok-read.read c.in_ok-read.ensures Within first_fault program_limits c.in_ok-program_of.field-0 c.in_ok-program_of.ensures
+
+pub returns-clause-only : goal.returns-clause-only
+returns-clause-only c litmus is = found_only c.args.bytes.now c.in_ok-read.read c.in_ok-read.ensures Within first_fault program_limits c.in_ok-program_of.field-0 litmus c.in_ok-program_of.ensures is.0

@@ -1,0 +1,176 @@
+//! How an outcome is written.
+ghost use Rattle.std.specs.Prelude.{◌≡◌, ◌++◌, [], IfOk, OnOk, length, slice_index_or};
+ghost use Rattle.std.specs.List.{join_with_byte};
+ghost use Rattle.litmus_reader.specs.Filling.{texts};
+ghost use Rattle.litmus_reader.specs.Outcomes.{register_name, register_item, location_item, named_item, thread_items, register_items, shown_item, location_items, outcome_text};
+
+use crate::names::NameTable;
+use std::alloc::{AllocError, Global};
+use tso_program::{Outcome, Reg, Shown};
+
+/// The register's name, in capitals.
+fn register_name(register: Reg) -> &'static str
+    ensures { result.now ≡ register_name register }
+{
+    match register {
+        Reg::Eax => "EAX",
+        Reg::Ebx => "EBX",
+        Reg::Ecx => "ECX",
+        Reg::Edx => "EDX",
+        Reg::Esi => "ESI",
+        Reg::Edi => "EDI",
+    }
+}
+
+/// `t:REG=n;`
+fn register_item(
+    alloc: Global,
+    thread: usize,
+    register: Reg,
+    value: u32,
+) -> Result<Vec<u8>, AllocError>
+    ensures { IfOk result (λ item. item.items ≡ register_item thread register value) }
+{
+    let name = register_name(register);
+    let text = format!(in alloc; "{thread}:{name}={value};")?;
+    Ok(text.into_bytes())
+}
+
+/// The name of the location with this number; none where the text has no such location.
+fn name_at(names: &NameTable, number: usize) -> &[u8]
+    ensures { result.now ≡ slice_index_or names.now.locations number [] }
+{
+    match names.location(number) {
+        Some(name) => name,
+        None => b"",
+    }
+}
+
+/// `x=n;`
+fn location_item(alloc: Global, name: &[u8], value: u32) -> Result<Vec<u8>, AllocError>
+    ensures { IfOk result (λ item. item.items ≡ location_item name.now value) }
+{
+    let mut item = Vec::from_slice(alloc, name)?;
+    let text = format!(in alloc; "={value};")?;
+    item.extend_from_slice(text.as_bytes())?;
+    Ok(item)
+}
+
+/// The register with its value, if it is shown and named.
+fn push_named(
+    alloc: Global,
+    items: &mut Vec<Vec<u8>>,
+    names: &NameTable,
+    shown: &Shown,
+    thread: usize,
+    values: [u32; 6],
+    register: Reg,
+) -> Result<(), AllocError>
+    ensures { OnOk result (texts items.new.items ≡ texts items.old.items ++ named_item names.now shown.now thread values register) }
+{
+    if shown.shows_register(thread, register.index()) && names.is_named(thread, register) {
+        let value = values[register.index()];
+        items.push(register_item(alloc, thread, register, value)?)?;
+    }
+    Ok(())
+}
+
+/// The thread's named registers with their values.
+fn push_thread(
+    alloc: Global,
+    items: &mut Vec<Vec<u8>>,
+    names: &NameTable,
+    shown: &Shown,
+    thread: usize,
+    values: [u32; 6],
+) -> Result<(), AllocError>
+    ensures { OnOk result (texts items.new.items ≡ texts items.old.items ++ thread_items names.now shown.now thread values) }
+{
+    for register in Reg::ALL {
+        push_named(alloc, items, names, shown, thread, values, register)?;
+    }
+    Ok(())
+}
+
+fn push_threads(
+    alloc: Global,
+    items: &mut Vec<Vec<u8>>,
+    names: &NameTable,
+    shown: &Shown,
+    registers: &[[u32; 6]],
+) -> Result<(), AllocError>
+    ensures { OnOk result (texts items.new.items ≡ texts items.old.items ++ register_items names.now shown.now registers.now (length registers.now)) }
+{
+    for (thread, values) in registers.iter().enumerate() {
+        push_thread(alloc, items, names, shown, thread, *values)?;
+    }
+    Ok(())
+}
+
+/// The location with its value, if it is shown.
+fn push_location(
+    alloc: Global,
+    items: &mut Vec<Vec<u8>>,
+    names: &NameTable,
+    shown: &Shown,
+    location: usize,
+    value: u32,
+) -> Result<(), AllocError>
+    ensures { OnOk result (texts items.new.items ≡ texts items.old.items ++ shown_item names.now shown.now location value) }
+{
+    if shown.shows_location(location) {
+        items.push(location_item(alloc, name_at(names, location), value)?)?;
+    }
+    Ok(())
+}
+
+fn push_locations(
+    alloc: Global,
+    items: &mut Vec<Vec<u8>>,
+    names: &NameTable,
+    shown: &Shown,
+    memory: &[u32],
+) -> Result<(), AllocError>
+    ensures { OnOk result (texts items.new.items ≡ texts items.old.items ++ location_items names.now shown.now memory.now (length memory.now)) }
+{
+    for (location, value) in memory.iter().enumerate() {
+        push_location(alloc, items, names, shown, location, *value)?;
+    }
+    Ok(())
+}
+
+/// The items with one space between two of them.
+fn join(alloc: Global, items: &[Vec<u8>]) -> Result<Vec<u8>, AllocError>
+    ensures { IfOk result (λ text. text.items ≡ join_with_byte 32 (texts items.now)) }
+{
+    let mut text = Vec::new(alloc);
+    for (index, item) in items.iter().enumerate() {
+        if index > 0 {
+            text.push(b' ')?;
+        }
+        text.extend_from_slice(item.as_slice())?;
+    }
+    Ok(text)
+}
+
+/// An outcome as it is printed, as far as it is shown: `t:REG=n;` for each named register by thread and register order, then `x=n;` for each
+/// location by number, with one space between two of them.
+pub fn write_outcome(
+    alloc: Global,
+    names: &NameTable,
+    shown: &Shown,
+    outcome: &Outcome,
+) -> Result<Vec<u8>, AllocError>
+    ensures { IfOk result (λ text. text.items ≡ outcome_text names.now shown.now outcome.now) }
+{
+    let mut items = Vec::new(alloc);
+    push_threads(
+        alloc,
+        &mut items,
+        names,
+        shown,
+        outcome.registers.as_slice(),
+    )?;
+    push_locations(alloc, &mut items, names, shown, outcome.memory.as_slice())?;
+    join(alloc, items.as_slice())
+}

@@ -1,8 +1,0 @@
-use Rattle.std.proofs.Common.{◌≡◌, map, drop}
-use Rattle.litmus_syntax.specs.Views.{cell_view}
-use Rattle.litmus_text.specs.Labels.{are_found}
-use Rattle.litmus_text.proofs.jumps.lost_in_row.Given as goal
-
--- the jumps so far are found
-abbrev pub invariant-loop-thread : goal.invariant-loop-thread
-invariant-loop-thread l = are_found l.targets 0 (map cell_view l.row) ≡ are_found l.targets l.thread (map cell_view (drop l.thread l.row))

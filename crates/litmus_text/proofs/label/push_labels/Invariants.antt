@@ -1,6 +1,0 @@
-use Rattle.std.proofs.Common.{◌≡◌, ◌++◌, map, take}
-use Rattle.litmus_text.proofs.label.push_labels.Given as goal
-
--- the labels so far are added
-abbrev pub invariant-loop-name : goal.invariant-loop-name
-invariant-loop-name l = l.labels.items ≡ l.initial.labels.items ++ map (λ name. record { name = name.now; position = l.position }) (take l.name-index l.names)

@@ -1,8 +1,0 @@
-use Rattle.std.proofs.Common.{◌≡◌, ◌++◌}
-use Rattle.litmus_text.specs.Filling.{texts}
-use Rattle.litmus_text.specs.Outcomes.{register_items}
-use Rattle.litmus_text.proofs.outcome.push_threads.Given as goal
-
--- the items of the threads so far
-abbrev pub invariant-loop-thread : goal.invariant-loop-thread
-invariant-loop-thread l = texts l.items.items ≡ texts l.initial.items.items ++ register_items l.names l.shown l.registers l.thread

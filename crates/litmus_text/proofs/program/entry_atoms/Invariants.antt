@@ -1,8 +1,0 @@
-use Rattle.std.proofs.Common.{◌≡◌, map, take}
-use Rattle.litmus_syntax.specs.Views.{entry_view}
-use Rattle.litmus_text.specs.Filling.{byte_in, entry_atoms}
-use Rattle.litmus_text.proofs.program.entry_atoms.Given as goal
-
--- what the entries so far say
-abbrev pub invariant-loop-entry : goal.invariant-loop-entry
-invariant-loop-entry l = l.atoms.items ≡ entry_atoms (byte_in l.names.locations) (map entry_view (take l.entry-index l.entries))

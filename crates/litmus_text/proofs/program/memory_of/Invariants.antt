@@ -1,7 +1,0 @@
-use Rattle.std.proofs.Common.{◌≡◌, take, replicate, fold}
-use Rattle.litmus_text.specs.Filling.{stored}
-use Rattle.litmus_text.proofs.program.memory_of.Given as goal
-
--- memory after the initial values so far
-abbrev pub invariant-loop-atom : goal.invariant-loop-atom
-invariant-loop-atom l = l.memory.items ≡ fold stored (replicate l.locations 0) (take l.atom-index l.atoms)

@@ -1,7 +1,0 @@
-use Rattle.std.proofs.Common.{◌∙◌, sym, arith}
-use Rattle.std.proofs.lemmas.List.{at_drop_all}
-use Rattle.litmus_text.specs.Shown.{with_places}
-use Rattle.litmus_text.proofs.shown.with_places.Goals as goal
-
-pub returns : goal.returns
-returns c = sym (at_drop_all (with_places c.loop-place.all) c.args.places.now c.loop-place.place-index (omega arith)) ∙ c.loop-place.invariant
