@@ -2,7 +2,8 @@
 
 ghost use Rattle.std.specs.Prelude.{◌≡◌, ◌≤◌, length, []};
 ghost use Rattle.std.specs.List.{prefix_len};
-ghost use Rattle.cert_words.specs.Words.{Gives, GivesUnlessMemory, repeat_at};
+ghost use Rattle.text_tokens.specs.Steps.{Gives, GivesUnless};
+ghost use Rattle.cert_words.specs.Words.{repeat_at, stops_for_memory};
 ghost use Rattle.cert_forest.specs.Reading.{is_no_stop, access_tail, access_of, access_at};
 
 use crate::tree::AccessId;
@@ -85,7 +86,7 @@ pub(crate) fn accesses(
     count: u64,
     bytes: &[u8],
 ) -> Result<(Vec<AccessId>, &[u8]), Stop>
-    ensures { GivesUnlessMemory (λ x. (x.0.items, x.1.now)) result (repeat_at access_at count [] bytes.now) }
+    ensures { GivesUnless stops_for_memory (λ x. (x.0.items, x.1.now)) result (repeat_at access_at count [] bytes.now) }
 {
     let mut found = Vec::new(alloc);
     let mut rest = bytes;

@@ -5,7 +5,8 @@ ghost use Rattle.tso_machine.specs.RunTexts.{label_at};
 ghost use Rattle.text_tokens.specs.Numbers.{plain_number_at};
 ghost use Rattle.cert_forest.specs.Certificates.{labels_of};
 ghost use Rattle.cert_words.specs.declared.numbers.TheConstants.{MAX_COUNT};
-ghost use Rattle.cert_words.specs.Words.{Gives, GivesUnlessMemory, repeat_at};
+ghost use Rattle.text_tokens.specs.Steps.{Gives, GivesUnless};
+ghost use Rattle.cert_words.specs.Words.{repeat_at, stops_for_memory};
 ghost use Rattle.cert_forest.specs.Reading.{label_word_at, run_labels_at, run_at, runs_at};
 
 use cert_words::{
@@ -81,7 +82,7 @@ fn one_too_many(bytes: &[u8]) -> Refusal {
 
 /// Labels, as long as words follow.
 fn labels(alloc: Global, bytes: &[u8]) -> Result<(Vec<Label>, &[u8]), Stop>
-    ensures { GivesUnlessMemory (λ x. (x.0.items, x.1.now)) result (run_labels_at MAX_COUNT [] bytes.now) }
+    ensures { GivesUnless stops_for_memory (λ x. (x.0.items, x.1.now)) result (run_labels_at MAX_COUNT [] bytes.now) }
 {
     let mut found = Vec::new(alloc);
     let mut rest = bytes;
@@ -102,7 +103,7 @@ fn labels(alloc: Global, bytes: &[u8]) -> Result<(Vec<Label>, &[u8]), Stop>
 /// A run's line.
 #[tactic(auto, unfolding(crate::specs::Reading::run_at))]
 fn run(alloc: Global, bytes: &[u8]) -> Result<(Vec<Label>, &[u8]), Stop>
-    ensures { GivesUnlessMemory (λ x. (x.0.items, x.1.now)) result (run_at bytes.now) }
+    ensures { GivesUnless stops_for_memory (λ x. (x.0.items, x.1.now)) result (run_at bytes.now) }
 {
     let rest = name(b"run", bytes)?;
     let (labels, rest) = labels(alloc, rest)?;
@@ -112,7 +113,7 @@ fn run(alloc: Global, bytes: &[u8]) -> Result<(Vec<Label>, &[u8]), Stop>
 
 /// So many lines of runs.
 fn run_lines(alloc: Global, count: u64, bytes: &[u8]) -> Result<(Vec<Vec<Label>>, &[u8]), Stop>
-    ensures { GivesUnlessMemory (λ x. (labels_of x.0.items, x.1.now)) result (repeat_at run_at count [] bytes.now) }
+    ensures { GivesUnless stops_for_memory (λ x. (labels_of x.0.items, x.1.now)) result (repeat_at run_at count [] bytes.now) }
 {
     let mut found = Vec::new(alloc);
     let mut rest = bytes;
@@ -131,7 +132,7 @@ pub(crate) fn runs<'t>(
     first: &[u8],
     bytes: &'t [u8],
 ) -> Result<(Vec<Vec<Label>>, &'t [u8]), Stop>
-    ensures { GivesUnlessMemory (λ x. (labels_of x.0.items, x.1.now)) result (runs_at first.now bytes.now) }
+    ensures { GivesUnless stops_for_memory (λ x. (labels_of x.0.items, x.1.now)) result (runs_at first.now bytes.now) }
 {
     let rest = name(first, bytes)?;
     let (count, rest) = number(u64::MAX, rest)?;

@@ -4,7 +4,8 @@ ghost use Rattle.std.specs.Prelude.{◌≡◌, ◌≤◌, IsTrue, IfSome, IfOk};
 ghost use Rattle.std.specs.List.{list_all};
 ghost use Rattle.std.specs.Char.{is_ascii_digit};
 ghost use Rattle.text_tokens.specs.Numbers.{is_plain, value_at, plain_number_at};
-ghost use Rattle.cert_words.specs.Words.{Gives, number_within_at, count_at};
+ghost use Rattle.text_tokens.specs.Steps.{Gives};
+ghost use Rattle.cert_words.specs.Words.{number_within_at, count_at};
 
 use crate::refusal::{Refusal, Wrong, refused_unless_cut, refused_word};
 use crate::words::word;

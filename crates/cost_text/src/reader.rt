@@ -2,13 +2,13 @@
 ghost use Rattle.std.specs.Prelude.{◌≡◌, ◌<◌, ℕ, List, [], length, map, unwrap_or, IfOk, IfErr, IfSome, MatchResult};
 ghost use Rattle.tso_program.specs.Listings.{gap_count, gap_number};
 ghost use Rattle.cost_text.specs.declared.fault.CostTextFault.TheVariants.{OutOfMemory};
-ghost use Rattle.cost_text.specs.CostLines.{IsBlank};
+ghost use Rattle.text_tokens.specs.Bytes.{AreLineSpaces};
 ghost use Rattle.cost_text.specs.CostTexts.{Entry, lines_of, IsCostText, IsLineFault, AreRefused, RefusesCosts};
 ghost use Rattle.cost_text.specs.LineReading.{AreAllDigits, said_by};
 ghost use Rattle.cost_text.specs.TextReading.{digits_of, cost_or_fault, table_of, IsCostTable, IsNewEntry, IsTableOf};
 
 use crate::fault::CostTextFault;
-use crate::line::{CostLine, are_around, cost_line};
+use crate::line::{CostLine, are_line_spaces, cost_line};
 use gap_sets::{CostFault, Costs, MAX_COST};
 use std::alloc::{AllocError, Global};
 use text_tokens::value_up_to;
@@ -53,7 +53,7 @@ fn entry_of(
     number: usize,
 ) -> Result<(u8, u32), CostTextFault>
     requires room { length table.now ≡ gap_count program.now.threads }
-    requires some { IsBlank line.now → ⊥ }
+    requires some { AreLineSpaces line.now → ⊥ }
     ensures entry { IfOk result (λ entry. (entries : List Entry) → IsCostTable program.now.threads entries table.now → IsNewEntry program.now.threads entries line.now (record { gap = entry.0; cost = entry.1 })) }
     ensures below { IfOk result (λ entry. entry.0 < gap_count program.now.threads) }
     ensures refused { IfErr result (λ fault. (entries : List Entry) → IsCostTable program.now.threads entries table.now → IsLineFault program.now.threads entries line.now number fault) }
@@ -91,7 +91,7 @@ fn table_of(
 {
     let mut table = empty_table(alloc, program.gaps())?;
     for (index, line) in lines.iter().enumerate() {
-        if !are_around(line) {
+        if !are_line_spaces(line) {
             let (gap, cost) = entry_of(program, table.as_slice(), line, index + 1)?;
             table[gap as usize] = Some(cost);
         }

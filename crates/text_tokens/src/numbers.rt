@@ -6,15 +6,10 @@ ghost use Rattle.std.specs.Char.{is_ascii_digit};
 ghost use Rattle.std.specs.Fmt.{decimal};
 ghost use Rattle.text_tokens.specs.Numbers.{is_plain, value_at, plain_number_at};
 
-/// Whether the bytes are digits alone.
-fn are_digits(bytes: &[u8]) -> bool
-    ensures { result ≡ list_all is_ascii_digit bytes.now }
-{
-    bytes.iter().all(|byte| byte.is_ascii_digit())
-}
+use crate::bytes::are_digits;
 
 /// Whether the bytes are digits, at least one, without leading zeros.
-fn is_plain(bytes: &[u8]) -> bool
+pub fn is_plain(bytes: &[u8]) -> bool
     ensures { result ≡ is_plain bytes.now }
 {
     are_digits(bytes) && bytes.len() > 0 && (bytes.len() == 1 || bytes[0] != b'0')
