@@ -7,8 +7,9 @@ ghost use Rattle.cert_words.specs.Words.{repeat_at, stops_for_memory};
 ghost use Rattle.cert_forest.specs.Reading.{is_no_stop, access_tail, access_of, access_at};
 
 use crate::tree::AccessId;
-use cert_words::{Refusal, Stop, Wrong, are_digits, plain_number, refused_unless_cut, word};
+use cert_words::{Refusal, Stop, Wrong, refused_unless_cut, word};
 use std::alloc::Global;
+use text_tokens::{are_digits, plain_number};
 
 /// How many bytes stand before a full stop.
 pub(crate) fn stop_len(bytes: &[u8]) -> usize

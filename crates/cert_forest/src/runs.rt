@@ -1,8 +1,6 @@
 //! Lines of runs.
 
 ghost use Rattle.std.specs.Prelude.{◌≡◌, map, []};
-ghost use Rattle.tso_machine.specs.RunTexts.{label_at};
-ghost use Rattle.text_tokens.specs.Numbers.{plain_number_at};
 ghost use Rattle.cert_forest.specs.Certificates.{labels_of};
 ghost use Rattle.cert_words.specs.declared.numbers.TheConstants.{MAX_COUNT};
 ghost use Rattle.text_tokens.specs.Steps.{Gives, GivesUnless};
@@ -10,30 +8,12 @@ ghost use Rattle.cert_words.specs.Words.{repeat_at, stops_for_memory};
 ghost use Rattle.cert_forest.specs.Reading.{label_word_at, run_labels_at, run_at, runs_at};
 
 use cert_words::{
-    MAX_COUNT, Refusal, Stop, Wrong, are_digits, begins_word, end, first_word, name, number,
-    plain_number, refused, refused_unless_cut, refused_word, word,
+    MAX_COUNT, Refusal, Stop, Wrong, begins_word, end, first_word, name, number, refused,
+    refused_unless_cut, refused_word, word,
 };
 use std::alloc::Global;
-use tso_machine::Label;
-
-fn thread_of(digits: &[u8]) -> Option<u8>
-    ensures { result ≡ plain_number_at 255 digits.now }
-{
-    let number = plain_number(255, digits)?;
-    Some(number as u8)
-}
-
-/// The label that is spelled so.
-#[tactic(auto, unfolding(tso_machine::specs::RunTexts::label_at))]
-fn label_of(word: &[u8]) -> Option<Label>
-    ensures { result ≡ label_at word.now }
-{
-    match word {
-        [b'e', digits @ ..] => Some(Label::Exec(thread_of(digits)?)),
-        [b'f', digits @ ..] => Some(Label::Flush(thread_of(digits)?)),
-        _ => None,
-    }
-}
+use text_tokens::are_digits;
+use tso_machine::{Label, label_of};
 
 /// What is wrong with a word that spells no label, and whether it could have gone on.
 fn fault_of(word: &[u8]) -> (Wrong, bool) {

@@ -11,10 +11,10 @@ ghost use Rattle.cert_words.specs.Words.{stops_for_memory};
 
 use crate::access::stop_len;
 use cert_words::{
-    Refusal, Stop, Wrong, are_digits, begins_word, end, name, plain_number, refused,
-    refused_unless_cut, refused_word, word,
+    Refusal, Stop, Wrong, begins_word, end, name, refused, refused_unless_cut, refused_word, word,
 };
 use std::alloc::Global;
+use text_tokens::{are_digits, plain_number};
 use tso_program::{MAX_LOCATIONS, MAX_THREADS, Names, PLACES, REGISTER_PLACES, REGISTERS, Shown};
 
 /// How many registers and locations can be named.

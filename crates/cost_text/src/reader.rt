@@ -27,7 +27,7 @@ fn gap_of(program: &Program, line: CostLine<'_>) -> Option<u8>
     ensures value { let said = said_by (digits_of line.entry) in result ≡ gap_number program.now.threads said.thread said.instruction }
     ensures below { IfSome result (λ gap. gap < gap_count program.now.threads) }
 {
-    let threads = program.threads().len() as u32;
+    let threads = program.threads().len() as u64;
     let thread = value_up_to(threads, line.thread)?;
     let instruction = value_up_to(255, line.instruction)?;
     program.gap_number(thread as u8, instruction as u8)
@@ -38,9 +38,9 @@ fn cost_of(gap: u8, line: CostLine<'_>) -> Result<u32, CostFault>
     requires { AreAllDigits (digits_of line) }
     ensures { result ≡ cost_or_fault gap (said_by (digits_of line.entry)).cost }
 {
-    match value_up_to(MAX_COST, line.cost) {
+    match value_up_to(u64::from(MAX_COST), line.cost) {
         Some(0) => Err(CostFault::Zero(gap)),
-        Some(cost) => Ok(cost),
+        Some(cost) => Ok(cost as u32),
         None => Err(CostFault::TooLarge(gap)),
     }
 }

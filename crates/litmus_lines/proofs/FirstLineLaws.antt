@@ -11,12 +11,9 @@ use Rattle.std.proofs.lemmas.Option.{cond_some}
 use Rattle.std.proofs.lemmas.Slice.Eq.{bytes_eq-Decides}
 use Rattle.text_tokens.specs.Bytes.{is_blank, is_line_space, AreBlanks, AreLineSpaces}
 use Rattle.text_tokens.proofs.Prefixes.{prefix_is, all_pass}
+use Rattle.text_tokens.proofs.StepLaws.{let_through, not_passed}
 use Rattle.litmus_lines.specs.FirstLine.{is_inside, is_visible, AreVisible, IsHeading, IsFirstLine}
 use Rattle.litmus_lines.specs.FirstLineReading.{name_after, heading_name, line_at}
-
-cond_then : {A : Type 0} (b : Bool) (o : Option A) (x : A) → cond b o None ≡ Some x → (b ≡ true) × (o ≡ Some x)
-cond_then true o x e = (refl, e)
-cond_then false o x e = absurd cc
 
 weaker : (p q : ℕ → Bool) → ((b : ℕ) → p b ≡ true → q b ≡ true) → (xs : List ℕ) → list_all p xs ≡ true → list_all q xs ≡ true
 weaker p q h [] all = refl
@@ -46,7 +43,7 @@ unfolding heading_name
 heading_takes line name e =
     let rest = drop 3 line in
     let n = prefix_len is_blank rest in
-    let a = cond_then (bytes_eq (take 3 line) (codes "X86")) (name_after (take n rest) (drop n rest)) name e in
+    let a = let_through (bytes_eq (take 3 line) (codes "X86")) (name_after (take n rest) (drop n rest)) name e in
     let x86 : take 3 line ≡ codes "X86" = (bytes_eq-Decides (take 3 line) (codes "X86")).0 a.0 in
     let t = after_takes (take n rest) (drop n rest) name (all_pass is_blank rest) a.1 in
     (take n rest, t.0, sym (take-append-drop 3 line) ∙ ap (λ (h : List ℕ). h ++ rest) x86 ∙ ap (λ (r : List ℕ). codes "X86" ++ r) (sym (take-append-drop n rest) ∙ t.1), t.2, t.3, t.4)
@@ -165,16 +162,12 @@ same_parts l m n k same e h = let f = ap heading_name same in cc
 
 -- ---- where no first line is read
 
-cond_none : {A : Type 0} (b : Bool) (x : A) → None ≡ cond b (Some x) None → b ≡ false
-cond_none true x e = absurd cc
-cond_none false x e = refl
-
 all_or_less : (p : ℕ → Bool) (xs : List ℕ) → nat_lt (prefix_len p xs) (length xs) ≡ false → list_all p xs ≡ true
 all_or_less p xs e = rw (sym (take_all (prefix_len p xs) xs (ltb-false _ _ e))) (all_pass p xs)
 
 pub no_end : (text : List ℕ) → None ≡ line_at text → list_all is_inside text ≡ true
 unfolding line_at
-no_end text e = let n = prefix_len is_inside text in all_or_less is_inside text (cond_none (nat_lt n (length text)) (take n text, drop 1 (drop n text)) e)
+no_end text e = let n = prefix_len is_inside text in all_or_less is_inside text (not_passed (nat_lt n (length text)) (take n text, drop 1 (drop n text)) (sym e))
 
 pub has_end : (text line rest : List ℕ) → line_at text ≡ Some (line, rest) → list_all is_inside text ≡ false
 has_end text line rest e = rw (line_takes text line rest e, list_all-append is_inside line (10 ∷ rest), line_inside text line rest e) refl

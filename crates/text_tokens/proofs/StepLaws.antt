@@ -12,7 +12,15 @@ pub by_test : {A : Type 0} (b : Bool) (x y z : Option A) → cond b x y ≡ z �
 by_test true x y z e = inl (refl, e)
 by_test false x y z e = inr (refl, e)
 
--- a test after which nothing is given did not pass
+-- what a test says where something comes after it, or nothing does
 pub kept_out : {A : Type 0} (b : Bool) (x : Option A) (y : A) → cond b None x ≡ Some y → (b ≡ false) × (x ≡ Some y)
 kept_out true x y e = absurd cc
 kept_out false x y e = (refl, e)
+
+pub let_through : {A : Type 0} (b : Bool) (x : Option A) (y : A) → cond b x None ≡ Some y → (b ≡ true) × (x ≡ Some y)
+let_through true x y e = (refl, e)
+let_through false x y e = absurd cc
+
+pub not_passed : {A : Type 0} (b : Bool) (x : A) → cond b (Some x) None ≡ None → b ≡ false
+not_passed true x e = absurd cc
+not_passed false x e = refl

@@ -127,8 +127,8 @@ fn number_front(bytes: &[u8]) -> Front<'_>
     if begins_with_letter(rest) {
         return Front::Bad(Bad::Number);
     }
-    match value_up_to(u32::MAX, digits) {
-        Some(number) => Front::Token(Lexeme::Number(number), rest),
+    match value_up_to(u32::MAX as u64, digits) {
+        Some(number) => Front::Token(Lexeme::Number(number as u32), rest),
         None => Front::Bad(Bad::Number),
     }
 }

@@ -18,7 +18,7 @@ pub use laws::{
     a_text_has_one_list_of_tokens, a_whole_text_has_no_bad_token, pieces_are_read_again,
 };
 pub use lexer::{Tokens, lex};
-pub use numbers::{is_plain, plain_number_up_to, value_up_to};
+pub use numbers::{plain_number, plain_number_up_to, value_up_to};
 pub use parts::{begins, begins_number, mark, number, word};
 pub use space::after_space;
 pub use token::{Bad, Mark, Token};

@@ -9,24 +9,25 @@ ghost use Rattle.text_tokens.specs.Numbers.{is_plain, value_at, plain_number_at}
 use crate::bytes::are_digits;
 
 /// Whether the bytes are digits, at least one, without leading zeros.
-pub fn is_plain(bytes: &[u8]) -> bool
+fn is_plain(bytes: &[u8]) -> bool
     ensures { result ≡ is_plain bytes.now }
 {
     are_digits(bytes) && bytes.len() > 0 && (bytes.len() == 1 || bytes[0] != b'0')
 }
 
 /// The value of digits, where it is at most the limit, however many they are. No digits are 0.
-pub fn value_up_to(limit: u32, digits: &[u8]) -> Option<u32>
+pub fn value_up_to(limit: u64, digits: &[u8]) -> Option<u64>
     requires { IsTrue (list_all is_ascii_digit digits.now) }
-    ensures { result ≡ value_at limit digits.now }
+    ensures value { result ≡ value_at limit digits.now }
+    ensures within { IfSome result (λ n. n ≤ limit) }
 {
-    let past = limit as u64 + 1;
-    let mut value: u64 = 0;
+    let past = limit as u128 + 1;
+    let mut value: u128 = 0;
     for digit in digits {
-        value = (value * 10 + u64::from(*digit - b'0')).min(past);
+        value = (value * 10 + u128::from(*digit - b'0')).min(past);
     }
     if value < past {
-        Some(value as u32)
+        Some(value as u64)
     } else {
         None
     }
@@ -34,7 +35,7 @@ pub fn value_up_to(limit: u32, digits: &[u8]) -> Option<u32>
 
 /// The number up to the limit that is written so: in decimal digits, at least one, without leading zeros.
 #[tactic(auto, unfolding(crate::specs::Numbers::plain_number_at))]
-pub fn plain_number_up_to(limit: u32, bytes: &[u8]) -> Option<u32>
+pub fn plain_number(limit: u64, bytes: &[u8]) -> Option<u64>
     ensures value { result ≡ plain_number_at limit bytes.now }
     ensures found { IfSome result (λ n. (n ≤ limit) × (bytes.now ≡ decimal n)) }
     ensures only { (n : ℕ) → n ≤ limit → bytes.now ≡ decimal n → result ≡ Some n }
@@ -44,4 +45,14 @@ pub fn plain_number_up_to(limit: u32, bytes: &[u8]) -> Option<u32>
     } else {
         None
     }
+}
+
+/// The same of 32 bits.
+pub fn plain_number_up_to(limit: u32, bytes: &[u8]) -> Option<u32>
+    ensures value { result ≡ plain_number_at limit bytes.now }
+    ensures found { IfSome result (λ n. (n ≤ limit) × (bytes.now ≡ decimal n)) }
+    ensures only { (n : ℕ) → n ≤ limit → bytes.now ≡ decimal n → result ≡ Some n }
+{
+    let number = plain_number(u64::from(limit), bytes)?;
+    Some(number as u32)
 }

@@ -53,8 +53,9 @@ fn thread_of(digits: &[u8]) -> Option<u8>
     Some(number as u8)
 }
 
+/// The label that is spelled so.
 #[tactic(auto, unfolding(crate::specs::RunTexts::label_at))]
-fn label_of(word: &[u8]) -> Option<Label>
+pub fn label_of(word: &[u8]) -> Option<Label>
     ensures { result ≡ label_at word.now }
 {
     match word {

@@ -1,5 +1,5 @@
-use Rattle.std.proofs.Common.{ℕ, List, ◌<◌, length, ◌∙◌, sym, arith}
-use Rattle.std.proofs.lemmas.List.{nil_from_length, length-drop}
+use Rattle.std.proofs.Common.{◌<◌, length, ◌∙◌, sym, arith}
+use Rattle.std.proofs.lemmas.List.{nil_from_length}
 use Rattle.text_tokens.specs.Space.{nothing, comment}
 use Rattle.text_tokens.proofs.CommentLaws.{comment_shorter}
 use Rattle.text_tokens.proofs.SpaceLaws.{white_space_forth, white_space_back, comment_back, other_back, empty_is}
