@@ -3,7 +3,9 @@ use Rattle.std.proofs.Common.{◌≡◌, ℕ, zero, suc, Bool, true, false, cond
 use Rattle.std.specs.List.{AllByRecursion}
 use Rattle.std.proofs.lemmas.List.{append-nil}
 use Rattle.cert_words.specs.Lines.{texts_of}
+use Rattle.std.proofs.lemmas.Option.{same_Some}
 use Rattle.text_tokens.specs.Steps.{◌>>=◌}
+use Rattle.text_tokens.proofs.StepLaws.{bind_some}
 use Rattle.cert_words.specs.Words.{is_inner, repeat_at}
 
 -- at the end, or at a byte that fails a test
@@ -25,7 +27,7 @@ pub record IsExact {A : Type 0} (read : List ℕ → Option (A × List ℕ)) (te
 abbrev pub done_with : {A : Type 0} → List ℕ → A → Option (A × List ℕ)
 done_with rest x = Some (x, rest)
 
--- one value behind another
+-- one value after another
 abbrev pub two_at : {A B C : Type 0} → (List ℕ → Option (A × List ℕ)) → (List ℕ → Option (B × List ℕ)) → (A → B → C) → List ℕ → Option (C × List ℕ)
 two_at r s f bytes = r bytes >>= λ a. s a.1 >>= λ b. Some (f a.0 b.0, b.1)
 
