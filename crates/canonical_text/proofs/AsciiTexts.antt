@@ -8,10 +8,10 @@ use Rattle.std.proofs.lemmas.Fmt.{IsAscii-decimal}
 use Rattle.std.proofs.lemmas.Bool.Decides.{nat_tests}
 use Rattle.text_tokens.specs.declared.token.Mark.{Mark}
 use Rattle.text_tokens.specs.declared.token.Mark.TheVariants.{OpenBrace, CloseBrace, OpenBracket, CloseBracket, OpenParen, CloseParen, Semicolon, Bar, Colon, Equals, Comma, Dollar, Tilde, And, Or}
-use Rattle.text_tokens.specs.Bytes.{is_blank, is_word_byte}
+use Rattle.text_tokens.specs.Bytes.{is_white_space, is_word_byte}
 use Rattle.text_tokens.specs.Marks.{mark_text}
 use Rattle.text_tokens.specs.Tokens.{Tok, Word, Number, Sign, NoToken}
-use Rattle.text_tokens.specs.Pieces.{Piece, Gap, Part, token_text, text_of, CanStand, AreApartBefore}
+use Rattle.text_tokens.specs.Pieces.{Piece, Space, Part, token_text, text_of, CanStand, AreApartBefore}
 use Rattle.litmus_lines.specs.FirstLine.{is_visible}
 use Rattle.canonical_text.specs.Spelling.{heading}
 use Rattle.canonical_text.proofs.WordsWritten.{and_first, and_second}
@@ -19,8 +19,8 @@ use Rattle.canonical_text.proofs.WordsWritten.{and_first, and_second}
 small_word_byte : (b : ℕ) → is_word_byte b ≡ true → b < 128
 small_word_byte b h = grind (arith, nat_tests)
 
-small_blank : (b : ℕ) → is_blank b ≡ true → b < 128
-small_blank b h = grind (arith, nat_tests)
+small_white_space : (b : ℕ) → is_white_space b ≡ true → b < 128
+small_white_space b h = grind (arith, nat_tests)
 
 small_visible : (b : ℕ) → is_visible b ≡ true → b < 128
 small_visible b h = grind (arith, nat_tests)
@@ -63,7 +63,7 @@ ascii_token (NoToken b) rest h = absurd h
 -- pieces that can be written one after the other are ASCII
 pub ascii_pieces : (ps : List Piece) (rest : List ℕ) → AreApartBefore ps rest → IsAscii (text_of ps)
 ascii_pieces [] rest h = IsAscii-nil
-ascii_pieces (Gap b ∷ ps) rest h = IsAscii-cons b (text_of ps) (small_blank b h.0) (ascii_pieces ps rest h.1)
+ascii_pieces (Space b ∷ ps) rest h = IsAscii-cons b (text_of ps) (small_white_space b h.0) (ascii_pieces ps rest h.1)
 ascii_pieces (Part t ∷ ps) rest h = IsAscii-append (token_text t) (text_of ps) (ascii_token t (text_of ps ++ rest) h.0) (ascii_pieces ps rest h.1)
 
 -- the first line is ASCII

@@ -26,7 +26,7 @@ use Rattle.litmus_syntax.specs.Views.{PlaceView, Location, Register, EntryView, 
 use Rattle.litmus_syntax.specs.Grammar.{NoneTwice, labels_in_rows as all_names}
 use Rattle.litmus_syntax.specs.Places.{same_place}
 use Rattle.litmus_reader.specs.declared.litmus.Litmus.{Litmus}
-use Rattle.litmus_lines.specs.FirstLine.{is_visible, AreSome}
+use Rattle.litmus_lines.specs.FirstLine.{is_visible, AreVisible}
 use Rattle.litmus_reader.specs.Names.{Names, all_registers, number_in}
 use Rattle.litmus_reader.specs.Places.{entry_place, row_places, sign_places, places, location_name, is_register, names_of, names_among}
 use Rattle.litmus_reader.specs.Outcomes.{is_named}
@@ -310,7 +310,7 @@ module _ (b : BodyView) (e : EndingView) (f : Tree Said) (text : IsGoodText b e 
   same_condition = ap (λ (q : Word). condition_of (number_in locations) q f) (sym (word_again e.quantifier))
 
   -- the canonical text stands for the fenced program
-  stands : (name : List ℕ) → AreSome is_visible name
+  stands : (name : List ℕ) → AreVisible name
       → StandsFor (canonical_text (record (source name b e f) { program = program; labels = labels })) (record (source name b e f) { program = program; labels = labels })
   stands name visible =
       let h : HasParts (canonical_text (record (source name b e f) { program = program; labels = labels })) name body ending = printed_is_read name body ending visible body_printable ending_printable in
@@ -354,7 +354,7 @@ parts_good tokens b e f whole parts some few =
       spells = parts.spells;
     }
 
-fenced_text : (name : List ℕ) (b : BodyView) (e : EndingView) (f : Tree Said) (tokens : List Tok) (gaps : SetOfGaps) → AreSome is_visible name → AreGood tokens → AreParts tokens b e f
+fenced_text : (name : List ℕ) (b : BodyView) (e : EndingView) (f : Tree Said) (tokens : List Tok) (gaps : SetOfGaps) → AreVisible name → AreGood tokens → AreParts tokens b e f
     → IsWithinLimits (source name b e f).program.threads (source name b e f).program.memory
     → IsFencedLitmus (canonical_text (litmus_fenced_at gaps (source name b e f))) (litmus_fenced_at gaps (source name b e f))
 fenced_text name b e f tokens gaps visible whole parts limits =
@@ -370,7 +370,7 @@ pub canonical_is_read : CanonicalTextIsRead
 canonical_is_read text litmus is gaps =
     let stands_for : StandsFor text litmus = is.0 in
     let means : Means stands_for.tokens litmus = stands_for.means in
-    let visible : AreSome is_visible litmus.name = stands_for.first_line.2.4 in
+    let visible : AreVisible litmus.name = stands_for.first_line.2.4 in
     let own : Litmus Listing = source litmus.name means.body means.ending means.formula in
     let same : litmus ≡ own =
     λ i. record {

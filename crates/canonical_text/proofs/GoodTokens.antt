@@ -5,7 +5,7 @@ use Rattle.std.proofs.lemmas.List.Elements.{recursion_from_All}
 use Rattle.text_tokens.specs.declared.token.Mark.{Mark}
 use Rattle.text_tokens.specs.declared.token.Mark.TheVariants as the
 use Rattle.text_tokens.specs.Tokens.{Tok, Word, Number, Sign, NoToken}
-use Rattle.text_tokens.specs.Lexing.{IsWord, BeginsWith, BeginsWithAll, none, blank, comment, token}
+use Rattle.text_tokens.specs.Lexing.{IsWord, BeginsWith, BeginsWithAll, none, white_space, comment, token}
 use Rattle.tso_program.specs.declared.instruction.Reg.{Reg}
 use Rattle.litmus_syntax.specs.declared.ending.Quantifier.{Quantifier}
 use Rattle.litmus_syntax.specs.declared.ending.Quantifier.TheVariants.{Exists, NotExists, Forall}
@@ -34,7 +34,7 @@ good_token (NoToken b) text rest h = h
 -- the tokens of a text
 pub lexed_good : (ts : List Tok) (text rest : List ℕ) → BeginsWithAll ts text rest → AreGood ts
 lexed_good [] text rest none = tt
-lexed_good ts text rest (blank {text = more} h all) = lexed_good ts more rest all
+lexed_good ts text rest (white_space {text = more} h all) = lexed_good ts more rest all
 lexed_good ts text rest (comment {others = others} h all) = lexed_good ts others rest all
 lexed_good (t ∷ ts) text rest (token {others = others} h all) = (good_token t text others h, lexed_good ts others rest all)
 

@@ -5,7 +5,7 @@ use Rattle.std.proofs.lemmas.List.{append-nil}
 use Rattle.text_tokens.specs.Pieces.{text_of, tokens_of, AreApart}
 use Rattle.text_tokens.proofs.PieceLaws.{pieces_lex}
 use Rattle.text_tokens.specs.Space.{nothing}
-use Rattle.litmus_lines.specs.FirstLine.{is_visible, AreSome, IsFirstLine}
+use Rattle.litmus_lines.specs.FirstLine.{is_visible, AreVisible, IsFirstLine}
 use Rattle.litmus_lines.specs.SkippedLines.{brace}
 use Rattle.canonical_text.specs.Spelling.{lines_pieces, ending_pieces, heading}
 use Rattle.canonical_text.specs.Laws.{PrintedPartsAreRead}
@@ -14,7 +14,7 @@ use Rattle.canonical_text.proofs.PiecesRelated.{body_related, ending_related}
 use Rattle.canonical_text.proofs.AsciiTexts.{ascii_pieces, ascii_heading}
 
 -- the first line gives the name
-heading_read : (name rest : List ℕ) → AreSome is_visible name → IsFirstLine (heading name ++ rest) name rest
+heading_read : (name rest : List ℕ) → AreVisible name → IsFirstLine (heading name ++ rest) name rest
 heading_read name rest h =
     let same : codes "X86 " ++ name ≡ codes "X86" ++ ((32 ∷ []) ++ (name ++ [])) = simp append-nil in
     let whole : heading name ++ rest ≡ (codes "X86 " ++ name) ++ 10 ∷ rest = ap (λ (bs : List ℕ). codes "X86 " ++ bs) (append_assoc name (10 ∷ []) rest) in

@@ -6,7 +6,7 @@ use Rattle.text_tokens.specs.Tokens.{Tok}
 use Rattle.text_tokens.specs.Lexing.{Lexes}
 use Rattle.litmus_syntax.specs.Views.{BodyView, EndingView}
 use Rattle.litmus_syntax.specs.Grammar.{IsBody, IsEnding}
-use Rattle.litmus_lines.specs.FirstLine.{is_visible, AreSome, IsFirstLine}
+use Rattle.litmus_lines.specs.FirstLine.{is_visible, AreVisible, IsFirstLine}
 use Rattle.litmus_lines.specs.SkippedLines.{AreSkipped}
 use Rattle.tso_program.specs.declared.listing.Listing.{Listing}
 use Rattle.litmus_reader.specs.declared.litmus.Litmus.{Litmus}
@@ -31,7 +31,7 @@ pub record HasParts (text name : List ℕ) (body : BodyView) (ending : EndingVie
 -- Parts that can be printed are the parts of their canonical text.
 abbrev pub PrintedPartsAreRead : Type 0
 PrintedPartsAreRead =
-    (name : List ℕ) (body : BodyView) (ending : EndingView) → AreSome is_visible name → IsPrintable body → IsPrintableEnding body.threads ending
+    (name : List ℕ) (body : BodyView) (ending : EndingView) → AreVisible name → IsPrintable body → IsPrintableEnding body.threads ending
     → HasParts (text_with name body ending) name body ending
 
 -- The canonical text of what a text stands for, fenced at a set of gaps, is the text of that fenced program: with the same

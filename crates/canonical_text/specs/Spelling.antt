@@ -5,7 +5,7 @@ use Rattle.std.specs.Option.{option_to_list}
 use Rattle.text_tokens.specs.declared.token.Mark.{Mark}
 use Rattle.text_tokens.specs.declared.token.Mark.TheVariants as the
 use Rattle.text_tokens.specs.Tokens.{Word, Number, Sign}
-use Rattle.text_tokens.specs.Pieces.{Piece, Gap, Part, text_of}
+use Rattle.text_tokens.specs.Pieces.{Piece, Space, Part, text_of}
 use Rattle.tso_program.specs.declared.instruction.Reg.{Reg}
 use Rattle.litmus_syntax.specs.declared.ending.Quantifier.{Quantifier}
 use Rattle.litmus_syntax.specs.declared.ending.Quantifier.TheVariants.{Exists, NotExists, Forall}
@@ -16,10 +16,10 @@ use Rattle.litmus_reader.specs.Outcomes.{register_name}
 -- ---- white space and single tokens
 
 abbrev pub space : Piece
-space = Gap 32
+space = Space 32
 
 abbrev pub line_end : Piece
-line_end = Gap 10
+line_end = Space 10
 
 abbrev pub word : List ℕ → Piece
 word w = Part (Word w)

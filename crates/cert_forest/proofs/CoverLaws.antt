@@ -11,9 +11,12 @@ use Rattle.cert_forest.specs.Trees.{Cover, Value, Source, Order, Cycle, Known, C
 use Rattle.cert_words.specs.Lines.{texts_of, spaced}
 use Rattle.cert_forest.specs.Texts.{access_word, cover_words, count_covers}
 use Rattle.cert_forest.specs.Limits.{IsAccessId, cover_depth, covers_depth, HaveNumbers, IsCoverTo}
-use Rattle.cert_words.specs.Words.{◌>>=◌, number_within_at, count_at, letter_at, repeat_at}
+use Rattle.text_tokens.specs.Steps.{◌>>=◌}
+use Rattle.cert_words.specs.Words.{number_within_at, count_at, letter_at, repeat_at}
 use Rattle.cert_forest.specs.Reading.{Head, ValueHead, SourceHead, OrderHead, CycleHead, KnownHead, access_at, kind_at, value_head_at, source_head_at, order_head_at, cycle_at, known_at, head_by, head_at, below_at, cover_at}
-use Rattle.cert_words.proofs.Steps.{bind_some, chosen, some_is, Starts, IsExact, takes_two, again_two, repeat_takes, repeat_again, starts_all}
+use Rattle.text_tokens.proofs.StepLaws.{bind_some, by_test}
+use Rattle.std.proofs.lemmas.Option.{same_Some}
+use Rattle.cert_words.proofs.Steps.{Starts, IsExact, takes_two, again_two, repeat_takes, repeat_again, starts_all}
 use Rattle.cert_words.proofs.WordLaws.{number_text, number_exact, below64, count_exact, letter_takes, letter_again}
 use Rattle.cert_forest.proofs.NameLaws.{access_text, access_exact, kind_text, kind_exact}
 use Rattle.cert_forest.proofs.TreeTexts.{texts_append, texts_map, cover_text, cover_list, covers_again, covers_text, covers_count, covers_to, covers_from, cover_deep, regroup}
@@ -84,7 +87,7 @@ cycle_takes bytes x e =
     let k-is = kind_exact.takes bytes k.0 k.1 in
     let n-is = count_exact.takes k.0.1 n.0 n.1 in
     let es-are = repeat_takes access_at access_text IsAccessId access_exact.takes n.0.0 [] n.0.1 es.0 es.1 in
-    let same = some_is (CycleHead k.0.0 es.0.0, es.0.1) x es.2 in
+    let same = same_Some (CycleHead k.0.0 es.0.0, es.0.1) x es.2 in
     let events-is : es.0.0 ≡ es-are.0 = es-are.1 in
     let text : n.0.1 ≡ texts_of access_text es.0.0 ++ es.0.1 = es-are.2 ∙ ap (λ (v : List AccessId). texts_of access_text v ++ es.0.1) (sym events-is) in
     let len : n.0.0 ≡ length es.0.0 = sym es-are.3 ∙ ap length (sym events-is) in
@@ -99,19 +102,19 @@ unfolding known_at
 known_takes bytes x e =
     let n = bind_some (number_within_at 18446744073709551615 bytes) (λ run. Some (KnownHead run.0, run.1)) x e in
     let t = (number_exact 18446744073709551615 below64).takes bytes n.0 n.1 in
-    subst (λ (y : Head × List ℕ). (bytes ≡ rest_text y.0 ++ y.1) × HeadFits y.0 × (letter y.0 ≡ 75)) (some_is (KnownHead n.0.0, n.0.1) x n.2) (t.0, t.1, refl)
+    subst (λ (y : Head × List ℕ). (bytes ≡ rest_text y.0 ++ y.1) × HeadFits y.0 × (letter y.0 ≡ 75)) (same_Some (KnownHead n.0.0, n.0.1) x n.2) (t.0, t.1, refl)
 
 by_takes : (l : ℕ) (bytes : List ℕ) (x : Head × List ℕ) → head_by l bytes ≡ Some x → (bytes ≡ rest_text x.0 ++ x.1) × HeadFits x.0 × (letter x.0 ≡ l)
 by_takes l bytes x e =
-    elim (chosen (l == 86) (value_head_at bytes) (cond (l == 83) (source_head_at bytes) (cond (l == 79) (order_head_at bytes) (cond (l == 67) (cycle_at bytes) (cond (l == 75) (known_at bytes) None)))) (Some x) e) [
+    elim (by_test (l == 86) (value_head_at bytes) (cond (l == 83) (source_head_at bytes) (cond (l == 79) (order_head_at bytes) (cond (l == 67) (cycle_at bytes) (cond (l == 75) (known_at bytes) None)))) (Some x) e) [
       | inl h ↦ let t = value_takes bytes x h.1 in (t.0, t.1, t.2 ∙ sym (eqb-true _ _ h.0))
-      | inr h ↦ elim (chosen (l == 83) (source_head_at bytes) (cond (l == 79) (order_head_at bytes) (cond (l == 67) (cycle_at bytes) (cond (l == 75) (known_at bytes) None))) (Some x) h.1) [
+      | inr h ↦ elim (by_test (l == 83) (source_head_at bytes) (cond (l == 79) (order_head_at bytes) (cond (l == 67) (cycle_at bytes) (cond (l == 75) (known_at bytes) None))) (Some x) h.1) [
         | inl h ↦ let t = source_takes bytes x h.1 in (t.0, t.1, t.2 ∙ sym (eqb-true _ _ h.0))
-        | inr h ↦ elim (chosen (l == 79) (order_head_at bytes) (cond (l == 67) (cycle_at bytes) (cond (l == 75) (known_at bytes) None)) (Some x) h.1) [
+        | inr h ↦ elim (by_test (l == 79) (order_head_at bytes) (cond (l == 67) (cycle_at bytes) (cond (l == 75) (known_at bytes) None)) (Some x) h.1) [
           | inl h ↦ let t = order_takes bytes x h.1 in (t.0, t.1, t.2 ∙ sym (eqb-true _ _ h.0))
-          | inr h ↦ elim (chosen (l == 67) (cycle_at bytes) (cond (l == 75) (known_at bytes) None) (Some x) h.1) [
+          | inr h ↦ elim (by_test (l == 67) (cycle_at bytes) (cond (l == 75) (known_at bytes) None) (Some x) h.1) [
             | inl h ↦ let t = cycle_takes bytes x h.1 in (t.0, t.1, t.2 ∙ sym (eqb-true _ _ h.0))
-            | inr h ↦ elim (chosen (l == 75) (known_at bytes) None (Some x) h.1) [
+            | inr h ↦ elim (by_test (l == 75) (known_at bytes) None (Some x) h.1) [
               | inl h ↦ let t = known_takes bytes x h.1 in (t.0, t.1, t.2 ∙ sym (eqb-true _ _ h.0))
               | inr h ↦ absurd cc
             ]
@@ -215,7 +218,7 @@ below_takes d takes (ValueHead t n) bytes x fits e =
     let deep : suc (covers_depth (covers_of more.0)) ≤ suc d = omega (arith, to.0) in
     let small : count_covers (covers_of more.0) ≤ MAX_COUNT = omega (arith, covers_count more.0, more.3, fits.1) in
     let low : t < 256 = omega (arith, fits.0) in
-    let made : pair (Value t (covers_of more.0)) u.0.1 ≡ x = ap (λ (ts : List Cover). pair (Value t (covers_of ts)) u.0.1) (sym more.1) ∙ some_is (Value t (covers_of u.0.0), u.0.1) x u.2 in
+    let made : pair (Value t (covers_of more.0)) u.0.1 ≡ x = ap (λ (ts : List Cover). pair (Value t (covers_of ts)) u.0.1) (sym more.1) ∙ same_Some (Value t (covers_of u.0.0), u.0.1) x u.2 in
     subst (λ (y : Cover × List ℕ). (head_text (ValueHead t n) ++ bytes ≡ cover_text y.0 ++ y.1) × IsCoverTo (suc d) y.0) made (text, (deep, (low, small, to.1)))
 below_takes d takes (SourceHead event n) bytes x fits e =
     let u = bind_some (repeat_at (cover_at d) n [] bytes) (λ ts. Some (Source event (covers_of ts.0), ts.1)) x e in
@@ -224,7 +227,7 @@ below_takes d takes (SourceHead event n) bytes x fits e =
     let text : head_text (SourceHead event n) ++ bytes ≡ cover_text (Source event (covers_of more.0)) ++ u.0.1 = (λ i. head_text (SourceHead event (sym more.3 i)) ++ more.2 i) ∙ source_text event more.0 u.0.1 in
     let deep : suc (covers_depth (covers_of more.0)) ≤ suc d = omega (arith, to.0) in
     let small : count_covers (covers_of more.0) ≤ MAX_COUNT = omega (arith, covers_count more.0, more.3, fits.1) in
-    let made : pair (Source event (covers_of more.0)) u.0.1 ≡ x = ap (λ (ts : List Cover). pair (Source event (covers_of ts)) u.0.1) (sym more.1) ∙ some_is (Source event (covers_of u.0.0), u.0.1) x u.2 in
+    let made : pair (Source event (covers_of more.0)) u.0.1 ≡ x = ap (λ (ts : List Cover). pair (Source event (covers_of ts)) u.0.1) (sym more.1) ∙ same_Some (Source event (covers_of u.0.0), u.0.1) x u.2 in
     subst (λ (y : Cover × List ℕ). (head_text (SourceHead event n) ++ bytes ≡ cover_text y.0 ++ y.1) × IsCoverTo (suc d) y.0) made (text, (deep, (fits.0, small, to.1)))
 below_takes d takes (OrderHead first second) bytes x fits e =
     let t = bind_some (cover_at d bytes) (λ t. cover_at d t.1 >>= λ u. Some (Order first second t.0 u.0, u.1)) x e in
@@ -234,14 +237,14 @@ below_takes d takes (OrderHead first second) bytes x fits e =
     let text : head_text (OrderHead first second) ++ bytes ≡ cover_text (Order first second t.0.0 u.0.0) ++ u.0.1 =
     ap (λ (v : List ℕ). head_text (OrderHead first second) ++ v) (one.0 ∙ ap (λ (v : List ℕ). cover_text t.0.0 ++ v) two.0) ∙ order_text first second t.0.0 u.0.0 u.0.1 in
     let deep : suc (max (cover_depth t.0.0) (cover_depth u.0.0)) ≤ suc d = omega (arith, one.1.0, two.1.0) in
-    subst (λ (y : Cover × List ℕ). (head_text (OrderHead first second) ++ bytes ≡ cover_text y.0 ++ y.1) × IsCoverTo (suc d) y.0) (some_is (Order first second t.0.0 u.0.0, u.0.1) x u.2) (text, (deep, (fits.0, fits.1, one.1.1, two.1.1)))
+    subst (λ (y : Cover × List ℕ). (head_text (OrderHead first second) ++ bytes ≡ cover_text y.0 ++ y.1) × IsCoverTo (suc d) y.0) (same_Some (Order first second t.0.0 u.0.0, u.0.1) x u.2) (text, (deep, (fits.0, fits.1, one.1.1, two.1.1)))
 below_takes d takes (CycleHead kind events) bytes x fits e =
     let deep : 1 ≤ suc d = omega arith in
-    subst (λ (y : Cover × List ℕ). (head_text (CycleHead kind events) ++ bytes ≡ cover_text y.0 ++ y.1) × IsCoverTo (suc d) y.0) (some_is (Cycle kind events, bytes) x e) (cycle_text kind events bytes, (deep, (fits.0, fits.1)))
+    subst (λ (y : Cover × List ℕ). (head_text (CycleHead kind events) ++ bytes ≡ cover_text y.0 ++ y.1) × IsCoverTo (suc d) y.0) (same_Some (Cycle kind events, bytes) x e) (cycle_text kind events bytes, (deep, (fits.0, fits.1)))
 below_takes d takes (KnownHead run) bytes x fits e =
     let deep : 1 ≤ suc d = omega arith in
     let low : run < 2 ^ 64 = omega arith in
-    subst (λ (y : Cover × List ℕ). (head_text (KnownHead run) ++ bytes ≡ cover_text y.0 ++ y.1) × IsCoverTo (suc d) y.0) (some_is (Known run, bytes) x e) (known_text run bytes, (deep, low))
+    subst (λ (y : Cover × List ℕ). (head_text (KnownHead run) ++ bytes ≡ cover_text y.0 ++ y.1) × IsCoverTo (suc d) y.0) (same_Some (Known run, bytes) x e) (known_text run bytes, (deep, low))
 
 cover_takes : (d : ℕ) (bytes : List ℕ) (x : Cover × List ℕ) → cover_at d bytes ≡ Some x → (bytes ≡ cover_text x.0 ++ x.1) × IsCoverTo d x.0
 unfolding cover_at

@@ -7,9 +7,12 @@ use Rattle.cert_forest.specs.Trees.{Gap, Split, Bound, GapTrees, gap_trees_of}
 use Rattle.cert_words.specs.Lines.{texts_of, spaced}
 use Rattle.cert_forest.specs.Texts.{count_gaps}
 use Rattle.cert_forest.specs.Limits.{gaps_depth, IsGapTo}
-use Rattle.cert_words.specs.Words.{◌>>=◌, number_within_at, count_at, letter_at, repeat_at}
+use Rattle.text_tokens.specs.Steps.{◌>>=◌}
+use Rattle.cert_words.specs.Words.{number_within_at, count_at, letter_at, repeat_at}
 use Rattle.cert_forest.specs.Reading.{split_at, gap_by, gap_at}
-use Rattle.cert_words.proofs.Steps.{bind_some, guarded, chosen, some_is, Starts, IsExact, takes_two, again_two, repeat_takes, repeat_again, starts_all}
+use Rattle.text_tokens.proofs.StepLaws.{bind_some, by_test}
+use Rattle.std.proofs.lemmas.Option.{cond_some, same_Some}
+use Rattle.cert_words.proofs.Steps.{Starts, IsExact, takes_two, again_two, repeat_takes, repeat_again, starts_all}
 use Rattle.cert_words.proofs.WordLaws.{number_text, number_exact, below64, count_exact, letter_takes, letter_again}
 use Rattle.cert_forest.proofs.TreeTexts.{gap_text, gap_list, gaps_again, gaps_text, gaps_count, gaps_to, gaps_from, gap_deep, regroup}
 
@@ -45,7 +48,7 @@ pair t rest = (t, rest)
 by_takes : (d : ℕ) → ((bytes : List ℕ) (x : Gap × List ℕ) → gap_at d bytes ≡ Some x → (bytes ≡ gap_text x.0 ++ x.1) × IsGapTo d x.0)
     → (l : ℕ) (bytes : List ℕ) (x : Gap × List ℕ) → gap_by (gap_at d) l bytes ≡ Some x → (spaced (l ∷ []) ++ bytes ≡ gap_text x.0 ++ x.1) × IsGapTo (suc d) x.0
 by_takes d takes l bytes x e =
-    elim (chosen (l == 80) (split_at bytes >>= λ node. repeat_at (gap_at d) node.0.1 [] node.1 >>= λ ts. Some (Split node.0.0 (gap_trees_of ts.0), ts.1)) (cond (l == 66) (Some (Bound, bytes)) None) (Some x) e) [
+    elim (by_test (l == 80) (split_at bytes >>= λ node. repeat_at (gap_at d) node.0.1 [] node.1 >>= λ ts. Some (Split node.0.0 (gap_trees_of ts.0), ts.1)) (cond (l == 66) (Some (Bound, bytes)) None) (Some x) e) [
       | inl h ↦
           let first : l ≡ 80 = eqb-true _ _ h.0 in
           let node = bind_some (split_at bytes) (λ node. repeat_at (gap_at d) node.0.1 [] node.1 >>= λ ts. Some (Split node.0.0 (gap_trees_of ts.0), ts.1)) x h.1 in
@@ -57,10 +60,10 @@ by_takes d takes l bytes x e =
           let text : spaced (l ∷ []) ++ bytes ≡ gap_text (Split node.0.0.0 (gap_trees_of more.0)) ++ u.0.1 = (λ i. spaced (first i ∷ []) ++ behind i) ∙ split_node_text node.0.0.0 more.0 u.0.1 in
           let deep : suc (gaps_depth (gap_trees_of more.0)) ≤ suc d = omega (arith, to.0) in
           let small : count_gaps (gap_trees_of more.0) ≤ MAX_COUNT = omega (arith, gaps_count more.0, more.3, s.2) in
-          let made : pair (Split node.0.0.0 (gap_trees_of more.0)) u.0.1 ≡ x = ap (λ (ts : List Gap). pair (Split node.0.0.0 (gap_trees_of ts)) u.0.1) (sym more.1) ∙ some_is (Split node.0.0.0 (gap_trees_of u.0.0), u.0.1) x u.2 in
+          let made : pair (Split node.0.0.0 (gap_trees_of more.0)) u.0.1 ≡ x = ap (λ (ts : List Gap). pair (Split node.0.0.0 (gap_trees_of ts)) u.0.1) (sym more.1) ∙ same_Some (Split node.0.0.0 (gap_trees_of u.0.0), u.0.1) x u.2 in
           subst (λ (y : Gap × List ℕ). (spaced (l ∷ []) ++ bytes ≡ gap_text y.0 ++ y.1) × IsGapTo (suc d) y.0) made (text, (deep, (s.1, small, to.1)))
       | inr h ↦
-          let g = guarded (l == 66) (Bound, bytes) x h.1 in
+          let g = cond_some (l == 66) (Bound, bytes) x h.1 in
           let first : l ≡ 66 = eqb-true _ _ g.0 in
           let deep : 1 ≤ suc d = omega arith in
           let text : spaced (l ∷ []) ++ bytes ≡ gap_text Bound ++ bytes = λ i. spaced (first i ∷ []) ++ bytes in

@@ -6,8 +6,11 @@ use Rattle.std.proofs.lemmas.Bool.{ltb-false, le-ltb}
 use Rattle.std.proofs.lemmas.Slice.Eq.{bytes_eq-Decides}
 use Rattle.std.proofs.lemmas.List.{append-nil}
 use Rattle.cert_words.specs.Lines.{texts_of, spaced, line}
-use Rattle.cert_words.specs.Words.{◌>>=◌, word_at, line_name_at, end_at, begins_word}
-use Rattle.cert_words.proofs.Steps.{bind_some, guarded, kept_out, chosen, some_is, Starts, done_with}
+use Rattle.text_tokens.specs.Steps.{◌>>=◌}
+use Rattle.cert_words.specs.Words.{word_at, line_name_at, end_at, begins_word}
+use Rattle.text_tokens.proofs.StepLaws.{bind_some, kept_out, by_test}
+use Rattle.std.proofs.lemmas.Option.{cond_some, same_Some}
+use Rattle.cert_words.proofs.Steps.{Starts, done_with}
 use Rattle.cert_words.proofs.WordLaws.{word_takes, word_again, name_takes, name_again, end_takes, end_again}
 use Rattle.tso_program.specs.declared.shown.TheConstants.{PLACES}
 use Rattle.cert_forest.specs.Texts.{place_word, head_lines}
@@ -24,10 +27,10 @@ places_take : (n least : ℕ) (found : List ℕ) (bytes : List ℕ) (x : List �
 unfolding places_at
 places_take zero least found bytes x e =
     let k = kept_out (begins_word bytes) (Some (found, bytes)) x e in
-    let same = some_is (found, bytes) x k.1 in
+    let same = same_Some (found, bytes) x k.1 in
     ([], sym (ap (λ p. p.0) same) ∙ sym (append-nil found), ap (λ p. p.1) same, tt)
 places_take (suc n) least found bytes x e =
-    elim (chosen (begins_word bytes) (place_word_at bytes >>= λ place. cond (nat_lt place.0 least) None (places_at n (place.0 + 1) (found ++ place.0 ∷ []) place.1)) (Some (found, bytes)) (Some x) e) [
+    elim (by_test (begins_word bytes) (place_word_at bytes >>= λ place. cond (nat_lt place.0 least) None (places_at n (place.0 + 1) (found ++ place.0 ∷ []) place.1)) (Some (found, bytes)) (Some x) e) [
       | inl h ↦
           let u = bind_some (place_word_at bytes) (λ place. cond (nat_lt place.0 least) None (places_at n (place.0 + 1) (found ++ place.0 ∷ []) place.1)) x h.1 in
           let k = kept_out (nat_lt u.0.0 least) (places_at n (u.0.0 + 1) (found ++ u.0.0 ∷ []) u.0.1) x u.2 in
@@ -36,7 +39,7 @@ places_take (suc n) least found bytes x e =
           let others = places_take n (u.0.0 + 1) (found ++ u.0.0 ∷ []) u.0.1 x k.1 in
           (u.0.0 ∷ others.0, others.1 ∙ append_assoc found (u.0.0 ∷ []) others.0, one.0 ∙ ap (λ (w : List ℕ). place_text u.0.0 ++ w) others.2 ∙ sym (append_assoc (place_text u.0.0) (texts_of place_text others.0) x.1), (above, one.1, others.3))
       | inr h ↦
-          let same = some_is (found, bytes) x h.1 in
+          let same = same_Some (found, bytes) x h.1 in
           ([], sym (ap (λ p. p.0) same) ∙ sym (append-nil found), ap (λ p. p.1) same, tt)
     ]
 
@@ -91,12 +94,12 @@ version_takes : (bytes : List ℕ) (x : Bool × List ℕ) → version_at bytes �
 unfolding version_at
 version_takes bytes x e =
     let w = bind_some (word_at bytes) (λ w. cond (bytes_eq w.0 (codes "1")) (Some (false, w.1)) (cond (bytes_eq w.0 (codes "2")) (Some (true, w.1)) None)) x e in
-    elim (chosen (bytes_eq w.0.0 (codes "1")) (Some (false, w.0.1)) (cond (bytes_eq w.0.0 (codes "2")) (Some (true, w.0.1)) None) (Some x) w.2) [
+    elim (by_test (bytes_eq w.0.0 (codes "1")) (Some (false, w.0.1)) (cond (bytes_eq w.0.0 (codes "2")) (Some (true, w.0.1)) None) (Some x) w.2) [
       | inl h ↦
           let first : w.0.0 ≡ codes "1" = (bytes_eq-Decides w.0.0 (codes "1")).0 h.0 in
-          subst (λ (y : Bool × List ℕ). bytes ≡ spaced (version_word y.0) ++ y.1) (some_is (false, w.0.1) x h.1) (word_takes bytes w.0 w.1 ∙ (λ i. spaced (first i) ++ w.0.1))
+          subst (λ (y : Bool × List ℕ). bytes ≡ spaced (version_word y.0) ++ y.1) (same_Some (false, w.0.1) x h.1) (word_takes bytes w.0 w.1 ∙ (λ i. spaced (first i) ++ w.0.1))
       | inr h ↦
-          let g = guarded (bytes_eq w.0.0 (codes "2")) (true, w.0.1) x h.1 in
+          let g = cond_some (bytes_eq w.0.0 (codes "2")) (true, w.0.1) x h.1 in
           let first : w.0.0 ≡ codes "2" = (bytes_eq-Decides w.0.0 (codes "2")).0 g.0 in
           subst (λ (y : Bool × List ℕ). bytes ≡ spaced (version_word y.0) ++ y.1) g.1 (word_takes bytes w.0 w.1 ∙ (λ i. spaced (first i) ++ w.0.1))
     ]
@@ -123,7 +126,7 @@ header_takes bytes x e =
     name_takes (codes "FENCECERT") bytes t.0 t.1
     ∙ ap (λ (w : List ℕ). codes "FENCECERT" ++ w) (version_takes t.0 v.0 v.1 ∙ ap (λ (w : List ℕ). spaced (version_word v.0.0) ++ w) (end_takes v.0.1 r.0 r.1))
     ∙ ended_version v.0.0 r.0 in
-    subst (λ (y : Bool × List ℕ). bytes ≡ header_line y.0 ++ y.1) (some_is (v.0.0, r.0) x r.2) here
+    subst (λ (y : Bool × List ℕ). bytes ≡ header_line y.0 ++ y.1) (same_Some (v.0.0, r.0) x r.2) here
 
 version_starts : (second : Bool) (rest : List ℕ) → Starts (spaced (version_word second) ++ 10 ∷ rest)
 version_starts second rest = refl
@@ -145,13 +148,13 @@ head_takes bytes x e =
     by_version h.0.0 h.0.1 (header_takes bytes h.0 h.1) h.2
   where
     by_version : (second : Bool) (rest : List ℕ) → bytes ≡ header_line second ++ rest → shown_words_at second rest ≡ Some x → (bytes ≡ head_lines x.0 ++ x.1) × AreShownPlaces x.0
-    by_version false rest first h = subst (λ (y : Option (List ℕ) × List ℕ). (bytes ≡ head_lines y.0 ++ y.1) × AreShownPlaces y.0) (some_is (None, rest) x h) (first, tt)
+    by_version false rest first h = subst (λ (y : Option (List ℕ) × List ℕ). (bytes ≡ head_lines y.0 ++ y.1) × AreShownPlaces y.0) (same_Some (None, rest) x h) (first, tt)
     by_version true rest first h =
         let s = bind_some (shown_line_at rest) (λ places. Some (Some places.0, places.1)) x h in
         let t = shown_line_takes rest s.0 s.1 in
         let here : bytes ≡ head_lines (Some s.0.0) ++ s.0.1 =
         first ∙ ap (λ (w : List ℕ). header_line true ++ w) t.0 ∙ sym (append_assoc (header_line true) (line (codes "shown") (map place_word s.0.0)) s.0.1) in
-        subst (λ (y : Option (List ℕ) × List ℕ). (bytes ≡ head_lines y.0 ++ y.1) × AreShownPlaces y.0) (some_is (Some s.0.0, s.0.1) x s.2) (here, t.1)
+        subst (λ (y : Option (List ℕ) × List ℕ). (bytes ≡ head_lines y.0 ++ y.1) × AreShownPlaces y.0) (same_Some (Some s.0.0, s.0.1) x s.2) (here, t.1)
 
 pub head_again : (shown : Option (List ℕ)) (rest : List ℕ) → AreShownPlaces shown → shown_at (head_lines shown ++ rest) ≡ Some (shown, rest)
 unfolding shown_at

@@ -14,9 +14,12 @@ use Rattle.cert_forest.specs.Trees.{Cover, Gap}
 use Rattle.cert_words.specs.Lines.{texts_of, line}
 use Rattle.cert_forest.specs.Texts.{cover_words, gap_words, labels_line, runs_lines}
 use Rattle.cert_forest.specs.Limits.{AscendFrom, IsWrittenRun, AreRuns, IsCoverTo, IsGapTo}
-use Rattle.cert_words.specs.Words.{◌>>=◌, is_inner, line_name_at, end_at, begins_word, number_within_at, repeat_at}
+use Rattle.text_tokens.specs.Steps.{◌>>=◌}
+use Rattle.cert_words.specs.Words.{is_inner, line_name_at, end_at, begins_word, number_within_at, repeat_at}
 use Rattle.cert_forest.specs.Reading.{label_word_at, run_labels_at, gap_number_at, gaps_at, run_at, runs_at, set_at, cost_at, cover_at, gap_at, cover_line_at, gap_line_at}
-use Rattle.cert_words.proofs.Steps.{bind_some, kept_out, chosen, some_is, Starts, done_with, repeat_takes, repeat_free}
+use Rattle.text_tokens.proofs.StepLaws.{bind_some, kept_out, by_test}
+use Rattle.std.proofs.lemmas.Option.{same_Some}
+use Rattle.cert_words.proofs.Steps.{Starts, done_with, repeat_takes, repeat_free}
 use Rattle.cert_words.proofs.WordLaws.{name_takes, name_again, end_takes, end_again, number_text, number_exact, below64}
 use Rattle.cert_forest.proofs.NameLaws.{label_text, label_exact}
 use Rattle.cert_forest.proofs.TreeTexts.{texts_map, cover_text, gap_text}
@@ -44,7 +47,7 @@ line_takes r text P takes name bytes x e =
     let two = takes t.0 v.0 v.1 in
     let three = end_takes v.0.1 n.0 n.1 in
     let here : bytes ≡ line_of name (text v.0.0) ++ n.0 = one ∙ ap (λ (w : List ℕ). name ++ w) (two.0 ∙ ap (λ (w : List ℕ). text v.0.0 ++ w) three) ∙ line_parts name (text v.0.0) n.0 in
-    subst (λ (y : _ × List ℕ). (bytes ≡ line_of name (text y.0) ++ y.1) × P y.0) (some_is (v.0.0, n.0) x n.2) (here, two.1)
+    subst (λ (y : _ × List ℕ). (bytes ≡ line_of name (text y.0) ++ y.1) × P y.0) (same_Some (v.0.0, n.0) x n.2) (here, two.1)
 
 pub line_again : {A : Type 0} (r : List ℕ → Option (A × List ℕ)) (text : List ℕ) (name : List ℕ) (x : A) (rest : List ℕ) → list_all is_inner name ≡ true → Starts (text ++ 10 ∷ rest) → r (text ++ 10 ∷ rest) ≡ Some (x, 10 ∷ rest)
     → line_at name r (line_of name text ++ rest) ≡ Some (x, rest)
@@ -59,17 +62,17 @@ labels_take : (n : ℕ) (found : List Label) (bytes : List ℕ) (x : List Label 
 unfolding run_labels_at
 labels_take zero found bytes x e =
     let k = kept_out (begins_word bytes) (Some (found, bytes)) x e in
-    let same = some_is (found, bytes) x k.1 in
+    let same = same_Some (found, bytes) x k.1 in
     ([], sym (ap (λ p. p.0) same) ∙ sym (append-nil found), ap (λ p. p.1) same, omega arith, tt)
 labels_take (suc n) found bytes x e =
-    elim (chosen (begins_word bytes) (label_word_at bytes >>= λ label. run_labels_at n (found ++ label.0 ∷ []) label.1) (Some (found, bytes)) (Some x) e) [
+    elim (by_test (begins_word bytes) (label_word_at bytes >>= λ label. run_labels_at n (found ++ label.0 ∷ []) label.1) (Some (found, bytes)) (Some x) e) [
       | inl h ↦
           let u = bind_some (label_word_at bytes) (λ label. run_labels_at n (found ++ label.0 ∷ []) label.1) x h.1 in
           let one = label_exact.takes bytes u.0 u.1 in
           let others = labels_take n (found ++ u.0.0 ∷ []) u.0.1 x u.2 in
           (u.0.0 ∷ others.0, others.1 ∙ append_assoc found (u.0.0 ∷ []) others.0, one.0 ∙ ap (λ (w : List ℕ). label_text u.0.0 ++ w) others.2 ∙ sym (append_assoc (label_text u.0.0) (texts_of label_text others.0) x.1), omega (arith, others.3), (one.1, others.4))
       | inr h ↦
-          let same = some_is (found, bytes) x h.1 in
+          let same = same_Some (found, bytes) x h.1 in
           ([], sym (ap (λ p. p.0) same) ∙ sym (append-nil found), ap (λ p. p.1) same, omega arith, tt)
     ]
 
@@ -96,10 +99,10 @@ gaps_take : (n least : ℕ) (found : List ℕ) (bytes : List ℕ) (x : List ℕ 
 unfolding gaps_at
 gaps_take zero least found bytes x e =
     let k = kept_out (begins_word bytes) (Some (found, bytes)) x e in
-    let same = some_is (found, bytes) x k.1 in
+    let same = same_Some (found, bytes) x k.1 in
     ([], sym (ap (λ p. p.0) same) ∙ sym (append-nil found), ap (λ p. p.1) same, tt)
 gaps_take (suc n) least found bytes x e =
-    elim (chosen (begins_word bytes) (gap_number_at bytes >>= λ gap. cond (nat_lt gap.0 least) None (gaps_at n (gap.0 + 1) (found ++ gap.0 ∷ []) gap.1)) (Some (found, bytes)) (Some x) e) [
+    elim (by_test (begins_word bytes) (gap_number_at bytes >>= λ gap. cond (nat_lt gap.0 least) None (gaps_at n (gap.0 + 1) (found ++ gap.0 ∷ []) gap.1)) (Some (found, bytes)) (Some x) e) [
       | inl h ↦
           let u = bind_some (gap_number_at bytes) (λ gap. cond (nat_lt gap.0 least) None (gaps_at n (gap.0 + 1) (found ++ gap.0 ∷ []) gap.1)) x h.1 in
           let k = kept_out (nat_lt u.0.0 least) (gaps_at n (u.0.0 + 1) (found ++ u.0.0 ∷ []) u.0.1) x u.2 in
@@ -109,7 +112,7 @@ gaps_take (suc n) least found bytes x e =
           let below : u.0.0 < MAX_GAPS = omega (arith, one.1) in
           (u.0.0 ∷ others.0, others.1 ∙ append_assoc found (u.0.0 ∷ []) others.0, one.0 ∙ ap (λ (w : List ℕ). number_text u.0.0 ++ w) others.2 ∙ sym (append_assoc (number_text u.0.0) (texts_of number_text others.0) x.1), (above, below, others.3))
       | inr h ↦
-          let same = some_is (found, bytes) x h.1 in
+          let same = same_Some (found, bytes) x h.1 in
           ([], sym (ap (λ p. p.0) same) ∙ sym (append-nil found), ap (λ p. p.1) same, tt)
     ]
 

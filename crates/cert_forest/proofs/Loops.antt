@@ -5,7 +5,8 @@ use Rattle.std.proofs.lemmas.Bool.{lt-ltb, le-ltb}
 use Rattle.tso_machine.specs.declared.label.Label.{Label}
 use Rattle.cert_words.specs.declared.refusal.Stop.{Stop}
 use Rattle.cert_words.specs.declared.refusal.Stop.TheVariants.{Refused, OutOfMemory}
-use Rattle.cert_words.specs.Words.{Fails, begins_word, repeat_at}
+use Rattle.text_tokens.specs.Steps.{Fails}
+use Rattle.cert_words.specs.Words.{begins_word, repeat_at, stops_for_memory}
 use Rattle.cert_forest.specs.Reading.{label_word_at, run_labels_at, gap_number_at, gaps_at, place_word_at, places_at}
 
 one_less : (n k : ℕ) → k < n → n - k ≡ suc (n - (k + 1))
@@ -19,8 +20,8 @@ repeat_more r n k found bytes x rest all lt e so =
     let step : repeat_at r (suc (n - (k + 1))) found bytes ≡ repeat_at r (n - (k + 1)) (found ++ x ∷ []) rest = rw e refl in
     sym step ∙ ap (λ (m : ℕ). repeat_at r m found bytes) (sym (one_less n k lt)) ∙ so
 
-pub repeat_stops : {A : Type 0} (r : List ℕ → Option (A × List ℕ)) (n k : ℕ) (found : List A) (bytes : List ℕ) (stop : Stop) (all : Option (List A × List ℕ)) → k < n → Fails stop (r bytes)
-    → repeat_at r (n - k) found bytes ≡ all → Fails stop all
+pub repeat_stops : {A : Type 0} (r : List ℕ → Option (A × List ℕ)) (n k : ℕ) (found : List A) (bytes : List ℕ) (stop : Stop) (all : Option (List A × List ℕ)) → k < n → Fails stops_for_memory stop (r bytes)
+    → repeat_at r (n - k) found bytes ≡ all → Fails stops_for_memory stop all
 repeat_stops r n k found bytes OutOfMemory all lt e so = tt
 repeat_stops r n k found bytes (Refused refusal) all lt e so =
     let step : repeat_at r (suc (n - (k + 1))) found bytes ≡ None = rw e refl in
@@ -41,8 +42,8 @@ labels_more n k found bytes x rest all lt word e so =
     let step : run_labels_at (suc (n - (k + 1))) found bytes ≡ run_labels_at (n - (k + 1)) (found ++ x ∷ []) rest = rw (word, e) refl in
     sym step ∙ ap (λ (m : ℕ). run_labels_at m found bytes) (sym (one_less n k lt)) ∙ so
 
-pub labels_stop : (n k : ℕ) (found : List Label) (bytes : List ℕ) (stop : Stop) (all : Option (List Label × List ℕ)) → k < n → begins_word bytes ≡ true → Fails stop (label_word_at bytes)
-    → run_labels_at (n - k) found bytes ≡ all → Fails stop all
+pub labels_stop : (n k : ℕ) (found : List Label) (bytes : List ℕ) (stop : Stop) (all : Option (List Label × List ℕ)) → k < n → begins_word bytes ≡ true → Fails stops_for_memory stop (label_word_at bytes)
+    → run_labels_at (n - k) found bytes ≡ all → Fails stops_for_memory stop all
 unfolding run_labels_at
 labels_stop n k found bytes OutOfMemory all lt word e so = tt
 labels_stop n k found bytes (Refused refusal) all lt word e so =

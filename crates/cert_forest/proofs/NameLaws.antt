@@ -16,8 +16,11 @@ use Rattle.tso_machine.specs.declared.label.Label.TheVariants.{Exec, Flush}
 use Rattle.tso_machine.specs.RunTexts.{spelling, IsLabel, label_at}
 use Rattle.tso_machine.proofs.RunLabels.{label_takes, label_again}
 use Rattle.cert_words.specs.Lines.{spaced}
-use Rattle.cert_words.specs.Words.{◌>>=◌, is_inner, word_at, letter_at}
-use Rattle.cert_words.proofs.Steps.{bind_some, guarded, chosen, some_is, Starts, IsExact}
+use Rattle.text_tokens.specs.Steps.{◌>>=◌}
+use Rattle.cert_words.specs.Words.{is_inner, word_at, letter_at}
+use Rattle.text_tokens.proofs.StepLaws.{bind_some, by_test}
+use Rattle.std.proofs.lemmas.Option.{cond_some, same_Some}
+use Rattle.cert_words.proofs.Steps.{Starts, IsExact}
 use Rattle.cert_words.proofs.WordLaws.{prefix_is, after_prefix, word_takes, word_again, decimal_inner, letter_takes, letter_again}
 use Rattle.cert_forest.specs.declared.tree.AccessId.{AccessId}
 use Rattle.cert_forest.specs.Texts.{access_word, kind_word}
@@ -44,7 +47,7 @@ tail_takes t (b ∷ ds) e first h =
     let a = bind_some (plain_number_at 255 ds) (λ n. Some (record { thread = t; access = n })) e h in
     let n = plain_number_takes 255 a.0 ds (omega arith) a.1 in
     let made : AccessId = record { thread = t; access = a.0 } in
-    let same : made ≡ e = some_is made e a.2 in
+    let same : made ≡ e = same_Some made e a.2 in
     let stop : b ≡ 46 = first b ds refl in
     let small : a.0 < 256 = omega (arith, n.1) in
     let text : b ∷ ds ≡ 46 ∷ decimal a.0 = λ i. stop i ∷ n.0 i in
@@ -94,7 +97,7 @@ access_exact = record { takes = taken; again = λ e rest fits st. again e rest f
         let b = bind_some (access_of a.0.0) (λ event. Some (event, a.0.1)) x a.2 in
         let t = access_of_takes a.0.0 b.0 b.1 in
         let here : bytes ≡ access_text b.0 ++ a.0.1 = word_takes bytes a.0 a.1 ∙ ap (λ (v : List ℕ). spaced v ++ a.0.1) t.0 in
-        subst (λ (y : AccessId × List ℕ). (bytes ≡ access_text y.0 ++ y.1) × IsAccessId y.0) (some_is (b.0, a.0.1) x b.2) (here, t.1)
+        subst (λ (y : AccessId × List ℕ). (bytes ≡ access_text y.0 ++ y.1) × IsAccessId y.0) (same_Some (b.0, a.0.1) x b.2) (here, t.1)
 
     again : (e : AccessId) (rest : List ℕ) → IsAccessId e → Starts rest → access_at (access_text e ++ rest) ≡ Some (e, rest)
     again e rest fits st = rw (word_again (access_word e) rest (access_inner e fits) st, access_of_again e fits) refl
@@ -103,12 +106,12 @@ access_exact = record { takes = taken; again = λ e rest fits st. again e rest f
 
 kind_of_takes : (b : ℕ) (k : Kind) → kind_of b ≡ Some k → b ∷ [] ≡ kind_word k
 kind_of_takes b k e =
-    elim (chosen (b == 115) (Some kinds.Sequential) (cond (b == 108) (Some kinds.Location) (cond (b == 103) (Some kinds.Global) None)) (Some k) e) [
-      | inl h ↦ let first : b ≡ 115 = eqb-true _ _ h.0 in (λ i. first i ∷ []) ∙ ap kind_word (some_is kinds.Sequential k h.1)
-      | inr h ↦ elim (chosen (b == 108) (Some kinds.Location) (cond (b == 103) (Some kinds.Global) None) (Some k) h.1) [
-        | inl g ↦ let first : b ≡ 108 = eqb-true _ _ g.0 in (λ i. first i ∷ []) ∙ ap kind_word (some_is kinds.Location k g.1)
+    elim (by_test (b == 115) (Some kinds.Sequential) (cond (b == 108) (Some kinds.Location) (cond (b == 103) (Some kinds.Global) None)) (Some k) e) [
+      | inl h ↦ let first : b ≡ 115 = eqb-true _ _ h.0 in (λ i. first i ∷ []) ∙ ap kind_word (same_Some kinds.Sequential k h.1)
+      | inr h ↦ elim (by_test (b == 108) (Some kinds.Location) (cond (b == 103) (Some kinds.Global) None) (Some k) h.1) [
+        | inl g ↦ let first : b ≡ 108 = eqb-true _ _ g.0 in (λ i. first i ∷ []) ∙ ap kind_word (same_Some kinds.Location k g.1)
         | inr g ↦
-            let l = guarded (b == 103) kinds.Global k g.1 in
+            let l = cond_some (b == 103) kinds.Global k g.1 in
             let first : b ≡ 103 = eqb-true _ _ l.0 in (λ i. first i ∷ []) ∙ ap kind_word l.1
       ]
     ]
@@ -134,7 +137,7 @@ kind_exact = record { takes = taken; again = λ k rest _ st. kind_again k rest s
         let a = bind_some (letter_at bytes) (λ letter. kind_of letter.0 >>= λ kind. Some (kind, letter.1)) x e in
         let b = bind_some (kind_of a.0.0) (λ kind. Some (kind, a.0.1)) x a.2 in
         let here : bytes ≡ kind_text b.0 ++ a.0.1 = letter_takes bytes a.0 a.1 ∙ ap (λ (v : List ℕ). spaced v ++ a.0.1) (kind_of_takes a.0.0 b.0 b.1) in
-        subst (λ (y : Kind × List ℕ). (bytes ≡ kind_text y.0 ++ y.1) × Unit {0}) (some_is (b.0, a.0.1) x b.2) (here, tt)
+        subst (λ (y : Kind × List ℕ). (bytes ≡ kind_text y.0 ++ y.1) × Unit {0}) (same_Some (b.0, a.0.1) x b.2) (here, tt)
 
 -- ---- labels
 
@@ -155,7 +158,7 @@ label_exact = record { takes = taken; again = λ l rest fits st. again l rest fi
         let b = bind_some (label_at a.0.0) (λ label. Some (label, a.0.1)) x a.2 in
         let t = label_takes a.0.0 b.0 b.1 in
         let here : bytes ≡ label_text b.0 ++ a.0.1 = word_takes bytes a.0 a.1 ∙ ap (λ (v : List ℕ). spaced v ++ a.0.1) (sym t.0) in
-        subst (λ (y : Label × List ℕ). (bytes ≡ label_text y.0 ++ y.1) × IsLabel y.0) (some_is (b.0, a.0.1) x b.2) (here, t.1)
+        subst (λ (y : Label × List ℕ). (bytes ≡ label_text y.0 ++ y.1) × IsLabel y.0) (same_Some (b.0, a.0.1) x b.2) (here, t.1)
 
     again : (l : Label) (rest : List ℕ) → IsLabel l → Starts rest → label_word_at (label_text l ++ rest) ≡ Some (l, rest)
     again l rest fits st = rw (word_again (spelling l) rest (label_inner l fits) st, label_again l fits) refl

@@ -7,8 +7,11 @@ use Rattle.std.proofs.lemmas.Bool.{and_parts, eqb-true, leb-true, le-leb, lt-ltb
 use Rattle.std.proofs.lemmas.Fmt.{decimal_digit}
 use Rattle.tso_program.specs.Names.{register_place, location_place}
 use Rattle.cert_words.specs.Lines.{spaced}
-use Rattle.cert_words.specs.Words.{◌>>=◌, is_inner, word_at}
-use Rattle.cert_words.proofs.Steps.{bind_some, guarded, some_is, Starts, IsExact}
+use Rattle.text_tokens.specs.Steps.{◌>>=◌}
+use Rattle.cert_words.specs.Words.{is_inner, word_at}
+use Rattle.text_tokens.proofs.StepLaws.{bind_some}
+use Rattle.std.proofs.lemmas.Option.{cond_some, same_Some}
+use Rattle.cert_words.proofs.Steps.{Starts, IsExact}
 use Rattle.cert_words.proofs.WordLaws.{word_takes, word_again}
 use Rattle.tso_program.specs.declared.instruction.TheConstants.{REGISTERS}
 use Rattle.tso_program.specs.declared.limits.TheConstants.{MAX_THREADS, MAX_LOCATIONS}
@@ -20,7 +23,7 @@ use Rattle.cert_forest.specs.Reading.{digit_of, shown_location, register_of, sho
 
 digit_takes : (limit b d : ℕ) → limit < 10 → digit_of limit b ≡ Some d → (b ∷ [] ≡ decimal d) × (d ≤ limit)
 digit_takes limit b d few e =
-    let g = guarded (nat_le 48 b && nat_le b (48 + limit)) (b - 48) d e in
+    let g = cond_some (nat_le 48 b && nat_le b (48 + limit)) (b - 48) d e in
     let both = and_parts (nat_le 48 b) (nat_le b (48 + limit)) g.0 in
     let low : 48 ≤ b = leb-true 48 b both.0 in
     let high : b ≤ 48 + limit = leb-true b (48 + limit) both.1 in
@@ -65,7 +68,7 @@ location_takes a b p e = by_test (a == 108) refl e
         let first : a ≡ 108 = eqb-true a 108 q in
         let word : a ∷ (b ∷ []) ≡ location_word u.0 = λ i. first i ∷ d.0 i in
         let small : location_place u.0 < PLACES = omega (arith, d.1) in
-        subst (IsOf (a ∷ (b ∷ []))) (some_is (location_place u.0) p u.2) (word ∙ sym (location_at u.0), small)
+        subst (IsOf (a ∷ (b ∷ []))) (same_Some (location_place u.0) p u.2) (word ∙ sym (location_at u.0), small)
 
 register_takes : (a b c d p : ℕ) → register_of a b c d ≡ Some p → IsOf (a ∷ (b ∷ (c ∷ (d ∷ [])))) p
 register_takes a b c d p e = by_test (a == 114 && c == 46) refl e
@@ -82,7 +85,7 @@ register_takes a b c d p e = by_test (a == 114 && c == 46) refl e
         let stop : c ≡ 46 = eqb-true c 46 both.1 in
         let word : a ∷ (b ∷ (c ∷ (d ∷ []))) ≡ register_word u.0 v.0 = λ i. first i ∷ (t.0 i ++ stop i ∷ r.0 i) in
         let small : register_place u.0 v.0 < PLACES = omega (arith, t.1, r.1) in
-        subst (IsOf (a ∷ (b ∷ (c ∷ (d ∷ []))))) (some_is (register_place u.0 v.0) p v.2) (word ∙ sym (register_at u.0 v.0 (omega (arith, t.1)) (omega (arith, r.1))), small)
+        subst (IsOf (a ∷ (b ∷ (c ∷ (d ∷ []))))) (same_Some (register_place u.0 v.0) p v.2) (word ∙ sym (register_at u.0 v.0 (omega (arith, t.1)) (omega (arith, r.1))), small)
 
 place_takes : (word : List ℕ) (p : ℕ) → shown_place word ≡ Some p → IsOf word p
 place_takes [] p e = absurd cc
@@ -159,7 +162,7 @@ place_exact = record { takes = taken; again = λ p rest fits st. again p rest fi
         let b = bind_some (shown_place a.0.0) (λ place. Some (place, a.0.1)) x a.2 in
         let t = place_takes a.0.0 b.0 b.1 in
         let here : bytes ≡ place_text b.0 ++ a.0.1 = word_takes bytes a.0 a.1 ∙ ap (λ (v : List ℕ). spaced v ++ a.0.1) t.0 in
-        subst (λ (y : ℕ × List ℕ). (bytes ≡ place_text y.0 ++ y.1) × (y.0 < PLACES)) (some_is (b.0, a.0.1) x b.2) (here, t.1)
+        subst (λ (y : ℕ × List ℕ). (bytes ≡ place_text y.0 ++ y.1) × (y.0 < PLACES)) (same_Some (b.0, a.0.1) x b.2) (here, t.1)
 
     again : (p : ℕ) (rest : List ℕ) → p < PLACES → Starts rest → place_word_at (place_text p ++ rest) ≡ Some (p, rest)
     again p rest fits st = rw (word_again (place_word p) rest (place_inner p fits) st, place_again p fits) refl

@@ -4,7 +4,8 @@ use Rattle.std.proofs.lemmas.Bool.{cases_Bool, eqb-true}
 use Rattle.cert_words.specs.declared.refusal.Stop.{Stop}
 use Rattle.cert_words.specs.declared.refusal.Stop.TheVariants.{Refused, OutOfMemory}
 use Rattle.cert_forest.specs.Trees.{Gap, Split, Bound, gap_trees_of}
-use Rattle.cert_words.specs.Words.{Fails, letter_at, repeat_at}
+use Rattle.text_tokens.specs.Steps.{Fails}
+use Rattle.cert_words.specs.Words.{letter_at, repeat_at, stops_for_memory}
 use Rattle.cert_forest.specs.Reading.{Head, head_at, below_at, cover_at, split_at, gap_by, gap_at}
 
 less : (d : ℕ) → 0 < d → d ≡ suc (d - 1)
@@ -22,7 +23,7 @@ cover_node d bytes h rest lt e =
     let step : cover_at (suc (d - 1)) bytes ≡ below_at (cover_at (d - 1)) h rest = rw e refl in
     ap (λ (n : ℕ). cover_at n bytes) (less d lt) ∙ step
 
-pub cover_stops : (d : ℕ) (bytes : List ℕ) (stop : Stop) → 0 < d → Fails stop (head_at bytes) → Fails stop (cover_at d bytes)
+pub cover_stops : (d : ℕ) (bytes : List ℕ) (stop : Stop) → 0 < d → Fails stops_for_memory stop (head_at bytes) → Fails stops_for_memory stop (cover_at d bytes)
 unfolding cover_at
 cover_stops d bytes OutOfMemory lt e = tt
 cover_stops d bytes (Refused r) lt e =
@@ -53,7 +54,7 @@ gap_no_split d bytes l rest lt e is none =
     gap_node d bytes l rest lt e ∙ ap (λ (k : ℕ). gap_by (gap_at (d - 1)) k rest) is ∙ step
 
 pub gap_no_children : (d : ℕ) (bytes : List ℕ) (l : ℕ) (rest : List ℕ) (run n : ℕ) (more : List ℕ) (stop : Stop) → 0 < d → letter_at bytes ≡ Some (l, rest) → l ≡ 80 → split_at rest ≡ Some ((run, n), more)
-    → Fails stop (repeat_at (gap_at (d - 1)) n [] more) → Fails stop (gap_at d bytes)
+    → Fails stops_for_memory stop (repeat_at (gap_at (d - 1)) n [] more) → Fails stops_for_memory stop (gap_at d bytes)
 gap_no_children d bytes l rest run n more OutOfMemory lt e is so fails = tt
 gap_no_children d bytes l rest run n more (Refused r) lt e is so fails =
     let step : gap_by (gap_at (d - 1)) 80 rest ≡ None = rw (so, fails) refl in

@@ -13,9 +13,9 @@ use Rattle.cert_forest.specs.Texts.{head_lines, cover_words, gap_words, runs_lin
 use Rattle.cert_forest.specs.Limits.{AscendFrom, AreShownPlaces, AreRuns, IsCoverTo, IsGapTo, IsWithin, IsCertificate}
 use Rattle.cert_forest.specs.Exact.{HasMore}
 use Rattle.cert_forest.specs.Laws.{OneText, OneCertificate, NoTextBeginsAnother}
-use Rattle.cert_words.specs.Words.{◌>>=◌}
+use Rattle.text_tokens.specs.Steps.{◌>>=◌}
 use Rattle.cert_forest.specs.Reading.{shown_at, set_at, cost_at, runs_at, cover_line_at, gap_line_at, parts_at}
-use Rattle.cert_words.proofs.Steps.{some_is}
+use Rattle.std.proofs.lemmas.Option.{same_Some}
 use Rattle.cert_forest.proofs.HeadLaws.{head_takes, head_again}
 use Rattle.cert_forest.proofs.LineLaws.{set_takes, set_again, cost_takes, cost_again, runs_takes, runs_again, cover_line_takes, cover_line_again, gap_line_takes, gap_line_again}
 
@@ -99,7 +99,7 @@ parts_takes bytes x e =
     peel (runs_at (codes "runs") b5) (from6 shown gaps cost q t) x (Taken bytes x) (λ r b6 e5 h6.
     peel (cover_line_at (codes "fenced") b6) (from7 shown gaps cost q t r) x (Taken bytes x) (λ f b7 e6 h7.
     peel (gap_line_at b7) (from8 shown gaps cost q t r f) x (Taken bytes x) (λ g b8 e7 h8.
-    subst (Taken bytes) (some_is (made shown gaps cost q t r f g, b8) x h8) (all_taken bytes b1 b2 b3 b4 b5 b6 b7 b8 shown gaps cost q t r f g e0 e1 e2 e3 e4 e5 e6 e7)) h7) h6) h5) h4) h3) h2) h1) e
+    subst (Taken bytes) (same_Some (made shown gaps cost q t r f g, b8) x h8) (all_taken bytes b1 b2 b3 b4 b5 b6 b7 b8 shown gaps cost q t r f g e0 e1 e2 e3 e4 e5 e6 e7)) h7) h6) h5) h4) h3) h2) h1) e
 
 pub parts_again : (c : Cert) (rest : List ℕ) → IsWithin c → parts_at (certificate_text c ++ rest) ≡ Some (c, rest)
 unfolding parts_at
@@ -136,10 +136,10 @@ pub read_whole : (text : List ℕ) (c : Cert) → IsCertificate text c → parts
 read_whole text c is = ap parts_at (sym (append-nil text)) ∙ read text [] c is
 
 pub one_certificate : OneCertificate
-one_certificate text c d a b = ap (λ p. p.0) (some_is (c, []) (d, []) (sym (read_whole text c a) ∙ read_whole text d b))
+one_certificate text c d a b = ap (λ p. p.0) (same_Some (c, []) (d, []) (sym (read_whole text c a) ∙ read_whole text d b))
 
 pub nothing_behind : NoTextBeginsAnother
-nothing_behind text more c d a b = ap (λ p. p.1) (some_is (c, more) (d, []) (sym (read text more c a) ∙ read_whole (text ++ more) d b))
+nothing_behind text more c d a b = ap (λ p. p.1) (same_Some (c, more) (d, []) (sym (read text more c a) ∙ read_whole (text ++ more) d b))
 
 -- ---- what the public reader needs
 
@@ -150,7 +150,7 @@ found_whole bytes rest c e none =
 
 pub only_whole : (bytes rest : List ℕ) (c d : Cert) → parts_at bytes ≡ Some (c, rest) → IsCertificate bytes d → (c ≡ d) × (rest ≡ [])
 only_whole bytes rest c d e is =
-    let same = some_is (c, rest) (d, []) (sym e ∙ read_whole bytes d is) in
+    let same = same_Some (c, rest) (d, []) (sym e ∙ read_whole bytes d is) in
     (ap (λ p. p.0) same, ap (λ p. p.1) same)
 
 pub never_none : (bytes : List ℕ) (d : Cert) → parts_at bytes ≡ None → IsCertificate bytes d → ⊥
@@ -194,7 +194,7 @@ read_front bytes place m = ap parts_at (sym (take-append-drop place bytes)) ∙ 
 -- where something follows a certificate, it is what is left, and it is not nothing
 pub left_behind : (bytes rest : List ℕ) (c : Cert) (place : ℕ) → parts_at bytes ≡ Some (c, rest) → HasMore bytes place → (length bytes - length rest ≡ place) × (0 < length rest)
 left_behind bytes rest c place e m =
-    let is : rest ≡ drop place bytes = ap (λ p. p.1) (some_is (c, rest) (m.front, drop place bytes) (sym e ∙ read_front bytes place m)) in
+    let is : rest ≡ drop place bytes = ap (λ p. p.1) (same_Some (c, rest) (m.front, drop place bytes) (sym e ∙ read_front bytes place m)) in
     let long : length rest ≡ length bytes - place = ap length is ∙ length-drop place bytes in
     let more = m.more in
     (omega arith, omega arith)

@@ -12,7 +12,8 @@ use Rattle.candidate_executions.specs.declared.event.Kind.TheVariants as kinds
 use Rattle.tso_machine.specs.declared.label.Label.{Label}
 use Rattle.tso_machine.specs.RunTexts.{label_at}
 use Rattle.text_tokens.specs.Numbers.{plain_number_at}
-use Rattle.cert_words.specs.Words.{◌>>=◌, word_at, line_name_at, end_at, begins_word, number_within_at, count_at, letter_at, repeat_at}
+use Rattle.text_tokens.specs.Steps.{◌>>=◌}
+use Rattle.cert_words.specs.Words.{word_at, line_name_at, end_at, begins_word, number_within_at, count_at, letter_at, repeat_at}
 use Rattle.cert_words.specs.declared.numbers.TheConstants.{MAX_COUNT}
 use Rattle.cert_forest.specs.declared.tree.TheConstants.{MAX_COVER_DEPTH, MAX_GAP_DEPTH}
 use Rattle.cert_forest.specs.declared.tree.AccessId.{AccessId}

@@ -2,12 +2,14 @@
 
 ghost use Rattle.std.specs.Prelude.{◌≡◌, ◌≤◌, length, []};
 ghost use Rattle.std.specs.List.{prefix_len};
-ghost use Rattle.cert_words.specs.Words.{Gives, GivesUnlessMemory, repeat_at};
+ghost use Rattle.text_tokens.specs.Steps.{Gives, GivesUnless};
+ghost use Rattle.cert_words.specs.Words.{repeat_at, stops_for_memory};
 ghost use Rattle.cert_forest.specs.Reading.{is_no_stop, access_tail, access_of, access_at};
 
 use crate::tree::AccessId;
-use cert_words::{Refusal, Stop, Wrong, are_digits, plain_number, refused_unless_cut, word};
+use cert_words::{Refusal, Stop, Wrong, refused_unless_cut, word};
 use std::alloc::Global;
+use text_tokens::{are_digits, plain_number};
 
 /// How many bytes stand before a full stop.
 pub(crate) fn stop_len(bytes: &[u8]) -> usize
@@ -85,7 +87,7 @@ pub(crate) fn accesses(
     count: u64,
     bytes: &[u8],
 ) -> Result<(Vec<AccessId>, &[u8]), Stop>
-    ensures { GivesUnlessMemory (λ x. (x.0.items, x.1.now)) result (repeat_at access_at count [] bytes.now) }
+    ensures { GivesUnless stops_for_memory (λ x. (x.0.items, x.1.now)) result (repeat_at access_at count [] bytes.now) }
 {
     let mut found = Vec::new(alloc);
     let mut rest = bytes;

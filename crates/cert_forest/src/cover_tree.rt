@@ -3,7 +3,8 @@
 ghost use Rattle.std.specs.Prelude.{◌≡◌, [], map};
 ghost use Rattle.cert_forest.specs.Views.{cover};
 ghost use Rattle.cert_forest.specs.HeadViews.{head_view};
-ghost use Rattle.cert_words.specs.Words.{GivesUnlessMemory, repeat_at};
+ghost use Rattle.text_tokens.specs.Steps.{GivesUnless};
+ghost use Rattle.cert_words.specs.Words.{repeat_at, stops_for_memory};
 ghost use Rattle.cert_forest.specs.Reading.{below_at, cover_at, cover_line_at};
 
 use crate::head::{Head, read_head};
@@ -33,7 +34,7 @@ pub(crate) fn too_deep(bytes: &[u8]) -> Refusal {
 /// A tree of at most this depth. It recurses so deep and no deeper.
 #[cycle(cover)]
 fn cover(alloc: Global, depth: u16, bytes: &[u8]) -> Result<(CoverTree, &[u8]), Stop>
-    ensures { GivesUnlessMemory (λ x. (cover x.0, x.1.now)) result (cover_at depth bytes.now) }
+    ensures { GivesUnless stops_for_memory (λ x. (cover x.0, x.1.now)) result (cover_at depth bytes.now) }
 {
     if depth == 0 {
         return Err(Stop::Refused(too_deep(bytes)));
@@ -45,7 +46,7 @@ fn cover(alloc: Global, depth: u16, bytes: &[u8]) -> Result<(CoverTree, &[u8]), 
 /// The rest of a tree behind what its root says. Its children are of at most this depth.
 #[cycle(cover)]
 fn below(alloc: Global, depth: u16, head: Head, bytes: &[u8]) -> Result<(CoverTree, &[u8]), Stop>
-    ensures { GivesUnlessMemory (λ x. (cover x.0, x.1.now)) result (below_at (cover_at depth) (head_view head) bytes.now) }
+    ensures { GivesUnless stops_for_memory (λ x. (cover x.0, x.1.now)) result (below_at (cover_at depth) (head_view head) bytes.now) }
 {
     match head {
         Head::Value { thread, count } => {
@@ -80,7 +81,7 @@ fn covers(
     count: u64,
     bytes: &[u8],
 ) -> Result<(Vec<CoverTree>, &[u8]), Stop>
-    ensures { GivesUnlessMemory (λ x. (map cover x.0.items, x.1.now)) result (repeat_at (cover_at depth) count [] bytes.now) }
+    ensures { GivesUnless stops_for_memory (λ x. (map cover x.0.items, x.1.now)) result (repeat_at (cover_at depth) count [] bytes.now) }
 {
     let mut found = Vec::new(alloc);
     let mut rest = bytes;
@@ -99,7 +100,7 @@ pub(crate) fn cover_line<'t>(
     first: &[u8],
     bytes: &'t [u8],
 ) -> Result<(CoverTree, &'t [u8]), Stop>
-    ensures { GivesUnlessMemory (λ x. (cover x.0, x.1.now)) result (cover_line_at first.now bytes.now) }
+    ensures { GivesUnless stops_for_memory (λ x. (cover x.0, x.1.now)) result (cover_line_at first.now bytes.now) }
 {
     let rest = name(first, bytes)?;
     let (tree, rest) = cover(alloc, MAX_COVER_DEPTH, rest)?;

@@ -2,7 +2,8 @@
 
 ghost use Rattle.std.specs.Prelude.{◌≡◌, [], map};
 ghost use Rattle.cert_forest.specs.Views.{gap};
-ghost use Rattle.cert_words.specs.Words.{Gives, GivesUnlessMemory, repeat_at};
+ghost use Rattle.text_tokens.specs.Steps.{Gives, GivesUnless};
+ghost use Rattle.cert_words.specs.Words.{repeat_at, stops_for_memory};
 ghost use Rattle.cert_forest.specs.Reading.{split_at, gap_at, gap_line_at};
 
 use crate::cover_tree::too_deep;
@@ -23,7 +24,7 @@ fn split(bytes: &[u8]) -> Result<(u64, u64, &[u8]), Refusal>
 /// A tree of at most this depth. It recurses so deep and no deeper.
 #[cycle(gap)]
 fn gap(alloc: Global, depth: u16, bytes: &[u8]) -> Result<(GapTree, &[u8]), Stop>
-    ensures { GivesUnlessMemory (λ x. (gap x.0, x.1.now)) result (gap_at depth bytes.now) }
+    ensures { GivesUnless stops_for_memory (λ x. (gap x.0, x.1.now)) result (gap_at depth bytes.now) }
 {
     if depth == 0 {
         return Err(Stop::Refused(too_deep(bytes)));
@@ -43,7 +44,7 @@ fn gap(alloc: Global, depth: u16, bytes: &[u8]) -> Result<(GapTree, &[u8]), Stop
 /// So many trees of at most this depth.
 #[cycle(gap)]
 fn gaps(alloc: Global, depth: u16, count: u64, bytes: &[u8]) -> Result<(Vec<GapTree>, &[u8]), Stop>
-    ensures { GivesUnlessMemory (λ x. (map gap x.0.items, x.1.now)) result (repeat_at (gap_at depth) count [] bytes.now) }
+    ensures { GivesUnless stops_for_memory (λ x. (map gap x.0.items, x.1.now)) result (repeat_at (gap_at depth) count [] bytes.now) }
 {
     let mut found = Vec::new(alloc);
     let mut rest = bytes;
@@ -58,7 +59,7 @@ fn gaps(alloc: Global, depth: u16, count: u64, bytes: &[u8]) -> Result<(Vec<GapT
 /// The line of the gap tree.
 #[tactic(auto, unfolding(crate::specs::Reading::gap_line_at))]
 pub(crate) fn gap_line(alloc: Global, bytes: &[u8]) -> Result<(GapTree, &[u8]), Stop>
-    ensures { GivesUnlessMemory (λ x. (gap x.0, x.1.now)) result (gap_line_at bytes.now) }
+    ensures { GivesUnless stops_for_memory (λ x. (gap x.0, x.1.now)) result (gap_line_at bytes.now) }
 {
     let rest = name(b"gaps", bytes)?;
     let (tree, rest) = gap(alloc, MAX_GAP_DEPTH, rest)?;

@@ -2,8 +2,9 @@
 
 ghost use Rattle.std.specs.Prelude.{◌≡◌};
 ghost use Rattle.cert_forest.specs.HeadViews.{head_view};
-ghost use Rattle.cert_words.specs.Words.{Gives, GivesUnlessMemory};
+ghost use Rattle.text_tokens.specs.Steps.{Gives, GivesUnless};
 ghost use Rattle.cert_forest.specs.Reading.{kind_of, kind_at, value_head_at, source_head_at, order_head_at, cycle_at, known_at, head_by, head_at};
+ghost use Rattle.cert_words.specs.Words.{stops_for_memory};
 
 use crate::access::{access, accesses};
 use crate::tree::AccessId;
@@ -81,7 +82,7 @@ fn order_head(bytes: &[u8]) -> Result<(Head, &[u8]), Refusal>
 
 #[tactic(auto, unfolding(crate::specs::Reading::cycle_at))]
 fn cycle_head(alloc: Global, bytes: &[u8]) -> Result<(Head, &[u8]), Stop>
-    ensures { GivesUnlessMemory (λ x. (head_view x.0, x.1.now)) result (cycle_at bytes.now) }
+    ensures { GivesUnless stops_for_memory (λ x. (head_view x.0, x.1.now)) result (cycle_at bytes.now) }
 {
     let (kind, rest) = kind(bytes)?;
     let (count, rest) = count(rest)?;
@@ -100,7 +101,7 @@ fn known_head(bytes: &[u8]) -> Result<(Head, &[u8]), Refusal>
 /// What a node says.
 #[tactic(auto, unfolding(crate::specs::Reading::head_at))]
 pub(crate) fn read_head(alloc: Global, bytes: &[u8]) -> Result<(Head, &[u8]), Stop>
-    ensures { GivesUnlessMemory (λ x. (head_view x.0, x.1.now)) result (head_at bytes.now) }
+    ensures { GivesUnless stops_for_memory (λ x. (head_view x.0, x.1.now)) result (head_at bytes.now) }
 {
     let (letter, rest) = letter(bytes)?;
     if letter == b'V' {

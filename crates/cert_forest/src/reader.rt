@@ -8,9 +8,10 @@ ghost use Rattle.cert_forest.specs.Limits.{IsCertificate, AscendFrom};
 ghost use Rattle.cert_forest.specs.PartsViews.{parts_view};
 ghost use Rattle.cert_forest.specs.Exact.{GivesExactly, HasMore};
 ghost use Rattle.cert_forest.specs.declared.fault.CertFault.TheVariants.{Trailing, OutOfMemory};
-ghost use Rattle.cert_words.specs.Words.{Gives, GivesUnlessMemory};
+ghost use Rattle.text_tokens.specs.Steps.{Gives, GivesUnless};
 ghost use Rattle.cert_words.specs.Completions.{CanBecome};
 ghost use Rattle.cert_forest.specs.Reading.{gap_number_at, gaps_at, set_at, cost_at, parts_at};
+ghost use Rattle.cert_words.specs.Words.{stops_for_memory};
 
 use crate::certificate::Certificate;
 use crate::cover_tree::cover_line;
@@ -58,7 +59,7 @@ fn after_all(bytes: &[u8]) -> Refusal {
 
 /// The gaps of the set, ascending, as long as words follow.
 fn gaps(alloc: Global, bytes: &[u8]) -> Result<(Vec<u8>, &[u8]), Stop>
-    ensures { GivesUnlessMemory (λ x. (x.0.items, x.1.now)) result (gaps_at MAX_GAPS 0 [] bytes.now) }
+    ensures { GivesUnless stops_for_memory (λ x. (x.0.items, x.1.now)) result (gaps_at MAX_GAPS 0 [] bytes.now) }
 {
     let mut found = Vec::new(alloc);
     let mut least: u8 = 0;
@@ -83,7 +84,7 @@ fn gaps(alloc: Global, bytes: &[u8]) -> Result<(Vec<u8>, &[u8]), Stop>
 
 #[tactic(auto, unfolding(crate::specs::Reading::set_at))]
 fn set_line(alloc: Global, bytes: &[u8]) -> Result<(Vec<u8>, &[u8]), Stop>
-    ensures { GivesUnlessMemory (λ x. (x.0.items, x.1.now)) result (set_at bytes.now) }
+    ensures { GivesUnless stops_for_memory (λ x. (x.0.items, x.1.now)) result (set_at bytes.now) }
 {
     let rest = name(b"set", bytes)?;
     let (gaps, rest) = gaps(alloc, rest)?;
@@ -129,7 +130,7 @@ struct Parts {
 /// A certificate's parts, and the bytes after its last line.
 #[tactic(auto, unfolding(crate::specs::Reading::parts_at))]
 fn read_parts(alloc: Global, bytes: &[u8]) -> Result<(Parts, &[u8]), Stop>
-    ensures { GivesUnlessMemory (λ x. (parts_view x.0, x.1.now)) result (parts_at bytes.now) }
+    ensures { GivesUnless stops_for_memory (λ x. (parts_view x.0, x.1.now)) result (parts_at bytes.now) }
 {
     let (shown, rest) = head(alloc, bytes)?;
     let (gaps, rest) = set_line(alloc, rest)?;

@@ -1,38 +1,19 @@
 //! Lines of runs.
 
 ghost use Rattle.std.specs.Prelude.{◌≡◌, map, []};
-ghost use Rattle.tso_machine.specs.RunTexts.{label_at};
-ghost use Rattle.text_tokens.specs.Numbers.{plain_number_at};
 ghost use Rattle.cert_forest.specs.Certificates.{labels_of};
 ghost use Rattle.cert_words.specs.declared.numbers.TheConstants.{MAX_COUNT};
-ghost use Rattle.cert_words.specs.Words.{Gives, GivesUnlessMemory, repeat_at};
+ghost use Rattle.text_tokens.specs.Steps.{Gives, GivesUnless};
+ghost use Rattle.cert_words.specs.Words.{repeat_at, stops_for_memory};
 ghost use Rattle.cert_forest.specs.Reading.{label_word_at, run_labels_at, run_at, runs_at};
 
 use cert_words::{
-    MAX_COUNT, Refusal, Stop, Wrong, are_digits, begins_word, end, first_word, name, number,
-    plain_number, refused, refused_unless_cut, refused_word, word,
+    MAX_COUNT, Refusal, Stop, Wrong, begins_word, end, first_word, name, number, refused,
+    refused_unless_cut, refused_word, word,
 };
 use std::alloc::Global;
-use tso_machine::Label;
-
-fn thread_of(digits: &[u8]) -> Option<u8>
-    ensures { result ≡ plain_number_at 255 digits.now }
-{
-    let number = plain_number(255, digits)?;
-    Some(number as u8)
-}
-
-/// The label that is spelled so.
-#[tactic(auto, unfolding(tso_machine::specs::RunTexts::label_at))]
-fn label_of(word: &[u8]) -> Option<Label>
-    ensures { result ≡ label_at word.now }
-{
-    match word {
-        [b'e', digits @ ..] => Some(Label::Exec(thread_of(digits)?)),
-        [b'f', digits @ ..] => Some(Label::Flush(thread_of(digits)?)),
-        _ => None,
-    }
-}
+use text_tokens::are_digits;
+use tso_machine::{Label, label_of};
 
 /// What is wrong with a word that spells no label, and whether it could have gone on.
 fn fault_of(word: &[u8]) -> (Wrong, bool) {
@@ -81,7 +62,7 @@ fn one_too_many(bytes: &[u8]) -> Refusal {
 
 /// Labels, as long as words follow.
 fn labels(alloc: Global, bytes: &[u8]) -> Result<(Vec<Label>, &[u8]), Stop>
-    ensures { GivesUnlessMemory (λ x. (x.0.items, x.1.now)) result (run_labels_at MAX_COUNT [] bytes.now) }
+    ensures { GivesUnless stops_for_memory (λ x. (x.0.items, x.1.now)) result (run_labels_at MAX_COUNT [] bytes.now) }
 {
     let mut found = Vec::new(alloc);
     let mut rest = bytes;
@@ -102,7 +83,7 @@ fn labels(alloc: Global, bytes: &[u8]) -> Result<(Vec<Label>, &[u8]), Stop>
 /// A run's line.
 #[tactic(auto, unfolding(crate::specs::Reading::run_at))]
 fn run(alloc: Global, bytes: &[u8]) -> Result<(Vec<Label>, &[u8]), Stop>
-    ensures { GivesUnlessMemory (λ x. (x.0.items, x.1.now)) result (run_at bytes.now) }
+    ensures { GivesUnless stops_for_memory (λ x. (x.0.items, x.1.now)) result (run_at bytes.now) }
 {
     let rest = name(b"run", bytes)?;
     let (labels, rest) = labels(alloc, rest)?;
@@ -112,7 +93,7 @@ fn run(alloc: Global, bytes: &[u8]) -> Result<(Vec<Label>, &[u8]), Stop>
 
 /// So many lines of runs.
 fn run_lines(alloc: Global, count: u64, bytes: &[u8]) -> Result<(Vec<Vec<Label>>, &[u8]), Stop>
-    ensures { GivesUnlessMemory (λ x. (labels_of x.0.items, x.1.now)) result (repeat_at run_at count [] bytes.now) }
+    ensures { GivesUnless stops_for_memory (λ x. (labels_of x.0.items, x.1.now)) result (repeat_at run_at count [] bytes.now) }
 {
     let mut found = Vec::new(alloc);
     let mut rest = bytes;
@@ -131,7 +112,7 @@ pub(crate) fn runs<'t>(
     first: &[u8],
     bytes: &'t [u8],
 ) -> Result<(Vec<Vec<Label>>, &'t [u8]), Stop>
-    ensures { GivesUnlessMemory (λ x. (labels_of x.0.items, x.1.now)) result (runs_at first.now bytes.now) }
+    ensures { GivesUnless stops_for_memory (λ x. (labels_of x.0.items, x.1.now)) result (runs_at first.now bytes.now) }
 {
     let rest = name(first, bytes)?;
     let (count, rest) = number(u64::MAX, rest)?;

@@ -3,17 +3,18 @@
 ghost use Rattle.std.specs.Prelude.{◌≡◌, ◌<◌, IfOk, IfSome, []};
 ghost use Rattle.gap_sets.specs.Gaps.{numbers_of_set};
 ghost use Rattle.tso_program.specs.declared.shown.TheConstants.{PLACES};
-ghost use Rattle.cert_words.specs.Words.{Gives, GivesUnlessMemory};
+ghost use Rattle.text_tokens.specs.Steps.{Gives, GivesUnless};
 ghost use Rattle.cert_forest.specs.Certificates.{shown_places, listed_places};
 ghost use Rattle.cert_forest.specs.Limits.{PlacesFrom, AreShownPlaces};
 ghost use Rattle.cert_forest.specs.Reading.{digit_of, shown_location, register_of, shown_place, place_word_at, places_at, shown_line_at, version_at, header_at, shown_at};
+ghost use Rattle.cert_words.specs.Words.{stops_for_memory};
 
 use crate::access::stop_len;
 use cert_words::{
-    Refusal, Stop, Wrong, are_digits, begins_word, end, name, plain_number, refused,
-    refused_unless_cut, refused_word, word,
+    Refusal, Stop, Wrong, begins_word, end, name, refused, refused_unless_cut, refused_word, word,
 };
 use std::alloc::Global;
+use text_tokens::{are_digits, plain_number};
 use tso_program::{MAX_LOCATIONS, MAX_THREADS, Names, PLACES, REGISTER_PLACES, REGISTERS, Shown};
 
 /// How many registers and locations can be named.
@@ -145,7 +146,7 @@ fn place(least: u8, bytes: &[u8]) -> Result<(u8, &[u8]), Refusal>
 
 /// The places of what is shown, ascending, as long as words follow.
 fn places(alloc: Global, bytes: &[u8]) -> Result<(Vec<u8>, &[u8]), Stop>
-    ensures { GivesUnlessMemory (λ x. (x.0.items, x.1.now)) result (places_at PLACES 0 [] bytes.now) }
+    ensures { GivesUnless stops_for_memory (λ x. (x.0.items, x.1.now)) result (places_at PLACES 0 [] bytes.now) }
 {
     let mut found = Vec::new(alloc);
     let mut least: u8 = 0;
@@ -178,7 +179,7 @@ fn after_all(bytes: &[u8]) -> Refusal {
 
 #[tactic(auto, unfolding(crate::specs::Reading::shown_line_at))]
 fn shown_line(alloc: Global, bytes: &[u8]) -> Result<(Vec<u8>, &[u8]), Stop>
-    ensures { GivesUnlessMemory (λ x. (x.0.items, x.1.now)) result (shown_line_at bytes.now) }
+    ensures { GivesUnless stops_for_memory (λ x. (x.0.items, x.1.now)) result (shown_line_at bytes.now) }
 {
     let rest = name(b"shown", bytes)?;
     let (places, rest) = places(alloc, rest)?;
@@ -242,7 +243,7 @@ fn header(bytes: &[u8]) -> Result<(bool, &[u8]), Refusal>
 /// The first line, and in the second version the places of what is shown.
 #[tactic(auto, unfolding(crate::specs::Reading::shown_at))]
 pub(crate) fn head(alloc: Global, bytes: &[u8]) -> Result<(Option<Vec<u8>>, &[u8]), Stop>
-    ensures { GivesUnlessMemory (λ x. (listed_places x.0, x.1.now)) result (shown_at bytes.now) }
+    ensures { GivesUnless stops_for_memory (λ x. (listed_places x.0, x.1.now)) result (shown_at bytes.now) }
 {
     let (is_second, rest) = header(bytes)?;
     if !is_second {

@@ -3,32 +3,10 @@ use Rattle.std.proofs.Common.{◌≡◌, ℕ, zero, suc, Bool, true, false, cond
 use Rattle.std.specs.List.{AllByRecursion}
 use Rattle.std.proofs.lemmas.List.{append-nil}
 use Rattle.cert_words.specs.Lines.{texts_of}
-use Rattle.cert_words.specs.Words.{◌>>=◌, is_inner, repeat_at}
-
--- where two steps succeed, the first does
-pub bind_some : {A B : Type 0} (o : Option A) (f : A → Option B) (y : B) → (o >>= f) ≡ Some y → (x : A) × (o ≡ Some x) × (f x ≡ Some y)
-bind_some (Some x) f y e = (x, refl, e)
-bind_some None f y e = absurd cc
-
--- what a test let through
-pub guarded : {A : Type 0} (b : Bool) (x y : A) → cond b (Some x) None ≡ Some y → (b ≡ true) × (x ≡ y)
-guarded true x y e = (refl, cc)
-guarded false x y e = absurd cc
-
-pub kept_out : {A : Type 0} (b : Bool) (x : Option A) (y : A) → cond b None x ≡ Some y → (b ≡ false) × (x ≡ Some y)
-kept_out true x y e = absurd cc
-kept_out false x y e = (refl, e)
-
--- what was chosen by a test
-pub chosen : {A : Type 0} (b : Bool) (x y z : Option A) → cond b x y ≡ z → ((b ≡ true) × (x ≡ z)) ⊎ ((b ≡ false) × (y ≡ z))
-chosen true x y z e = inl (refl, e)
-chosen false x y z e = inr (refl, e)
-
-abbrev given : {A : Type 0} → A → Option A
-given x = Some x
-
-pub some_is : {A : Type 0} (x y : A) → given x ≡ given y → x ≡ y
-some_is x y e = cc
+use Rattle.std.proofs.lemmas.Option.{same_Some}
+use Rattle.text_tokens.specs.Steps.{◌>>=◌}
+use Rattle.text_tokens.proofs.StepLaws.{bind_some}
+use Rattle.cert_words.specs.Words.{is_inner, repeat_at}
 
 -- at the end, or at a byte that fails a test
 abbrev pub Stops : (ℕ → Bool) → List ℕ → Type 0
@@ -49,7 +27,7 @@ pub record IsExact {A : Type 0} (read : List ℕ → Option (A × List ℕ)) (te
 abbrev pub done_with : {A : Type 0} → List ℕ → A → Option (A × List ℕ)
 done_with rest x = Some (x, rest)
 
--- one value behind another
+-- one value after another
 abbrev pub two_at : {A B C : Type 0} → (List ℕ → Option (A × List ℕ)) → (List ℕ → Option (B × List ℕ)) → (A → B → C) → List ℕ → Option (C × List ℕ)
 two_at r s f bytes = r bytes >>= λ a. s a.1 >>= λ b. Some (f a.0 b.0, b.1)
 
@@ -61,7 +39,7 @@ takes_two r s ta tb P Q er es f bytes x e =
     let v = bind_some (s u.0.1) (λ b. Some (f u.0.0 b.0, b.1)) x u.2 in
     let one = er.takes bytes u.0 u.1 in
     let two = es.takes u.0.1 v.0 v.1 in
-    let same = some_is (f u.0.0 v.0.0, v.0.1) x v.2 in
+    let same = same_Some (f u.0.0 v.0.0, v.0.1) x v.2 in
     (u.0.0, v.0.0, one.1, two.1, ap (λ p. p.0) same, one.0 ∙ ap (λ (w : List ℕ). ta u.0.0 ++ w) (two.0 ∙ ap (λ p. tb v.0.0 ++ p.1) same))
 
 pub again_two : {A B C : Type 0} (r : List ℕ → Option (A × List ℕ)) (s : List ℕ → Option (B × List ℕ)) (ta : A → List ℕ) (tb : B → List ℕ) (P : A → Type 0) (Q : B → Type 0) → IsExact r ta P → IsExact s tb Q
@@ -75,7 +53,7 @@ pub repeat_takes : {A : Type 0} (r : List ℕ → Option (A × List ℕ)) (t : A
     → (n : ℕ) (found : List A) (bytes : List ℕ) (x : List A × List ℕ) → repeat_at r n found bytes ≡ Some x
     → (more : List A) × (x.0 ≡ found ++ more) × (bytes ≡ texts_of t more ++ x.1) × (length more ≡ n) × AllByRecursion P more
 repeat_takes r t P takes zero found bytes x e =
-    let same = some_is (found, bytes) x e in
+    let same = same_Some (found, bytes) x e in
     ([], sym (ap (λ p. p.0) same) ∙ sym (append-nil found), ap (λ p. p.1) same, refl, tt)
 repeat_takes r t P takes (suc n) found bytes x e =
     let u = bind_some (r bytes) (λ y. repeat_at r n (found ++ y.0 ∷ []) y.1) x e in

@@ -14,8 +14,11 @@ use Rattle.text_tokens.proofs.NumberLaws.{own, plain_number_takes, plain_number_
 use Rattle.text_tokens.specs.Numbers.{plain_number_at}
 use Rattle.cert_words.specs.declared.numbers.TheConstants.{MAX_COUNT}
 use Rattle.cert_words.specs.Lines.{spaced}
-use Rattle.cert_words.specs.Words.{◌>>=◌, is_inner, front, after_word, word_at, line_name_at, end_at, number_within_at, count_at, letter_of, letter_at}
-use Rattle.cert_words.proofs.Steps.{bind_some, guarded, kept_out, some_is, Stops, Starts, IsExact}
+use Rattle.text_tokens.specs.Steps.{◌>>=◌}
+use Rattle.cert_words.specs.Words.{is_inner, front, after_word, word_at, line_name_at, end_at, number_within_at, count_at, letter_of, letter_at}
+use Rattle.text_tokens.proofs.StepLaws.{bind_some, kept_out}
+use Rattle.std.proofs.lemmas.Option.{cond_some, same_Some}
+use Rattle.cert_words.proofs.Steps.{Stops, Starts, IsExact}
 
 -- ---- how far bytes go that pass a test
 
@@ -53,7 +56,7 @@ pub word_takes : (bytes : List ℕ) (x : List ℕ × List ℕ) → word_at bytes
 unfolding word_at
 word_takes [] x e = absurd cc
 word_takes (b ∷ bytes) x e =
-    let g = guarded (b == 32) (front bytes, after_word bytes) x e in
+    let g = cond_some (b == 32) (front bytes, after_word bytes) x e in
     let first : b ≡ 32 = eqb-true _ _ g.0 in
     let here : b ∷ bytes ≡ spaced (front bytes) ++ after_word bytes = λ i. first i ∷ sym (front_behind bytes) i in
     subst (λ (y : List ℕ × List ℕ). b ∷ bytes ≡ spaced y.0 ++ y.1) g.1 here
@@ -65,7 +68,7 @@ word_again w rest all st = rw (front_is w rest all st, behind_is w rest all st) 
 pub name_takes : (name bytes rest : List ℕ) → line_name_at name bytes ≡ Some rest → bytes ≡ name ++ rest
 unfolding line_name_at
 name_takes name bytes rest e =
-    let g = guarded (bytes_eq (front bytes) name) (after_word bytes) rest e in
+    let g = cond_some (bytes_eq (front bytes) name) (after_word bytes) rest e in
     let first : front bytes ≡ name = (bytes_eq-Decides (front bytes) name).0 g.0 in
     sym (front_behind bytes) ∙ (λ i. first i ++ g.1 i)
 
@@ -79,7 +82,7 @@ pub end_takes : (bytes rest : List ℕ) → end_at bytes ≡ Some rest → bytes
 unfolding end_at
 end_takes [] rest e = absurd cc
 end_takes (b ∷ bytes) rest e =
-    let g = guarded (b == 10) bytes rest e in
+    let g = cond_some (b == 10) bytes rest e in
     let first : b ≡ 10 = eqb-true _ _ g.0 in
     λ i. first i ∷ g.1 i
 
@@ -114,7 +117,7 @@ number_exact limit fits = record { takes = taken; again = λ n rest le st. again
         let b = bind_some (plain_number_at limit a.0.0) (λ n. Some (n, a.0.1)) x a.2 in
         let t = plain_number_takes limit b.0 a.0.0 fits b.1 in
         let here : bytes ≡ number_text b.0 ++ a.0.1 = word_takes bytes a.0 a.1 ∙ ap (λ (v : List ℕ). spaced v ++ a.0.1) t.0 in
-        subst (λ (y : ℕ × List ℕ). (bytes ≡ number_text y.0 ++ y.1) × (y.0 ≤ limit)) (some_is (b.0, a.0.1) x b.2) (here, t.1)
+        subst (λ (y : ℕ × List ℕ). (bytes ≡ number_text y.0 ++ y.1) × (y.0 ≤ limit)) (same_Some (b.0, a.0.1) x b.2) (here, t.1)
 
     again : (n : ℕ) (rest : List ℕ) → n ≤ limit → Starts rest → number_within_at limit (number_text n ++ rest) ≡ Some (n, rest)
     again n rest le st = rw (word_again (decimal n) rest (decimal_inner n (omega arith)) st, plain_number_again limit n fits le) refl
@@ -132,7 +135,7 @@ count_exact = record { takes = taken; again = λ n rest le st. again n rest le s
         let k = kept_out (nat_lt MAX_COUNT a.0.0) (Some a.0) x a.2 in
         let small : a.0.0 ≤ MAX_COUNT = ltb-false _ _ k.0 in
         let here = (number_exact 18446744073709551615 below64).takes bytes a.0 a.1 in
-        subst (λ (y : ℕ × List ℕ). (bytes ≡ number_text y.0 ++ y.1) × (y.0 ≤ MAX_COUNT)) (some_is a.0 x k.1) (here.0, small)
+        subst (λ (y : ℕ × List ℕ). (bytes ≡ number_text y.0 ++ y.1) × (y.0 ≤ MAX_COUNT)) (same_Some a.0 x k.1) (here.0, small)
 
     again : (n : ℕ) (rest : List ℕ) → n ≤ MAX_COUNT → Starts rest → count_at (number_text n ++ rest) ≡ Some (n, rest)
     again n rest le st =
@@ -143,7 +146,7 @@ count_exact = record { takes = taken; again = λ n rest le st. again n rest le s
 
 letter_of_takes : (word : List ℕ) (b : ℕ) → letter_of word ≡ Some b → word ≡ b ∷ []
 letter_of_takes [] b e = absurd cc
-letter_of_takes (c ∷ []) b e = let same : c ≡ b = some_is c b e in λ i. same i ∷ []
+letter_of_takes (c ∷ []) b e = let same : c ≡ b = same_Some c b e in λ i. same i ∷ []
 letter_of_takes (c ∷ (d ∷ word)) b e = absurd cc
 
 pub letter_takes : (bytes : List ℕ) (x : ℕ × List ℕ) → letter_at bytes ≡ Some x → bytes ≡ spaced (x.0 ∷ []) ++ x.1
@@ -152,7 +155,7 @@ letter_takes bytes x e =
     let a = bind_some (word_at bytes) (λ w. letter_of w.0 >>= λ letter. Some (letter, w.1)) x e in
     let b = bind_some (letter_of a.0.0) (λ letter. Some (letter, a.0.1)) x a.2 in
     let here : bytes ≡ spaced (b.0 ∷ []) ++ a.0.1 = word_takes bytes a.0 a.1 ∙ ap (λ (v : List ℕ). spaced v ++ a.0.1) (letter_of_takes a.0.0 b.0 b.1) in
-    subst (λ (y : ℕ × List ℕ). bytes ≡ spaced (y.0 ∷ []) ++ y.1) (some_is (b.0, a.0.1) x b.2) here
+    subst (λ (y : ℕ × List ℕ). bytes ≡ spaced (y.0 ∷ []) ++ y.1) (same_Some (b.0, a.0.1) x b.2) here
 
 pub letter_again : (b : ℕ) (rest : List ℕ) → list_all is_inner (b ∷ []) ≡ true → Starts rest → letter_at (spaced (b ∷ []) ++ rest) ≡ Some (b, rest)
 unfolding letter_at

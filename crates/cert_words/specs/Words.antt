@@ -1,30 +1,17 @@
 -- What each function of the words gives: a value, and the bytes after it; or nothing.
-use Rattle.std.specs.Prelude.{◌≡◌, ◌==◌, ◌||◌, ℕ, zero, suc, Bool, false, List, [], ◌∷◌, ◌++◌, take, drop, nat_lt, not, Option, Some, None, Result, Ok, Err, option_and_then, if◌then◌else◌}
+use Rattle.std.specs.Prelude.{◌==◌, ◌||◌, ℕ, zero, suc, Bool, true, false, List, [], ◌∷◌, ◌++◌, take, drop, nat_lt, not, Option, Some, None, if◌then◌else◌}
 use Rattle.std.specs.List.{prefix_len}
 use Rattle.std.specs.Str.{bytes_eq}
 use Rattle.text_tokens.specs.Numbers.{plain_number_at}
+use Rattle.text_tokens.specs.Steps.{◌>>=◌}
 use Rattle.cert_words.specs.declared.numbers.TheConstants.{MAX_COUNT}
-use Rattle.cert_words.specs.declared.refusal.Refusal.{Refusal}
 use Rattle.cert_words.specs.declared.refusal.Stop.{Stop}
 use Rattle.cert_words.specs.declared.refusal.Stop.TheVariants.{Refused, OutOfMemory}
 
-infixl 10 ◌>>=◌
-abbrev pub ◌>>=◌ : {A B : Type 0} → Option A → (A → Option B) → Option B
-o >>= f = option_and_then f o
-
--- what was returned, seen by view, is what reading gives
-abbrev pub Gives : {X Y : Type 0} → (X → Y) → Result X Refusal → Option Y → Type 0
-Gives view (Ok x) read = read ≡ Some (view x)
-Gives view (Err e) read = read ≡ None
-
--- the same where memory can run out
-abbrev pub Fails : {Y : Type 0} → Stop → Option Y → Type 0
-Fails OutOfMemory read = Unit {0}
-Fails (Refused r) read = read ≡ None
-
-abbrev pub GivesUnlessMemory : {X Y : Type 0} → (X → Y) → Result X Stop → Option Y → Type 0
-GivesUnlessMemory view (Ok x) read = read ≡ Some (view x)
-GivesUnlessMemory view (Err e) read = Fails e read
+-- the reason to stop is out of memory
+abbrev pub stops_for_memory : Stop → Bool
+stops_for_memory OutOfMemory = true
+stops_for_memory (Refused r) = false
 
 -- ---- words, and ends of lines
 
@@ -83,7 +70,7 @@ letter_at bytes = do
 
 -- ---- lists
 
--- so many values, behind those that there are
+-- so many values, after those that there are
 abbrev pub repeat_at : {A : Type 0} → (List ℕ → Option (A × List ℕ)) → ℕ → List A → List ℕ → Option (List A × List ℕ)
 repeat_at read zero found bytes = Some (found, bytes)
 repeat_at read (suc n) found bytes = do

@@ -8,6 +8,6 @@ mod refusal;
 mod words;
 
 pub use completions::can_become;
-pub use numbers::{MAX_COUNT, are_digits, count, number, plain_number};
+pub use numbers::{MAX_COUNT, count, number};
 pub use refusal::{Refusal, Stop, Wrong, refused, refused_unless_cut, refused_word};
 pub use words::{begins_word, end, first_word, letter, name, word};

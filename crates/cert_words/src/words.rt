@@ -2,7 +2,8 @@
 
 ghost use Rattle.std.specs.Prelude.{◌≡◌, ◌≤◌, length};
 ghost use Rattle.std.specs.List.{prefix_len};
-ghost use Rattle.cert_words.specs.Words.{Gives, is_inner, front, after_word, word_at, line_name_at, end_at, begins_word, letter_of, letter_at};
+ghost use Rattle.text_tokens.specs.Steps.{Gives};
+ghost use Rattle.cert_words.specs.Words.{is_inner, front, after_word, word_at, line_name_at, end_at, begins_word, letter_of, letter_at};
 
 use crate::refusal::{Refusal, Wrong, refused, refused_unless_cut};
 

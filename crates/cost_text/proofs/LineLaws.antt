@@ -9,18 +9,11 @@ use Rattle.std.proofs.lemmas.List.{take_at, drop_at, take-append-drop}
 use Rattle.std.proofs.lemmas.List.Folds.{length-prefix_len}
 use Rattle.std.proofs.lemmas.Option.{cond_some, option_and_then_some}
 use Rattle.text_tokens.specs.Lexing.{AreDigits}
-use Rattle.text_tokens.proofs.Prefixes.{all_pass}
+use Rattle.text_tokens.specs.Bytes.{is_blank, is_line_space, AreBlanks, AreLineSpaces}
+use Rattle.text_tokens.proofs.Prefixes.{prefix_is, all_pass}
 use Rattle.text_tokens.proofs.FirstBytes.{first_of, first_digit}
-use Rattle.cost_text.specs.CostLines.{is_gap, is_around, IsGap, IsAround, IsBlank, Said, Says}
-use Rattle.cost_text.specs.LineReading.{digits_at, behind_colon, behind_gap, behind_around, Digits, digits_in, AreAllDigits, said_by}
-
-prefix_is : (p : ℕ → Bool) (xs rest : List ℕ) → list_all p xs ≡ true → p (slice_index rest 0) ≡ false → prefix_len p (xs ++ rest) ≡ length xs
-prefix_is p [] [] all stop = refl
-prefix_is p [] (y ∷ rest) all stop = rw stop refl
-prefix_is p (x ∷ xs) rest all stop =
-    let a = and_parts (p x) (list_all p xs) all in
-    let rest_is : prefix_len p (xs ++ rest) ≡ length xs = prefix_is p xs rest a.1 stop in
-    rw a.0 (omega arith)
+use Rattle.cost_text.specs.CostLines.{Said, Says}
+use Rattle.cost_text.specs.LineReading.{digits_at, after_colon, after_blanks, after_line_spaces, Digits, digits_in, AreAllDigits, said_by}
 
 -- ---- the parts of a line
 
@@ -51,77 +44,77 @@ digits_again ds rest digits stop =
     let back : drop (length ds) (ds ++ rest) ≡ rest = drop_at ds rest (length ds) refl in
     rw (n, some, front, back) refl
 
-colon_taken : (text rest : List ℕ) → behind_colon text ≡ Some rest → text ≡ 58 ∷ rest
-unfolding behind_colon
+colon_taken : (text rest : List ℕ) → after_colon text ≡ Some rest → text ≡ 58 ∷ rest
+unfolding after_colon
 colon_taken [] rest e = absurd cc
 colon_taken (b ∷ bs) rest e =
     let a = cond_some (b == 58) bs rest e in
     ap (λ (x : ℕ). x ∷ bs) (eqb-true b 58 a.0) ∙ ap (λ (x : List ℕ). 58 ∷ x) a.1
 
-colon_again : (rest : List ℕ) → behind_colon (58 ∷ rest) ≡ Some rest
-unfolding behind_colon
+colon_again : (rest : List ℕ) → after_colon (58 ∷ rest) ≡ Some rest
+unfolding after_colon
 colon_again rest = refl
 
-record TakesGap (text rest : List ℕ) : Type 0 where
-  gap : List ℕ
-  text_is : text ≡ gap ++ rest
-  is : IsGap gap
+record TakesBlanks (text rest : List ℕ) : Type 0 where
+  blanks : List ℕ
+  text_is : text ≡ blanks ++ rest
+  is : AreBlanks blanks
 
-gap_taken : (text rest : List ℕ) → behind_gap text ≡ Some rest → TakesGap text rest
-unfolding behind_gap
-gap_taken text rest e =
-    let n = prefix_len is_gap text in
+blanks_taken : (text rest : List ℕ) → after_blanks text ≡ Some rest → TakesBlanks text rest
+unfolding after_blanks
+blanks_taken text rest e =
+    let n = prefix_len is_blank text in
     let a = cond_some (nat_lt 0 n) (drop n text) rest e in
     let some : 0 < n = ltb-true _ _ a.0 in
     record {
-      gap = take n text;
+      blanks = take n text;
       text_is = sym (take-append-drop n text) ∙ ap (λ (x : List ℕ). take n text ++ x) a.1;
-      is = (omega (arith, length-prefix_len is_gap text), all_pass is_gap text);
+      is = (omega (arith, length-prefix_len is_blank text), all_pass is_blank text);
     }
 
-gap_again : (gap rest : List ℕ) → IsGap gap → is_gap (slice_index rest 0) ≡ false → behind_gap (gap ++ rest) ≡ Some rest
-unfolding behind_gap
-gap_again gap rest is stop =
-    let n : prefix_len is_gap (gap ++ rest) ≡ length gap = prefix_is is_gap gap rest is.1 stop in
-    let some : nat_lt 0 (length gap) ≡ true = lt-ltb _ _ is.0 in
-    let back : drop (length gap) (gap ++ rest) ≡ rest = drop_at gap rest (length gap) refl in
+blanks_again : (blanks rest : List ℕ) → AreBlanks blanks → is_blank (slice_index rest 0) ≡ false → after_blanks (blanks ++ rest) ≡ Some rest
+unfolding after_blanks
+blanks_again blanks rest is stop =
+    let n : prefix_len is_blank (blanks ++ rest) ≡ length blanks = prefix_is is_blank blanks rest is.1 stop in
+    let some : nat_lt 0 (length blanks) ≡ true = lt-ltb _ _ is.0 in
+    let back : drop (length blanks) (blanks ++ rest) ≡ rest = drop_at blanks rest (length blanks) refl in
     rw (n, some, back) refl
 
-around_again : (around rest : List ℕ) → IsAround around → is_around (slice_index rest 0) ≡ false → behind_around (around ++ rest) ≡ rest
-around_again around rest is stop =
-    let n : prefix_len is_around (around ++ rest) ≡ length around = prefix_is is_around around rest is stop in
-    rw n (drop_at around rest (length around) refl)
+line_spaces_again : (line_spaces rest : List ℕ) → AreLineSpaces line_spaces → is_line_space (slice_index rest 0) ≡ false → after_line_spaces (line_spaces ++ rest) ≡ rest
+line_spaces_again line_spaces rest is stop =
+    let n : prefix_len is_line_space (line_spaces ++ rest) ≡ length line_spaces = prefix_is is_line_space line_spaces rest is stop in
+    rw n (drop_at line_spaces rest (length line_spaces) refl)
 
 -- ---- the bytes that come first
 
-no_around : (b : ℕ) → is_ascii_digit b ≡ true → is_around b ≡ false
-no_around b h = grind (arith, nat_tests)
+no_line_space : (b : ℕ) → is_ascii_digit b ≡ true → is_line_space b ≡ false
+no_line_space b h = grind (arith, nat_tests)
 
-no_gap : (b : ℕ) → is_ascii_digit b ≡ true → is_gap b ≡ false
-no_gap b h = grind (arith, nat_tests)
+no_blank : (b : ℕ) → is_ascii_digit b ≡ true → is_blank b ≡ false
+no_blank b h = grind (arith, nat_tests)
 
-gap_no_digit : (b : ℕ) → is_gap b ≡ true → is_ascii_digit b ≡ false
-gap_no_digit b h = grind (arith, nat_tests)
+blank_no_digit : (b : ℕ) → is_blank b ≡ true → is_ascii_digit b ≡ false
+blank_no_digit b h = grind (arith, nat_tests)
 
-around_no_digit : (b : ℕ) → is_around b ≡ true → is_ascii_digit b ≡ false
-around_no_digit b h = grind (arith, nat_tests)
+line_space_no_digit : (b : ℕ) → is_line_space b ≡ true → is_ascii_digit b ≡ false
+line_space_no_digit b h = grind (arith, nat_tests)
 
 digit_first : (ds rest : List ℕ) → AreDigits ds → is_ascii_digit (slice_index (ds ++ rest) 0) ≡ true
 digit_first ds rest h = ap is_ascii_digit (first_of ds rest h.0) ∙ first_digit ds h
 
-digits_no_around : (ds rest : List ℕ) → AreDigits ds → is_around (slice_index (ds ++ rest) 0) ≡ false
-digits_no_around ds rest h = no_around (slice_index (ds ++ rest) 0) (digit_first ds rest h)
+digits_no_line_space : (ds rest : List ℕ) → AreDigits ds → is_line_space (slice_index (ds ++ rest) 0) ≡ false
+digits_no_line_space ds rest h = no_line_space (slice_index (ds ++ rest) 0) (digit_first ds rest h)
 
-digits_no_gap : (ds rest : List ℕ) → AreDigits ds → is_gap (slice_index (ds ++ rest) 0) ≡ false
-digits_no_gap ds rest h = no_gap (slice_index (ds ++ rest) 0) (digit_first ds rest h)
+digits_no_blank : (ds rest : List ℕ) → AreDigits ds → is_blank (slice_index (ds ++ rest) 0) ≡ false
+digits_no_blank ds rest h = no_blank (slice_index (ds ++ rest) 0) (digit_first ds rest h)
 
-gap_first : (gap rest : List ℕ) → IsGap gap → is_ascii_digit (slice_index (gap ++ rest) 0) ≡ false
-gap_first [] rest h = absurd (omega (arith, h.0))
-gap_first (b ∷ bs) rest h = gap_no_digit b (and_parts (is_gap b) (list_all is_gap bs) h.1).0
+blanks_first : (blanks rest : List ℕ) → AreBlanks blanks → is_ascii_digit (slice_index (blanks ++ rest) 0) ≡ false
+blanks_first [] rest h = absurd (omega (arith, h.0))
+blanks_first (b ∷ bs) rest h = blank_no_digit b (and_parts (is_blank b) (list_all is_blank bs) h.1).0
 
-around_first : (around : List ℕ) → IsAround around → is_ascii_digit (slice_index around 0) ≡ false
-around_first [] h = refl
-around_first (b ∷ bs) h = around_no_digit b (and_parts (is_around b) (list_all is_around bs) h).0
+line_spaces_first : (line_spaces : List ℕ) → AreLineSpaces line_spaces → is_ascii_digit (slice_index line_spaces 0) ≡ false
+line_spaces_first [] h = refl
+line_spaces_first (b ∷ bs) h = line_space_no_digit b (and_parts (is_line_space b) (list_all is_line_space bs) h).0
 
 -- ---- a line
 
@@ -129,21 +122,21 @@ abbrev digits_as : List ℕ → List ℕ → List ℕ → Digits
 digits_as thread instruction cost = record { thread = thread; instruction = instruction; cost = cost }
 
 abbrev at_end : List ℕ → List ℕ → List ℕ × List ℕ → Option Digits
-at_end thread instruction c = if list_all is_around c.1 then Some (digits_as thread instruction c.0) else None
+at_end thread instruction c = if list_all is_line_space c.1 then Some (digits_as thread instruction c.0) else None
 
 abbrev at_cost : List ℕ → List ℕ → List ℕ → Option Digits
 at_cost thread instruction v = option_and_then (at_end thread instruction) (digits_at v)
 
-abbrev at_gap : List ℕ → List ℕ × List ℕ → Option Digits
-at_gap thread k = option_and_then (at_cost thread k.0) (behind_gap k.1)
+abbrev at_blanks : List ℕ → List ℕ × List ℕ → Option Digits
+at_blanks thread k = option_and_then (at_cost thread k.0) (after_blanks k.1)
 
 abbrev at_instruction : List ℕ → List ℕ → Option Digits
-at_instruction thread u = option_and_then (at_gap thread) (digits_at u)
+at_instruction thread u = option_and_then (at_blanks thread) (digits_at u)
 
 abbrev at_colon : List ℕ × List ℕ → Option Digits
-at_colon t = option_and_then (at_instruction t.0) (behind_colon t.1)
+at_colon t = option_and_then (at_instruction t.0) (after_colon t.1)
 
-in_steps : (line : List ℕ) → digits_in line ≡ option_and_then at_colon (digits_at (behind_around line))
+in_steps : (line : List ℕ) → digits_in line ≡ option_and_then at_colon (digits_at (after_line_spaces line))
 unfolding digits_in
 in_steps line = refl
 
@@ -152,30 +145,30 @@ pub record Read (line : List ℕ) (digits : Digits) : Type 0 where
   pub says : Says line (said_by digits)
   pub all_digits : AreAllDigits digits
 
-read_parts : (line : List ℕ) (t k c : List ℕ × List ℕ) (u v : List ℕ) (digits : Digits) → digits_at (behind_around line) ≡ Some t → behind_colon t.1 ≡ Some u → digits_at u ≡ Some k → behind_gap k.1 ≡ Some v → digits_at v ≡ Some c
+read_parts : (line : List ℕ) (t k c : List ℕ × List ℕ) (u v : List ℕ) (digits : Digits) → digits_at (after_line_spaces line) ≡ Some t → after_colon t.1 ≡ Some u → digits_at u ≡ Some k → after_blanks k.1 ≡ Some v → digits_at v ≡ Some c
     → at_end t.0 k.0 c ≡ Some digits → Read line digits
 read_parts line t k c u v digits is_t is_u is_k is_v is_c is_end =
-    let n = prefix_len is_around line in
-    let dt = digits_taken (behind_around line) t.0 t.1 is_t in
+    let n = prefix_len is_line_space line in
+    let dt = digits_taken (after_line_spaces line) t.0 t.1 is_t in
     let du = colon_taken t.1 u is_u in
     let dk = digits_taken u k.0 k.1 is_k in
-    let dv = gap_taken k.1 v is_v in
+    let dv = blanks_taken k.1 v is_v in
     let dc = digits_taken v c.0 c.1 is_c in
-    let ended = cond_some (list_all is_around c.1) (digits_as t.0 k.0 c.0) digits is_end in
-    let behind_k : k.1 ≡ dv.gap ++ (c.0 ++ c.1) = dv.text_is ∙ ap (λ (x : List ℕ). dv.gap ++ x) dc.text_is in
-    let behind_t : t.1 ≡ 58 ∷ (k.0 ++ (dv.gap ++ (c.0 ++ c.1))) = du ∙ ap (λ (x : List ℕ). 58 ∷ x) (dk.text_is ∙ ap (λ (x : List ℕ). k.0 ++ x) behind_k) in
-    let whole : line ≡ take n line ++ (t.0 ++ 58 ∷ (k.0 ++ (dv.gap ++ (c.0 ++ c.1)))) =
-    sym (take-append-drop n line) ∙ ap (λ (x : List ℕ). take n line ++ x) (dt.text_is ∙ ap (λ (x : List ℕ). t.0 ++ x) behind_t) in
+    let ended = cond_some (list_all is_line_space c.1) (digits_as t.0 k.0 c.0) digits is_end in
+    let after_k : k.1 ≡ dv.blanks ++ (c.0 ++ c.1) = dv.text_is ∙ ap (λ (x : List ℕ). dv.blanks ++ x) dc.text_is in
+    let after_t : t.1 ≡ 58 ∷ (k.0 ++ (dv.blanks ++ (c.0 ++ c.1))) = du ∙ ap (λ (x : List ℕ). 58 ∷ x) (dk.text_is ∙ ap (λ (x : List ℕ). k.0 ++ x) after_k) in
+    let whole : line ≡ take n line ++ (t.0 ++ 58 ∷ (k.0 ++ (dv.blanks ++ (c.0 ++ c.1)))) =
+    sym (take-append-drop n line) ∙ ap (λ (x : List ℕ). take n line ++ x) (dt.text_is ∙ ap (λ (x : List ℕ). t.0 ++ x) after_t) in
     let read : Read line (digits_as t.0 k.0 c.0) = record {
       says = record {
         before = take n line;
         thread = t.0;
         instruction = k.0;
-        gap = dv.gap;
+        blanks = dv.blanks;
         cost = c.0;
         after = c.1;
         text = whole;
-        begins = all_pass is_around line;
+        begins = all_pass is_line_space line;
         of_thread = (dt.digits, refl);
         of_instruction = (dk.digits, refl);
         parts = dv.is;
@@ -188,10 +181,10 @@ read_parts line t k c u v digits is_t is_u is_k is_v is_c is_end =
 
 pub line_read : (line : List ℕ) (digits : Digits) → digits_in line ≡ Some digits → Read line digits
 line_read line digits e =
-    option_and_then_some at_colon (digits_at (behind_around line)) digits (sym (in_steps line) ∙ e) (λ t is_t e1.
-    option_and_then_some (at_instruction t.0) (behind_colon t.1) digits e1 (λ u is_u e2.
-    option_and_then_some (at_gap t.0) (digits_at u) digits e2 (λ k is_k e3.
-    option_and_then_some (at_cost t.0 k.0) (behind_gap k.1) digits e3 (λ v is_v e4.
+    option_and_then_some at_colon (digits_at (after_line_spaces line)) digits (sym (in_steps line) ∙ e) (λ t is_t e1.
+    option_and_then_some (at_instruction t.0) (after_colon t.1) digits e1 (λ u is_u e2.
+    option_and_then_some (at_blanks t.0) (digits_at u) digits e2 (λ k is_k e3.
+    option_and_then_some (at_cost t.0 k.0) (after_blanks k.1) digits e3 (λ v is_v e4.
     option_and_then_some (at_end t.0 k.0) (digits_at v) digits e4 (λ c is_c e5.
     read_parts line t k c u v digits is_t is_u is_k is_v is_c e5)))))
 
@@ -201,22 +194,22 @@ pub record Reads (line : List ℕ) (said : Said) : Type 0 where
   pub is : digits_in line ≡ Some digits
   pub said_is : said_by digits ≡ said
 
-parts_again : (before thread instruction gap cost after : List ℕ) → IsAround before → AreDigits thread → AreDigits instruction → IsGap gap → AreDigits cost → IsAround after
-    → digits_in (before ++ (thread ++ 58 ∷ (instruction ++ (gap ++ (cost ++ after))))) ≡ Some (digits_as thread instruction cost)
-parts_again before thread instruction gap cost after begins threads instructions parts costs ends =
+parts_again : (before thread instruction blanks cost after : List ℕ) → AreLineSpaces before → AreDigits thread → AreDigits instruction → AreBlanks blanks → AreDigits cost → AreLineSpaces after
+    → digits_in (before ++ (thread ++ 58 ∷ (instruction ++ (blanks ++ (cost ++ after))))) ≡ Some (digits_as thread instruction cost)
+parts_again before thread instruction blanks cost after begins threads instructions parts costs ends =
     let v : List ℕ = cost ++ after in
-    let u : List ℕ = instruction ++ (gap ++ v) in
-    let front : behind_around (before ++ (thread ++ 58 ∷ u)) ≡ thread ++ 58 ∷ u = around_again before (thread ++ 58 ∷ u) begins (digits_no_around thread (58 ∷ u) threads) in
+    let u : List ℕ = instruction ++ (blanks ++ v) in
+    let front : after_line_spaces (before ++ (thread ++ 58 ∷ u)) ≡ thread ++ 58 ∷ u = line_spaces_again before (thread ++ 58 ∷ u) begins (digits_no_line_space thread (58 ∷ u) threads) in
     let is_t : digits_at (thread ++ 58 ∷ u) ≡ Some (thread, 58 ∷ u) = digits_again thread (58 ∷ u) threads refl in
-    let is_k : digits_at u ≡ Some (instruction, gap ++ v) = digits_again instruction (gap ++ v) instructions (gap_first gap v parts) in
-    let is_v : behind_gap (gap ++ v) ≡ Some v = gap_again gap v parts (digits_no_gap cost after costs) in
-    let is_c : digits_at v ≡ Some (cost, after) = digits_again cost after costs (around_first after ends) in
+    let is_k : digits_at u ≡ Some (instruction, blanks ++ v) = digits_again instruction (blanks ++ v) instructions (blanks_first blanks v parts) in
+    let is_v : after_blanks (blanks ++ v) ≡ Some v = blanks_again blanks v parts (digits_no_blank cost after costs) in
+    let is_c : digits_at v ≡ Some (cost, after) = digits_again cost after costs (line_spaces_first after ends) in
     let ended : at_end thread instruction (cost, after) ≡ Some (digits_as thread instruction cost) = rw ends refl in
     in_steps (before ++ (thread ++ 58 ∷ u))
     ∙ ap (λ (x : List ℕ). option_and_then at_colon (digits_at x)) front
     ∙ ap (option_and_then at_colon) is_t
     ∙ ap (option_and_then (at_instruction thread)) (colon_again u)
-    ∙ ap (option_and_then (at_gap thread)) is_k
+    ∙ ap (option_and_then (at_blanks thread)) is_k
     ∙ ap (option_and_then (at_cost thread instruction)) is_v
     ∙ ap (option_and_then (at_end thread instruction)) is_c
     ∙ ended
@@ -224,7 +217,7 @@ parts_again before thread instruction gap cost after begins threads instructions
 pub said_again : (line : List ℕ) (said : Said) → Says line said → Reads line said
 said_again line said s = record {
   digits = digits_as s.thread s.instruction s.cost;
-  is = ap digits_in s.text ∙ parts_again s.before s.thread s.instruction s.gap s.cost s.after s.begins s.of_thread.0 s.of_instruction.0 s.parts s.of_cost.0 s.ends;
+  is = ap digits_in s.text ∙ parts_again s.before s.thread s.instruction s.blanks s.cost s.after s.begins s.of_thread.0 s.of_instruction.0 s.parts s.of_cost.0 s.ends;
   said_is = λ i. record { thread = sym s.of_thread.1 i; instruction = sym s.of_instruction.1 i; cost = sym s.of_cost.1 i };
 }
 
@@ -247,11 +240,11 @@ none_or o d none some = cc
 pub unread : (line : List ℕ) → digits_in line ≡ None → (said : Said) → Says line said → ⊥
 unread line none said s = let r = said_again line said s in none_or (digits_in line) r.digits none r.is
 
-all_around : (line : List ℕ) → IsAround line → behind_around line ≡ []
-all_around [] is = refl
-all_around (b ∷ bs) is =
-    let a = and_parts (is_around b) (list_all is_around bs) is in
-    rw (a.0, one_more) (all_around bs a.1)
+all_line_spaces : (line : List ℕ) → AreLineSpaces line → after_line_spaces line ≡ []
+all_line_spaces [] is = refl
+all_line_spaces (b ∷ bs) is =
+    let a = and_parts (is_line_space b) (list_all is_line_space bs) is in
+    rw (a.0, one_more) (all_line_spaces bs a.1)
   where
     one_more : (n : ℕ) → 1 + n ≡ suc n
     one_more n = omega arith
@@ -261,5 +254,5 @@ unfolding digits_at
 no_digits = refl
 
 -- a blank line says nothing
-pub blank_says_nothing : (line : List ℕ) → IsBlank line → (said : Said) → Says line said → ⊥
-blank_says_nothing line blank = unread line (in_steps line ∙ ap (λ (x : List ℕ). option_and_then at_colon (digits_at x)) (all_around line blank) ∙ ap (option_and_then at_colon) no_digits)
+pub blank_says_nothing : (line : List ℕ) → AreLineSpaces line → (said : Said) → Says line said → ⊥
+blank_says_nothing line blank = unread line (in_steps line ∙ ap (λ (x : List ℕ). option_and_then at_colon (digits_at x)) (all_line_spaces line blank) ∙ ap (option_and_then at_colon) no_digits)

@@ -9,7 +9,8 @@ use Rattle.tso_program.specs.Listings.{gap_count, gap_number}
 use Rattle.tso_program.proofs.Gaps.{gap_below}
 use Rattle.cost_text.specs.declared.fault.CostTextFault.{CostTextFault}
 use Rattle.cost_text.specs.declared.fault.CostTextFault.TheVariants as fault
-use Rattle.cost_text.specs.CostLines.{IsBlank, Said}
+use Rattle.text_tokens.specs.Bytes.{AreLineSpaces}
+use Rattle.cost_text.specs.CostLines.{Said}
 use Rattle.cost_text.specs.CostTexts.{Entry, IsCostEntry, ListsEntries, none, blank, entry, said_of, NoGapTwice, costs_of, GiveCosts, IsCostText, StandsAt, IsLineFault, IsRefusedAt, AreRefused, RefusesCosts, lines_of, IsOfNoCost, IsOfNoGap, IsRepeated, SaysNothing}
 use Rattle.cost_text.specs.TextReading.{table_of, IsCostTable, IsNewEntry, IsTableOf}
 use Rattle.cost_text.proofs.LineLaws.{said_once, blank_says_nothing}
@@ -36,7 +37,7 @@ pub is_table : (threads : List Thread) (lines : List (List ℕ)) (table : List (
 is_table threads lines table t = record { table_is = t.table_is; within = t.given.within }
 
 -- after a blank line
-pub blank_more : (threads : List Thread) (lines : List (List ℕ)) (i : ℕ) (line : List ℕ) (table : List (Option ℕ)) → i < length lines → line ≡ get_or lines i [] → IsBlank line → IsTableOf threads (take i lines) table → IsTableOf threads (take (i + 1) lines) table
+pub blank_more : (threads : List Thread) (lines : List (List ℕ)) (i : ℕ) (line : List ℕ) (table : List (Option ℕ)) → i < length lines → line ≡ get_or lines i [] → AreLineSpaces line → IsTableOf threads (take i lines) table → IsTableOf threads (take (i + 1) lines) table
 blank_more threads lines i line table lt is blank_line t =
     let more : ListsEntries threads (take i lines ++ line ∷ []) (t.entries ++ []) = lists_more threads (take i lines) (line ∷ []) t.entries [] t.given.lists (blank blank_line none) in
     record {
@@ -95,7 +96,7 @@ entry_once threads line a b is also =
     let costs : a.cost ≡ b.cost = sym is.cost ∙ ap (λ (s : Said). s.cost) same ∙ also.cost in
     λ i. record { gap = gaps i; cost = costs i }
 
-no_entry : (threads : List Thread) (line : List ℕ) (e : Entry) → IsBlank line → IsCostEntry threads line e → ⊥
+no_entry : (threads : List Thread) (line : List ℕ) (e : Entry) → AreLineSpaces line → IsCostEntry threads line e → ⊥
 no_entry threads line e blank_line is = blank_says_nothing line blank_line is.said is.says
 
 lists_once : (threads : List Thread) (lines : List (List ℕ)) (es fs : List Entry) → ListsEntries threads lines es → ListsEntries threads lines fs → es ≡ fs
@@ -127,7 +128,7 @@ parts threads (line ∷ before) lines _ (entry {e = e} {entries = entries} is mo
 
 -- the line after those that give some entries, in lines that give all
 data IsNext (threads : List Thread) (entries : List Entry) (line : List ℕ) (all : List Entry) : Type 0 where
-  says_none : IsBlank line → IsNext threads entries line all
+  says_none : AreLineSpaces line → IsNext threads entries line all
   says : (e : Entry) (more : List Entry) → IsCostEntry threads line e → all ≡ entries ++ e ∷ more → IsNext threads entries line all
 
 by_first : (threads : List Thread) (entries : List Entry) (line : List ℕ) (after : List (List ℕ)) (all back : List Entry) → all ≡ entries ++ back → ListsEntries threads (line ∷ after) back → IsNext threads entries line all

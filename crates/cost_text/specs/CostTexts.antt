@@ -1,13 +1,14 @@
 -- Cost files, whole: the costs that a text gives the gaps of a program.
 use Rattle.std.specs.Prelude.{◌≡◌, ◌==◌, ℕ, ◌+◌, List, [], ◌∷◌, ◌++◌, length, map, find, Option, Some, None, option_map, unwrap_or, ⊤}
 use Rattle.std.specs.List.{range_with_len, slice_split}
+use Rattle.text_tokens.specs.Bytes.{AreLineSpaces}
 use Rattle.gap_sets.specs.declared.costs.CostFault.{CostFault}
 use Rattle.gap_sets.specs.CostLists.{IsCostList, first_cost_fault}
 use Rattle.tso_program.specs.declared.listing.Thread.{Thread}
 use Rattle.tso_program.specs.Listings.{gap_count, gap_number}
 use Rattle.cost_text.specs.declared.fault.CostTextFault.{CostTextFault}
 use Rattle.cost_text.specs.declared.fault.CostTextFault.TheVariants as fault
-use Rattle.cost_text.specs.CostLines.{Said, Says, IsBlank}
+use Rattle.cost_text.specs.CostLines.{Said, Says}
 
 -- ---- the lines of a text
 
@@ -30,7 +31,7 @@ pub record IsCostEntry (threads : List Thread) (line : List ℕ) (entry : Entry)
 -- each line is blank or says an entry
 pub data ListsEntries (threads : List Thread) : List (List ℕ) → List Entry → Type 0 where
   none : ListsEntries threads [] []
-  blank : {line : List ℕ} {lines : List (List ℕ)} {entries : List Entry} → IsBlank line → ListsEntries threads lines entries → ListsEntries threads (line ∷ lines) entries
+  blank : {line : List ℕ} {lines : List (List ℕ)} {entries : List Entry} → AreLineSpaces line → ListsEntries threads lines entries → ListsEntries threads (line ∷ lines) entries
   entry : {line : List ℕ} {lines : List (List ℕ)} {e : Entry} {entries : List Entry} → IsCostEntry threads line e → ListsEntries threads lines entries → ListsEntries threads (line ∷ lines) (e ∷ entries)
 
 -- ---- the costs
@@ -72,7 +73,7 @@ pub record StandsAt (lines : List (List ℕ)) (threads : List Thread) (number : 
 
 -- the line is not blank and says nothing
 pub record SaysNothing (line : List ℕ) : Type 0 where
-  pub no_blank : IsBlank line → ⊥
+  pub no_blank : AreLineSpaces line → ⊥
   pub nothing : (said : Said) → Says line said → ⊥
 
 -- the line says what a place costs where no gap is

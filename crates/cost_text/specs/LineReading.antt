@@ -3,11 +3,9 @@ use Rattle.std.specs.Prelude.{◌≡◌, ◌==◌, ℕ, true, List, [], ◌∷�
 use Rattle.std.specs.List.{list_all, prefix_len}
 use Rattle.std.specs.Char.{is_ascii_digit}
 use Rattle.std.specs.Str.Parse.{digits_value}
-use Rattle.cost_text.specs.CostLines.{is_gap, is_around, Said}
-
-infixl 10 ◌>>=◌
-abbrev pub ◌>>=◌ : {A B : Type 0} → Option A → (A → Option B) → Option B
-o >>= f = option_and_then f o
+use Rattle.text_tokens.specs.Bytes.{is_blank, is_line_space}
+use Rattle.text_tokens.specs.Steps.{◌>>=◌}
+use Rattle.cost_text.specs.CostLines.{Said}
 
 -- the digits that come first, at least one, and what follows them
 unfoldable pub digits_at : List ℕ → Option (List ℕ × List ℕ)
@@ -16,19 +14,19 @@ digits_at text =
     if nat_lt 0 n then Some (take n text, drop n text) else None
 
 -- what follows a `:`
-unfoldable pub behind_colon : List ℕ → Option (List ℕ)
-behind_colon [] = None
-behind_colon (b ∷ bs) = if b == 58 then Some bs else None
+unfoldable pub after_colon : List ℕ → Option (List ℕ)
+after_colon [] = None
+after_colon (b ∷ bs) = if b == 58 then Some bs else None
 
--- what follows spaces and tabs, at least one
-unfoldable pub behind_gap : List ℕ → Option (List ℕ)
-behind_gap text =
-    let n = prefix_len is_gap text in
+-- what follows blanks, at least one
+unfoldable pub after_blanks : List ℕ → Option (List ℕ)
+after_blanks text =
+    let n = prefix_len is_blank text in
     if nat_lt 0 n then Some (drop n text) else None
 
--- what follows spaces, tabs and CR
-abbrev pub behind_around : List ℕ → List ℕ
-behind_around text = drop (prefix_len is_around text) text
+-- what follows blanks and CRs
+abbrev pub after_line_spaces : List ℕ → List ℕ
+after_line_spaces text = drop (prefix_len is_line_space text) text
 
 -- the digits of a line's three numbers
 pub record Digits : Type 0 where
@@ -39,12 +37,12 @@ pub record Digits : Type 0 where
 -- the digits in a line
 unfoldable pub digits_in : List ℕ → Option Digits
 digits_in line = do
-  t ← digits_at (behind_around line)
-  u ← behind_colon t.1
+  t ← digits_at (after_line_spaces line)
+  u ← after_colon t.1
   k ← digits_at u
-  v ← behind_gap k.1
+  v ← after_blanks k.1
   c ← digits_at v
-  if list_all is_around c.1 then Some (record { thread = t.0; instruction = k.0; cost = c.0 }) else None
+  if list_all is_line_space c.1 then Some (record { thread = t.0; instruction = k.0; cost = c.0 }) else None
 
 -- each of them is a digit
 pub record AreAllDigits (digits : Digits) : Type 0 where

@@ -2,13 +2,13 @@
 ghost use Rattle.std.specs.Prelude.{◌≡◌, ◌<◌, ℕ, List, [], length, map, unwrap_or, IfOk, IfErr, IfSome, MatchResult};
 ghost use Rattle.tso_program.specs.Listings.{gap_count, gap_number};
 ghost use Rattle.cost_text.specs.declared.fault.CostTextFault.TheVariants.{OutOfMemory};
-ghost use Rattle.cost_text.specs.CostLines.{IsBlank};
+ghost use Rattle.text_tokens.specs.Bytes.{AreLineSpaces};
 ghost use Rattle.cost_text.specs.CostTexts.{Entry, lines_of, IsCostText, IsLineFault, AreRefused, RefusesCosts};
 ghost use Rattle.cost_text.specs.LineReading.{AreAllDigits, said_by};
 ghost use Rattle.cost_text.specs.TextReading.{digits_of, cost_or_fault, table_of, IsCostTable, IsNewEntry, IsTableOf};
 
 use crate::fault::CostTextFault;
-use crate::line::{CostLine, are_around, cost_line};
+use crate::line::{CostLine, are_line_spaces, cost_line};
 use gap_sets::{CostFault, Costs, MAX_COST};
 use std::alloc::{AllocError, Global};
 use text_tokens::value_up_to;
@@ -27,7 +27,7 @@ fn gap_of(program: &Program, line: CostLine<'_>) -> Option<u8>
     ensures value { let said = said_by (digits_of line.entry) in result ≡ gap_number program.now.threads said.thread said.instruction }
     ensures below { IfSome result (λ gap. gap < gap_count program.now.threads) }
 {
-    let threads = program.threads().len() as u32;
+    let threads = program.threads().len() as u64;
     let thread = value_up_to(threads, line.thread)?;
     let instruction = value_up_to(255, line.instruction)?;
     program.gap_number(thread as u8, instruction as u8)
@@ -38,9 +38,9 @@ fn cost_of(gap: u8, line: CostLine<'_>) -> Result<u32, CostFault>
     requires { AreAllDigits (digits_of line) }
     ensures { result ≡ cost_or_fault gap (said_by (digits_of line.entry)).cost }
 {
-    match value_up_to(MAX_COST, line.cost) {
+    match value_up_to(u64::from(MAX_COST), line.cost) {
         Some(0) => Err(CostFault::Zero(gap)),
-        Some(cost) => Ok(cost),
+        Some(cost) => Ok(cost as u32),
         None => Err(CostFault::TooLarge(gap)),
     }
 }
@@ -53,7 +53,7 @@ fn entry_of(
     number: usize,
 ) -> Result<(u8, u32), CostTextFault>
     requires room { length table.now ≡ gap_count program.now.threads }
-    requires some { IsBlank line.now → ⊥ }
+    requires some { AreLineSpaces line.now → ⊥ }
     ensures entry { IfOk result (λ entry. (entries : List Entry) → IsCostTable program.now.threads entries table.now → IsNewEntry program.now.threads entries line.now (record { gap = entry.0; cost = entry.1 })) }
     ensures below { IfOk result (λ entry. entry.0 < gap_count program.now.threads) }
     ensures refused { IfErr result (λ fault. (entries : List Entry) → IsCostTable program.now.threads entries table.now → IsLineFault program.now.threads entries line.now number fault) }
@@ -91,7 +91,7 @@ fn table_of(
 {
     let mut table = empty_table(alloc, program.gaps())?;
     for (index, line) in lines.iter().enumerate() {
-        if !are_around(line) {
+        if !are_line_spaces(line) {
             let (gap, cost) = entry_of(program, table.as_slice(), line, index + 1)?;
             table[gap as usize] = Some(cost);
         }

@@ -12,4 +12,4 @@ mod searching;
 
 pub use certificates::certify;
 pub use fault::PlaceFault;
-pub use placing::{MAX_WORKERS, Placed, place};
+pub use placing::{Placed, place};

@@ -14,9 +14,7 @@ use gap_sets::{Costs, GapSet};
 use std::alloc::Global;
 use std::sync::Wait;
 use std::thread::Threads;
-
-/// How many workers there are at most.
-pub const MAX_WORKERS: u8 = 32;
+use tso_program::MAX_WORKERS;
 
 /// The answer: the best set of gaps that serves, its cost, and a certificate of both.
 #[derive(Debug, Drop)]

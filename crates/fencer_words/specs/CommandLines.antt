@@ -14,7 +14,7 @@ use Rattle.tso_machine.specs.declared.label.Model.{Model}
 use Rattle.tso_machine.specs.declared.label.Model.TheVariants.{Buffered, Sequential}
 use Rattle.fencer_words.specs.declared.job.Job.{Job}
 use Rattle.fencer_words.specs.declared.job.Job.TheVariants.{Replay, Outcomes, Place}
-use Rattle.fencer_words.specs.declared.place.TheConstants.{MAX_WORKERS}
+use Rattle.tso_program.specs.declared.limits.TheConstants.{MAX_WORKERS}
 
 -- ---- arguments
 

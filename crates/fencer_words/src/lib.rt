@@ -9,5 +9,4 @@ mod replay;
 mod words;
 
 pub use job::{Job, Placement};
-pub use place::MAX_WORKERS;
 pub use words::read_words;

@@ -10,9 +10,7 @@ use crate::job::{Job, Placement};
 use clap::builder::ValueParser;
 use clap::{Arg, ArgMatches, Command};
 use std::alloc::{AllocError, Global};
-
-/// The most workers that may search.
-pub const MAX_WORKERS: u8 = 32;
+use tso_program::MAX_WORKERS;
 
 /// `--NAME FILE`
 fn file_arg<'a>(alloc: Global, name: &'a str) -> Arg<'a>

@@ -1,39 +1,39 @@
 -- The lines before the initial values are refused in one way.
 use Rattle.std.proofs.Common.{◌≡◌, ◌⊎◌, ℕ, List, ◌∷◌, inl, inr, refl, sym, ap, ◌∙◌, subst, arith}
-use Rattle.text_tokens.specs.Space.{IsBehindSpace, nothing, blank, comment}
-use Rattle.text_tokens.proofs.SpaceLaws.{blank_back, comment_back, other_back}
+use Rattle.text_tokens.specs.Space.{IsAfterSpace, nothing, white_space, comment}
+use Rattle.text_tokens.proofs.SpaceLaws.{white_space_back, comment_back, other_back}
 use Rattle.litmus_lines.specs.declared.fault.LineFault.{LineFault}
 use Rattle.litmus_lines.specs.SkippedLines.{IsSkippedLine}
 use Rattle.litmus_lines.specs.Faults.{BeginsSkipped, nothing as none, line, RefusesLines, ended_at, fault_at}
 use Rattle.litmus_lines.proofs.SkippedLaws.{line_read, line_only}
 
 -- one text follows white space and comments
-space_one : (text a b : List ℕ) → IsBehindSpace text a → IsBehindSpace text b → a ≡ b
+space_one : (text a b : List ℕ) → IsAfterSpace text a → IsAfterSpace text b → a ≡ b
 space_one text a b (nothing k l) h = other_back text b k l h
-space_one (c ∷ text) a b (blank k s) h = space_one text a b s (blank_back (c ∷ text) b (omega arith) k h)
+space_one (c ∷ text) a b (white_space k s) h = space_one text a b s (white_space_back (c ∷ text) b (omega arith) k h)
 space_one text a b (comment {others = us} k s) h = space_one us a b s (comment_back text us b k h)
 
 -- and one follows a line that is skipped
-next_one : (text f g us vs : List ℕ) → IsBehindSpace text f → IsSkippedLine f us → IsBehindSpace text g → IsSkippedLine g vs → us ≡ vs
+next_one : (text f g us vs : List ℕ) → IsAfterSpace text f → IsSkippedLine f us → IsAfterSpace text g → IsSkippedLine g vs → us ≡ vs
 next_one text f g us vs s h t i =
     let r = line_read f us h in
     line_only f r.0 us vs r.1 (subst (λ (x : List ℕ). IsSkippedLine x vs) (sym (space_one text f g s t)) i)
 
 -- no line that is skipped comes next
 abbrev Stops : List ℕ → Type 0
-Stops text = (front others : List ℕ) → IsBehindSpace text front → IsSkippedLine front others → ⊥
+Stops text = (front others : List ℕ) → IsAfterSpace text front → IsSkippedLine front others → ⊥
 
 record Next (text rest : List ℕ) : Type 0 where
   front : List ℕ
   others : List ℕ
-  space : IsBehindSpace text front
+  space : IsAfterSpace text front
   skipped : IsSkippedLine front others
   more : BeginsSkipped others rest
 
 -- one more line after no line, or after one and then others
-first_then : (text rest front others : List ℕ) → (text ≡ rest) ⊎ Next text rest → IsBehindSpace rest front → IsSkippedLine front others → Next text others
+first_then : (text rest front others : List ℕ) → (text ≡ rest) ⊎ Next text rest → IsAfterSpace rest front → IsSkippedLine front others → Next text others
 first_then text rest front others (inl e) s h =
-    record { front = front; others = others; space = subst (λ (x : List ℕ). IsBehindSpace x front) (sym e) s; skipped = h; more = none }
+    record { front = front; others = others; space = subst (λ (x : List ℕ). IsAfterSpace x front) (sym e) s; skipped = h; more = none }
 first_then text rest front others (inr n) s h =
     record { front = n.front; others = n.others; space = n.space; skipped = n.skipped; more = line n.more s h }
 
@@ -42,8 +42,8 @@ first_or text rest none = inl refl
 first_or text others (line {rest = r} {front = f} d s h) = inr (first_then text r f others (first_or text r d) s h)
 
 -- the lines lead to one place where no other comes next
-leads : (text front others end : List ℕ) → (text ≡ end) ⊎ Next text end → Stops end → IsBehindSpace text front → IsSkippedLine front others → BeginsSkipped others end
-leads text front others end (inl e) stops s h = absurd (stops front others (subst (λ (x : List ℕ). IsBehindSpace x front) e s) h)
+leads : (text front others end : List ℕ) → (text ≡ end) ⊎ Next text end → Stops end → IsAfterSpace text front → IsSkippedLine front others → BeginsSkipped others end
+leads text front others end (inl e) stops s h = absurd (stops front others (subst (λ (x : List ℕ). IsAfterSpace x front) e s) h)
 leads text front others end (inr n) stops s h =
     subst (λ (x : List ℕ). BeginsSkipped x end) (next_one text n.front front n.others others n.space n.skipped s h) n.more
 
@@ -56,10 +56,10 @@ same_or rest end (inl e) stops = e
 same_or rest end (inr n) stops = absurd (stops n.front n.others n.space n.skipped)
 
 abbrev Open : List ℕ → Type 0
-Open rest = (text : List ℕ) → IsBehindSpace rest text → ⊥
+Open rest = (text : List ℕ) → IsAfterSpace rest text → ⊥
 
 abbrev Other : List ℕ → List ℕ → LineFault → Type 0
-Other bytes rest a = (text : List ℕ) × IsBehindSpace rest text × ((others : List ℕ) → IsSkippedLine text others → ⊥) × (a ≡ fault_at bytes text)
+Other bytes rest a = (text : List ℕ) × IsAfterSpace rest text × ((others : List ℕ) → IsSkippedLine text others → ⊥) × (a ≡ fault_at bytes text)
 
 abbrev Told : List ℕ → List ℕ → LineFault → Type 0
 Told bytes rest a = (Open rest × (a ≡ ended_at bytes)) ⊎ Other bytes rest a

@@ -9,21 +9,11 @@ use Rattle.std.proofs.lemmas.List.{take_at, take_all, drop_at, take-append-drop,
 use Rattle.std.proofs.lemmas.List.Folds.{list_all-append}
 use Rattle.std.proofs.lemmas.Option.{cond_some}
 use Rattle.std.proofs.lemmas.Slice.Eq.{bytes_eq-Decides}
-use Rattle.text_tokens.proofs.Prefixes.{all_pass}
-use Rattle.litmus_lines.specs.FirstLine.{is_gap, is_inside, is_visible, is_trailing, AreSome, IsHeading, IsFirstLine}
+use Rattle.text_tokens.specs.Bytes.{is_blank, is_line_space, AreBlanks, AreLineSpaces}
+use Rattle.text_tokens.proofs.Prefixes.{prefix_is, all_pass}
+use Rattle.text_tokens.proofs.StepLaws.{let_through, not_passed}
+use Rattle.litmus_lines.specs.FirstLine.{is_inside, is_visible, AreVisible, IsHeading, IsFirstLine}
 use Rattle.litmus_lines.specs.FirstLineReading.{name_after, heading_name, line_at}
-
-prefix_is : (p : ℕ → Bool) (xs rest : List ℕ) → list_all p xs ≡ true → p (slice_index rest 0) ≡ false → prefix_len p (xs ++ rest) ≡ length xs
-prefix_is p [] [] all stop = refl
-prefix_is p [] (y ∷ rest) all stop = rw stop refl
-prefix_is p (x ∷ xs) rest all stop =
-    let a = and_parts (p x) (list_all p xs) all in
-    let rest_is : prefix_len p (xs ++ rest) ≡ length xs = prefix_is p xs rest a.1 stop in
-    rw a.0 (omega arith)
-
-cond_then : {A : Type 0} (b : Bool) (o : Option A) (x : A) → cond b o None ≡ Some x → (b ≡ true) × (o ≡ Some x)
-cond_then true o x e = (refl, e)
-cond_then false o x e = absurd cc
 
 weaker : (p q : ℕ → Bool) → ((b : ℕ) → p b ≡ true → q b ≡ true) → (xs : List ℕ) → list_all p xs ≡ true → list_all q xs ≡ true
 weaker p q h [] all = refl
@@ -38,78 +28,78 @@ lf b h = grind (arith, nat_tests)
 
 -- ---- a line
 
-after_takes : (gap rest name : List ℕ) → list_all is_gap gap ≡ true → name_after gap rest ≡ Some name
-    → (trailing : List ℕ) × (gap ++ rest ≡ gap ++ (name ++ trailing)) × AreSome is_gap gap × AreSome is_visible name × (list_all is_trailing trailing ≡ true)
-after_takes gap rest name gaps e =
+after_takes : (blanks rest name : List ℕ) → list_all is_blank blanks ≡ true → name_after blanks rest ≡ Some name
+    → (trailing : List ℕ) × (blanks ++ rest ≡ blanks ++ (name ++ trailing)) × AreBlanks blanks × AreVisible name × (list_all is_line_space trailing ≡ true)
+after_takes blanks rest name blanks_are e =
     let n = prefix_len is_visible rest in
-    let a = cond_some (nat_lt 0 (length gap) && nat_lt 0 (length (take n rest)) && list_all is_trailing (drop n rest)) (take n rest) name e in
+    let a = cond_some (nat_lt 0 (length blanks) && nat_lt 0 (length (take n rest)) && list_all is_line_space (drop n rest)) (take n rest) name e in
     let b = and_parts _ _ a.0 in
     let d = and_parts _ _ b.0 in
-    let visible : AreSome is_visible (take n rest) = (ltb-true _ _ d.1, all_pass is_visible rest) in
-    (drop n rest, ap (λ (r : List ℕ). gap ++ r) (sym (take-append-drop n rest) ∙ ap (λ (m : List ℕ). m ++ drop n rest) a.1), (ltb-true _ _ d.0, gaps), subst (AreSome is_visible) a.1 visible, b.1)
+    let visible : AreVisible (take n rest) = (ltb-true _ _ d.1, all_pass is_visible rest) in
+    (drop n rest, ap (λ (r : List ℕ). blanks ++ r) (sym (take-append-drop n rest) ∙ ap (λ (m : List ℕ). m ++ drop n rest) a.1), (ltb-true _ _ d.0, blanks_are), subst AreVisible a.1 visible, b.1)
 
 heading_takes : (line name : List ℕ) → heading_name line ≡ Some name → IsHeading line name
 unfolding heading_name
 heading_takes line name e =
     let rest = drop 3 line in
-    let n = prefix_len is_gap rest in
-    let a = cond_then (bytes_eq (take 3 line) (codes "X86")) (name_after (take n rest) (drop n rest)) name e in
+    let n = prefix_len is_blank rest in
+    let a = let_through (bytes_eq (take 3 line) (codes "X86")) (name_after (take n rest) (drop n rest)) name e in
     let x86 : take 3 line ≡ codes "X86" = (bytes_eq-Decides (take 3 line) (codes "X86")).0 a.0 in
-    let t = after_takes (take n rest) (drop n rest) name (all_pass is_gap rest) a.1 in
+    let t = after_takes (take n rest) (drop n rest) name (all_pass is_blank rest) a.1 in
     (take n rest, t.0, sym (take-append-drop 3 line) ∙ ap (λ (h : List ℕ). h ++ rest) x86 ∙ ap (λ (r : List ℕ). codes "X86" ++ r) (sym (take-append-drop n rest) ∙ t.1), t.2, t.3, t.4)
 
-no_visible : (trailing : List ℕ) → list_all is_trailing trailing ≡ true → is_visible (slice_index trailing 0) ≡ false
+no_visible : (trailing : List ℕ) → list_all is_line_space trailing ≡ true → is_visible (slice_index trailing 0) ≡ false
 no_visible [] all = refl
-no_visible (b ∷ bs) all = let a = and_parts (is_trailing b) (list_all is_trailing bs) all in let first = a.0 in no_visible_byte b first
+no_visible (b ∷ bs) all = let a = and_parts (is_line_space b) (list_all is_line_space bs) all in let first = a.0 in no_visible_byte b first
   where
-    no_visible_byte : (b : ℕ) → is_trailing b ≡ true → is_visible b ≡ false
+    no_visible_byte : (b : ℕ) → is_line_space b ≡ true → is_visible b ≡ false
     no_visible_byte b h = grind (arith, nat_tests)
 
-after_again : (gap name trailing : List ℕ) → AreSome is_gap gap → AreSome is_visible name → list_all is_trailing trailing ≡ true → name_after gap (name ++ trailing) ≡ Some name
-after_again gap name trailing gaps names ends =
+after_again : (blanks name trailing : List ℕ) → AreBlanks blanks → AreVisible name → list_all is_line_space trailing ≡ true → name_after blanks (name ++ trailing) ≡ Some name
+after_again blanks name trailing blanks_are names ends =
     let n : prefix_len is_visible (name ++ trailing) ≡ length name = prefix_is is_visible name trailing names.1 (no_visible trailing ends) in
     let front : take (length name) (name ++ trailing) ≡ name = take_at name trailing (length name) refl in
     let back : drop (length name) (name ++ trailing) ≡ trailing = drop_at name trailing (length name) refl in
-    let g : nat_lt 0 (length gap) ≡ true = lt-ltb _ _ gaps.0 in
+    let g : nat_lt 0 (length blanks) ≡ true = lt-ltb _ _ blanks_are.0 in
     let v : nat_lt 0 (length name) ≡ true = lt-ltb _ _ names.0 in
     rw (n, front, back, g, v, ends) refl
 
-no_gap : (name others : List ℕ) → AreSome is_visible name → is_gap (slice_index (name ++ others) 0) ≡ false
-no_gap [] others h = absurd (omega (arith, h.0))
-no_gap (b ∷ bs) others h = no_gap_byte b (and_parts (is_visible b) (list_all is_visible bs) h.1).0
+no_blank : (name others : List ℕ) → AreVisible name → is_blank (slice_index (name ++ others) 0) ≡ false
+no_blank [] others h = absurd (omega (arith, h.0))
+no_blank (b ∷ bs) others h = no_blank_byte b (and_parts (is_visible b) (list_all is_visible bs) h.1).0
   where
-    no_gap_byte : (b : ℕ) → is_visible b ≡ true → is_gap b ≡ false
-    no_gap_byte b h = grind (arith, nat_tests)
+    no_blank_byte : (b : ℕ) → is_visible b ≡ true → is_blank b ≡ false
+    no_blank_byte b h = grind (arith, nat_tests)
 
-again_behind : (gap name trailing : List ℕ) → AreSome is_gap gap → AreSome is_visible name → list_all is_trailing trailing ≡ true → heading_name (codes "X86" ++ (gap ++ (name ++ trailing))) ≡ Some name
+heading_of_parts : (blanks name trailing : List ℕ) → AreBlanks blanks → AreVisible name → list_all is_line_space trailing ≡ true → heading_name (codes "X86" ++ (blanks ++ (name ++ trailing))) ≡ Some name
 unfolding heading_name
-again_behind gap name trailing gaps names ends =
-    let n : prefix_len is_gap (gap ++ (name ++ trailing)) ≡ length gap = prefix_is is_gap gap (name ++ trailing) gaps.1 (no_gap name trailing names) in
-    let front : take (length gap) (gap ++ (name ++ trailing)) ≡ gap = take_at gap (name ++ trailing) (length gap) refl in
-    let back : drop (length gap) (gap ++ (name ++ trailing)) ≡ name ++ trailing = drop_at gap (name ++ trailing) (length gap) refl in
-    rw (n, front, back) (after_again gap name trailing gaps names ends)
+heading_of_parts blanks name trailing blanks_are names ends =
+    let n : prefix_len is_blank (blanks ++ (name ++ trailing)) ≡ length blanks = prefix_is is_blank blanks (name ++ trailing) blanks_are.1 (no_blank name trailing names) in
+    let front : take (length blanks) (blanks ++ (name ++ trailing)) ≡ blanks = take_at blanks (name ++ trailing) (length blanks) refl in
+    let back : drop (length blanks) (blanks ++ (name ++ trailing)) ≡ name ++ trailing = drop_at blanks (name ++ trailing) (length blanks) refl in
+    rw (n, front, back) (after_again blanks name trailing blanks_are names ends)
 
 heading_again : (line name : List ℕ) → IsHeading line name → heading_name line ≡ Some name
-heading_again line name h = rw h.2 (again_behind h.0 name h.1 h.3 h.4 h.5)
+heading_again line name h = rw h.2 (heading_of_parts h.0 name h.1 h.3 h.4 h.5)
 
 -- ---- the text
 
-inside_gap : (b : ℕ) → is_gap b ≡ true → is_inside b ≡ true
-inside_gap b h = grind (arith, nat_tests)
+inside_blank : (b : ℕ) → is_blank b ≡ true → is_inside b ≡ true
+inside_blank b h = grind (arith, nat_tests)
 
 inside_visible : (b : ℕ) → is_visible b ≡ true → is_inside b ≡ true
 inside_visible b h = grind (arith, nat_tests)
 
-inside_trailing : (b : ℕ) → is_trailing b ≡ true → is_inside b ≡ true
-inside_trailing b h = grind (arith, nat_tests)
+inside_line_space : (b : ℕ) → is_line_space b ≡ true → is_inside b ≡ true
+inside_line_space b h = grind (arith, nat_tests)
 
 -- no LF stands in a first line
 heading_inside : (line name : List ℕ) → IsHeading line name → list_all is_inside line ≡ true
 heading_inside line name h =
-    let gap = weaker is_gap is_inside inside_gap h.0 h.3.1 in
+    let blanks = weaker is_blank is_inside inside_blank h.0 h.3.1 in
     let names = weaker is_visible is_inside inside_visible name h.4.1 in
-    let ends = weaker is_trailing is_inside inside_trailing h.1 h.5 in
-    rw (h.2, list_all-append is_inside h.0 (name ++ h.1), list_all-append is_inside name h.1, gap, names, ends) refl
+    let ends = weaker is_line_space is_inside inside_line_space h.1 h.5 in
+    rw (h.2, list_all-append is_inside h.0 (name ++ h.1), list_all-append is_inside name h.1, blanks, names, ends) refl
 
 begins : (text : List ℕ) → prefix_len is_inside text < length text → drop (prefix_len is_inside text) text ≡ 10 ∷ drop 1 (drop (prefix_len is_inside text) text)
 begins [] lt = absurd (omega arith)
@@ -172,16 +162,12 @@ same_parts l m n k same e h = let f = ap heading_name same in cc
 
 -- ---- where no first line is read
 
-cond_none : {A : Type 0} (b : Bool) (x : A) → None ≡ cond b (Some x) None → b ≡ false
-cond_none true x e = absurd cc
-cond_none false x e = refl
-
 all_or_less : (p : ℕ → Bool) (xs : List ℕ) → nat_lt (prefix_len p xs) (length xs) ≡ false → list_all p xs ≡ true
 all_or_less p xs e = rw (sym (take_all (prefix_len p xs) xs (ltb-false _ _ e))) (all_pass p xs)
 
 pub no_end : (text : List ℕ) → None ≡ line_at text → list_all is_inside text ≡ true
 unfolding line_at
-no_end text e = let n = prefix_len is_inside text in all_or_less is_inside text (cond_none (nat_lt n (length text)) (take n text, drop 1 (drop n text)) e)
+no_end text e = let n = prefix_len is_inside text in all_or_less is_inside text (not_passed (nat_lt n (length text)) (take n text, drop 1 (drop n text)) (sym e))
 
 pub has_end : (text line rest : List ℕ) → line_at text ≡ Some (line, rest) → list_all is_inside text ≡ false
 has_end text line rest e = rw (line_takes text line rest e, list_all-append is_inside line (10 ∷ rest), line_inside text line rest e) refl

@@ -3,7 +3,7 @@ use Rattle.std.proofs.Common.{◌≡◌, ℕ, ◌<◌, true, false, List, [], �
 use Rattle.std.specs.Prelude.{◌==◌, slice_index}
 use Rattle.std.proofs.lemmas.Bool.Decides.{nat_tests}
 use Rattle.std.proofs.lemmas.List.{length-append}
-use Rattle.text_tokens.specs.Space.{IsBehindSpace}
+use Rattle.text_tokens.specs.Space.{IsAfterSpace}
 use Rattle.text_tokens.proofs.SpaceLaws.{space_length, empty_back}
 use Rattle.litmus_lines.specs.FirstLineReading.{line_at}
 use Rattle.litmus_lines.specs.SkippedLines.{is_skipped, IsSkippedLine, AreSkipped, brace, line}
@@ -53,11 +53,11 @@ no_line_in_nothing rest h = let short : length rest < 0 = line_shorter [] rest h
 
 -- ---- the lines
 
-pub shorter : (text front rest : List ℕ) → IsBehindSpace text front → IsSkippedLine front rest → length rest < length text
+pub shorter : (text front rest : List ℕ) → IsAfterSpace text front → IsSkippedLine front rest → length rest < length text
 shorter text front rest s h = omega (arith, space_length text front s, line_shorter front rest h)
 
 -- behind white space and one more line
-pub line_back : (text front others end : List ℕ) → ((r : List ℕ) → IsBehindSpace text r → front ≡ r) → slice_index front 0 == 123 ≡ false
+pub line_back : (text front others end : List ℕ) → ((r : List ℕ) → IsAfterSpace text r → front ≡ r) → slice_index front 0 == 123 ≡ false
     → ((r : List ℕ) → IsSkippedLine front r → others ≡ r) → AreSkipped text end → AreSkipped others end
 line_back text front others end one fails next (brace s e) =
     let same : front ≡ end = one end s in
@@ -69,21 +69,21 @@ line_back text front others end one fails next (line {front = f} {others = us} s
     subst (λ (t : List ℕ). AreSkipped t end) (sym (next us here)) more
 
 -- behind white space and before `{`
-pub brace_back : (text front end : List ℕ) → ((r : List ℕ) → IsBehindSpace text r → front ≡ r) → slice_index front 0 == 123 ≡ true → AreSkipped text end → front ≡ end
+pub brace_back : (text front end : List ℕ) → ((r : List ℕ) → IsAfterSpace text r → front ≡ r) → slice_index front 0 == 123 ≡ true → AreSkipped text end → front ≡ end
 brace_back text front end one is (brace s e) = one end s
 brace_back text front end one is (line {front = f} {others = us} s h more) =
     let first : slice_index front 0 ≡ 123 = grind (arith, nat_tests) in
     let same : front ≡ f = one f s in
     absurd (no_brace_line f us (ap (λ (t : List ℕ). slice_index t 0) (sym same) ∙ first) h)
 
-pub brace_is : (text front : List ℕ) → IsBehindSpace text front → slice_index front 0 == 123 ≡ true → AreSkipped text front
+pub brace_is : (text front : List ℕ) → IsAfterSpace text front → slice_index front 0 == 123 ≡ true → AreSkipped text front
 brace_is text front s is = let first : slice_index front 0 ≡ 123 = grind (arith, nat_tests) in brace s first
 
-pub no_space_back : (text end : List ℕ) → ((r : List ℕ) → IsBehindSpace text r → ⊥) → AreSkipped text end → ⊥
+pub no_space_back : (text end : List ℕ) → ((r : List ℕ) → IsAfterSpace text r → ⊥) → AreSkipped text end → ⊥
 no_space_back text end none (brace s e) = none end s
 no_space_back text end none (line {front = f} s h more) = none f s
 
-pub no_line_back : (text front end : List ℕ) → ((r : List ℕ) → IsBehindSpace text r → front ≡ r) → slice_index front 0 == 123 ≡ false
+pub no_line_back : (text front end : List ℕ) → ((r : List ℕ) → IsAfterSpace text r → front ≡ r) → slice_index front 0 == 123 ≡ false
     → ((r : List ℕ) → IsSkippedLine front r → ⊥) → AreSkipped text end → ⊥
 no_line_back text front end one fails none (brace s e) =
     let same : front ≡ end = one end s in

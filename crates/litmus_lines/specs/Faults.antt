@@ -2,7 +2,7 @@
 use Rattle.std.specs.Prelude.{◌≡◌, ◌==◌, ◌||◌, ◌&&◌, ◌⊎◌, ◌+◌, ◌-◌, ℕ, Bool, true, false, List, length, take, slice_index, min, count_by, if◌then◌else◌}
 use Rattle.std.specs.List.{list_all}
 use Rattle.std.specs.Char.{is_ascii_alphabetic}
-use Rattle.text_tokens.specs.Space.{IsBehindSpace}
+use Rattle.text_tokens.specs.Space.{IsAfterSpace}
 use Rattle.litmus_lines.specs.declared.fault.LineFault.{LineFault}
 use Rattle.litmus_lines.specs.declared.fault.LineFault.TheVariants as fault
 use Rattle.litmus_lines.specs.FirstLine.{is_inside}
@@ -20,7 +20,7 @@ RefusesFirstLine text (fault.Header at) = (at ≡ 1) × (list_all is_inside text
 -- The text is lines that are skipped, with white space and comments before each, and then the rest.
 pub data BeginsSkipped : List ℕ → List ℕ → Type 0 where
   nothing : {text : List ℕ} → BeginsSkipped text text
-  line : {text rest front others : List ℕ} → BeginsSkipped text rest → IsBehindSpace rest front → IsSkippedLine front others → BeginsSkipped text others
+  line : {text rest front others : List ℕ} → BeginsSkipped text rest → IsAfterSpace rest front → IsSkippedLine front others → BeginsSkipped text others
 
 -- the text is empty, or begins as a line that is skipped
 abbrev pub is_front_of_skipped : List ℕ → Bool
@@ -39,5 +39,5 @@ fault_at bytes text =
 abbrev pub RefusesLines : List ℕ → List ℕ → LineFault → Type 0
 RefusesLines bytes lines refused =
     (rest : List ℕ) × BeginsSkipped lines rest
-    × ((((text : List ℕ) → IsBehindSpace rest text → ⊥) × (refused ≡ ended_at bytes))
-    ⊎ ((text : List ℕ) × IsBehindSpace rest text × ((others : List ℕ) → IsSkippedLine text others → ⊥) × (refused ≡ fault_at bytes text)))
+    × ((((text : List ℕ) → IsAfterSpace rest text → ⊥) × (refused ≡ ended_at bytes))
+    ⊎ ((text : List ℕ) × IsAfterSpace rest text × ((others : List ℕ) → IsSkippedLine text others → ⊥) × (refused ≡ fault_at bytes text)))

@@ -4,7 +4,7 @@
 use Rattle.std.specs.Prelude.{◌≡◌, ◌==◌, ◌||◌, ◌&&◌, ℕ, Bool, true, List, ◌∷◌, ◌++◌, drop, slice_index}
 use Rattle.std.specs.List.{list_all, list_any}
 use Rattle.std.specs.Char.{is_ascii_alphabetic}
-use Rattle.text_tokens.specs.Space.{IsBehindSpace}
+use Rattle.text_tokens.specs.Space.{IsAfterSpace}
 use Rattle.litmus_lines.specs.FirstLine.{is_inside}
 
 -- the line begins with `"` and has a second `"`
@@ -26,5 +26,5 @@ IsSkippedLine text rest =
 
 -- The text is such lines and then the rest, which begins with `{`. White space and comments may stand before each line and before `{`.
 pub data AreSkipped : List ℕ → List ℕ → Type 0 where
-  brace : {text rest : List ℕ} → IsBehindSpace text rest → slice_index rest 0 ≡ 123 → AreSkipped text rest
-  line : {text front others rest : List ℕ} → IsBehindSpace text front → IsSkippedLine front others → AreSkipped others rest → AreSkipped text rest
+  brace : {text rest : List ℕ} → IsAfterSpace text rest → slice_index rest 0 ≡ 123 → AreSkipped text rest
+  line : {text front others rest : List ℕ} → IsAfterSpace text front → IsSkippedLine front others → AreSkipped others rest → AreSkipped text rest

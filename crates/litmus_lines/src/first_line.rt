@@ -1,37 +1,18 @@
 //! The first line of a text.
 ghost use Rattle.std.specs.Prelude.{◌≡◌, ◌≤◌, ℕ, List, ⊤, length, option_map, IfOk, IfErr, IsOkAnd};
-ghost use Rattle.std.specs.List.{prefix_len, list_all};
-ghost use Rattle.litmus_lines.specs.FirstLine.{is_gap, is_visible, is_trailing, IsFirstLine};
+ghost use Rattle.std.specs.List.{prefix_len};
+ghost use Rattle.litmus_lines.specs.FirstLine.{is_visible, IsFirstLine};
 ghost use Rattle.litmus_lines.specs.FirstLineReading.{heading_name};
 ghost use Rattle.litmus_lines.specs.Faults.{RefusesFirstLine};
 
 use crate::fault::LineFault;
 use crate::lines::split_line;
-
-fn is_gap(byte: u8) -> bool
-    ensures { result ≡ is_gap byte }
-{
-    byte == b' ' || byte == b'\t'
-}
+use text_tokens::{are_line_spaces, blanks_len};
 
 fn is_visible(byte: u8) -> bool
     ensures { result ≡ is_visible byte }
 {
     b'!' <= byte && byte <= b'~'
-}
-
-fn is_trailing(byte: u8) -> bool
-    ensures { result ≡ is_trailing byte }
-{
-    is_gap(byte) || byte == b'\r'
-}
-
-/// How many bytes from the front on are spaces or tabs.
-fn gap_len(bytes: &[u8]) -> usize
-    ensures value { result ≡ prefix_len is_gap bytes.now }
-    ensures within { result ≤ length bytes.now }
-{
-    bytes.iter().take_while(|byte| is_gap(**byte)).count()
 }
 
 /// How many bytes from the front on are visible characters.
@@ -42,21 +23,15 @@ fn visible_len(bytes: &[u8]) -> usize
     bytes.iter().take_while(|byte| is_visible(**byte)).count()
 }
 
-fn are_trailing(bytes: &[u8]) -> bool
-    ensures { result ≡ list_all is_trailing bytes.now }
-{
-    bytes.iter().all(|byte| is_trailing(*byte))
-}
-
 /// The name that a first line gives, which is given without its LF.
 #[tactic(auto, unfolding(crate::specs::FirstLineReading::heading_name))]
 fn heading_name(line: &[u8]) -> Option<&[u8]>
     ensures { option_map (λ name. name.now) result ≡ heading_name line.now }
 {
     let rest = line.strip_prefix(b"X86")?;
-    let (gap, rest) = rest.split_at(gap_len(rest));
+    let (blanks, rest) = rest.split_at(blanks_len(rest));
     let (name, trailing) = rest.split_at(visible_len(rest));
-    if gap.is_empty() || name.is_empty() || !are_trailing(trailing) {
+    if blanks.is_empty() || name.is_empty() || !are_line_spaces(trailing) {
         None
     } else {
         Some(name)

@@ -1,7 +1,7 @@
 -- What the readers of labels and cells read is what the grammar says.
 use Rattle.std.proofs.Common.{◌≡◌, ◌∙◌, ℕ, Bool, true, false, cond, List, [], ◌∷◌, ◌++◌, map, append_assoc, refl, sym, ap, subst, inl, inr, Option, Some, None}
 use Rattle.std.proofs.lemmas.Bool.{or_cases}
-use Rattle.std.proofs.lemmas.Option.{cond_some}
+use Rattle.std.proofs.lemmas.Option.{cond_some, same_Some}
 use Rattle.std.proofs.lemmas.List.{append-nil, map_push}
 use Rattle.text_tokens.specs.declared.token.Mark.TheVariants as the
 use Rattle.text_tokens.specs.Tokens.{Tok, Word}
@@ -11,8 +11,9 @@ use Rattle.litmus_syntax.specs.Words.{is_label}
 use Rattle.litmus_syntax.specs.Views.{CodeView, CellView}
 use Rattle.litmus_syntax.specs.Phrases.{Items, end, item}
 use Rattle.litmus_syntax.specs.Grammar.{IsCode, IsLabelMark, ends_cell, IsContent, IsCell}
-use Rattle.litmus_syntax.specs.Reading.{◌>>=◌, code_at, begins_label, label_tokens_at, content_at}
-use Rattle.litmus_syntax.proofs.Options.{bind_some, chosen, some_is}
+use Rattle.text_tokens.specs.Steps.{◌>>=◌}
+use Rattle.litmus_syntax.specs.Reading.{code_at, begins_label, label_tokens_at, content_at}
+use Rattle.text_tokens.proofs.StepLaws.{bind_some, by_test}
 use Rattle.litmus_syntax.proofs.ItemLaws.{IsRead, Only, SoFar, only_read, none_read, none_yet, one_more, refused}
 use Rattle.litmus_syntax.proofs.CodeLaws.{code_takes, code_again, code_begins}
 
@@ -28,7 +29,7 @@ label_takes ts x e =
     let a = bind_some (word_at ts) (λ w. cond (is_label w.0) (mark_at the.Colon w.1 >>= λ rest. Some (w.0, rest)) None) x e in
     let h = cond_parts (is_label a.0.0) (mark_at the.Colon a.0.1 >>= λ rest. Some (a.0.0, rest)) x a.2 in
     let b = bind_some (mark_at the.Colon a.0.1) (λ rest. Some (a.0.0, rest)) x h.1 in
-    subst (λ (z : List ℕ × List Tok). IsLabelMark z.0 ts z.1) (some_is (a.0.0, b.0) x b.2) (h.0, (a.0.1, word_takes ts a.0 a.1, mark_takes the.Colon a.0.1 b.0 b.1))
+    subst (λ (z : List ℕ × List Tok). IsLabelMark z.0 ts z.1) (same_Some (a.0.0, b.0) x b.2) (h.0, (a.0.1, word_takes ts a.0 a.1, mark_takes the.Colon a.0.1 b.0 b.1))
 
 label_again : (l : List ℕ) (ts rest : List Tok) → IsLabelMark l ts rest → label_tokens_at ts ≡ Some (l, rest)
 unfolding label_tokens_at
@@ -48,10 +49,10 @@ no_label ts e l rest h = let bad = sym e ∙ label_begins l ts rest h in cc
 content_takes : (ts : List Tok) (x : Option CodeView × List Tok) → content_at ts ≡ Some x → IsContent x.0 ts x.1
 unfolding content_at
 content_takes ts x e =
-    elim (chosen (ends_cell ts) (Some (None, ts)) (code_at ts >>= λ c. cond (ends_cell c.1) (Some (Some c.0, c.1)) None) (Some x) e) [
+    elim (by_test (ends_cell ts) (Some (None, ts)) (code_at ts >>= λ c. cond (ends_cell c.1) (Some (Some c.0, c.1)) None) (Some x) e) [
       | inl h ↦
           let made : Option CodeView × List Tok = (None, ts) in
-          subst (λ (z : Option CodeView × List Tok). IsContent z.0 ts z.1) (some_is made x h.1) (refl, h.0)
+          subst (λ (z : Option CodeView × List Tok). IsContent z.0 ts z.1) (same_Some made x h.1) (refl, h.0)
       | inr h ↦
           let a = bind_some (code_at ts) (λ c. cond (ends_cell c.1) (Some (Some c.0, c.1)) None) x h.1 in
           let made : Option CodeView × List Tok = (Some a.0.0, a.0.1) in

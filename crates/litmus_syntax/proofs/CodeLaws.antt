@@ -13,8 +13,11 @@ use Rattle.litmus_syntax.specs.Words.{mnemonic_of}
 use Rattle.litmus_syntax.specs.Views.{CodeView, LoadImm, Copy, Load, StoreImm, Store, Xchg, Fence, CmpImm, CmpReg, Je, Jne, Jmp}
 use Rattle.litmus_syntax.specs.Phrases.{◌▸◌, ◌or◌, word}
 use Rattle.litmus_syntax.specs.Grammar.{register, memory, immediate, mnemonic, comma, IsCode, ends_cell}
-use Rattle.litmus_syntax.specs.Reading.{◌>>=◌, register_at, memory_at, immediate_at, into_register_at, into_location_at, register_move_at, location_move_at, move_at, register_exchange_at, location_exchange_at, exchange_at, compared_with_at, compare_at, operands_at, code_at}
-use Rattle.litmus_syntax.proofs.Options.{bind_some, chosen, given, some_is}
+use Rattle.text_tokens.specs.Steps.{◌>>=◌}
+use Rattle.litmus_syntax.specs.Reading.{register_at, memory_at, immediate_at, into_register_at, into_location_at, register_move_at, location_move_at, move_at, register_exchange_at, location_exchange_at, exchange_at, compared_with_at, compare_at, operands_at, code_at}
+use Rattle.text_tokens.proofs.StepLaws.{bind_some, by_test}
+use Rattle.std.proofs.lemmas.Option.{same_Some}
+use Rattle.litmus_syntax.proofs.Options.{given}
 use Rattle.litmus_syntax.proofs.PlaceLaws.{register_takes, register_again, memory_takes, memory_again}
 
 abbrev CodeAndRest : Type 0
@@ -87,7 +90,7 @@ Has m ts x = (mnemonic_for x.0 ≡ m) × Operands x.0 ts x.1
 immediate_takes : (ts : List Tok) (x : ℕ × List Tok) → immediate_at ts ≡ Some x → immediate x.0 ts x.1
 unfolding immediate_at
 immediate_takes ts x e =
-    elim (chosen (begins_with the.Dollar ts) (mark_at the.Dollar ts >>= λ rest. number_at rest) (number_at ts) (Some x) e) [
+    elim (by_test (begins_with the.Dollar ts) (mark_at the.Dollar ts >>= λ rest. number_at rest) (number_at ts) (Some x) e) [
       | inl h ↦
           let a = bind_some (mark_at the.Dollar ts) (λ rest. number_at rest) x h.1 in
           inl (a.0, mark_takes the.Dollar ts a.0 a.1, number_takes a.0 x a.2)
@@ -103,36 +106,36 @@ immediate_again n ts rest h = elim h [ inl d ↦ rw (d.1, d.2) refl | inr e ↦ 
 into_register_takes : (r : Reg) (ts us vs : List Tok) (x : CodeAndRest) → register r ts us → comma us vs → into_register_at r vs ≡ Some x → Has op.Mov ts x
 unfolding into_register_at
 into_register_takes r ts us vs x a b e =
-    elim (chosen (begins_with the.OpenBracket vs) (memory_at vs >>= λ y. Some (Load r y.0, y.1)) (cond (is_some (word_at vs)) (register_at vs >>= λ s. Some (Copy r s.0, s.1)) (immediate_at vs >>= λ n. Some (LoadImm r n.0, n.1))) (Some x) e) [
+    elim (by_test (begins_with the.OpenBracket vs) (memory_at vs >>= λ y. Some (Load r y.0, y.1)) (cond (is_some (word_at vs)) (register_at vs >>= λ s. Some (Copy r s.0, s.1)) (immediate_at vs >>= λ n. Some (LoadImm r n.0, n.1))) (Some x) e) [
       | inl h ↦
           let d = bind_some (memory_at vs) (λ y. Some (Load r y.0, y.1)) x h.1 in
-          subst (Has op.Mov ts) (some_is (Load r d.0.0, d.0.1) x d.2) (refl, (us, a, (vs, b, memory_takes vs d.0 d.1)))
-      | inr h ↦ elim (chosen (is_some (word_at vs)) (register_at vs >>= λ s. Some (Copy r s.0, s.1)) (immediate_at vs >>= λ n. Some (LoadImm r n.0, n.1)) (Some x) h.1) [
+          subst (Has op.Mov ts) (same_Some (Load r d.0.0, d.0.1) x d.2) (refl, (us, a, (vs, b, memory_takes vs d.0 d.1)))
+      | inr h ↦ elim (by_test (is_some (word_at vs)) (register_at vs >>= λ s. Some (Copy r s.0, s.1)) (immediate_at vs >>= λ n. Some (LoadImm r n.0, n.1)) (Some x) h.1) [
         | inl g ↦
             let d = bind_some (register_at vs) (λ s. Some (Copy r s.0, s.1)) x g.1 in
-            subst (Has op.Mov ts) (some_is (Copy r d.0.0, d.0.1) x d.2) (refl, (us, a, (vs, b, register_takes vs d.0 d.1)))
+            subst (Has op.Mov ts) (same_Some (Copy r d.0.0, d.0.1) x d.2) (refl, (us, a, (vs, b, register_takes vs d.0 d.1)))
         | inr g ↦
             let d = bind_some (immediate_at vs) (λ n. Some (LoadImm r n.0, n.1)) x g.1 in
-            subst (Has op.Mov ts) (some_is (LoadImm r d.0.0, d.0.1) x d.2) (refl, (us, a, (vs, b, immediate_takes vs d.0 d.1)))
+            subst (Has op.Mov ts) (same_Some (LoadImm r d.0.0, d.0.1) x d.2) (refl, (us, a, (vs, b, immediate_takes vs d.0 d.1)))
       ]
     ]
 
 into_location_takes : (y : List ℕ) (ts us vs : List Tok) (x : CodeAndRest) → memory y ts us → comma us vs → into_location_at y vs ≡ Some x → Has op.Mov ts x
 unfolding into_location_at
 into_location_takes y ts us vs x a b e =
-    elim (chosen (is_some (word_at vs)) (register_at vs >>= λ r. Some (Store y r.0, r.1)) (immediate_at vs >>= λ n. Some (StoreImm y n.0, n.1)) (Some x) e) [
+    elim (by_test (is_some (word_at vs)) (register_at vs >>= λ r. Some (Store y r.0, r.1)) (immediate_at vs >>= λ n. Some (StoreImm y n.0, n.1)) (Some x) e) [
       | inl h ↦
           let d = bind_some (register_at vs) (λ r. Some (Store y r.0, r.1)) x h.1 in
-          subst (Has op.Mov ts) (some_is (Store y d.0.0, d.0.1) x d.2) (refl, (us, a, (vs, b, register_takes vs d.0 d.1)))
+          subst (Has op.Mov ts) (same_Some (Store y d.0.0, d.0.1) x d.2) (refl, (us, a, (vs, b, register_takes vs d.0 d.1)))
       | inr h ↦
           let d = bind_some (immediate_at vs) (λ n. Some (StoreImm y n.0, n.1)) x h.1 in
-          subst (Has op.Mov ts) (some_is (StoreImm y d.0.0, d.0.1) x d.2) (refl, (us, a, (vs, b, immediate_takes vs d.0 d.1)))
+          subst (Has op.Mov ts) (same_Some (StoreImm y d.0.0, d.0.1) x d.2) (refl, (us, a, (vs, b, immediate_takes vs d.0 d.1)))
     ]
 
 move_takes : (ts : List Tok) (x : CodeAndRest) → move_at ts ≡ Some x → Has op.Mov ts x
 unfolding move_at
 move_takes ts x e =
-    elim (chosen (begins_with the.OpenBracket ts) (location_move_at ts) (register_move_at ts) (Some x) e) [
+    elim (by_test (begins_with the.OpenBracket ts) (location_move_at ts) (register_move_at ts) (Some x) e) [
       | inl h ↦
           let a = bind_some (memory_at ts) (λ y. mark_at the.Comma y.1 >>= λ rest. into_location_at y.0 rest) x h.1 in
           let b = bind_some (mark_at the.Comma a.0.1) (λ rest. into_location_at a.0.0 rest) x a.2 in
@@ -178,17 +181,17 @@ location_move y ts us vs x a b e = rw (begins_again the.OpenBracket ts a.0 a.1, 
 exchange_takes : (ts : List Tok) (x : CodeAndRest) → exchange_at ts ≡ Some x → Has op.Xchg ts x
 unfolding exchange_at
 exchange_takes ts x e =
-    elim (chosen (begins_with the.OpenBracket ts) (location_exchange_at ts) (register_exchange_at ts) (Some x) e) [
+    elim (by_test (begins_with the.OpenBracket ts) (location_exchange_at ts) (register_exchange_at ts) (Some x) e) [
       | inl h ↦
           let a = bind_some (memory_at ts) (λ y. mark_at the.Comma y.1 >>= λ rest. register_at rest >>= λ r. Some (Xchg y.0 r.0, r.1)) x h.1 in
           let b = bind_some (mark_at the.Comma a.0.1) (λ rest. register_at rest >>= λ r. Some (Xchg a.0.0 r.0, r.1)) x a.2 in
           let d = bind_some (register_at b.0) (λ r. Some (Xchg a.0.0 r.0, r.1)) x b.2 in
-          subst (Has op.Xchg ts) (some_is (Xchg a.0.0 d.0.0, d.0.1) x d.2) (refl, inl (a.0.1, memory_takes ts a.0 a.1, (b.0, mark_takes the.Comma a.0.1 b.0 b.1, register_takes b.0 d.0 d.1)))
+          subst (Has op.Xchg ts) (same_Some (Xchg a.0.0 d.0.0, d.0.1) x d.2) (refl, inl (a.0.1, memory_takes ts a.0 a.1, (b.0, mark_takes the.Comma a.0.1 b.0 b.1, register_takes b.0 d.0 d.1)))
       | inr h ↦
           let a = bind_some (register_at ts) (λ r. mark_at the.Comma r.1 >>= λ rest. memory_at rest >>= λ y. Some (Xchg y.0 r.0, y.1)) x h.1 in
           let b = bind_some (mark_at the.Comma a.0.1) (λ rest. memory_at rest >>= λ y. Some (Xchg y.0 a.0.0, y.1)) x a.2 in
           let d = bind_some (memory_at b.0) (λ y. Some (Xchg y.0 a.0.0, y.1)) x b.2 in
-          subst (Has op.Xchg ts) (some_is (Xchg d.0.0 a.0.0, d.0.1) x d.2) (refl, inr (a.0.1, register_takes ts a.0 a.1, (b.0, mark_takes the.Comma a.0.1 b.0 b.1, memory_takes b.0 d.0 d.1)))
+          subst (Has op.Xchg ts) (same_Some (Xchg d.0.0 a.0.0, d.0.1) x d.2) (refl, inr (a.0.1, register_takes ts a.0 a.1, (b.0, mark_takes the.Comma a.0.1 b.0 b.1, memory_takes b.0 d.0 d.1)))
     ]
 
 exchange_again : (y : List ℕ) (r : Reg) (ts rest : List Tok) → Operands (Xchg y r) ts rest → exchange_at ts ≡ Some (Xchg y r, rest)
@@ -205,13 +208,13 @@ compare_takes ts x e =
     let b = bind_some (mark_at the.Comma a.0.1) (λ rest. compared_with_at a.0.0 rest) x a.2 in
     let r = register_takes ts a.0 a.1 in
     let k = mark_takes the.Comma a.0.1 b.0 b.1 in
-    elim (chosen (is_some (word_at b.0)) (register_at b.0 >>= λ s. Some (CmpReg a.0.0 s.0, s.1)) (immediate_at b.0 >>= λ n. Some (CmpImm a.0.0 n.0, n.1)) (Some x) b.2) [
+    elim (by_test (is_some (word_at b.0)) (register_at b.0 >>= λ s. Some (CmpReg a.0.0 s.0, s.1)) (immediate_at b.0 >>= λ n. Some (CmpImm a.0.0 n.0, n.1)) (Some x) b.2) [
       | inl h ↦
           let d = bind_some (register_at b.0) (λ s. Some (CmpReg a.0.0 s.0, s.1)) x h.1 in
-          subst (Has op.Cmp ts) (some_is (CmpReg a.0.0 d.0.0, d.0.1) x d.2) (refl, (a.0.1, r, (b.0, k, register_takes b.0 d.0 d.1)))
+          subst (Has op.Cmp ts) (same_Some (CmpReg a.0.0 d.0.0, d.0.1) x d.2) (refl, (a.0.1, r, (b.0, k, register_takes b.0 d.0 d.1)))
       | inr h ↦
           let d = bind_some (immediate_at b.0) (λ n. Some (CmpImm a.0.0 n.0, n.1)) x h.1 in
-          subst (Has op.Cmp ts) (some_is (CmpImm a.0.0 d.0.0, d.0.1) x d.2) (refl, (a.0.1, r, (b.0, k, immediate_takes b.0 d.0 d.1)))
+          subst (Has op.Cmp ts) (same_Some (CmpImm a.0.0 d.0.0, d.0.1) x d.2) (refl, (a.0.1, r, (b.0, k, immediate_takes b.0 d.0 d.1)))
     ]
 
 with_register_again : (r s : Reg) (ts rest : List Tok) → register s ts rest → compared_with_at r ts ≡ Some (CmpReg r s, rest)
@@ -232,17 +235,17 @@ compare_again r ts us vs x a b e = rw (register_again r ts us a, mark_again the.
 operands_take : (m : Mnemonic) (ts : List Tok) (x : CodeAndRest) → operands_at m ts ≡ Some x → Has m ts x
 operands_take op.Mov ts x e = move_takes ts x e
 operands_take op.Xchg ts x e = exchange_takes ts x e
-operands_take op.Mfence ts x e = subst (Has op.Mfence ts) (some_is (Fence, ts) x e) (refl, refl)
+operands_take op.Mfence ts x e = subst (Has op.Mfence ts) (same_Some (Fence, ts) x e) (refl, refl)
 operands_take op.Cmp ts x e = compare_takes ts x e
 operands_take op.Je ts x e =
     let a = bind_some (word_at ts) (λ l. Some (Je l.0, l.1)) x e in
-    subst (Has op.Je ts) (some_is (Je a.0.0, a.0.1) x a.2) (refl, word_takes ts a.0 a.1)
+    subst (Has op.Je ts) (same_Some (Je a.0.0, a.0.1) x a.2) (refl, word_takes ts a.0 a.1)
 operands_take op.Jne ts x e =
     let a = bind_some (word_at ts) (λ l. Some (Jne l.0, l.1)) x e in
-    subst (Has op.Jne ts) (some_is (Jne a.0.0, a.0.1) x a.2) (refl, word_takes ts a.0 a.1)
+    subst (Has op.Jne ts) (same_Some (Jne a.0.0, a.0.1) x a.2) (refl, word_takes ts a.0 a.1)
 operands_take op.Jmp ts x e =
     let a = bind_some (word_at ts) (λ l. Some (Jmp l.0, l.1)) x e in
-    subst (Has op.Jmp ts) (some_is (Jmp a.0.0, a.0.1) x a.2) (refl, word_takes ts a.0 a.1)
+    subst (Has op.Jmp ts) (same_Some (Jmp a.0.0, a.0.1) x a.2) (refl, word_takes ts a.0 a.1)
 
 operands_again : (c : CodeView) (ts rest : List Tok) → Operands c ts rest → operands_at (mnemonic_for c) ts ≡ Some (c, rest)
 operands_again (LoadImm r n) ts rest h = register_move r ts h.0 h.2.0 (LoadImm r n, rest) h.1 h.2.1 (load_imm_again r n h.2.0 rest h.2.2)

@@ -14,8 +14,10 @@ use Rattle.litmus_syntax.specs.Views.{PlaceView, SignView, EndingView}
 use Rattle.litmus_syntax.specs.Phrases.{begins_with_word}
 use Rattle.litmus_syntax.specs.Grammar.{IsObserved, IsQuantifier, IsSigns, IsEnding}
 use Rattle.litmus_syntax.specs.Exact.{ReadsNone, NoEnding, ReadsEnding}
-use Rattle.litmus_syntax.specs.Reading.{◌>>=◌, keyword_at, not_exists_at, forall_at, exists_at, quantifier_at}
-use Rattle.litmus_syntax.proofs.Options.{bind_some, chosen, some_is}
+use Rattle.text_tokens.specs.Steps.{◌>>=◌}
+use Rattle.litmus_syntax.specs.Reading.{keyword_at, not_exists_at, forall_at, exists_at, quantifier_at}
+use Rattle.text_tokens.proofs.StepLaws.{bind_some, by_test}
+use Rattle.std.proofs.lemmas.Option.{same_Some}
 use Rattle.litmus_syntax.proofs.ItemLaws.{IsRead, Only, only_read, none_read}
 use Rattle.litmus_syntax.proofs.WordLaws.{keyword_takes}
 
@@ -30,18 +32,18 @@ Quantifies ts x = IsQuantifier x.0 ts x.1
 quantifier_takes : (ts : List Tok) (x : QuantifierAndRest) → quantifier_at ts ≡ Some x → Quantifies ts x
 unfolding quantifier_at
 quantifier_takes ts x e =
-    elim (chosen (begins_with the.Tilde ts) (not_exists_at ts) (cond (begins_with_word (codes "forall") ts) (forall_at ts) (exists_at ts)) (Some x) e) [
+    elim (by_test (begins_with the.Tilde ts) (not_exists_at ts) (cond (begins_with_word (codes "forall") ts) (forall_at ts) (exists_at ts)) (Some x) e) [
       | inl h ↦
           let a = bind_some (mark_at the.Tilde ts) (λ rest. keyword_at (codes "exists") rest >>= λ others. Some (NotExists, others)) x h.1 in
           let b = bind_some (keyword_at (codes "exists") a.0) (λ others. Some (NotExists, others)) x a.2 in
-          subst (Quantifies ts) (some_is (NotExists, b.0) x b.2) (a.0, mark_takes the.Tilde ts a.0 a.1, keyword_takes (codes "exists") a.0 b.0 b.1)
-      | inr h ↦ elim (chosen (begins_with_word (codes "forall") ts) (forall_at ts) (exists_at ts) (Some x) h.1) [
+          subst (Quantifies ts) (same_Some (NotExists, b.0) x b.2) (a.0, mark_takes the.Tilde ts a.0 a.1, keyword_takes (codes "exists") a.0 b.0 b.1)
+      | inr h ↦ elim (by_test (begins_with_word (codes "forall") ts) (forall_at ts) (exists_at ts) (Some x) h.1) [
         | inl g ↦
             let a = bind_some (keyword_at (codes "forall") ts) (λ rest. Some (Forall, rest)) x g.1 in
-            subst (Quantifies ts) (some_is (Forall, a.0) x a.2) (keyword_takes (codes "forall") ts a.0 a.1)
+            subst (Quantifies ts) (same_Some (Forall, a.0) x a.2) (keyword_takes (codes "forall") ts a.0 a.1)
         | inr g ↦
             let a = bind_some (keyword_at (codes "exists") ts) (λ rest. Some (Exists, rest)) x g.1 in
-            subst (Quantifies ts) (some_is (Exists, a.0) x a.2) (keyword_takes (codes "exists") ts a.0 a.1)
+            subst (Quantifies ts) (same_Some (Exists, a.0) x a.2) (keyword_takes (codes "exists") ts a.0 a.1)
       ]
     ]
 

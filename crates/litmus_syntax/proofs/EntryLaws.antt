@@ -12,8 +12,10 @@ use Rattle.litmus_syntax.specs.Phrases.{◌▸◌, mark, number, Items, end, ite
 use Rattle.litmus_syntax.specs.Grammar.{IsEntryItem, separator, place_of_entry, NoneTwice, IsInitial}
 use Rattle.litmus_syntax.specs.declared.seen.Seen.{Seen}
 use Rattle.litmus_syntax.specs.Places.{same_place, has}
-use Rattle.litmus_syntax.specs.Reading.{◌>>=◌, separator_at, place_at, equals_value_at, entry_value_at, entry_at}
-use Rattle.litmus_syntax.proofs.Options.{bind_some, some_is}
+use Rattle.text_tokens.specs.Steps.{◌>>=◌}
+use Rattle.litmus_syntax.specs.Reading.{separator_at, place_at, equals_value_at, entry_value_at, entry_at}
+use Rattle.text_tokens.proofs.StepLaws.{bind_some}
+use Rattle.std.proofs.lemmas.Option.{same_Some}
 use Rattle.litmus_syntax.proofs.ItemLaws.{IsRead, Only, SoFar, only_read, none_read, none_behind, one_more, refused, closed}
 use Rattle.litmus_syntax.proofs.Repetitions.{fresh, twice}
 use Rattle.litmus_syntax.proofs.SeenLaws.{same_place_is, same_place_itself}
@@ -29,7 +31,7 @@ unfolding entry_value_at
 entry_value_takes ts x e =
     let a = bind_some (equals_value_at ts) (λ n. separator_at the.CloseBrace n.1 >>= λ rest. Some (n.0, rest)) x e in
     let b = bind_some (separator_at the.CloseBrace a.0.1) (λ rest. Some (a.0.0, rest)) x a.2 in
-    subst (λ (z : ℕ × List Tok). EntryValue z.0 ts z.1) (some_is (a.0.0, b.0) x b.2) (a.0.1, value_takes ts a.0 a.1, separator_takes the.CloseBrace a.0.1 b.0 b.1)
+    subst (λ (z : ℕ × List Tok). EntryValue z.0 ts z.1) (same_Some (a.0.0, b.0) x b.2) (a.0.1, value_takes ts a.0 a.1, separator_takes the.CloseBrace a.0.1 b.0 b.1)
 
 entry_value_again : (n : ℕ) (ts rest : List Tok) → EntryValue n ts rest → entry_value_at ts ≡ Some (n, rest)
 unfolding entry_value_at
@@ -42,7 +44,7 @@ item_takes ts x e =
     let b = bind_some (entry_value_at a.0.1) (λ n. Some (record { place = a.0.0; value = n.0 }, n.1)) x a.2 in
     let v = entry_value_takes a.0.1 b.0 b.1 in
     let made : EntryView × List Tok = (record { place = a.0.0; value = b.0.0 }, b.0.1) in
-    subst (λ (z : EntryView × List Tok). IsEntryItem z.0 ts z.1) (some_is made x b.2) (v.0, (a.0.1, place_takes ts a.0 a.1, v.1), v.2)
+    subst (λ (z : EntryView × List Tok). IsEntryItem z.0 ts z.1) (same_Some made x b.2) (v.0, (a.0.1, place_takes ts a.0 a.1, v.1), v.2)
 
 item_again : (e : EntryView) (ts rest : List Tok) → IsEntryItem e ts rest → entry_at ts ≡ Some (e, rest)
 unfolding entry_at
@@ -54,7 +56,7 @@ entries_are_read = record { takes = item_takes; again = item_again }
 
 -- an entry begins with its place
 pub begins_with_place : (e : EntryView) (ts rest : List Tok) → IsEntryItem e ts rest → (p : PlaceView × List Tok) → place_at ts ≡ Some p → e.place ≡ p.0
-begins_with_place e ts rest h p is = ap (λ (x : PlaceView × List Tok). x.0) (some_is (e.place, h.1.0) p (sym (place_again e.place ts h.1.0 h.1.1) ∙ is))
+begins_with_place e ts rest h p is = ap (λ (x : PlaceView × List Tok). x.0) (same_Some (e.place, h.1.0) p (sym (place_again e.place ts h.1.0 h.1.1) ∙ is))
 
 -- no entry begins with `}`
 pub no_entry : (ts rest : List Tok) → mark the.CloseBrace ts rest → (e : EntryView) (other : List Tok) → IsEntryItem e ts other → ⊥

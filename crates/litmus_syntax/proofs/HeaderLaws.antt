@@ -10,10 +10,11 @@ use Rattle.text_tokens.proofs.PartLaws.{word_takes, mark_takes, mark_again, begi
 use Rattle.litmus_syntax.specs.Words.{column_name}
 use Rattle.litmus_syntax.specs.Grammar.{MoreColumns, last, column, IsHeader}
 use Rattle.litmus_syntax.specs.Exact.{ReadsNone}
-use Rattle.litmus_syntax.specs.Reading.{◌>>=◌, Fails, column_at}
+use Rattle.text_tokens.specs.Steps.{◌>>=◌, Fails}
+use Rattle.litmus_syntax.specs.Reading.{column_at, fails_for_memory}
 use Rattle.litmus_syntax.specs.declared.fault.SyntaxFault.{SyntaxFault}
 use Rattle.litmus_syntax.specs.declared.fault.SyntaxFault.TheVariants.{Refused, OutOfMemory}
-use Rattle.litmus_syntax.proofs.Options.{bind_some}
+use Rattle.text_tokens.proofs.StepLaws.{bind_some}
 use Rattle.litmus_syntax.proofs.ItemLaws.{Only}
 
 column_takes : (k : ℕ) (ts rest : List Tok) → column_at k ts ≡ Some rest → ts ≡ Word (column_name k) ∷ rest
@@ -46,7 +47,7 @@ first_column ts rest e =
 no_first_column : (ts : List Tok) → column_at 0 ts ≡ None → (threads : ℕ) (end : List Tok) → IsHeader threads ts end → ⊥
 no_first_column ts e threads end h = let bad = sym e ∙ column_again 0 ts h.0 h.1 in cc
 
-pub first_stops : (ts : List Tok) (f : SyntaxFault) → Fails f (column_at 0 ts) → ReadsNone IsHeader f ts
+pub first_stops : (ts : List Tok) (f : SyntaxFault) → Fails fails_for_memory f (column_at 0 ts) → ReadsNone IsHeader f ts
 first_stops ts OutOfMemory e = tt
 first_stops ts (Refused r) e = no_first_column ts e
 
@@ -76,7 +77,7 @@ no_next_column : (ts : List Tok) (k : ℕ) (rest after : List Tok) → ColumnsSo
     → (threads : ℕ) (end : List Tok) → IsHeader threads ts end → ⊥
 no_next_column ts k rest after s b none threads end h = not_a_column k threads rest after end (mark_takes the.Bar rest after b) none (s.back threads end h)
 
-pub next_stops : (ts : List Tok) (k : ℕ) (rest after : List Tok) (f : SyntaxFault) → ColumnsSoFar ts k rest → mark_at the.Bar rest ≡ Some after → Fails f (column_at k after) → ReadsNone IsHeader f ts
+pub next_stops : (ts : List Tok) (k : ℕ) (rest after : List Tok) (f : SyntaxFault) → ColumnsSoFar ts k rest → mark_at the.Bar rest ≡ Some after → Fails fails_for_memory f (column_at k after) → ReadsNone IsHeader f ts
 next_stops ts k rest after OutOfMemory s b e = tt
 next_stops ts k rest after (Refused r) s b e = no_next_column ts k rest after s b e
 

@@ -3,7 +3,7 @@ use Rattle.std.proofs.Common.{◌≡◌, ◌∙◌, sym, ap, subst, refl, List, 
 use Rattle.std.proofs.lemmas.List.{append-nil}
 use Rattle.text_tokens.specs.Tokens.{Tok}
 use Rattle.litmus_syntax.specs.Phrases.{◌▸◌, Items, end, item}
-use Rattle.litmus_syntax.proofs.Options.{some_is}
+use Rattle.std.proofs.lemmas.Option.{same_Some}
 
 -- a value begins the tokens, and nothing else does
 abbrev pub Only : {X : Type 0} → (X → List Tok → List Tok → Type 0) → X → List Tok → List Tok → Type 0
@@ -22,7 +22,7 @@ pub only_read : {X : Type 0} (Item : X → List Tok → List Tok → Type 0) (it
 only_read {X} Item item_at r ts x e = (
   r.takes ts x e,
   λ y other h.
-      let same : pair_of y other ≡ x = some_is (pair_of y other) x (sym (r.again y ts other h) ∙ e) in
+      let same : pair_of y other ≡ x = same_Some (pair_of y other) x (sym (r.again y ts other h) ∙ e) in
       (ap (λ (p : X × List Tok). p.0) same, ap (λ (p : X × List Tok). p.1) same),
 )
 

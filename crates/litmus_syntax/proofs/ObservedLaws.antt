@@ -7,8 +7,10 @@ use Rattle.text_tokens.proofs.PartLaws.{mark_takes, mark_again, begins_again}
 use Rattle.litmus_syntax.specs.Views.{PlaceView, Location, Register}
 use Rattle.litmus_syntax.specs.Phrases.{◌▸◌, mark, word, begins_with_word, Items}
 use Rattle.litmus_syntax.specs.Grammar.{IsPlace, IsObservedItem, IsObserved}
-use Rattle.litmus_syntax.specs.Reading.{◌>>=◌, place_among_at, keyword_at, separator_at, observed_begin_at, observed_item_at}
-use Rattle.litmus_syntax.proofs.Options.{bind_some, some_is}
+use Rattle.text_tokens.specs.Steps.{◌>>=◌}
+use Rattle.litmus_syntax.specs.Reading.{place_among_at, keyword_at, separator_at, observed_begin_at, observed_item_at}
+use Rattle.text_tokens.proofs.StepLaws.{bind_some}
+use Rattle.std.proofs.lemmas.Option.{same_Some}
 use Rattle.litmus_syntax.proofs.ItemLaws.{IsRead, Only, SoFar, only_read, none_read, one_more, refused, closed}
 use Rattle.litmus_syntax.proofs.WordLaws.{begins_word_again, keyword_takes, keyword_again, separator_takes, separator_again}
 use Rattle.litmus_syntax.proofs.PlaceLaws.{place_among_takes, place_among_again}
@@ -33,7 +35,7 @@ item_takes threads ts x e =
     let a = bind_some (place_among_at threads ts) (λ p. separator_at the.CloseBracket p.1 >>= λ rest. Some (p.0, rest)) x e in
     let b = bind_some (separator_at the.CloseBracket a.0.1) (λ rest. Some (a.0.0, rest)) x a.2 in
     let p = place_among_takes threads ts a.0 a.1 in
-    subst (λ (z : PlaceView × List Tok). IsObservedItem threads z.0 ts z.1) (some_is (a.0.0, b.0) x b.2) (p.0, (a.0.1, p.1, separator_takes the.CloseBracket a.0.1 b.0 b.1))
+    subst (λ (z : PlaceView × List Tok). IsObservedItem threads z.0 ts z.1) (same_Some (a.0.0, b.0) x b.2) (p.0, (a.0.1, p.1, separator_takes the.CloseBracket a.0.1 b.0 b.1))
 
 item_again : (threads : ℕ) (p : PlaceView) (ts rest : List Tok) → IsObservedItem threads p ts rest → observed_item_at threads ts ≡ Some (p, rest)
 unfolding observed_item_at

@@ -2,7 +2,7 @@
 use Rattle.std.proofs.Common.{◌≡◌, ◌∙◌, ◌<◌, ℕ, false, cond, not, List, refl, sym, ap, subst, inl, inr, arith, Option, Some, None}
 use Rattle.std.specs.Prelude.{is_some, nat_lt}
 use Rattle.std.proofs.lemmas.Bool.Decides.{nat_tests}
-use Rattle.std.proofs.lemmas.Option.{cond_some}
+use Rattle.std.proofs.lemmas.Option.{cond_some, same_Some}
 use Rattle.text_tokens.specs.declared.token.Mark.TheVariants as the
 use Rattle.text_tokens.specs.Tokens.{Tok}
 use Rattle.text_tokens.specs.Parts.{word_at, number_at, mark_at, begins_with}
@@ -12,8 +12,9 @@ use Rattle.litmus_syntax.specs.Words.{reg_of, is_name}
 use Rattle.litmus_syntax.specs.Views.{PlaceView, Location, Register}
 use Rattle.litmus_syntax.specs.Phrases.{◌▸◌, mark, number}
 use Rattle.litmus_syntax.specs.Grammar.{register, name, memory, IsPlace, HasThread}
-use Rattle.litmus_syntax.specs.Reading.{◌>>=◌, name_at, register_at, memory_at, thread_register_at, as_location, place_at, names_missing, place_among_at, equals_value_at}
-use Rattle.litmus_syntax.proofs.Options.{bind_some, chosen, some_is}
+use Rattle.text_tokens.specs.Steps.{◌>>=◌}
+use Rattle.litmus_syntax.specs.Reading.{name_at, register_at, memory_at, thread_register_at, as_location, place_at, names_missing, place_among_at, equals_value_at}
+use Rattle.text_tokens.proofs.StepLaws.{bind_some, by_test}
 
 -- ---- names
 
@@ -30,7 +31,7 @@ pub register_takes : (ts : List Tok) (x : Reg × List Tok) → register_at ts �
 register_takes ts x e =
     let a = bind_some (word_at ts) (λ w. reg_of w.0 >>= λ r. Some (r, w.1)) x e in
     let b = bind_some (reg_of a.0.0) (λ r. Some (r, a.0.1)) x a.2 in
-    subst (λ (z : Reg × List Tok). register z.0 ts z.1) (some_is (b.0, a.0.1) x b.2) (a.0.0, b.1, word_takes ts a.0 a.1)
+    subst (λ (z : Reg × List Tok). register z.0 ts z.1) (same_Some (b.0, a.0.1) x b.2) (a.0.0, b.1, word_takes ts a.0 a.1)
 
 pub register_again : (r : Reg) (ts rest : List Tok) → register r ts rest → register_at ts ≡ Some (r, rest)
 register_again r ts rest h = rw (h.2, h.1) refl
@@ -41,7 +42,7 @@ memory_takes ts x e =
     let a = bind_some (mark_at the.OpenBracket ts) (λ inside. name_at inside >>= λ n. mark_at the.CloseBracket n.1 >>= λ rest. Some (n.0, rest)) x e in
     let b = bind_some (name_at a.0) (λ n. mark_at the.CloseBracket n.1 >>= λ rest. Some (n.0, rest)) x a.2 in
     let d = bind_some (mark_at the.CloseBracket b.0.1) (λ rest. Some (b.0.0, rest)) x b.2 in
-    subst (λ (z : List ℕ × List Tok). memory z.0 ts z.1) (some_is (b.0.0, d.0) x d.2)
+    subst (λ (z : List ℕ × List Tok). memory z.0 ts z.1) (same_Some (b.0.0, d.0) x d.2)
     (a.0, mark_takes the.OpenBracket ts a.0 a.1, (b.0.1, name_takes a.0 b.0 b.1, mark_takes the.CloseBracket b.0.1 d.0 d.1))
 
 pub memory_again : (x : List ℕ) (ts rest : List Tok) → memory x ts rest → memory_at ts ≡ Some (x, rest)
@@ -56,21 +57,21 @@ thread_register_takes ts x e =
     let a = bind_some (number_at ts) (λ t. mark_at the.Colon t.1 >>= λ rest. register_at rest >>= λ r. Some (Register t.0 r.0, r.1)) x e in
     let b = bind_some (mark_at the.Colon a.0.1) (λ rest. register_at rest >>= λ r. Some (Register a.0.0 r.0, r.1)) x a.2 in
     let d = bind_some (register_at b.0) (λ r. Some (Register a.0.0 r.0, r.1)) x b.2 in
-    subst (λ (z : PlaceView × List Tok). IsPlace z.0 ts z.1) (some_is (Register a.0.0 d.0.0, d.0.1) x d.2)
+    subst (λ (z : PlaceView × List Tok). IsPlace z.0 ts z.1) (same_Some (Register a.0.0 d.0.0, d.0.1) x d.2)
     (a.0.1, number_takes ts a.0 a.1, (b.0, mark_takes the.Colon a.0.1 b.0 b.1, register_takes b.0 d.0 d.1))
 
 pub place_takes : (ts : List Tok) (x : PlaceView × List Tok) → place_at ts ≡ Some x → IsPlace x.0 ts x.1
 unfolding place_at
 place_takes ts x e =
-    elim (chosen (begins_with the.OpenBracket ts) (memory_at ts >>= λ n. Some (as_location n)) (cond (is_some (number_at ts)) (thread_register_at ts) (name_at ts >>= λ n. Some (as_location n))) (Some x) e) [
+    elim (by_test (begins_with the.OpenBracket ts) (memory_at ts >>= λ n. Some (as_location n)) (cond (is_some (number_at ts)) (thread_register_at ts) (name_at ts >>= λ n. Some (as_location n))) (Some x) e) [
       | inl h ↦
           let a = bind_some (memory_at ts) (λ n. Some (as_location n)) x h.1 in
-          subst (λ (z : PlaceView × List Tok). IsPlace z.0 ts z.1) (some_is (as_location a.0) x a.2) (inr (memory_takes ts a.0 a.1))
-      | inr h ↦ elim (chosen (is_some (number_at ts)) (thread_register_at ts) (name_at ts >>= λ n. Some (as_location n)) (Some x) h.1) [
+          subst (λ (z : PlaceView × List Tok). IsPlace z.0 ts z.1) (same_Some (as_location a.0) x a.2) (inr (memory_takes ts a.0 a.1))
+      | inr h ↦ elim (by_test (is_some (number_at ts)) (thread_register_at ts) (name_at ts >>= λ n. Some (as_location n)) (Some x) h.1) [
         | inl g ↦ thread_register_takes ts x g.1
         | inr g ↦
             let a = bind_some (name_at ts) (λ n. Some (as_location n)) x g.1 in
-            subst (λ (z : PlaceView × List Tok). IsPlace z.0 ts z.1) (some_is (as_location a.0) x a.2) (inl (name_takes ts a.0 a.1))
+            subst (λ (z : PlaceView × List Tok). IsPlace z.0 ts z.1) (same_Some (as_location a.0) x a.2) (inl (name_takes ts a.0 a.1))
       ]
     ]
 
@@ -113,7 +114,7 @@ named threads (Register t r) ts rest h e = ap (names_missing threads) h.1 ∙ no
 pub place_among_takes : (threads : ℕ) (ts : List Tok) (x : PlaceView × List Tok) → place_among_at threads ts ≡ Some x → HasThread threads x.0 × IsPlace x.0 ts x.1
 unfolding place_among_at
 place_among_takes threads ts x e =
-    elim (chosen (names_missing threads ts) None (place_at ts) (Some x) e) [
+    elim (by_test (names_missing threads ts) None (place_at ts) (Some x) e) [
       | inl h ↦ let none : Option (PlaceView × List Tok) = None in let bad : none ≡ Some x = h.1 in absurd cc
       | inr h ↦ let p = place_takes ts x h.1 in (there threads x.0 ts x.1 p h.0, p)
     ]

@@ -11,8 +11,11 @@ use Rattle.text_tokens.specs.Tokens.{Tok, Word, Number, Sign, NoToken, toks}
 use Rattle.litmus_syntax.specs.Words.{reg_of, opens_condition, joins_formula, is_name}
 use Rattle.litmus_syntax.specs.Views.{PlaceView, Location, Register, SignView, Atom, Const, Not, And, Or, Open, Close}
 use Rattle.litmus_syntax.specs.Grammar.{IsPlace, IsSign, the_end, IsSigns}
-use Rattle.litmus_syntax.specs.Reading.{◌>>=◌, place_among_at, equals_value_at, word_sign, mark_sign, short_sign_at, atom_at, sign_at}
-use Rattle.litmus_syntax.proofs.Options.{bind_some, chosen, given, some_is}
+use Rattle.text_tokens.specs.Steps.{◌>>=◌}
+use Rattle.litmus_syntax.specs.Reading.{place_among_at, equals_value_at, word_sign, mark_sign, short_sign_at, atom_at, sign_at}
+use Rattle.text_tokens.proofs.StepLaws.{bind_some, by_test}
+use Rattle.std.proofs.lemmas.Option.{same_Some}
+use Rattle.litmus_syntax.proofs.Options.{given}
 use Rattle.litmus_syntax.proofs.ItemLaws.{IsRead, SoFar, closed, refused, none_yet, none_read, only_read, one_more}
 use Rattle.litmus_syntax.proofs.PlaceLaws.{place_among_takes, place_among_again, value_takes, value_again}
 
@@ -27,7 +30,7 @@ atom_takes threads ts x e =
     let a = bind_some (place_among_at threads ts) (λ p. equals_value_at p.1 >>= λ n. Some (Atom p.0 n.0, n.1)) x e in
     let b = bind_some (equals_value_at a.0.1) (λ n. Some (Atom a.0.0 n.0, n.1)) x a.2 in
     let p = place_among_takes threads ts a.0 a.1 in
-    subst (λ (z : SignAndRest). IsSign threads z.0 ts z.1) (some_is (Atom a.0.0 b.0.0, b.0.1) x b.2) (p.0, (a.0.1, p.1, value_takes a.0.1 b.0 b.1))
+    subst (λ (z : SignAndRest). IsSign threads z.0 ts z.1) (same_Some (Atom a.0.0 b.0.0, b.0.1) x b.2) (p.0, (a.0.1, p.1, value_takes a.0.1 b.0 b.1))
 
 atom_again : (threads : ℕ) (p : PlaceView) (n : ℕ) (ts rest : List Tok) → IsSign threads (Atom p n) ts rest → atom_at threads ts ≡ Some (Atom p n, rest)
 unfolding atom_at
@@ -37,18 +40,18 @@ atom_again threads p n ts rest h = rw (place_among_again threads p ts h.1.0 h.0 
 
 this_word : (threads : ℕ) (w v : List ℕ) (s t : SignView) (ts : List Tok) → bytes_eq w v ≡ true → given s ≡ Some t → IsSign threads s (Word v ∷ ts) ts → IsSign threads t (Word w ∷ ts) ts
 this_word threads w v s t ts e is h =
-    subst (λ (z : SignView). IsSign threads z (Word w ∷ ts) ts) (some_is s t is) (subst (λ (z : List ℕ). IsSign threads s (Word z ∷ ts) ts) (sym ((bytes_eq-Decides w v).0 e)) h)
+    subst (λ (z : SignView). IsSign threads z (Word w ∷ ts) ts) (same_Some s t is) (subst (λ (z : List ℕ). IsSign threads s (Word z ∷ ts) ts) (sym ((bytes_eq-Decides w v).0 e)) h)
 
 word_takes : (threads : ℕ) (w : List ℕ) (s : SignView) (ts : List Tok) → word_sign w ≡ Some s → IsSign threads s (Word w ∷ ts) ts
 unfolding word_sign
 word_takes threads w s ts e =
     let third = cond (bytes_eq w (codes "not")) (given Not) None in
     let second = cond (bytes_eq w (codes "false")) (given (Const false)) third in
-    elim (chosen (bytes_eq w (codes "true")) (given (Const true)) second (Some s) e) [
+    elim (by_test (bytes_eq w (codes "true")) (given (Const true)) second (Some s) e) [
       | inl h ↦ this_word threads w (codes "true") (Const true) s ts h.0 h.1 refl
-      | inr h ↦ elim (chosen (bytes_eq w (codes "false")) (given (Const false)) third (Some s) h.1) [
+      | inr h ↦ elim (by_test (bytes_eq w (codes "false")) (given (Const false)) third (Some s) h.1) [
         | inl g ↦ this_word threads w (codes "false") (Const false) s ts g.0 g.1 refl
-        | inr g ↦ elim (chosen (bytes_eq w (codes "not")) (given Not) None (Some s) g.1) [
+        | inr g ↦ elim (by_test (bytes_eq w (codes "not")) (given Not) None (Some s) g.1) [
           | inl f ↦ this_word threads w (codes "not") Not s ts f.0 f.1 (inl refl)
           | inr f ↦ let none : Option SignView = None in let bad : none ≡ Some s = f.1 in absurd cc
         ]
@@ -56,7 +59,7 @@ word_takes threads w s ts e =
     ]
 
 this_mark : (threads : ℕ) (m : Mark) (s t : SignView) (ts : List Tok) → given s ≡ Some t → IsSign threads s (Sign m ∷ ts) ts → IsSign threads t (Sign m ∷ ts) ts
-this_mark threads m s t ts is h = subst (λ (z : SignView). IsSign threads z (Sign m ∷ ts) ts) (some_is s t is) h
+this_mark threads m s t ts is h = subst (λ (z : SignView). IsSign threads z (Sign m ∷ ts) ts) (same_Some s t is) h
 
 mark_takes : (threads : ℕ) (m : Mark) (s : SignView) (ts : List Tok) → mark_sign m ≡ Some s → IsSign threads s (Sign m ∷ ts) ts
 mark_takes threads the.Tilde s ts e = this_mark threads the.Tilde Not s ts e (inr refl)
@@ -79,11 +82,11 @@ short_takes : (threads : ℕ) (ts : List Tok) (x : SignAndRest) → short_sign_a
 short_takes threads [] x e = absurd cc
 short_takes threads (Word w ∷ ts) x e =
     let a = bind_some (word_sign w) (λ s. Some (s, ts)) x e in
-    subst (λ (z : SignAndRest). IsSign threads z.0 (Word w ∷ ts) z.1) (some_is (a.0, ts) x a.2) (word_takes threads w a.0 ts a.1)
+    subst (λ (z : SignAndRest). IsSign threads z.0 (Word w ∷ ts) z.1) (same_Some (a.0, ts) x a.2) (word_takes threads w a.0 ts a.1)
 short_takes threads (Number n ∷ ts) x e = absurd cc
 short_takes threads (Sign m ∷ ts) x e =
     let a = bind_some (mark_sign m) (λ s. Some (s, ts)) x e in
-    subst (λ (z : SignAndRest). IsSign threads z.0 (Sign m ∷ ts) z.1) (some_is (a.0, ts) x a.2) (mark_takes threads m a.0 ts a.1)
+    subst (λ (z : SignAndRest). IsSign threads z.0 (Sign m ∷ ts) z.1) (same_Some (a.0, ts) x a.2) (mark_takes threads m a.0 ts a.1)
 short_takes threads (NoToken b ∷ ts) x e = absurd cc
 
 -- ---- signs
@@ -91,7 +94,7 @@ short_takes threads (NoToken b ∷ ts) x e = absurd cc
 sign_takes : (threads : ℕ) (ts : List Tok) (x : SignAndRest) → sign_at threads ts ≡ Some x → IsSign threads x.0 ts x.1
 unfolding sign_at
 sign_takes threads ts x e =
-    elim (chosen (is_some (short_sign_at ts)) (short_sign_at ts) (atom_at threads ts) (Some x) e) [
+    elim (by_test (is_some (short_sign_at ts)) (short_sign_at ts) (atom_at threads ts) (Some x) e) [
       | inl h ↦ short_takes threads ts x h.1
       | inr h ↦ atom_takes threads ts x h.1
     ]

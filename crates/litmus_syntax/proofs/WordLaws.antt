@@ -1,6 +1,6 @@
 -- What the readers of keywords and separators read is what the grammar says.
 use Rattle.std.proofs.Common.{◌≡◌, ◌≢◌, ◌∙◌, ℕ, true, List, [], ◌∷◌, refl, ap, inl, inr, Some}
-use Rattle.std.proofs.lemmas.Option.{cond_some}
+use Rattle.std.proofs.lemmas.Option.{cond_some, same_Some}
 use Rattle.std.proofs.lemmas.Slice.Eq.{bytes_eq-Decides}
 use Rattle.text_tokens.specs.declared.token.Mark.{Mark}
 use Rattle.text_tokens.specs.declared.token.Mark.TheVariants as the
@@ -10,7 +10,7 @@ use Rattle.text_tokens.proofs.PartLaws.{mark_takes, mark_again, begins_takes, be
 use Rattle.litmus_syntax.specs.Phrases.{word, begins_with_word}
 use Rattle.litmus_syntax.specs.Grammar.{separator}
 use Rattle.litmus_syntax.specs.Reading.{keyword_at, separator_at}
-use Rattle.litmus_syntax.proofs.Options.{chosen, some_is}
+use Rattle.text_tokens.proofs.StepLaws.{by_test}
 
 -- ---- keywords
 
@@ -36,8 +36,8 @@ keyword_again w ts rest h = ap (keyword_at w) h ∙ rw ((bytes_eq-Decides w w).1
 
 pub separator_takes : (m : Mark) (ts rest : List Tok) → separator_at m ts ≡ Some rest → separator m ts rest
 separator_takes m ts rest e =
-    elim (chosen (begins_with m ts) (Some ts) (mark_at the.Semicolon ts) (Some rest) e) [
-      | inl h ↦ inr (some_is ts rest h.1, (rest_of ts, begins_takes m ts h.0))
+    elim (by_test (begins_with m ts) (Some ts) (mark_at the.Semicolon ts) (Some rest) e) [
+      | inl h ↦ inr (same_Some ts rest h.1, (rest_of ts, begins_takes m ts h.0))
       | inr h ↦ inl (mark_takes the.Semicolon ts rest h.1)
     ]
 

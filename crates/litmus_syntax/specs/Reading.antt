@@ -1,12 +1,12 @@
 -- What each function of the reader gives.
-use Rattle.std.specs.Prelude.{◌≡◌, ℕ, Bool, true, false, List, [], ◌∷◌, codes, nat_lt, not, Option, Some, None, Result, Ok, Err, option_and_then, is_some, if◌then◌else◌}
+use Rattle.std.specs.Prelude.{ℕ, Bool, true, false, List, [], ◌∷◌, codes, nat_lt, not, Option, Some, None, is_some, if◌then◌else◌}
 use Rattle.std.specs.Str.{bytes_eq}
 use Rattle.text_tokens.specs.declared.token.Mark.{Mark}
 use Rattle.text_tokens.specs.declared.token.Mark.TheVariants as the
 use Rattle.text_tokens.specs.Tokens.{Tok, Word, Number, Sign, NoToken}
+use Rattle.text_tokens.specs.Steps.{◌>>=◌}
 use Rattle.text_tokens.specs.Parts.{word_at, number_at, mark_at, begins_with, rest_of}
 use Rattle.tso_program.specs.declared.instruction.Reg.{Reg}
-use Rattle.litmus_syntax.specs.declared.fault.Refusal.{Refusal}
 use Rattle.litmus_syntax.specs.declared.fault.SyntaxFault.{SyntaxFault}
 use Rattle.litmus_syntax.specs.declared.fault.SyntaxFault.TheVariants.{Refused, OutOfMemory}
 use Rattle.litmus_syntax.specs.declared.mnemonic.Mnemonic.{Mnemonic}
@@ -18,25 +18,10 @@ use Rattle.litmus_syntax.specs.Views.{PlaceView, Location, Register, EntryView, 
 use Rattle.litmus_syntax.specs.Phrases.{begins_with_word}
 use Rattle.litmus_syntax.specs.Grammar.{ends_cell}
 
-infixl 10 ◌>>=◌
-abbrev pub ◌>>=◌ : {A B : Type 0} → Option A → (A → Option B) → Option B
-o >>= f = option_and_then f o
-
--- ---- what a reader returns
-
--- what was returned, seen by view, is what reading gives
-abbrev pub Gives : {X Y : Type 0} → (X → Y) → Result X Refusal → Option Y → Type 0
-Gives view (Ok x) read = read ≡ Some (view x)
-Gives view (Err e) read = read ≡ None
-
--- the same where memory can run out
-abbrev pub Fails : {Y : Type 0} → SyntaxFault → Option Y → Type 0
-Fails OutOfMemory read = Unit {0}
-Fails (Refused r) read = read ≡ None
-
-abbrev pub GivesUnlessMemory : {X Y : Type 0} → (X → Y) → Result X SyntaxFault → Option Y → Type 0
-GivesUnlessMemory view (Ok x) read = read ≡ Some (view x)
-GivesUnlessMemory view (Err e) read = Fails e read
+-- the fault is out of memory
+abbrev pub fails_for_memory : SyntaxFault → Bool
+fails_for_memory OutOfMemory = true
+fails_for_memory (Refused r) = false
 
 -- ---- names and places
 

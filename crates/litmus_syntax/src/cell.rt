@@ -5,7 +5,8 @@ ghost use Rattle.text_tokens.specs.Tokens.{toks};
 ghost use Rattle.litmus_syntax.specs.Grammar.{IsCell, IsNextCell, ends_cell, cell_labels};
 ghost use Rattle.litmus_syntax.specs.Views.{code_view, cell_view, label_view};
 ghost use Rattle.litmus_syntax.specs.Exact.{Reads};
-ghost use Rattle.litmus_syntax.specs.Reading.{Gives, content_at};
+ghost use Rattle.text_tokens.specs.Steps.{Gives};
+ghost use Rattle.litmus_syntax.specs.Reading.{content_at};
 
 use crate::code::{Code, read_code};
 use crate::fault::{Part, Refusal, SyntaxFault};

@@ -3,7 +3,8 @@
 ghost use Rattle.std.specs.Prelude.{◌<◌, ◌≤◌, ◌≡◌, length, IfOk};
 ghost use Rattle.text_tokens.specs.Tokens.{toks};
 ghost use Rattle.litmus_syntax.specs.Views.{code_view};
-ghost use Rattle.litmus_syntax.specs.Reading.{Gives, immediate_at, into_register_at, into_location_at, move_at, exchange_at, compared_with_at, compare_at, operands_at, code_at};
+ghost use Rattle.text_tokens.specs.Steps.{Gives};
+ghost use Rattle.litmus_syntax.specs.Reading.{immediate_at, into_register_at, into_location_at, move_at, exchange_at, compared_with_at, compare_at, operands_at, code_at};
 
 use crate::fault::{Part, Refusal};
 use crate::mnemonic::{Mnemonic, mnemonic_of};

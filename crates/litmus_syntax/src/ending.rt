@@ -3,7 +3,8 @@
 ghost use Rattle.std.specs.Prelude.{◌<◌, ◌≡◌, length, IfOk};
 ghost use Rattle.text_tokens.specs.Tokens.{toks};
 ghost use Rattle.litmus_syntax.specs.Exact.{ReadsEnding};
-ghost use Rattle.litmus_syntax.specs.Reading.{Gives, quantifier_at};
+ghost use Rattle.text_tokens.specs.Steps.{Gives};
+ghost use Rattle.litmus_syntax.specs.Reading.{quantifier_at};
 
 use crate::fault::{Part, Refusal, SyntaxFault};
 use crate::formula::{Signs, read_signs};

@@ -6,7 +6,8 @@ ghost use Rattle.litmus_syntax.specs.Grammar.{IsInitial};
 ghost use Rattle.litmus_syntax.specs.Views.{PlaceView, entry_view};
 ghost use Rattle.litmus_syntax.specs.Places.{has};
 ghost use Rattle.litmus_syntax.specs.Exact.{Reads};
-ghost use Rattle.litmus_syntax.specs.Reading.{Gives, entry_value_at};
+ghost use Rattle.text_tokens.specs.Steps.{Gives};
+ghost use Rattle.litmus_syntax.specs.Reading.{entry_value_at};
 
 use crate::fault::{Part, Refusal, SyntaxFault};
 use crate::parts::{mark, refused, separator};

@@ -4,7 +4,8 @@ ghost use Rattle.std.specs.Prelude.{◌<◌, ◌≡◌, length, IfOk, IfSome, ma
 ghost use Rattle.text_tokens.specs.Tokens.{toks};
 ghost use Rattle.litmus_syntax.specs.Views.{sign_view, sign_at_view};
 ghost use Rattle.litmus_syntax.specs.Exact.{ReadsSigns};
-ghost use Rattle.litmus_syntax.specs.Reading.{Gives, word_sign, mark_sign, short_sign_at, atom_at, sign_at};
+ghost use Rattle.text_tokens.specs.Steps.{Gives};
+ghost use Rattle.litmus_syntax.specs.Reading.{word_sign, mark_sign, short_sign_at, atom_at, sign_at};
 
 use crate::fault::{Part, Refusal};
 use crate::parts::refused;

@@ -4,7 +4,8 @@ ghost use Rattle.std.specs.Prelude.{◌<◌, ◌≡◌, length, IfOk};
 ghost use Rattle.text_tokens.specs.Tokens.{toks};
 ghost use Rattle.litmus_syntax.specs.Grammar.{IsHeader};
 ghost use Rattle.litmus_syntax.specs.Exact.{Reads};
-ghost use Rattle.litmus_syntax.specs.Reading.{GivesUnlessMemory, column_at};
+ghost use Rattle.text_tokens.specs.Steps.{GivesUnless};
+ghost use Rattle.litmus_syntax.specs.Reading.{column_at, fails_for_memory};
 
 use crate::fault::{Part, SyntaxFault};
 use crate::parts::{mark, refused, word};
@@ -18,7 +19,7 @@ fn read_column<'t>(
     thread: usize,
     tokens: &'t [Token],
 ) -> Result<&'t [Token], SyntaxFault>
-    ensures gives { GivesUnlessMemory (λ rest. toks rest.now) result (column_at thread (toks tokens.now)) }
+    ensures gives { GivesUnless fails_for_memory (λ rest. toks rest.now) result (column_at thread (toks tokens.now)) }
     ensures shorter { IfOk result (λ rest. length rest.now < length tokens.now) }
 {
     let (name, rest) = word(tokens, Part::Header)?;

@@ -5,7 +5,8 @@ ghost use Rattle.text_tokens.specs.Tokens.{toks};
 ghost use Rattle.litmus_syntax.specs.Words.{is_label};
 ghost use Rattle.litmus_syntax.specs.Views.{label_view};
 ghost use Rattle.litmus_syntax.specs.Grammar.{NoneTwice};
-ghost use Rattle.litmus_syntax.specs.Reading.{Gives, begins_label, label_tokens_at};
+ghost use Rattle.text_tokens.specs.Steps.{Gives};
+ghost use Rattle.litmus_syntax.specs.Reading.{begins_label, label_tokens_at};
 
 use crate::fault::{Part, Refusal};
 use crate::parts::{mark, refused, word};

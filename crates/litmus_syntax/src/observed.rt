@@ -5,7 +5,8 @@ ghost use Rattle.text_tokens.specs.Tokens.{toks};
 ghost use Rattle.litmus_syntax.specs.Grammar.{IsObserved};
 ghost use Rattle.litmus_syntax.specs.Views.{place_view};
 ghost use Rattle.litmus_syntax.specs.Exact.{Reads};
-ghost use Rattle.litmus_syntax.specs.Reading.{Gives, observed_begin_at, observed_item_at};
+ghost use Rattle.text_tokens.specs.Steps.{Gives};
+ghost use Rattle.litmus_syntax.specs.Reading.{observed_begin_at, observed_item_at};
 
 use crate::fault::{Part, Refusal, SyntaxFault};
 use crate::parts::{begins_word, keyword, mark, separator};

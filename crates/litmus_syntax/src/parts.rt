@@ -5,7 +5,8 @@ ghost use Rattle.std.specs.Str.{bytes_eq};
 ghost use Rattle.text_tokens.specs.Tokens.{toks};
 ghost use Rattle.text_tokens.specs.Parts.{word_at, number_at, mark_at};
 ghost use Rattle.litmus_syntax.specs.Phrases.{begins_with_word};
-ghost use Rattle.litmus_syntax.specs.Reading.{Gives, keyword_at, separator_at};
+ghost use Rattle.text_tokens.specs.Steps.{Gives};
+ghost use Rattle.litmus_syntax.specs.Reading.{keyword_at, separator_at};
 
 use crate::fault::{Part, Refusal};
 use text_tokens::{Bad, Mark, Token, begins};

@@ -4,7 +4,8 @@ ghost use Rattle.std.specs.Prelude.{◌<◌, ◌≡◌, length, IfOk};
 ghost use Rattle.text_tokens.specs.Tokens.{toks};
 ghost use Rattle.litmus_syntax.specs.Words.{reg_of, opens_condition, joins_formula, is_name};
 ghost use Rattle.litmus_syntax.specs.Views.{place_view};
-ghost use Rattle.litmus_syntax.specs.Reading.{Gives, register_at, name_at, memory_at, thread_register_at, place_at, names_missing, place_among_at, equals_value_at};
+ghost use Rattle.text_tokens.specs.Steps.{Gives};
+ghost use Rattle.litmus_syntax.specs.Reading.{register_at, name_at, memory_at, thread_register_at, place_at, names_missing, place_among_at, equals_value_at};
 
 use crate::fault::{Part, Refusal};
 use crate::parts::{is_either, mark, number, refused, refused_number, word};

@@ -17,10 +17,10 @@ use cover_solver::{ForeignRun, SeqTable, Served};
 use gap_sets::{Costs, Region};
 use std::alloc::Global;
 use std::marker::Model;
-use tso_program::{Program, Shown};
+use tso_program::{MAX_WORKERS, Program, Shown};
 
-/// The most seats that a search may have.
-pub const MAX_SEATS: u8 = 32;
+/// The most seats that a search may have: one for each worker.
+pub const MAX_SEATS: u8 = MAX_WORKERS;
 
 /// A search whose state some history of events reaches. It keeps the allocator that it was made with.
 #[derive(Drop)]

@@ -3,7 +3,7 @@ use Rattle.std.proofs.Common.{◌≡◌, ℕ, zero, suc, ◌+◌, ◌-◌, ◌<�
 use Rattle.std.proofs.lemmas.Bool.Decides.{nat_tests}
 use Rattle.std.proofs.lemmas.List.{length-drop}
 use Rattle.text_tokens.specs.Comments.{opens, closes, Inside, close, nested, other, IsComment}
-use Rattle.text_tokens.specs.Bytes.{is_blank}
+use Rattle.text_tokens.specs.Bytes.{is_white_space}
 
 -- the insides of so many comments, one after the other
 abbrev pub Open : ℕ → List ℕ → List ℕ → Type 0
@@ -117,7 +117,7 @@ Inside-shorter (x ∷ text) rest (other h g i) = omega (arith, Inside-shorter te
 pub comment_shorter : (text rest : List ℕ) → IsComment text rest → length rest < length text
 comment_shorter text rest h = omega (arith, Inside-shorter (drop 2 text) rest h.1, length-drop 2 text)
 
-pub space_shorter : (text rest : List ℕ) → ((b : ℕ) × (is_blank b ≡ true) × (text ≡ b ∷ rest)) ⊎ IsComment text rest → length rest < length text
+pub space_shorter : (text rest : List ℕ) → ((b : ℕ) × (is_white_space b ≡ true) × (text ≡ b ∷ rest)) ⊎ IsComment text rest → length rest < length text
 space_shorter text rest h =
     elim h [
       | inl one ↦ omega (arith, ap length one.2)

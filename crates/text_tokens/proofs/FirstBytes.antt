@@ -10,7 +10,7 @@ use Rattle.text_tokens.specs.declared.token.Mark.{Mark}
 use Rattle.text_tokens.specs.declared.token.Mark.TheVariants.{OpenBrace, CloseBrace, OpenBracket, CloseBracket, OpenParen, CloseParen, Semicolon, Bar, Colon, Equals, Comma, Dollar, Tilde, And, Or}
 use Rattle.text_tokens.specs.declared.token.Bad.{Bad}
 use Rattle.text_tokens.specs.declared.token.Bad.TheVariants as bad
-use Rattle.text_tokens.specs.Bytes.{is_blank, is_letter, is_word_byte}
+use Rattle.text_tokens.specs.Bytes.{is_white_space, is_letter, is_word_byte}
 use Rattle.text_tokens.specs.Marks.{mark_text, mark_from}
 use Rattle.text_tokens.specs.Comments.{opens}
 use Rattle.text_tokens.specs.Tokens.{Tok, Word, Number, Sign, NoToken}
@@ -19,32 +19,32 @@ use Rattle.text_tokens.specs.Lexing.{BeginsWith, IsWord, AreDigits, IsBad}
 -- ---- classes of bytes, of which no two meet
 
 pub data Class : Type 0 where
-  Blank : Class
+  WhiteSpace : Class
   Letter : Class
   Digit : Class
   Minus : Class
   Other : Class
 
 abbrev pub class_of : ℕ → Class
-class_of b = if is_blank b then Blank else if is_letter b then Letter else if is_ascii_digit b then Digit else if b == 45 then Minus else Other
+class_of b = if is_white_space b then WhiteSpace else if is_letter b then Letter else if is_ascii_digit b then Digit else if b == 45 then Minus else Other
 
-pub blank_class : (b : ℕ) → is_blank b ≡ true → class_of b ≡ Blank
-blank_class b h = rw h refl
+pub white_space_class : (b : ℕ) → is_white_space b ≡ true → class_of b ≡ WhiteSpace
+white_space_class b h = rw h refl
 
-letter_not_blank : (b : ℕ) → is_letter b ≡ true → is_blank b ≡ false
-letter_not_blank b h = grind (arith, nat_tests)
+letter_not_white_space : (b : ℕ) → is_letter b ≡ true → is_white_space b ≡ false
+letter_not_white_space b h = grind (arith, nat_tests)
 
-digit_not_blank : (b : ℕ) → is_ascii_digit b ≡ true → is_blank b ≡ false
-digit_not_blank b h = grind (arith, nat_tests)
+digit_not_white_space : (b : ℕ) → is_ascii_digit b ≡ true → is_white_space b ≡ false
+digit_not_white_space b h = grind (arith, nat_tests)
 
 digit_not_letter : (b : ℕ) → is_ascii_digit b ≡ true → is_letter b ≡ false
 digit_not_letter b h = grind (arith, nat_tests)
 
 pub letter_class : (b : ℕ) → is_letter b ≡ true → class_of b ≡ Letter
-letter_class b h = rw (letter_not_blank b h, h) refl
+letter_class b h = rw (letter_not_white_space b h, h) refl
 
 pub digit_class : (b : ℕ) → is_ascii_digit b ≡ true → class_of b ≡ Digit
-digit_class b h = rw (digit_not_blank b h, digit_not_letter b h, h) refl
+digit_class b h = rw (digit_not_white_space b h, digit_not_letter b h, h) refl
 
 minus_class : (b : ℕ) → b ≡ 45 → class_of b ≡ Minus
 minus_class b h = rw h refl
@@ -67,7 +67,7 @@ no_digit b h = grind (arith, nat_tests)
 pub no_word_byte : (b : ℕ) → is_letter b ≡ false → is_ascii_digit b ≡ false → is_word_byte b ≡ false
 no_word_byte b h g = grind (arith, nat_tests)
 
-other_class : (b : ℕ) → is_blank b ≡ false → is_word_byte b ≡ false → b ≢ 45 → class_of b ≡ Other
+other_class : (b : ℕ) → is_white_space b ≡ false → is_word_byte b ≡ false → b ≢ 45 → class_of b ≡ Other
 other_class b h g k = rw (h, no_letter b g, no_digit b g, not_minus b k) refl
 
 word_class : (b : ℕ) → class_of b ≡ Other → is_word_byte b ≡ true → ⊥
@@ -81,9 +81,9 @@ false_from : (t : Bool) → (t ≡ true → ⊥) → t ≡ false
 false_from true h = absurd (h refl)
 false_from false h = refl
 
-pub other_parts : (b : ℕ) → class_of b ≡ Other → (is_blank b ≡ false) × (is_word_byte b ≡ false) × (b ≢ 45)
+pub other_parts : (b : ℕ) → class_of b ≡ Other → (is_white_space b ≡ false) × (is_word_byte b ≡ false) × (b ≢ 45)
 other_parts b h = (
-  false_from (is_blank b) (λ y. let bad : Blank ≡ Other = sym (blank_class b y) ∙ h in absurd cc),
+  false_from (is_white_space b) (λ y. let bad : WhiteSpace ≡ Other = sym (white_space_class b y) ∙ h in absurd cc),
   false_from (is_word_byte b) (word_class b h),
   λ e. let bad : Minus ≡ Other = sym (minus_class b e) ∙ h in absurd cc,
 )
@@ -238,7 +238,7 @@ abbrev pub token_class : Tok → Class
 token_class (Word w) = Letter
 token_class (Number n) = Digit
 token_class (Sign m) = Other
-token_class (NoToken b) = Blank
+token_class (NoToken b) = WhiteSpace
 
 pub begins_class : (t : Tok) (text rest : List ℕ) → BeginsWith t text rest → class_of (slice_index text 0) ≡ token_class t
 begins_class (Word w) text rest h = letter_class (slice_index text 0) (ap (λ (x : List ℕ). is_letter (slice_index x 0)) h.0 ∙ ap is_letter (first_of w rest (word_some w h.1)) ∙ h.1.0)
@@ -266,7 +266,7 @@ bad_begins bad.Unfinished text h =
       | inl half ↦ ap class_of (sym (first_of text half.1 half.3) ∙ ap (λ (x : List ℕ). slice_index x 0) (sym half.2)) ∙ mark_class half.0
       | inr open_one ↦ opens_class text open_one.0
     ]
-bad_begins bad.Stray text h = other_class (slice_index text 0) h.no_blank h.no_word h.no_minus
+bad_begins bad.Stray text h = other_class (slice_index text 0) h.no_white_space h.no_word h.no_minus
 
 -- nothing bad begins where the text stops
 pub bad_some : (b : Bad) → IsBad b [] → ⊥

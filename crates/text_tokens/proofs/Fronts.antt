@@ -8,7 +8,7 @@ use Rattle.std.proofs.lemmas.List.Folds.{length-prefix_len}
 use Rattle.std.proofs.lemmas.Slice.Eq.{starts_is}
 use Rattle.std.proofs.lemmas.Bool.Decides.{Decides-eqb}
 use Rattle.text_tokens.specs.declared.token.Mark.{Mark}
-use Rattle.text_tokens.specs.Bytes.{is_blank, is_letter, is_word_byte}
+use Rattle.text_tokens.specs.Bytes.{is_white_space, is_letter, is_word_byte}
 use Rattle.text_tokens.specs.Numbers.{value_at}
 use Rattle.text_tokens.specs.Marks.{mark_text, mark_from}
 use Rattle.text_tokens.specs.Tokens.{Word, Number}
@@ -87,7 +87,7 @@ stray_mark text m spelling some found is_text differs' long' =
     let parts = other_parts (slice_index text 0) (ap class_of (sym (mark_from_is (slice_index text 0) m found)) ∙ mark_class m) in
     record {
       some = some;
-      no_blank = parts.0;
+      no_white_space = parts.0;
       no_word = parts.1;
       no_minus = parts.2;
       no_mark = λ n rest is.
@@ -101,10 +101,10 @@ stray_mark text m spelling some found is_text differs' long' =
 some_mark_none : (m : Mark) → some_mark m ≡ None → ⊥
 some_mark_none m e = cc
 
-pub stray_byte : (text : List ℕ) → 0 < length text → is_blank (slice_index text 0) ≡ false → is_word_byte (slice_index text 0) ≡ false → slice_index text 0 ≢ 45 → mark_from (slice_index text 0) ≡ None → IsStray text
-stray_byte text some no_blank no_word no_minus none = record {
+pub stray_byte : (text : List ℕ) → 0 < length text → is_white_space (slice_index text 0) ≡ false → is_word_byte (slice_index text 0) ≡ false → slice_index text 0 ≢ 45 → mark_from (slice_index text 0) ≡ None → IsStray text
+stray_byte text some no_white_space no_word no_minus none = record {
   some = some;
-  no_blank = no_blank;
+  no_white_space = no_white_space;
   no_word = no_word;
   no_minus = no_minus;
   no_mark = λ n rest is.

@@ -2,6 +2,7 @@ pub mod Prefixes
 pub mod NumberLaws
 pub mod CommentLaws
 pub mod SpaceLaws
+pub mod StepLaws
 pub mod FirstBytes
 pub mod Fronts
 pub mod OneReading

@@ -1,5 +1,5 @@
 -- Decimal numbers and their digits.
-use Rattle.std.proofs.Common.{◌≡◌, ℕ, ◌<◌, ◌≤◌, ◌+◌, ◌*◌, ◌-◌, ◌==◌, ◌||◌, ◌^◌, Bool, true, false, List, length, get_or, take, Option, Some, None, refl, sym, ap, ◌∙◌, arith, rules, inl, inr, cond}
+use Rattle.std.proofs.Common.{◌≡◌, ℕ, ◌<◌, ◌≤◌, ◌+◌, ◌*◌, ◌-◌, ◌==◌, ◌||◌, ◌^◌, true, false, List, length, get_or, take, Option, Some, None, refl, sym, ap, ◌∙◌, arith, rules, inl, inr}
 use Rattle.std.specs.Prelude.{min, nat_le, not, IfSome}
 use Rattle.std.specs.List.{list_all}
 use Rattle.std.specs.Char.{is_ascii_digit, digit_value}
@@ -14,6 +14,7 @@ use Rattle.std.proofs.lemmas.Bool.Decides.{nat_tests}
 use Rattle.std.proofs.lemmas.Int.Digits.{digits_value_more}
 use Rattle.std.proofs.lemmas.Fmt.{digits_decimal, digits_value-decimal, decimal-digits_value, decimal_nonempty, first_decimal, decimal_digit}
 use Rattle.text_tokens.specs.Numbers.{is_plain, value_at, plain_number_at}
+use Rattle.text_tokens.proofs.StepLaws.{let_through, not_passed}
 
 pub own : IsNumeralModel (λ ds. list_all is_ascii_digit ds ≡ true) (digits_value 10)
 own = numerals_by_value _ (search rules)
@@ -50,15 +51,11 @@ plain_decimal n lt = record {
 abbrev pub none_of : Option ℕ
 none_of = None
 
-by_test : (b : Bool) (o : Option ℕ) (n : ℕ) → cond b o None ≡ Some n → (b ≡ true) × (o ≡ Some n)
-by_test true o n e = (refl, e)
-by_test false o n e = absurd cc
-
 -- the number that is read is written so
 pub plain_number_takes : (limit n : ℕ) (ds : List ℕ) → limit < 2 ^ 64 → plain_number_at limit ds ≡ Some n → (ds ≡ decimal n) × (n ≤ limit)
 unfolding plain_number_at
 plain_number_takes limit n ds fits e =
-    let p = by_test (is_plain ds) (value_at limit ds) n e in
+    let p = let_through (is_plain ds) (value_at limit ds) n e in
     let v = cond_some (nat_le (digits_value 10 ds) limit) (digits_value 10 ds) n p.1 in
     let parts = plain_parts ds p.0 in
     let small : digits_value 10 ds ≤ limit = leb-true _ _ v.0 in
@@ -91,16 +88,12 @@ value_found limit n ds e =
     let small : digits_value 10 ds ≤ limit = leb-true _ _ v.0 in
     (sym v.1, omega arith)
 
-none_by_test : (b : Bool) (n : ℕ) → cond b (Some n) None ≡ None → b ≡ false
-none_by_test true n e = absurd cc
-none_by_test false n e = refl
-
 pub value_past : (limit : ℕ) (ds : List ℕ) → value_at limit ds ≡ None → limit < digits_value 10 ds
 value_past limit ds e =
-    let past : nat_le (digits_value 10 ds) limit ≡ false = none_by_test (nat_le (digits_value 10 ds) limit) (digits_value 10 ds) e in
+    let past : nat_le (digits_value 10 ds) limit ≡ false = not_passed (nat_le (digits_value 10 ds) limit) (digits_value 10 ds) e in
     grind (arith, nat_tests)
 
--- ---- what `plain_number_up_to` answers
+-- ---- what `plain_number` answers
 
 plain_then : (limit : ℕ) (ds : List ℕ) → is_plain ds ≡ true → plain_number_at limit ds ≡ value_at limit ds
 unfolding plain_number_at

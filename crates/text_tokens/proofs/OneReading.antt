@@ -7,15 +7,15 @@ use Rattle.std.proofs.lemmas.List.{append-nil, length-append, drop_at}
 use Rattle.text_tokens.specs.declared.token.Mark.{Mark}
 use Rattle.text_tokens.specs.declared.token.Bad.{Bad}
 use Rattle.text_tokens.specs.declared.token.Bad.TheVariants as bad
-use Rattle.text_tokens.specs.Bytes.{is_blank, is_letter, is_word_byte}
+use Rattle.text_tokens.specs.Bytes.{is_white_space, is_letter, is_word_byte}
 use Rattle.text_tokens.specs.declared.token.Mark.TheVariants.{OpenParen}
 use Rattle.text_tokens.specs.Marks.{mark_text}
 use Rattle.text_tokens.specs.Comments.{opens, IsComment}
 use Rattle.text_tokens.proofs.CommentLaws.{short_opens, Inside-one}
 use Rattle.text_tokens.specs.Tokens.{Tok, Word, Number, Sign, NoToken, AreAllTokens}
-use Rattle.text_tokens.specs.Lexing.{BeginsWith, BeginsWithAll, none, blank, comment, token, Lexes, IsBad, IsBadNumber, IsHalf, IsStray, LexesTo}
+use Rattle.text_tokens.specs.Lexing.{BeginsWith, BeginsWithAll, none, white_space, comment, token, Lexes, IsBad, IsBadNumber, IsHalf, IsStray, LexesTo}
 use Rattle.text_tokens.proofs.Prefixes.{same_prefix}
-use Rattle.text_tokens.proofs.FirstBytes.{Blank, Letter, Digit, Minus, Other, blank_class, no_digit, no_letter, token_class, begins_class, begins_some, bad_class, bad_begins, bad_some, one_mark, mark_short, opens_paren, opens_class}
+use Rattle.text_tokens.proofs.FirstBytes.{WhiteSpace, Letter, Digit, Minus, Other, white_space_class, no_digit, no_letter, token_class, begins_class, begins_some, bad_class, bad_begins, bad_some, one_mark, mark_short, opens_paren, opens_class}
 
 -- ---- one token
 
@@ -51,20 +51,20 @@ same_token (Sign m) (NoToken b) text rest others h g = absurd g
 same_token (NoToken b) u text rest others h g = absurd h
 
 -- no token begins with white space
-not_blank : (t : Tok) (b : ℕ) (text rest : List ℕ) → is_blank b ≡ true → BeginsWith t (b ∷ text) rest → ⊥
-not_blank (Word w) b text rest h k = let e : Blank ≡ Letter = sym (blank_class b h) ∙ begins_class (Word w) (b ∷ text) rest k in cc
-not_blank (Number n) b text rest h k = let e : Blank ≡ Digit = sym (blank_class b h) ∙ begins_class (Number n) (b ∷ text) rest k in cc
-not_blank (Sign m) b text rest h k = let e : Blank ≡ Other = sym (blank_class b h) ∙ begins_class (Sign m) (b ∷ text) rest k in cc
-not_blank (NoToken c) b text rest h k = k
+not_white_space : (t : Tok) (b : ℕ) (text rest : List ℕ) → is_white_space b ≡ true → BeginsWith t (b ∷ text) rest → ⊥
+not_white_space (Word w) b text rest h k = let e : WhiteSpace ≡ Letter = sym (white_space_class b h) ∙ begins_class (Word w) (b ∷ text) rest k in cc
+not_white_space (Number n) b text rest h k = let e : WhiteSpace ≡ Digit = sym (white_space_class b h) ∙ begins_class (Number n) (b ∷ text) rest k in cc
+not_white_space (Sign m) b text rest h k = let e : WhiteSpace ≡ Other = sym (white_space_class b h) ∙ begins_class (Sign m) (b ∷ text) rest k in cc
+not_white_space (NoToken c) b text rest h k = k
 
 -- ---- what is bad
 
 -- nothing bad is white space
-bad_not_blank : (k : Bad) (b : ℕ) (text : List ℕ) → is_blank b ≡ true → IsBad k (b ∷ text) → ⊥
-bad_not_blank bad.Number b text h k = let e : Blank ≡ Digit = sym (blank_class b h) ∙ bad_begins bad.Number (b ∷ text) k in cc
-bad_not_blank bad.Minus b text h k = let e : Blank ≡ Minus = sym (blank_class b h) ∙ bad_begins bad.Minus (b ∷ text) k in cc
-bad_not_blank bad.Unfinished b text h k = let e : Blank ≡ Other = sym (blank_class b h) ∙ bad_begins bad.Unfinished (b ∷ text) k in cc
-bad_not_blank bad.Stray b text h k = let e : Blank ≡ Other = sym (blank_class b h) ∙ bad_begins bad.Stray (b ∷ text) k in cc
+bad_not_white_space : (k : Bad) (b : ℕ) (text : List ℕ) → is_white_space b ≡ true → IsBad k (b ∷ text) → ⊥
+bad_not_white_space bad.Number b text h k = let e : WhiteSpace ≡ Digit = sym (white_space_class b h) ∙ bad_begins bad.Number (b ∷ text) k in cc
+bad_not_white_space bad.Minus b text h k = let e : WhiteSpace ≡ Minus = sym (white_space_class b h) ∙ bad_begins bad.Minus (b ∷ text) k in cc
+bad_not_white_space bad.Unfinished b text h k = let e : WhiteSpace ≡ Other = sym (white_space_class b h) ∙ bad_begins bad.Unfinished (b ∷ text) k in cc
+bad_not_white_space bad.Stray b text h k = let e : WhiteSpace ≡ Other = sym (white_space_class b h) ∙ bad_begins bad.Stray (b ∷ text) k in cc
 
 bads_alike : (b c : Bad) (text : List ℕ) → IsBad b text → IsBad c text → bad_class b ≡ bad_class c
 bads_alike b c text h g = sym (bad_begins b text h) ∙ bad_begins c text g
@@ -141,8 +141,8 @@ bad_not_comment bad.Unfinished text rest h k =
 bad_not_comment bad.Stray text rest h k = stray_not_opens text h k.0
 
 -- no comment is white space
-comment_not_blank : (b : ℕ) (text rest : List ℕ) → is_blank b ≡ true → IsComment (b ∷ text) rest → ⊥
-comment_not_blank b text rest h k = let e : Blank ≡ Other = sym (blank_class b h) ∙ opens_class (b ∷ text) k.0 in cc
+comment_not_white_space : (b : ℕ) (text rest : List ℕ) → is_white_space b ≡ true → IsComment (b ∷ text) rest → ⊥
+comment_not_white_space b text rest h k = let e : WhiteSpace ≡ Other = sym (white_space_class b h) ∙ opens_class (b ∷ text) k.0 in cc
 
 -- no comment is a token
 comment_not_token : (t : Tok) (text rest others : List ℕ) → IsComment text rest → BeginsWith t text others → ⊥
@@ -174,39 +174,39 @@ same_bad bad.Stray bad.Stray text h g = refl
 
 -- neither white space, a comment nor a token stands here
 pub record IsEnd (rest : List ℕ) : Type 0 where
-  pub no_blank : (b : ℕ) (text : List ℕ) → is_blank b ≡ true → rest ≡ b ∷ text → ⊥
+  pub no_white_space : (b : ℕ) (text : List ℕ) → is_white_space b ≡ true → rest ≡ b ∷ text → ⊥
   pub no_comment : (others : List ℕ) → IsComment rest others → ⊥
   pub no_token : (t : Tok) (others : List ℕ) → BeginsWith t rest others → ⊥
 
 text_end : IsEnd []
 text_end = record {
-  no_blank = λ b text h e. cc;
+  no_white_space = λ b text h e. cc;
   no_comment = λ others k. let e : false ≡ true = k.0 in cc;
   no_token = λ t others h. omega (arith, begins_some t [] others h);
 }
 
 bad_end : (b : Bad) (rest : List ℕ) → IsBad b rest → IsEnd rest
 bad_end b rest h = record {
-  no_blank = λ x text k e. bad_not_blank b x text k (rw e at h);
+  no_white_space = λ x text k e. bad_not_white_space b x text k (rw e at h);
   no_comment = λ others k. bad_not_comment b rest others h k;
   no_token = λ t others k. bad_not_token b t rest others h k;
 }
 
 end_off : (ts : List Tok) (text rest : List ℕ) → IsEnd text → BeginsWithAll ts text rest → (ts ≡ []) × (text ≡ rest)
 end_off ts text rest end none = (refl, refl)
-end_off ts (b ∷ text) rest end (blank k l) = absurd (end.no_blank b text k refl)
+end_off ts (b ∷ text) rest end (white_space k l) = absurd (end.no_white_space b text k refl)
 end_off ts text rest end (comment {others = others} k l) = absurd (end.no_comment others k)
 end_off ts text rest end (token {t = t} {others = others} k l) = absurd (end.no_token t others k)
 
-blank_off : (b : ℕ) (ts : List Tok) (text rest : List ℕ) → IsEnd rest → is_blank b ≡ true → BeginsWithAll ts (b ∷ text) rest → BeginsWithAll ts text rest
-blank_off b ts text rest end h none = absurd (end.no_blank b text h refl)
-blank_off b ts text rest end h (blank k l) = l
-blank_off b ts text rest end h (comment {others = others} k l) = absurd (comment_not_blank b text others h k)
-blank_off b ts text rest end h (token {t = t} {others = others} k l) = absurd (not_blank t b text others h k)
+white_space_off : (b : ℕ) (ts : List Tok) (text rest : List ℕ) → IsEnd rest → is_white_space b ≡ true → BeginsWithAll ts (b ∷ text) rest → BeginsWithAll ts text rest
+white_space_off b ts text rest end h none = absurd (end.no_white_space b text h refl)
+white_space_off b ts text rest end h (white_space k l) = l
+white_space_off b ts text rest end h (comment {others = others} k l) = absurd (comment_not_white_space b text others h k)
+white_space_off b ts text rest end h (token {t = t} {others = others} k l) = absurd (not_white_space t b text others h k)
 
 token_off : (t : Tok) (ts : List Tok) (text others rest : List ℕ) → IsEnd rest → BeginsWith t text others → BeginsWithAll ts text rest → (us : List Tok) × (ts ≡ t ∷ us) × BeginsWithAll us others rest
 token_off t ts text others rest end h none = absurd (end.no_token t others h)
-token_off t ts (b ∷ text) others rest end h (blank k l) = absurd (not_blank t b text others k h)
+token_off t ts (b ∷ text) others rest end h (white_space k l) = absurd (not_white_space t b text others k h)
 token_off t ts text others rest end h (comment {others = more} k l) = absurd (comment_not_token t text more others k h)
 token_off t ts text others rest end h (token {t = u} {ts = us} {others = more} k l) =
     let same = same_token t u text others more h k in
@@ -214,7 +214,7 @@ token_off t ts text others rest end h (token {t = u} {ts = us} {others = more} k
 
 comment_off : (ts : List Tok) (text others rest : List ℕ) → IsEnd rest → IsComment text others → BeginsWithAll ts text rest → BeginsWithAll ts others rest
 comment_off ts text others rest end h none = absurd (end.no_comment others h)
-comment_off ts (b ∷ text) others rest end h (blank k l) = absurd (comment_not_blank b text others k h)
+comment_off ts (b ∷ text) others rest end h (white_space k l) = absurd (comment_not_white_space b text others k h)
 comment_off ts text others rest end h (comment {others = more} k l) =
     let same : more ≡ others = Inside-one (drop 2 text) more others k.1 h.1 in
     rw (← same) l
@@ -223,7 +223,7 @@ comment_off ts text others rest end h (token {t = t} {others = more} k l) = absu
 -- the tokens up to an end, and that end, are the only ones
 one_way : (ts us : List Tok) (text rest others : List ℕ) → IsEnd rest → IsEnd others → BeginsWithAll ts text rest → BeginsWithAll us text others → (ts ≡ us) × (rest ≡ others)
 one_way ts us text rest others end other none m = let e = end_off us text others end m in (sym e.0, e.1)
-one_way ts us (b ∷ text) rest others end other (blank k l) m = one_way ts us text rest others end other l (blank_off b us text others other k m)
+one_way ts us (b ∷ text) rest others end other (white_space k l) m = one_way ts us text rest others end other l (white_space_off b us text others other k m)
 one_way ts us text rest others end other (comment {others = middle} k l) m = one_way ts us middle rest others end other l (comment_off us text middle others other k m)
 one_way ts us text rest others end other (token {t = t} {ts = vs} {others = middle} k l) m =
     let first = token_off t us text middle others other k m in
@@ -234,12 +234,12 @@ one_way ts us text rest others end other (token {t = t} {ts = vs} {others = midd
 
 then_all : (ts us : List Tok) (text middle rest : List ℕ) → BeginsWithAll ts text middle → BeginsWithAll us middle rest → BeginsWithAll (ts ++ us) text rest
 then_all ts us text middle rest none l = l
-then_all ts us (b ∷ text) middle rest (blank k m) l = blank k (then_all ts us text middle rest m l)
+then_all ts us (b ∷ text) middle rest (white_space k m) l = white_space k (then_all ts us text middle rest m l)
 then_all ts us text middle rest (comment {others = others} k m) l = comment k (then_all ts us others middle rest m l)
 then_all ts us text middle rest (token {t = t} {ts = vs} {others = others} k m) l = token k (then_all vs us others middle rest m l)
 
-pub blank_more : (ts : List Tok) (text rest after : List ℕ) (b : ℕ) → BeginsWithAll ts text rest → is_blank b ≡ true → rest ≡ b ∷ after → BeginsWithAll ts text after
-blank_more ts text rest after b l h is = rw append-nil at (then_all ts [] text rest after l (rw is (blank h none)))
+pub white_space_more : (ts : List Tok) (text rest after : List ℕ) (b : ℕ) → BeginsWithAll ts text rest → is_white_space b ≡ true → rest ≡ b ∷ after → BeginsWithAll ts text after
+white_space_more ts text rest after b l h is = rw append-nil at (then_all ts [] text rest after l (rw is (white_space h none)))
 
 pub comment_more : (ts : List Tok) (text rest after : List ℕ) → BeginsWithAll ts text rest → IsComment rest after → BeginsWithAll ts text after
 comment_more ts text rest after l h = rw append-nil at (then_all ts [] text rest after l (comment h none))
@@ -300,7 +300,7 @@ whole_one (NoToken b) ts text rest h i = absurd h
 
 all_whole : (ts : List Tok) (text rest : List ℕ) → BeginsWithAll ts text rest → AreAllTokens ts
 all_whole ts text rest none = tt
-all_whole ts (b ∷ text) rest (blank k l) = all_whole ts text rest l
+all_whole ts (b ∷ text) rest (white_space k l) = all_whole ts text rest l
 all_whole ts text rest (comment {others = others} k l) = all_whole ts others rest l
 all_whole ts text rest (token {t = t} {ts = us} {others = others} k l) = whole_one t us text others k (all_whole us others rest l)
 

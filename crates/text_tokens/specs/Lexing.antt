@@ -6,7 +6,7 @@ use Rattle.std.specs.Str.Parse.{digits_value}
 use Rattle.text_tokens.specs.declared.token.Mark.{Mark}
 use Rattle.text_tokens.specs.declared.token.Bad.{Bad}
 use Rattle.text_tokens.specs.declared.token.Bad.TheVariants as bad
-use Rattle.text_tokens.specs.Bytes.{is_blank, is_letter, is_word_byte}
+use Rattle.text_tokens.specs.Bytes.{is_white_space, is_letter, is_word_byte}
 use Rattle.text_tokens.specs.Marks.{mark_text}
 use Rattle.text_tokens.specs.Comments.{opens, IsComment}
 use Rattle.text_tokens.specs.Tokens.{Tok, Word, Number, Sign, NoToken}
@@ -33,7 +33,7 @@ BeginsWith (NoToken b) text rest = ⊥
 -- The text is these tokens, with white space and comments anywhere between them, and then the rest.
 pub data BeginsWithAll : List Tok → List ℕ → List ℕ → Type 0 where
   none : {rest : List ℕ} → BeginsWithAll [] rest rest
-  blank : {b : ℕ} {ts : List Tok} {text rest : List ℕ} → is_blank b ≡ true → BeginsWithAll ts text rest → BeginsWithAll ts (b ∷ text) rest
+  white_space : {b : ℕ} {ts : List Tok} {text rest : List ℕ} → is_white_space b ≡ true → BeginsWithAll ts text rest → BeginsWithAll ts (b ∷ text) rest
   comment : {ts : List Tok} {text others rest : List ℕ} → IsComment text others → BeginsWithAll ts others rest → BeginsWithAll ts text rest
   token : {t : Tok} {ts : List Tok} {text others rest : List ℕ} → BeginsWith t text others → BeginsWithAll ts others rest → BeginsWithAll (t ∷ ts) text rest
 
@@ -57,7 +57,7 @@ StaysOpen text = (opens text ≡ true) × ((rest : List ℕ) → IsComment text 
 -- a byte with which nothing else begins
 pub record IsStray (text : List ℕ) : Type 0 where
   pub some : 0 < length text
-  pub no_blank : is_blank (slice_index text 0) ≡ false
+  pub no_white_space : is_white_space (slice_index text 0) ≡ false
   pub no_word : is_word_byte (slice_index text 0) ≡ false
   pub no_minus : slice_index text 0 ≢ 45
   pub no_mark : (m : Mark) (rest : List ℕ) → text ≡ mark_text m ++ rest → ⊥

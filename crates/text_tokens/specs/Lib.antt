@@ -3,6 +3,7 @@ pub mod Numbers
 pub mod Marks
 pub mod Comments
 pub mod Space
+pub mod Steps
 pub mod Tokens
 pub mod Lexing
 pub mod Front

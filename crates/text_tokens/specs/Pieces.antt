@@ -1,7 +1,7 @@
 -- Texts in pieces: tokens, and the white space between them.
 use Rattle.std.specs.Prelude.{◌≡◌, ◌≤◌, ℕ, true, false, List, [], ◌∷◌, ◌++◌}
 use Rattle.std.specs.Fmt.{decimal}
-use Rattle.text_tokens.specs.Bytes.{is_blank}
+use Rattle.text_tokens.specs.Bytes.{is_white_space}
 use Rattle.text_tokens.specs.Marks.{mark_text}
 use Rattle.text_tokens.specs.Comments.{opens}
 use Rattle.text_tokens.specs.Tokens.{Tok, Word, Number, Sign, NoToken}
@@ -9,7 +9,7 @@ use Rattle.text_tokens.specs.Lexing.{IsWord, NoWordGoesOn}
 
 -- a byte of white space, or a token
 pub data Piece : Type 0 where
-  Gap : ℕ → Piece
+  Space : ℕ → Piece
   Part : Tok → Piece
 
 -- how a token is written, a number without leading zeros
@@ -21,7 +21,7 @@ token_text (NoToken b) = []
 
 -- how a piece is written
 abbrev pub piece_text : Piece → List ℕ
-piece_text (Gap b) = b ∷ []
+piece_text (Space b) = b ∷ []
 piece_text (Part t) = token_text t
 
 -- the text of the pieces, one after the other
@@ -32,7 +32,7 @@ text_of (p ∷ ps) = piece_text p ++ text_of ps
 -- the tokens among the pieces
 abbrev pub tokens_of : List Piece → List Tok
 tokens_of [] = []
-tokens_of (Gap b ∷ ps) = tokens_of ps
+tokens_of (Space b ∷ ps) = tokens_of ps
 tokens_of (Part t ∷ ps) = t ∷ tokens_of ps
 
 -- the token can be written before this text: a word or a number does not run into it, and `(` does not begin a comment with it
@@ -45,7 +45,7 @@ CanStand (NoToken b) rest = ⊥
 -- the pieces can be written before this text, one after the other
 abbrev pub AreApartBefore : List Piece → List ℕ → Type 0
 AreApartBefore [] rest = Unit {0}
-AreApartBefore (Gap b ∷ ps) rest = (is_blank b ≡ true) × AreApartBefore ps rest
+AreApartBefore (Space b ∷ ps) rest = (is_white_space b ≡ true) × AreApartBefore ps rest
 AreApartBefore (Part t ∷ ps) rest = CanStand t (text_of ps ++ rest) × AreApartBefore ps rest
 
 -- the pieces can be written one after the other

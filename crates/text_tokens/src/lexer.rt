@@ -10,7 +10,7 @@ ghost use Rattle.text_tokens.specs.Tokens.{Tok, tok, toks, AreAllTokens};
 ghost use Rattle.text_tokens.specs.Lexing.{Lexes, LexesTo};
 ghost use Rattle.text_tokens.specs.Front.{IsFront, lexeme_tok};
 
-use crate::bytes::{is_blank, is_letter, is_word_byte};
+use crate::bytes::{digits_len, is_letter, is_white_space, is_word_byte};
 use crate::comment::{after_comment, opens, skip};
 use crate::numbers::value_up_to;
 use crate::token::{Bad, Mark, Token};
@@ -57,7 +57,7 @@ enum Lexeme<'a> {
 /// What stands at the front of a text, and what follows it: white space or a comment, a token, or neither.
 #[derive(Clone, Copy, Debug)]
 enum Front<'a> {
-    Blank(&'a [u8]),
+    Space(&'a [u8]),
     Token(Lexeme<'a>, &'a [u8]),
     Bad(Bad),
 }
@@ -78,17 +78,6 @@ fn word_len(bytes: &[u8]) -> usize
     ensures within { result ≤ length bytes.now }
 {
     bytes.iter().take_while(|byte| is_word_byte(**byte)).count()
-}
-
-/// How many digits the text begins with.
-fn digits_len(bytes: &[u8]) -> usize
-    ensures value { result ≡ prefix_len is_ascii_digit bytes.now }
-    ensures within { result ≤ length bytes.now }
-{
-    bytes
-        .iter()
-        .take_while(|byte| byte.is_ascii_digit())
-        .count()
 }
 
 fn begins_with_letter(bytes: &[u8]) -> bool
@@ -138,8 +127,8 @@ fn number_front(bytes: &[u8]) -> Front<'_>
     if begins_with_letter(rest) {
         return Front::Bad(Bad::Number);
     }
-    match value_up_to(u32::MAX, digits) {
-        Some(number) => Front::Token(Lexeme::Number(number), rest),
+    match value_up_to(u32::MAX as u64, digits) {
+        Some(number) => Front::Token(Lexeme::Number(number as u32), rest),
         None => Front::Bad(Bad::Number),
     }
 }
@@ -151,7 +140,7 @@ fn comment_front(bytes: &[u8]) -> Front<'_>
     ensures { IsFront bytes.now result }
 {
     match after_comment(skip(bytes, 2)) {
-        Some(rest) => Front::Blank(rest),
+        Some(rest) => Front::Space(rest),
         None => Front::Bad(Bad::Unfinished),
     }
 }
@@ -177,8 +166,8 @@ fn front_of(bytes: &[u8]) -> Front<'_>
     ensures { IsFront bytes.now result }
 {
     let first = bytes[0];
-    if is_blank(first) {
-        Front::Blank(bytes.split_at(1).1)
+    if is_white_space(first) {
+        Front::Space(bytes.split_at(1).1)
     } else if is_letter(first) {
         word_front(bytes)
     } else if first.is_ascii_digit() {
@@ -227,7 +216,7 @@ pub fn lex(alloc: Global, bytes: &[u8], first_line: u32) -> Result<Tokens, Alloc
     let mut rest = bytes;
     while !rest.is_empty() {
         match front_of(rest) {
-            Front::Blank(after) => {
+            Front::Space(after) => {
                 let skipped = rest.len().saturating_sub(after.len());
                 line = line_after(rest.split_at(skipped).0, line);
                 rest = after;

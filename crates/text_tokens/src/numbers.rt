@@ -6,12 +6,7 @@ ghost use Rattle.std.specs.Char.{is_ascii_digit};
 ghost use Rattle.std.specs.Fmt.{decimal};
 ghost use Rattle.text_tokens.specs.Numbers.{is_plain, value_at, plain_number_at};
 
-/// Whether the bytes are digits alone.
-fn are_digits(bytes: &[u8]) -> bool
-    ensures { result ≡ list_all is_ascii_digit bytes.now }
-{
-    bytes.iter().all(|byte| byte.is_ascii_digit())
-}
+use crate::bytes::are_digits;
 
 /// Whether the bytes are digits, at least one, without leading zeros.
 fn is_plain(bytes: &[u8]) -> bool
@@ -21,17 +16,18 @@ fn is_plain(bytes: &[u8]) -> bool
 }
 
 /// The value of digits, where it is at most the limit, however many they are. No digits are 0.
-pub fn value_up_to(limit: u32, digits: &[u8]) -> Option<u32>
+pub fn value_up_to(limit: u64, digits: &[u8]) -> Option<u64>
     requires { IsTrue (list_all is_ascii_digit digits.now) }
-    ensures { result ≡ value_at limit digits.now }
+    ensures value { result ≡ value_at limit digits.now }
+    ensures within { IfSome result (λ n. n ≤ limit) }
 {
-    let past = limit as u64 + 1;
-    let mut value: u64 = 0;
+    let past = limit as u128 + 1;
+    let mut value: u128 = 0;
     for digit in digits {
-        value = (value * 10 + u64::from(*digit - b'0')).min(past);
+        value = (value * 10 + u128::from(*digit - b'0')).min(past);
     }
     if value < past {
-        Some(value as u32)
+        Some(value as u64)
     } else {
         None
     }
@@ -39,7 +35,7 @@ pub fn value_up_to(limit: u32, digits: &[u8]) -> Option<u32>
 
 /// The number up to the limit that is written so: in decimal digits, at least one, without leading zeros.
 #[tactic(auto, unfolding(crate::specs::Numbers::plain_number_at))]
-pub fn plain_number_up_to(limit: u32, bytes: &[u8]) -> Option<u32>
+pub fn plain_number(limit: u64, bytes: &[u8]) -> Option<u64>
     ensures value { result ≡ plain_number_at limit bytes.now }
     ensures found { IfSome result (λ n. (n ≤ limit) × (bytes.now ≡ decimal n)) }
     ensures only { (n : ℕ) → n ≤ limit → bytes.now ≡ decimal n → result ≡ Some n }
@@ -49,4 +45,14 @@ pub fn plain_number_up_to(limit: u32, bytes: &[u8]) -> Option<u32>
     } else {
         None
     }
+}
+
+/// The same of 32 bits.
+pub fn plain_number_up_to(limit: u32, bytes: &[u8]) -> Option<u32>
+    ensures value { result ≡ plain_number_at limit bytes.now }
+    ensures found { IfSome result (λ n. (n ≤ limit) × (bytes.now ≡ decimal n)) }
+    ensures only { (n : ℕ) → n ≤ limit → bytes.now ≡ decimal n → result ≡ Some n }
+{
+    let number = plain_number(u64::from(limit), bytes)?;
+    Some(number as u32)
 }

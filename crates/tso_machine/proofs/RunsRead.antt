@@ -14,18 +14,18 @@ use Rattle.tso_machine.specs.declared.label.Label.TheVariants.{Exec, Flush}
 use Rattle.tso_machine.specs.RunTexts.{spelling, IsLabel, words, run_text}
 use Rattle.text_tokens.proofs.NumberLaws.{own}
 use Rattle.std.specs.Fmt.{decimal}
-use Rattle.text_tokens.specs.Bytes.{is_blank}
+use Rattle.text_tokens.specs.Bytes.{is_white_space}
 use Rattle.tso_machine.proofs.RunLabels.{word_of}
 
-digit_not_blank : (c : ℕ) → is_ascii_digit c ≡ true → is_blank c ≡ false
-digit_not_blank c h = grind (arith, nat_tests)
+digit_not_white_space : (c : ℕ) → is_ascii_digit c ≡ true → is_white_space c ≡ false
+digit_not_white_space c h = grind (arith, nat_tests)
 
-decimal_not_blank : (t : ℕ) → t < 256 → All (λ c. is_blank c ≡ false) (decimal t)
-decimal_not_blank t lt = All-weaker (λ c. is_ascii_digit c ≡ true) (λ c. is_blank c ≡ false) digit_not_blank (decimal t) (AllPass-from_list_all is_ascii_digit (decimal t) (digits_decimal own t (omega arith)))
+decimal_not_white_space : (t : ℕ) → t < 256 → All (λ c. is_white_space c ≡ false) (decimal t)
+decimal_not_white_space t lt = All-weaker (λ c. is_ascii_digit c ≡ true) (λ c. is_white_space c ≡ false) digit_not_white_space (decimal t) (AllPass-from_list_all is_ascii_digit (decimal t) (digits_decimal own t (omega arith)))
 
-spelling_not_blank : (l : Label) → IsLabel l → All (λ c. is_blank c ≡ false) (spelling l)
-spelling_not_blank (Exec t) fits = All-cons (λ c. is_blank c ≡ false) 101 (decimal t) refl (decimal_not_blank t fits)
-spelling_not_blank (Flush t) fits = All-cons (λ c. is_blank c ≡ false) 102 (decimal t) refl (decimal_not_blank t fits)
+spelling_not_white_space : (l : Label) → IsLabel l → All (λ c. is_white_space c ≡ false) (spelling l)
+spelling_not_white_space (Exec t) fits = All-cons (λ c. is_white_space c ≡ false) 101 (decimal t) refl (decimal_not_white_space t fits)
+spelling_not_white_space (Flush t) fits = All-cons (λ c. is_white_space c ≡ false) 102 (decimal t) refl (decimal_not_white_space t fits)
 
 spelling_is_word : (l : Label) → word_of (spelling l) ≡ true
 spelling_is_word (Exec t) = lt-ltb 0 (length (spelling (Exec t))) (omega arith)
@@ -34,9 +34,9 @@ spelling_is_word (Flush t) = lt-ltb 0 (length (spelling (Flush t))) (omega arith
 -- what was written is read again
 pub read_again : (ls : List Label) → AllByRecursion IsLabel ls → words (run_text ls) ≡ map spelling ls
 read_again [] fits = refl
-read_again (l ∷ []) fits = rw (slice_split_none is_blank (spelling l) (spelling_not_blank l fits.0), spelling_is_word l) refl
+read_again (l ∷ []) fits = rw (slice_split_none is_white_space (spelling l) (spelling_not_white_space l fits.0), spelling_is_word l) refl
 read_again (l ∷ m ∷ ls) fits =
-    rw (slice_split_at is_blank (spelling l) 32 (run_text (m ∷ ls)) (spelling_not_blank l fits.0) refl, spelling_is_word l) (ap (λ ws. spelling l ∷ ws) (read_again (m ∷ ls) fits.1))
+    rw (slice_split_at is_white_space (spelling l) 32 (run_text (m ∷ ls)) (spelling_not_white_space l fits.0) refl, spelling_is_word l) (ap (λ ws. spelling l ∷ ws) (read_again (m ∷ ls) fits.1))
 
 -- one more word behind those that are written
 join_more : (w : List ℕ) (ws : List (List ℕ)) → 0 < length ws → join_with_byte 32 (ws ++ w ∷ []) ≡ join_with_byte 32 ws ++ (32 ∷ w)

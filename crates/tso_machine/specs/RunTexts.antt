@@ -3,7 +3,7 @@ use Rattle.std.specs.Prelude.{◌≡◌, ◌≢◌, ◌==◌, ℕ, ◌<◌, List
 use Rattle.std.specs.Fmt.{decimal}
 use Rattle.std.specs.List.{AllByRecursion, slice_split, join_with_byte}
 use Rattle.std.specs.Global.{Vec}
-use Rattle.text_tokens.specs.Bytes.{is_blank}
+use Rattle.text_tokens.specs.Bytes.{is_white_space}
 use Rattle.text_tokens.specs.Numbers.{plain_number_at}
 use Rattle.tso_machine.specs.declared.label.Label.{Label}
 use Rattle.tso_machine.specs.declared.label.Label.TheVariants.{Exec, Flush}
@@ -22,7 +22,7 @@ IsLabel (Flush t) = t < 256
 
 -- the words of a text: its parts between white space, without the empty ones
 abbrev pub words : List ℕ → List (List ℕ)
-words text = filter (λ w. nat_lt 0 (length w)) (slice_split is_blank text)
+words text = filter (λ w. nat_lt 0 (length w)) (slice_split is_white_space text)
 
 -- the threads of the labels are in range, and the words of the text are the labels'
 pub record IsRunText (text : List ℕ) (labels : List Label) : Type 0 where

@@ -14,4 +14,4 @@ pub use laws::{
     all_shown_are_the_outcomes, examples_are_told, fences_are_avoided, runs_have_no_fault,
     the_first_fault_is_unique,
 };
-pub use run_text::{RunFault, read_run, write_run};
+pub use run_text::{RunFault, label_of, read_run, write_run};

@@ -1,7 +1,7 @@
 //! The text of a run.
 ghost use Rattle.std.specs.Prelude.{◌≡◌, List, IfOk, IfErr, OnOk, map, ◌++◌, string_bytes};
 ghost use Rattle.std.specs.List.{slice_split};
-ghost use Rattle.text_tokens.specs.Bytes.{is_blank};
+ghost use Rattle.text_tokens.specs.Bytes.{is_white_space};
 ghost use Rattle.text_tokens.specs.Numbers.{plain_number_at};
 ghost use Rattle.tso_machine.specs.declared.label.Label.{Label};
 ghost use Rattle.tso_machine.specs.declared.run_text.RunFault.TheVariants.{OutOfMemory};
@@ -9,7 +9,7 @@ ghost use Rattle.tso_machine.specs.RunTexts.{spelling, IsLabel, IsRunText, Gives
 
 use crate::Label;
 use std::alloc::{AllocError, AllocFailed, Global};
-use text_tokens::{is_blank, plain_number_up_to};
+use text_tokens::{is_white_space, plain_number_up_to};
 use thiserror::Error;
 
 /// Why a text is no run.
@@ -40,9 +40,9 @@ impl<T: Drop> From<AllocFailed<T>> for RunFault {
 
 /// The parts between white space, empty ones too.
 fn parts_of(alloc: Global, bytes: &[u8]) -> Result<Vec<&[u8]>, AllocError>
-    ensures { IfOk result (λ parts. map (λ part. part.now) parts.items ≡ slice_split is_blank bytes.now) }
+    ensures { IfOk result (λ parts. map (λ part. part.now) parts.items ≡ slice_split is_white_space bytes.now) }
 {
-    bytes.split(|b| is_blank(*b)).collect(alloc)
+    bytes.split(|b| is_white_space(*b)).collect(alloc)
 }
 
 /// The thread whose number is written so.
@@ -53,8 +53,9 @@ fn thread_of(digits: &[u8]) -> Option<u8>
     Some(number as u8)
 }
 
+/// The label that is spelled so.
 #[tactic(auto, unfolding(crate::specs::RunTexts::label_at))]
-fn label_of(word: &[u8]) -> Option<Label>
+pub fn label_of(word: &[u8]) -> Option<Label>
     ensures { result ≡ label_at word.now }
 {
     match word {

@@ -23,7 +23,7 @@ pub use items::Items;
 pub use laws::{a_part_is_shown_of_the_whole, places_are_distinct, what_is_shown_is_kept};
 pub use limits::{
     MAX_ACCESSES, MAX_FENCED_INSTRUCTIONS, MAX_INSTRUCTIONS, MAX_LOCATIONS, MAX_THREADS,
-    ProgramFault, limits_are_the_refusals,
+    MAX_WORKERS, ProgramFault, limits_are_the_refusals,
 };
 pub use listing::{Listing, Thread};
 pub use outcome::Outcome;

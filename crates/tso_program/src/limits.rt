@@ -1,4 +1,4 @@
-//! The limits of a program.
+//! The limits of a program, and of a search for its fences.
 ghost use Rattle.std.specs.Prelude.{◌≡◌, ◌≤◌, ◌<◌, length, All, IfSome, sum_by};
 ghost use Rattle.std.specs.List.{list_any};
 ghost use Rattle.tso_program.specs.Listings.{accesses_of, gaps_of_thread, gap_count};
@@ -21,6 +21,8 @@ pub const MAX_FENCED_INSTRUCTIONS: usize = 2 * MAX_INSTRUCTIONS - 1;
 pub const MAX_LOCATIONS: usize = 8;
 /// The most accesses of a program; an exchange is one.
 pub const MAX_ACCESSES: usize = 32;
+/// The most workers of a search.
+pub const MAX_WORKERS: u8 = 32;
 
 /// Why threads and initial values make no program: the first of these that applies.
 #[derive(Clone, Copy, PartialEq, Eq, Debug, Error)]
@@ -67,7 +69,7 @@ impl<T: Drop> From<AllocFailed<T>> for ProgramFault {
 }
 
 /// How many gaps a thread has.
-pub(crate) fn gaps_in(thread: &Thread) -> usize
+pub(crate) fn gaps_of_thread(thread: &Thread) -> usize
     ensures { result ≡ gaps_of_thread thread.now }
 {
     thread.code.len().saturating_sub(1)
@@ -180,7 +182,7 @@ pub(crate) fn all_gaps(threads: &[Thread]) -> usize
 {
     let mut total = 0;
     for thread in threads {
-        total += gaps_in(thread);
+        total += gaps_of_thread(thread);
     }
     total
 }

@@ -10,7 +10,7 @@ ghost use Rattle.tso_program.specs.declared.limits.ProgramFault.{ProgramFault};
 ghost use Rattle.tso_program.specs.declared.limits.ProgramFault.TheVariants.{OutOfMemory};
 
 use crate::action::{Action, Local, act};
-use crate::limits::{ProgramFault, all_gaps, broken_limit, gaps_in};
+use crate::limits::{ProgramFault, all_gaps, broken_limit, gaps_of_thread};
 use crate::{Instr, Items, Listing, Thread};
 use gap_sets::GapSet;
 use std::alloc::{AllocError, Global};
@@ -104,7 +104,7 @@ impl Program {
     {
         let mut left = gap as usize;
         for (t, thread) in self.threads().iter().enumerate() {
-            let gaps = gaps_in(thread);
+            let gaps = gaps_of_thread(thread);
             if left < gaps {
                 return Some((t as u8, (left + 1) as u8));
             }

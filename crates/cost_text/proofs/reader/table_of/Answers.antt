@@ -3,7 +3,7 @@ use Rattle.std.proofs.lemmas.List.{length-map, get_or-map}
 use Rattle.std.proofs.lemmas.Result.{err_from_is_err_and}
 use Rattle.cost_text.proofs.TextLaws.{first_table, blank_more, entry_more, refused_there, is_table, table_long}
 use Rattle.cost_text.proofs.reader.table_of.Goals as goal
-use Rattle.cost_text.proofs.reader.table_of.Goals.{then-not-are_around+in_ok-gap, else-not-are_around}
+use Rattle.cost_text.proofs.reader.table_of.Goals.{then-not-are_line_spaces+in_ok-gap, else-not-are_line_spaces}
 
 pub loop-index-init : goal.loop-index-init
 loop-index-init c = first_table c.args.program.now.threads c.in_ok-table.table.items (omega arith) (rw (← c.gaps.ensures.value) c.in_ok-table.ensures)
@@ -28,12 +28,12 @@ pub loop-index-preserved : goal.loop-index-preserved
 loop-index-preserved c =
     let below : c.loop-index.index < length c.args.lines.now = omega arith in
     let long : c.loop-index.index < length (map (λ line. line.now) c.args.lines.now) = omega (arith, length-map c.args.lines.now (λ line. line.now)) in
-    elim c.if-not-are_around.branch [
-      | then-not-are_around+in_ok-gap w ↦
+    elim c.if-not-are_line_spaces.branch [
+      | then-not-are_line_spaces+in_ok-gap w ↦
           rw w.table-is (entry_more c.args.program.now.threads (map (λ line. line.now) c.args.lines.now) c.loop-index.index _ c.loop-index.table.items (record { gap = w.in_ok-gap.gap; cost = w.in_ok-gap.cost }) long
           (sym (get_or-map (λ line. line.now) c.args.lines.now c.loop-index.index _ [] below)) c.loop-index.invariant
           (w.in_ok-gap.ensures.entry c.loop-index.invariant.entries (rw w.as_slice.ensures.value (is_table c.args.program.now.threads _ c.loop-index.table.items c.loop-index.invariant))))
-      | else-not-are_around w ↦
+      | else-not-are_line_spaces w ↦
           rw w.table-is (blank_more c.args.program.now.threads (map (λ line. line.now) c.args.lines.now) c.loop-index.index _ c.loop-index.table.items long
-          (sym (get_or-map (λ line. line.now) c.args.lines.now c.loop-index.index _ [] below)) (sym c.are_around.ensures ∙ w.if-not-are_around.false) c.loop-index.invariant)
+          (sym (get_or-map (λ line. line.now) c.args.lines.now c.loop-index.index _ [] below)) (sym c.are_line_spaces.ensures ∙ w.if-not-are_line_spaces.false) c.loop-index.invariant)
     ]

@@ -1,6 +1,6 @@
 use Rattle.std.proofs.Common.{ℕ, List, [], ◌≡◌, ◌∙◌, sym, subst, inl, inr, arith}
 use Rattle.std.proofs.lemmas.List.{nil_from_length}
-use Rattle.text_tokens.specs.Space.{IsBehindSpace}
+use Rattle.text_tokens.specs.Space.{IsAfterSpace}
 use Rattle.text_tokens.proofs.SpaceLaws.{empty_is}
 use Rattle.litmus_lines.specs.SkippedLines.{AreSkipped, line}
 use Rattle.litmus_lines.specs.Faults.{nothing, line as begins}
@@ -47,7 +47,7 @@ returns-clause-refused c =
     let none : c.loop-rest.rest.now ≡ [] = nil_from_length _ (grind arith) in (
       c.loop-rest.rest.now,
       c.loop-rest.invariant.begun,
-      inr ([], subst (IsBehindSpace c.loop-rest.rest.now) none (empty_is c.loop-rest.rest.now none), no_line_in_nothing, c.ended-2.ensures),
+      inr ([], subst (IsAfterSpace c.loop-rest.rest.now) none (empty_is c.loop-rest.rest.now none), no_line_in_nothing, c.ended-2.ensures),
     )
 
 pub returns-clause-only : goal.returns-clause-only

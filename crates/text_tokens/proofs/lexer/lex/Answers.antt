@@ -4,17 +4,17 @@ use Rattle.text_tokens.specs.Tokens.{toks}
 use Rattle.text_tokens.specs.Lexing.{none}
 use Rattle.text_tokens.specs.Front.{lexeme_tok}
 use Rattle.text_tokens.proofs.CommentLaws.{space_shorter}
-use Rattle.text_tokens.proofs.OneReading.{whole_text, only_whole, only_stopped, not_whole, blank_more, comment_more, token_more}
+use Rattle.text_tokens.proofs.OneReading.{whole_text, only_whole, only_stopped, not_whole, white_space_more, comment_more, token_more}
 use Rattle.text_tokens.proofs.lexer.lex.Goals as goal
 
 pub loop-rest-init : goal.loop-rest-init
 loop-rest-init c = rw c.new-tokens.ensures.items none
 
-pub loop-rest-preserved-in-Blank : goal.loop-rest-preserved-in-Blank
-loop-rest-preserved-in-Blank c =
-    elim c.in-Blank.ensures [
-      | inl b ↦ blank_more (toks c.loop-rest.tokens.items) c.args.bytes.now c.loop-rest.rest.now c.in-Blank.after.now b.0 c.loop-rest.invariant b.1 b.2
-      | inr k ↦ comment_more (toks c.loop-rest.tokens.items) c.args.bytes.now c.loop-rest.rest.now c.in-Blank.after.now c.loop-rest.invariant k
+pub loop-rest-preserved-in-Space : goal.loop-rest-preserved-in-Space
+loop-rest-preserved-in-Space c =
+    elim c.in-Space.ensures [
+      | inl b ↦ white_space_more (toks c.loop-rest.tokens.items) c.args.bytes.now c.loop-rest.rest.now c.in-Space.after.now b.0 c.loop-rest.invariant b.1 b.2
+      | inr k ↦ comment_more (toks c.loop-rest.tokens.items) c.args.bytes.now c.loop-rest.rest.now c.in-Space.after.now c.loop-rest.invariant k
     ]
 
 pub loop-rest-preserved : goal.loop-rest-preserved
@@ -42,5 +42,5 @@ returns-clause-only c = λ ts l. only_whole (toks c.loop-rest.tokens.items) ts c
 pub returns-clause-found : goal.returns-clause-found
 returns-clause-found c = λ whole. whole_text (toks c.loop-rest.tokens.items) c.args.bytes.now c.loop-rest.rest.now (nil_from_length _ (grind arith)) c.loop-rest.invariant
 
-pub loop-rest-smaller-in-Blank : goal.loop-rest-smaller-in-Blank
-loop-rest-smaller-in-Blank c = space_shorter c.loop-rest.rest.now c.in-Blank.after.now c.in-Blank.ensures
+pub loop-rest-smaller-in-Space : goal.loop-rest-smaller-in-Space
+loop-rest-smaller-in-Space c = space_shorter c.loop-rest.rest.now c.in-Space.after.now c.in-Space.ensures

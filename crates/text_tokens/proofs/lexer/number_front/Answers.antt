@@ -13,7 +13,7 @@ value_up_to-requires c = rw (c.split_at.ensures.front, c.digits_len.ensures.valu
 pub returns-in-Some : goal.returns-in-Some
 returns-in-Some c =
     number_begins c.args.bytes.now c.split_at.result.0.now c.split_at.result.1.now c.in-Some.number c.requires (c.split_at.ensures.front ∙ ap (λ n. take n c.args.bytes.now) c.digits_len.ensures.value)
-    (c.split_at.ensures.back ∙ ap (λ n. drop n c.args.bytes.now) c.digits_len.ensures.value) (sym c.begins_with_letter.ensures ∙ c.if-begins_with_letter.false) (sym c.in-Some.ensures)
+    (c.split_at.ensures.back ∙ ap (λ n. drop n c.args.bytes.now) c.digits_len.ensures.value) (sym c.begins_with_letter.ensures ∙ c.if-begins_with_letter.false) (sym c.in-Some.ensures.value)
 
 pub returns-in-None : goal.returns-in-None
-returns-in-None c = number_past c.args.bytes.now c.split_at.result.0.now c.requires (c.split_at.ensures.front ∙ ap (λ n. take n c.args.bytes.now) c.digits_len.ensures.value) (sym c.in-None.ensures)
+returns-in-None c = number_past c.args.bytes.now c.split_at.result.0.now c.requires (c.split_at.ensures.front ∙ ap (λ n. take n c.args.bytes.now) c.digits_len.ensures.value) (sym c.in-None.ensures.value)

@@ -1,17 +1,17 @@
-use Rattle.std.proofs.Common.{ℕ, List, ◌<◌, length, ◌∙◌, sym, arith}
-use Rattle.std.proofs.lemmas.List.{nil_from_length, length-drop}
+use Rattle.std.proofs.Common.{◌<◌, length, ◌∙◌, sym, arith}
+use Rattle.std.proofs.lemmas.List.{nil_from_length}
 use Rattle.text_tokens.specs.Space.{nothing, comment}
 use Rattle.text_tokens.proofs.CommentLaws.{comment_shorter}
-use Rattle.text_tokens.proofs.SpaceLaws.{blank_forth, blank_back, comment_back, other_back, empty_is}
+use Rattle.text_tokens.proofs.SpaceLaws.{white_space_forth, white_space_back, comment_back, other_back, empty_is}
 use Rattle.text_tokens.proofs.space.after_space.Goals as goal
 
-pub loop-rest-preserved-then-is_blank : goal.loop-rest-preserved-then-is_blank
-loop-rest-preserved-then-is_blank c =
+pub loop-rest-preserved-then-is_white_space : goal.loop-rest-preserved-then-is_white_space
+loop-rest-preserved-then-is_white_space c =
     let text = c.loop-rest.rest.now in
     let some : 0 < length text = grind arith in
     rw c.skip-rest.ensures record {
-      forth = λ end s. c.loop-rest.invariant.forth end (blank_forth text end some (sym c.is_blank.ensures ∙ c.if-is_blank.true) s);
-      back = λ end s. blank_back text end some (sym c.is_blank.ensures ∙ c.if-is_blank.true) (c.loop-rest.invariant.back end s);
+      forth = λ end s. c.loop-rest.invariant.forth end (white_space_forth text end some (sym c.is_white_space.ensures ∙ c.if-is_white_space.true) s);
+      back = λ end s. white_space_back text end some (sym c.is_white_space.ensures ∙ c.if-is_white_space.true) (c.loop-rest.invariant.back end s);
     }
 
 pub loop-rest-smaller : goal.loop-rest-smaller
@@ -29,11 +29,11 @@ loop-rest-preserved c =
 
 pub returns-else-opens-clause-some : goal.returns-else-opens-clause-some
 returns-else-opens-clause-some c =
-    c.loop-rest.invariant.forth c.loop-rest.rest.now (nothing (sym c.is_blank.ensures ∙ c.if-is_blank.false) (sym c.opens.ensures.value ∙ c.if-opens.false))
+    c.loop-rest.invariant.forth c.loop-rest.rest.now (nothing (sym c.is_white_space.ensures ∙ c.if-is_white_space.false) (sym c.opens.ensures.value ∙ c.if-opens.false))
 
 pub returns-else-opens-clause-only : goal.returns-else-opens-clause-only
 returns-else-opens-clause-only c end s =
-    other_back c.loop-rest.rest.now end (sym c.is_blank.ensures ∙ c.if-is_blank.false) (sym c.opens.ensures.value ∙ c.if-opens.false) (c.loop-rest.invariant.back end s)
+    other_back c.loop-rest.rest.now end (sym c.is_white_space.ensures ∙ c.if-is_white_space.false) (sym c.opens.ensures.value ∙ c.if-opens.false) (c.loop-rest.invariant.back end s)
 
 pub returns-clause-some : goal.returns-clause-some
 returns-clause-some c =

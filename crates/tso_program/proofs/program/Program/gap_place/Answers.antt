@@ -31,7 +31,7 @@ returns-then-left-gaps-clause-found c =
     let value : c.threads-thread-items.result.now ≡ threads = c.threads-thread-items.ensures.value in
     let P : List Thread → Type 0 = λ ts. (c.loop-t.t < length ts) × (c.thread-item.result ≡ get_or ts c.loop-t.t c.thread-item.result) in
     let facts = subst P value (c.loop-t-test.true, c.thread-item.is) in
-    only threads c.loop-t.t c.loop-t.left c.args.gap c.thread-item.result facts.0 facts.1 c.loop-t.invariant (omega (arith, c.gaps_in-gaps.ensures, c.if-left-gaps.true))
+    only threads c.loop-t.t c.loop-t.left c.args.gap c.thread-item.result facts.0 facts.1 c.loop-t.invariant (omega (arith, c.gaps_of_thread-gaps.ensures, c.if-left-gaps.true))
 
 pub returns-clause-found : goal.returns-clause-found
 returns-clause-found c =

@@ -1,8 +1,0 @@
-use Rattle.std.proofs.Common.{◌≡◌, ◌+◌, take}
-use Rattle.std.specs.Prelude.{min}
-use Rattle.std.specs.Str.Parse.{digits_value}
-use Rattle.cert_words.proofs.numbers.value_up_to.Given as goal
-
--- the value of the digits so far, or one more than the limit
-abbrev pub invariant-loop-digit : goal.invariant-loop-digit
-invariant-loop-digit l = l.value ≡ min (digits_value 10 (take l.digit-index l.digits)) (l.limit + 1)
