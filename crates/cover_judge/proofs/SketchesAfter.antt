@@ -11,7 +11,7 @@ use Rattle.fence_laws.proofs.ChangedAt.{put_same, put_other}
 use Rattle.exec_axioms.specs.declared.mode.Mode as own
 use Rattle.exec_axioms.specs.Parts.{Parts, mode_in, sketch_of, given_to, trace_in, first_parts, with_given}
 use Rattle.exec_axioms.specs.Kept.{IsLawful}
-use Rattle.exec_axioms.proofs.CoursesKept.{no_action}
+use Rattle.exec_axioms.proofs.TracesKept.{no_action}
 use Rattle.cover_judge.specs.declared.choice.Choice.{Choice}
 use Rattle.cover_judge.specs.declared.choice.Choice.TheVariants.{Value, Source, Order}
 use Rattle.cover_judge.specs.Choices.{sketch_with, parts_after, MayChoose}
