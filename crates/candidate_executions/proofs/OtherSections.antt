@@ -15,7 +15,7 @@ use Rattle.candidate_executions.specs.declared.access.Access.{Access}
 use Rattle.candidate_executions.specs.declared.event.Event.{Event}
 use Rattle.candidate_executions.specs.declared.event.Event.TheVariants.{Initial, Access as At}
 use Rattle.candidate_executions.specs.declared.event.Kind.TheVariants as union
-use Rattle.candidate_executions.specs.Traces.{Trace, load_of, store_of, exchange_of, after, entered, traced, trace, gaps_of}
+use Rattle.candidate_executions.specs.Traces.{Trace, load_of, store_of, exchange_of, with_access, entered, traced, trace, fenced_gaps}
 use Rattle.candidate_executions.specs.Candidates.{Candidate, trace_of, access, Writes, IsCandidate, HasOutcome}
 use Rattle.candidate_executions.specs.Consistency.{Relates, Edge, IsAcyclic}
 use Rattle.candidate_executions.specs.RunCandidates.{Mark, Takes, Arrives, ReadsValue, IsStored, ArriveInOrder}
@@ -32,7 +32,7 @@ record Alike (a b : Trace) : Type 0 where
   pub last : a.last ≡ b.last
   pub unused : a.unused ≡ b.unused
 
-alike_after : (x y : Access) (a b : Trace) → bare x ≡ bare y → Alike a b → Alike (after x a) (after y b)
+alike_after : (x y : Access) (a b : Trace) → bare x ≡ bare y → Alike a b → Alike (with_access x a) (with_access y b)
 alike_after x y a b e h = record { accesses = ap₂ (λ (z : Access) (zs : List Access). z ∷ zs) e h.accesses; last = h.last; unused = h.unused }
 
 module _ (does : Local → Action) (gap other : ℕ → Bool) where
@@ -53,7 +53,7 @@ module _ (does : Local → Action) (gap other : ℕ → Bool) where
 
 module _ (p : Listing) (c : Candidate) where
   threads_alike : (mode other : Mode) (t : ℕ) → Alike (trace_of p mode c t) (trace_of p other c t)
-  threads_alike mode other t = alike (action p.threads t) (gaps_of mode t) (gaps_of other t) (length (code_of p.threads t)) 0 0 (start_of p.threads t) (c.given t)
+  threads_alike mode other t = alike (action p.threads t) (fenced_gaps mode t) (fenced_gaps other t) (length (code_of p.threads t)) 0 0 (start_of p.threads t) (c.given t)
 
   accesses_alike : (mode other : Mode) (e : Event) → option_map bare (access p mode c e) ≡ option_map bare (access p other c e)
   accesses_alike mode other (Initial l) = refl

@@ -13,7 +13,7 @@ use Rattle.candidate_executions.specs.declared.event.Event.{Event}
 use Rattle.candidate_executions.specs.declared.event.Event.TheVariants.{Initial, Access as At}
 use Rattle.candidate_executions.specs.declared.event.Kind.{Kind}
 use Rattle.candidate_executions.specs.Candidates.{Candidate, access, access_by, IsCandidate, HasOutcome, HasShownOutcome}
-use Rattle.candidate_executions.specs.Consistency.{IsKept, Edge, IsCycle, IsConsistent}
+use Rattle.candidate_executions.specs.Consistency.{KeepsOrder, Edge, IsCycle, IsConsistent}
 use Rattle.candidate_executions.specs.Orders.{labels_along, IsOrder}
 use Rattle.candidate_executions.specs.RunCandidates.{IsCandidateOf}
 use Rattle.candidate_executions.specs.Paths.{path_of, LiesBetween}
@@ -59,7 +59,7 @@ SectionsTellFences = (p : Listing) (gaps : Gaps) (c : Candidate) (t i j : ℕ) (
 -- program order is kept but from a plain store to a plain load with no fence, no fenced gap and no exchange between them
 abbrev pub KeptOrderIsTold : Type 0
 KeptOrderIsTold = (p : Listing) (gaps : Gaps) (c : Candidate) (t i j : ℕ) (x y : Access) → AreInOrder p gaps c t i j x y →
-    IsKept x y ↔ (IsSome x.read ⊎ (IsSome y.written ⊎ LiesBetween (action p.threads t) (gaps t) (path_of p c t) i j))
+    KeepsOrder x y ↔ (IsSome x.read ⊎ (IsSome y.written ⊎ LiesBetween (action p.threads t) (gaps t) (path_of p c t) i j))
 
 -- no edge of any union leads into an initial write
 abbrev pub NoEdgeLeadsIntoInitial : Type 0

@@ -13,9 +13,9 @@ use Rattle.tso_program.specs.Shown.{Question, show, asked}
 use Rattle.tso_machine.specs.declared.label.Label.{Label}
 use Rattle.tso_machine.specs.declared.label.Model.{Model}
 use Rattle.tso_machine.specs.declared.label.Model.TheVariants as models
-use Rattle.tso_machine.specs.declared.ended.Ended.{Ended}
-use Rattle.tso_machine.specs.declared.ended.ReplayFault.{ReplayFault}
-use Rattle.tso_machine.specs.declared.ended.ReplayFault.TheVariants as replays
+use Rattle.tso_machine.specs.declared.replaying.Ended.{Ended}
+use Rattle.tso_machine.specs.declared.replaying.ReplayFault.{ReplayFault}
+use Rattle.tso_machine.specs.declared.replaying.ReplayFault.TheVariants as replays
 use Rattle.gap_sets.specs.Gaps.{SetOfGaps}
 use Rattle.cert_check.specs.declared.fault.RunsFault.{RunsFault}
 use Rattle.cert_check.specs.declared.fault.RunsFault.TheVariants as runs

@@ -24,7 +24,7 @@ use crate::CheckFault;
 use crate::cover::judge_from_start;
 use crate::fault::RunsFault;
 use crate::gap::{Bounds, judge_gap};
-use crate::runs::{first_listed, replay_all};
+use crate::runs::{first_outcome_listed, replay_all};
 use cert_forest::Certificate;
 use cover_judge::TreeFault;
 use exec_axioms::Mode;
@@ -70,7 +70,7 @@ pub fn check(
 {
     match check_all(alloc, program, shown, costs, certificate) {
         Ok(()) => {
-            what_is_proved(program, shown, costs);
+            certificate_proves_answer(program, shown, costs);
             Ok(Accepted {
                 set: certificate.set,
                 cost: certificate.cost,
@@ -82,7 +82,7 @@ pub fn check(
 
 /// A valid certificate for a program and the costs of its gaps proves the headline, which states the
 /// answer. Calling it does nothing.
-fn what_is_proved(program: &Program, shown: &Shown, costs: &Costs)
+fn certificate_proves_answer(program: &Program, shown: &Shown, costs: &Costs)
     ensures valid { (c : trees.Certificate) → IsValidCertificate (asked program.now shown.now) costs.now c → IsProved (asked program.now shown.now) costs.now c }
     ensures told { (gaps : SetOfGaps) (cost : ℕ) → Headline (asked program.now shown.now) costs.now gaps → cost ≡ total costs.now gaps
         → (gaps ≡ the_answer (asked program.now shown.now) costs.now) × (cost ≡ least_cost (asked program.now shown.now) costs.now) }
@@ -192,7 +192,7 @@ fn foreign_runs(
         Err(RunsFault::NoRun(number)) => return Err(CheckFault::Run(number)),
         Err(RunsFault::OutOfMemory) => return Err(CheckFault::OutOfMemory),
     };
-    let known = first_listed(alloc, &replays.outcomes, listed)?;
+    let known = first_outcome_listed(alloc, &replays.outcomes, listed)?;
     match known {
         Some(number) => Err(CheckFault::NotForeign(number)),
         None => Ok(replays.passed),

@@ -90,7 +90,7 @@ pub(crate) fn passed_by(passed: &[GapSet], number: u64) -> Option<GapSet>
 }
 
 /// The first of the outcomes that is in the list.
-pub(crate) fn first_listed(
+pub(crate) fn first_outcome_listed(
     alloc: Global,
     outcomes: &[Outcome],
     list: &[Outcome],

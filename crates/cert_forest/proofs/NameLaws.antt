@@ -21,7 +21,7 @@ use Rattle.cert_words.specs.Words.{is_inner, word_at, letter_at}
 use Rattle.text_tokens.proofs.StepLaws.{bind_some, by_test}
 use Rattle.std.proofs.lemmas.Option.{cond_some, same_Some}
 use Rattle.cert_words.proofs.Steps.{Starts, IsExact}
-use Rattle.cert_words.proofs.WordLaws.{prefix_is, after_prefix, word_takes, word_again, decimal_inner, letter_takes, letter_again}
+use Rattle.cert_words.proofs.WordLaws.{prefix_is, after_prefix, word_takes, word_again, decimal_inner, letter_takes, letter_again, spaced_exact}
 use Rattle.cert_forest.specs.declared.tree.AccessId.{AccessId}
 use Rattle.cert_forest.specs.Texts.{access_word, kind_word}
 use Rattle.cert_forest.specs.Limits.{IsAccessId}
@@ -89,18 +89,9 @@ access_text e = spaced (access_word e)
 
 pub access_exact : IsExact access_at access_text IsAccessId
 unfolding access_at
-access_exact = record { takes = taken; again = λ e rest fits st. again e rest fits st; starts = λ e rest fits st. refl }
-  where
-    taken : (bytes : List ℕ) (x : AccessId × List ℕ) → access_at bytes ≡ Some x → (bytes ≡ access_text x.0 ++ x.1) × IsAccessId x.0
-    taken bytes x e =
-        let a = bind_some (word_at bytes) (λ w. access_of w.0 >>= λ event. Some (event, w.1)) x e in
-        let b = bind_some (access_of a.0.0) (λ event. Some (event, a.0.1)) x a.2 in
-        let t = access_of_takes a.0.0 b.0 b.1 in
-        let here : bytes ≡ access_text b.0 ++ a.0.1 = word_takes bytes a.0 a.1 ∙ ap (λ (v : List ℕ). spaced v ++ a.0.1) t.0 in
-        subst (λ (y : AccessId × List ℕ). (bytes ≡ access_text y.0 ++ y.1) × IsAccessId y.0) (same_Some (b.0, a.0.1) x b.2) (here, t.1)
-
-    again : (e : AccessId) (rest : List ℕ) → IsAccessId e → Starts rest → access_at (access_text e ++ rest) ≡ Some (e, rest)
-    again e rest fits st = rw (word_again (access_word e) rest (access_inner e fits) st, access_of_again e fits) refl
+access_exact =
+    let s = spaced_exact access_of access_word IsAccessId access_of_takes access_of_again access_inner in
+    record { takes = s.takes; again = s.again; starts = s.starts }
 
 -- ---- kinds
 
@@ -150,15 +141,6 @@ label_inner (Flush t) fits = decimal_inner t (omega arith)
 
 pub label_exact : IsExact label_word_at label_text IsLabel
 unfolding label_word_at
-label_exact = record { takes = taken; again = λ l rest fits st. again l rest fits st; starts = λ l rest fits st. refl }
-  where
-    taken : (bytes : List ℕ) (x : Label × List ℕ) → label_word_at bytes ≡ Some x → (bytes ≡ label_text x.0 ++ x.1) × IsLabel x.0
-    taken bytes x e =
-        let a = bind_some (word_at bytes) (λ w. label_at w.0 >>= λ label. Some (label, w.1)) x e in
-        let b = bind_some (label_at a.0.0) (λ label. Some (label, a.0.1)) x a.2 in
-        let t = label_takes a.0.0 b.0 b.1 in
-        let here : bytes ≡ label_text b.0 ++ a.0.1 = word_takes bytes a.0 a.1 ∙ ap (λ (v : List ℕ). spaced v ++ a.0.1) (sym t.0) in
-        subst (λ (y : Label × List ℕ). (bytes ≡ label_text y.0 ++ y.1) × IsLabel y.0) (same_Some (b.0, a.0.1) x b.2) (here, t.1)
-
-    again : (l : Label) (rest : List ℕ) → IsLabel l → Starts rest → label_word_at (label_text l ++ rest) ≡ Some (l, rest)
-    again l rest fits st = rw (word_again (spelling l) rest (label_inner l fits) st, label_again l fits) refl
+label_exact =
+    let s = spaced_exact label_at spelling IsLabel (λ w l e. let t = label_takes w l e in (sym t.0, t.1)) label_again label_inner in
+    record { takes = s.takes; again = s.again; starts = s.starts }

@@ -12,7 +12,7 @@ use Rattle.cert_words.specs.Words.{is_inner, word_at}
 use Rattle.text_tokens.proofs.StepLaws.{bind_some}
 use Rattle.std.proofs.lemmas.Option.{cond_some, same_Some}
 use Rattle.cert_words.proofs.Steps.{Starts, IsExact}
-use Rattle.cert_words.proofs.WordLaws.{word_takes, word_again}
+use Rattle.cert_words.proofs.WordLaws.{word_takes, word_again, spaced_exact}
 use Rattle.tso_program.specs.declared.instruction.TheConstants.{REGISTERS}
 use Rattle.tso_program.specs.declared.limits.TheConstants.{MAX_THREADS, MAX_LOCATIONS}
 use Rattle.tso_program.specs.declared.shown.TheConstants.{REGISTER_PLACES, PLACES}
@@ -154,15 +154,6 @@ place_text p = spaced (place_word p)
 
 pub place_exact : IsExact place_word_at place_text (λ p. p < PLACES)
 unfolding place_word_at
-place_exact = record { takes = taken; again = λ p rest fits st. again p rest fits st; starts = λ p rest fits st. refl }
-  where
-    taken : (bytes : List ℕ) (x : ℕ × List ℕ) → place_word_at bytes ≡ Some x → (bytes ≡ place_text x.0 ++ x.1) × (x.0 < PLACES)
-    taken bytes x e =
-        let a = bind_some (word_at bytes) (λ w. shown_place w.0 >>= λ place. Some (place, w.1)) x e in
-        let b = bind_some (shown_place a.0.0) (λ place. Some (place, a.0.1)) x a.2 in
-        let t = place_takes a.0.0 b.0 b.1 in
-        let here : bytes ≡ place_text b.0 ++ a.0.1 = word_takes bytes a.0 a.1 ∙ ap (λ (v : List ℕ). spaced v ++ a.0.1) t.0 in
-        subst (λ (y : ℕ × List ℕ). (bytes ≡ place_text y.0 ++ y.1) × (y.0 < PLACES)) (same_Some (b.0, a.0.1) x b.2) (here, t.1)
-
-    again : (p : ℕ) (rest : List ℕ) → p < PLACES → Starts rest → place_word_at (place_text p ++ rest) ≡ Some (p, rest)
-    again p rest fits st = rw (word_again (place_word p) rest (place_inner p fits) st, place_again p fits) refl
+place_exact =
+    let s = spaced_exact shown_place place_word (λ p. p < PLACES) (λ w p e. place_takes w p e) place_again place_inner in
+    record { takes = s.takes; again = s.again; starts = s.starts }

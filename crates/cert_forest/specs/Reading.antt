@@ -13,7 +13,7 @@ use Rattle.tso_machine.specs.declared.label.Label.{Label}
 use Rattle.tso_machine.specs.RunTexts.{label_at}
 use Rattle.text_tokens.specs.Numbers.{plain_number_at}
 use Rattle.text_tokens.specs.Steps.{◌>>=◌}
-use Rattle.cert_words.specs.Words.{word_at, line_name_at, end_at, begins_word, number_within_at, count_at, letter_at, repeat_at}
+use Rattle.cert_words.specs.Words.{word_at, spaced_word_at, line_name_at, end_at, begins_word, number_within_at, count_at, letter_at, repeat_at}
 use Rattle.cert_words.specs.declared.numbers.TheConstants.{MAX_COUNT}
 use Rattle.cert_forest.specs.declared.tree.TheConstants.{MAX_COVER_DEPTH, MAX_GAP_DEPTH}
 use Rattle.cert_forest.specs.declared.tree.AccessId.{AccessId}
@@ -35,10 +35,7 @@ access_of word = do
   access_tail thread (drop (prefix_len is_no_stop word) word)
 
 unfoldable pub access_at : List ℕ → Option (AccessId × List ℕ)
-access_at bytes = do
-  w ← word_at bytes
-  event ← access_of w.0
-  Some (event, w.1)
+access_at bytes = spaced_word_at access_of bytes
 
 abbrev pub kind_of : ℕ → Option Kind
 kind_of letter = if letter == 115 then Some kinds.Sequential else if letter == 108 then Some kinds.Location else if letter == 103 then Some kinds.Global else None
@@ -63,10 +60,7 @@ gaps_at (suc n) least found bytes =
     else Some (found, bytes)
 
 unfoldable pub label_word_at : List ℕ → Option (Label × List ℕ)
-label_word_at bytes = do
-  w ← word_at bytes
-  label ← label_at w.0
-  Some (label, w.1)
+label_word_at bytes = spaced_word_at label_at bytes
 
 -- labels, at most so many
 unfoldable pub run_labels_at : ℕ → List Label → List ℕ → Option (List Label × List ℕ)
@@ -228,10 +222,7 @@ shown_place (a ∷ (b ∷ (c ∷ (d ∷ [])))) = register_of a b c d
 shown_place (a ∷ (b ∷ (c ∷ (d ∷ (e ∷ word))))) = None
 
 unfoldable pub place_word_at : List ℕ → Option (ℕ × List ℕ)
-place_word_at bytes = do
-  w ← word_at bytes
-  place ← shown_place w.0
-  Some (place, w.1)
+place_word_at bytes = spaced_word_at shown_place bytes
 
 -- places from the least on, at most so many
 unfoldable pub places_at : ℕ → ℕ → List ℕ → List ℕ → Option (List ℕ × List ℕ)

@@ -15,7 +15,7 @@ use Rattle.text_tokens.specs.Numbers.{plain_number_at}
 use Rattle.cert_words.specs.declared.numbers.TheConstants.{MAX_COUNT}
 use Rattle.cert_words.specs.Lines.{spaced}
 use Rattle.text_tokens.specs.Steps.{◌>>=◌}
-use Rattle.cert_words.specs.Words.{is_inner, front, after_word, word_at, line_name_at, end_at, number_within_at, count_at, letter_of, letter_at}
+use Rattle.cert_words.specs.Words.{is_inner, front, after_word, word_at, line_name_at, end_at, number_within_at, count_at, letter_of, letter_at, spaced_word_at}
 use Rattle.text_tokens.proofs.StepLaws.{bind_some, kept_out}
 use Rattle.std.proofs.lemmas.Option.{cond_some, same_Some}
 use Rattle.cert_words.proofs.Steps.{Stops, Starts, IsExact}
@@ -90,6 +90,21 @@ pub end_again : (rest : List ℕ) → end_at (10 ∷ rest) ≡ Some rest
 unfolding end_at
 end_again rest = refl
 
+-- ---- words that spell values
+
+pub spaced_exact : {A : Type 0} (spelled : List ℕ → Option A) (word : A → List ℕ) (P : A → Type 0) → ((w : List ℕ) (x : A) → spelled w ≡ Some x → (w ≡ word x) × P x)
+    → ((x : A) → P x → spelled (word x) ≡ Some x) → ((x : A) → P x → list_all is_inner (word x) ≡ true) → IsExact (spaced_word_at spelled) (λ x. spaced (word x)) P
+spaced_exact {A} spelled word P takes again inner =
+    record { takes = taken; again = λ x rest p st. rw (word_again (word x) rest (inner x p) st, again x p) refl; starts = λ x rest p st. refl }
+  where
+    taken : (bytes : List ℕ) (x : A × List ℕ) → spaced_word_at spelled bytes ≡ Some x → (bytes ≡ spaced (word x.0) ++ x.1) × P x.0
+    taken bytes x e =
+        let a = bind_some (word_at bytes) (λ w. spelled w.0 >>= λ y. Some (y, w.1)) x e in
+        let b = bind_some (spelled a.0.0) (λ y. Some (y, a.0.1)) x a.2 in
+        let t = takes a.0.0 b.0 b.1 in
+        let here : bytes ≡ spaced (word b.0) ++ a.0.1 = word_takes bytes a.0 a.1 ∙ ap (λ (v : List ℕ). spaced v ++ a.0.1) t.0 in
+        subst (λ (y : A × List ℕ). (bytes ≡ spaced (word y.0) ++ y.1) × P y.0) (same_Some (b.0, a.0.1) x b.2) (here, t.1)
+
 -- ---- numbers
 
 digit_inner : (c : ℕ) → is_ascii_digit c ≡ true → is_inner c ≡ true
@@ -109,18 +124,9 @@ number_text n = spaced (decimal n)
 
 pub number_exact : (limit : ℕ) → limit < 2 ^ 64 → IsExact (number_within_at limit) number_text (λ n. n ≤ limit)
 unfolding number_within_at
-number_exact limit fits = record { takes = taken; again = λ n rest le st. again n rest le st; starts = λ n rest le st. refl }
-  where
-    taken : (bytes : List ℕ) (x : ℕ × List ℕ) → number_within_at limit bytes ≡ Some x → (bytes ≡ number_text x.0 ++ x.1) × (x.0 ≤ limit)
-    taken bytes x e =
-        let a = bind_some (word_at bytes) (λ w. plain_number_at limit w.0 >>= λ n. Some (n, w.1)) x e in
-        let b = bind_some (plain_number_at limit a.0.0) (λ n. Some (n, a.0.1)) x a.2 in
-        let t = plain_number_takes limit b.0 a.0.0 fits b.1 in
-        let here : bytes ≡ number_text b.0 ++ a.0.1 = word_takes bytes a.0 a.1 ∙ ap (λ (v : List ℕ). spaced v ++ a.0.1) t.0 in
-        subst (λ (y : ℕ × List ℕ). (bytes ≡ number_text y.0 ++ y.1) × (y.0 ≤ limit)) (same_Some (b.0, a.0.1) x b.2) (here, t.1)
-
-    again : (n : ℕ) (rest : List ℕ) → n ≤ limit → Starts rest → number_within_at limit (number_text n ++ rest) ≡ Some (n, rest)
-    again n rest le st = rw (word_again (decimal n) rest (decimal_inner n (omega arith)) st, plain_number_again limit n fits le) refl
+number_exact limit fits =
+    let s = spaced_exact (plain_number_at limit) decimal (λ n. n ≤ limit) (λ w n e. plain_number_takes limit n w fits e) (λ n le. plain_number_again limit n fits le) (λ n le. decimal_inner n (omega arith)) in
+    record { takes = s.takes; again = s.again; starts = s.starts }
 
 pub below64 : 18446744073709551615 < 2 ^ 64
 below64 = omega arith

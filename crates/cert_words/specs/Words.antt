@@ -30,6 +30,13 @@ unfoldable pub word_at : List ℕ → Option (List ℕ × List ℕ)
 word_at [] = None
 word_at (b ∷ bytes) = if b == 32 then Some (front bytes, after_word bytes) else None
 
+-- a space, and then a word as far as it goes, which spells a value
+abbrev pub spaced_word_at : {A : Type 0} → (List ℕ → Option A) → List ℕ → Option (A × List ℕ)
+spaced_word_at spelled bytes = do
+  w ← word_at bytes
+  x ← spelled w.0
+  Some (x, w.1)
+
 -- the first word of a line
 unfoldable pub line_name_at : List ℕ → List ℕ → Option (List ℕ)
 line_name_at name bytes = if bytes_eq (front bytes) name then Some (after_word bytes) else None
@@ -45,10 +52,7 @@ begins_word (b ∷ bytes) = b == 32
 
 -- a number up to the limit
 unfoldable pub number_within_at : ℕ → List ℕ → Option (ℕ × List ℕ)
-number_within_at limit bytes = do
-  w ← word_at bytes
-  n ← plain_number_at limit w.0
-  Some (n, w.1)
+number_within_at limit bytes = spaced_word_at (plain_number_at limit) bytes
 
 -- a number of children or events
 unfoldable pub count_at : List ℕ → Option (ℕ × List ℕ)
@@ -63,10 +67,7 @@ letter_of (b ∷ []) = Some b
 letter_of (b ∷ (d ∷ word)) = None
 
 unfoldable pub letter_at : List ℕ → Option (ℕ × List ℕ)
-letter_at bytes = do
-  w ← word_at bytes
-  letter ← letter_of w.0
-  Some (letter, w.1)
+letter_at bytes = spaced_word_at letter_of bytes
 
 -- ---- lists
 

@@ -4,7 +4,7 @@ use Rattle.conditions.specs.Tree.{Tree}
 use Rattle.conditions.specs.Tree as tree
 use Rattle.conditions.specs.Grammar.{Sign, Spells, Sum}
 use Rattle.conditions.specs.Grammar as sign
-use Rattle.conditions.specs.Stack.{Before, Start, Negated, Anded, Ored, Inside, joined, ReaderState, Wants, Has, next, reading, after, reached, SignsStopAt}
+use Rattle.conditions.specs.Stack.{Before, Start, Negated, Anded, Ored, Inside, joined, ReaderState, Wants, Has, next, reading, state_after, reached, SignsStopAt}
 use Rattle.conditions.specs.Reads.{BeginFormula, IsFirstAstray}
 use Rattle.conditions.proofs.SpelledIsRead.{Fresh, calm_joins, all_read}
 use Rattle.conditions.proofs.ReadIsSpelled.{Opened, At, AtNext, steps, spelled_from}
@@ -50,7 +50,7 @@ completes {A} (Has p) ss rest h =
     (r.0, r.1, ap (λ (q : Before A × Tree A). reading (Some (Has q)) r.0) (sym (calm_joins p.0 p.1 h.0)) ∙ r.2)
 
 -- signs lead from what they stand after to the state after them
-leads : {A : Type 0} (o : Option (ReaderState A)) (all ss rest : List (Sign A)) → AtNext o all (ss ++ rest) → AtNext (after o ss) all rest
+leads : {A : Type 0} (o : Option (ReaderState A)) (all ss rest : List (Sign A)) → AtNext o all (ss ++ rest) → AtNext (state_after o ss) all rest
 leads None all [] rest h = tt
 leads None all (t ∷ ss) rest h = tt
 leads (Some s) all [] rest h = h

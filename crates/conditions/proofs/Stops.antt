@@ -2,23 +2,23 @@
 use Rattle.std.proofs.Common.{◌≡◌, ℕ, ◌+◌, ◌<◌, List, [], ◌∷◌, ◌++◌, length, take, drop, Option, Some, None, refl, sym, ap, ◌∙◌, arith}
 use Rattle.std.proofs.lemmas.List.{take_all, take-append-drop, append-nil}
 use Rattle.conditions.specs.Grammar.{Sign}
-use Rattle.conditions.specs.Stack.{ReaderState, Wants, Start, next, final, reading, tree_read, after, reached, SignsStopAt}
+use Rattle.conditions.specs.Stack.{ReaderState, Wants, Start, next, final, reading, tree_read, state_after, reached, SignsStopAt}
 use Rattle.conditions.proofs.SpelledIsRead.{some_is}
 
 -- reading goes on from the state that signs lead to
-pub reading_after : {A : Type 0} (o : Option (ReaderState A)) (ss more : List (Sign A)) → reading o (ss ++ more) ≡ reading (after o ss) more
+pub reading_after : {A : Type 0} (o : Option (ReaderState A)) (ss more : List (Sign A)) → reading o (ss ++ more) ≡ reading (state_after o ss) more
 reading_after None [] more = refl
 reading_after None (t ∷ ss) more = refl
 reading_after (Some s) [] more = refl
 reading_after (Some s) (t ∷ ss) more = reading_after (next s t) ss more
 
 -- no sign changes no state
-after_none : {A : Type 0} (o : Option (ReaderState A)) → after o [] ≡ o
+after_none : {A : Type 0} (o : Option (ReaderState A)) → state_after o [] ≡ o
 after_none None = refl
 after_none (Some s) = refl
 
 -- one sign more
-pub after_push : {A : Type 0} (o : Option (ReaderState A)) (ss : List (Sign A)) (t : Sign A) (s : ReaderState A) → after o ss ≡ Some s → after o (ss ++ t ∷ []) ≡ next s t
+pub after_push : {A : Type 0} (o : Option (ReaderState A)) (ss : List (Sign A)) (t : Sign A) (s : ReaderState A) → state_after o ss ≡ Some s → state_after o (ss ++ t ∷ []) ≡ next s t
 after_push None [] t s e = absurd cc
 after_push None (u ∷ ss) t s e = absurd cc
 after_push (Some r) [] t s e = after_none (next r t) ∙ ap (λ q. next q t) (some_is r s e)

@@ -7,8 +7,8 @@ use Rattle.conditions.specs.declared.node.Node.{Node}
 use Rattle.conditions.specs.declared.node.Node.TheVariants as node
 use Rattle.conditions.specs.declared.token.Token.{Token}
 use Rattle.conditions.specs.declared.token.Token.TheVariants as token
-use Rattle.conditions.specs.declared.later.Later.{Later}
-use Rattle.conditions.specs.declared.later.Later.TheVariants as later
+use Rattle.conditions.specs.declared.prefix.Prefix.{Prefix}
+use Rattle.conditions.specs.declared.prefix.Prefix.TheVariants as prefix
 use Rattle.conditions.specs.Tree.{Tree}
 use Rattle.conditions.specs.Tree as tree
 use Rattle.conditions.specs.Nodes.{nodes_of}
@@ -39,21 +39,21 @@ turned x f g xs =
     ∙ simp append_assoc
 
 -- a formula's nodes give its tokens, after what waits before it
-unwinds : (f : Tree Atom) (xs : List Node) (ls : List Later) (ts : List Token) → unwound (reverse (nodes_of f) ++ xs) ls ts ≡ unwound xs (left ls) (opened ls (formula_tokens f ts))
+unwinds : (f : Tree Atom) (xs : List Node) (ls : List Prefix) (ts : List Token) → unwound (reverse (nodes_of f) ++ xs) ls ts ≡ unwound xs (left ls) (opened ls (formula_tokens f ts))
 unwinds (tree.Atom a) xs ls ts = refl
 unwinds (tree.Const b) xs ls ts = refl
-unwinds (tree.Not f) xs ls ts = rw (reverse_push (nodes_of f) node.Not) (unwinds f xs (later.Not ∷ ls) ts)
+unwinds (tree.Not f) xs ls ts = rw (reverse_push (nodes_of f) node.Not) (unwinds f xs (prefix.Not ∷ ls) ts)
 unwinds (tree.And f g) xs ls ts =
-    rw (turned node.And f g xs) (unwinds g (node.And ∷ (reverse (nodes_of f) ++ xs)) (later.Stop ∷ (later.Open ∷ ls)) (token.Close ∷ ts) ∙ unwinds f xs (later.Open ∷ ls) (token.And ∷ formula_tokens g (token.Close ∷ ts)))
+    rw (turned node.And f g xs) (unwinds g (node.And ∷ (reverse (nodes_of f) ++ xs)) (prefix.Stop ∷ (prefix.Open ∷ ls)) (token.Close ∷ ts) ∙ unwinds f xs (prefix.Open ∷ ls) (token.And ∷ formula_tokens g (token.Close ∷ ts)))
 unwinds (tree.Or f g) xs ls ts =
-    rw (turned node.Or f g xs) (unwinds g (node.Or ∷ (reverse (nodes_of f) ++ xs)) (later.Stop ∷ (later.Open ∷ ls)) (token.Close ∷ ts) ∙ unwinds f xs (later.Open ∷ ls) (token.Or ∷ formula_tokens g (token.Close ∷ ts)))
+    rw (turned node.Or f g xs) (unwinds g (node.Or ∷ (reverse (nodes_of f) ++ xs)) (prefix.Stop ∷ (prefix.Open ∷ ls)) (token.Close ∷ ts) ∙ unwinds f xs (prefix.Open ∷ ls) (token.Or ∷ formula_tokens g (token.Close ∷ ts)))
 
 -- all nodes of a formula give its tokens
 unwinds_all : (f : Tree Atom) (ts : List Token) → unwound (reverse (nodes_of f)) [] ts ≡ formula_tokens f ts
 unwinds_all f ts = rw (← append-nil (reverse (nodes_of f))) (unwinds f [] [] ts)
 
 -- where no node is left, the tokens are written
-pub tokens_end : (nodes : List Node) (n : ℕ) (ls : List Later) (ts first : List Token) (f : Tree Atom) → n ≤ 0 → unwound (reverse (take n nodes)) ls ts ≡ unwound (reverse nodes) [] first → nodes_of f ≡ nodes
+pub tokens_end : (nodes : List Node) (n : ℕ) (ls : List Prefix) (ts first : List Token) (f : Tree Atom) → n ≤ 0 → unwound (reverse (take n nodes)) ls ts ≡ unwound (reverse nodes) [] first → nodes_of f ≡ nodes
     → ts ≡ formula_tokens f first
 tokens_end nodes n ls ts first f low h is =
     let e : 0 ≡ n = omega arith in

@@ -87,14 +87,14 @@ abbrev pub tree_read : {A : Type 0} → List (Sign A) → Option (Tree A)
 tree_read ss = reading (Some (Wants Start)) ss
 
 -- the state after signs
-abbrev pub after : {A : Type 0} → Option (ReaderState A) → List (Sign A) → Option (ReaderState A)
-after None ss = None
-after (Some s) [] = Some s
-after (Some s) (t ∷ ss) = after (next s t) ss
+abbrev pub state_after : {A : Type 0} → Option (ReaderState A) → List (Sign A) → Option (ReaderState A)
+state_after None ss = None
+state_after (Some s) [] = Some s
+state_after (Some s) (t ∷ ss) = state_after (next s t) ss
 
 -- the state that signs lead to from the start
 abbrev pub reached : {A : Type 0} → List (Sign A) → Option (ReaderState A)
-reached ss = after (Some (Wants Start)) ss
+reached ss = state_after (Some (Wants Start)) ss
 
 -- the signs before this place lead to a state, the one there leads to none, and no formula is read
 abbrev pub SignsStopAt : {A : Type 0} → List (Sign A) → ℕ → Type 0

@@ -5,8 +5,8 @@ use Rattle.conditions.specs.declared.node.Node.{Node}
 use Rattle.conditions.specs.declared.node.Node.TheVariants as node
 use Rattle.conditions.specs.declared.token.Token.{Token}
 use Rattle.conditions.specs.declared.token.Token.TheVariants as token
-use Rattle.conditions.specs.declared.later.Later.{Later}
-use Rattle.conditions.specs.declared.later.Later.TheVariants as later
+use Rattle.conditions.specs.declared.prefix.Prefix.{Prefix}
+use Rattle.conditions.specs.declared.prefix.Prefix.TheVariants as prefix
 use Rattle.conditions.specs.Tree.{Tree}
 use Rattle.conditions.specs.Tree as tree
 
@@ -19,25 +19,25 @@ formula_tokens (tree.And f g) ts = token.Open ∷ formula_tokens f (token.And �
 formula_tokens (tree.Or f g) ts = token.Open ∷ formula_tokens f (token.Or ∷ formula_tokens g (token.Close ∷ ts))
 
 -- what stands before an operand, up to where the operand is a right one
-abbrev pub opened : List Later → List Token → List Token
+abbrev pub opened : List Prefix → List Token → List Token
 opened [] ts = ts
-opened (later.Stop ∷ ls) ts = ts
-opened (later.Not ∷ ls) ts = opened ls (token.Not ∷ ts)
-opened (later.Open ∷ ls) ts = opened ls (token.Open ∷ ts)
+opened (prefix.Stop ∷ ls) ts = ts
+opened (prefix.Not ∷ ls) ts = opened ls (token.Not ∷ ts)
+opened (prefix.Open ∷ ls) ts = opened ls (token.Open ∷ ts)
 
 -- what waits after that
-abbrev pub left : List Later → List Later
+abbrev pub left : List Prefix → List Prefix
 left [] = []
-left (later.Stop ∷ ls) = ls
-left (later.Not ∷ ls) = left ls
-left (later.Open ∷ ls) = left ls
+left (prefix.Stop ∷ ls) = ls
+left (prefix.Not ∷ ls) = left ls
+left (prefix.Open ∷ ls) = left ls
 
 -- the tokens of nodes, last node first
-abbrev pub unwound : List Node → List Later → List Token → List Token
+abbrev pub unwound : List Node → List Prefix → List Token → List Token
 unwound [] ls ts = ts
 unwound (node.Atom a ∷ xs) ls ts = unwound xs (left ls) (opened ls (token.Atom a ∷ ts))
 unwound (node.Const b ∷ xs) ls ts = unwound xs (left ls) (opened ls (token.Const b ∷ ts))
-unwound (node.Not ∷ xs) ls ts = unwound xs (later.Not ∷ ls) ts
+unwound (node.Not ∷ xs) ls ts = unwound xs (prefix.Not ∷ ls) ts
 unwound (node.And ∷ xs) ls ts = unwound xs ls (token.And ∷ ts)
 unwound (node.Or ∷ xs) ls ts = unwound xs ls (token.Or ∷ ts)
-unwound (node.End ∷ xs) ls ts = unwound xs (later.Stop ∷ (later.Open ∷ ls)) (token.Close ∷ ts)
+unwound (node.End ∷ xs) ls ts = unwound xs (prefix.Stop ∷ (prefix.Open ∷ ls)) (token.Close ∷ ts)

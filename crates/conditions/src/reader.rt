@@ -25,7 +25,7 @@ fn operand(nodes: &mut Vec<Node>, stack: &mut Vec<Waiting>, node: Node) -> Resul
 }
 
 /// The token of this index where an operand is wanted; whether one is wanted after it.
-fn wants(
+fn read_operand(
     nodes: &mut Vec<Node>,
     stack: &mut Vec<Waiting>,
     token: Token,
@@ -56,7 +56,7 @@ fn wants(
 }
 
 /// The token of this index after an operand; whether another operand is wanted after it.
-fn has(
+fn read_connective(
     nodes: &mut Vec<Node>,
     stack: &mut Vec<Waiting>,
     token: Token,
@@ -103,9 +103,9 @@ pub fn read(alloc: Global, tokens: &[Token]) -> Result<Vec<Node>, FormulaFault>
     let mut wanted = true;
     for (at, token) in tokens.iter().enumerate() {
         wanted = if wanted {
-            wants(&mut nodes, &mut stack, *token, at)?
+            read_operand(&mut nodes, &mut stack, *token, at)?
         } else {
-            has(&mut nodes, &mut stack, *token, at)?
+            read_connective(&mut nodes, &mut stack, *token, at)?
         };
     }
     if wanted {

@@ -9,28 +9,28 @@ ghost use Rattle.conditions.specs.Nodes.{nodes_of};
 ghost use Rattle.conditions.specs.Canonical.{is_joined, signs_of, enclosed_signs_of};
 ghost use Rattle.conditions.specs.Unwind.{formula_tokens, opened, left, unwound};
 
-use crate::later::Later;
 use crate::node::Node;
+use crate::prefix::Prefix;
 use crate::token::Token;
 use std::alloc::{AllocError, Global};
 
 /// What waits before an operand is written, last first.
-fn begin(tokens: &mut Vec<Token>, waiting: &mut Vec<Later>) -> Result<(), AllocError>
+fn begin(tokens: &mut Vec<Token>, waiting: &mut Vec<Prefix>) -> Result<(), AllocError>
     ensures { IfOk result (λ _. (reverse tokens.new.items ≡ opened (reverse waiting.old.items) (reverse tokens.old.items))
         × (reverse waiting.new.items ≡ left (reverse waiting.old.items))) }
 {
     while let Some(next) = waiting.pop() {
         match next {
-            Later::Not => tokens.push(Token::Not)?,
-            Later::Open => tokens.push(Token::Open)?,
-            Later::Stop => return Ok(()),
+            Prefix::Not => tokens.push(Token::Not)?,
+            Prefix::Open => tokens.push(Token::Open)?,
+            Prefix::Stop => return Ok(()),
         }
     }
     Ok(())
 }
 
 /// One node, where the nodes after it are written.
-fn unwind(tokens: &mut Vec<Token>, waiting: &mut Vec<Later>, node: Node) -> Result<(), AllocError>
+fn unwind(tokens: &mut Vec<Token>, waiting: &mut Vec<Prefix>, node: Node) -> Result<(), AllocError>
     ensures { IfOk result (λ _. (xs : List NodeValue)
         → unwound (node ∷ xs) (reverse waiting.old.items) (reverse tokens.old.items) ≡ unwound xs (reverse waiting.new.items) (reverse tokens.new.items)) }
 {
@@ -44,7 +44,7 @@ fn unwind(tokens: &mut Vec<Token>, waiting: &mut Vec<Later>, node: Node) -> Resu
             begin(tokens, waiting)?;
         }
         Node::Not => {
-            waiting.push(Later::Not)?;
+            waiting.push(Prefix::Not)?;
         }
         Node::And => {
             tokens.push(Token::And)?;
@@ -54,8 +54,8 @@ fn unwind(tokens: &mut Vec<Token>, waiting: &mut Vec<Later>, node: Node) -> Resu
         }
         Node::End => {
             tokens.push(Token::Close)?;
-            waiting.push(Later::Open)?;
-            waiting.push(Later::Stop)?;
+            waiting.push(Prefix::Open)?;
+            waiting.push(Prefix::Stop)?;
         }
     }
     Ok(())

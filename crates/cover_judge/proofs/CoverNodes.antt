@@ -13,15 +13,15 @@ use Rattle.tree_laws.specs.CoverTrees.{event_of, HasNoOrder, AreValidCovers}
 use Rattle.cover_judge.specs.declared.choice.Choice.{Choice}
 use Rattle.cover_judge.specs.declared.choice.Choice.TheVariants as choice
 use Rattle.cover_judge.specs.CoverDefects.{FirstWrongCoverChild, HasNoValues, HasNoSources}
-use Rattle.cover_judge.specs.Choices.{after, MayChoose, AreValueChoices, AreSourceChoices}
+use Rattle.cover_judge.specs.Choices.{sketch_with, MayChoose, AreValueChoices, AreSourceChoices}
 use Rattle.cover_judge.specs.Judged.{IsAtRoot, IsBelow, IsValidAfter, IsWrongAt, AreValidAfter, IsWrongChild}
 use Rattle.cover_judge.proofs.Mapped.{map_map}
 use Rattle.cover_judge.proofs.ChoicesJudged.{no_order}
 
 module _ (shown : Shown) (outcomes : List Outcome) (s : Parts) (trees : List Cover) where
   module _ (t : ℕ) (choices : List Choice) (are : AreValueChoices s t choices) where
-    values_sketches : map (after (sketch_of s)) choices ≡ map (sketches.with_value (sketch_of s) t) are.values
-    values_sketches = ap (map (after (sketch_of s))) are.each ∙ map_map (after (sketch_of s)) (choice.Value t) are.values
+    values_sketches : map (sketch_with (sketch_of s)) choices ≡ map (sketches.with_value (sketch_of s) t) are.values
+    values_sketches = ap (map (sketch_with (sketch_of s))) are.each ∙ map_map (sketch_with (sketch_of s)) (choice.Value t) are.values
 
     pub value_valid : AreValidAfter shown outcomes s trees choices → IsValidAfter shown outcomes s (Value t (covers_of trees)) (sketch_of s)
     value_valid valid = (are.values, are.next, subst (AreValidCovers (asked s.program shown) (mode_in s) outcomes (covers_of trees)) values_sketches valid)
@@ -42,8 +42,8 @@ module _ (shown : Shown) (outcomes : List Outcome) (s : Parts) (trees : List Cov
       (λ values next e. none values next (sym (covers_count trees) ∙ e))
 
   module _ (read : AccessId) (choices : List Choice) (are : AreSourceChoices s read choices) where
-    sources_sketches : map (after (sketch_of s)) choices ≡ map (sketches.with_source (sketch_of s) (event_of read)) are.sources
-    sources_sketches = ap (map (after (sketch_of s))) are.each ∙ map_map (after (sketch_of s)) (choice.Source read) are.sources
+    sources_sketches : map (sketch_with (sketch_of s)) choices ≡ map (sketches.with_source (sketch_of s) (event_of read)) are.sources
+    sources_sketches = ap (map (sketch_with (sketch_of s))) are.each ∙ map_map (sketch_with (sketch_of s)) (choice.Source read) are.sources
 
     pub source_valid : AreValidAfter shown outcomes s trees choices → IsValidAfter shown outcomes s (Source read (covers_of trees)) (sketch_of s)
     source_valid valid = (are.sources, are.next, subst (AreValidCovers (asked s.program shown) (mode_in s) outcomes (covers_of trees)) sources_sketches valid)
@@ -73,18 +73,18 @@ module _ (shown : Shown) (outcomes : List Outcome) (s : Parts) (first second : A
   in_no_order : MayChoose s first_choice → HasNoOrder s.program (mode_in s) (sketch_of s) (event_of first) (event_of second)
   in_no_order may = no_order s (event_of first) (event_of second) may
 
-  pub order_valid : MayChoose s first_choice → IsValidAfter shown outcomes s one (after (sketch_of s) first_choice) → IsValidAfter shown outcomes s other (after (sketch_of s) second_choice) →
+  pub order_valid : MayChoose s first_choice → IsValidAfter shown outcomes s one (sketch_with (sketch_of s) first_choice) → IsValidAfter shown outcomes s other (sketch_with (sketch_of s) second_choice) →
       IsValidAfter shown outcomes s (Order first second one other) (sketch_of s)
   order_valid may a b = (in_no_order may, a, b)
 
-  pub order_first : MayChoose s first_choice → (path : List ℕ) → IsBelow (λ n rest. (n ≡ 0) × IsWrongAt shown outcomes s one (after (sketch_of s) first_choice) rest) path →
+  pub order_first : MayChoose s first_choice → (path : List ℕ) → IsBelow (λ n rest. (n ≡ 0) × IsWrongAt shown outcomes s one (sketch_with (sketch_of s) first_choice) rest) path →
       IsWrongAt shown outcomes s (Order first second one other) (sketch_of s) path
   order_first may [] wrong = absurd wrong
   order_first may (zero ∷ path) (at, wrong) = (in_no_order may, wrong)
   order_first may (suc n ∷ path) (at, wrong) = absurd (omega arith)
 
-  pub order_second : MayChoose s first_choice → IsValidAfter shown outcomes s one (after (sketch_of s) first_choice) →
-      (path : List ℕ) → IsBelow (λ n rest. (n ≡ 1) × IsWrongAt shown outcomes s other (after (sketch_of s) second_choice) rest) path →
+  pub order_second : MayChoose s first_choice → IsValidAfter shown outcomes s one (sketch_with (sketch_of s) first_choice) →
+      (path : List ℕ) → IsBelow (λ n rest. (n ≡ 1) × IsWrongAt shown outcomes s other (sketch_with (sketch_of s) second_choice) rest) path →
       IsWrongAt shown outcomes s (Order first second one other) (sketch_of s) path
   order_second may valid [] wrong = absurd wrong
   order_second may valid (zero ∷ path) (at, wrong) = absurd (omega arith)

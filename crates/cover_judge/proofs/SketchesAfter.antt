@@ -11,10 +11,10 @@ use Rattle.fence_laws.proofs.ChangedAt.{put_same, put_other}
 use Rattle.exec_axioms.specs.declared.mode.Mode as own
 use Rattle.exec_axioms.specs.Parts.{Parts, mode_in, sketch_of, given_to, trace_in, first_parts, with_given}
 use Rattle.exec_axioms.specs.Kept.{IsLawful}
-use Rattle.exec_axioms.proofs.CoursesKept.{no_action}
+use Rattle.exec_axioms.proofs.TracesKept.{no_action}
 use Rattle.cover_judge.specs.declared.choice.Choice.{Choice}
 use Rattle.cover_judge.specs.declared.choice.Choice.TheVariants.{Value, Source, Order}
-use Rattle.cover_judge.specs.Choices.{after, parts_after, MayChoose}
+use Rattle.cover_judge.specs.Choices.{sketch_with, parts_after, MayChoose}
 
 given_set : (xs : List (List ℕ)) (t : ℕ) (ys : List ℕ) → t < length xs → (u : ℕ) → given_to (set xs t ys) u ≡ put (given_to xs) t ys u
 given_set xs t ys h u = elim (cases_eq u t) [
@@ -33,7 +33,7 @@ reads_there s t l e = elim (cases_lt t (length s.program.threads)) [
   | inr h ↦ (let none : sketches.next_read s.program (mode_in s) (sketch_of s) t ≡ None = ap sketches.read_by (no_action s.program.threads t (trace_in s t).last h) in absurd cc)
 ]
 
-pub sketch_after : (s : Parts) (c : Choice) → IsLawful s → MayChoose s c → sketch_of (parts_after s c) ≡ after (sketch_of s) c
+pub sketch_after : (s : Parts) (c : Choice) → IsLawful s → MayChoose s c → sketch_of (parts_after s c) ≡ sketch_with (sketch_of s) c
 sketch_after s (Value t v) lawful may = (let there = reads_there s t may.0 may.1 in let each = lawful.each_thread in value_after s t v (omega arith))
 sketch_after s (Source read source) lawful may = refl
 sketch_after s (Order first second) lawful may = refl
@@ -45,11 +45,11 @@ same_program F s (Source read source) h = h
 same_program F s (Order first second) h = h
 
 -- what holds of the next sketch holds of the sketch after the choice
-pub moved : (F : Listing → Mode → sketches.Sketch → Type 0) (s next : Parts) (c : Choice) → next ≡ parts_after s c → sketch_of next ≡ after (sketch_of s) c →
-    F next.program (mode_in next) (sketch_of next) → F s.program (mode_in s) (after (sketch_of s) c)
+pub moved : (F : Listing → Mode → sketches.Sketch → Type 0) (s next : Parts) (c : Choice) → next ≡ parts_after s c → sketch_of next ≡ sketch_with (sketch_of s) c →
+    F next.program (mode_in next) (sketch_of next) → F s.program (mode_in s) (sketch_with (sketch_of s) c)
 moved F s next c parts same h =
-    same_program (λ p mode. F p mode (after (sketch_of s) c)) s c
-    (subst (λ (n : Parts). F n.program (mode_in n) (after (sketch_of s) c)) parts (subst (F next.program (mode_in next)) same h))
+    same_program (λ p mode. F p mode (sketch_with (sketch_of s) c)) s c
+    (subst (λ (n : Parts). F n.program (mode_in n) (sketch_with (sketch_of s) c)) parts (subst (F next.program (mode_in next)) same h))
 
 nothing_given : (threads : List Thread) (t : ℕ) → given_to (map (λ thread. []) threads) t ≡ []
 nothing_given [] t = refl

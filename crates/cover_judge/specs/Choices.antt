@@ -11,10 +11,10 @@ use Rattle.cover_judge.specs.declared.choice.Choice.{Choice}
 use Rattle.cover_judge.specs.declared.choice.Choice.TheVariants.{Value, Source, Order}
 
 -- the sketch with the choice
-abbrev pub after : sketches.Sketch → Choice → sketches.Sketch
-after k (Value t v) = sketches.with_value k t v
-after k (Source read source) = sketches.with_source k (event_of read) source
-after k (Order first second) = sketches.with_pair k (event_of first) (event_of second)
+abbrev pub sketch_with : sketches.Sketch → Choice → sketches.Sketch
+sketch_with k (Value t v) = sketches.with_value k t v
+sketch_with k (Source read source) = sketches.with_source k (event_of read) source
+sketch_with k (Order first second) = sketches.with_pair k (event_of first) (event_of second)
 
 -- the same of a sketch's parts
 abbrev pub parts_after : parts.Parts → Choice → parts.Parts

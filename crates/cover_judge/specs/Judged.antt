@@ -12,7 +12,7 @@ use Rattle.cover_judge.specs.declared.choice.Choice.{Choice}
 use Rattle.cover_judge.specs.declared.fault.TreeFault.{TreeFault}
 use Rattle.cover_judge.specs.declared.fault.TreeFault.TheVariants.{Wrong, OutOfMemory}
 use Rattle.cover_judge.specs.CoverDefects as covers
-use Rattle.cover_judge.specs.Choices.{after}
+use Rattle.cover_judge.specs.Choices.{sketch_with}
 
 -- the path of the fault has the property; out of memory says nothing
 abbrev pub IfWrong : (List ℕ → Type 0) → TreeFault → Type 0
@@ -44,11 +44,11 @@ module _ (shown : Shown) (outcomes : List Outcome) (s : Parts) where
 
   -- the trees are valid at the sketches after these choices, in order
   abbrev pub AreValidAfter : List Cover → List Choice → Type 0
-  AreValidAfter trees choices = AreValidCovers (asked s.program shown) (mode_in s) outcomes (covers_of trees) (map (after (sketch_of s)) choices)
+  AreValidAfter trees choices = AreValidCovers (asked s.program shown) (mode_in s) outcomes (covers_of trees) (map (sketch_with (sketch_of s)) choices)
 
   abbrev pub IsWrongChild : List Cover → List Choice → ℕ → List ℕ → Type 0
   IsWrongChild trees choices number path =
-      covers.FirstWrongCoverChild (asked s.program shown) (mode_in s) outcomes (covers_of trees) (map (after (sketch_of s)) choices) number path
+      covers.FirstWrongCoverChild (asked s.program shown) (mode_in s) outcomes (covers_of trees) (map (sketch_with (sketch_of s)) choices) number path
 
 -- what was found are these choices, and they are as many as this
 pub record AreSoMany (found : Option (Vec Choice)) (count : ℕ) (choices : Vec Choice) : Type 0 where

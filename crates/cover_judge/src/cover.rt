@@ -6,11 +6,11 @@ ghost use Rattle.cert_forest.specs.Views.{cover};
 ghost use Rattle.cert_forest.specs.Trees.{Value, Source, covers_of};
 ghost use Rattle.exec_axioms.specs.Parts.{mode_in, sketch_of};
 ghost use Rattle.tree_laws.specs.CoverTrees as trees;
-ghost use Rattle.cover_judge.specs.Choices.{after, MayChoose, MayChooseEach};
+ghost use Rattle.cover_judge.specs.Choices.{sketch_with, MayChoose, MayChooseEach};
 ghost use Rattle.cover_judge.specs.CoverDefects.{FirstWrongCover};
 ghost use Rattle.cover_judge.specs.Judged.{IfWrong, IsAtRoot, IsBelow, IsValidAfter, IsWrongAt, AreValidAfter, IsWrongChild, AreSoMany, AreNotSoMany};
 
-use crate::choice::{Choice, chosen, event_of, is_order_open, source_choices, value_choices};
+use crate::choice::{Choice, event_of, is_order_open, sketch_with, source_choices, value_choices};
 use crate::fault::TreeFault;
 use candidate_executions::{Event, Kind};
 use cert_forest::{AccessId, CoverTree};
@@ -169,10 +169,10 @@ fn judge_child(
     outcomes: &[Outcome],
 ) -> Result<(), TreeFault>
     requires { MayChoose sketch.now choice }
-    ensures valid { OnOk result (IsValidAfter shown.now outcomes.now sketch.now (cover tree.now) (after (sketch_of sketch.now) choice)) }
-    ensures wrong { IfErr result (IfWrong (IsBelow (λ n path. (n ≡ number) × IsWrongAt shown.now outcomes.now sketch.now (cover tree.now) (after (sketch_of sketch.now) choice) path))) }
+    ensures valid { OnOk result (IsValidAfter shown.now outcomes.now sketch.now (cover tree.now) (sketch_with (sketch_of sketch.now) choice)) }
+    ensures wrong { IfErr result (IfWrong (IsBelow (λ n path. (n ≡ number) × IsWrongAt shown.now outcomes.now sketch.now (cover tree.now) (sketch_with (sketch_of sketch.now) choice) path))) }
 {
-    let next = chosen(sketch, choice)?;
+    let next = sketch_with(sketch, choice)?;
     match judge(alloc, tree, &next, shown, outcomes) {
         Ok(()) => Ok(()),
         Err(fault) => Err(fault.from_parent(number)),

@@ -6,7 +6,7 @@ mod cover;
 mod fault;
 mod path;
 
-pub use choice::{Choice, chosen, event_of, is_order_open, source_choices, value_choices};
+pub use choice::{Choice, event_of, is_order_open, sketch_with, source_choices, value_choices};
 pub use cover::judge_cover;
 pub use fault::TreeFault;
 pub use path::Path;

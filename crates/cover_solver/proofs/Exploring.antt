@@ -21,7 +21,7 @@ use Rattle.tree_laws.proofs.Lists.{none_here, first_or_later}
 use Rattle.tree_laws.proofs.CoveredSketches.{valid_covers, by_values, by_sources, by_order}
 use Rattle.cover_judge.specs.declared.choice.Choice.{Choice}
 use Rattle.cover_judge.specs.declared.choice.Choice.TheVariants as choice
-use Rattle.cover_judge.specs.Choices.{after, parts_after, MayChoose}
+use Rattle.cover_judge.specs.Choices.{sketch_with, parts_after, MayChoose}
 use Rattle.cover_judge.proofs.ChoicesJudged.{no_order}
 use Rattle.cover_judge.proofs.SketchesAfter.{reads_there, moved}
 use Rattle.cover_solver.specs.declared.choices_left.OpenChoice.{OpenChoice}
@@ -76,17 +76,17 @@ each_mapped P Q g f step (x ∷ xs) all y here = elim (first_or_later (f x) (map
 
 -- where the completions with each choice are listed, all are
 pub listed_by_choices : (s : Parts) (shown : Shown) (outcomes : List Outcome) (next : OpenChoice) (choices : List Choice) → IsLawful s → IsOpen s next → AreChoicesOf s next choices →
-    All (λ c. IsListed s shown outcomes (after (sketch_of s) c)) choices → IsListed s shown outcomes (sketch_of s)
+    All (λ c. IsListed s shown outcomes (sketch_with (sketch_of s) c)) choices → IsListed s shown outcomes (sketch_of s)
 listed_by_choices s shown outcomes (Value t) choices lawful is_open are each =
     by_values (asked s.program shown) (mode_in s) outcomes (forward_in s lawful) (sketch_of s) t are.values are.next
-    (λ k here fits. each_mapped (λ c. IsListed s shown outcomes (after (sketch_of s) c)) (λ j. IsListed s shown outcomes j) (choice.Value t) (with_value (sketch_of s) t) (λ v h. h) are.values
-    (subst (All (λ c. IsListed s shown outcomes (after (sketch_of s) c))) are.each each) k here) lawful.is_sketch
+    (λ k here fits. each_mapped (λ c. IsListed s shown outcomes (sketch_with (sketch_of s) c)) (λ j. IsListed s shown outcomes j) (choice.Value t) (with_value (sketch_of s) t) (λ v h. h) are.values
+    (subst (All (λ c. IsListed s shown outcomes (sketch_with (sketch_of s) c))) are.each each) k here) lawful.is_sketch
 listed_by_choices s shown outcomes (Source read) choices lawful is_open are each =
     by_sources (asked s.program shown) (mode_in s) outcomes (forward_in s lawful) (sketch_of s) (event_of read) are.sources are.next
-    (λ k here fits. each_mapped (λ c. IsListed s shown outcomes (after (sketch_of s) c)) (λ j. IsListed s shown outcomes j) (choice.Source read) (with_source (sketch_of s) (event_of read)) (λ v h. h)
-    are.sources (subst (All (λ c. IsListed s shown outcomes (after (sketch_of s) c))) are.each each) k here) lawful.is_sketch
+    (λ k here fits. each_mapped (λ c. IsListed s shown outcomes (sketch_with (sketch_of s) c)) (λ j. IsListed s shown outcomes j) (choice.Source read) (with_source (sketch_of s) (event_of read)) (λ v h. h)
+    are.sources (subst (All (λ c. IsListed s shown outcomes (sketch_with (sketch_of s) c))) are.each each) k here) lawful.is_sketch
 listed_by_choices s shown outcomes (Order first second) choices lawful may are each =
-    let both = subst (All (λ c. IsListed s shown outcomes (after (sketch_of s) c))) are each in
+    let both = subst (All (λ c. IsListed s shown outcomes (sketch_with (sketch_of s) c))) are each in
     by_order (asked s.program shown) (mode_in s) outcomes (forward_in s lawful) (sketch_of s) (event_of first) (event_of second) (no_order s (event_of first) (event_of second) may)
     (λ fits. both 0 (choice.Order first second) (omega arith)) (λ fits. both 1 (choice.Order first second) (omega arith)) lawful.is_sketch
 
@@ -107,7 +107,7 @@ pub fewer_rounds : (s next : Parts) (c : Choice) → IsLawful s → choice_count
 fewer_rounds s next c lawful few may same = fewer most_choices (choice_count s) (choice_count next) (ap choice_count same ∙ counted_after s c lawful may) few
 
 -- the search at the sketch after a choice
-module _ (s next : Parts) (shown : Shown) (c : Choice) (old new : Found) (same : next ≡ parts_after s c) (moves : sketch_of next ≡ after (sketch_of s) c) (explores : Explores next shown old new) where
+module _ (s next : Parts) (shown : Shown) (c : Choice) (old new : Found) (same : next ≡ parts_after s c) (moves : sketch_of next ≡ sketch_with (sketch_of s) c) (explores : Explores next shown old new) where
   pub grows_after : Grows s shown old new
   grows_after = record {
     in_order = explores.grows.in_order;
@@ -118,7 +118,7 @@ module _ (s next : Parts) (shown : Shown) (c : Choice) (old new : Found) (same :
       HasRunsOf : Listing → Mode → Type 0
       HasRunsOf p mode = HasRunOfEach (asked p shown) mode old → HasRunOfEach (asked p shown) mode new
 
-  pub listed_after : IsListed s shown new.outcomes.items (after (sketch_of s) c)
+  pub listed_after : IsListed s shown new.outcomes.items (sketch_with (sketch_of s) c)
   listed_after = moved (λ p mode k. IsCovered (asked p shown) mode new.outcomes.items k) s next c same moves explores.listed
 
 -- an outcome is put to those found, with its run

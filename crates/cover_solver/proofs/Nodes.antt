@@ -11,7 +11,7 @@ use Rattle.exec_axioms.specs.Parts.{Parts, mode_in, machine_mode, sketch_of, fir
 use Rattle.exec_axioms.specs.Choices.{MayFollow}
 use Rattle.exec_axioms.specs.Kept.{IsLawful}
 use Rattle.exec_axioms.specs.Known.{IsAccess}
-use Rattle.exec_axioms.specs.Sizes.{choice_count, most_choices, HaveSixRegisters}
+use Rattle.exec_axioms.specs.Sizes.{choice_count, most_choices, HaveAllRegisters}
 use Rattle.exec_axioms.proofs.ChoicesCounted.{event_small}
 use Rattle.exec_axioms.proofs.BranchesCounted.{few_values, few_sources}
 use Rattle.run_maker.proofs.Completeness.{read_there, first_there, second_there}
@@ -23,7 +23,7 @@ use Rattle.cert_forest.specs.Limits.{cover_depth, covers_depth}
 use Rattle.tree_laws.specs.CoverTrees.{event_of, IsValidCover, AreValidCovers}
 use Rattle.cover_judge.specs.declared.choice.Choice.{Choice}
 use Rattle.cover_judge.specs.declared.choice.Choice.TheVariants as choice
-use Rattle.cover_judge.specs.Choices.{after, parts_after, MayChoose, IsValueOpen, AreValueChoices, AreSourceChoices}
+use Rattle.cover_judge.specs.Choices.{sketch_with, parts_after, MayChoose, IsValueOpen, AreValueChoices, AreSourceChoices}
 use Rattle.cover_judge.proofs.ChoicesJudged.{no_order}
 use Rattle.cover_judge.proofs.SketchesAfter.{reads_there, moved, first_sketch}
 use Rattle.cover_solver.specs.declared.choices_left.OpenChoice.{OpenChoice}
@@ -55,16 +55,16 @@ named_small s a lawful is = (let small = event_small s lawful (event_of a) is in
 module _ (s : Parts) (shown : Shown) (outcomes : List Outcome) (lawful : IsLawful s) where
   -- there are as many trees as choices
   pub as_many_choices : (choices : List Choice) (trees : List Cover) → AreCoversAfter s shown outcomes choices trees → length trees ≡ length choices
-  as_many_choices choices trees are = as_many s shown outcomes trees (map (after (sketch_of s)) choices) are.valid ∙ length-map choices (after (sketch_of s))
+  as_many_choices choices trees are = as_many s shown outcomes trees (map (sketch_with (sketch_of s)) choices) are.valid ∙ length-map choices (sketch_with (sketch_of s))
 
   -- over the values of a read
-  value_cover : (t : ℕ) (choices : List Choice) (trees : List Cover) → HaveSixRegisters s.program.threads → IsValueOpen s t → AreValueChoices s t choices → AreCoversAfter s shown outcomes choices trees →
+  value_cover : (t : ℕ) (choices : List Choice) (trees : List Cover) → HaveAllRegisters s.program.threads → IsValueOpen s t → AreValueChoices s t choices → AreCoversAfter s shown outcomes choices trees →
       IsCoverAt s shown outcomes (Value t (covers_of trees))
   value_cover t choices trees six is_open are covers = record {
     valid = (
       are.values,
       are.next,
-      subst (AreValidCovers (asked s.program shown) (mode_in s) outcomes (covers_of trees)) (ap (map (after (sketch_of s))) are.each ∙ map_map (after (sketch_of s)) (choice.Value t) are.values) covers.valid,
+      subst (AreValidCovers (asked s.program shown) (mode_in s) outcomes (covers_of trees)) (ap (map (sketch_with (sketch_of s))) are.each ∙ map_map (sketch_with (sketch_of s)) (choice.Value t) are.values) covers.valid,
     );
     neat = record {
       numbers = (
@@ -86,7 +86,7 @@ module _ (s : Parts) (shown : Shown) (outcomes : List Outcome) (lawful : IsLawfu
     valid = (
       are.sources,
       are.next,
-      subst (AreValidCovers (asked s.program shown) (mode_in s) outcomes (covers_of trees)) (ap (map (after (sketch_of s))) are.each ∙ map_map (after (sketch_of s)) (choice.Source read) are.sources) covers.valid,
+      subst (AreValidCovers (asked s.program shown) (mode_in s) outcomes (covers_of trees)) (ap (map (sketch_with (sketch_of s))) are.each ∙ map_map (sketch_with (sketch_of s)) (choice.Source read) are.sources) covers.valid,
     );
     neat = record {
       numbers = (
@@ -126,7 +126,7 @@ module _ (s : Parts) (shown : Shown) (outcomes : List Outcome) (lawful : IsLawfu
   two_trees first second (one ∷ (other ∷ (more ∷ trees))) may covers = absurd covers.valid.1.1
 
   -- over the trees for each choice
-  pub node_cover : (next : OpenChoice) (choices : List Choice) (trees : List Cover) → HaveSixRegisters s.program.threads → IsOpen s next → AreChoicesOf s next choices → AreCoversAfter s shown outcomes choices trees →
+  pub node_cover : (next : OpenChoice) (choices : List Choice) (trees : List Cover) → HaveAllRegisters s.program.threads → IsOpen s next → AreChoicesOf s next choices → AreCoversAfter s shown outcomes choices trees →
       IsCoverAt s shown outcomes (tree_over next trees)
   node_cover (left.Value t) choices trees six is_open are covers = value_cover t choices trees six is_open are covers
   node_cover (left.Source read) choices trees six is_open are covers = source_cover read choices trees (read_there s (event_of read) is_open.is_read) are covers
@@ -170,14 +170,14 @@ module _ (s : Parts) (shown : Shown) (outcomes : List Outcome) (lawful : IsLawfu
   covers_more choices trees more i d tree h pushed are is =
       subst (AreCoversAfter s shown outcomes (take (i + 1) choices)) (sym pushed)
       (subst (λ cs. AreCoversAfter s shown outcomes cs (trees ++ tree ∷ [])) (sym (take_more choices i d h)) (record {
-        valid = subst (AreValidCovers (asked s.program shown) (mode_in s) outcomes (covers_of (trees ++ tree ∷ []))) (sym (map-append (after (sketch_of s)) (take i choices) (get_or choices i d ∷ [])))
-            (valid_push trees (map (after (sketch_of s)) (take i choices)) tree (after (sketch_of s) (get_or choices i d)) are.valid is.valid);
+        valid = subst (AreValidCovers (asked s.program shown) (mode_in s) outcomes (covers_of (trees ++ tree ∷ []))) (sym (map-append (sketch_with (sketch_of s)) (take i choices) (get_or choices i d ∷ [])))
+            (valid_push trees (map (sketch_with (sketch_of s)) (take i choices)) tree (sketch_with (sketch_of s) (get_or choices i d)) are.valid is.valid);
         neat = neat_push trees tree are.neat is.neat;
         shallow = depth_push trees tree (choice_count s) most_choices are.shallow is.shallow;
       }))
 
   -- a tree at the sketch with one choice more
-  module _ (next : Parts) (c : Choice) (tree : Cover) (may : MayChoose s c) (same : next ≡ parts_after s c) (moves : sketch_of next ≡ after (sketch_of s) c) (is : IsCoverAt next shown outcomes tree) where
+  module _ (next : Parts) (c : Choice) (tree : Cover) (may : MayChoose s c) (same : next ≡ parts_after s c) (moves : sketch_of next ≡ sketch_with (sketch_of s) c) (is : IsCoverAt next shown outcomes tree) where
     one_more : choice_count next ≡ choice_count s + 1
     one_more = ap choice_count same ∙ counted_after s c lawful may
 
@@ -204,6 +204,6 @@ cover_first p mode s shown outcomes tree same is =
     }
 
 -- a search that stops at the sketch after a choice stops at the sketch
-pub stop_after : (s next : Parts) (shown : Shown) (outcomes : List Outcome) (c : Choice) (why : Stop) → next ≡ parts_after s c → sketch_of next ≡ after (sketch_of s) c →
+pub stop_after : (s next : Parts) (shown : Shown) (outcomes : List Outcome) (c : Choice) (why : Stop) → next ≡ parts_after s c → sketch_of next ≡ sketch_with (sketch_of s) c →
     StopIs (asked next.program shown) (mode_in next) outcomes why → StopIs (asked s.program shown) (mode_in s) outcomes why
 stop_after s next shown outcomes c why same moves is = moved (λ p mode k. StopIs (asked p shown) mode outcomes why) s next c same moves is

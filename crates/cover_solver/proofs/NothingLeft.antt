@@ -12,7 +12,7 @@ use Rattle.cover_judge.specs.declared.choice.Choice.{Choice}
 use Rattle.cover_judge.specs.declared.choice.Choice.TheVariants as choice
 use Rattle.cover_judge.specs.Choices.{MayChoose, MayChooseEach}
 use Rattle.cover_judge.proofs.ChoicesJudged.{other_way, turned}
-use Rattle.exec_axioms.proofs.CoursesKept.{no_action}
+use Rattle.exec_axioms.proofs.TracesKept.{no_action}
 use Rattle.exec_axioms.proofs.Lookups.{same_default}
 use Rattle.run_maker.specs.Complete.{IsComplete, HasItsSource}
 use Rattle.run_maker.proofs.Completeness.{read_there, first_there, second_there}

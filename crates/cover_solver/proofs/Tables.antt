@@ -12,8 +12,8 @@ use Rattle.tso_program.specs.Limits.{JumpForward}
 use Rattle.tso_program.specs.Fences.{gaps_in}
 use Rattle.tso_machine.specs.declared.label.Label.{Label}
 use Rattle.tso_machine.specs.declared.label.Model.TheVariants as models
-use Rattle.tso_machine.specs.declared.ended.ReplayFault.{ReplayFault}
-use Rattle.tso_machine.specs.declared.ended.ReplayFault.TheVariants as replays
+use Rattle.tso_machine.specs.declared.replaying.ReplayFault.{ReplayFault}
+use Rattle.tso_machine.specs.declared.replaying.ReplayFault.TheVariants as replays
 use Rattle.tso_machine.specs.Faults.{ReplayFaultIs}
 use Rattle.tso_machine.proofs.Refused.{no_fault}
 use Rattle.tree_laws.proofs.Lists.{found_is_here}

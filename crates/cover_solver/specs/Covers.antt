@@ -16,7 +16,7 @@ use Rattle.cert_forest.specs.Limits.{cover_depth, covers_depth, HasNumbers, Have
 use Rattle.cert_forest.specs.Views.{cover}
 use Rattle.tree_laws.specs.CoverTrees.{IsValidCover, AreValidCovers}
 use Rattle.cover_judge.specs.declared.choice.Choice.{Choice}
-use Rattle.cover_judge.specs.Choices.{after}
+use Rattle.cover_judge.specs.Choices.{sketch_with}
 use Rattle.cover_solver.specs.declared.choices_left.OpenChoice.{OpenChoice}
 use Rattle.cover_solver.specs.declared.choices_left.OpenChoice.TheVariants as left
 use Rattle.cover_solver.specs.declared.cover.Children.{Children}
@@ -74,13 +74,13 @@ pub record IsCoverAt (s : Parts) (shown : Shown) (outcomes : List Outcome) (tree
 
 -- the same at the sketch after a choice
 pub record IsCoverAfter (s : Parts) (shown : Shown) (outcomes : List Outcome) (choice : Choice) (tree : Cover) : Type 0 where
-  pub valid : IsValidCover (asked s.program shown) (mode_in s) outcomes tree (after (sketch_of s) choice)
+  pub valid : IsValidCover (asked s.program shown) (mode_in s) outcomes tree (sketch_with (sketch_of s) choice)
   pub neat : IsNeat tree
   pub shallow : cover_depth tree + choice_count s ≤ most_choices
 
 -- the same of a tree for each choice
 pub record AreCoversAfter (s : Parts) (shown : Shown) (outcomes : List Outcome) (choices : List Choice) (trees : List Cover) : Type 0 where
-  pub valid : AreValidCovers (asked s.program shown) (mode_in s) outcomes (covers_of trees) (map (after (sketch_of s)) choices)
+  pub valid : AreValidCovers (asked s.program shown) (mode_in s) outcomes (covers_of trees) (map (sketch_with (sketch_of s)) choices)
   pub neat : AreNeat (covers_of trees)
   pub shallow : covers_depth (covers_of trees) + choice_count s ≤ most_choices
 

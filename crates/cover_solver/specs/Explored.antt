@@ -7,7 +7,7 @@ use Rattle.candidate_executions.specs.Sketches.{Sketch}
 use Rattle.exec_axioms.specs.Parts.{Parts, mode_in, sketch_of}
 use Rattle.tree_laws.specs.CoverTrees.{IsCovered}
 use Rattle.cover_judge.specs.declared.choice.Choice.{Choice}
-use Rattle.cover_judge.specs.Choices.{after}
+use Rattle.cover_judge.specs.Choices.{sketch_with}
 use Rattle.cover_solver.specs.declared.found.Found.{Found}
 use Rattle.cover_solver.specs.Found.{AscendWithRuns, HasRunOfEach, Keeps}
 
@@ -29,4 +29,4 @@ pub record Explores (s : Parts) (shown : Shown) (old new : Found) : Type 0 where
 -- the same of the completions with each of the choices
 pub record ExploresEach (s : Parts) (shown : Shown) (choices : List Choice) (old new : Found) : Type 0 where
   pub grows : Grows s shown old new
-  pub each : All (λ choice. IsListed s shown new.outcomes.items (after (sketch_of s) choice)) choices
+  pub each : All (λ choice. IsListed s shown new.outcomes.items (sketch_with (sketch_of s) choice)) choices

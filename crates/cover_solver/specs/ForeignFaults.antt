@@ -4,8 +4,8 @@ use Rattle.tso_program.specs.declared.listing.Listing.{Listing}
 use Rattle.tso_program.specs.declared.outcome.Outcome.{Outcome}
 use Rattle.tso_program.specs.Shown.{Question}
 use Rattle.tso_machine.specs.declared.label.Label.{Label}
-use Rattle.tso_machine.specs.declared.ended.ReplayFault.{ReplayFault}
-use Rattle.tso_machine.specs.declared.ended.ReplayFault.TheVariants as replays
+use Rattle.tso_machine.specs.declared.replaying.ReplayFault.{ReplayFault}
+use Rattle.tso_machine.specs.declared.replaying.ReplayFault.TheVariants as replays
 use Rattle.tso_machine.specs.Faults.{ReplayFaultIs}
 use Rattle.tso_machine.specs.Machine.{Fenced, no_gaps}
 use Rattle.tso_machine.specs.Outcomes.{IsShownRun, IsSequentialOutcome}

@@ -13,7 +13,7 @@ use crate::fault::Stop;
 use crate::leaf::leaf;
 use crate::run::shown_run;
 use cert_forest::CoverTree;
-use cover_judge::{Choice, TreeFault, chosen, judge_cover};
+use cover_judge::{Choice, TreeFault, judge_cover, sketch_with};
 use exec_axioms::{Mode, Sketch};
 use std::alloc::{AllocError, Global};
 use tso_program::{Outcome, Program, Shown};
@@ -90,7 +90,7 @@ fn cover_each(
     let _ = sketch.program();
     let mut trees = Vec::new(alloc);
     for choice in choices {
-        let next = chosen(sketch, *choice)?;
+        let next = sketch_with(sketch, *choice)?;
         let tree = cover_from(alloc, &next, shown, outcomes)?;
         if is_valid(alloc, &tree, sketch, shown, outcomes)? {
             return Ok(Children::One(tree));

@@ -14,7 +14,7 @@ use crate::branch::{choices_of, next_choice};
 use crate::found::Found;
 use crate::leaf::leaf;
 use crate::run::shown_run;
-use cover_judge::{Choice, chosen};
+use cover_judge::{Choice, sketch_with};
 use exec_axioms::{Mode, Sketch};
 use std::alloc::{AllocError, Global};
 use tso_program::{Program, Shown};
@@ -79,7 +79,7 @@ fn explore_each(
     // For the proof alone: what holds of every sketch is known where its program is read.
     let _ = sketch.program();
     for choice in choices {
-        let next = chosen(sketch, *choice)?;
+        let next = sketch_with(sketch, *choice)?;
         explore(alloc, &next, shown, found)?;
     }
     Ok(())

@@ -8,7 +8,7 @@ ghost use Rattle.cover_solver.specs.Ordered.{Ascend};
 use crate::branch::choices_of;
 use crate::choices_left::OpenChoice;
 use crate::leaf::leaf;
-use cover_judge::{Choice, chosen};
+use cover_judge::{Choice, sketch_with};
 use exec_axioms::Sketch;
 use std::alloc::{AllocError, Global};
 use tso_program::{Outcome, Shown};
@@ -83,7 +83,7 @@ fn count_open(
 {
     let mut count: usize = 0;
     for choice in choices {
-        let after = chosen(sketch, *choice)?;
+        let after = sketch_with(sketch, *choice)?;
         if leaf(alloc, &after, shown, outcomes)?.is_none() {
             count = count.saturating_add(1);
         }

@@ -25,7 +25,7 @@ use Rattle.candidate_executions.proofs.Lists.{first_is_here, later_is_here, mapp
 use Rattle.exec_axioms.specs.Parts.{Parts, mode_in, sketch_of}
 use Rattle.exec_axioms.specs.Kept.{IsLawful}
 use Rattle.exec_axioms.specs.Immediates.{any_number}
-use Rattle.exec_axioms.specs.Sizes.{HaveSixRegisters, most_values, most_sources}
+use Rattle.exec_axioms.specs.Sizes.{HaveAllRegisters, most_values, most_sources}
 use Rattle.exec_axioms.proofs.KnownValues.{known_all}
 use Rattle.exec_axioms.proofs.EventsCounted.{few_of, all_events, all_events_few, all_events_has}
 use Rattle.tso_program.specs.declared.instruction.TheConstants.{REGISTERS}
@@ -44,7 +44,7 @@ one_more : (n : ℕ) → n ≤ (n - 1) + 1
 one_more zero = omega arith
 one_more (suc n) = omega arith
 
-constants_few : (threads : List Thread) → HaveSixRegisters threads → length (constants threads) ≤ gap_count threads + (REGISTERS + 1) * length threads
+constants_few : (threads : List Thread) → HaveAllRegisters threads → length (constants threads) ≤ gap_count threads + (REGISTERS + 1) * length threads
 constants_few [] six = omega arith
 constants_few (thread ∷ threads) six =
     let rest = constants_few threads (λ t h. six (suc t) (omega arith)) in
@@ -102,7 +102,7 @@ module _ (p : Listing) where
   ]
 
   -- so different values of a location are few
-  pub few_values : (l : ℕ) (values : List ℕ) → IsWithinLimits p.threads p.memory → HaveSixRegisters p.threads → IsStrictlyIncreasing values → ((v : ℕ) → Contains values v → IsValueOf p l v) →
+  pub few_values : (l : ℕ) (values : List ℕ) → IsWithinLimits p.threads p.memory → HaveAllRegisters p.threads → IsStrictlyIncreasing values → ((v : ℕ) → Contains values v → IsValueOf p l v) →
       length values ≤ most_values
   few_values l values within six ascending are =
       let rises = AllPairs-from_increasing values ascending in

@@ -17,8 +17,8 @@ abbrev pub most_choices : ℕ
 most_choices = 2 * MAX_ACCESSES + MAX_ACCESSES * MAX_ACCESSES / 2
 
 -- each thread has all registers
-abbrev pub HaveSixRegisters : List Thread → Type 0
-HaveSixRegisters threads = (t : ℕ) → t < length threads → length (start_of threads t).registers ≡ REGISTERS
+abbrev pub HaveAllRegisters : List Thread → Type 0
+HaveAllRegisters threads = (t : ℕ) → t < length threads → length (start_of threads t).registers ≡ REGISTERS
 
 -- no location has more values: 0, the initial values of the locations and of the registers, and the numbers of the instructions, of which each thread has one more than gaps
 abbrev pub most_values : ℕ

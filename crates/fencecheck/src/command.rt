@@ -10,7 +10,7 @@ ghost use Rattle.fencecheck.specs.Names.{file_names_of};
 use crate::judge::{judge, refusal_line};
 use crate::parts::{CERTIFICATE_LIMIT, read_joined};
 use program_streams::{
-    FileFault, FileStore, TEXT_LIMIT, bytes_if_named, file_line, named_bytes, say,
+    FileFault, FileStore, TEXT_LIMIT, bytes_if_named, file_line, named_bytes, print,
 };
 use std::alloc::{AllocError, Global};
 use std::io::{Read, Write};
@@ -23,7 +23,7 @@ fn usage_line(alloc: Global) -> Result<Vec<u8>, AllocError>
 }
 
 /// Judges a certificate, prints the verdict, and returns the status.
-fn tell<W: Write>(
+fn print_verdict<W: Write>(
     alloc: Global,
     litmus: &[u8],
     certificate: &[u8],
@@ -33,8 +33,8 @@ fn tell<W: Write>(
     ensures { Prints (IsVerdict litmus.now certificate.now (option_map (λ text. text.items) costs)) (W.contents output.old) (W.contents output.new) result }
 {
     match judge(alloc, litmus, certificate, costs) {
-        Ok(line) => say(output, Ok(line), 0),
-        Err(refusal) => say(output, refusal_line(alloc, &refusal), 1),
+        Ok(line) => print(output, Ok(line), 0),
+        Err(refusal) => print(output, refusal_line(alloc, &refusal), 1),
     }
 }
 
@@ -46,9 +46,9 @@ fn run_input<R: Read, W: Write>(alloc: Global, input: &mut R, output: &mut W) ->
     match read_joined(alloc, input) {
         Ok(joined) => {
             let (litmus, certificate) = joined.bytes.split_at(joined.start);
-            tell(alloc, litmus, certificate, None, output)
+            print_verdict(alloc, litmus, certificate, None, output)
         }
-        Err(fault) => say(output, file_line(alloc, fault), 1),
+        Err(fault) => print(output, file_line(alloc, fault), 1),
     }
 }
 
@@ -97,7 +97,7 @@ fn tell_texts<W: Write>(alloc: Global, texts: Texts, output: &mut W) -> u8
         certificate,
         costs,
     } = texts;
-    tell(alloc, &litmus, &certificate, costs, output)
+    print_verdict(alloc, &litmus, &certificate, costs, output)
 }
 
 /// Judges what files hold.
@@ -112,7 +112,7 @@ fn run_files<S: FileStore, R: Read, W: Write>(
 {
     match texts_of(alloc, files, names, input) {
         Ok(texts) => tell_texts(alloc, texts, output),
-        Err(fault) => say(output, file_line(alloc, fault), 1),
+        Err(fault) => print(output, file_line(alloc, fault), 1),
     }
 }
 
@@ -141,7 +141,7 @@ pub fn run_command<S: FileStore, R: Read, W: Write>(
     ensures read { words.now ≡ [] → ReadsEnough (R.remaining input.old) (R.remaining input.new) }
 {
     if is_misused(words) {
-        return say(output, usage_line(alloc), 2);
+        return print(output, usage_line(alloc), 2);
     }
     let names = match words {
         [] => return run_input(alloc, input, output),

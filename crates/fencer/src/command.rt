@@ -14,7 +14,7 @@ use clap::error::ErrorKind;
 use fencer_words::{Job, read_words};
 use program_streams::{
     LineFault, TEXT_LIMIT, WritableFileStore, file_line, line_words, read_line_up_to, refuse_words,
-    say,
+    print,
 };
 use std::alloc::{AllocError, Global};
 use std::io::{Read, Write};
@@ -92,7 +92,7 @@ fn run_words<T: Threads + Sync, U: Wait + Sync, S: WritableFileStore, R: Read, W
         Ok(job) => run_job(rt, wait, alloc, files, &job, input, output),
         Err(error) => match error.kind() {
             ErrorKind::OutOfMemory => 1,
-            _ => say(output, error_text(alloc, &error), 2),
+            _ => print(output, error_text(alloc, &error), 2),
         },
     }
 }
@@ -123,7 +123,7 @@ pub fn run_command<T: Threads + Sync, U: Wait + Sync, S: WritableFileStore, R: R
     }
     let line = match read_line_up_to(alloc, input, TEXT_LIMIT) {
         Ok(line) => line,
-        Err(fault) => return say(output, file_line(alloc, fault), 1),
+        Err(fault) => return print(output, file_line(alloc, fault), 1),
     };
     match line_words(alloc, &line) {
         Ok(words) => run_words(rt, wait, alloc, files, words.as_slice(), input, output),

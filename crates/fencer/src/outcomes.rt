@@ -4,10 +4,10 @@ ghost use Rattle.std.specs.Prelude.{◌≡◌, IfOk, IfErr};
 ghost use Rattle.program_streams.specs.Streams.{Prints};
 ghost use Rattle.fencer.specs.Outcomes.{list_text, PrintsOutcomes, HasNoList, AreOutcomes};
 
-use crate::refusals::{Refusal, tell};
+use crate::refusals::{Refusal, print_answer};
 use cover_solver::{SolveFault, outcomes};
 use litmus_text::{Litmus, read_litmus};
-use program_streams::{FileStore, TEXT_LIMIT, file_line, named_bytes, say};
+use program_streams::{FileStore, TEXT_LIMIT, file_line, named_bytes, print};
 use report::{condition_line, observation_line, outcome_line};
 use std::alloc::{AllocError, Global};
 use std::io::{Read, Write};
@@ -66,11 +66,11 @@ pub fn run_outcomes<S: FileStore, R: Read, W: Write>(
     ensures { Prints (AreOutcomes model observed litmus.now (R.remaining input.old) (S.held files.now)) (W.contents output.old) (W.contents output.new) result }
 {
     match named_bytes(alloc, files, litmus, input, TEXT_LIMIT) {
-        Ok(bytes) => tell(
+        Ok(bytes) => print_answer(
             alloc,
             outcomes_lines(alloc, &bytes, model, observed),
             output,
         ),
-        Err(fault) => say(output, file_line(alloc, fault), 1),
+        Err(fault) => print(output, file_line(alloc, fault), 1),
     }
 }

@@ -10,7 +10,7 @@ use fencer_words::Placement;
 use placed_text::{PlacedText, TextFault, place_text};
 use program_streams::{
     FileFault, FileStore, TEXT_LIMIT, WritableFileStore, bytes_if_named, file_line, named_bytes,
-    say,
+    print,
 };
 use report::{costs_line, litmus_line};
 use std::alloc::{AllocError, Global};
@@ -144,8 +144,8 @@ fn deliver<S: WritableFileStore, W: Write>(
 {
     let Answer { lines, certificate } = answer;
     match keep_certificate(files, name, &certificate) {
-        Ok(()) => say(output, Ok(lines), 0),
-        Err(fault) => say(output, file_line(alloc, fault), 1),
+        Ok(()) => print(output, Ok(lines), 0),
+        Err(fault) => print(output, file_line(alloc, fault), 1),
     }
 }
 
@@ -164,7 +164,7 @@ fn place_texts<T: Threads + Sync, U: Wait + Sync, S: WritableFileStore, W: Write
 {
     match answer_of(rt, wait, alloc, asked, texts) {
         Ok(answer) => deliver(alloc, files, asked.certificate.as_deref(), answer, output),
-        Err(fault) => say(output, text_fault_line(alloc, fault), 1),
+        Err(fault) => print(output, text_fault_line(alloc, fault), 1),
     }
 }
 
@@ -184,6 +184,6 @@ pub fn run_place<T: Threads + Sync, U: Wait + Sync, S: WritableFileStore, R: Rea
 {
     match read_texts(alloc, &*files, asked, input) {
         Ok(texts) => place_texts(rt, wait, alloc, files, asked, &texts, output),
-        Err(fault) => say(output, file_line(alloc, fault), 1),
+        Err(fault) => print(output, file_line(alloc, fault), 1),
     }
 }

@@ -7,7 +7,7 @@ ghost use Rattle.fencer.specs.Refusals.{refusal_line, solve_line, IsTold};
 
 use cover_solver::SolveFault;
 use litmus_text::ReadFault;
-use program_streams::say;
+use program_streams::print;
 use report::{litmus_line, replay_line, run_line};
 use std::alloc::{AllocError, Global};
 use std::io::Write;
@@ -81,11 +81,11 @@ fn refusal_line(alloc: Global, why: Refusal) -> Result<Vec<u8>, AllocError>
 }
 
 /// Prints the lines of an answer, or why there is no answer, and returns the status.
-pub fn tell<W: Write>(alloc: Global, answer: Result<Vec<u8>, Refusal>, output: &mut W) -> u8
+pub fn print_answer<W: Write>(alloc: Global, answer: Result<Vec<u8>, Refusal>, output: &mut W) -> u8
     ensures { Prints (IsTold answer) (W.contents output.old) (W.contents output.new) result }
 {
     match answer {
-        Ok(lines) => say(output, Ok(lines), 0),
-        Err(why) => say(output, refusal_line(alloc, why), 1),
+        Ok(lines) => print(output, Ok(lines), 0),
+        Err(why) => print(output, refusal_line(alloc, why), 1),
     }
 }

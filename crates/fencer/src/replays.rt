@@ -6,10 +6,10 @@ ghost use Rattle.report.specs.Answers.{outcome_line, passed_line};
 ghost use Rattle.program_streams.specs.Streams.{Prints};
 ghost use Rattle.fencer.specs.Replays.{label_words_text, PrintsRun, HasNoRun, IsReplay};
 
-use crate::refusals::{Refusal, tell};
+use crate::refusals::{Refusal, print_answer};
 use gap_sets::GapSet;
 use litmus_text::{Litmus, read_litmus};
-use program_streams::{FileStore, TEXT_LIMIT, file_line, named_bytes, say};
+use program_streams::{FileStore, TEXT_LIMIT, file_line, named_bytes, print};
 use report::{outcome_line, passed_line};
 use std::alloc::{AllocError, Global};
 use std::io::{Read, Write};
@@ -86,7 +86,7 @@ pub fn run_replay<S: FileStore, R: Read, W: Write>(
     ensures { Prints (IsReplay model (label_words_text labels.now) litmus.now (R.remaining input.old) (S.held files.now)) (W.contents output.old) (W.contents output.new) result }
 {
     match named_bytes(alloc, files, litmus, input, TEXT_LIMIT) {
-        Ok(bytes) => tell(alloc, replay_lines(alloc, &bytes, model, labels), output),
-        Err(fault) => say(output, file_line(alloc, fault), 1),
+        Ok(bytes) => print_answer(alloc, replay_lines(alloc, &bytes, model, labels), output),
+        Err(fault) => print(output, file_line(alloc, fault), 1),
     }
 }

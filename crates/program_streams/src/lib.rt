@@ -13,6 +13,6 @@ pub use fault::{FileFault, file_line};
 pub use files::{
     FileStore, SystemFiles, TEXT_LIMIT, WritableFileStore, bytes_if_named, named_bytes,
 };
-pub use output::{refuse_words, say};
+pub use output::{print, refuse_words};
 pub use streams::{read_line_up_to, read_on, read_rest_up_to, read_up_to, write_bytes};
 pub use words::{LineFault, line_words};

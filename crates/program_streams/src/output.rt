@@ -10,7 +10,7 @@ use std::io::Write;
 
 /// Writes a text that could be made, and answers the status: the given one, and 1 where the writer fails. A text that
 /// could not be made is not told, and the status is 1.
-pub fn say<W: Write>(output: &mut W, text: Result<Vec<u8>, AllocError>, status: u8) -> u8
+pub fn print<W: Write>(output: &mut W, text: Result<Vec<u8>, AllocError>, status: u8) -> u8
     ensures { Prints (IsMade text status) (W.contents output.old) (W.contents output.new) result }
 {
     match text {
@@ -33,5 +33,5 @@ fn utf8_line(alloc: Global) -> Result<Vec<u8>, AllocError>
 pub fn refuse_words<W: Write>(alloc: Global, output: &mut W) -> u8
     ensures { Prints IsUtf8Refusal (W.contents output.old) (W.contents output.new) result }
 {
-    say(output, utf8_line(alloc), 2)
+    print(output, utf8_line(alloc), 2)
 }

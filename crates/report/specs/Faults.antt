@@ -5,8 +5,8 @@ use Rattle.gap_sets.specs.declared.costs.CostFault.{CostFault}
 use Rattle.gap_sets.specs.declared.costs.CostFault.TheVariants as cost
 use Rattle.tso_program.specs.declared.limits.ProgramFault.{ProgramFault}
 use Rattle.tso_program.specs.declared.limits.ProgramFault.TheVariants as program
-use Rattle.tso_machine.specs.declared.ended.ReplayFault.{ReplayFault}
-use Rattle.tso_machine.specs.declared.ended.ReplayFault.TheVariants as replay
+use Rattle.tso_machine.specs.declared.replaying.ReplayFault.{ReplayFault}
+use Rattle.tso_machine.specs.declared.replaying.ReplayFault.TheVariants as replay
 use Rattle.tso_machine.specs.declared.run_text.RunFault.{RunFault}
 use Rattle.tso_machine.specs.declared.run_text.RunFault.TheVariants as run
 use Rattle.litmus_reader.specs.declared.fault.ReadFault.{ReadFault}

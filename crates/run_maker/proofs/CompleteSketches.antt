@@ -18,7 +18,7 @@ use Rattle.candidate_executions.specs.declared.event.Event.{Event}
 use Rattle.candidate_executions.specs.declared.event.Event.TheVariants.{Initial, Access as At}
 use Rattle.candidate_executions.specs.declared.event.Kind.{Kind}
 use Rattle.candidate_executions.specs.declared.event.Kind.TheVariants as union
-use Rattle.candidate_executions.specs.Traces.{gaps_of}
+use Rattle.candidate_executions.specs.Traces.{fenced_gaps}
 use Rattle.candidate_executions.specs.Candidates.{Candidate, Writes, IsCandidate, EndsWith, HasOutcome}
 use Rattle.candidate_executions.specs.Consistency.{IsOfMode, Relates, Edge, IsAcyclic, IsConsistent}
 use Rattle.candidate_executions.specs.Sketches.{Completes, IsBefore, KnownRelates, KnownFromReads, MayBeLast}
@@ -126,7 +126,7 @@ module _ (s : Parts) (lawful : IsLawful s) (whole : IsComplete s) (acyclic : Has
   pub is_candidate : IsCandidate p mode become
   is_candidate = record {
     whole = λ t. (
-      end_or_read (action p.threads t) (gaps_of mode t) (length (code_of p.threads t)) (λ l. advance p lawful.within.shared.forward_jumps t l) (length (code_of p.threads t)) 0
+      end_or_read (action p.threads t) (fenced_gaps mode t) (length (code_of p.threads t)) (λ l. advance p lawful.within.shared.forward_jumps t l) (length (code_of p.threads t)) 0
           (start_of p.threads t) (given_to s.given t) (omega arith) (whole.whole t),
       lawful.is_sketch.used t,
     );

@@ -24,8 +24,8 @@ use Rattle.tso_machine.specs.declared.label.Model.TheVariants as models
 use Rattle.tso_machine.specs.declared.label.Cause.{Cause}
 use Rattle.tso_machine.specs.declared.label.Cause.TheVariants.{NoSuchThread, AtEnd, BufferEmpty, FenceWaits}
 use Rattle.tso_machine.specs.declared.label.StepFault.TheVariants.{Refused}
-use Rattle.tso_machine.specs.declared.ended.ReplayFault.{ReplayFault}
-use Rattle.tso_machine.specs.declared.ended.ReplayFault.TheVariants as fault
+use Rattle.tso_machine.specs.declared.replaying.ReplayFault.{ReplayFault}
+use Rattle.tso_machine.specs.declared.replaying.ReplayFault.TheVariants as fault
 use Rattle.tso_machine.specs.Machine.{Mode, State, start, step, run}
 use Rattle.tso_machine.specs.Modes.{mode_of}
 use Rattle.tso_machine.specs.Faults.{waits, IsFenced, Applies, Stops, EndsEarly, ReplayFaultIs, fault_of}

@@ -79,9 +79,9 @@ abbrev pub is_held : Bool → Action → Core → Bool
 is_held here a core = not (is_empty core.buffer) && (waits a || here)
 
 -- the thread and the memory after an action of either machine, none where it isn't possible
-abbrev pub after : Bool → Model → Action → Core → List ℕ → Option (Core × List ℕ)
-after here models.Sequential a core mem = after_direct a core mem
-after here models.Buffered a core mem = if is_held here a core then None else after_buffered a core mem
+abbrev pub after_action : Bool → Model → Action → Core → List ℕ → Option (Core × List ℕ)
+after_action here models.Sequential a core mem = after_direct a core mem
+after_action here models.Buffered a core mem = if is_held here a core then None else after_buffered a core mem
 
 -- a fault of the execution of an action
 abbrev pub IsHeld : Bool → Model → Action → Core → Type 0

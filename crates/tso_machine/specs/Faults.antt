@@ -6,8 +6,8 @@ use Rattle.tso_machine.specs.declared.label.Cause.{Cause}
 use Rattle.tso_machine.specs.declared.label.Cause.TheVariants.{NoSuchThread, AtEnd, BufferEmpty, FenceWaits}
 use Rattle.tso_machine.specs.declared.label.StepFault.{StepFault}
 use Rattle.tso_machine.specs.declared.label.StepFault.TheVariants as step
-use Rattle.tso_machine.specs.declared.ended.ReplayFault.{ReplayFault}
-use Rattle.tso_machine.specs.declared.ended.ReplayFault.TheVariants as fault
+use Rattle.tso_machine.specs.declared.replaying.ReplayFault.{ReplayFault}
+use Rattle.tso_machine.specs.declared.replaying.ReplayFault.TheVariants as fault
 use Rattle.tso_machine.specs.Machine.{Mode, Sequential, Fenced, State, start, run}
 use Rattle.tso_program.specs.declared.listing.Listing.{Listing}
 use Rattle.tso_program.specs.declared.action.Action.{Action}

@@ -8,8 +8,8 @@ use Rattle.tso_program.specs.Shown.{asked}
 use Rattle.tso_machine.specs.declared.label.Label.{Label}
 use Rattle.tso_machine.specs.declared.label.Cause.{Cause}
 use Rattle.tso_machine.specs.declared.label.Model.{Model}
-use Rattle.tso_machine.specs.declared.ended.ReplayFault.{ReplayFault}
-use Rattle.tso_machine.specs.declared.ended.ReplayFault.TheVariants as fault
+use Rattle.tso_machine.specs.declared.replaying.ReplayFault.{ReplayFault}
+use Rattle.tso_machine.specs.declared.replaying.ReplayFault.TheVariants as fault
 use Rattle.tso_machine.specs.Machine.{no_gaps, Mode, Fenced, State, start, step, run, IsRun, Allows, passes}
 use Rattle.tso_machine.specs.Modes.{mode_of}
 use Rattle.tso_machine.specs.Faults.{Applies, ReplayFaultIs}

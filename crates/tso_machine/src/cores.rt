@@ -3,7 +3,7 @@ ghost use Rattle.std.specs.Prelude.{◌≡◌, ◌<◌, ℕ, length, OnOk, false
 ghost use Rattle.tso_program.specs.Actions.{IsLocated};
 ghost use Rattle.tso_program.specs.declared.action.Action.TheVariants.{Stop};
 ghost use Rattle.tso_machine.specs.Machine as machine;
-ghost use Rattle.tso_machine.specs.Cores.{after_buffered, after_direct, after, ExecFaultIs};
+ghost use Rattle.tso_machine.specs.Cores.{after_buffered, after_direct, after_action, ExecFaultIs};
 ghost use Rattle.tso_machine.specs.Faults.{waits as does_wait};
 
 use crate::Pending;
@@ -124,7 +124,7 @@ impl Core {
     ) -> Result<(), StepFault>
         requires going { action ≡ Stop → ⊥ }
         requires located { IsLocated (length memory.old) action }
-        ensures ok { OnOk result (after fenced_here model action self.old memory.old ≡ Some (self.new, memory.new)) }
+        ensures ok { OnOk result (after_action fenced_here model action self.old memory.old ≡ Some (self.new, memory.new)) }
         ensures err { IfErr result (ExecFaultIs fenced_here model action self.old) }
     {
         match model {

@@ -2,16 +2,16 @@
 #![tactic(auto)]
 
 mod cores;
-mod ended;
 mod label;
 mod laws;
+mod replaying;
 mod run_text;
 mod state;
 
-pub use ended::{Ended, ReplayFault, replay};
 pub use label::{Cause, Label, Model, Pending};
 pub use laws::{
     all_shown_are_the_outcomes, examples_are_told, fences_are_avoided, runs_have_no_fault,
     the_first_fault_is_unique,
 };
+pub use replaying::{Ended, ReplayFault, replay};
 pub use run_text::{RunFault, label_of, read_run, write_run};

@@ -9,7 +9,7 @@ use Rattle.conditions.specs.Tokens.{sign_of_token}
 use Rattle.conditions.specs.declared.atom.Atom.{Atom}
 use Rattle.conditions.specs.Grammar.{Sign}
 use Rattle.conditions.specs.Stack.{Wants, Start, reading, tree_read, reached}
-use Rattle.conditions.proofs.Steps.{wants_step, has_step, wants_stop, has_stop}
+use Rattle.conditions.proofs.Steps.{operand_step, connective_step, operand_stop, connective_stop}
 use Rattle.conditions.proofs.reader.read.Goals as goal
 use Rattle.conditions.proofs.reader.read.Goals.{then-wanted+in_ok-wanted, else-wanted+in_ok-wanted-2}
 
@@ -31,11 +31,11 @@ loop-at-preserved c =
     elim c.if-wanted.branch [
       | then-wanted+in_ok-wanted w ↦
           rw (w.nodes-is, w.stack-is, w.wanted-is)
-          (wants_step before.0 t w.in_ok-wanted.wanted c.loop-at.nodes.items w.wants.new.nodes.items c.loop-at.stack.items w.wants.new.stack.items front (map sign_of_token (take (i + 1) ts)) rest all
+          (operand_step before.0 t w.in_ok-wanted.wanted c.loop-at.nodes.items w.read_operand.new.nodes.items c.loop-at.stack.items w.read_operand.new.stack.items front (map sign_of_token (take (i + 1) ts)) rest all
           (rw w.if-wanted.true at before.1) w.in_ok-wanted.ensures goes_on before.3 longer)
       | else-wanted+in_ok-wanted-2 w ↦
           rw (w.nodes-is, w.stack-is, w.wanted-is)
-          (has_step before.0 t w.in_ok-wanted-2.wanted c.loop-at.nodes.items w.has.new.nodes.items c.loop-at.stack.items w.has.new.stack.items front (map sign_of_token (take (i + 1) ts)) rest all
+          (connective_step before.0 t w.in_ok-wanted-2.wanted c.loop-at.nodes.items w.read_connective.new.nodes.items c.loop-at.stack.items w.read_connective.new.stack.items front (map sign_of_token (take (i + 1) ts)) rest all
           (rw w.if-wanted.false at before.1) w.in_ok-wanted-2.ensures goes_on before.3 longer)
     ]
 
@@ -51,7 +51,7 @@ returns-in_err-wanted-clause-refused c = λ place e.
     let longer = take-map sign_of_token (i + 1) ts ∙ map_more sign_of_token ts i first (omega arith) ∙ ap (λ (us : List (Sign Atom)). us ++ t ∷ []) (sym (take-map sign_of_token i ts)) in
     let given = rw e at c.from_residual.ensures in
     let fault : c.in_err-wanted.field-0.0 ≡ Refused place = sym given.1 in
-    wants_stop before.0 t c.in_err-wanted.field-0.0 c.loop-at.nodes.items c.wants.new.nodes.items c.loop-at.stack.items c.wants.new.stack.items (map sign_of_token ts) i place
+    operand_stop before.0 t c.in_err-wanted.field-0.0 c.loop-at.nodes.items c.read_operand.new.nodes.items c.loop-at.stack.items c.read_operand.new.stack.items (map sign_of_token ts) i place
     (rw c.if-wanted.true at before.1) c.in_err-wanted.ensures within came longer fault
 
 pub returns-in_err-wanted-2-clause-refused : goal.returns-in_err-wanted-2-clause-refused
@@ -66,5 +66,5 @@ returns-in_err-wanted-2-clause-refused c = λ place e.
     let longer = take-map sign_of_token (i + 1) ts ∙ map_more sign_of_token ts i first (omega arith) ∙ ap (λ (us : List (Sign Atom)). us ++ t ∷ []) (sym (take-map sign_of_token i ts)) in
     let given = rw e at c.from_residual-in_err-wanted-2.ensures in
     let fault : c.in_err-wanted-2.field-0.0 ≡ Refused place = sym given.1 in
-    has_stop before.0 t c.in_err-wanted-2.field-0.0 c.loop-at.nodes.items c.has.new.nodes.items c.loop-at.stack.items c.has.new.stack.items (map sign_of_token ts) i place
+    connective_stop before.0 t c.in_err-wanted-2.field-0.0 c.loop-at.nodes.items c.read_connective.new.nodes.items c.loop-at.stack.items c.read_connective.new.stack.items (map sign_of_token ts) i place
     (rw c.if-wanted.false at before.1) c.in_err-wanted-2.ensures within came longer fault

@@ -12,7 +12,7 @@ use Rattle.tree_laws.specs.CoverTrees.{event_of, IsValidCover, HasNoOrder}
 use Rattle.exec_axioms.proofs.Lookups.{same_default}
 use Rattle.cover_judge.specs.declared.choice.Choice.TheVariants as choice
 use Rattle.cover_judge.specs.CoverDefects.{FirstWrongCover, HasNoValues, HasNoSources}
-use Rattle.cover_judge.specs.Choices.{after, AreValueChoices, IsValueOpen, AreSourceChoices, IsSourceOpen}
+use Rattle.cover_judge.specs.Choices.{sketch_with, AreValueChoices, IsValueOpen, AreSourceChoices, IsSourceOpen}
 use Rattle.cover_judge.specs.Judged.{IfWrong, IsAtRoot, IsBelow, IsValidAfter, IsWrongAt, AreValidAfter, IsWrongChild, AreNotSoMany}
 use Rattle.cover_judge.proofs.Answered.{err_up, if_err, on_ok}
 use Rattle.cover_judge.proofs.ChoicesJudged.{if_wrong, from_child, values_differ, sources_differ, found_so_many}
@@ -148,7 +148,7 @@ judge-returns-in_err-judge_child-in-Order-clause-wrong t c =
     let P = IsWrongAt c.args.shown.now outs s (Order first second one other) (sketch_of s) in
     let fault = c.in_err-judge_child-in-Order.field-0.0 in
     let may = c.in_ok-judge_order-in-Order.ensures.may.0 in
-    let Q = IsBelow (λ n rest. (n ≡ 0) × IsWrongAt c.args.shown.now outs s one (after (sketch_of s) (choice.Order first second)) rest) in
+    let Q = IsBelow (λ n rest. (n ≡ 0) × IsWrongAt c.args.shown.now outs s one (sketch_with (sketch_of s) (choice.Order first second)) rest) in
     let wrong : IfWrong Q fault = rw c.deref-in-Order.ensures at c.in_err-judge_child-in-Order.ensures.wrong in
     err_up c.from_residual-in_err-judge_child-in-Order.result fault (IfWrong (IsWrongAt c.args.shown.now outs s (cover c.args.tree.now) (sketch_of s))) c.from_residual-in_err-judge_child-in-Order.ensures.1
     (subst (λ tree. IfWrong (IsWrongAt c.args.shown.now outs s tree (sketch_of s)) fault) (sym is) (if_wrong Q P fault (order_first c.args.shown.now outs s first second one other may) wrong))
@@ -164,9 +164,9 @@ judge-returns-in_ok-judge_child-in-Order-clause-valid t c =
     let is : cover c.args.tree.now ≡ Order first second one other = search (rules, the_lemmas, fold-roll-CoverTree Cover cover_node, fold_out-CoverTree Cover cover_node) in
     let P = IsWrongAt c.args.shown.now outs s (Order first second one other) (sketch_of s) in
     let may = c.in_ok-judge_order-in-Order.ensures.may.0 in
-    let before : IsValidAfter c.args.shown.now outs s one (after (sketch_of s) (choice.Order first second)) = rw c.deref-in-Order.ensures at c.in_ok-judge_child-in-Order.ensures.valid in
+    let before : IsValidAfter c.args.shown.now outs s one (sketch_with (sketch_of s) (choice.Order first second)) = rw c.deref-in-Order.ensures at c.in_ok-judge_child-in-Order.ensures.valid in
     subst (λ tree. OnOk c.judge_child-in-Order.result (IsValidAfter c.args.shown.now outs s tree (sketch_of s))) (sym is)
-    (on_ok c.judge_child-in-Order.result (IsValidAfter c.args.shown.now outs s other (after (sketch_of s) (choice.Order second first))) (IsValidAfter c.args.shown.now outs s (Order first second one other) (sketch_of s))
+    (on_ok c.judge_child-in-Order.result (IsValidAfter c.args.shown.now outs s other (sketch_with (sketch_of s) (choice.Order second first))) (IsValidAfter c.args.shown.now outs s (Order first second one other) (sketch_of s))
     (order_valid c.args.shown.now outs s first second one other may before) (rw c.deref-in-Order-2.ensures at c.judge_child-in-Order.ensures.valid))
 
 pub judge-returns-in_ok-judge_child-in-Order-clause-wrong : goal.judge-returns-in_ok-judge_child-in-Order-clause-wrong
@@ -180,8 +180,8 @@ judge-returns-in_ok-judge_child-in-Order-clause-wrong t c =
     let is : cover c.args.tree.now ≡ Order first second one other = search (rules, the_lemmas, fold-roll-CoverTree Cover cover_node, fold_out-CoverTree Cover cover_node) in
     let P = IsWrongAt c.args.shown.now outs s (Order first second one other) (sketch_of s) in
     let may = c.in_ok-judge_order-in-Order.ensures.may.0 in
-    let before : IsValidAfter c.args.shown.now outs s one (after (sketch_of s) (choice.Order first second)) = rw c.deref-in-Order.ensures at c.in_ok-judge_child-in-Order.ensures.valid in
-    let Q = IsBelow (λ n rest. (n ≡ 1) × IsWrongAt c.args.shown.now outs s other (after (sketch_of s) (choice.Order second first)) rest) in
+    let before : IsValidAfter c.args.shown.now outs s one (sketch_with (sketch_of s) (choice.Order first second)) = rw c.deref-in-Order.ensures at c.in_ok-judge_child-in-Order.ensures.valid in
+    let Q = IsBelow (λ n rest. (n ≡ 1) × IsWrongAt c.args.shown.now outs s other (sketch_with (sketch_of s) (choice.Order second first)) rest) in
     subst (λ tree. IfErr c.judge_child-in-Order.result (IfWrong (IsWrongAt c.args.shown.now outs s tree (sketch_of s)))) (sym is)
     (if_err c.judge_child-in-Order.result (IfWrong Q) (IfWrong P) (λ fault. if_wrong Q P fault (order_second c.args.shown.now outs s first second one other may before))
     (rw c.deref-in-Order-2.ensures at c.judge_child-in-Order.ensures.wrong))
@@ -189,7 +189,7 @@ judge-returns-in_ok-judge_child-in-Order-clause-wrong t c =
 pub judge_child-returns-in-Ok-clause-valid : goal.judge_child-returns-in-Ok-clause-valid
 judge_child-returns-in-Ok-clause-valid t c =
     let tree = cover c.args.tree.now in
-    moved (λ p mode k. IsValidCover (asked p c.args.shown.now) mode c.args.outcomes.now tree k) c.args.sketch.now c.in_ok-next.next c.args.choice c.in_ok-next.ensures.parts c.in_ok-next.ensures.after
+    moved (λ p mode k. IsValidCover (asked p c.args.shown.now) mode c.args.outcomes.now tree k) c.args.sketch.now c.in_ok-next.next c.args.choice c.in_ok-next.ensures.parts c.in_ok-next.ensures.sketch_with
     c.in-Ok.ensures.valid
 
 pub judge_child-returns-clause-wrong : goal.judge_child-returns-clause-wrong
@@ -197,9 +197,9 @@ judge_child-returns-clause-wrong t c =
     let s = c.args.sketch.now in
     let outs = c.args.outcomes.now in
     let tree = cover c.args.tree.now in
-    let wrong = moved (λ p mode k. IfWrong (FirstWrongCover (asked p c.args.shown.now) mode outs tree k) c.in-Err.fault) s c.in_ok-next.next c.args.choice c.in_ok-next.ensures.parts c.in_ok-next.ensures.after
+    let wrong = moved (λ p mode k. IfWrong (FirstWrongCover (asked p c.args.shown.now) mode outs tree k) c.in-Err.fault) s c.in_ok-next.next c.args.choice c.in_ok-next.ensures.parts c.in_ok-next.ensures.sketch_with
     c.in-Err.ensures.wrong in
-    from_child (IsWrongAt c.args.shown.now outs s tree (after (sketch_of s) c.args.choice)) c.args.number c.in-Err.fault c.from_parent.result c.from_parent.ensures wrong
+    from_child (IsWrongAt c.args.shown.now outs s tree (sketch_with (sketch_of s) c.args.choice)) c.args.number c.in-Err.fault c.from_parent.result c.from_parent.ensures wrong
 
 pub judge_children-returns-in_err-judge_child-clause-wrong : goal.judge_children-returns-in_err-judge_child-clause-wrong
 judge_children-returns-in_err-judge_child-clause-wrong t c =
@@ -210,7 +210,7 @@ judge_children-returns-in_err-judge_child-clause-wrong t c =
     let y = get_or c.args.choices.now number (choice.Value 0 0) in
     let below = IsBelow (IsWrongChild c.args.shown.now outs s (map cover c.args.trees.now) c.args.choices.now) in
     err_up c.from_residual.result c.in_err-judge_child.field-0.0 (IfWrong below) c.from_residual.ensures.1
-    (if_wrong (IsBelow (λ m others. (m ≡ number) × IsWrongAt c.args.shown.now outs s (cover x) (after (sketch_of s) y) others)) below c.in_err-judge_child.field-0.0
+    (if_wrong (IsBelow (λ m others. (m ≡ number) × IsWrongAt c.args.shown.now outs s (cover x) (sketch_with (sketch_of s) y) others)) below c.in_err-judge_child.field-0.0
     (stop_here c.args.shown.now outs s c.args.trees.now c.args.choices.now number x y c.loop-number-test.true c.index-trees-number.is (same_default c.args.choices.now number (choice.Value 0 0) y (let h = c.loop-number-test.true in let many = c.requires.as_many in omega arith)) c.requires.as_many c.loop-number.invariant) c.in_err-judge_child.ensures.wrong)
 
 pub judge_children-loop-number-preserved : goal.judge_children-loop-number-preserved

@@ -7,7 +7,7 @@ use Rattle.exec_axioms.specs.Parts.{sketch_of}
 use Rattle.run_maker.specs.Complete.{IsComplete}
 use Rattle.cover_judge.specs.declared.choice.Choice.{Choice}
 use Rattle.cover_judge.specs.declared.choice.Choice.TheVariants as choice
-use Rattle.cover_judge.specs.Choices.{after}
+use Rattle.cover_judge.specs.Choices.{sketch_with}
 use Rattle.cover_solver.specs.Choices.{IsOpen}
 use Rattle.cover_solver.specs.Explored.{IsListed, Explores, ExploresEach}
 use Rattle.cover_judge.proofs.Answered.{on_ok}
@@ -44,14 +44,14 @@ explore_each-loop-choice-preserved t c =
     let next = c.in_ok-next.next in
     let old = c.loop-choice.found in
     let new = c.explore.new.found in
-    let grows = grows_after s next shown ch old new c.in_ok-next.ensures.parts c.in_ok-next.ensures.after c.in_ok-explore.ensures in
-    let P = λ (x : Choice). IsListed s shown new.outcomes.items (after (sketch_of s) x) in
+    let grows = grows_after s next shown ch old new c.in_ok-next.ensures.parts c.in_ok-next.ensures.sketch_with c.in_ok-explore.ensures in
+    let P = λ (x : Choice). IsListed s shown new.outcomes.items (sketch_with (sketch_of s) x) in
     record {
       grows = grows_twice s shown c.args.found.now old new c.loop-choice.invariant.grows grows;
       each = subst (All P) (sym (take_more c.args.choices.now i d c.loop-choice-test.true)) (All-push P (take i c.args.choices.now) ch
-          (All-weaker (λ (x : Choice). IsListed s shown old.outcomes.items (after (sketch_of s) x)) P (λ x listed. listed_still s shown old.outcomes.items new.outcomes.items (after (sketch_of s) x) grows.keeps listed)
+          (All-weaker (λ (x : Choice). IsListed s shown old.outcomes.items (sketch_with (sketch_of s) x)) P (λ x listed. listed_still s shown old.outcomes.items new.outcomes.items (sketch_with (sketch_of s) x) grows.keeps listed)
           (take i c.args.choices.now) c.loop-choice.invariant.each)
-          (listed_after s next shown ch old new c.in_ok-next.ensures.parts c.in_ok-next.ensures.after c.in_ok-explore.ensures));
+          (listed_after s next shown ch old new c.in_ok-next.ensures.parts c.in_ok-next.ensures.sketch_with c.in_ok-explore.ensures));
     }
 
 pub explore_each-returns : goal.explore_each-returns
@@ -61,5 +61,5 @@ explore_each-returns t c =
     let new = c.loop-choice.found in
     record {
       grows = c.loop-choice.invariant.grows;
-      each = subst (All (λ (x : Choice). IsListed s shown new.outcomes.items (after (sketch_of s) x))) (take_all c.loop-choice.choice-index c.args.choices.now (omega (arith, c.loop-choice-test.false))) c.loop-choice.invariant.each;
+      each = subst (All (λ (x : Choice). IsListed s shown new.outcomes.items (sketch_with (sketch_of s) x))) (take_all c.loop-choice.choice-index c.args.choices.now (omega (arith, c.loop-choice-test.false))) c.loop-choice.invariant.each;
     }

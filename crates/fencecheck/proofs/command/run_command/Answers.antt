@@ -9,9 +9,9 @@ pub returns-then-is_misused-clause-printed : goal.returns-then-is_misused-clause
 returns-then-is_misused-clause-printed g c =
     let input = g.R.Read.remaining c.args.input.now in
     let files = g.S.FileStore.held c.args.files.now in
-    prints_more IsUsage (IsOutput (map string_bytes c.args.words.now) input files) _ _ c.say.result
+    prints_more IsUsage (IsOutput (map string_bytes c.args.words.now) input files) _ _ c.print.result
     (λ status out is. usage_output string_bytes c.args.words.now input files status out (sym c.is_misused.ensures ∙ c.if-is_misused.true) is)
-    (prints_line c.usage_line.result 2 usage_line IsUsage _ _ c.say.result (refl, refl) c.usage_line.ensures c.say.ensures)
+    (prints_line c.usage_line.result 2 usage_line IsUsage _ _ c.print.result (refl, refl) c.usage_line.ensures c.print.ensures)
 
 pub returns-then-is_misused-clause-read : goal.returns-then-is_misused-clause-read
 returns-then-is_misused-clause-read g c none =

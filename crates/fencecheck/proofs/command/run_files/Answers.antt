@@ -15,5 +15,5 @@ returns-in-Ok g c =
 pub returns-in-Err : goal.returns-in-Err
 returns-in-Err g c =
     let why = c.in-Err.fault in
-    prints_line c.file_line.result 1 (file_line why) (IsReplyToFiles (file_names_of c.args.names) (g.R.Read.remaining c.args.input.now) (g.S.FileStore.held c.args.files.now)) _ _ c.say.result
-    (no_file why c.in-Err.ensures.err) c.file_line.ensures c.say.ensures
+    prints_line c.file_line.result 1 (file_line why) (IsReplyToFiles (file_names_of c.args.names) (g.R.Read.remaining c.args.input.now) (g.S.FileStore.held c.args.files.now)) _ _ c.print.result
+    (no_file why c.in-Err.ensures.err) c.file_line.ensures c.print.ensures

@@ -19,5 +19,5 @@ returns-in-OutOfMemory-clause-told g c = prints_nothing _ _
 pub returns-clause-told : goal.returns-clause-told
 returns-clause-told g c =
     let refused = other c.in-Err.ensures.refused (λ memory. c.in_default.not-OutOfMemory (c.kind.ensures ∙ memory)) in
-    prints_made c.error_text.result 2 _ _ _ c.say.result
-    (IfOk-weaker c.error_text.result _ _ (λ text ends. no_command text.items refused ends) c.error_text.ensures) c.say.ensures
+    prints_made c.error_text.result 2 _ _ _ c.print.result
+    (IfOk-weaker c.error_text.result _ _ (λ text ends. no_command text.items refused ends) c.error_text.ensures) c.print.ensures

@@ -10,12 +10,12 @@ pub returns-in-Ok : goal.returns-in-Ok
 returns-in-Ok g c =
     let input = g.R.Read.remaining c.args.input.now in
     let files = g.S.FileStore.held c.args.files.now in
-    prints_more (IsTold c.outcomes_lines.result) (AreOutcomes c.args.model c.args.observed c.args.litmus.now input files) _ _ c.tell.result
+    prints_more (IsTold c.outcomes_lines.result) (AreOutcomes c.args.model c.args.observed c.args.litmus.now input files) _ _ c.print_answer.result
     (told_answer (PrintsOutcomes c.args.model c.args.observed) HasNoList c.args.litmus.now input files c.in-Ok.bytes.items c.in-Ok.ensures.whole c.outcomes_lines.result
     (rw c.deref.ensures.value at c.outcomes_lines.ensures.list) (rw c.deref.ensures.value at c.outcomes_lines.ensures.refused))
-    c.tell.ensures
+    c.print_answer.ensures
 
 pub returns-in-Err : goal.returns-in-Err
 returns-in-Err g c =
-    prints_line c.file_line.result 1 (file_line c.in-Err.fault) (AreOutcomes c.args.model c.args.observed c.args.litmus.now (g.R.Read.remaining c.args.input.now) (g.S.FileStore.held c.args.files.now)) _ _ c.say.result
-    (no_file c.in-Err.fault c.in-Err.ensures.err) c.file_line.ensures c.say.ensures
+    prints_line c.file_line.result 1 (file_line c.in-Err.fault) (AreOutcomes c.args.model c.args.observed c.args.litmus.now (g.R.Read.remaining c.args.input.now) (g.S.FileStore.held c.args.files.now)) _ _ c.print.result
+    (no_file c.in-Err.fault c.in-Err.ensures.err) c.file_line.ensures c.print.ensures

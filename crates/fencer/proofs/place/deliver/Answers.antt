@@ -9,9 +9,9 @@ use Rattle.fencer.proofs.place.deliver.Goals as goal
 
 pub returns-in-Ok-clause-told : goal.returns-in-Ok-clause-told
 returns-in-Ok-clause-told g c =
-    prints_made {E = AllocError} (Ok c.args.answer.lines) 0 _ _ _ c.say.result (kept (rw c.deref.ensures.value at c.in-Ok.ensures.kept)) c.say.ensures
+    prints_made {E = AllocError} (Ok c.args.answer.lines) 0 _ _ _ c.print.result (kept (rw c.deref.ensures.value at c.in-Ok.ensures.kept)) c.print.ensures
 
 pub returns-in-Err-clause-told : goal.returns-in-Err-clause-told
 returns-in-Err-clause-told g c =
-    prints_line c.file_line.result 1 (file_line file.Write) _ _ _ c.say-in-Err.result (not_kept c.in-Err.ensures.named)
-    (subst (λ (why : FileFault). IfOk c.file_line.result (λ line. line.items ≡ file_line why)) c.in-Err.ensures.fault c.file_line.ensures) c.say-in-Err.ensures
+    prints_line c.file_line.result 1 (file_line file.Write) _ _ _ c.print-in-Err.result (not_kept c.in-Err.ensures.named)
+    (subst (λ (why : FileFault). IfOk c.file_line.result (λ line. line.items ≡ file_line why)) c.in-Err.ensures.fault c.file_line.ensures) c.print-in-Err.ensures

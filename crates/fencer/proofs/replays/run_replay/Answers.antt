@@ -11,12 +11,12 @@ returns-in-Ok g c =
     let labels = label_words_text c.args.labels.now in
     let input = g.R.Read.remaining c.args.input.now in
     let files = g.S.FileStore.held c.args.files.now in
-    prints_more (IsTold c.replay_lines.result) (IsReplay c.args.model labels c.args.litmus.now input files) _ _ c.tell.result
+    prints_more (IsTold c.replay_lines.result) (IsReplay c.args.model labels c.args.litmus.now input files) _ _ c.print_answer.result
     (told_answer (PrintsRun c.args.model labels) (HasNoRun c.args.model labels) c.args.litmus.now input files c.in-Ok.bytes.items c.in-Ok.ensures.whole c.replay_lines.result
     (rw c.deref.ensures.value at c.replay_lines.ensures.run) (rw c.deref.ensures.value at c.replay_lines.ensures.refused))
-    c.tell.ensures
+    c.print_answer.ensures
 
 pub returns-in-Err : goal.returns-in-Err
 returns-in-Err g c =
-    prints_line c.file_line.result 1 (file_line c.in-Err.fault) (IsReplay c.args.model (label_words_text c.args.labels.now) c.args.litmus.now (g.R.Read.remaining c.args.input.now) (g.S.FileStore.held c.args.files.now)) _ _ c.say.result
-    (no_file c.in-Err.fault c.in-Err.ensures.err) c.file_line.ensures c.say.ensures
+    prints_line c.file_line.result 1 (file_line c.in-Err.fault) (IsReplay c.args.model (label_words_text c.args.labels.now) c.args.litmus.now (g.R.Read.remaining c.args.input.now) (g.S.FileStore.held c.args.files.now)) _ _ c.print.result
+    (no_file c.in-Err.fault c.in-Err.ensures.err) c.file_line.ensures c.print.ensures

@@ -1,8 +1,8 @@
 use Rattle.std.proofs.Common.{subst}
 use Rattle.exec_axioms.specs.Parts.{Parts}
 use Rattle.exec_axioms.specs.Kept.{IsLawful}
-use Rattle.exec_axioms.specs.Sizes.{HaveSixRegisters}
-use Rattle.exec_axioms.proofs.CoursesKept.{six_registers}
+use Rattle.exec_axioms.specs.Sizes.{HaveAllRegisters}
+use Rattle.exec_axioms.proofs.TracesKept.{six_registers}
 use Rattle.exec_axioms.proofs.ChoicesCounted.{choices_few}
 use Rattle.exec_axioms.proofs.sketch.Sketch.program.Goals as goal
 
@@ -10,5 +10,5 @@ pub returns-clause-few : goal.returns-clause-few
 returns-clause-few c = choices_few c.args.self.now (subst (λ (s : Parts). IsLawful s) c.self.view_is c.self.invariant.lawful)
 
 pub returns-clause-registers : goal.returns-clause-registers
-returns-clause-registers c = subst (λ (s : Parts). HaveSixRegisters s.program.threads) c.self.view_is
-    (six_registers c.self.inside.program c.self.inside.mode c.self.inside.courses.items c.self.inside.sources.items c.self.inside.pairs.items c.self.invariant)
+returns-clause-registers c = subst (λ (s : Parts). HaveAllRegisters s.program.threads) c.self.view_is
+    (six_registers c.self.inside.program c.self.inside.mode c.self.inside.thread_traces.items c.self.inside.sources.items c.self.inside.pairs.items c.self.invariant)

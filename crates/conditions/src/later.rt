@@ -1,9 +1,0 @@
-//! What a writer has still to write.
-
-/// What is written before the operand that is met next. After `Stop` comes no more: that operand is a right one.
-#[derive(Clone, Copy, Debug, PartialEq, Eq)]
-pub enum Later {
-    Not,
-    Open,
-    Stop,
-}

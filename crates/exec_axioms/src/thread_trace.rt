@@ -1,0 +1,221 @@
+//! What one thread does under its given values.
+ghost use Rattle.std.specs.Prelude.{◌≡◌, ◌<◌, ◌≤◌, ◌+◌, [], ◌∷◌, ◌++◌, length, IfOk};
+ghost use Rattle.candidate_executions.specs.Traces.{entered, store_of};
+ghost use Rattle.exec_axioms.specs.Parts.{machine_mode};
+ghost use Rattle.exec_axioms.specs.ThreadTraces.{GoesOn, IsTraceSoFarOf, IsThreadTraceOf, first_local};
+
+use crate::Mode;
+use crate::mode::ends_section;
+use candidate_executions::Access;
+use std::alloc::{AllocError, Global};
+use tso_program::{Action, Items, Local, Program, REGISTERS, Reg};
+
+/// The values given to a thread's reads, its accesses up to the first read that has no value, and its
+/// state there.
+#[derive(Drop)]
+pub(crate) struct ThreadTrace {
+    pub(crate) given: Items<u32>,
+    pub(crate) accesses: Items<Access>,
+    pub(crate) last: Local,
+}
+
+impl ThreadTrace {
+    pub(crate) fn copy(&self, alloc: Global) -> Result<ThreadTrace, AllocError>
+        ensures { IfOk result (λ other. other ≡ self.now) }
+    {
+        Ok(ThreadTrace {
+            given: self.given.copy(alloc)?,
+            accesses: self.accesses.copy(alloc)?,
+            last: self.last,
+        })
+    }
+
+    /// The given values, and one more.
+    pub(crate) fn with_given(&self, alloc: Global, value: u32) -> Result<Items<u32>, AllocError>
+        ensures { IfOk result (λ given. given ≡ self.now.given ++ value ∷ []) }
+    {
+        let mut given = self.given.copy(alloc)?;
+        given.push(value)?;
+        Ok(given)
+    }
+}
+
+/// A thread on its way: the section that it is in, and how many given values its reads have taken.
+#[derive(Drop)]
+struct TraceSoFar {
+    accesses: Items<Access>,
+    last: Local,
+    section: u8,
+    taken: usize,
+}
+
+impl TraceSoFar {
+    /// A thread at its start.
+    fn new(alloc: Global, registers: [u32; REGISTERS]) -> TraceSoFar
+        ensures start { result ≡ record { accesses = []; last = first_local registers; section = 0; taken = 0 } }
+        ensures six { length registers ≡ 6 }
+    {
+        let last = Local {
+            place: 0,
+            registers,
+            flag: false,
+        };
+        TraceSoFar {
+            accesses: Items::of(Vec::new(alloc)),
+            last,
+            section: 0,
+            taken: 0,
+        }
+    }
+
+    /// A section ends where a fenced gap is met.
+    fn enter(&mut self, fenced: bool)
+        requires { self.old.section < 255 }
+        ensures { self.new ≡ record self.old { section = entered fenced self.old.section } }
+    {
+        if fenced {
+            self.section += 1;
+        }
+    }
+
+    /// One instruction: whether the thread goes on after it.
+    fn go_on(&mut self, action: Action, given: &[u32]) -> Result<bool, AllocError>
+        requires { self.old.section < 255 }
+        ensures goes { IfOk result (GoesOn self.old.section self.old self.new action given.now) }
+        ensures section { IfOk result (λ on. self.new.section ≤ self.old.section + 1) }
+        ensures short { IfOk result (λ on. length self.new.accesses ≤ length self.old.accesses + 1) }
+    {
+        match action {
+            Action::Stop => Ok(false),
+            Action::Go(next) => {
+                self.last = next;
+                Ok(true)
+            }
+            Action::Wait(next) => {
+                self.section += 1;
+                self.last = next;
+                Ok(true)
+            }
+            Action::Write(location, value, next) => {
+                self.accesses.push(store(self.section, location, value))?;
+                self.last = next;
+                Ok(true)
+            }
+            Action::Read(location, to, next) => self.load(location, to, next, given),
+            Action::Swap(location, value, to, next) => {
+                self.exchange(location, value, to, next, given)
+            }
+        }
+    }
+
+    /// A load takes the next given value, where there is one.
+    fn load(
+        &mut self,
+        location: u8,
+        to: Reg,
+        next: Local,
+        given: &[u32],
+    ) -> Result<bool, AllocError>
+        ensures goes { IfOk result (GoesOn self.old.section self.old self.new (Action.Read location to next) given.now) }
+        ensures section { IfOk result (λ on. self.new.section ≡ self.old.section) }
+        ensures short { IfOk result (λ on. length self.new.accesses ≤ length self.old.accesses + 1) }
+    {
+        let Some(value) = given.get(self.taken).copied() else {
+            return Ok(false);
+        };
+        let load = Access {
+            section: self.section,
+            location,
+            read: Some(value),
+            written: None,
+        };
+        self.accesses.push(load)?;
+        self.taken += 1;
+        self.last = next.with(to, value);
+        Ok(true)
+    }
+
+    /// An exchange takes the next given value, where there is one, and ends its section.
+    fn exchange(
+        &mut self,
+        location: u8,
+        written: u32,
+        to: Reg,
+        next: Local,
+        given: &[u32],
+    ) -> Result<bool, AllocError>
+        requires { self.old.section < 255 }
+        ensures goes { IfOk result (GoesOn self.old.section self.old self.new (Action.Swap location written to next) given.now) }
+        ensures section { IfOk result (λ on. self.new.section ≤ self.old.section + 1) }
+        ensures short { IfOk result (λ on. length self.new.accesses ≤ length self.old.accesses + 1) }
+    {
+        let Some(value) = given.get(self.taken).copied() else {
+            return Ok(false);
+        };
+        let exchange = Access {
+            section: self.section,
+            location,
+            read: Some(value),
+            written: Some(written),
+        };
+        self.accesses.push(exchange)?;
+        self.taken += 1;
+        self.section += 1;
+        self.last = next.with(to, value);
+        Ok(true)
+    }
+}
+
+fn store(section: u8, location: u8, value: u32) -> Access
+    ensures { result ≡ store_of section location value }
+{
+    Access {
+        section,
+        location,
+        read: None,
+        written: Some(value),
+    }
+}
+
+/// Thread t on its way to its end, or to its first read that has no value.
+fn walked(
+    alloc: Global,
+    program: &Program,
+    mode: Mode,
+    t: u8,
+    given: &[u32],
+) -> Result<TraceSoFar, AllocError>
+    requires { t < length program.now.threads }
+    ensures { IfOk result (IsTraceSoFarOf program.now (machine_mode program.now mode) t given.now) }
+{
+    let thread = &program.threads()[t as usize];
+    let mut walk = TraceSoFar::new(alloc, thread.registers);
+    for step in 0..thread.code.len() {
+        let fenced = ends_section(program, mode, t, walk.last.place);
+        let action = program.action(t, walk.last);
+        walk.enter(fenced);
+        if !walk.go_on(action, given)? {
+            return Ok(walk);
+        }
+    }
+    Ok(walk)
+}
+
+/// What thread t does under its given values.
+pub(crate) fn thread_trace_of(
+    alloc: Global,
+    program: &Program,
+    mode: Mode,
+    t: u8,
+    given: Items<u32>,
+) -> Result<ThreadTrace, AllocError>
+    requires { t < length program.now.threads }
+    ensures { IfOk result (IsThreadTraceOf program.now (machine_mode program.now mode) t given) }
+{
+    let walk = walked(alloc, program, mode, t, given.as_slice())?;
+    Ok(ThreadTrace {
+        given,
+        accesses: walk.accesses,
+        last: walk.last,
+    })
+}

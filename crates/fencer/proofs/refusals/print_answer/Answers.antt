@@ -1,0 +1,13 @@
+use Rattle.std.proofs.Common.{Ok, refl}
+use Rattle.std.specs.declared.alloc.AllocError.{AllocError}
+use Rattle.program_streams.proofs.Printed.{prints_line, prints_made}
+use Rattle.fencer.specs.Refusals.{refusal_line, IsTold}
+use Rattle.fencer.proofs.refusals.print_answer.Goals as goal
+
+pub returns-in-Ok : goal.returns-in-Ok
+returns-in-Ok g c =
+    prints_made {E = AllocError} (Ok c.in-Ok.lines) 0 (IsTold c.args.answer) _ _ c.print.result (rw c.in-Ok.is (refl, refl)) c.print.ensures
+
+pub returns-in-Err : goal.returns-in-Err
+returns-in-Err g c =
+    prints_line c.refusal_line.result 1 (refusal_line c.in-Err.why) (IsTold c.args.answer) _ _ c.print-in-Err.result (rw c.in-Err.is (refl, refl)) c.refusal_line.ensures c.print-in-Err.ensures

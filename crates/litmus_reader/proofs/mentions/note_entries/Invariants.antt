@@ -1,9 +1,0 @@
-use Rattle.std.proofs.Common.{◌≡◌, map, take, fold}
-use Rattle.litmus_syntax.specs.Views.{entry_view}
-use Rattle.litmus_reader.specs.Filling.{noted}
-use Rattle.litmus_reader.specs.Places.{entry_place}
-use Rattle.litmus_reader.proofs.mentions.note_entries.Given as goal
-
--- the places of the entries so far are noted
-abbrev pub invariant-loop-entry : goal.invariant-loop-entry
-invariant-loop-entry l = l.names ≡ fold noted l.initial.names (map entry_place (map entry_view (take l.entry-index l.entries)))

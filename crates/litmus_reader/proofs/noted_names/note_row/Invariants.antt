@@ -1,0 +1,9 @@
+use Rattle.std.proofs.Common.{◌≡◌, map, take, fold}
+use Rattle.litmus_syntax.specs.Views.{cell_view}
+use Rattle.litmus_reader.specs.Filling.{noted}
+use Rattle.litmus_reader.specs.Places.{row_places}
+use Rattle.litmus_reader.proofs.noted_names.note_row.Given as goal
+
+-- what the cells so far name is noted
+abbrev pub invariant-loop-thread : goal.invariant-loop-thread
+invariant-loop-thread l = l.names ≡ fold noted l.initial.names (row_places (map cell_view (take l.thread l.row)))

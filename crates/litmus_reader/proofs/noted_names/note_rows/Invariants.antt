@@ -1,0 +1,10 @@
+use Rattle.std.proofs.Common.{◌≡◌, map, take, fold}
+use Rattle.std.specs.List.{flat_map}
+use Rattle.litmus_syntax.specs.Views.{row_view}
+use Rattle.litmus_reader.specs.Filling.{noted}
+use Rattle.litmus_reader.specs.Places.{row_places}
+use Rattle.litmus_reader.proofs.noted_names.note_rows.Given as goal
+
+-- what the rows so far name is noted
+abbrev pub invariant-loop-row : goal.invariant-loop-row
+invariant-loop-row l = l.names ≡ fold noted l.initial.names (flat_map row_places (map row_view (take l.row-index l.rows)))
