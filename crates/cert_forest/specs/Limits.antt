@@ -1,5 +1,5 @@
 -- What a certificate's text may hold.
-use Rattle.std.specs.Prelude.{◌≡◌, ℕ, suc, ◌+◌, ◌<◌, ◌≤◌, ◌^◌, List, length, max}
+use Rattle.std.specs.Prelude.{◌≡◌, ℕ, suc, ◌<◌, ◌≤◌, ◌^◌, List, length, max}
 use Rattle.std.specs.List.{AllByRecursion}
 use Rattle.gap_sets.specs.Gaps.{IsGapSet}
 use Rattle.tso_program.specs.declared.shown.Shown.{Shown}

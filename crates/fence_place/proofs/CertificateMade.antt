@@ -21,7 +21,7 @@ use Rattle.cert_forest.specs.Trees.{Cover}
 use Rattle.cert_forest.specs.declared.tree.TheConstants.{MAX_COVER_DEPTH, MAX_GAP_DEPTH}
 use Rattle.cert_forest.specs.Certificates.{Certificate}
 use Rattle.cert_forest.specs.Limits as limits
-use Rattle.cert_forest.specs.Limits.{IsWithin, IsGapTo, gap_depth}
+use Rattle.cert_forest.specs.Limits.{IsGapTo, gap_depth}
 use Rattle.tree_laws.specs.GapTrees.{IsValidGap}
 use Rattle.tree_laws.specs.Certificates.{IsRunOutside, IsValidCertificate, AreSequentialRuns}
 use Rattle.cover_solver.specs.Facts.{Table, Foreign, IsSequentialTable, IsListOf, IsServing, IsForeignValue}
