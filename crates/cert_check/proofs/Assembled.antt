@@ -8,7 +8,8 @@ use Rattle.tso_machine.specs.declared.label.Label.{Label}
 use Rattle.tso_machine.specs.Machine.{Fenced, no_gaps}
 use Rattle.tso_machine.specs.Outcomes.{IsShownRun}
 use Rattle.tree_laws.specs.GapTrees.{IsValidGap}
-use Rattle.tree_laws.specs.Certificates.{Certificate, IsRunOutside, IsValidCertificate}
+use Rattle.cert_forest.specs.Certificates.{Certificate}
+use Rattle.tree_laws.specs.Certificates.{IsRunOutside, IsValidCertificate}
 use Rattle.cert_check.specs.Faults.{IsFirstWithout, HasServingSet}
 use Rattle.cert_check.specs.Replays.{IsOutside}
 use Rattle.cert_check.proofs.GapNodes.{labels_at}

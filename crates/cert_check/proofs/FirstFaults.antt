@@ -14,7 +14,8 @@ use Rattle.cert_forest.specs.Trees.{Gap, Split, Bound, GapTrees, NoGap, MoreGaps
 use Rattle.cert_forest.specs.Texts.{count_gaps}
 use Rattle.tree_laws.specs.CoverTrees.{IsValidCover}
 use Rattle.tree_laws.specs.GapTrees.{IsValidGap, AreValidGaps}
-use Rattle.tree_laws.specs.Certificates.{Certificate, AreSequentialRuns, IsRunOutside, IsValidCertificate}
+use Rattle.cert_forest.specs.Certificates.{Certificate}
+use Rattle.tree_laws.specs.Certificates.{AreSequentialRuns, IsRunOutside, IsValidCertificate}
 use Rattle.tree_laws.proofs.Lists.{found_has}
 use Rattle.tree_laws.proofs.OneList.{one_list_of_gaps}
 use Rattle.cert_check.specs.declared.fault.CheckFault.{CheckFault}

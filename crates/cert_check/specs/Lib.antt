@@ -1,4 +1,3 @@
-pub mod Claims
 pub mod GapDefects
 pub mod Children
 pub mod Faults

@@ -13,10 +13,9 @@ ghost use Rattle.candidate_executions.specs.Sketches.{empty_sketch};
 ghost use Rattle.tree_laws.specs.CoverTrees.{IsValidCover};
 ghost use Rattle.tree_laws.specs.GapTrees.{IsValidGap};
 ghost use Rattle.tree_laws.specs.Laws.{IsProved};
-ghost use Rattle.tree_laws.specs.Certificates as trees;
+ghost use Rattle.cert_forest.specs.Certificates as specs;
 ghost use Rattle.tree_laws.specs.Certificates.{AreSequentialRuns, IsRunOutside, IsValidCertificate};
 ghost use Rattle.the_answer.specs.Answers.{the_answer, least_cost};
-ghost use Rattle.cert_check.specs.Claims.{claim_of};
 ghost use Rattle.cert_check.specs.Faults.{CheckFaultIs, HasHead, HasEachOutcome, HasForeignRuns, HasServingSet};
 ghost use Rattle.cert_check.specs.Replays.{HavePassed};
 
@@ -57,16 +56,16 @@ pub fn check(
     ensures headline { IfOk result (λ accepted. Headline (asked program.now shown.now) costs.now accepted.set) }
     ensures answer { IfOk result (λ accepted. IsTheAnswer (asked program.now shown.now) costs.now accepted.set) }
     ensures cost { IfOk result (λ accepted. accepted.cost ≡ total costs.now accepted.set) }
-    ensures set { IfOk result (λ accepted. accepted.set ≡ certificate.now.set) }
+    ensures set { IfOk result (λ accepted. accepted.set ≡ certificate.now.gaps) }
 
     // There is always an answer, which a definition computes: the set is that one, at the least cost.
     ensures best { IfOk result (λ accepted. accepted.set ≡ the_answer (asked program.now shown.now) costs.now) }
     ensures least { IfOk result (λ accepted. accepted.cost ≡ least_cost (asked program.now shown.now) costs.now) }
 
     // A valid certificate is accepted if memory is there, any other is refused by its first fault.
-    ensures valid { OnOk result (IsValidCertificate (asked program.now shown.now) costs.now (claim_of certificate.now)) }
-    ensures accepts { IsValidCertificate (asked program.now shown.now) costs.now (claim_of certificate.now) → IsOkUnless result CheckFault.OutOfMemory }
-    ensures fault { IfErr result (CheckFaultIs (asked program.now shown.now) costs.now (claim_of certificate.now)) }
+    ensures valid { OnOk result (IsValidCertificate (asked program.now shown.now) costs.now certificate.now) }
+    ensures accepts { IsValidCertificate (asked program.now shown.now) costs.now certificate.now → IsOkUnless result CheckFault.OutOfMemory }
+    ensures fault { IfErr result (CheckFaultIs (asked program.now shown.now) costs.now certificate.now) }
 {
     match check_all(alloc, program, shown, costs, certificate) {
         Ok(()) => {
@@ -83,7 +82,7 @@ pub fn check(
 /// A valid certificate for a program and the costs of its gaps proves the headline, which states the
 /// answer. Calling it does nothing.
 fn certificate_proves_answer(program: &Program, shown: &Shown, costs: &Costs)
-    ensures valid { (c : trees.Certificate) → IsValidCertificate (asked program.now shown.now) costs.now c → IsProved (asked program.now shown.now) costs.now c }
+    ensures valid { (c : specs.Certificate) → IsValidCertificate (asked program.now shown.now) costs.now c → IsProved (asked program.now shown.now) costs.now c }
     ensures told { (gaps : SetOfGaps) (cost : ℕ) → Headline (asked program.now shown.now) costs.now gaps → cost ≡ total costs.now gaps
         → (gaps ≡ the_answer (asked program.now shown.now) costs.now) × (cost ≡ least_cost (asked program.now shown.now) costs.now) }
 {
@@ -102,8 +101,8 @@ fn check_all(
     costs: &Costs,
     certificate: &Certificate,
 ) -> Result<(), CheckFault>
-    ensures valid { OnOk result (IsValidCertificate (asked program.now shown.now) costs.now (claim_of certificate.now)) }
-    ensures fault { IfErr result (CheckFaultIs (asked program.now shown.now) costs.now (claim_of certificate.now)) }
+    ensures valid { OnOk result (IsValidCertificate (asked program.now shown.now) costs.now certificate.now) }
+    ensures fault { IfErr result (CheckFaultIs (asked program.now shown.now) costs.now certificate.now) }
 {
     check_head(program, shown, costs, certificate)?;
     let listed = sequential_list(alloc, program, shown, certificate)?;
@@ -119,8 +118,8 @@ fn check_head(
     costs: &Costs,
     certificate: &Certificate,
 ) -> Result<(), CheckFault>
-    ensures ok { OnOk result (HasHead (asked program.now shown.now) costs.now (claim_of certificate.now)) }
-    ensures fault { IfErr result (CheckFaultIs (asked program.now shown.now) costs.now (claim_of certificate.now)) }
+    ensures ok { OnOk result (HasHead (asked program.now shown.now) costs.now certificate.now) }
+    ensures fault { IfErr result (CheckFaultIs (asked program.now shown.now) costs.now certificate.now) }
 {
     if !certificate.shown.same(shown) {
         return Err(CheckFault::Shown);
@@ -144,10 +143,10 @@ fn sequential_list(
     shown: &Shown,
     certificate: &Certificate,
 ) -> Result<Vec<Outcome>, CheckFault>
-    ensures replayed { IfOk result (λ listed. AreSequentialRuns (asked program.now shown.now) (claim_of certificate.now).seq_runs listed.items) }
-    ensures sequential { IfOk result (λ listed. IsValidCover (asked program.now shown.now) Sequential listed.items (claim_of certificate.now).seq_tree empty_sketch) }
-    ensures fault { (costs : List ℕ) → HasHead (asked program.now shown.now) costs (claim_of certificate.now)
-        → IfErr result (CheckFaultIs (asked program.now shown.now) costs (claim_of certificate.now)) }
+    ensures replayed { IfOk result (λ listed. AreSequentialRuns (asked program.now shown.now) certificate.now.seq_runs listed.items) }
+    ensures sequential { IfOk result (λ listed. IsValidCover (asked program.now shown.now) Sequential listed.items certificate.now.seq_tree empty_sketch) }
+    ensures fault { (costs : List ℕ) → HasHead (asked program.now shown.now) costs certificate.now
+        → IfErr result (CheckFaultIs (asked program.now shown.now) costs certificate.now) }
 {
     let listed = match replay_all(
         alloc,
@@ -182,10 +181,10 @@ fn foreign_runs(
     certificate: &Certificate,
     listed: &[Outcome],
 ) -> Result<Vec<GapSet>, CheckFault>
-    ensures passed { IfOk result (λ passed. HavePassed program.now (claim_of certificate.now).runs passed.items) }
-    ensures foreign { OnOk result (All (IsRunOutside (asked program.now shown.now) listed.now) (claim_of certificate.now).runs) }
-    ensures fault { (costs : List ℕ) → HasEachOutcome (asked program.now shown.now) costs (claim_of certificate.now) listed.now
-        → IfErr result (CheckFaultIs (asked program.now shown.now) costs (claim_of certificate.now)) }
+    ensures passed { IfOk result (λ passed. HavePassed program.now certificate.now.runs passed.items) }
+    ensures foreign { OnOk result (All (IsRunOutside (asked program.now shown.now) listed.now) certificate.now.runs) }
+    ensures fault { (costs : List ℕ) → HasEachOutcome (asked program.now shown.now) costs certificate.now listed.now
+        → IfErr result (CheckFaultIs (asked program.now shown.now) costs certificate.now) }
 {
     let replays = match replay_all(alloc, program, shown, Model::Buffered, &certificate.runs) {
         Ok(replays) => replays,
@@ -207,9 +206,9 @@ fn check_fenced(
     certificate: &Certificate,
     listed: &[Outcome],
 ) -> Result<(), CheckFault>
-    ensures fenced { OnOk result (IsValidCover (asked program.now shown.now) (Fenced (gaps_in program.now certificate.now.set)) listed.now (claim_of certificate.now).fenced_tree empty_sketch) }
-    ensures fault { (costs : List ℕ) → HasForeignRuns (asked program.now shown.now) costs (claim_of certificate.now) listed.now
-        → IfErr result (CheckFaultIs (asked program.now shown.now) costs (claim_of certificate.now)) }
+    ensures fenced { OnOk result (IsValidCover (asked program.now shown.now) (Fenced (gaps_in program.now certificate.now.gaps)) listed.now certificate.now.fenced_tree empty_sketch) }
+    ensures fault { (costs : List ℕ) → HasForeignRuns (asked program.now shown.now) costs certificate.now listed.now
+        → IfErr result (CheckFaultIs (asked program.now shown.now) costs certificate.now) }
 {
     let mode = Mode::Fenced(certificate.set);
     match judge_from_start(
@@ -233,10 +232,10 @@ fn check_gaps(
     certificate: &Certificate,
     passed: &[GapSet],
 ) -> Result<(), CheckFault>
-    ensures least { (p : Listing) → HavePassed p (claim_of certificate.now).runs passed.now
-        → OnOk result (IsValidGap p costs.now certificate.now.set (claim_of certificate.now).runs (claim_of certificate.now).gap_tree all_sets) }
-    ensures fault { (q : Question) (outcomes : List Outcome) → HavePassed q.program (claim_of certificate.now).runs passed.now
-        → HasServingSet q costs.now (claim_of certificate.now) outcomes → IfErr result (CheckFaultIs q costs.now (claim_of certificate.now)) }
+    ensures least { (p : Listing) → HavePassed p certificate.now.runs passed.now
+        → OnOk result (IsValidGap p costs.now certificate.now.gaps certificate.now.runs certificate.now.gap_tree all_sets) }
+    ensures fault { (q : Question) (outcomes : List Outcome) → HavePassed q.program certificate.now.runs passed.now
+        → HasServingSet q costs.now certificate.now outcomes → IfErr result (CheckFaultIs q costs.now certificate.now) }
 {
     let bounds = Bounds {
         costs,

@@ -4,9 +4,14 @@ use Rattle.std.specs.Fmt.{decimal}
 use Rattle.std.proofs.lemmas.Fmt.{decimal_digit}
 use Rattle.candidate_executions.specs.declared.event.Kind.{Kind}
 use Rattle.candidate_executions.specs.declared.event.Kind.TheVariants as kinds
+use Rattle.gap_sets.specs.declared.gap_set.TheConstants.{MAX_GAPS}
+use Rattle.gap_sets.specs.Gaps.{numbers_of_set}
+use Rattle.gap_sets.specs.Laws.{these}
+use Rattle.tso_program.specs.declared.shown.TheConstants.{PLACES}
 use Rattle.cert_forest.specs.declared.tree.TheConstants.{MAX_COVER_DEPTH}
 use Rattle.cert_forest.specs.Limits.{IsCoverTo, HasNumbers}
 use Rattle.cert_forest.specs.Laws.{TheExamplesAreCertificates, crossed, either, observed_tree}
+use Rattle.cert_forest.proofs.Ascending.{Ascend, numbers_back, ascending_are_below}
 
 -- single digits
 d0 : decimal 0 ≡ 48 ∷ []
@@ -64,13 +69,29 @@ either_numbers = (lit< tt, lit≤ tt, (lit< tt, (lit< tt, tt)))
 observed_fits : IsCoverTo MAX_COVER_DEPTH observed_tree
 observed_fits = (lit≤ tt, (lit< tt, lit≤ tt, (either_numbers, (either_numbers, (either_numbers, tt)))))
 
+-- the sets of the examples, by their numbers
+both : Ascend MAX_GAPS 0 (0 ∷ (1 ∷ []))
+both = (lit≤ tt, lit< tt, (lit≤ tt, lit< tt, tt))
+
+both_gaps : numbers_of_set (these (0 ∷ (1 ∷ []))) ≡ 0 ∷ (1 ∷ [])
+both_gaps = numbers_back MAX_GAPS (0 ∷ (1 ∷ [])) (lit≤ tt) both
+
+no_gap : numbers_of_set (these []) ≡ []
+no_gap = numbers_back MAX_GAPS [] (lit≤ tt) tt
+
+one : Ascend PLACES 0 (1 ∷ [])
+one = (lit≤ tt, lit< tt, tt)
+
+one_place : numbers_of_set (these (1 ∷ [])) ≡ 1 ∷ []
+one_place = numbers_back PLACES (1 ∷ []) (lit≤ tt) one
+
 pub told : TheExamplesAreCertificates
 told = record {
   crossing = record {
-    spelled = simp (d0, d1, d2, d3, d4);
+    spelled = simp (both_gaps, d0, d1, d2, d3, d4);
     within = record {
       shown = tt;
-      gaps = (lit≤ tt, lit< tt, (lit≤ tt, lit< tt, tt));
+      gaps = ascending_are_below MAX_GAPS (0 ∷ (1 ∷ [])) both;
       cost = lit< tt;
       seq_runs = (
         lit< tt,
@@ -104,10 +125,10 @@ told = record {
     };
   };
   nothing = record {
-    spelled = simp (d0, d1, d2, d3, d4);
+    spelled = simp (no_gap, d0, d1, d2, d3, d4);
     within = record {
       shown = tt;
-      gaps = tt;
+      gaps = ascending_are_below MAX_GAPS [] tt;
       cost = lit< tt;
       seq_runs = (lit< tt, ((lit≤ tt, tt), tt));
       seq_tree = (lit≤ tt, lit< tt);
@@ -117,10 +138,10 @@ told = record {
     };
   };
   observed = record {
-    spelled = simp (d0, d1, d2, d3, d4);
+    spelled = simp (no_gap, one_place, d0, d1, d2, d3, d4);
     within = record {
-      shown = (lit≤ tt, lit< tt, tt);
-      gaps = tt;
+      shown = ascending_are_below PLACES (1 ∷ []) one;
+      gaps = ascending_are_below MAX_GAPS [] tt;
       cost = lit< tt;
       seq_runs = (
         lit< tt,

@@ -1,88 +1,43 @@
 -- The head of a certificate's text is read exactly: its version, and what is shown.
-use Rattle.std.proofs.Common.{◌≡◌, ℕ, zero, suc, ◌+◌, ◌≤◌, Bool, true, false, cond, List, [], ◌∷◌, ◌++◌, length, map, Option, Some, None, refl, sym, ap, subst, ◌∙◌, append_assoc, arith, inl, inr}
-use Rattle.std.specs.Prelude.{codes, nat_lt}
+use Rattle.std.proofs.Common.{◌≡◌, ℕ, Bool, true, false, cond, List, [], ◌∷◌, ◌++◌, map, Some, None, refl, sym, ap, subst, ◌∙◌, append_assoc, arith, inl, inr}
+use Rattle.std.specs.Prelude.{codes}
 use Rattle.std.specs.Str.{bytes_eq}
-use Rattle.std.proofs.lemmas.Bool.{ltb-false, le-ltb}
 use Rattle.std.proofs.lemmas.Slice.Eq.{bytes_eq-Decides}
-use Rattle.std.proofs.lemmas.List.{append-nil}
 use Rattle.cert_words.specs.Lines.{texts_of, spaced, line}
 use Rattle.text_tokens.specs.Steps.{◌>>=◌}
-use Rattle.cert_words.specs.Words.{word_at, line_name_at, end_at, begins_word}
-use Rattle.text_tokens.proofs.StepLaws.{bind_some, kept_out, by_test}
+use Rattle.cert_words.specs.Words.{word_at, line_name_at, end_at}
+use Rattle.text_tokens.proofs.StepLaws.{bind_some, by_test}
 use Rattle.std.proofs.lemmas.Option.{cond_some, same_Some}
-use Rattle.cert_words.proofs.Steps.{Starts, done_with}
+use Rattle.cert_words.proofs.Steps.{Starts}
 use Rattle.cert_words.proofs.WordLaws.{word_takes, word_again, name_takes, name_again, end_takes, end_again}
+use Rattle.std.specs.FinSet as set
+use Rattle.gap_sets.specs.Gaps.{SetOfGaps, numbers_of_set}
 use Rattle.tso_program.specs.declared.shown.TheConstants.{PLACES}
+use Rattle.tso_program.specs.declared.shown.Shown.{Shown}
+use Rattle.tso_program.specs.declared.shown.Shown.TheVariants.{All, Only}
+use Rattle.tso_program.specs.Names.{ArePlaces}
 use Rattle.cert_forest.specs.Texts.{place_word, head_lines}
-use Rattle.cert_forest.specs.Limits.{PlacesFrom, AreShownPlaces}
-use Rattle.cert_forest.specs.Reading.{place_word_at, places_at, shown_line_at, version_at, header_at, shown_words_at, shown_at}
+use Rattle.cert_forest.specs.Limits.{AreShownPlaces}
+use Rattle.cert_forest.specs.Reading.{place_word_at, ascending_at, shown_line_at, version_at, header_at, shown_words_at, shown_at}
+use Rattle.cert_forest.proofs.AscendingLaws.{numbers_start, numbers_take, numbers_again}
 use Rattle.cert_forest.proofs.PlaceLaws.{place_text, place_exact}
 use Rattle.cert_forest.proofs.TreeTexts.{texts_map}
 use Rattle.cert_forest.proofs.LineLaws.{line_at, line_of, line_takes, line_again}
 
--- ---- places
-
-places_take : (n least : ℕ) (found : List ℕ) (bytes : List ℕ) (x : List ℕ × List ℕ) → places_at n least found bytes ≡ Some x
-    → (more : List ℕ) × (x.0 ≡ found ++ more) × (bytes ≡ texts_of place_text more ++ x.1) × PlacesFrom least more
-unfolding places_at
-places_take zero least found bytes x e =
-    let k = kept_out (begins_word bytes) (Some (found, bytes)) x e in
-    let same = same_Some (found, bytes) x k.1 in
-    ([], sym (ap (λ p. p.0) same) ∙ sym (append-nil found), ap (λ p. p.1) same, tt)
-places_take (suc n) least found bytes x e =
-    elim (by_test (begins_word bytes) (place_word_at bytes >>= λ place. cond (nat_lt place.0 least) None (places_at n (place.0 + 1) (found ++ place.0 ∷ []) place.1)) (Some (found, bytes)) (Some x) e) [
-      | inl h ↦
-          let u = bind_some (place_word_at bytes) (λ place. cond (nat_lt place.0 least) None (places_at n (place.0 + 1) (found ++ place.0 ∷ []) place.1)) x h.1 in
-          let k = kept_out (nat_lt u.0.0 least) (places_at n (u.0.0 + 1) (found ++ u.0.0 ∷ []) u.0.1) x u.2 in
-          let above : least ≤ u.0.0 = ltb-false _ _ k.0 in
-          let one = place_exact.takes bytes u.0 u.1 in
-          let others = places_take n (u.0.0 + 1) (found ++ u.0.0 ∷ []) u.0.1 x k.1 in
-          (u.0.0 ∷ others.0, others.1 ∙ append_assoc found (u.0.0 ∷ []) others.0, one.0 ∙ ap (λ (w : List ℕ). place_text u.0.0 ++ w) others.2 ∙ sym (append_assoc (place_text u.0.0) (texts_of place_text others.0) x.1), (above, one.1, others.3))
-      | inr h ↦
-          let same = same_Some (found, bytes) x h.1 in
-          ([], sym (ap (λ p. p.0) same) ∙ sym (append-nil found), ap (λ p. p.1) same, tt)
-    ]
-
-places_start : (ps : List ℕ) (rest : List ℕ) → Starts (texts_of place_text ps ++ 10 ∷ rest)
-places_start [] rest = refl
-places_start (p ∷ ps) rest = refl
-
-places_few : (least : ℕ) (ps : List ℕ) → least ≤ PLACES → PlacesFrom least ps → length ps + least ≤ PLACES
-places_few least [] le up = omega arith
-places_few least (p ∷ ps) le up = omega (arith, up.0, up.1, places_few (p + 1) ps (omega (arith, up.1)) up.2)
-
-places_again : (n least : ℕ) (ps found : List ℕ) (rest : List ℕ) → PlacesFrom least ps → length ps ≤ n → places_at n least found (texts_of place_text ps ++ 10 ∷ rest) ≡ Some (found ++ ps, 10 ∷ rest)
-unfolding places_at
-places_again zero least [] found rest up few = ap (done_with (10 ∷ rest)) (sym (append-nil found))
-places_again zero least (p ∷ ps) found rest up few = absurd (omega arith)
-places_again (suc n) least [] found rest up few = ap (done_with (10 ∷ rest)) (sym (append-nil found))
-places_again (suc n) least (p ∷ ps) found rest up few =
-    let here : place_word_at (place_text p ++ (texts_of place_text ps ++ 10 ∷ rest)) ≡ Some (p, texts_of place_text ps ++ 10 ∷ rest) = place_exact.again p (texts_of place_text ps ++ 10 ∷ rest) up.1 (places_start ps rest) in
-    let whole : place_word_at ((place_text p ++ texts_of place_text ps) ++ 10 ∷ rest) ≡ Some (p, texts_of place_text ps ++ 10 ∷ rest) = ap place_word_at (append_assoc (place_text p) (texts_of place_text ps) (10 ∷ rest)) ∙ here in
-    let above : nat_lt p least ≡ false = le-ltb _ _ up.0 in
-    ap (λ o. o >>= λ place. cond (nat_lt place.0 least) None (places_at n (place.0 + 1) (found ++ place.0 ∷ []) place.1)) whole
-    ∙ rw above (places_again n (p + 1) ps (found ++ p ∷ []) rest up.2 (omega arith))
-    ∙ ap (done_with (10 ∷ rest)) (append_assoc found (p ∷ []) ps)
-
 -- ---- the line of what is shown
 
-pub shown_line_takes : (bytes : List ℕ) (x : List ℕ × List ℕ) → shown_line_at bytes ≡ Some x → (bytes ≡ line (codes "shown") (map place_word x.0) ++ x.1) × PlacesFrom 0 x.0
+pub shown_line_takes : (bytes : List ℕ) (x : SetOfGaps × List ℕ) → shown_line_at bytes ≡ Some x → (bytes ≡ line (codes "shown") (map place_word (numbers_of_set x.0)) ++ x.1) × ArePlaces x.0
 unfolding shown_line_at
 shown_line_takes bytes x e =
-    let t = line_takes (places_at PLACES 0 []) (λ ps. texts_of place_text ps) (PlacesFrom 0) read (codes "shown") bytes x e in
-    (t.0 ∙ ap (λ (w : List ℕ). line_of (codes "shown") w ++ x.1) (sym (texts_map place_word x.0)), t.1)
-  where
-    read : (bytes : List ℕ) (x : List ℕ × List ℕ) → places_at PLACES 0 [] bytes ≡ Some x → (bytes ≡ texts_of place_text x.0 ++ x.1) × PlacesFrom 0 x.0
-    read bytes x e =
-        let p = places_take PLACES 0 [] bytes x e in
-        subst (λ (ps : List ℕ). (bytes ≡ texts_of place_text ps ++ x.1) × PlacesFrom 0 ps) (sym p.1) (p.2, p.3)
+    let t = line_takes (ascending_at place_word_at PLACES 0 set.empty) (λ s. texts_of place_text (numbers_of_set s)) ArePlaces (numbers_take place_word_at place_word PLACES place_exact (omega arith)) (codes "shown") bytes x e in
+    (t.0 ∙ ap (λ (w : List ℕ). line_of (codes "shown") w ++ x.1) (sym (texts_map place_word (numbers_of_set x.0))), t.1)
 
-shown_line_again : (ps : List ℕ) (rest : List ℕ) → PlacesFrom 0 ps → shown_line_at (line (codes "shown") (map place_word ps) ++ rest) ≡ Some (ps, rest)
+shown_line_again : (s : SetOfGaps) (rest : List ℕ) → ArePlaces s → shown_line_at (line (codes "shown") (map place_word (numbers_of_set s)) ++ rest) ≡ Some (s, rest)
 unfolding shown_line_at
-shown_line_again ps rest up =
-    let few : length ps ≤ PLACES = omega (arith, places_few 0 ps (omega arith) up) in
-    ap (λ (w : List ℕ). line_at (codes "shown") (places_at PLACES 0 []) (line_of (codes "shown") w ++ rest)) (texts_map place_word ps)
-    ∙ line_again (places_at PLACES 0 []) (texts_of place_text ps) (codes "shown") ps rest refl (places_start ps rest) (places_again PLACES 0 ps [] rest up few)
+shown_line_again s rest low =
+    ap (λ (w : List ℕ). line_at (codes "shown") (ascending_at place_word_at PLACES 0 set.empty) (line_of (codes "shown") w ++ rest)) (texts_map place_word (numbers_of_set s))
+    ∙ line_again (ascending_at place_word_at PLACES 0 set.empty) (texts_of place_text (numbers_of_set s)) (codes "shown") s rest refl
+    (numbers_start place_word_at place_word PLACES place_exact (numbers_of_set s) rest) (numbers_again place_word_at place_word PLACES place_exact (omega arith) s rest low)
 
 -- ---- the first line
 
@@ -141,25 +96,26 @@ header_again second rest =
 
 -- ---- the head
 
-pub head_takes : (bytes : List ℕ) (x : Option (List ℕ) × List ℕ) → shown_at bytes ≡ Some x → (bytes ≡ head_lines x.0 ++ x.1) × AreShownPlaces x.0
+pub head_takes : (bytes : List ℕ) (x : Shown × List ℕ) → shown_at bytes ≡ Some x → (bytes ≡ head_lines x.0 ++ x.1) × AreShownPlaces x.0
 unfolding shown_at
 head_takes bytes x e =
     let h = bind_some (header_at bytes) (λ version. shown_words_at version.0 version.1) x e in
     by_version h.0.0 h.0.1 (header_takes bytes h.0 h.1) h.2
   where
     by_version : (second : Bool) (rest : List ℕ) → bytes ≡ header_line second ++ rest → shown_words_at second rest ≡ Some x → (bytes ≡ head_lines x.0 ++ x.1) × AreShownPlaces x.0
-    by_version false rest first h = subst (λ (y : Option (List ℕ) × List ℕ). (bytes ≡ head_lines y.0 ++ y.1) × AreShownPlaces y.0) (same_Some (None, rest) x h) (first, tt)
+    by_version false rest first h = subst (λ (y : Shown × List ℕ). (bytes ≡ head_lines y.0 ++ y.1) × AreShownPlaces y.0) (same_Some (All, rest) x h) (first, tt)
     by_version true rest first h =
-        let s = bind_some (shown_line_at rest) (λ places. Some (Some places.0, places.1)) x h in
+        let s = bind_some (shown_line_at rest) (λ places. Some (Only places.0, places.1)) x h in
         let t = shown_line_takes rest s.0 s.1 in
-        let here : bytes ≡ head_lines (Some s.0.0) ++ s.0.1 =
-        first ∙ ap (λ (w : List ℕ). header_line true ++ w) t.0 ∙ sym (append_assoc (header_line true) (line (codes "shown") (map place_word s.0.0)) s.0.1) in
-        subst (λ (y : Option (List ℕ) × List ℕ). (bytes ≡ head_lines y.0 ++ y.1) × AreShownPlaces y.0) (same_Some (Some s.0.0, s.0.1) x s.2) (here, t.1)
+        let here : bytes ≡ head_lines (Only s.0.0) ++ s.0.1 =
+        first ∙ ap (λ (w : List ℕ). header_line true ++ w) t.0 ∙ sym (append_assoc (header_line true) (line (codes "shown") (map place_word (numbers_of_set s.0.0))) s.0.1) in
+        subst (λ (y : Shown × List ℕ). (bytes ≡ head_lines y.0 ++ y.1) × AreShownPlaces y.0) (same_Some (Only s.0.0, s.0.1) x s.2) (here, t.1)
 
-pub head_again : (shown : Option (List ℕ)) (rest : List ℕ) → AreShownPlaces shown → shown_at (head_lines shown ++ rest) ≡ Some (shown, rest)
+pub head_again : (shown : Shown) (rest : List ℕ) → AreShownPlaces shown → shown_at (head_lines shown ++ rest) ≡ Some (shown, rest)
 unfolding shown_at
-head_again None rest up = ap (λ o. o >>= λ version. shown_words_at version.0 version.1) (header_again false rest)
-head_again (Some places) rest up =
+head_again All rest low = ap (λ o. o >>= λ version. shown_words_at version.0 version.1) (header_again false rest)
+head_again (Only names) rest low =
+    let places = numbers_of_set names in
     ap (λ w. header_at w >>= λ version. shown_words_at version.0 version.1) (append_assoc (header_line true) (line (codes "shown") (map place_word places)) rest)
     ∙ ap (λ o. o >>= λ version. shown_words_at version.0 version.1) (header_again true (line (codes "shown") (map place_word places) ++ rest))
-    ∙ ap (λ o. o >>= λ x. Some (Some x.0, x.1)) (shown_line_again places rest up)
+    ∙ ap (λ o. o >>= λ x. Some (Only x.0, x.1)) (shown_line_again names rest low)

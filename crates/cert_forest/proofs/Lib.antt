@@ -1,3 +1,5 @@
+pub mod Ascending
+pub mod AscendingLaws
 pub mod NameLaws
 pub mod TreeTexts
 pub mod CoverLaws
@@ -6,7 +8,6 @@ pub mod LineLaws
 pub mod PlaceLaws
 pub mod HeadLaws
 pub mod WholeLaws
-pub mod Sets
 pub mod Examples
 pub mod Loops
 pub mod Writing

@@ -1,26 +1,28 @@
 -- Lines are read exactly.
-use Rattle.std.proofs.Common.{◌≡◌, ℕ, zero, suc, ◌+◌, ◌-◌, ◌<◌, ◌≤◌, ◌^◌, true, false, cond, List, [], ◌∷◌, ◌++◌, length, map, Option, Some, None, refl, sym, ap, subst, ◌∙◌, append_assoc, arith, inl, inr}
-use Rattle.std.specs.Prelude.{codes, nat_lt}
+use Rattle.std.proofs.Common.{◌≡◌, ℕ, zero, suc, ◌+◌, ◌-◌, ◌<◌, ◌≤◌, ◌^◌, true, List, [], ◌∷◌, ◌++◌, length, map, Option, Some, refl, sym, ap, subst, ◌∙◌, append_assoc, arith, inl, inr}
+use Rattle.std.specs.Prelude.{codes}
 use Rattle.std.specs.List.{AllByRecursion, list_all}
 use Rattle.std.specs.Fmt.{decimal}
-use Rattle.std.proofs.lemmas.Bool.{ltb-false, le-ltb}
 use Rattle.std.proofs.lemmas.List.{append-nil}
 use Rattle.tso_machine.specs.declared.label.Label.{Label}
 use Rattle.tso_machine.specs.RunTexts.{spelling, IsLabel}
+use Rattle.std.specs.FinSet as set
 use Rattle.gap_sets.specs.declared.gap_set.TheConstants.{MAX_GAPS}
+use Rattle.gap_sets.specs.Gaps.{SetOfGaps, IsGapSet, numbers_of_set}
 use Rattle.cert_words.specs.declared.numbers.TheConstants.{MAX_COUNT}
 use Rattle.cert_forest.specs.declared.tree.TheConstants.{MAX_COVER_DEPTH, MAX_GAP_DEPTH}
 use Rattle.cert_forest.specs.Trees.{Cover, Gap}
 use Rattle.cert_words.specs.Lines.{texts_of, line}
 use Rattle.cert_forest.specs.Texts.{cover_words, gap_words, labels_line, runs_lines}
-use Rattle.cert_forest.specs.Limits.{AscendFrom, IsWrittenRun, AreRuns, IsCoverTo, IsGapTo}
+use Rattle.cert_forest.specs.Limits.{IsWrittenRun, AreRuns, IsCoverTo, IsGapTo}
 use Rattle.text_tokens.specs.Steps.{◌>>=◌}
 use Rattle.cert_words.specs.Words.{is_inner, line_name_at, end_at, begins_word, number_within_at, repeat_at}
-use Rattle.cert_forest.specs.Reading.{label_word_at, run_labels_at, gap_number_at, gaps_at, run_at, runs_at, set_at, cost_at, cover_at, gap_at, cover_line_at, gap_line_at}
+use Rattle.cert_forest.specs.Reading.{label_word_at, run_labels_at, gap_number_at, ascending_at, run_at, runs_at, set_at, cost_at, cover_at, gap_at, cover_line_at, gap_line_at}
 use Rattle.text_tokens.proofs.StepLaws.{bind_some, kept_out, by_test}
 use Rattle.std.proofs.lemmas.Option.{same_Some}
-use Rattle.cert_words.proofs.Steps.{Starts, done_with, repeat_takes, repeat_free}
+use Rattle.cert_words.proofs.Steps.{Starts, done_with, IsExact, repeat_takes, repeat_free}
 use Rattle.cert_words.proofs.WordLaws.{name_takes, name_again, end_takes, end_again, number_text, number_exact, below64}
+use Rattle.cert_forest.proofs.AscendingLaws.{numbers_start, numbers_take, numbers_again}
 use Rattle.cert_forest.proofs.NameLaws.{label_text, label_exact}
 use Rattle.cert_forest.proofs.TreeTexts.{texts_map, cover_text, gap_text}
 use Rattle.cert_forest.proofs.CoverLaws.{cover_exact}
@@ -92,51 +94,6 @@ labels_again (suc n) (l ∷ ls) found rest all few =
     ∙ labels_again n ls (found ++ l ∷ []) rest all.1 (omega arith)
     ∙ ap (done_with (10 ∷ rest)) (append_assoc found (l ∷ []) ls)
 
--- ---- gaps
-
-gaps_take : (n least : ℕ) (found : List ℕ) (bytes : List ℕ) (x : List ℕ × List ℕ) → gaps_at n least found bytes ≡ Some x
-    → (more : List ℕ) × (x.0 ≡ found ++ more) × (bytes ≡ texts_of number_text more ++ x.1) × AscendFrom least more
-unfolding gaps_at
-gaps_take zero least found bytes x e =
-    let k = kept_out (begins_word bytes) (Some (found, bytes)) x e in
-    let same = same_Some (found, bytes) x k.1 in
-    ([], sym (ap (λ p. p.0) same) ∙ sym (append-nil found), ap (λ p. p.1) same, tt)
-gaps_take (suc n) least found bytes x e =
-    elim (by_test (begins_word bytes) (gap_number_at bytes >>= λ gap. cond (nat_lt gap.0 least) None (gaps_at n (gap.0 + 1) (found ++ gap.0 ∷ []) gap.1)) (Some (found, bytes)) (Some x) e) [
-      | inl h ↦
-          let u = bind_some (gap_number_at bytes) (λ gap. cond (nat_lt gap.0 least) None (gaps_at n (gap.0 + 1) (found ++ gap.0 ∷ []) gap.1)) x h.1 in
-          let k = kept_out (nat_lt u.0.0 least) (gaps_at n (u.0.0 + 1) (found ++ u.0.0 ∷ []) u.0.1) x u.2 in
-          let above : least ≤ u.0.0 = ltb-false _ _ k.0 in
-          let one = (number_exact (MAX_GAPS - 1) (omega arith)).takes bytes u.0 u.1 in
-          let others = gaps_take n (u.0.0 + 1) (found ++ u.0.0 ∷ []) u.0.1 x k.1 in
-          let below : u.0.0 < MAX_GAPS = omega (arith, one.1) in
-          (u.0.0 ∷ others.0, others.1 ∙ append_assoc found (u.0.0 ∷ []) others.0, one.0 ∙ ap (λ (w : List ℕ). number_text u.0.0 ++ w) others.2 ∙ sym (append_assoc (number_text u.0.0) (texts_of number_text others.0) x.1), (above, below, others.3))
-      | inr h ↦
-          let same = same_Some (found, bytes) x h.1 in
-          ([], sym (ap (λ p. p.0) same) ∙ sym (append-nil found), ap (λ p. p.1) same, tt)
-    ]
-
-gaps_start : (gs : List ℕ) (rest : List ℕ) → Starts (texts_of number_text gs ++ 10 ∷ rest)
-gaps_start [] rest = refl
-gaps_start (g ∷ gs) rest = refl
-
-gaps_few : (least : ℕ) (gs : List ℕ) → least ≤ MAX_GAPS → AscendFrom least gs → length gs + least ≤ MAX_GAPS
-gaps_few least [] le up = omega arith
-gaps_few least (g ∷ gs) le up = omega (arith, up.0, up.1, gaps_few (g + 1) gs (omega (arith, up.1)) up.2)
-
-gaps_again : (n least : ℕ) (gs found : List ℕ) (rest : List ℕ) → AscendFrom least gs → length gs ≤ n → gaps_at n least found (texts_of number_text gs ++ 10 ∷ rest) ≡ Some (found ++ gs, 10 ∷ rest)
-unfolding gaps_at
-gaps_again zero least [] found rest up few = ap (done_with (10 ∷ rest)) (sym (append-nil found))
-gaps_again zero least (g ∷ gs) found rest up few = absurd (omega arith)
-gaps_again (suc n) least [] found rest up few = ap (done_with (10 ∷ rest)) (sym (append-nil found))
-gaps_again (suc n) least (g ∷ gs) found rest up few =
-    let here : gap_number_at (number_text g ++ (texts_of number_text gs ++ 10 ∷ rest)) ≡ Some (g, texts_of number_text gs ++ 10 ∷ rest) = (number_exact (MAX_GAPS - 1) (omega arith)).again g (texts_of number_text gs ++ 10 ∷ rest) (omega (arith, up.1)) (gaps_start gs rest) in
-    let whole : gap_number_at ((number_text g ++ texts_of number_text gs) ++ 10 ∷ rest) ≡ Some (g, texts_of number_text gs ++ 10 ∷ rest) = ap gap_number_at (append_assoc (number_text g) (texts_of number_text gs) (10 ∷ rest)) ∙ here in
-    let above : nat_lt g least ≡ false = le-ltb _ _ up.0 in
-    ap (λ o. o >>= λ gap. cond (nat_lt gap.0 least) None (gaps_at n (gap.0 + 1) (found ++ gap.0 ∷ []) gap.1)) whole
-    ∙ rw above (gaps_again n (g + 1) gs (found ++ g ∷ []) rest up.2 (omega arith))
-    ∙ ap (done_with (10 ∷ rest)) (append_assoc found (g ∷ []) gs)
-
 -- ---- each line
 
 pub run_takes : (bytes : List ℕ) (x : List Label × List ℕ) → run_at bytes ≡ Some x → (bytes ≡ labels_line x.0 ++ x.1) × IsWrittenRun x.0
@@ -182,23 +139,27 @@ runs_again name rs rest word fits =
     ap (λ (w : List ℕ). line_name_at name w >>= λ t. number_within_at 18446744073709551615 t >>= λ n. end_at n.1 >>= λ lines. repeat_at run_at n.0 [] lines) (sym (counted name (number_text (length rs)) (texts_of labels_line rs) rest))
     ∙ rw (name_again name (number_text (length rs) ++ (10 ∷ (texts_of labels_line rs ++ rest))) word refl, n-again, end_again (texts_of labels_line rs ++ rest)) (repeat_free run_at labels_line IsWrittenRun run_again rs [] rest fits.1)
 
-pub set_takes : (bytes : List ℕ) (x : List ℕ × List ℕ) → set_at bytes ≡ Some x → (bytes ≡ line (codes "set") (map decimal x.0) ++ x.1) × AscendFrom 0 x.0
+gap_exact_below : IsExact gap_number_at number_text (λ n. n < MAX_GAPS)
+gap_exact_below =
+    let e = number_exact (MAX_GAPS - 1) (omega arith) in
+    record {
+      takes = λ bytes x is. (let t = e.takes bytes x is in (t.0, omega (arith, t.1)));
+      again = λ n rest low st. e.again n rest (omega arith) st;
+      starts = λ n rest low st. e.starts n rest (omega arith) st;
+    }
+
+pub set_takes : (bytes : List ℕ) (x : SetOfGaps × List ℕ) → set_at bytes ≡ Some x → (bytes ≡ line (codes "set") (map decimal (numbers_of_set x.0)) ++ x.1) × IsGapSet x.0
 unfolding set_at
 set_takes bytes x e =
-    let t = line_takes (gaps_at MAX_GAPS 0 []) (λ gs. texts_of number_text gs) (AscendFrom 0) read (codes "set") bytes x e in
-    (t.0 ∙ ap (λ (w : List ℕ). line_of (codes "set") w ++ x.1) (sym (texts_map decimal x.0)), t.1)
-  where
-    read : (bytes : List ℕ) (x : List ℕ × List ℕ) → gaps_at MAX_GAPS 0 [] bytes ≡ Some x → (bytes ≡ texts_of number_text x.0 ++ x.1) × AscendFrom 0 x.0
-    read bytes x e =
-        let g = gaps_take MAX_GAPS 0 [] bytes x e in
-        subst (λ (gs : List ℕ). (bytes ≡ texts_of number_text gs ++ x.1) × AscendFrom 0 gs) (sym g.1) (g.2, g.3)
+    let t = line_takes (ascending_at gap_number_at MAX_GAPS 0 set.empty) (λ s. texts_of number_text (numbers_of_set s)) IsGapSet (numbers_take gap_number_at decimal MAX_GAPS gap_exact_below (omega arith)) (codes "set") bytes x e in
+    (t.0 ∙ ap (λ (w : List ℕ). line_of (codes "set") w ++ x.1) (sym (texts_map decimal (numbers_of_set x.0))), t.1)
 
-pub set_again : (gs : List ℕ) (rest : List ℕ) → AscendFrom 0 gs → set_at (line (codes "set") (map decimal gs) ++ rest) ≡ Some (gs, rest)
+pub set_again : (s : SetOfGaps) (rest : List ℕ) → IsGapSet s → set_at (line (codes "set") (map decimal (numbers_of_set s)) ++ rest) ≡ Some (s, rest)
 unfolding set_at
-set_again gs rest up =
-    let few : length gs ≤ MAX_GAPS = omega (arith, gaps_few 0 gs (omega arith) up) in
-    ap (λ (w : List ℕ). line_at (codes "set") (gaps_at MAX_GAPS 0 []) (line_of (codes "set") w ++ rest)) (texts_map decimal gs)
-    ∙ line_again (gaps_at MAX_GAPS 0 []) (texts_of number_text gs) (codes "set") gs rest refl (gaps_start gs rest) (gaps_again MAX_GAPS 0 gs [] rest up few)
+set_again s rest low =
+    ap (λ (w : List ℕ). line_at (codes "set") (ascending_at gap_number_at MAX_GAPS 0 set.empty) (line_of (codes "set") w ++ rest)) (texts_map decimal (numbers_of_set s))
+    ∙ line_again (ascending_at gap_number_at MAX_GAPS 0 set.empty) (texts_of number_text (numbers_of_set s)) (codes "set") s rest refl
+    (numbers_start gap_number_at decimal MAX_GAPS gap_exact_below (numbers_of_set s) rest) (numbers_again gap_number_at decimal MAX_GAPS gap_exact_below (omega arith) s rest low)
 
 pub cost_takes : (bytes : List ℕ) (x : ℕ × List ℕ) → cost_at bytes ≡ Some x → (bytes ≡ line (codes "cost") (decimal x.0 ∷ []) ++ x.1) × (x.0 < 2 ^ 64)
 unfolding cost_at

@@ -2,12 +2,14 @@
 use Rattle.std.proofs.Common.{◌≡◌, ℕ, zero, suc, ◌+◌, ◌-◌, ◌<◌, ◌≤◌, true, false, List, [], ◌∷◌, ◌++◌, Option, Some, None, refl, sym, ap, ◌∙◌, arith}
 use Rattle.std.specs.Prelude.{nat_lt}
 use Rattle.std.proofs.lemmas.Bool.{lt-ltb, le-ltb}
+use Rattle.std.specs.FinSet as set
+use Rattle.gap_sets.specs.Gaps.{SetOfGaps}
 use Rattle.tso_machine.specs.declared.label.Label.{Label}
 use Rattle.cert_words.specs.declared.refusal.Stop.{Stop}
 use Rattle.cert_words.specs.declared.refusal.Stop.TheVariants.{Refused, OutOfMemory}
 use Rattle.text_tokens.specs.Steps.{Fails}
 use Rattle.cert_words.specs.Words.{begins_word, repeat_at, stops_for_memory}
-use Rattle.cert_forest.specs.Reading.{label_word_at, run_labels_at, gap_number_at, gaps_at, place_word_at, places_at}
+use Rattle.cert_forest.specs.Reading.{label_word_at, run_labels_at, ascending_at}
 
 one_less : (n k : ℕ) → k < n → n - k ≡ suc (n - (k + 1))
 one_less n k lt = omega arith
@@ -65,82 +67,43 @@ labels_past n k found bytes all le word so =
     let step : run_labels_at 0 found bytes ≡ None = rw word refl in
     sym so ∙ ap (λ (m : ℕ). run_labels_at m found bytes) none ∙ step
 
--- ---- gaps
+-- ---- ascending numbers
 
-pub gaps_more : (n k least : ℕ) (found : List ℕ) (bytes : List ℕ) (x : ℕ) (rest : List ℕ) (all : Option (List ℕ × List ℕ)) → k < n → begins_word bytes ≡ true → gap_number_at bytes ≡ Some (x, rest) → least ≤ x
-    → gaps_at (n - k) least found bytes ≡ all → gaps_at (n - (k + 1)) (x + 1) (found ++ x ∷ []) rest ≡ all
-unfolding gaps_at
-gaps_more n k least found bytes x rest all lt word e le so =
-    let above : nat_lt x least ≡ false = le-ltb _ _ le in
-    let step : gaps_at (suc (n - (k + 1))) least found bytes ≡ gaps_at (n - (k + 1)) (x + 1) (found ++ x ∷ []) rest = rw (word, e, above) refl in
-    sym step ∙ ap (λ (m : ℕ). gaps_at m least found bytes) (sym (one_less n k lt)) ∙ so
+module _ (read : List ℕ → Option (ℕ × List ℕ)) where
+  pub ascending_more : (n k least : ℕ) (found : SetOfGaps) (bytes : List ℕ) (x : ℕ) (rest : List ℕ) (all : Option (SetOfGaps × List ℕ)) → k < n → begins_word bytes ≡ true → read bytes ≡ Some (x, rest) → least ≤ x
+      → ascending_at read (n - k) least found bytes ≡ all → ascending_at read (n - (k + 1)) (x + 1) (set.insert found x) rest ≡ all
+  unfolding ascending_at
+  ascending_more n k least found bytes x rest all lt word e le so =
+      let above : nat_lt x least ≡ false = le-ltb _ _ le in
+      let step : ascending_at read (suc (n - (k + 1))) least found bytes ≡ ascending_at read (n - (k + 1)) (x + 1) (set.insert found x) rest = rw (word, e, above) refl in
+      sym step ∙ ap (λ (m : ℕ). ascending_at read m least found bytes) (sym (one_less n k lt)) ∙ so
 
-pub gaps_low : (n k least : ℕ) (found : List ℕ) (bytes : List ℕ) (x : ℕ) (rest : List ℕ) (all : Option (List ℕ × List ℕ)) → k < n → begins_word bytes ≡ true → gap_number_at bytes ≡ Some (x, rest) → x < least
-    → gaps_at (n - k) least found bytes ≡ all → all ≡ None
-unfolding gaps_at
-gaps_low n k least found bytes x rest all lt word e below so =
-    let under : nat_lt x least ≡ true = lt-ltb _ _ below in
-    let step : gaps_at (suc (n - (k + 1))) least found bytes ≡ None = rw (word, e, under) refl in
-    sym so ∙ ap (λ (m : ℕ). gaps_at m least found bytes) (one_less n k lt) ∙ step
+  pub ascending_low : (n k least : ℕ) (found : SetOfGaps) (bytes : List ℕ) (x : ℕ) (rest : List ℕ) (all : Option (SetOfGaps × List ℕ)) → k < n → begins_word bytes ≡ true → read bytes ≡ Some (x, rest) → x < least
+      → ascending_at read (n - k) least found bytes ≡ all → all ≡ None
+  unfolding ascending_at
+  ascending_low n k least found bytes x rest all lt word e below so =
+      let under : nat_lt x least ≡ true = lt-ltb _ _ below in
+      let step : ascending_at read (suc (n - (k + 1))) least found bytes ≡ None = rw (word, e, under) refl in
+      sym so ∙ ap (λ (m : ℕ). ascending_at read m least found bytes) (one_less n k lt) ∙ step
 
-pub gaps_stop : (n k least : ℕ) (found : List ℕ) (bytes : List ℕ) (all : Option (List ℕ × List ℕ)) → k < n → begins_word bytes ≡ true → gap_number_at bytes ≡ None
-    → gaps_at (n - k) least found bytes ≡ all → all ≡ None
-unfolding gaps_at
-gaps_stop n k least found bytes all lt word e so =
-    let step : gaps_at (suc (n - (k + 1))) least found bytes ≡ None = rw (word, e) refl in
-    sym so ∙ ap (λ (m : ℕ). gaps_at m least found bytes) (one_less n k lt) ∙ step
+  pub ascending_stop : (n k least : ℕ) (found : SetOfGaps) (bytes : List ℕ) (all : Option (SetOfGaps × List ℕ)) → k < n → begins_word bytes ≡ true → read bytes ≡ None
+      → ascending_at read (n - k) least found bytes ≡ all → all ≡ None
+  unfolding ascending_at
+  ascending_stop n k least found bytes all lt word e so =
+      let step : ascending_at read (suc (n - (k + 1))) least found bytes ≡ None = rw (word, e) refl in
+      sym so ∙ ap (λ (m : ℕ). ascending_at read m least found bytes) (one_less n k lt) ∙ step
 
-gaps_here : (m least : ℕ) (found : List ℕ) (bytes : List ℕ) → begins_word bytes ≡ false → gaps_at m least found bytes ≡ Some (found, bytes)
-unfolding gaps_at
-gaps_here zero least found bytes away = rw away refl
-gaps_here (suc m) least found bytes away = rw away refl
+  ascending_here : (m least : ℕ) (found : SetOfGaps) (bytes : List ℕ) → begins_word bytes ≡ false → ascending_at read m least found bytes ≡ Some (found, bytes)
+  unfolding ascending_at
+  ascending_here zero least found bytes away = rw away refl
+  ascending_here (suc m) least found bytes away = rw away refl
 
-pub gaps_end : (m least : ℕ) (found : List ℕ) (bytes : List ℕ) (all : Option (List ℕ × List ℕ)) → begins_word bytes ≡ false → gaps_at m least found bytes ≡ all → all ≡ Some (found, bytes)
-gaps_end m least found bytes all away so = sym so ∙ gaps_here m least found bytes away
+  pub ascending_end : (m least : ℕ) (found : SetOfGaps) (bytes : List ℕ) (all : Option (SetOfGaps × List ℕ)) → begins_word bytes ≡ false → ascending_at read m least found bytes ≡ all → all ≡ Some (found, bytes)
+  ascending_end m least found bytes all away so = sym so ∙ ascending_here m least found bytes away
 
-pub gaps_past : (n k least : ℕ) (found : List ℕ) (bytes : List ℕ) (all : Option (List ℕ × List ℕ)) → n ≤ k → begins_word bytes ≡ true → gaps_at (n - k) least found bytes ≡ all → all ≡ None
-unfolding gaps_at
-gaps_past n k least found bytes all le word so =
-    let none : n - k ≡ 0 = omega arith in
-    let step : gaps_at 0 least found bytes ≡ None = rw word refl in
-    sym so ∙ ap (λ (m : ℕ). gaps_at m least found bytes) none ∙ step
-
--- ---- places
-
-pub places_more : (n k least : ℕ) (found : List ℕ) (bytes : List ℕ) (x : ℕ) (rest : List ℕ) (all : Option (List ℕ × List ℕ)) → k < n → begins_word bytes ≡ true → place_word_at bytes ≡ Some (x, rest) → least ≤ x
-    → places_at (n - k) least found bytes ≡ all → places_at (n - (k + 1)) (x + 1) (found ++ x ∷ []) rest ≡ all
-unfolding places_at
-places_more n k least found bytes x rest all lt word e le so =
-    let above : nat_lt x least ≡ false = le-ltb _ _ le in
-    let step : places_at (suc (n - (k + 1))) least found bytes ≡ places_at (n - (k + 1)) (x + 1) (found ++ x ∷ []) rest = rw (word, e, above) refl in
-    sym step ∙ ap (λ (m : ℕ). places_at m least found bytes) (sym (one_less n k lt)) ∙ so
-
-pub places_low : (n k least : ℕ) (found : List ℕ) (bytes : List ℕ) (x : ℕ) (rest : List ℕ) (all : Option (List ℕ × List ℕ)) → k < n → begins_word bytes ≡ true → place_word_at bytes ≡ Some (x, rest) → x < least
-    → places_at (n - k) least found bytes ≡ all → all ≡ None
-unfolding places_at
-places_low n k least found bytes x rest all lt word e below so =
-    let under : nat_lt x least ≡ true = lt-ltb _ _ below in
-    let step : places_at (suc (n - (k + 1))) least found bytes ≡ None = rw (word, e, under) refl in
-    sym so ∙ ap (λ (m : ℕ). places_at m least found bytes) (one_less n k lt) ∙ step
-
-pub places_stop : (n k least : ℕ) (found : List ℕ) (bytes : List ℕ) (all : Option (List ℕ × List ℕ)) → k < n → begins_word bytes ≡ true → place_word_at bytes ≡ None
-    → places_at (n - k) least found bytes ≡ all → all ≡ None
-unfolding places_at
-places_stop n k least found bytes all lt word e so =
-    let step : places_at (suc (n - (k + 1))) least found bytes ≡ None = rw (word, e) refl in
-    sym so ∙ ap (λ (m : ℕ). places_at m least found bytes) (one_less n k lt) ∙ step
-
-places_here : (m least : ℕ) (found : List ℕ) (bytes : List ℕ) → begins_word bytes ≡ false → places_at m least found bytes ≡ Some (found, bytes)
-unfolding places_at
-places_here zero least found bytes away = rw away refl
-places_here (suc m) least found bytes away = rw away refl
-
-pub places_end : (m least : ℕ) (found : List ℕ) (bytes : List ℕ) (all : Option (List ℕ × List ℕ)) → begins_word bytes ≡ false → places_at m least found bytes ≡ all → all ≡ Some (found, bytes)
-places_end m least found bytes all away so = sym so ∙ places_here m least found bytes away
-
-pub places_past : (n k least : ℕ) (found : List ℕ) (bytes : List ℕ) (all : Option (List ℕ × List ℕ)) → n ≤ k → begins_word bytes ≡ true → places_at (n - k) least found bytes ≡ all → all ≡ None
-unfolding places_at
-places_past n k least found bytes all le word so =
-    let none : n - k ≡ 0 = omega arith in
-    let step : places_at 0 least found bytes ≡ None = rw word refl in
-    sym so ∙ ap (λ (m : ℕ). places_at m least found bytes) none ∙ step
+  pub ascending_past : (n k least : ℕ) (found : SetOfGaps) (bytes : List ℕ) (all : Option (SetOfGaps × List ℕ)) → n ≤ k → begins_word bytes ≡ true → ascending_at read (n - k) least found bytes ≡ all → all ≡ None
+  unfolding ascending_at
+  ascending_past n k least found bytes all le word so =
+      let none : n - k ≡ 0 = omega arith in
+      let step : ascending_at read 0 least found bytes ≡ None = rw word refl in
+      sym so ∙ ap (λ (m : ℕ). ascending_at read m least found bytes) none ∙ step

@@ -1,18 +1,16 @@
--- Certificates, without where they lie in memory.
-use Rattle.std.specs.Prelude.{ℕ, List, Option, Some, None, map}
+-- What a certificate holds.
+use Rattle.std.specs.Prelude.{ℕ, List, map}
 use Rattle.std.specs.Global.{Vec}
+use Rattle.gap_sets.specs.Gaps.{SetOfGaps}
 use Rattle.tso_program.specs.declared.shown.Shown.{Shown}
-use Rattle.tso_program.specs.declared.shown.Shown.TheVariants.{All, Only}
 use Rattle.tso_machine.specs.declared.label.Label.{Label}
-use Rattle.gap_sets.specs.Gaps.{numbers_of_set}
-use Rattle.cert_forest.specs.declared.certificate.Certificate.{Certificate}
 use Rattle.cert_forest.specs.Trees.{Cover, Gap}
-use Rattle.cert_forest.specs.Views.{cover, gap}
 
--- a certificate's parts: the places of the registers and locations that are shown, ascending, where not all are; the gaps of its set, ascending, the set's cost, runs and trees
-pub record Cert : Type 0 where
-  pub shown : Option (List ℕ)
-  pub gaps : List ℕ
+-- what is shown of outcomes; a set of gaps and its cost; sequential runs, and a tree that shows that there are no other sequential outcomes; foreign
+-- runs; a tree that shows that the set serves, and one that shows that no better set does
+pub record Certificate : Type 0 where
+  pub shown : Shown
+  pub gaps : SetOfGaps
   pub cost : ℕ
   pub seq_runs : List (List Label)
   pub seq_tree : Cover
@@ -20,28 +18,6 @@ pub record Cert : Type 0 where
   pub fenced_tree : Cover
   pub gap_tree : Gap
 
+-- the labels of runs that are kept in vectors
 abbrev pub labels_of : List (Vec Label) → List (List Label)
 labels_of runs = map (λ run. run.items) runs
-
--- the places of what is shown, ascending, where not all is
-abbrev pub shown_places : Shown → Option (List ℕ)
-shown_places All = None
-shown_places (Only names) = Some (numbers_of_set names)
-
--- places that are kept in a vector
-abbrev pub listed_places : Option (Vec ℕ) → Option (List ℕ)
-listed_places None = None
-listed_places (Some places) = Some places.items
-
--- what a certificate in memory stands for
-abbrev pub certificate : Certificate → Cert
-certificate c = record {
-  shown = shown_places c.shown;
-  gaps = numbers_of_set c.set;
-  cost = c.cost;
-  seq_runs = labels_of c.seq_runs.items;
-  seq_tree = cover c.seq_tree;
-  runs = labels_of c.runs.items;
-  fenced_tree = cover c.fenced_tree;
-  gap_tree = gap c.gap_tree;
-}

@@ -1,23 +1,25 @@
 -- Laws of certificates and their texts, and the definitions at three of them.
-use Rattle.std.specs.Prelude.{◌≡◌, ℕ, List, [], ◌∷◌, ◌++◌, Some, None, codes}
+use Rattle.std.specs.Prelude.{◌≡◌, ℕ, List, [], ◌∷◌, ◌++◌, codes}
+use Rattle.gap_sets.specs.Laws.{these}
 use Rattle.candidate_executions.specs.declared.event.Kind.{Kind}
 use Rattle.candidate_executions.specs.declared.event.Kind.TheVariants as kinds
 use Rattle.tso_machine.specs.declared.label.Label.TheVariants.{Exec, Flush}
+use Rattle.tso_program.specs.declared.shown.Shown.TheVariants.{All, Only}
 use Rattle.tso_program.specs.Names.{register_place}
 use Rattle.cert_forest.specs.declared.tree.AccessId.{AccessId}
 use Rattle.cert_forest.specs.Trees.{Cover, Value, Source, Cycle, Known, covers_of, Split, Bound, gap_trees_of}
-use Rattle.cert_forest.specs.Certificates.{Cert}
+use Rattle.cert_forest.specs.Certificates.{Certificate}
 use Rattle.cert_forest.specs.Limits.{IsCertificate}
 
 abbrev pub OneText : Type 0
-OneText = (c : Cert) (text other : List ℕ) → IsCertificate text c → IsCertificate other c → text ≡ other
+OneText = (c : Certificate) (text other : List ℕ) → IsCertificate text c → IsCertificate other c → text ≡ other
 
 abbrev pub OneCertificate : Type 0
-OneCertificate = (text : List ℕ) (c d : Cert) → IsCertificate text c → IsCertificate text d → c ≡ d
+OneCertificate = (text : List ℕ) (c d : Certificate) → IsCertificate text c → IsCertificate text d → c ≡ d
 
 -- where a certificate's text goes on, it goes on with nothing
 abbrev pub NoTextBeginsAnother : Type 0
-NoTextBeginsAnother = (text more : List ℕ) (c d : Cert) → IsCertificate text c → IsCertificate (text ++ more) d → more ≡ []
+NoTextBeginsAnother = (text more : List ℕ) (c d : Certificate) → IsCertificate text c → IsCertificate (text ++ more) d → more ≡ []
 
 -- ---- store buffering: two threads store to a location each and load the other's
 
@@ -33,10 +35,10 @@ crossed kind =
     ∷ (Known 0 ∷ [])))
     ∷ (Value 1 (covers_of (Known 1 ∷ (Known 2 ∷ []))) ∷ [])))
 
-abbrev pub store_buffering_cert : Cert
+abbrev pub store_buffering_cert : Certificate
 store_buffering_cert = record {
-  shown = None;
-  gaps = 0 ∷ (1 ∷ []);
+  shown = All;
+  gaps = these (0 ∷ (1 ∷ []));
   cost = 2;
   seq_runs =
       (Exec 0 ∷ (Exec 0 ∷ (Exec 1 ∷ (Exec 1 ∷ []))))
@@ -73,10 +75,10 @@ store_buffering_text =
 
 -- ---- a program of one thread without instructions, and no location
 
-abbrev pub nothing_to_do : Cert
+abbrev pub nothing_to_do : Certificate
 nothing_to_do = record {
-  shown = None;
-  gaps = [];
+  shown = All;
+  gaps = these [];
   cost = 0;
   seq_runs = [] ∷ [];
   seq_tree = Known 0;
@@ -106,10 +108,10 @@ either = Value 0 (covers_of (Known 0 ∷ (Known 1 ∷ [])))
 abbrev pub observed_tree : Cover
 observed_tree = Value 0 (covers_of (either ∷ (either ∷ (either ∷ []))))
 
-abbrev pub n6_observed : Cert
+abbrev pub n6_observed : Certificate
 n6_observed = record {
-  shown = Some (register_place 0 1 ∷ []);
-  gaps = [];
+  shown = Only (these (register_place 0 1 ∷ []));
+  gaps = these [];
   cost = 0;
   seq_runs =
       (Exec 0 ∷ (Exec 0 ∷ (Exec 0 ∷ (Exec 1 ∷ (Exec 1 ∷ [])))))

@@ -1,8 +1,10 @@
 -- What a certificate's text may hold.
-use Rattle.std.specs.Prelude.{◌≡◌, ℕ, suc, ◌+◌, ◌<◌, ◌≤◌, ◌^◌, List, [], ◌∷◌, Option, Some, None, length, max}
+use Rattle.std.specs.Prelude.{◌≡◌, ℕ, suc, ◌<◌, ◌≤◌, ◌^◌, List, length, max}
 use Rattle.std.specs.List.{AllByRecursion}
-use Rattle.gap_sets.specs.declared.gap_set.TheConstants.{MAX_GAPS}
-use Rattle.tso_program.specs.declared.shown.TheConstants.{PLACES}
+use Rattle.gap_sets.specs.Gaps.{IsGapSet}
+use Rattle.tso_program.specs.declared.shown.Shown.{Shown}
+use Rattle.tso_program.specs.declared.shown.Shown.TheVariants.{All, Only}
+use Rattle.tso_program.specs.Names.{ArePlaces}
 use Rattle.tso_machine.specs.declared.label.Label.{Label}
 use Rattle.tso_machine.specs.RunTexts.{IsLabel}
 use Rattle.cert_words.specs.declared.numbers.TheConstants.{MAX_COUNT}
@@ -10,21 +12,12 @@ use Rattle.cert_forest.specs.declared.tree.TheConstants.{MAX_COVER_DEPTH, MAX_GA
 use Rattle.cert_forest.specs.declared.tree.AccessId.{AccessId}
 use Rattle.cert_forest.specs.Trees.{Cover, Value, Source, Order, Cycle, Known, Covers, NoCover, MoreCovers, Gap, Split, Bound, GapTrees, NoGap, MoreGaps}
 use Rattle.cert_forest.specs.Texts.{count_covers, count_gaps, certificate_text}
-use Rattle.cert_forest.specs.Certificates.{Cert}
+use Rattle.cert_forest.specs.Certificates.{Certificate}
 
--- numbers from this one on, below `MAX_GAPS`, each greater than the one before
-abbrev pub AscendFrom : ℕ → List ℕ → Type 0
-AscendFrom least [] = Unit {0}
-AscendFrom least (gap ∷ gaps) = (least ≤ gap) × (gap < MAX_GAPS) × AscendFrom (gap + 1) gaps
-
--- places from this one on, below `PLACES`, each greater than the one before
-abbrev pub PlacesFrom : ℕ → List ℕ → Type 0
-PlacesFrom least [] = Unit {0}
-PlacesFrom least (place ∷ places) = (least ≤ place) × (place < PLACES) × PlacesFrom (place + 1) places
-
-abbrev pub AreShownPlaces : Option (List ℕ) → Type 0
-AreShownPlaces None = Unit {0}
-AreShownPlaces (Some places) = PlacesFrom 0 places
+-- places of registers and locations, where not all is shown
+abbrev pub AreShownPlaces : Shown → Type 0
+AreShownPlaces All = Unit {0}
+AreShownPlaces (Only names) = ArePlaces names
 
 -- threads and accesses are numbered from 0 to 255
 abbrev pub IsAccessId : AccessId → Type 0
@@ -90,9 +83,9 @@ abbrev pub AreRuns : List (List Label) → Type 0
 AreRuns runs = (length runs < 2 ^ 64) × AllByRecursion IsWrittenRun runs
 
 -- a certificate within the limits
-pub record IsWithin (c : Cert) : Type 0 where
+pub record IsWithin (c : Certificate) : Type 0 where
   pub shown : AreShownPlaces c.shown
-  pub gaps : AscendFrom 0 c.gaps
+  pub gaps : IsGapSet c.gaps
   pub cost : c.cost < 2 ^ 64
   pub seq_runs : AreRuns c.seq_runs
   pub seq_tree : IsCoverTo MAX_COVER_DEPTH c.seq_tree
@@ -101,6 +94,6 @@ pub record IsWithin (c : Cert) : Type 0 where
   pub gap_tree : IsGapTo MAX_GAP_DEPTH c.gap_tree
 
 -- the text is the certificate's
-pub record IsCertificate (text : List ℕ) (c : Cert) : Type 0 where
+pub record IsCertificate (text : List ℕ) (c : Certificate) : Type 0 where
   pub spelled : text ≡ certificate_text c
   pub within : IsWithin c

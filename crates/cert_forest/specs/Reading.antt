@@ -2,10 +2,14 @@
 use Rattle.std.specs.Prelude.{◌==◌, ◌&&◌, ◌-◌, nat_le, true, false, ℕ, zero, suc, ◌+◌, Bool, List, [], ◌∷◌, ◌++◌, take, drop, codes, nat_lt, not, Option, Some, None, if◌then◌else◌}
 use Rattle.std.specs.List.{prefix_len}
 use Rattle.std.specs.Str.{bytes_eq}
+use Rattle.std.specs.FinSet as set
+use Rattle.gap_sets.specs.Gaps.{SetOfGaps}
 use Rattle.gap_sets.specs.declared.gap_set.TheConstants.{MAX_GAPS}
 use Rattle.tso_program.specs.declared.instruction.TheConstants.{REGISTERS}
 use Rattle.tso_program.specs.declared.limits.TheConstants.{MAX_THREADS, MAX_LOCATIONS}
 use Rattle.tso_program.specs.declared.shown.TheConstants.{PLACES}
+use Rattle.tso_program.specs.declared.shown.Shown.{Shown}
+use Rattle.tso_program.specs.declared.shown.Shown.TheVariants.{All, Only}
 use Rattle.tso_program.specs.Names.{register_place, location_place}
 use Rattle.candidate_executions.specs.declared.event.Kind.{Kind}
 use Rattle.candidate_executions.specs.declared.event.Kind.TheVariants as kinds
@@ -18,7 +22,7 @@ use Rattle.cert_words.specs.declared.numbers.TheConstants.{MAX_COUNT}
 use Rattle.cert_forest.specs.declared.tree.TheConstants.{MAX_COVER_DEPTH, MAX_GAP_DEPTH}
 use Rattle.cert_forest.specs.declared.tree.AccessId.{AccessId}
 use Rattle.cert_forest.specs.Trees.{Cover, Value, Source, Order, Cycle, Known, covers_of, Gap, Split, Bound, gap_trees_of}
-use Rattle.cert_forest.specs.Certificates.{Cert}
+use Rattle.cert_forest.specs.Certificates.{Certificate}
 
 -- the byte is no full stop
 abbrev pub is_no_stop : ℕ → Bool
@@ -52,11 +56,11 @@ kind_at bytes = do
 abbrev pub gap_number_at : List ℕ → Option (ℕ × List ℕ)
 gap_number_at bytes = number_within_at (MAX_GAPS - 1) bytes
 
--- gaps from the least on, at most so many
-unfoldable pub gaps_at : ℕ → ℕ → List ℕ → List ℕ → Option (List ℕ × List ℕ)
-gaps_at zero least found bytes = if begins_word bytes then None else Some (found, bytes)
-gaps_at (suc n) least found bytes =
-    if begins_word bytes then (gap_number_at bytes >>= λ gap. if nat_lt gap.0 least then None else gaps_at n (gap.0 + 1) (found ++ gap.0 ∷ []) gap.1)
+-- ascending numbers from the least on, at most so many, each put into a set
+unfoldable pub ascending_at : (List ℕ → Option (ℕ × List ℕ)) → ℕ → ℕ → SetOfGaps → List ℕ → Option (SetOfGaps × List ℕ)
+ascending_at read zero least found bytes = if begins_word bytes then None else Some (found, bytes)
+ascending_at read (suc n) least found bytes =
+    if begins_word bytes then (read bytes >>= λ number. if nat_lt number.0 least then None else ascending_at read n (number.0 + 1) (set.insert found number.0) number.1)
     else Some (found, bytes)
 
 unfoldable pub label_word_at : List ℕ → Option (Label × List ℕ)
@@ -171,10 +175,10 @@ runs_at name bytes = do
   lines ← end_at n.1
   repeat_at run_at n.0 [] lines
 
-unfoldable pub set_at : List ℕ → Option (List ℕ × List ℕ)
+unfoldable pub set_at : List ℕ → Option (SetOfGaps × List ℕ)
 set_at bytes = do
   gaps_text ← line_name_at (codes "set") bytes
-  gaps ← gaps_at MAX_GAPS 0 [] gaps_text
+  gaps ← ascending_at gap_number_at MAX_GAPS 0 set.empty gaps_text
   rest ← end_at gaps.1
   Some (gaps.0, rest)
 
@@ -224,17 +228,10 @@ shown_place (a ∷ (b ∷ (c ∷ (d ∷ (e ∷ word))))) = None
 unfoldable pub place_word_at : List ℕ → Option (ℕ × List ℕ)
 place_word_at bytes = spaced_word_at shown_place bytes
 
--- places from the least on, at most so many
-unfoldable pub places_at : ℕ → ℕ → List ℕ → List ℕ → Option (List ℕ × List ℕ)
-places_at zero least found bytes = if begins_word bytes then None else Some (found, bytes)
-places_at (suc n) least found bytes =
-    if begins_word bytes then (place_word_at bytes >>= λ place. if nat_lt place.0 least then None else places_at n (place.0 + 1) (found ++ place.0 ∷ []) place.1)
-    else Some (found, bytes)
-
-unfoldable pub shown_line_at : List ℕ → Option (List ℕ × List ℕ)
+unfoldable pub shown_line_at : List ℕ → Option (SetOfGaps × List ℕ)
 shown_line_at bytes = do
   places_text ← line_name_at (codes "shown") bytes
-  places ← places_at PLACES 0 [] places_text
+  places ← ascending_at place_word_at PLACES 0 set.empty places_text
   rest ← end_at places.1
   Some (places.0, rest)
 
@@ -252,25 +249,30 @@ header_at bytes = do
   rest ← end_at version.1
   Some (version.0, rest)
 
-abbrev pub shown_words_at : Bool → List ℕ → Option (Option (List ℕ) × List ℕ)
-shown_words_at false bytes = Some (None, bytes)
-shown_words_at true bytes = shown_line_at bytes >>= λ places. Some (Some places.0, places.1)
+abbrev pub shown_words_at : Bool → List ℕ → Option (Shown × List ℕ)
+shown_words_at false bytes = Some (All, bytes)
+shown_words_at true bytes = shown_line_at bytes >>= λ places. Some (Only places.0, places.1)
 
 -- the head
-unfoldable pub shown_at : List ℕ → Option (Option (List ℕ) × List ℕ)
+unfoldable pub shown_at : List ℕ → Option (Shown × List ℕ)
 shown_at bytes = do
   version ← header_at bytes
   shown_words_at version.0 version.1
 
--- a certificate at the front of the bytes
-unfoldable pub parts_at : List ℕ → Option (Cert × List ℕ)
-parts_at bytes = do
-  shown ← shown_at bytes
-  gaps ← set_at shown.1
-  cost ← cost_at gaps.1
+-- what comes after the line of the set
+unfoldable pub after_set_at : Shown → SetOfGaps → List ℕ → Option (Certificate × List ℕ)
+after_set_at shown gaps bytes = do
+  cost ← cost_at bytes
   seq_runs ← runs_at (codes "seq") cost.1
   seq_tree ← cover_line_at (codes "tree") seq_runs.1
   runs ← runs_at (codes "runs") seq_tree.1
   fenced_tree ← cover_line_at (codes "fenced") runs.1
   gap_tree ← gap_line_at fenced_tree.1
-  Some (record { shown = shown.0; gaps = gaps.0; cost = cost.0; seq_runs = seq_runs.0; seq_tree = seq_tree.0; runs = runs.0; fenced_tree = fenced_tree.0; gap_tree = gap_tree.0 }, gap_tree.1)
+  Some (record { shown = shown; gaps = gaps; cost = cost.0; seq_runs = seq_runs.0; seq_tree = seq_tree.0; runs = runs.0; fenced_tree = fenced_tree.0; gap_tree = gap_tree.0 }, gap_tree.1)
+
+-- a certificate at the front of the bytes
+unfoldable pub certificate_at : List ℕ → Option (Certificate × List ℕ)
+certificate_at bytes = do
+  shown ← shown_at bytes
+  gaps ← set_at shown.1
+  after_set_at shown.0 gaps.0 gaps.1

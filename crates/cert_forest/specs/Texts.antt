@@ -1,16 +1,19 @@
 -- The text of a certificate: lines of words, with single spaces between the words, each line ended by LF.
-use Rattle.std.specs.Prelude.{ℕ, suc, ◌-◌, ◌/◌, ◌%◌, nat_lt, if◌then◌else◌, List, [], ◌∷◌, ◌++◌, Option, Some, None, map, length, codes}
+use Rattle.std.specs.Prelude.{ℕ, suc, ◌-◌, ◌/◌, ◌%◌, nat_lt, if◌then◌else◌, List, [], ◌∷◌, ◌++◌, map, length, codes}
 use Rattle.std.specs.Fmt.{decimal}
 use Rattle.candidate_executions.specs.declared.event.Kind.{Kind}
 use Rattle.candidate_executions.specs.declared.event.Kind.TheVariants.{Sequential, Location, Global}
 use Rattle.tso_program.specs.declared.instruction.TheConstants.{REGISTERS}
+use Rattle.gap_sets.specs.Gaps.{numbers_of_set}
 use Rattle.tso_program.specs.declared.shown.TheConstants.{REGISTER_PLACES}
+use Rattle.tso_program.specs.declared.shown.Shown.{Shown}
+use Rattle.tso_program.specs.declared.shown.Shown.TheVariants.{All, Only}
 use Rattle.tso_machine.specs.declared.label.Label.{Label}
 use Rattle.tso_machine.specs.RunTexts.{spelling}
 use Rattle.cert_words.specs.Lines.{line, texts_of}
 use Rattle.cert_forest.specs.declared.tree.AccessId.{AccessId}
 use Rattle.cert_forest.specs.Trees.{Cover, Value, Source, Order, Cycle, Known, Covers, NoCover, MoreCovers, Gap, Split, Bound, GapTrees, NoGap, MoreGaps}
-use Rattle.cert_forest.specs.Certificates.{Cert}
+use Rattle.cert_forest.specs.Certificates.{Certificate}
 
 -- ---- words
 
@@ -76,14 +79,14 @@ abbrev pub runs_lines : List ℕ → List (List Label) → List ℕ
 runs_lines name runs = line name (decimal (length runs) ∷ []) ++ texts_of labels_line runs
 
 -- the version's line, and in the second version that of what is shown
-abbrev pub head_lines : Option (List ℕ) → List ℕ
-head_lines None = line (codes "FENCECERT") (codes "1" ∷ [])
-head_lines (Some places) = line (codes "FENCECERT") (codes "2" ∷ []) ++ line (codes "shown") (map place_word places)
+abbrev pub head_lines : Shown → List ℕ
+head_lines All = line (codes "FENCECERT") (codes "1" ∷ [])
+head_lines (Only names) = line (codes "FENCECERT") (codes "2" ∷ []) ++ line (codes "shown") (map place_word (numbers_of_set names))
 
-abbrev pub certificate_text : Cert → List ℕ
+abbrev pub certificate_text : Certificate → List ℕ
 certificate_text c =
     head_lines c.shown
-    ++ (line (codes "set") (map decimal c.gaps)
+    ++ (line (codes "set") (map decimal (numbers_of_set c.gaps))
     ++ (line (codes "cost") (decimal c.cost ∷ [])
     ++ (runs_lines (codes "seq") c.seq_runs
     ++ (line (codes "tree") (cover_words c.seq_tree)

@@ -2,6 +2,7 @@
 
 use crate::tree::{CoverTree, GapTree};
 use gap_sets::GapSet;
+use std::marker::Model;
 use tso_machine::Label;
 use tso_program::Shown;
 
@@ -23,4 +24,31 @@ pub struct Certificate {
     pub fenced_tree: CoverTree,
     /// Shows that no better set serves.
     pub gap_tree: GapTree,
+}
+
+impl Model for Certificate {
+    ghost use Rattle.cert_forest.specs.Certificates.{Certificate, labels_of};
+
+    ghost Value = { Certificate };
+
+    ghost use Rattle.gap_sets.specs.contracts.gap_set.GapSet as gap_set;
+    ghost use Rattle.tso_program.specs.contracts.shown.Names as names;
+    ghost use Rattle.std.specs.Coded.{codes};
+    ghost use Rattle.cert_forest.specs.CoverCodes.{coded_cover};
+    ghost use Rattle.cert_forest.specs.GapCodes.{coded_gap};
+
+    ghost coded = { Prim.hlevel (codes, names.the_row.coded, gap_set.the_row.coded, coded_cover, coded_gap) };
+
+    ghost use Rattle.cert_forest.specs.Views.{cover, gap};
+
+    ghost view = { λ c. record {
+      shown = c.shown;
+      gaps = c.set;
+      cost = c.cost;
+      seq_runs = labels_of c.seq_runs.items;
+      seq_tree = cover c.seq_tree;
+      runs = labels_of c.runs.items;
+      fenced_tree = cover c.fenced_tree;
+      gap_tree = gap c.gap_tree;
+    } };
 }

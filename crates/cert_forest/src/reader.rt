@@ -2,30 +2,28 @@
 
 ghost use Rattle.std.specs.Prelude.{◌≡◌, ℕ, ◌<◌, ◌-◌, ◌⊎◌, [], length, IfOk, IfErr, IsErrAnd};
 ghost use Rattle.gap_sets.specs.declared.gap_set.TheConstants.{MAX_GAPS};
-ghost use Rattle.gap_sets.specs.Gaps.{numbers_of_set};
-ghost use Rattle.cert_forest.specs.Certificates.{Cert, certificate};
-ghost use Rattle.cert_forest.specs.Limits.{IsCertificate, AscendFrom};
-ghost use Rattle.cert_forest.specs.PartsViews.{parts_view};
+ghost use Rattle.std.specs.FinSet as set;
+ghost use Rattle.cert_forest.specs.Certificates as specs;
+ghost use Rattle.cert_forest.specs.Limits.{IsCertificate};
 ghost use Rattle.cert_forest.specs.Exact.{GivesExactly, HasMore};
 ghost use Rattle.cert_forest.specs.declared.fault.CertFault.TheVariants.{Trailing, OutOfMemory};
 ghost use Rattle.text_tokens.specs.Steps.{Gives, GivesUnless};
-ghost use Rattle.cert_words.specs.Completions.{CanBecome};
-ghost use Rattle.cert_forest.specs.Reading.{gap_number_at, gaps_at, set_at, cost_at, parts_at};
 ghost use Rattle.cert_words.specs.Words.{stops_for_memory};
+ghost use Rattle.cert_words.specs.Completions.{CanBecome};
+ghost use Rattle.cert_forest.specs.Reading.{gap_number_at, ascending_at, set_at, cost_at, after_set_at, certificate_at};
 
 use crate::certificate::Certificate;
 use crate::cover_tree::cover_line;
 use crate::fault::{CertFault, fault_of};
 use crate::gap_tree::gap_line;
 use crate::runs::runs;
-use crate::shown::{head, shown_of};
-use crate::tree::{CoverTree, GapTree};
+use crate::shown::head;
 use cert_words::{
     Refusal, Stop, Wrong, begins_word, can_become, end, name, number, refused_unless_cut,
 };
 use gap_sets::{GapSet, MAX_GAPS};
 use std::alloc::Global;
-use tso_machine::Label;
+use tso_program::Shown;
 
 /// The greatest number of a gap.
 const LAST_GAP: u64 = MAX_GAPS as u64 - 1;
@@ -58,10 +56,10 @@ fn after_all(bytes: &[u8]) -> Refusal {
 }
 
 /// The gaps of the set, ascending, as long as words follow.
-fn gaps(alloc: Global, bytes: &[u8]) -> Result<(Vec<u8>, &[u8]), Stop>
-    ensures { GivesUnless stops_for_memory (λ x. (x.0.items, x.1.now)) result (gaps_at MAX_GAPS 0 [] bytes.now) }
+fn gaps(bytes: &[u8]) -> Result<(GapSet, &[u8]), Refusal>
+    ensures { Gives (λ x. (x.0, x.1.now)) result (ascending_at gap_number_at MAX_GAPS 0 set.empty bytes.now) }
 {
-    let mut found = Vec::new(alloc);
+    let mut found = GapSet::empty();
     let mut least: u8 = 0;
     let mut rest = bytes;
     for _ in 0..MAX_GAPS {
@@ -70,38 +68,30 @@ fn gaps(alloc: Global, bytes: &[u8]) -> Result<(Vec<u8>, &[u8]), Stop>
         }
         let (gap, after) = gap_number(rest)?;
         if gap < least {
-            return Err(Stop::Refused(below_least(gap, least, rest, after)));
+            return Err(below_least(gap, least, rest, after));
         }
-        found.push(gap)?;
+        found = found.with(gap);
         least = gap + 1;
         rest = after;
     }
     if begins_word(rest) {
-        return Err(Stop::Refused(after_all(rest)));
+        return Err(after_all(rest));
     }
     Ok((found, rest))
 }
 
 #[tactic(auto, unfolding(crate::specs::Reading::set_at))]
-fn set_line(alloc: Global, bytes: &[u8]) -> Result<(Vec<u8>, &[u8]), Stop>
-    ensures { GivesUnless stops_for_memory (λ x. (x.0.items, x.1.now)) result (set_at bytes.now) }
+fn set_line(bytes: &[u8]) -> Result<(GapSet, &[u8]), Refusal>
+    ensures { Gives (λ x. (x.0, x.1.now)) result (set_at bytes.now) }
 {
     let rest = name(b"set", bytes)?;
-    let (gaps, rest) = gaps(alloc, rest)?;
-    let rest = end(rest)?;
-    Ok((gaps, rest))
-}
-
-/// The set of these gaps.
-fn set_of(gaps: &[u8]) -> GapSet
-    requires { AscendFrom 0 gaps.now }
-    ensures { numbers_of_set result ≡ gaps.now }
-{
-    let mut set = GapSet::empty();
-    for gap in gaps {
-        set = set.with(*gap);
+    match gaps(rest) {
+        Ok((gaps, rest)) => {
+            let rest = end(rest)?;
+            Ok((gaps, rest))
+        }
+        Err(refusal) => Err(refusal),
     }
-    set
 }
 
 #[tactic(auto, unfolding(crate::specs::Reading::cost_at))]
@@ -114,35 +104,39 @@ fn cost(bytes: &[u8]) -> Result<(u64, &[u8]), Refusal>
     Ok((cost, rest))
 }
 
-/// What was read of a certificate.
-#[derive(Debug, Drop)]
-struct Parts {
-    shown: Option<Vec<u8>>,
-    gaps: Vec<u8>,
-    cost: u64,
-    seq_runs: Vec<Vec<Label>>,
-    seq_tree: CoverTree,
-    runs: Vec<Vec<Label>>,
-    fenced_tree: CoverTree,
-    gap_tree: GapTree,
+/// A certificate at the front of the bytes, and the bytes after its last line.
+#[tactic(auto, unfolding(crate::specs::Reading::certificate_at))]
+fn first_certificate(alloc: Global, bytes: &[u8]) -> Result<(Certificate, &[u8]), Stop>
+    ensures { GivesUnless stops_for_memory (λ x. (x.0, x.1.now)) result (certificate_at bytes.now) }
+{
+    match head(bytes) {
+        Ok((shown, rest)) => match set_line(rest) {
+            Ok((set, rest)) => after_set(alloc, shown, set, rest),
+            Err(refusal) => Err(Stop::Refused(refusal)),
+        },
+        Err(refusal) => Err(Stop::Refused(refusal)),
+    }
 }
 
-/// A certificate's parts, and the bytes after its last line.
-#[tactic(auto, unfolding(crate::specs::Reading::parts_at))]
-fn read_parts(alloc: Global, bytes: &[u8]) -> Result<(Parts, &[u8]), Stop>
-    ensures { GivesUnless stops_for_memory (λ x. (parts_view x.0, x.1.now)) result (parts_at bytes.now) }
+/// The certificate, from the line of the cost on.
+#[tactic(auto, unfolding(crate::specs::Reading::after_set_at))]
+fn after_set(
+    alloc: Global,
+    shown: Shown,
+    set: GapSet,
+    bytes: &[u8],
+) -> Result<(Certificate, &[u8]), Stop>
+    ensures { GivesUnless stops_for_memory (λ x. (x.0, x.1.now)) result (after_set_at shown set bytes.now) }
 {
-    let (shown, rest) = head(alloc, bytes)?;
-    let (gaps, rest) = set_line(alloc, rest)?;
-    let (cost, rest) = cost(rest)?;
+    let (cost, rest) = cost(bytes)?;
     let (seq_runs, rest) = runs(alloc, b"seq", rest)?;
     let (seq_tree, rest) = cover_line(alloc, b"tree", rest)?;
     let (runs, rest) = runs(alloc, b"runs", rest)?;
     let (fenced_tree, rest) = cover_line(alloc, b"fenced", rest)?;
     let (gap_tree, rest) = gap_line(alloc, rest)?;
-    let parts = Parts {
+    let certificate = Certificate {
         shown,
-        gaps,
+        set,
         cost,
         seq_runs,
         seq_tree,
@@ -150,32 +144,23 @@ fn read_parts(alloc: Global, bytes: &[u8]) -> Result<(Parts, &[u8]), Stop>
         fenced_tree,
         gap_tree,
     };
-    Ok((parts, rest))
+    Ok((certificate, rest))
 }
 
 /// The certificate that the bytes are the text of. It reserves no memory by a count that it has read. The first fault
 /// from left to right is answered, and `OutOfMemory` wherever a growth was refused.
 pub fn read_cert(alloc: Global, bytes: &[u8]) -> Result<Certificate, CertFault>
-    ensures found { IfOk result (λ c. IsCertificate bytes.now (certificate c)) }
-    ensures only { (c : Cert) → IsCertificate bytes.now c → GivesExactly result c }
+    ensures found { IfOk result (IsCertificate bytes.now) }
+    ensures only { (c : specs.Certificate) → IsCertificate bytes.now c → GivesExactly result c }
     ensures trailing { IfErr result (λ fault. (place : ℕ) → fault ≡ Trailing place → HasMore bytes.now place) }
     ensures more { (place : ℕ) → HasMore bytes.now place → IsErrAnd result (λ fault. (fault ≡ Trailing place) ⊎ (fault ≡ OutOfMemory)) }
 {
-    match read_parts(alloc, bytes) {
-        Ok((parts, rest)) => {
+    match first_certificate(alloc, bytes) {
+        Ok((certificate, rest)) => {
             if !rest.is_empty() {
                 return Err(CertFault::Trailing(bytes.len().saturating_sub(rest.len())));
             }
-            Ok(Certificate {
-                shown: shown_of(&parts.shown),
-                set: set_of(&parts.gaps),
-                cost: parts.cost,
-                seq_runs: parts.seq_runs,
-                seq_tree: parts.seq_tree,
-                runs: parts.runs,
-                fenced_tree: parts.fenced_tree,
-                gap_tree: parts.gap_tree,
-            })
+            Ok(certificate)
         }
         Err(Stop::Refused(refusal)) => Err(fault_of(refusal, bytes.len())),
         Err(Stop::OutOfMemory) => Err(CertFault::OutOfMemory),

@@ -1,19 +1,15 @@
 //! The head of a certificate's text: its version, and what is shown.
 
-ghost use Rattle.std.specs.Prelude.{◌≡◌, ◌<◌, IfOk, IfSome, []};
-ghost use Rattle.gap_sets.specs.Gaps.{numbers_of_set};
+ghost use Rattle.std.specs.Prelude.{◌≡◌, ◌<◌, IfOk, IfSome};
+ghost use Rattle.std.specs.FinSet as set;
 ghost use Rattle.tso_program.specs.declared.shown.TheConstants.{PLACES};
-ghost use Rattle.text_tokens.specs.Steps.{Gives, GivesUnless};
-ghost use Rattle.cert_forest.specs.Certificates.{shown_places, listed_places};
-ghost use Rattle.cert_forest.specs.Limits.{PlacesFrom, AreShownPlaces};
-ghost use Rattle.cert_forest.specs.Reading.{digit_of, shown_location, register_of, shown_place, place_word_at, places_at, shown_line_at, version_at, header_at, shown_at};
-ghost use Rattle.cert_words.specs.Words.{stops_for_memory};
+ghost use Rattle.text_tokens.specs.Steps.{Gives};
+ghost use Rattle.cert_forest.specs.Reading.{digit_of, shown_location, register_of, shown_place, place_word_at, ascending_at, shown_line_at, version_at, header_at, shown_at};
 
 use crate::access::stop_len;
 use cert_words::{
-    Refusal, Stop, Wrong, begins_word, end, name, refused, refused_unless_cut, refused_word, word,
+    Refusal, Wrong, begins_word, end, name, refused, refused_unless_cut, refused_word, word,
 };
-use std::alloc::Global;
 use text_tokens::{are_digits, plain_number};
 use tso_program::{MAX_LOCATIONS, MAX_THREADS, Names, PLACES, REGISTER_PLACES, REGISTERS, Shown};
 
@@ -144,11 +140,11 @@ fn place(least: u8, bytes: &[u8]) -> Result<(u8, &[u8]), Refusal>
     }
 }
 
-/// The places of what is shown, ascending, as long as words follow.
-fn places(alloc: Global, bytes: &[u8]) -> Result<(Vec<u8>, &[u8]), Stop>
-    ensures { GivesUnless stops_for_memory (λ x. (x.0.items, x.1.now)) result (places_at PLACES 0 [] bytes.now) }
+/// The registers and locations at ascending places, as long as words follow.
+fn places(bytes: &[u8]) -> Result<(Names, &[u8]), Refusal>
+    ensures { Gives (λ x. (x.0, x.1.now)) result (ascending_at place_word_at PLACES 0 set.empty bytes.now) }
 {
-    let mut found = Vec::new(alloc);
+    let mut found = Names::none();
     let mut least: u8 = 0;
     let mut rest = bytes;
     for _ in 0..MAX_PLACES {
@@ -157,14 +153,14 @@ fn places(alloc: Global, bytes: &[u8]) -> Result<(Vec<u8>, &[u8]), Stop>
         }
         let (place, after) = place(least, rest)?;
         if place < least {
-            return Err(Stop::Refused(refused_word(Wrong::Token, rest)));
+            return Err(refused_word(Wrong::Token, rest));
         }
-        found.push(place)?;
+        found = found.with_place(place);
         least = place + 1;
         rest = after;
     }
     if begins_word(rest) {
-        return Err(Stop::Refused(after_all(rest)));
+        return Err(after_all(rest));
     }
     Ok((found, rest))
 }
@@ -178,25 +174,17 @@ fn after_all(bytes: &[u8]) -> Refusal {
 }
 
 #[tactic(auto, unfolding(crate::specs::Reading::shown_line_at))]
-fn shown_line(alloc: Global, bytes: &[u8]) -> Result<(Vec<u8>, &[u8]), Stop>
-    ensures { GivesUnless stops_for_memory (λ x. (x.0.items, x.1.now)) result (shown_line_at bytes.now) }
+fn shown_line(bytes: &[u8]) -> Result<(Names, &[u8]), Refusal>
+    ensures { Gives (λ x. (x.0, x.1.now)) result (shown_line_at bytes.now) }
 {
     let rest = name(b"shown", bytes)?;
-    let (places, rest) = places(alloc, rest)?;
-    let rest = end(rest)?;
-    Ok((places, rest))
-}
-
-/// The registers and locations at these places.
-fn names_at(places: &[u8]) -> Names
-    requires { PlacesFrom 0 places.now }
-    ensures { numbers_of_set result ≡ places.now }
-{
-    let mut names = Names::none();
-    for place in places {
-        names = names.with_place(*place);
+    match places(rest) {
+        Ok((names, rest)) => {
+            let rest = end(rest)?;
+            Ok((names, rest))
+        }
+        Err(refusal) => Err(refusal),
     }
-    names
 }
 
 /// The second word of the first line: whether a line of what is shown follows.
@@ -240,26 +228,17 @@ fn header(bytes: &[u8]) -> Result<(bool, &[u8]), Refusal>
     }
 }
 
-/// The first line, and in the second version the places of what is shown.
+/// What is shown, by the first line and in the second version the next one.
 #[tactic(auto, unfolding(crate::specs::Reading::shown_at))]
-pub(crate) fn head(alloc: Global, bytes: &[u8]) -> Result<(Option<Vec<u8>>, &[u8]), Stop>
-    ensures { GivesUnless stops_for_memory (λ x. (listed_places x.0, x.1.now)) result (shown_at bytes.now) }
+pub(crate) fn head(bytes: &[u8]) -> Result<(Shown, &[u8]), Refusal>
+    ensures { Gives (λ x. (x.0, x.1.now)) result (shown_at bytes.now) }
 {
     let (is_second, rest) = header(bytes)?;
     if !is_second {
-        return Ok((None, rest));
+        return Ok((Shown::All, rest));
     }
-    let (places, rest) = shown_line(alloc, rest)?;
-    Ok((Some(places), rest))
-}
-
-/// What is shown: the registers and locations at these places, or all.
-pub(crate) fn shown_of(places: &Option<Vec<u8>>) -> Shown
-    requires { AreShownPlaces (listed_places places.now) }
-    ensures { shown_places result ≡ listed_places places.now }
-{
-    match places {
-        Some(places) => Shown::Only(names_at(places)),
-        None => Shown::All,
+    match shown_line(rest) {
+        Ok((names, rest)) => Ok((Shown::Only(names), rest)),
+        Err(refusal) => Err(refusal),
     }
 }

@@ -1,12 +1,12 @@
 //! The text of a certificate.
 
-ghost use Rattle.std.specs.Prelude.{◌≡◌, ◌++◌, ◌∷◌, [], Some, map, OnOk, IfOk, string_bytes, codes};
+ghost use Rattle.std.specs.Prelude.{◌≡◌, ◌++◌, ◌∷◌, [], map, OnOk, IfOk, string_bytes, codes};
 ghost use Rattle.std.specs.Fmt.{decimal};
 ghost use Rattle.gap_sets.specs.Gaps.{numbers_of_set};
 ghost use Rattle.tso_machine.specs.RunTexts.{spelling};
 ghost use Rattle.cert_forest.specs.Views.{cover, gap};
 ghost use Rattle.cert_forest.specs.Trees.{covers_of, gap_trees_of};
-ghost use Rattle.cert_forest.specs.Certificates.{certificate, shown_places, labels_of};
+ghost use Rattle.cert_forest.specs.Certificates.{labels_of};
 ghost use Rattle.cert_words.specs.Lines.{texts_of, spaced, line};
 ghost use Rattle.cert_forest.specs.Texts.{register_word, location_word, place_word, head_lines, access_word, kind_word, cover_words, covers_words, gap_words, gaps_words, labels_line, runs_lines, certificate_text};
 
@@ -262,7 +262,7 @@ fn push_places(out: &mut String, names: &Names) -> Result<(), AllocError>
 
 /// The line that says what the text is, and that of what is shown, where not all is.
 fn push_head(out: &mut String, shown: &Shown) -> Result<(), AllocError>
-    ensures { OnOk result (string_bytes out.new ≡ string_bytes out.old ++ head_lines (shown_places shown.now)) }
+    ensures { OnOk result (string_bytes out.new ≡ string_bytes out.old ++ head_lines shown.now) }
 {
     match shown {
         Shown::All => out.push_str("FENCECERT 1\n"),
@@ -272,7 +272,7 @@ fn push_head(out: &mut String, shown: &Shown) -> Result<(), AllocError>
 
 /// The two lines of the second version.
 fn push_second(out: &mut String, names: &Names) -> Result<(), AllocError>
-    ensures { OnOk result (string_bytes out.new ≡ string_bytes out.old ++ head_lines (Some (numbers_of_set names.now))) }
+    ensures { OnOk result (string_bytes out.new ≡ string_bytes out.old ++ head_lines (Shown.Only names.now)) }
 {
     out.push_str("FENCECERT 2\n")?;
     push_shown(out, names)
@@ -286,24 +286,24 @@ fn push_shown(out: &mut String, names: &Names) -> Result<(), AllocError>
     out.push('\n')
 }
 
-fn push_certificate(out: &mut String, c: &Certificate) -> Result<(), AllocError>
-    ensures { OnOk result (string_bytes out.new ≡ string_bytes out.old ++ certificate_text (certificate c.now)) }
+fn push_certificate(out: &mut String, certificate: &Certificate) -> Result<(), AllocError>
+    ensures { OnOk result (string_bytes out.new ≡ string_bytes out.old ++ certificate_text certificate.now) }
 {
-    push_head(out, &c.shown)?;
-    push_set(out, c.set, c.cost)?;
-    push_runs(out, "seq", &c.seq_runs)?;
-    push_cover_line(out, "tree", &c.seq_tree)?;
-    push_runs(out, "runs", &c.runs)?;
-    push_cover_line(out, "fenced", &c.fenced_tree)?;
-    push_gap_line(out, &c.gap_tree)
+    push_head(out, &certificate.shown)?;
+    push_set(out, certificate.set, certificate.cost)?;
+    push_runs(out, "seq", &certificate.seq_runs)?;
+    push_cover_line(out, "tree", &certificate.seq_tree)?;
+    push_runs(out, "runs", &certificate.runs)?;
+    push_cover_line(out, "fenced", &certificate.fenced_tree)?;
+    push_gap_line(out, &certificate.gap_tree)
 }
 
 /// The certificate's text, beyond the limits of what is read too: `read_cert` reads the text of a certificate within
 /// them.
-pub fn write_cert(alloc: Global, c: &Certificate) -> Result<Vec<u8>, AllocError>
-    ensures { IfOk result (λ text. text.items ≡ certificate_text (certificate c.now)) }
+pub fn write_cert(alloc: Global, certificate: &Certificate) -> Result<Vec<u8>, AllocError>
+    ensures { IfOk result (λ text. text.items ≡ certificate_text certificate.now) }
 {
     let mut out = String::new(alloc);
-    push_certificate(&mut out, c)?;
+    push_certificate(&mut out, certificate)?;
     Ok(out.into_bytes())
 }

@@ -37,7 +37,7 @@ impl Model for SeqTable {
 
     ghost use Rattle.tso_program.specs.contracts.shown.Names as names;
     ghost use Rattle.std.specs.Coded.{codes};
-    ghost use Rattle.tree_laws.specs.CoverCodes.{coded_cover};
+    ghost use Rattle.cert_forest.specs.CoverCodes.{coded_cover};
 
     ghost coded = { Prim.hlevel (codes, names.the_row.coded, coded_cover) };
 

@@ -4,7 +4,7 @@ use Rattle.std.specs.Prelude.{slice_get}
 use Rattle.std.specs.List.{AllByRecursion}
 use Rattle.std.proofs.lemmas.Option.{slice_get-get_or}
 use Rattle.std.proofs.lemmas.List.Elements.{recursion_from_All}
-use Rattle.gap_sets.specs.Gaps.{SetOfGaps}
+use Rattle.gap_sets.specs.Gaps.{SetOfGaps, IsGapSet}
 use Rattle.gap_sets.specs.Order.{total}
 use Rattle.gap_sets.specs.declared.costs.TheConstants.{MAX_COST}
 use Rattle.gap_sets.specs.Regions.{all_sets}
@@ -18,15 +18,12 @@ use Rattle.tso_program.specs.Fences.{gaps_in as gaps_of_set}
 use Rattle.tso_machine.specs.Outcomes.{IsTheAnswer, IsShownRun, IsSequentialOutcome, AreGapsOf}
 use Rattle.exec_axioms.specs.Sizes.{most_choices}
 use Rattle.cert_forest.specs.Trees.{Cover}
-use Rattle.cert_forest.specs.declared.certificate.Certificate as memory
 use Rattle.cert_forest.specs.declared.tree.TheConstants.{MAX_COVER_DEPTH, MAX_GAP_DEPTH}
-use Rattle.cert_forest.specs.Views.{cover, gap}
-use Rattle.cert_forest.specs.Certificates.{labels_of, shown_places}
+use Rattle.cert_forest.specs.Certificates.{Certificate}
 use Rattle.cert_forest.specs.Limits as limits
-use Rattle.cert_forest.specs.Limits.{IsWithin, IsGapTo, gap_depth}
+use Rattle.cert_forest.specs.Limits.{IsGapTo, gap_depth}
 use Rattle.tree_laws.specs.GapTrees.{IsValidGap}
 use Rattle.tree_laws.specs.Certificates.{IsRunOutside, IsValidCertificate, AreSequentialRuns}
-use Rattle.cert_check.specs.Claims.{claim_of}
 use Rattle.cover_solver.specs.Facts.{Table, Foreign, IsSequentialTable, IsListOf, IsServing, IsForeignValue}
 use Rattle.cover_solver.specs.Covers.{IsWholeCover}
 use Rattle.search_core.specs.Work.{undecided}
@@ -37,7 +34,6 @@ use Rattle.fence_place.specs.Recorded.{AreNumbersOf, AreSplitRuns, IsRecorded}
 use Rattle.fence_place.specs.Proofs.{IsProof}
 use Rattle.fence_place.proofs.GapTreeValid.{valid}
 use Rattle.fence_place.proofs.GapTreeSmall.{small}
-use Rattle.fence_place.proofs.Ascending.{gaps_ascend}
 use Rattle.fence_place.proofs.ShortRuns.{short_run}
 
 -- sequential runs are short
@@ -48,38 +44,38 @@ sequential_short q (r ∷ rs) [] within each = absurd each
 sequential_short q (r ∷ rs) (o ∷ os) within each = (short_run q.program Sequential r each.0.0 within each.0.1, sequential_short q rs os within each.1)
 
 -- what holds of a certificate that is made from a table and a search
-pub record IsMade (t : Table) (o : Outcome) (numbers : List ℕ) (c : memory.Certificate) : Type 0 where
+pub record IsMade (t : Table) (o : Outcome) (numbers : List ℕ) (c : Certificate) : Type 0 where
   pub same_shown : c.shown ≡ t.question.shown
-  pub places : limits.AreShownPlaces (shown_places c.shown)
-  pub same_set : c.set ≡ o.served.gaps
-  pub cost : c.cost ≡ total o.costs c.set
-  pub seq_runs : labels_of c.seq_runs.items ≡ t.runs
-  pub seq_tree : cover c.seq_tree ≡ t.tree
-  pub fenced_tree : cover c.fenced_tree ≡ o.served.tree
-  pub numbered : AreNumbersOf o.entries (labels_of c.runs.items) numbers
-  pub of_nodes : AreSplitRuns o.entries (labels_of c.runs.items)
-  pub recorded : IsRecorded o.entries numbers (gap c.gap_tree) 0
-  pub few_runs : length (labels_of c.runs.items) < 2 ^ 64
-  pub few_seq_runs : length (labels_of c.seq_runs.items) < 2 ^ 64
+  pub places : limits.AreShownPlaces c.shown
+  pub same_gaps : c.gaps ≡ o.served.gaps
+  pub cost : c.cost ≡ total o.costs c.gaps
+  pub seq_runs : c.seq_runs ≡ t.runs
+  pub seq_tree : c.seq_tree ≡ t.tree
+  pub fenced_tree : c.fenced_tree ≡ o.served.tree
+  pub numbered : AreNumbersOf o.entries c.runs numbers
+  pub of_nodes : AreSplitRuns o.entries c.runs
+  pub recorded : IsRecorded o.entries numbers c.gap_tree 0
+  pub few_runs : length c.runs < 2 ^ 64
+  pub few_seq_runs : length c.seq_runs < 2 ^ 64
 
 -- a tree of the solver is within the limits of a text
 tree_small : (q : Question) (mode : Mode) (outcomes : List machine.Outcome) (tree : Cover) → IsWholeCover q mode outcomes tree → limits.IsCoverTo MAX_COVER_DEPTH tree
 tree_small q mode outcomes tree is = let shallow : limits.cover_depth tree ≤ most_choices + 1 = is.shallow in (omega arith, is.neat.numbers)
 
-module _ (t : Table) (o : Outcome) (numbers : List ℕ) (c : memory.Certificate) (table : IsSequentialTable t) (outcome : IsOutcome o) (serving : IsServing o.served) (low : c.cost ≤ MAX_GAPS * MAX_COST)
+module _ (t : Table) (o : Outcome) (numbers : List ℕ) (c : Certificate) (table : IsSequentialTable t) (outcome : IsOutcome o) (serving : IsServing o.served) (low : c.cost ≤ MAX_GAPS * MAX_COST)
     (same : t.question ≡ o.question) (of_served : o.served.question ≡ o.question) (answer : IsTheAnswer o.question o.costs o.served.gaps) (made : IsMade t o numbers c) where
   facts : Facts (finished_state o)
   facts = facts_of (finished_state o) outcome.reached
 
   -- what holds of each run of a split
-  each_run : (P : List Label → Type 0) → ((f : Foreign) → f.question ≡ o.question → IsForeignValue f → P f.labels) → (k : ℕ) (labels : List Label) → slice_get (labels_of c.runs.items) k ≡ Some labels → P labels
+  each_run : (P : List Label → Type 0) → ((f : Foreign) → f.question ≡ o.question → IsForeignValue f → P f.labels) → (k : ℕ) (labels : List Label) → slice_get c.runs k ≡ Some labels → P labels
   each_run P give k labels at =
       let (place, e, f, first, there, split, is) = made.of_nodes k labels at in
       let s = facts.split place e f first there split in
       subst P is (give f s.of_question s.foreign)
 
-  foreign : All (IsRunOutside o.question t.outcomes) (labels_of c.runs.items)
-  foreign k d h = each_run (IsRunOutside o.question t.outcomes) outside k (get_or (labels_of c.runs.items) k d) (slice_get-get_or (labels_of c.runs.items) k d h)
+  foreign : All (IsRunOutside o.question t.outcomes) c.runs
+  foreign k d h = each_run (IsRunOutside o.question t.outcomes) outside k (get_or c.runs k d) (slice_get-get_or c.runs k d h)
     where
       outside : (f : Foreign) → f.question ≡ o.question → IsForeignValue f → IsRunOutside o.question t.outcomes f.labels
       outside f of is = (
@@ -88,58 +84,65 @@ module _ (t : Table) (o : Outcome) (numbers : List ℕ) (c : memory.Certificate)
         (λ here. is.foreign.foreign (subst (λ (q : Question). IsSequentialOutcome q f.outcome) (same ∙ sym of) ((table.listed.exact f.outcome).0 here))),
       )
 
-  table_tree : IsWholeCover o.question Sequential t.outcomes (cover c.seq_tree)
+  table_tree : IsWholeCover o.question Sequential t.outcomes c.seq_tree
   table_tree = subst (λ (x : Cover). IsWholeCover o.question Sequential t.outcomes x) (sym made.seq_tree) (subst (λ (q : Question). IsWholeCover q Sequential t.outcomes t.tree) same table.tree)
 
   -- the tree of the set with its gaps fenced
-  fenced_tree : IsWholeCover o.question (Fenced (gaps_of_set o.question.program c.set)) t.outcomes (cover c.fenced_tree)
+  fenced_tree : IsWholeCover o.question (Fenced (gaps_of_set o.question.program c.gaps)) t.outcomes c.fenced_tree
   fenced_tree =
       let listed : IsListOf o.served.question t.outcomes = subst (λ (q : Question). IsListOf q t.outcomes) (same ∙ sym of_served) table.listed in
       let here = serving.tree t.outcomes listed in
-      subst (λ (x : Cover). IsWholeCover o.question (Fenced (gaps_of_set o.question.program c.set)) t.outcomes x) (sym made.fenced_tree)
-      (subst (λ (g : SetOfGaps). IsWholeCover o.question (Fenced (gaps_of_set o.question.program g)) t.outcomes o.served.tree) (sym made.same_set)
+      subst (λ (x : Cover). IsWholeCover o.question (Fenced (gaps_of_set o.question.program c.gaps)) t.outcomes x) (sym made.fenced_tree)
+      (subst (λ (g : SetOfGaps). IsWholeCover o.question (Fenced (gaps_of_set o.question.program g)) t.outcomes o.served.tree) (sym made.same_gaps)
       (subst (λ (q : Question). IsWholeCover q (Fenced (gaps_of_set q.program o.served.gaps)) t.outcomes o.served.tree) of_served here))
 
-  is_valid : IsValidCertificate o.question o.costs (claim_of c)
+  is_valid : IsValidCertificate o.question o.costs c
   is_valid = record {
     shown = made.same_shown ∙ ap (λ (q : Question). q.shown) same;
-    of_program = subst (λ (g : SetOfGaps). AreGapsOf o.question.program g) (sym made.same_set) answer.of_program;
+    of_program = subst (λ (g : SetOfGaps). AreGapsOf o.question.program g) (sym made.same_gaps) answer.of_program;
     one_cost_each = facts.have_costs.one_each;
     cost = made.cost;
     outcomes = t.outcomes;
-    replayed = subst (λ (q : Question). AreSequentialRuns q (labels_of c.seq_runs.items) t.outcomes) same
+    replayed = subst (λ (q : Question). AreSequentialRuns q c.seq_runs t.outcomes) same
         (subst (λ (r : List (List Label)). AreSequentialRuns t.question r t.outcomes) (sym made.seq_runs) table.runs);
     sequential = table_tree.valid;
     foreign = foreign;
     fenced = fenced_tree.valid;
-    least = subst (λ (g : SetOfGaps). IsValidGap o.question.program o.costs g (labels_of c.runs.items) (gap c.gap_tree) all_sets) (sym made.same_set)
-        (valid (finished_state o) facts o.served.gaps answer (labels_of c.runs.items) numbers made.numbered (gap c.gap_tree) 0 all_sets made.recorded facts.root);
+    least = subst (λ (g : SetOfGaps). IsValidGap o.question.program o.costs g c.runs c.gap_tree all_sets) (sym made.same_gaps)
+        (valid (finished_state o) facts o.served.gaps answer c.runs numbers made.numbered c.gap_tree 0 all_sets made.recorded facts.root);
   }
 
-  gap_tree_small : IsGapTo MAX_GAP_DEPTH (gap c.gap_tree)
+  gap_tree_small : IsGapTo MAX_GAP_DEPTH c.gap_tree
   gap_tree_small =
-      let is = small (finished_state o) facts (labels_of c.runs.items) made.few_runs numbers made.numbered (gap c.gap_tree) 0 all_sets made.recorded facts.root in
+      let is = small (finished_state o) facts c.runs made.few_runs numbers made.numbered c.gap_tree 0 all_sets made.recorded facts.root in
       let few : undecided all_sets ≤ MAX_GAPS = few_undecided all_sets in
-      let deep : gap_depth (gap c.gap_tree) ≤ suc (undecided all_sets) = is.deep in
-      (at_most (gap_depth (gap c.gap_tree)) (undecided all_sets) deep few, is.numbers)
+      let deep : gap_depth c.gap_tree ≤ suc (undecided all_sets) = is.deep in
+      (at_most (gap_depth c.gap_tree) (undecided all_sets) deep few, is.numbers)
     where
       at_most : (d u : ℕ) → d ≤ suc u → u ≤ MAX_GAPS → d ≤ MAX_GAP_DEPTH
       at_most d u h i = omega arith
 
-  foreign_short : All limits.IsWrittenRun (labels_of c.runs.items)
-  foreign_short k d h = each_run limits.IsWrittenRun (λ f of is. short_run f.question.program (Fenced no_gaps) f.labels is.foreign.is_run.0 (subst (λ (q : Question). IsWithinLimits q.program.threads q.program.memory) (sym of) facts.within) is.foreign.is_run.1) k (get_or (labels_of c.runs.items) k d) (slice_get-get_or (labels_of c.runs.items) k d h)
+  -- each gap of the program is below the limit
+  below : IsGapSet c.gaps
+  below gap there =
+      let few = facts.within.few_gaps in
+      let at = (subst (λ (g : SetOfGaps). AreGapsOf o.question.program g) (sym made.same_gaps) answer.of_program) gap there in
+      omega arith
+
+  foreign_short : All limits.IsWrittenRun c.runs
+  foreign_short k d h = each_run limits.IsWrittenRun (λ f of is. short_run f.question.program (Fenced no_gaps) f.labels is.foreign.is_run.0 (subst (λ (q : Question). IsWithinLimits q.program.threads q.program.memory) (sym of) facts.within) is.foreign.is_run.1) k (get_or c.runs k d) (slice_get-get_or c.runs k d h)
 
   pub is_proof : IsProof o.question o.costs c
   is_proof = record {
     valid = is_valid;
     within = record {
       shown = made.places;
-      gaps = gaps_ascend c.set;
+      gaps = below;
       cost = omega arith;
       seq_runs = (made.few_seq_runs, subst (AllByRecursion limits.IsWrittenRun) (sym made.seq_runs) (sequential_short t.question t.runs t.outcomes (subst (λ (q : Question). IsWithinLimits q.program.threads q.program.memory) (sym same) facts.within) table.runs));
-      seq_tree = tree_small o.question Sequential t.outcomes (cover c.seq_tree) table_tree;
-      runs = (made.few_runs, recursion_from_All limits.IsWrittenRun (labels_of c.runs.items) foreign_short);
-      fenced_tree = tree_small o.question (Fenced (gaps_of_set o.question.program c.set)) t.outcomes (cover c.fenced_tree) fenced_tree;
+      seq_tree = tree_small o.question Sequential t.outcomes c.seq_tree table_tree;
+      runs = (made.few_runs, recursion_from_All limits.IsWrittenRun c.runs foreign_short);
+      fenced_tree = tree_small o.question (Fenced (gaps_of_set o.question.program c.gaps)) t.outcomes c.fenced_tree fenced_tree;
       gap_tree = gap_tree_small;
     };
   }

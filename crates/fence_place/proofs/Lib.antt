@@ -3,7 +3,6 @@ pub mod Bounds
 pub mod GapTreeValid
 pub mod Recording
 pub mod GapTreeSmall
-pub mod Ascending
 pub mod ShortRuns
 pub mod CertificateMade
 pub mod Splitting

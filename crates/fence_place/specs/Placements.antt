@@ -5,7 +5,6 @@ use Rattle.tso_program.specs.Shown.{Question}
 use Rattle.tso_machine.specs.Outcomes.{Headline, IsTheAnswer}
 use Rattle.the_answer.specs.Answers.{the_answer, least_cost}
 use Rattle.fence_place.specs.declared.placing.Placed.{Placed}
-use Rattle.cert_forest.specs.Certificates.{labels_of}
 use Rattle.fence_place.specs.Proofs.{IsProof}
 use Rattle.fence_place.specs.Recorded.{AreDistinct}
 
@@ -17,6 +16,6 @@ module _ (q : Question) (costs : List ℕ) where
     pub cost : placed.cost ≡ total costs placed.set
     pub best : placed.set ≡ the_answer q costs
     pub least : placed.cost ≡ least_cost q costs
-    pub same_set : placed.certificate.set ≡ placed.set
+    pub same_set : placed.certificate.gaps ≡ placed.set
     pub proof : IsProof q costs placed.certificate
-    pub once : AreDistinct (labels_of placed.certificate.runs.items)
+    pub once : AreDistinct placed.certificate.runs

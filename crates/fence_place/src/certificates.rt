@@ -1,6 +1,6 @@
 //! The certificate of a search that is done.
 ghost use Rattle.std.specs.Prelude.{◌≡◌, ◌↔◌, ◌<◌, ◌+◌, ℕ, IfOk, IsTrue, MatchOption, Some, Contains, length, slice_get, map};
-ghost use Rattle.cert_forest.specs.Certificates.{labels_of, shown_places};
+ghost use Rattle.cert_forest.specs.Certificates.{labels_of};
 ghost use Rattle.cert_forest.specs.Limits.{AreShownPlaces};
 ghost use Rattle.cert_forest.specs.Trees.{gap_trees_of};
 ghost use Rattle.cert_forest.specs.Views.{gap};
@@ -23,9 +23,9 @@ pub fn certify(
     finished: &Finished,
 ) -> Result<Certificate, AllocError>
     requires { table.now.question ≡ finished.now.question }
-    ensures set { IfOk result (λ certificate. certificate.set ≡ finished.now.served.gaps) }
+    ensures set { IfOk result (λ certificate. certificate.gaps ≡ finished.now.served.gaps) }
     ensures proof { IfOk result (IsProof finished.now.question finished.now.costs) }
-    ensures once { IfOk result (λ certificate. AreDistinct (labels_of certificate.runs.items)) }
+    ensures once { IfOk result (λ certificate. AreDistinct certificate.runs) }
 {
     let served = finished.served();
     let shown = table.shown();
@@ -33,7 +33,7 @@ pub fn certify(
     // where these are read.
     let _ = table.program();
     let _ = served.program();
-    its_places_ascend(shown);
+    names_have_places(shown);
     let (runs, numbers) = listed_runs(alloc, finished)?;
     let gap_tree = gap_tree(alloc, finished, &numbers, 0)?;
     let set = served.set();
@@ -49,9 +49,9 @@ pub fn certify(
     })
 }
 
-/// The places of what is shown have a text. Calling it does nothing.
-fn its_places_ascend(shown: &Shown)
-    ensures { AreShownPlaces (shown_places shown.now) }
+/// The registers and locations that are shown are at places. Calling it does nothing.
+fn names_have_places(shown: &Shown)
+    ensures { AreShownPlaces shown.now }
 {
     // For the proof alone: what holds of all names is known where their places are asked for.
     if let Shown::Only(names) = shown {

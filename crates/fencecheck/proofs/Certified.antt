@@ -3,7 +3,6 @@ use Rattle.std.proofs.Common.{◌≡◌, ℕ, List, None, Some, refl, sym, ap, �
 use Rattle.gap_sets.specs.Order.{total}
 use Rattle.tso_program.specs.Shown.{asked}
 use Rattle.tree_laws.specs.Certificates.{IsValidCertificate}
-use Rattle.cert_check.specs.Claims.{claim_of}
 use Rattle.report.specs.Answers.{accepted_line}
 use Rattle.fencecheck.specs.Inputs.{ArePartsOf}
 use Rattle.fencecheck.specs.Verdicts.{IsVerdict, accepted, refused, IsAccepted, handed_in}
@@ -24,11 +23,11 @@ certified bytes litmus certificate line parts is =
       of_litmus = told.of_text;
       claimed = claimed;
       of_certificate = is.of_certificate;
-      valid = subst (λ costs. IsValidCertificate (asked p (handed_in told.program claimed.shown)) costs (claim_of claimed)) told.given
-          (subst (λ shown. IsValidCertificate (asked p shown) told.gap_costs (claim_of claimed)) (sym as_asked) is.valid);
+      valid = subst (λ costs. IsValidCertificate (asked p (handed_in told.program claimed.shown)) costs claimed) told.given
+          (subst (λ shown. IsValidCertificate (asked p shown) told.gap_costs claimed) (sym as_asked) is.valid);
       printed = told.printed ∙ ap (λ shown. accepted_line p shown told.gaps (total told.gap_costs told.gaps)) (sym same_shown)
           ∙ ap (λ gaps. accepted_line p claimed.shown gaps (total told.gap_costs gaps)) (sym is.claims)
-          ∙ ap (accepted_line p claimed.shown claimed.set) (sym is.valid.cost);
+          ∙ ap (accepted_line p claimed.shown claimed.gaps) (sym is.valid.cost);
     }
 
 of_verdict : (bytes litmus certificate line : List ℕ) (status : ℕ) → ArePartsOf bytes litmus certificate → IsVerdict litmus certificate None status line → status ≡ 0 → IsCertified bytes line

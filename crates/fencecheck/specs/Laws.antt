@@ -5,11 +5,9 @@ use Rattle.tso_program.specs.Listings.{gap_count}
 use Rattle.tso_program.specs.Shown.{asked}
 use Rattle.litmus_reader.specs.declared.litmus.Litmus.{Litmus}
 use Rattle.litmus_reader.specs.Texts.{IsLitmus}
-use Rattle.cert_forest.specs.declared.certificate.Certificate.{Certificate}
-use Rattle.cert_forest.specs.Certificates as certificates
+use Rattle.cert_forest.specs.Certificates.{Certificate}
 use Rattle.cert_forest.specs.Limits.{IsCertificate}
 use Rattle.tree_laws.specs.Certificates.{IsValidCertificate}
-use Rattle.cert_check.specs.Claims.{claim_of}
 use Rattle.report.specs.Answers.{accepted_line}
 use Rattle.fencecheck.specs.Verdicts.{handed_in}
 use Rattle.fencecheck.specs.Replies.{IsReplyToInput}
@@ -23,9 +21,9 @@ pub record IsCertified (bytes line : List ℕ) : Type 0 where
   pub program : Litmus Listing
   pub of_litmus : IsLitmus litmus program
   pub claimed : Certificate
-  pub of_certificate : IsCertificate certificate (certificates.certificate claimed)
-  pub valid : IsValidCertificate (asked program.program (handed_in program claimed.shown)) (replicate (gap_count program.program.threads) 1) (claim_of claimed)
-  pub printed : line ≡ accepted_line program.program claimed.shown claimed.set claimed.cost
+  pub of_certificate : IsCertificate certificate claimed
+  pub valid : IsValidCertificate (asked program.program (handed_in program claimed.shown)) (replicate (gap_count program.program.threads) 1) claimed
+  pub printed : line ≡ accepted_line program.program claimed.shown claimed.gaps claimed.cost
 
 -- where the reply to an input alone has status 0, the input is so certified
 abbrev pub AcceptedInputsAreCertified : Type 0

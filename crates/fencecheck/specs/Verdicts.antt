@@ -10,15 +10,13 @@ use Rattle.tso_machine.specs.Outcomes.{Headline}
 use Rattle.litmus_reader.specs.Shown.{shown_by}
 use Rattle.litmus_reader.specs.declared.litmus.Litmus.{Litmus}
 use Rattle.litmus_reader.specs.Texts as litmus_texts
-use Rattle.cert_forest.specs.declared.certificate.Certificate.{Certificate}
 use Rattle.cert_forest.specs.declared.fault.CertFault.{CertFault}
 use Rattle.cert_forest.specs.declared.fault.CertFault.TheVariants as cert_fault
-use Rattle.cert_forest.specs.Certificates as certificates
+use Rattle.cert_forest.specs.Certificates.{Certificate}
 use Rattle.cert_forest.specs.Limits.{IsCertificate}
 use Rattle.cert_forest.specs.Exact.{HasMore}
 use Rattle.cost_text.specs.GivenCosts.{AreGiven, AreNotGiven}
 use Rattle.tree_laws.specs.Certificates.{IsValidCertificate}
-use Rattle.cert_check.specs.Claims.{claim_of}
 use Rattle.cert_check.specs.Faults.{CheckFaultIs}
 use Rattle.report.specs.Answers.{accepted_line}
 use Rattle.report.specs.CertificateLines.{certificate_line}
@@ -30,7 +28,7 @@ use Rattle.fencecheck.specs.declared.judge.Refusal.TheVariants as refusal
 -- the first text is a program's, and the second this certificate's
 pub record Spell (litmus certificate : List ℕ) (program : Litmus Listing) (claimed : Certificate) : Type 0 where
   pub of_program : litmus_texts.IsLitmus litmus program
-  pub of_certificate : IsCertificate certificate (certificates.certificate claimed)
+  pub of_certificate : IsCertificate certificate claimed
 
 -- What is shown of outcomes: all, or what the condition and `locations` of the litmus text name, as the certificate's version asks.
 abbrev pub handed_in : Litmus Listing → Shown → Shown
@@ -54,15 +52,15 @@ pub record Tells (litmus : List ℕ) (costs : Option (List ℕ)) (line : List �
 pub record IsAccepted (litmus certificate : List ℕ) (costs : Option (List ℕ)) (line : List ℕ) : Type 0 where
   pub told : Tells litmus costs line
   pub claimed : Certificate
-  pub of_certificate : IsCertificate certificate (certificates.certificate claimed)
-  pub claims : claimed.set ≡ told.gaps
-  pub valid : IsValidCertificate (asked told.program.program told.shown) told.gap_costs (claim_of claimed)
+  pub of_certificate : IsCertificate certificate claimed
+  pub claims : claimed.gaps ≡ told.gaps
+  pub valid : IsValidCertificate (asked told.program.program told.shown) told.gap_costs claimed
 
 -- why bytes are not a certificate's text: what the fault says of them, and that no certificate has this text, out of memory aside
 pub record IsNoCertificate (text : List ℕ) (fault : CertFault) : Type 0 where
   pub trailing : (place : ℕ) → fault ≡ cert_fault.Trailing place → HasMore text place
   pub more : (place : ℕ) → HasMore text place → (fault ≡ cert_fault.Trailing place) ⊎ (fault ≡ cert_fault.OutOfMemory)
-  pub none : (c : certificates.Cert) → IsCertificate text c → fault ≡ cert_fault.OutOfMemory
+  pub none : (c : Certificate) → IsCertificate text c → fault ≡ cert_fault.OutOfMemory
 
 -- Why a certificate is refused: the litmus text is judged first, then the certificate's text, the costs, and what the
 -- certificate shows.
@@ -74,7 +72,7 @@ IsRefused litmus certificate costs (refusal.Costs fault) =
     (program : Litmus Listing) × (claimed : Certificate) × Spell litmus certificate program claimed × AreNotGiven program.program costs fault
 IsRefused litmus certificate costs (refusal.Check fault) =
     (program : Litmus Listing) × (claimed : Certificate) × (gap_costs : List ℕ) × Spell litmus certificate program claimed
-    × AreGiven program.program costs gap_costs × CheckFaultIs (asked program.program (handed_in program claimed.shown)) gap_costs (claim_of claimed) fault
+    × AreGiven program.program costs gap_costs × CheckFaultIs (asked program.program (handed_in program claimed.shown)) gap_costs claimed fault
 
 -- the line of a refusal
 abbrev pub refusal_line : Refusal → List ℕ

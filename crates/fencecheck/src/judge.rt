@@ -6,7 +6,6 @@ ghost use Rattle.tso_program.specs.Shown.{asked};
 ghost use Rattle.tso_machine.specs.Outcomes.{Headline};
 ghost use Rattle.cost_text.specs.GivenCosts.{AreGiven, AreNotGiven};
 ghost use Rattle.tree_laws.specs.Certificates.{IsValidCertificate};
-ghost use Rattle.cert_check.specs.Claims.{claim_of};
 ghost use Rattle.cert_check.specs.Faults.{CheckFaultIs};
 ghost use Rattle.report.specs.Answers.{accepted_line};
 ghost use Rattle.fencecheck.specs.Verdicts.{handed_in, IsAccepted, IsRefused, refusal_line};
@@ -74,10 +73,10 @@ fn checked_line(
     costs: &Costs,
     certificate: &Certificate,
 ) -> Result<Vec<u8>, CheckFault>
-    ensures headline { OnOk result (Headline (asked program.now shown.now) costs.now certificate.now.set) }
-    ensures valid { OnOk result (IsValidCertificate (asked program.now shown.now) costs.now (claim_of certificate.now)) }
-    ensures line { IfOk result (λ line. line.items ≡ accepted_line program.now shown.now certificate.now.set (total costs.now certificate.now.set)) }
-    ensures refused { IfErr result (CheckFaultIs (asked program.now shown.now) costs.now (claim_of certificate.now)) }
+    ensures headline { OnOk result (Headline (asked program.now shown.now) costs.now certificate.now.gaps) }
+    ensures valid { OnOk result (IsValidCertificate (asked program.now shown.now) costs.now certificate.now) }
+    ensures line { IfOk result (λ line. line.items ≡ accepted_line program.now shown.now certificate.now.gaps (total costs.now certificate.now.gaps)) }
+    ensures refused { IfErr result (CheckFaultIs (asked program.now shown.now) costs.now certificate.now) }
 {
     let accepted = check(alloc, program, shown, costs, certificate)?;
     match accepted_line(alloc, program, shown, accepted.set, accepted.cost) {

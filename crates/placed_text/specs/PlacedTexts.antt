@@ -10,12 +10,10 @@ use Rattle.litmus_reader.specs.declared.litmus.Litmus.{Litmus}
 use Rattle.litmus_reader.specs.Texts.{IsLitmus, IsFencedLitmus}
 use Rattle.canonical_text.specs.Canonical.{canonical_text, litmus_fenced_at}
 use Rattle.cost_text.specs.GivenCosts.{AreGiven}
-use Rattle.cert_forest.specs.declared.certificate.Certificate.{Certificate}
-use Rattle.cert_forest.specs.Certificates.{certificate}
+use Rattle.cert_forest.specs.Certificates.{Certificate}
 use Rattle.cert_forest.specs.Limits.{IsCertificate}
 use Rattle.cert_forest.specs.Texts.{certificate_text}
 use Rattle.tree_laws.specs.Certificates.{IsValidCertificate}
-use Rattle.cert_check.specs.Claims.{claim_of}
 use Rattle.report.specs.Answers.{answer_line}
 use Rattle.fence_place.specs.declared.placing.Placed.{Placed}
 use Rattle.placed_text.specs.declared.writing.PlacedText.{PlacedText}
@@ -24,9 +22,9 @@ use Rattle.litmus_reader.specs.Shown.{shown_as, question_of}
 -- the text is that of a certificate which claims these gaps, and which the checker accepts, since it is valid
 pub record IsCertificateOf (q : Question) (costs : List ℕ) (gaps : SetOfGaps) (text : List ℕ) : Type 0 where
   pub claimed : Certificate
-  pub of_text : IsCertificate text (certificate claimed)
-  pub claims : claimed.set ≡ gaps
-  pub valid : IsValidCertificate q costs (claim_of claimed)
+  pub of_text : IsCertificate text claimed
+  pub claims : claimed.gaps ≡ gaps
+  pub valid : IsValidCertificate q costs claimed
 
 -- What the texts tell: the litmus text stands for this program, its gaps have these costs, these gaps are the answer, so that
 -- the headline holds of them; the program's text is the canonical one with an MFENCE in each of them, and is read as that
@@ -49,4 +47,4 @@ pub record AreWrittenTexts (source : Litmus Listing) (shown : Shown) (placed : P
   pub program : texts.program.items ≡ canonical_text (litmus_fenced_at placed.set source)
   pub again : (text : List ℕ) → IsLitmus text source → IsFencedLitmus texts.program.items (litmus_fenced_at placed.set source)
   pub line : texts.answer.items ≡ answer_line source.program shown placed.set placed.cost
-  pub certificate : texts.certificate.items ≡ certificate_text (certificate placed.certificate)
+  pub certificate : texts.certificate.items ≡ certificate_text placed.certificate

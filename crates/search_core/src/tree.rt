@@ -41,7 +41,7 @@ impl Model for SearchTree {
 
     ghost use Rattle.gap_sets.specs.contracts.gap_set.GapSet as gap_set;
     ghost use Rattle.std.specs.Coded.{codes};
-    ghost use Rattle.tree_laws.specs.CoverCodes.{coded_cover};
+    ghost use Rattle.cert_forest.specs.CoverCodes.{coded_cover};
 
     ghost coded = { Prim.hlevel (codes, gap_set.the_row.coded, coded_cover) };
 

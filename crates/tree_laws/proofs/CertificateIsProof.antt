@@ -8,7 +8,8 @@ use Rattle.tso_program.specs.Limits.{IsWithinLimits}
 use Rattle.tso_machine.specs.declared.label.Label.{Label}
 use Rattle.tso_machine.specs.Outcomes.{IsTheAnswer}
 use Rattle.fence_laws.proofs.HeadlineIsTheAnswer.{headline_is_the_answer}
-use Rattle.tree_laws.specs.Certificates.{Certificate, IsRunOutside, IsValidCertificate}
+use Rattle.cert_forest.specs.Certificates.{Certificate}
+use Rattle.tree_laws.specs.Certificates.{IsRunOutside, IsValidCertificate}
 use Rattle.tree_laws.specs.Laws.{IsSequentialList, IsForeign, AValidCertificateProves}
 use Rattle.tree_laws.proofs.ListedOutcomes.{sequential_list, fenced_tree_serves}
 use Rattle.tree_laws.proofs.NoBetterLeft.{no_better_left, root_has_every_set}

@@ -1,11 +1,9 @@
--- What a certificate holds, and when it is valid (this project's own definitions; docs/definitions.md).
+-- When a certificate is valid (this project's own definitions; docs/definitions.md).
 use Rattle.std.specs.Prelude.{◌≡◌, ℕ, List, Contains, length, All}
 use Rattle.std.specs.List.{AllZip}
-use Rattle.gap_sets.specs.Gaps.{SetOfGaps}
 use Rattle.gap_sets.specs.Order.{total}
 use Rattle.gap_sets.specs.Regions.{all_sets}
 use Rattle.tso_program.specs.declared.outcome.Outcome.{Outcome}
-use Rattle.tso_program.specs.declared.shown.Shown.{Shown}
 use Rattle.tso_program.specs.Shown.{Question}
 use Rattle.tso_program.specs.Listings.{gap_count}
 use Rattle.tso_program.specs.Fences.{gaps_in}
@@ -13,21 +11,9 @@ use Rattle.tso_machine.specs.declared.label.Label.{Label}
 use Rattle.tso_machine.specs.Machine.{Sequential, Fenced, no_gaps}
 use Rattle.tso_machine.specs.Outcomes.{IsShownRun, AreGapsOf}
 use Rattle.candidate_executions.specs.Sketches.{empty_sketch}
-use Rattle.cert_forest.specs.Trees.{Cover, Gap}
+use Rattle.cert_forest.specs.Certificates.{Certificate}
 use Rattle.tree_laws.specs.CoverTrees.{IsValidCover}
 use Rattle.tree_laws.specs.GapTrees.{IsValidGap}
-
--- what is shown of outcomes; a set of gaps and its cost; sequential runs, and a tree that shows that there are no other sequential outcomes; foreign
--- runs; a tree that shows that the set serves, and one that shows that no better set does
-pub record Certificate : Type 0 where
-  pub shown : Shown
-  pub gaps : SetOfGaps
-  pub cost : ℕ
-  pub seq_runs : List (List Label)
-  pub seq_tree : Cover
-  pub runs : List (List Label)
-  pub fenced_tree : Cover
-  pub gap_tree : Gap
 
 -- as many outcomes as runs, and each is what is shown of the outcome of its run of the sequential machine
 abbrev pub AreSequentialRuns : Question → List (List Label) → List Outcome → Type 0

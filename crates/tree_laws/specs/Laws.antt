@@ -17,7 +17,8 @@ use Rattle.candidate_executions.specs.Sketches.{Sketch, empty_sketch, IsSketch}
 use Rattle.cert_forest.specs.Trees.{Cover, Gap, covers_of, gap_trees_of}
 use Rattle.tree_laws.specs.CoverTrees.{HasNextValues, HasSources, IsValidCover, AreValidCovers, IsCovered}
 use Rattle.tree_laws.specs.GapTrees.{IsSplitBy, IsValidGap, AreValidGaps, EachBetterOfRegionLeavesOutcome, NoServingSetIsBetter, HaveCosts}
-use Rattle.tree_laws.specs.Certificates.{Certificate, AreSequentialRuns, IsValidCertificate}
+use Rattle.cert_forest.specs.Certificates.{Certificate}
+use Rattle.tree_laws.specs.Certificates.{AreSequentialRuns, IsValidCertificate}
 
 -- a valid cover tree at a sketch covers it
 abbrev pub AValidCoverCovers : Type 0

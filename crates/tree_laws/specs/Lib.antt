@@ -3,4 +3,3 @@ pub mod GapTrees
 pub mod Certificates
 pub mod Laws
 pub mod StoreBuffering
-pub mod CoverCodes

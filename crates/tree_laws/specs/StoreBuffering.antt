@@ -10,7 +10,8 @@ use Rattle.candidate_executions.specs.declared.event.Kind.{Kind}
 use Rattle.candidate_executions.specs.declared.event.Kind.TheVariants as union
 use Rattle.cert_forest.specs.declared.tree.AccessId.{AccessId}
 use Rattle.cert_forest.specs.Trees.{Cover, Value, Source, Cycle, Known, Covers, NoCover, MoreCovers, Gap, Split, Bound, NoGap, MoreGaps}
-use Rattle.tree_laws.specs.Certificates.{Certificate, IsValidCertificate}
+use Rattle.cert_forest.specs.Certificates.{Certificate}
+use Rattle.tree_laws.specs.Certificates.{IsValidCertificate}
 use Rattle.tree_laws.specs.Laws.{IsProved}
 
 abbrev pub one_child : Cover → Covers

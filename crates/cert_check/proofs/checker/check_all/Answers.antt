@@ -7,7 +7,6 @@ use Rattle.candidate_executions.specs.Sketches.{empty_sketch}
 use Rattle.tree_laws.specs.CoverTrees.{IsValidCover}
 use Rattle.tree_laws.specs.GapTrees.{IsValidGap}
 use Rattle.tree_laws.specs.Certificates.{IsRunOutside, IsValidCertificate}
-use Rattle.cert_check.specs.Claims.{claim_of}
 use Rattle.cert_check.specs.Faults.{CheckFaultIs, HasServingSet, HasForeignRuns, HasEachOutcome}
 use Rattle.cert_check.specs.Replays.{HavePassed}
 use Rattle.cover_judge.proofs.Answered.{err_up, on_ok}
@@ -19,7 +18,7 @@ pub returns-in_err-check_fenced-clause-fault : goal.returns-in_err-check_fenced-
 returns-in_err-check_fenced-clause-fault c =
     let q = asked c.args.program.now c.args.shown.now in
     let costs = c.args.costs.now in
-    let claim = claim_of c.args.certificate.now in
+    let claim = c.args.certificate.now in
     let outs = c.in_ok-listed.listed.items in
     let complete : HasEachOutcome q costs claim outs =
     record { listed = record { head = c.in_ok-check_head.ensures.ok; replayed = c.in_ok-listed.ensures.replayed }; sequential = c.in_ok-listed.ensures.sequential } in
@@ -35,7 +34,7 @@ pub returns-clause-valid : goal.returns-clause-valid
 returns-clause-valid c =
     let q = asked c.args.program.now c.args.shown.now in
     let costs = c.args.costs.now in
-    let claim = claim_of c.args.certificate.now in
+    let claim = c.args.certificate.now in
     let outs = c.in_ok-listed.listed.items in
     let complete : HasEachOutcome q costs claim outs =
     record { listed = record { head = c.in_ok-check_head.ensures.ok; replayed = c.in_ok-listed.ensures.replayed }; sequential = c.in_ok-listed.ensures.sequential } in
@@ -55,7 +54,7 @@ pub returns-clause-fault : goal.returns-clause-fault
 returns-clause-fault c =
     let q = asked c.args.program.now c.args.shown.now in
     let costs = c.args.costs.now in
-    let claim = claim_of c.args.certificate.now in
+    let claim = c.args.certificate.now in
     let outs = c.in_ok-listed.listed.items in
     let complete : HasEachOutcome q costs claim outs =
     record { listed = record { head = c.in_ok-check_head.ensures.ok; replayed = c.in_ok-listed.ensures.replayed }; sequential = c.in_ok-listed.ensures.sequential } in

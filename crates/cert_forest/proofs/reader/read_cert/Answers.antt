@@ -2,47 +2,38 @@ use Rattle.std.proofs.Common.{◌≡◌, [], length, sym, ap, ◌∙◌, arith, 
 use Rattle.std.proofs.lemmas.Bool.{eqb-true}
 use Rattle.std.proofs.lemmas.List.{nil_from_length}
 use Rattle.cert_forest.specs.declared.fault.CertFault.TheVariants.{Trailing}
-use Rattle.cert_forest.specs.PartsViews.{parts_view}
-use Rattle.cert_forest.proofs.WholeLaws.{found_whole, only_whole, never_none, gaps_ascend, places_ascend, same_sets, with_sets, some_behind, has_more, left_behind, more_is_read}
+use Rattle.cert_forest.proofs.WholeLaws.{found_whole, only_whole, never_none, some_behind, has_more, left_behind, more_is_read}
 use Rattle.cert_forest.proofs.reader.read_cert.Goals as goal
 
 pub returns-then-not-is_empty-clause-only : goal.returns-then-not-is_empty-clause-only
 returns-then-not-is_empty-clause-only c = λ d is.
-    absurd (some_behind c.in-Ok.rest.now (sym c.is_empty.ensures ∙ c.if-not-is_empty.true) (only_whole c.args.bytes.now c.in-Ok.rest.now (parts_view c.in-Ok.parts) d c.in-Ok.ensures is).1)
-
-pub set_of-requires : goal.set_of-requires
-set_of-requires c = rw c.deref.ensures.value (gaps_ascend c.args.bytes.now c.in-Ok.rest.now (parts_view c.in-Ok.parts) c.in-Ok.ensures)
-
-pub shown_of-requires : goal.shown_of-requires
-shown_of-requires c = places_ascend c.args.bytes.now c.in-Ok.rest.now (parts_view c.in-Ok.parts) c.in-Ok.ensures
+    absurd (some_behind c.in-Ok.rest.now (sym c.is_empty.ensures ∙ c.if-not-is_empty.true) (only_whole c.args.bytes.now c.in-Ok.rest.now c.in-Ok.certificate d c.in-Ok.ensures is).1)
 
 pub returns-else-not-is_empty-clause-found : goal.returns-else-not-is_empty-clause-found
 returns-else-not-is_empty-clause-found c =
     let none : c.in-Ok.rest.now ≡ [] = nil_from_length c.in-Ok.rest.now (eqb-true _ _ (sym c.is_empty.ensures ∙ c.if-not-is_empty.false)) in
-    with_sets (parts_view c.in-Ok.parts) _ _ c.args.bytes.now c.shown_of.ensures (c.set_of.ensures ∙ c.deref.ensures.value) (found_whole c.args.bytes.now c.in-Ok.rest.now (parts_view c.in-Ok.parts) c.in-Ok.ensures none)
+    found_whole c.args.bytes.now c.in-Ok.rest.now c.in-Ok.certificate c.in-Ok.ensures none
 
 pub returns-else-not-is_empty-clause-only : goal.returns-else-not-is_empty-clause-only
-returns-else-not-is_empty-clause-only c = λ d is.
-    same_sets (parts_view c.in-Ok.parts) _ _ c.shown_of.ensures (c.set_of.ensures ∙ c.deref.ensures.value)
-    ∙ (only_whole c.args.bytes.now c.in-Ok.rest.now (parts_view c.in-Ok.parts) d c.in-Ok.ensures is).0
+returns-else-not-is_empty-clause-only c = λ d is. (only_whole c.args.bytes.now c.in-Ok.rest.now c.in-Ok.certificate d c.in-Ok.ensures is).0
 
 pub returns-in-Err-Refused-clause-only : goal.returns-in-Err-Refused-clause-only
 returns-in-Err-Refused-clause-only c = λ d is. absurd (never_none c.args.bytes.now d (rw c.in-Err-Refused.field-0-is at c.in-Err-Refused.ensures) is)
 
 pub returns-then-not-is_empty-clause-trailing : goal.returns-then-not-is_empty-clause-trailing
 returns-then-not-is_empty-clause-trailing c = λ place is.
-    has_more c.args.bytes.now c.in-Ok.rest.now (parts_view c.in-Ok.parts) place c.in-Ok.ensures (sym c.is_empty.ensures ∙ c.if-not-is_empty.true)
+    has_more c.args.bytes.now c.in-Ok.rest.now c.in-Ok.certificate place c.in-Ok.ensures (sym c.is_empty.ensures ∙ c.if-not-is_empty.true)
     (let same : c.saturating_sub.result ≡ place = cc in sym same ∙ c.saturating_sub.ensures)
 
 pub returns-then-not-is_empty-clause-more : goal.returns-then-not-is_empty-clause-more
 returns-then-not-is_empty-clause-more c = λ place more.
-    inl (ap Trailing (c.saturating_sub.ensures ∙ (left_behind c.args.bytes.now c.in-Ok.rest.now (parts_view c.in-Ok.parts) place c.in-Ok.ensures more).0))
+    inl (ap Trailing (c.saturating_sub.ensures ∙ (left_behind c.args.bytes.now c.in-Ok.rest.now c.in-Ok.certificate place c.in-Ok.ensures more).0))
 
 pub returns-else-not-is_empty-clause-more : goal.returns-else-not-is_empty-clause-more
 returns-else-not-is_empty-clause-more c = λ place more.
     let none : c.in-Ok.rest.now ≡ [] = nil_from_length c.in-Ok.rest.now (eqb-true _ _ (sym c.is_empty.ensures ∙ c.if-not-is_empty.false)) in
     let empty : length c.in-Ok.rest.now ≡ 0 = ap length none in
-    let some = (left_behind c.args.bytes.now c.in-Ok.rest.now (parts_view c.in-Ok.parts) place c.in-Ok.ensures more).1 in
+    let some = (left_behind c.args.bytes.now c.in-Ok.rest.now c.in-Ok.certificate place c.in-Ok.ensures more).1 in
     omega arith
 
 pub returns-in-Err-Refused-clause-more : goal.returns-in-Err-Refused-clause-more

@@ -1,10 +1,11 @@
-use Rattle.std.proofs.Common.{◌≡◌, ◌-◌, ◌≤◌, []}
+use Rattle.std.proofs.Common.{◌≡◌, ◌-◌, ◌≤◌}
+use Rattle.std.specs.FinSet as set
 use Rattle.tso_program.specs.declared.shown.TheConstants.{PLACES}
-use Rattle.cert_forest.specs.Reading.{places_at}
+use Rattle.cert_forest.specs.Reading.{place_word_at, ascending_at}
 use Rattle.cert_forest.proofs.shown.places.Given as goal
 
 abbrev pub invariant-loop : goal.invariant-loop
 invariant-loop l = record {
-  told : places_at (PLACES - l.counter) l.least l.found.items l.rest ≡ places_at PLACES 0 [] l.bytes;
+  told : ascending_at place_word_at (PLACES - l.counter) l.least l.found l.rest ≡ ascending_at place_word_at PLACES 0 set.empty l.bytes;
   least : l.least ≤ PLACES;
 }

@@ -4,7 +4,7 @@ use Rattle.std.specs.Global.{Vec}
 use Rattle.gap_sets.specs.Order.{total}
 use Rattle.tso_machine.specs.declared.label.Label.{Label}
 use Rattle.cert_forest.specs.Certificates.{labels_of}
-use Rattle.cert_forest.specs.Views.{gap}
+use Rattle.cert_forest.specs.Views.{cover, gap}
 use Rattle.cover_solver.specs.Facts.{Serving, IsServing}
 use Rattle.fence_place.specs.Recorded.{IsRecorded}
 use Rattle.fence_place.proofs.CertificateMade.{is_proof}
@@ -18,7 +18,7 @@ returns-clause-proof c =
     let o = c.args.finished.now in
     let t = c.args.table.now in
     let is_served = c.served-served.ensures.value in
-    let same_set : c.set-set.result ≡ o.served.gaps = c.set-set.ensures ∙ ap (λ (s : Serving). s.gaps) is_served in
+    let same_gaps : c.set-set.result ≡ o.served.gaps = c.set-set.ensures ∙ ap (λ (s : Serving). s.gaps) is_served in
     let cost : c.total.result ≡ total o.costs c.set-set.result = c.total.ensures.value ∙ ap (λ (l : List ℕ). total l c.set-set.result) c.costs.ensures.value in
     let low = c.total.ensures.limit in
     let runs_long = c.in_ok-runs.runs.ok in
@@ -28,19 +28,19 @@ returns-clause-proof c =
     is_proof t o c.in_ok-runs.numbers.items
     (record {
       shown = c.shown-shown.result.now;
-      set = c.set-set.result;
+      gaps = c.set-set.result;
       cost = c.total.result;
-      seq_runs = c.in_ok-run_copies.field-0;
-      seq_tree = c.in_ok-copy.field-0;
-      runs = c.in_ok-runs.runs;
-      fenced_tree = c.in_ok-copy-2.field-0;
-      gap_tree = c.in_ok-gap_tree.gap_tree;
+      seq_runs = labels_of c.in_ok-run_copies.field-0.items;
+      seq_tree = cover c.in_ok-copy.field-0;
+      runs = labels_of c.in_ok-runs.runs.items;
+      fenced_tree = cover c.in_ok-copy-2.field-0;
+      gap_tree = gap c.in_ok-gap_tree.gap_tree;
     })
     c.program.ensures.table c.served-served.ensures.outcome (subst IsServing is_served c.program-2.ensures.serving) low c.requires c.served-served.ensures.answer.0 c.served-served.ensures.answer.1
     (record {
       same_shown = c.shown-shown.ensures;
-      places = c.its_places_ascend.ensures;
-      same_set = same_set;
+      places = c.names_have_places.ensures;
+      same_gaps = same_gaps;
       cost = cost;
       seq_runs = c.in_ok-run_copies.ensures ∙ c.runs.ensures;
       seq_tree = c.in_ok-copy.ensures ∙ c.tree.ensures;
