@@ -8,10 +8,10 @@ ghost use Rattle.cost_text.specs.LineReading.{AreAllDigits, said_by};
 ghost use Rattle.cost_text.specs.TextReading.{digits_of, cost_or_fault, table_of, IsCostTable, IsNewEntry, IsTableOf};
 
 use crate::fault::CostTextFault;
-use crate::line::{CostLine, are_line_spaces, cost_line};
+use crate::line::{CostLine, cost_line};
 use gap_sets::{CostFault, Costs, MAX_COST};
 use std::alloc::{AllocError, Global};
-use text_tokens::value_up_to;
+use text_tokens::{are_line_spaces, value_up_to};
 use tso_program::Program;
 
 /// The lines of a text, between which an LF stands.
