@@ -11,7 +11,7 @@ use Rattle.tree_laws.specs.GapTrees.{IsValidGap}
 use Rattle.cert_forest.specs.Certificates.{Certificate}
 use Rattle.tree_laws.specs.Certificates.{IsRunOutside, IsValidCertificate}
 use Rattle.cert_check.specs.Faults.{IsFirstWithout, HasServingSet}
-use Rattle.cert_check.specs.Replays.{IsOutside}
+use Rattle.cert_check.specs.Internal.Replays.{IsOutside}
 use Rattle.cert_check.proofs.GapNodes.{labels_at}
 use Rattle.cert_check.proofs.FirstFaults.{one_outcome}
 

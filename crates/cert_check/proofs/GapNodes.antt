@@ -16,8 +16,8 @@ use Rattle.cert_forest.proofs.TreeTexts.{gaps_count}
 use Rattle.tree_laws.specs.GapTrees.{PassesGap, IsSplitBy, IsValidGap}
 use Rattle.tree_laws.proofs.OneList.{one_list_of_gaps}
 use Rattle.cert_check.specs.GapDefects.{HasNoSplit, FirstWrongGap}
-use Rattle.cert_check.specs.Children.{AreValidIn, IsWrongChildIn}
-use Rattle.cert_check.specs.Replays.{HavePassed}
+use Rattle.cert_check.specs.Internal.Children.{AreValidIn, IsWrongChildIn}
+use Rattle.cert_check.specs.Internal.Replays.{HavePassed}
 use Rattle.cover_judge.specs.Judged.{IsAtRoot, IsBelow}
 
 -- what is found at a number goes with the labels of this number

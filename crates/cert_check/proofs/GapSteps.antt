@@ -11,7 +11,7 @@ use Rattle.cert_forest.specs.Trees.{Gap}
 use Rattle.tree_laws.specs.GapTrees.{IsValidGap}
 use Rattle.cover_judge.proofs.Mapped.{left_from, mapped_from}
 use Rattle.cert_check.specs.GapDefects.{FirstWrongGap}
-use Rattle.cert_check.specs.Children.{AreValidIn, IsWrongChildIn}
+use Rattle.cert_check.specs.Internal.Children.{AreValidIn, IsWrongChildIn}
 use Rattle.cover_judge.specs.Judged.{IsBelow}
 
 module _ (p : Listing) (costs : List ℕ) (answer : SetOfGaps) (runs : List (List Label)) (trees : List Gap) (region : Region) (gaps : List ℕ) where

@@ -8,7 +8,7 @@ use Rattle.std.specs.BTreeSet.{BTreeSet, UpdatesBy, contains}
 use Rattle.tso_program.specs.declared.outcome.Outcome.{Outcome}
 use Rattle.tso_program.specs.Ordered.{outcome_cmp}
 use Rattle.tso_program.proofs.OutcomesOrdered.{same_by_order}
-use Rattle.cert_check.specs.Replays.{borrowed_cmp}
+use Rattle.cert_check.specs.Internal.Replays.{borrowed_cmp}
 
 -- what a set has after one more, where this says whether it is that one
 one_more : (b new old : Bool) {Same Before : Type 0} → new ≡ cond b true old → (b ≡ true) ↔ Same → IsTrue old ↔ Before → IsTrue new ↔ (Before ⊎ Same)

@@ -27,7 +27,7 @@ use Rattle.tso_machine.proofs.Refused.{no_fault}
 use Rattle.fence_laws.proofs.GapsAvoided.{empty_fences_nothing}
 use Rattle.cert_forest.specs.Certificates.{labels_of}
 use Rattle.cert_check.specs.Faults.{IsRunOf, IsFirstWithout}
-use Rattle.cert_check.specs.Replays.{machine_of, IsReplayOf, AreReplaysOf, IsNoRunAt, IsFaultFrom, RunsFaultIs}
+use Rattle.cert_check.specs.Internal.Replays.{machine_of, IsReplayOf, AreReplaysOf, IsNoRunAt, IsFaultFrom, RunsFaultIs}
 
 -- with the empty set fenced a model's machine is the one with no gap fenced
 pub machine_is : (p : Listing) (model : Model) → mode_of p set.empty model ≡ machine_of model

@@ -1,5 +1,4 @@
 pub mod GapDefects
-pub mod Children
 pub mod Faults
 pub mod Laws
-pub mod Replays
+pub mod Internal

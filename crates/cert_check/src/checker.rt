@@ -17,7 +17,7 @@ ghost use Rattle.cert_forest.specs.Certificates as specs;
 ghost use Rattle.tree_laws.specs.Certificates.{AreSequentialRuns, IsRunOutside, IsValidCertificate};
 ghost use Rattle.the_answer.specs.Answers.{the_answer, least_cost};
 ghost use Rattle.cert_check.specs.Faults.{CheckFaultIs, HasHead, HasEachOutcome, HasForeignRuns, HasServingSet};
-ghost use Rattle.cert_check.specs.Replays.{HavePassed};
+ghost use Rattle.cert_check.specs.Internal.Replays.{HavePassed};
 
 use crate::CheckFault;
 use crate::cover::judge_from_start;

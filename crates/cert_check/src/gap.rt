@@ -8,10 +8,10 @@ ghost use Rattle.tso_program.specs.declared.listing.Listing.{Listing};
 ghost use Rattle.tso_machine.specs.declared.label.Label.{Label};
 ghost use Rattle.cert_forest.specs.Views.{gap};
 ghost use Rattle.tree_laws.specs.GapTrees.{IsSplitBy, IsValidGap};
-ghost use Rattle.cert_check.specs.Replays.{HavePassed};
+ghost use Rattle.cert_check.specs.Internal.Replays.{HavePassed};
 ghost use Rattle.cert_check.specs.GapDefects.{HasNoSplit, FirstWrongGap};
 ghost use Rattle.cover_judge.specs.Judged.{IfWrong, IsAtRoot, IsBelow};
-ghost use Rattle.cert_check.specs.Children.{AreValidIn, IsWrongChildIn};
+ghost use Rattle.cert_check.specs.Internal.Children.{AreValidIn, IsWrongChildIn};
 
 use crate::runs::passed_by;
 use cert_forest::GapTree;

@@ -6,7 +6,7 @@ ghost use Rattle.std.specs.Borrow.{Bor};
 ghost use Rattle.tso_program.specs.declared.outcome.Outcome.{Outcome};
 ghost use Rattle.tso_program.specs.Shown.{show, asked};
 ghost use Rattle.cert_check.specs.Faults.{IsFirstWithout};
-ghost use Rattle.cert_check.specs.Replays.{machine_of, IsReplayOf, AreReplaysOf, borrowed_cmp, IsOutside, IsNoRunAt, IsFaultFrom, RunsFaultIs};
+ghost use Rattle.cert_check.specs.Internal.Replays.{machine_of, IsReplayOf, AreReplaysOf, borrowed_cmp, IsOutside, IsNoRunAt, IsFaultFrom, RunsFaultIs};
 
 use crate::fault::RunsFault;
 use gap_sets::GapSet;

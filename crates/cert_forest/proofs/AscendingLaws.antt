@@ -11,7 +11,7 @@ use Rattle.cert_words.specs.Words.{begins_word}
 use Rattle.text_tokens.proofs.StepLaws.{bind_some, kept_out, by_test}
 use Rattle.std.proofs.lemmas.Option.{same_Some}
 use Rattle.cert_words.proofs.Steps.{Starts, done_with, IsExact}
-use Rattle.cert_forest.specs.Reading.{ascending_at}
+use Rattle.cert_forest.specs.Internal.Reading.{ascending_at}
 use Rattle.cert_forest.proofs.Ascending.{Ascend, IsBelow, numbers_back, ascending_are_below, numbers_ascend, set_back, with_all, all_from_none}
 
 module _ (read : List ℕ → Option (ℕ × List ℕ)) (word : ℕ → List ℕ) (limit : ℕ) (exact : IsExact read (λ n. spaced (word n)) (λ n. n < limit)) where

@@ -13,7 +13,7 @@ use Rattle.cert_forest.specs.Texts.{access_word, cover_words, count_covers}
 use Rattle.cert_forest.specs.Limits.{IsAccessId, cover_depth, covers_depth, HaveNumbers, IsCoverTo}
 use Rattle.text_tokens.specs.Steps.{◌>>=◌}
 use Rattle.cert_words.specs.Words.{number_within_at, count_at, letter_at, repeat_at}
-use Rattle.cert_forest.specs.Reading.{Head, ValueHead, SourceHead, OrderHead, CycleHead, KnownHead, access_at, kind_at, value_head_at, source_head_at, order_head_at, cycle_at, known_at, head_by, head_at, below_at, cover_at}
+use Rattle.cert_forest.specs.Internal.Reading.{Head, ValueHead, SourceHead, OrderHead, CycleHead, KnownHead, access_at, kind_at, value_head_at, source_head_at, order_head_at, cycle_at, known_at, head_by, head_at, below_at, cover_at}
 use Rattle.text_tokens.proofs.StepLaws.{bind_some, by_test}
 use Rattle.std.proofs.lemmas.Option.{same_Some}
 use Rattle.cert_words.proofs.Steps.{Starts, IsExact, takes_two, again_two, repeat_takes, repeat_again, starts_all}

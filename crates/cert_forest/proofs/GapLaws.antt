@@ -9,7 +9,7 @@ use Rattle.cert_forest.specs.Texts.{count_gaps}
 use Rattle.cert_forest.specs.Limits.{gaps_depth, IsGapTo}
 use Rattle.text_tokens.specs.Steps.{◌>>=◌}
 use Rattle.cert_words.specs.Words.{number_within_at, count_at, letter_at, repeat_at}
-use Rattle.cert_forest.specs.Reading.{split_at, gap_by, gap_at}
+use Rattle.cert_forest.specs.Internal.Reading.{split_at, gap_by, gap_at}
 use Rattle.text_tokens.proofs.StepLaws.{bind_some, by_test}
 use Rattle.std.proofs.lemmas.Option.{cond_some, same_Some}
 use Rattle.cert_words.proofs.Steps.{Starts, IsExact, takes_two, again_two, repeat_takes, repeat_again, starts_all}

@@ -18,7 +18,7 @@ use Rattle.tso_program.specs.declared.shown.Shown.TheVariants.{All, Only}
 use Rattle.tso_program.specs.Names.{ArePlaces}
 use Rattle.cert_forest.specs.Texts.{place_word, head_lines}
 use Rattle.cert_forest.specs.Limits.{AreShownPlaces}
-use Rattle.cert_forest.specs.Reading.{place_word_at, ascending_at, shown_line_at, version_at, header_at, shown_words_at, shown_at}
+use Rattle.cert_forest.specs.Internal.Reading.{place_word_at, ascending_at, shown_line_at, version_at, header_at, shown_words_at, shown_at}
 use Rattle.cert_forest.proofs.AscendingLaws.{numbers_start, numbers_take, numbers_again}
 use Rattle.cert_forest.proofs.PlaceLaws.{place_text, place_exact}
 use Rattle.cert_forest.proofs.TreeTexts.{texts_map}

@@ -17,7 +17,7 @@ use Rattle.cert_forest.specs.Texts.{cover_words, gap_words, labels_line, runs_li
 use Rattle.cert_forest.specs.Limits.{IsWrittenRun, AreRuns, IsCoverTo, IsGapTo}
 use Rattle.text_tokens.specs.Steps.{◌>>=◌}
 use Rattle.cert_words.specs.Words.{is_inner, line_name_at, end_at, begins_word, number_within_at, repeat_at}
-use Rattle.cert_forest.specs.Reading.{label_word_at, run_labels_at, gap_number_at, ascending_at, run_at, runs_at, set_at, cost_at, cover_at, gap_at, cover_line_at, gap_line_at}
+use Rattle.cert_forest.specs.Internal.Reading.{label_word_at, run_labels_at, gap_number_at, ascending_at, run_at, runs_at, set_at, cost_at, cover_at, gap_at, cover_line_at, gap_line_at}
 use Rattle.text_tokens.proofs.StepLaws.{bind_some, kept_out, by_test}
 use Rattle.std.proofs.lemmas.Option.{same_Some}
 use Rattle.cert_words.proofs.Steps.{Starts, done_with, IsExact, repeat_takes, repeat_free}

@@ -9,7 +9,7 @@ use Rattle.cert_words.specs.declared.refusal.Stop.{Stop}
 use Rattle.cert_words.specs.declared.refusal.Stop.TheVariants.{Refused, OutOfMemory}
 use Rattle.text_tokens.specs.Steps.{Fails}
 use Rattle.cert_words.specs.Words.{begins_word, repeat_at, stops_for_memory}
-use Rattle.cert_forest.specs.Reading.{label_word_at, run_labels_at, ascending_at}
+use Rattle.cert_forest.specs.Internal.Reading.{label_word_at, run_labels_at, ascending_at}
 
 one_less : (n k : ℕ) → k < n → n - k ≡ suc (n - (k + 1))
 one_less n k lt = omega arith

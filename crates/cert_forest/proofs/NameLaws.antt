@@ -25,7 +25,7 @@ use Rattle.cert_words.proofs.WordLaws.{prefix_is, after_prefix, word_takes, word
 use Rattle.cert_forest.specs.declared.tree.AccessId.{AccessId}
 use Rattle.cert_forest.specs.Texts.{access_word, kind_word}
 use Rattle.cert_forest.specs.Limits.{IsAccessId}
-use Rattle.cert_forest.specs.Reading.{is_no_stop, access_tail, access_of, access_at, kind_of, kind_at, label_word_at}
+use Rattle.cert_forest.specs.Internal.Reading.{is_no_stop, access_tail, access_of, access_at, kind_of, kind_at, label_word_at}
 
 -- ---- accesses
 

@@ -17,7 +17,7 @@ use Rattle.tso_program.specs.declared.instruction.TheConstants.{REGISTERS}
 use Rattle.tso_program.specs.declared.limits.TheConstants.{MAX_THREADS, MAX_LOCATIONS}
 use Rattle.tso_program.specs.declared.shown.TheConstants.{REGISTER_PLACES, PLACES}
 use Rattle.cert_forest.specs.Texts.{register_word, location_word, place_word}
-use Rattle.cert_forest.specs.Reading.{digit_of, shown_location, register_of, shown_place, place_word_at}
+use Rattle.cert_forest.specs.Internal.Reading.{digit_of, shown_location, register_of, shown_place, place_word_at}
 
 -- ---- digits
 

@@ -6,7 +6,7 @@ use Rattle.cert_words.specs.declared.refusal.Stop.TheVariants.{Refused, OutOfMem
 use Rattle.cert_forest.specs.Trees.{Gap, Split, Bound, gap_trees_of}
 use Rattle.text_tokens.specs.Steps.{Fails}
 use Rattle.cert_words.specs.Words.{letter_at, repeat_at, stops_for_memory}
-use Rattle.cert_forest.specs.Reading.{Head, head_at, below_at, cover_at, split_at, gap_by, gap_at}
+use Rattle.cert_forest.specs.Internal.Reading.{Head, head_at, below_at, cover_at, split_at, gap_by, gap_at}
 
 less : (d : ℕ) → 0 < d → d ≡ suc (d - 1)
 less d lt = omega arith

@@ -16,7 +16,7 @@ use Rattle.cert_forest.specs.Limits.{AreShownPlaces, AreRuns, IsCoverTo, IsGapTo
 use Rattle.cert_forest.specs.Exact.{HasMore}
 use Rattle.cert_forest.specs.Laws.{OneText, OneCertificate, NoTextBeginsAnother}
 use Rattle.text_tokens.specs.Steps.{◌>>=◌}
-use Rattle.cert_forest.specs.Reading.{shown_at, set_at, cost_at, runs_at, cover_line_at, gap_line_at, after_set_at, certificate_at}
+use Rattle.cert_forest.specs.Internal.Reading.{shown_at, set_at, cost_at, runs_at, cover_line_at, gap_line_at, after_set_at, certificate_at}
 use Rattle.std.proofs.lemmas.Option.{same_Some}
 use Rattle.cert_forest.proofs.HeadLaws.{head_takes, head_again}
 use Rattle.cert_forest.proofs.LineLaws.{set_takes, set_again, cost_takes, cost_again, runs_takes, runs_again, cover_line_takes, cover_line_again, gap_line_takes, gap_line_again}

@@ -1,11 +1,9 @@
 pub mod Trees
 pub mod CoverCodes
-pub mod GapCodes
 pub mod Views
 pub mod Certificates
 pub mod Texts
 pub mod Limits
-pub mod Reading
-pub mod HeadViews
 pub mod Exact
 pub mod Laws
+pub mod Internal

@@ -4,7 +4,7 @@ ghost use Rattle.std.specs.Prelude.{◌≡◌, ◌≤◌, length, []};
 ghost use Rattle.std.specs.List.{prefix_len};
 ghost use Rattle.text_tokens.specs.Steps.{Gives, GivesUnless};
 ghost use Rattle.cert_words.specs.Words.{repeat_at, stops_for_memory};
-ghost use Rattle.cert_forest.specs.Reading.{is_no_stop, access_tail, access_of, access_at};
+ghost use Rattle.cert_forest.specs.Internal.Reading.{is_no_stop, access_tail, access_of, access_at};
 
 use crate::tree::AccessId;
 use cert_words::{Refusal, Stop, Wrong, refused_unless_cut, word};
@@ -32,7 +32,7 @@ fn access_tail(thread: u8, bytes: &[u8]) -> Option<AccessId>
 }
 
 /// The access whose name is written so.
-#[tactic(auto, unfolding(crate::specs::Reading::access_of))]
+#[tactic(auto, unfolding(crate::specs::Internal::Reading::access_of))]
 fn access_of(word: &[u8]) -> Option<AccessId>
     ensures { result ≡ access_of word.now }
 {
@@ -67,7 +67,7 @@ fn fault_of(word: &[u8]) -> (Wrong, bool) {
 }
 
 /// A space, and the name of an access.
-#[tactic(auto, unfolding(crate::specs::Reading::access_at))]
+#[tactic(auto, unfolding(crate::specs::Internal::Reading::access_at))]
 pub(crate) fn access(bytes: &[u8]) -> Result<(AccessId, &[u8]), Refusal>
     ensures { Gives (λ x. (x.0, x.1.now)) result (access_at bytes.now) }
 {

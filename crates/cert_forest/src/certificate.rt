@@ -35,7 +35,7 @@ impl Model for Certificate {
     ghost use Rattle.tso_program.specs.contracts.shown.Names as names;
     ghost use Rattle.std.specs.Coded.{codes};
     ghost use Rattle.cert_forest.specs.CoverCodes.{coded_cover};
-    ghost use Rattle.cert_forest.specs.GapCodes.{coded_gap};
+    ghost use Rattle.cert_forest.specs.Internal.GapCodes.{coded_gap};
 
     ghost coded = { Prim.hlevel (codes, names.the_row.coded, gap_set.the_row.coded, coded_cover, coded_gap) };
 

@@ -2,10 +2,10 @@
 
 ghost use Rattle.std.specs.Prelude.{◌≡◌, [], map};
 ghost use Rattle.cert_forest.specs.Views.{cover};
-ghost use Rattle.cert_forest.specs.HeadViews.{head_view};
+ghost use Rattle.cert_forest.specs.Internal.HeadViews.{head_view};
 ghost use Rattle.text_tokens.specs.Steps.{GivesUnless};
 ghost use Rattle.cert_words.specs.Words.{repeat_at, stops_for_memory};
-ghost use Rattle.cert_forest.specs.Reading.{below_at, cover_at, cover_line_at};
+ghost use Rattle.cert_forest.specs.Internal.Reading.{below_at, cover_at, cover_line_at};
 
 use crate::head::{Head, read_head};
 use crate::tree::{CoverTree, MAX_COVER_DEPTH};
@@ -94,7 +94,7 @@ fn covers(
 }
 
 /// A line of a cover tree.
-#[tactic(auto, unfolding(crate::specs::Reading::cover_line_at))]
+#[tactic(auto, unfolding(crate::specs::Internal::Reading::cover_line_at))]
 pub(crate) fn cover_line<'t>(
     alloc: Global,
     first: &[u8],

@@ -4,7 +4,7 @@ ghost use Rattle.std.specs.Prelude.{◌≡◌, [], map};
 ghost use Rattle.cert_forest.specs.Views.{gap};
 ghost use Rattle.text_tokens.specs.Steps.{Gives, GivesUnless};
 ghost use Rattle.cert_words.specs.Words.{repeat_at, stops_for_memory};
-ghost use Rattle.cert_forest.specs.Reading.{split_at, gap_at, gap_line_at};
+ghost use Rattle.cert_forest.specs.Internal.Reading.{split_at, gap_at, gap_line_at};
 
 use crate::cover_tree::too_deep;
 use crate::tree::{GapTree, MAX_GAP_DEPTH};
@@ -12,7 +12,7 @@ use cert_words::{Refusal, Stop, Wrong, count, end, letter, name, number, refused
 use std::alloc::Global;
 
 /// The run of a split, and how many children it has.
-#[tactic(auto, unfolding(crate::specs::Reading::split_at))]
+#[tactic(auto, unfolding(crate::specs::Internal::Reading::split_at))]
 fn split(bytes: &[u8]) -> Result<(u64, u64, &[u8]), Refusal>
     ensures { Gives (λ x. ((x.0, x.1), x.2.now)) result (split_at bytes.now) }
 {
@@ -57,7 +57,7 @@ fn gaps(alloc: Global, depth: u16, count: u64, bytes: &[u8]) -> Result<(Vec<GapT
 }
 
 /// The line of the gap tree.
-#[tactic(auto, unfolding(crate::specs::Reading::gap_line_at))]
+#[tactic(auto, unfolding(crate::specs::Internal::Reading::gap_line_at))]
 pub(crate) fn gap_line(alloc: Global, bytes: &[u8]) -> Result<(GapTree, &[u8]), Stop>
     ensures { GivesUnless stops_for_memory (λ x. (gap x.0, x.1.now)) result (gap_line_at bytes.now) }
 {

@@ -1,9 +1,9 @@
 //! What a node of a cover tree says before its children come.
 
 ghost use Rattle.std.specs.Prelude.{◌≡◌};
-ghost use Rattle.cert_forest.specs.HeadViews.{head_view};
+ghost use Rattle.cert_forest.specs.Internal.HeadViews.{head_view};
 ghost use Rattle.text_tokens.specs.Steps.{Gives, GivesUnless};
-ghost use Rattle.cert_forest.specs.Reading.{kind_of, kind_at, value_head_at, source_head_at, order_head_at, cycle_at, known_at, head_by, head_at};
+ghost use Rattle.cert_forest.specs.Internal.Reading.{kind_of, kind_at, value_head_at, source_head_at, order_head_at, cycle_at, known_at, head_by, head_at};
 ghost use Rattle.cert_words.specs.Words.{stops_for_memory};
 
 use crate::access::{access, accesses};
@@ -36,7 +36,7 @@ fn kind_of(letter: u8) -> Option<Kind>
     }
 }
 
-#[tactic(auto, unfolding(crate::specs::Reading::kind_at))]
+#[tactic(auto, unfolding(crate::specs::Internal::Reading::kind_at))]
 fn kind(bytes: &[u8]) -> Result<(Kind, &[u8]), Refusal>
     ensures { Gives (λ x. (x.0, x.1.now)) result (kind_at bytes.now) }
 {
@@ -47,7 +47,7 @@ fn kind(bytes: &[u8]) -> Result<(Kind, &[u8]), Refusal>
     }
 }
 
-#[tactic(auto, unfolding(crate::specs::Reading::value_head_at))]
+#[tactic(auto, unfolding(crate::specs::Internal::Reading::value_head_at))]
 fn value_head(bytes: &[u8]) -> Result<(Head, &[u8]), Refusal>
     ensures { Gives (λ x. (head_view x.0, x.1.now)) result (value_head_at bytes.now) }
 {
@@ -62,7 +62,7 @@ fn value_head(bytes: &[u8]) -> Result<(Head, &[u8]), Refusal>
     ))
 }
 
-#[tactic(auto, unfolding(crate::specs::Reading::source_head_at))]
+#[tactic(auto, unfolding(crate::specs::Internal::Reading::source_head_at))]
 fn source_head(bytes: &[u8]) -> Result<(Head, &[u8]), Refusal>
     ensures { Gives (λ x. (head_view x.0, x.1.now)) result (source_head_at bytes.now) }
 {
@@ -71,7 +71,7 @@ fn source_head(bytes: &[u8]) -> Result<(Head, &[u8]), Refusal>
     Ok((Head::Source { read, count }, rest))
 }
 
-#[tactic(auto, unfolding(crate::specs::Reading::order_head_at))]
+#[tactic(auto, unfolding(crate::specs::Internal::Reading::order_head_at))]
 fn order_head(bytes: &[u8]) -> Result<(Head, &[u8]), Refusal>
     ensures { Gives (λ x. (head_view x.0, x.1.now)) result (order_head_at bytes.now) }
 {
@@ -80,7 +80,7 @@ fn order_head(bytes: &[u8]) -> Result<(Head, &[u8]), Refusal>
     Ok((Head::Order { first, second }, rest))
 }
 
-#[tactic(auto, unfolding(crate::specs::Reading::cycle_at))]
+#[tactic(auto, unfolding(crate::specs::Internal::Reading::cycle_at))]
 fn cycle_head(alloc: Global, bytes: &[u8]) -> Result<(Head, &[u8]), Stop>
     ensures { GivesUnless stops_for_memory (λ x. (head_view x.0, x.1.now)) result (cycle_at bytes.now) }
 {
@@ -90,7 +90,7 @@ fn cycle_head(alloc: Global, bytes: &[u8]) -> Result<(Head, &[u8]), Stop>
     Ok((Head::Cycle { kind, events }, rest))
 }
 
-#[tactic(auto, unfolding(crate::specs::Reading::known_at))]
+#[tactic(auto, unfolding(crate::specs::Internal::Reading::known_at))]
 fn known_head(bytes: &[u8]) -> Result<(Head, &[u8]), Refusal>
     ensures { Gives (λ x. (head_view x.0, x.1.now)) result (known_at bytes.now) }
 {
@@ -99,7 +99,7 @@ fn known_head(bytes: &[u8]) -> Result<(Head, &[u8]), Refusal>
 }
 
 /// What a node says.
-#[tactic(auto, unfolding(crate::specs::Reading::head_at))]
+#[tactic(auto, unfolding(crate::specs::Internal::Reading::head_at))]
 pub(crate) fn read_head(alloc: Global, bytes: &[u8]) -> Result<(Head, &[u8]), Stop>
     ensures { GivesUnless stops_for_memory (λ x. (head_view x.0, x.1.now)) result (head_at bytes.now) }
 {

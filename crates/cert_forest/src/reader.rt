@@ -10,7 +10,7 @@ ghost use Rattle.cert_forest.specs.declared.fault.CertFault.TheVariants.{Trailin
 ghost use Rattle.text_tokens.specs.Steps.{Gives, GivesUnless};
 ghost use Rattle.cert_words.specs.Words.{stops_for_memory};
 ghost use Rattle.cert_words.specs.Completions.{CanBecome};
-ghost use Rattle.cert_forest.specs.Reading.{gap_number_at, ascending_at, set_at, cost_at, after_set_at, certificate_at};
+ghost use Rattle.cert_forest.specs.Internal.Reading.{gap_number_at, ascending_at, set_at, cost_at, after_set_at, certificate_at};
 
 use crate::certificate::Certificate;
 use crate::cover_tree::cover_line;
@@ -80,7 +80,7 @@ fn gaps(bytes: &[u8]) -> Result<(GapSet, &[u8]), Refusal>
     Ok((found, rest))
 }
 
-#[tactic(auto, unfolding(crate::specs::Reading::set_at))]
+#[tactic(auto, unfolding(crate::specs::Internal::Reading::set_at))]
 fn set_line(bytes: &[u8]) -> Result<(GapSet, &[u8]), Refusal>
     ensures { Gives (λ x. (x.0, x.1.now)) result (set_at bytes.now) }
 {
@@ -94,7 +94,7 @@ fn set_line(bytes: &[u8]) -> Result<(GapSet, &[u8]), Refusal>
     }
 }
 
-#[tactic(auto, unfolding(crate::specs::Reading::cost_at))]
+#[tactic(auto, unfolding(crate::specs::Internal::Reading::cost_at))]
 fn cost(bytes: &[u8]) -> Result<(u64, &[u8]), Refusal>
     ensures { Gives (λ x. (x.0, x.1.now)) result (cost_at bytes.now) }
 {
@@ -105,7 +105,7 @@ fn cost(bytes: &[u8]) -> Result<(u64, &[u8]), Refusal>
 }
 
 /// A certificate at the front of the bytes, and the bytes after its last line.
-#[tactic(auto, unfolding(crate::specs::Reading::certificate_at))]
+#[tactic(auto, unfolding(crate::specs::Internal::Reading::certificate_at))]
 fn first_certificate(alloc: Global, bytes: &[u8]) -> Result<(Certificate, &[u8]), Stop>
     ensures { GivesUnless stops_for_memory (λ x. (x.0, x.1.now)) result (certificate_at bytes.now) }
 {
@@ -119,7 +119,7 @@ fn first_certificate(alloc: Global, bytes: &[u8]) -> Result<(Certificate, &[u8])
 }
 
 /// The certificate, from the line of the cost on.
-#[tactic(auto, unfolding(crate::specs::Reading::after_set_at))]
+#[tactic(auto, unfolding(crate::specs::Internal::Reading::after_set_at))]
 fn after_set(
     alloc: Global,
     shown: Shown,

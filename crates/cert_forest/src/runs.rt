@@ -5,7 +5,7 @@ ghost use Rattle.cert_forest.specs.Certificates.{labels_of};
 ghost use Rattle.cert_words.specs.declared.numbers.TheConstants.{MAX_COUNT};
 ghost use Rattle.text_tokens.specs.Steps.{Gives, GivesUnless};
 ghost use Rattle.cert_words.specs.Words.{repeat_at, stops_for_memory};
-ghost use Rattle.cert_forest.specs.Reading.{label_word_at, run_labels_at, run_at, runs_at};
+ghost use Rattle.cert_forest.specs.Internal.Reading.{label_word_at, run_labels_at, run_at, runs_at};
 
 use cert_words::{
     MAX_COUNT, Refusal, Stop, Wrong, begins_word, end, first_word, name, number, refused,
@@ -31,7 +31,7 @@ fn fault_of(word: &[u8]) -> (Wrong, bool) {
 }
 
 /// A space, and a label.
-#[tactic(auto, unfolding(crate::specs::Reading::label_word_at))]
+#[tactic(auto, unfolding(crate::specs::Internal::Reading::label_word_at))]
 fn label(bytes: &[u8]) -> Result<(Label, &[u8]), Refusal>
     ensures { Gives (λ x. (x.0, x.1.now)) result (label_word_at bytes.now) }
 {
@@ -81,7 +81,7 @@ fn labels(alloc: Global, bytes: &[u8]) -> Result<(Vec<Label>, &[u8]), Stop>
 }
 
 /// A run's line.
-#[tactic(auto, unfolding(crate::specs::Reading::run_at))]
+#[tactic(auto, unfolding(crate::specs::Internal::Reading::run_at))]
 fn run(alloc: Global, bytes: &[u8]) -> Result<(Vec<Label>, &[u8]), Stop>
     ensures { GivesUnless stops_for_memory (λ x. (x.0.items, x.1.now)) result (run_at bytes.now) }
 {
@@ -106,7 +106,7 @@ fn run_lines(alloc: Global, count: u64, bytes: &[u8]) -> Result<(Vec<Vec<Label>>
 }
 
 /// A line with the number of runs, and their lines.
-#[tactic(auto, unfolding(crate::specs::Reading::runs_at))]
+#[tactic(auto, unfolding(crate::specs::Internal::Reading::runs_at))]
 pub(crate) fn runs<'t>(
     alloc: Global,
     first: &[u8],

@@ -4,7 +4,7 @@ ghost use Rattle.std.specs.Prelude.{◌≡◌, ◌<◌, IfOk, IfSome};
 ghost use Rattle.std.specs.FinSet as set;
 ghost use Rattle.tso_program.specs.declared.shown.TheConstants.{PLACES};
 ghost use Rattle.text_tokens.specs.Steps.{Gives};
-ghost use Rattle.cert_forest.specs.Reading.{digit_of, shown_location, register_of, shown_place, place_word_at, ascending_at, shown_line_at, version_at, header_at, shown_at};
+ghost use Rattle.cert_forest.specs.Internal.Reading.{digit_of, shown_location, register_of, shown_place, place_word_at, ascending_at, shown_line_at, version_at, header_at, shown_at};
 
 use crate::access::stop_len;
 use cert_words::{
@@ -125,7 +125,7 @@ fn is_register(names: &[u8], is_cut: bool) -> bool {
 }
 
 /// A space, and the word of a place, which is to be the least or a later one.
-#[tactic(auto, unfolding(crate::specs::Reading::place_word_at))]
+#[tactic(auto, unfolding(crate::specs::Internal::Reading::place_word_at))]
 fn place(least: u8, bytes: &[u8]) -> Result<(u8, &[u8]), Refusal>
     ensures gives { Gives (λ x. (x.0, x.1.now)) result (place_word_at bytes.now) }
     ensures below { IfOk result (λ x. x.0 < PLACES) }
@@ -173,7 +173,7 @@ fn after_all(bytes: &[u8]) -> Refusal {
     }
 }
 
-#[tactic(auto, unfolding(crate::specs::Reading::shown_line_at))]
+#[tactic(auto, unfolding(crate::specs::Internal::Reading::shown_line_at))]
 fn shown_line(bytes: &[u8]) -> Result<(Names, &[u8]), Refusal>
     ensures { Gives (λ x. (x.0, x.1.now)) result (shown_line_at bytes.now) }
 {
@@ -188,7 +188,7 @@ fn shown_line(bytes: &[u8]) -> Result<(Names, &[u8]), Refusal>
 }
 
 /// The second word of the first line: whether a line of what is shown follows.
-#[tactic(auto, unfolding(crate::specs::Reading::version_at))]
+#[tactic(auto, unfolding(crate::specs::Internal::Reading::version_at))]
 fn version(bytes: &[u8]) -> Result<(bool, &[u8]), Refusal>
     ensures { Gives (λ x. (x.0, x.1.now)) result (version_at bytes.now) }
 {
@@ -202,7 +202,7 @@ fn version(bytes: &[u8]) -> Result<(bool, &[u8]), Refusal>
     }
 }
 
-#[tactic(auto, unfolding(crate::specs::Reading::header_at))]
+#[tactic(auto, unfolding(crate::specs::Internal::Reading::header_at))]
 fn first_line(bytes: &[u8]) -> Result<(bool, &[u8]), Refusal>
     ensures { Gives (λ x. (x.0, x.1.now)) result (header_at bytes.now) }
 {
@@ -229,7 +229,7 @@ fn header(bytes: &[u8]) -> Result<(bool, &[u8]), Refusal>
 }
 
 /// What is shown, by the first line and in the second version the next one.
-#[tactic(auto, unfolding(crate::specs::Reading::shown_at))]
+#[tactic(auto, unfolding(crate::specs::Internal::Reading::shown_at))]
 pub(crate) fn head(bytes: &[u8]) -> Result<(Shown, &[u8]), Refusal>
     ensures { Gives (λ x. (x.0, x.1.now)) result (shown_at bytes.now) }
 {

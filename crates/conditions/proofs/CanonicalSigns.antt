@@ -10,7 +10,7 @@ use Rattle.conditions.specs.Grammar.{Sign, sign_map, Class, Operand, Sum, Spells
 use Rattle.conditions.specs.Grammar as sign
 use Rattle.conditions.specs.Tokens.{sign_of_token}
 use Rattle.conditions.specs.Canonical.{signs_of, is_joined, enclosed_signs_of, CanonicalSpell, CanonicalMapped}
-use Rattle.conditions.specs.Unwind.{formula_tokens}
+use Rattle.conditions.specs.Internal.Unwind.{formula_tokens}
 
 -- the signs of two operands and what stands round them, one part after another
 regroup : {A : Type 0} (x : Sign A) (f g : Tree A) (rest : List (Sign A))

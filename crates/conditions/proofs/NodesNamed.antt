@@ -10,7 +10,7 @@ use Rattle.conditions.specs.Tree.{Tree}
 use Rattle.conditions.specs.Tree as tree
 use Rattle.conditions.specs.Nodes.{nodes_of}
 use Rattle.conditions.specs.Named.{with_named}
-use Rattle.conditions.specs.NamedNodes.{with_nodes}
+use Rattle.conditions.specs.Internal.NamedNodes.{with_nodes}
 
 named_first : (f : Tree Atom) (names : set.FinSet nat_cmp) (xs : List Node) → with_nodes names (nodes_of f ++ xs) ≡ with_nodes (with_named names f) xs
 named_first (tree.Atom a) names xs = refl

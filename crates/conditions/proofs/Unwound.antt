@@ -12,7 +12,7 @@ use Rattle.conditions.specs.declared.prefix.Prefix.TheVariants as prefix
 use Rattle.conditions.specs.Tree.{Tree}
 use Rattle.conditions.specs.Tree as tree
 use Rattle.conditions.specs.Nodes.{nodes_of}
-use Rattle.conditions.specs.Unwind.{formula_tokens, opened, left, unwound}
+use Rattle.conditions.specs.Internal.Unwind.{formula_tokens, opened, left, unwound}
 
 -- a list with one more element, from its end
 pub reverse_push : {X : Type 0} (xs : List X) (x : X) → reverse (xs ++ x ∷ []) ≡ x ∷ reverse xs

@@ -11,7 +11,7 @@ use Rattle.conditions.specs.Tree.{Tree}
 use Rattle.conditions.specs.Tree as tree
 use Rattle.conditions.specs.Truth.{truth}
 use Rattle.conditions.specs.Nodes.{nodes_of}
-use Rattle.conditions.specs.Walk.{passed, seen}
+use Rattle.conditions.specs.Internal.Walk.{passed, seen}
 
 -- the value and the count after a node
 abbrev pub step : Outcome → Bool → ℕ → Node → Bool × ℕ

@@ -4,11 +4,9 @@ pub mod Truth
 pub mod Tokens
 pub mod Nodes
 pub mod Named
-pub mod NamedNodes
 pub mod Reads
 pub mod Laws
 pub mod Canonical
-pub mod Unwind
-pub mod Walk
 pub mod Stack
 pub mod Layout
+pub mod Internal

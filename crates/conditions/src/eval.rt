@@ -4,7 +4,7 @@ ghost use Rattle.conditions.specs.Tree.{Tree};
 ghost use Rattle.conditions.specs.declared.atom.Atom.{Atom as AtomValue};
 ghost use Rattle.conditions.specs.Truth.{truth};
 ghost use Rattle.conditions.specs.Nodes.{nodes_of};
-ghost use Rattle.conditions.specs.Walk.{passed, seen};
+ghost use Rattle.conditions.specs.Internal.Walk.{passed, seen};
 
 use crate::node::Node;
 use tso_program::Outcome;

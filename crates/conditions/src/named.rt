@@ -4,7 +4,7 @@ ghost use Rattle.conditions.specs.Tree.{Tree};
 ghost use Rattle.conditions.specs.declared.atom.Atom.{Atom as AtomValue};
 ghost use Rattle.conditions.specs.Nodes.{nodes_of};
 ghost use Rattle.conditions.specs.Named.{with_register, with_location, with_atom, with_named};
-ghost use Rattle.conditions.specs.NamedNodes.{with_node};
+ghost use Rattle.conditions.specs.Internal.NamedNodes.{with_node};
 ghost use Rattle.tso_program.specs.Instructions.{number};
 ghost use Rattle.tso_program.specs.declared.limits.TheConstants.{MAX_THREADS, MAX_LOCATIONS};
 

@@ -7,7 +7,7 @@ ghost use Rattle.conditions.specs.Tree.{Tree};
 ghost use Rattle.conditions.specs.Tokens.{sign_of_token};
 ghost use Rattle.conditions.specs.Nodes.{nodes_of};
 ghost use Rattle.conditions.specs.Canonical.{is_joined, signs_of, enclosed_signs_of};
-ghost use Rattle.conditions.specs.Unwind.{formula_tokens, opened, left, unwound};
+ghost use Rattle.conditions.specs.Internal.Unwind.{formula_tokens, opened, left, unwound};
 
 use crate::node::Node;
 use crate::prefix::Prefix;

@@ -10,7 +10,7 @@ use Rattle.gap_sets.specs.declared.costs.CostFault.TheVariants.{Zero, TooLarge}
 use Rattle.gap_sets.specs.CostLists.{IsCostList, first_free, first_cost_fault}
 use Rattle.gap_sets.proofs.CostLimits.{none_found, not_free, not_too_large, not_too_many}
 use Rattle.cost_text.specs.CostTexts.{Entry, said_of, costs_of}
-use Rattle.cost_text.specs.TextReading.{cost_or_fault}
+use Rattle.cost_text.specs.Internal.TextReading.{cost_or_fault}
 use Rattle.cost_text.proofs.EntryLaws.{IsCost, cost_there, others_within, same_length, few_gaps}
 use Rattle.gap_sets.specs.declared.gap_set.TheConstants.{MAX_GAPS}
 

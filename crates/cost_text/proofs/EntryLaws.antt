@@ -7,7 +7,7 @@ use Rattle.std.proofs.lemmas.List.{length-set, get_or-set_same, get_or-set_other
 use Rattle.std.proofs.lemmas.List.FromFn.{fill_by_all, length-map-range_with_len, get_or-map-range_with_len}
 use Rattle.gap_sets.specs.CostLists.{IsCostList}
 use Rattle.cost_text.specs.CostTexts.{Entry, said_of, NoGapTwice, costs_of}
-use Rattle.cost_text.specs.TextReading.{table_of}
+use Rattle.cost_text.specs.Internal.TextReading.{table_of}
 use Rattle.gap_sets.specs.declared.gap_set.TheConstants.{MAX_GAPS}
 
 -- ---- what entries say

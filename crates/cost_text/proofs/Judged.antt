@@ -8,8 +8,8 @@ use Rattle.tso_program.specs.declared.listing.Thread.{Thread}
 use Rattle.tso_program.specs.Listings.{gap_count, gap_number}
 use Rattle.tso_program.proofs.Gaps.{gap_below}
 use Rattle.cost_text.specs.CostTexts.{Entry, IsCostEntry, said_of, IsOfNoGap, IsRepeated, IsOfNoCost}
-use Rattle.cost_text.specs.LineReading.{Digits, digits_in, said_by}
-use Rattle.cost_text.specs.TextReading.{cost_or_fault, IsCostTable, IsNewEntry}
+use Rattle.cost_text.specs.Internal.LineReading.{Digits, digits_in, said_by}
+use Rattle.cost_text.specs.Internal.TextReading.{cost_or_fault, IsCostTable, IsNewEntry}
 use Rattle.cost_text.proofs.LineLaws.{line_read}
 use Rattle.cost_text.proofs.EntryLaws.{table_at}
 use Rattle.cost_text.proofs.CostFaults.{first_fault}

@@ -13,7 +13,7 @@ use Rattle.text_tokens.specs.Bytes.{is_blank, is_line_space, AreBlanks, AreLineS
 use Rattle.text_tokens.proofs.Prefixes.{prefix_is, all_pass}
 use Rattle.text_tokens.proofs.FirstBytes.{first_of, first_digit}
 use Rattle.cost_text.specs.CostLines.{Said, Says}
-use Rattle.cost_text.specs.LineReading.{digits_at, after_colon, after_blanks, after_line_spaces, Digits, digits_in, AreAllDigits, said_by}
+use Rattle.cost_text.specs.Internal.LineReading.{digits_at, after_colon, after_blanks, after_line_spaces, Digits, digits_in, AreAllDigits, said_by}
 
 -- ---- the parts of a line
 

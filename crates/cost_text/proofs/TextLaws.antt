@@ -12,7 +12,7 @@ use Rattle.cost_text.specs.declared.fault.CostTextFault.TheVariants as fault
 use Rattle.text_tokens.specs.Bytes.{AreLineSpaces}
 use Rattle.cost_text.specs.CostLines.{Said}
 use Rattle.cost_text.specs.CostTexts.{Entry, IsCostEntry, ListsEntries, none, blank, entry, said_of, NoGapTwice, costs_of, GiveCosts, IsCostText, StandsAt, IsLineFault, IsRefusedAt, AreRefused, RefusesCosts, lines_of, IsOfNoCost, IsOfNoGap, IsRepeated, SaysNothing}
-use Rattle.cost_text.specs.TextReading.{table_of, IsCostTable, IsNewEntry, IsTableOf}
+use Rattle.cost_text.specs.Internal.TextReading.{table_of, IsCostTable, IsNewEntry, IsTableOf}
 use Rattle.cost_text.proofs.LineLaws.{said_once, blank_says_nothing}
 use Rattle.cost_text.proofs.EntryLaws.{IsCost, said_there, once_more, not_twice, table_more, length-table_of, costs_at, length-costs_of, no_costs, within_more, costs_from_table}
 use Rattle.gap_sets.proofs.CostLimits.{no_fault-from_IsCostList}

@@ -1,5 +1,4 @@
 pub mod CostLines
 pub mod CostTexts
 pub mod GivenCosts
-pub mod LineReading
-pub mod TextReading
+pub mod Internal

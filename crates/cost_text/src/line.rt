@@ -2,8 +2,8 @@
 ghost use Rattle.std.specs.Prelude.{◌≡◌, option_map, IfSome, IsTrue};
 ghost use Rattle.std.specs.List.{list_all};
 ghost use Rattle.std.specs.Char.{is_ascii_digit};
-ghost use Rattle.cost_text.specs.LineReading.{digits_at, after_colon, after_blanks, after_line_spaces, digits_in, AreAllDigits};
-ghost use Rattle.cost_text.specs.TextReading.{digits_of};
+ghost use Rattle.cost_text.specs.Internal.LineReading.{digits_at, after_colon, after_blanks, after_line_spaces, digits_in, AreAllDigits};
+ghost use Rattle.cost_text.specs.Internal.TextReading.{digits_of};
 
 use text_tokens::{are_line_spaces, blanks_len, digits_len, line_spaces_len};
 
@@ -16,7 +16,7 @@ pub(crate) struct CostLine<'a> {
 }
 
 /// The digits that come first, at least one, and what follows them.
-#[tactic(auto, unfolding(crate::specs::LineReading::digits_at))]
+#[tactic(auto, unfolding(crate::specs::Internal::LineReading::digits_at))]
 fn digits_at(bytes: &[u8]) -> Option<(&[u8], &[u8])>
     ensures value { option_map (λ p. (p.0.now, p.1.now)) result ≡ digits_at bytes.now }
     ensures digits { IfSome result (λ p. IsTrue (list_all is_ascii_digit p.0.now)) }
@@ -30,7 +30,7 @@ fn digits_at(bytes: &[u8]) -> Option<(&[u8], &[u8])>
 }
 
 /// What follows a `:`.
-#[tactic(auto, unfolding(crate::specs::LineReading::after_colon))]
+#[tactic(auto, unfolding(crate::specs::Internal::LineReading::after_colon))]
 fn after_colon(bytes: &[u8]) -> Option<&[u8]>
     ensures { option_map (λ rest. rest.now) result ≡ after_colon bytes.now }
 {
@@ -41,7 +41,7 @@ fn after_colon(bytes: &[u8]) -> Option<&[u8]>
 }
 
 /// What follows blanks, of which there is at least one.
-#[tactic(auto, unfolding(crate::specs::LineReading::after_blanks))]
+#[tactic(auto, unfolding(crate::specs::Internal::LineReading::after_blanks))]
 fn after_blanks(bytes: &[u8]) -> Option<&[u8]>
     ensures { option_map (λ rest. rest.now) result ≡ after_blanks bytes.now }
 {
@@ -61,7 +61,7 @@ fn after_line_spaces(bytes: &[u8]) -> &[u8]
 }
 
 /// What a line says; nothing if it is not `t:k`, blanks, and a cost, with blanks and CRs around.
-#[tactic(auto, unfolding(crate::specs::LineReading::digits_in))]
+#[tactic(auto, unfolding(crate::specs::Internal::LineReading::digits_in))]
 pub(crate) fn cost_line(line: &[u8]) -> Option<CostLine<'_>>
     ensures value { option_map digits_of result ≡ digits_in line.now }
     ensures digits { IfSome result (λ said. AreAllDigits (digits_of said)) }

@@ -4,8 +4,8 @@ ghost use Rattle.tso_program.specs.Listings.{gap_count, gap_number};
 ghost use Rattle.cost_text.specs.declared.fault.CostTextFault.TheVariants.{OutOfMemory};
 ghost use Rattle.text_tokens.specs.Bytes.{AreLineSpaces};
 ghost use Rattle.cost_text.specs.CostTexts.{Entry, lines_of, IsCostText, IsLineFault, AreRefused, RefusesCosts};
-ghost use Rattle.cost_text.specs.LineReading.{AreAllDigits, said_by};
-ghost use Rattle.cost_text.specs.TextReading.{digits_of, cost_or_fault, table_of, IsCostTable, IsNewEntry, IsTableOf};
+ghost use Rattle.cost_text.specs.Internal.LineReading.{AreAllDigits, said_by};
+ghost use Rattle.cost_text.specs.Internal.TextReading.{digits_of, cost_or_fault, table_of, IsCostTable, IsNewEntry, IsTableOf};
 
 use crate::fault::CostTextFault;
 use crate::line::{CostLine, cost_line};

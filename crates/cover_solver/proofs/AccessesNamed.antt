@@ -7,7 +7,7 @@ use Rattle.exec_axioms.specs.Known.{IsAccess}
 use Rattle.cert_forest.specs.declared.tree.AccessId.{AccessId}
 use Rattle.tree_laws.specs.CoverTrees.{event_of}
 use Rattle.tree_laws.proofs.Lists.{none_here, first_or_later, first_is_here, later_is_here}
-use Rattle.cover_solver.specs.Accesses.{IsOfThread, NamesEvent}
+use Rattle.cover_solver.specs.Internal.Accesses.{IsOfThread, NamesEvent}
 
 -- an access is no initial write
 pub of_thread : (s : Parts) (e : Event) → IsAccess s e → IsOfThread e

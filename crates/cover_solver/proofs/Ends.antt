@@ -12,7 +12,7 @@ use Rattle.exec_axioms.specs.Endings.{MayBeLast}
 use Rattle.run_maker.specs.declared.run.MadeRun.{MadeRun}
 use Rattle.run_maker.specs.Complete.{IsMadeRun}
 use Rattle.tree_laws.specs.CoverTrees.{MustEndAsNumber}
-use Rattle.cover_solver.specs.Runs.{IsShownRunOf}
+use Rattle.cover_solver.specs.Internal.Runs.{IsShownRunOf}
 use Rattle.cover_solver.specs.Covers.{IsEndNotListed}
 
 twice : (b : Bool) (v : ℕ) → value_if b (value_if b v) ≡ value_if b v

@@ -9,7 +9,7 @@ use Rattle.tso_program.specs.Limits.{JumpForward}
 use Rattle.tso_machine.specs.Machine.{Mode}
 use Rattle.tso_machine.specs.Outcomes.{IsShownRun}
 use Rattle.candidate_executions.specs.Sketches.{Sketch, with_value, with_source}
-use Rattle.candidate_executions.proofs.MustEnd.{each_ends_so}
+use Rattle.candidate_executions.proofs.Sketches.MustEnd.{each_ends_so}
 use Rattle.exec_axioms.specs.Parts.{Parts, mode_in, sketch_of}
 use Rattle.exec_axioms.specs.Kept.{IsLawful}
 use Rattle.exec_axioms.specs.Completions.{MustEnd}
@@ -31,7 +31,7 @@ use Rattle.cover_solver.specs.Choices.{IsOpen, AreChoicesOf}
 use Rattle.cover_solver.specs.Found.{AscendWithRuns, HasRunOfEach, Keeps}
 use Rattle.cover_solver.specs.Explored.{Grows, IsListed, Explores}
 use Rattle.cover_solver.specs.Covers.{IsLeafAt}
-use Rattle.cover_solver.specs.Runs.{IsShownRunOf}
+use Rattle.cover_solver.specs.Internal.Runs.{IsShownRunOf}
 use Rattle.run_maker.specs.declared.run.MadeRun.{MadeRun}
 
 -- jumps of a lawful sketch's program lead forward

@@ -19,8 +19,8 @@ use Rattle.run_maker.proofs.Completeness.{read_there, first_there, second_there}
 use Rattle.cover_solver.specs.declared.choices_left.OpenChoice.{OpenChoice}
 use Rattle.cert_forest.specs.declared.tree.AccessId.{AccessId}
 use Rattle.tree_laws.specs.CoverTrees.{event_of}
-use Rattle.cover_solver.specs.Accesses.{HasAccesses}
-use Rattle.cover_solver.specs.ChoicesLeft.{LeavesNone, HasEachSource, AreWritesInOrder, IsInOrderWithEach, IsEachInOrder}
+use Rattle.cover_solver.specs.Internal.Accesses.{HasAccesses}
+use Rattle.cover_solver.specs.Internal.ChoicesLeft.{LeavesNone, HasEachSource, AreWritesInOrder, IsInOrderWithEach, IsEachInOrder}
 
 -- a list with one more at its end is not empty
 pub pushed_some : {A : Type 0} (xs ys : List A) (x : A) → ys ≡ xs ++ x ∷ [] → ys ≡ [] → ⊥

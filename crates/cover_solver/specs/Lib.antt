@@ -1,11 +1,9 @@
-pub mod Accesses
 pub mod Choices
-pub mod ChoicesLeft
 pub mod Ordered
 pub mod Found
-pub mod Runs
 pub mod Explored
 pub mod Covers
 pub mod Facts
 pub mod ForeignFaults
 pub mod Verdicts
+pub mod Internal

@@ -2,7 +2,7 @@
 ghost use Rattle.std.specs.Prelude.{◌≡◌, IfOk, Contains, map};
 ghost use Rattle.candidate_executions.specs.declared.event.Event.{Event};
 ghost use Rattle.tree_laws.specs.CoverTrees.{event_of};
-ghost use Rattle.cover_solver.specs.Accesses.{IsOfThread, HasAccesses};
+ghost use Rattle.cover_solver.specs.Internal.Accesses.{IsOfThread, HasAccesses};
 
 use cert_forest::AccessId;
 use exec_axioms::{Event, Sketch};

@@ -4,7 +4,7 @@ ghost use Rattle.exec_axioms.specs.Choices.{IsWhole};
 ghost use Rattle.tree_laws.specs.CoverTrees as trees;
 ghost use Rattle.run_maker.specs.Complete.{IsComplete, HasItsSource, IsOrderedWith};
 ghost use Rattle.cover_solver.specs.Choices.{IsOpen, NeedsSource, NeedsOrder};
-ghost use Rattle.cover_solver.specs.ChoicesLeft.{LeavesNone, HasEachSource, IsEachInOrder, IsInOrderWithEach};
+ghost use Rattle.cover_solver.specs.Internal.ChoicesLeft.{LeavesNone, HasEachSource, IsEachInOrder, IsInOrderWithEach};
 
 use crate::accesses::all_accesses;
 use cert_forest::AccessId;

@@ -3,7 +3,7 @@ ghost use Rattle.std.specs.Prelude.{◌≡◌, IfOk};
 ghost use Rattle.exec_axioms.specs.Known.{HasNoCycle};
 ghost use Rattle.run_maker.specs.Complete.{IsComplete};
 ghost use Rattle.tso_program.specs.Shown.{show};
-ghost use Rattle.cover_solver.specs.Runs.{IsShownRunOf};
+ghost use Rattle.cover_solver.specs.Internal.Runs.{IsShownRunOf};
 
 use exec_axioms::Sketch;
 use run_maker::{MadeRun, MakeFault, make_run};

@@ -21,10 +21,10 @@ use Rattle.candidate_executions.specs.Candidates.{access_by}
 use Rattle.candidate_executions.specs.Events.{ComesBefore}
 use Rattle.candidate_executions.specs.Sketches.{Sketch, IsSourceOf}
 use Rattle.candidate_executions.specs.Values.{IsKnown, IsValueOf}
-use Rattle.candidate_executions.proofs.Lists.{first_is_here, later_is_here, mapped}
+use Rattle.candidate_executions.proofs.Orders.Lists.{first_is_here, later_is_here, mapped}
 use Rattle.exec_axioms.specs.Parts.{Parts, mode_in, sketch_of}
 use Rattle.exec_axioms.specs.Kept.{IsLawful}
-use Rattle.exec_axioms.specs.Immediates.{any_number}
+use Rattle.exec_axioms.specs.Internal.Immediates.{any_number}
 use Rattle.exec_axioms.specs.Sizes.{HaveAllRegisters, most_values, most_sources}
 use Rattle.exec_axioms.proofs.KnownValues.{known_all}
 use Rattle.exec_axioms.proofs.EventsCounted.{few_of, all_events, all_events_few, all_events_has}

@@ -11,7 +11,7 @@ use Rattle.tso_program.specs.Listings.{accesses_of}
 use Rattle.candidate_executions.specs.declared.access.Access.{Access}
 use Rattle.candidate_executions.specs.declared.event.Event.{Event}
 use Rattle.candidate_executions.specs.declared.event.Event.TheVariants.{Initial, Access as At}
-use Rattle.candidate_executions.proofs.Lists.{get_some, first_or_later, first_is_here, later_is_here, mapped}
+use Rattle.candidate_executions.proofs.Orders.Lists.{get_some, first_or_later, first_is_here, later_is_here, mapped}
 use Rattle.exec_axioms.specs.Parts.{Parts, mode_in, given_to, trace_in, access_in, with_given, with_source, with_pair}
 use Rattle.exec_axioms.specs.Kept.{IsLawful, AreOtherTwo}
 use Rattle.exec_axioms.specs.Known.{IsAccess}

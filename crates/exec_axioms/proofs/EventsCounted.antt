@@ -16,7 +16,7 @@ use Rattle.tso_machine.specs.Machine.{Mode}
 use Rattle.candidate_executions.specs.Traces.{trace_by}
 use Rattle.candidate_executions.specs.declared.event.Event.{Event}
 use Rattle.candidate_executions.specs.declared.event.Event.TheVariants.{Access as At}
-use Rattle.candidate_executions.proofs.Lists.{first_is_here, later_is_here}
+use Rattle.candidate_executions.proofs.Orders.Lists.{first_is_here, later_is_here}
 use Rattle.exec_axioms.specs.Parts.{given_to}
 use Rattle.exec_axioms.proofs.Accesses.{none_past_by}
 use Rattle.exec_axioms.proofs.AccessesCounted.{weight, accesses_few}

@@ -13,8 +13,8 @@ use Rattle.candidate_executions.specs.Candidates.{Writes}
 use Rattle.candidate_executions.specs.Consistency.{IsOfMode}
 use Rattle.candidate_executions.specs.Orders.{followed_union}
 use Rattle.candidate_executions.specs.Sketches.{IsBefore, KnownRelates}
-use Rattle.candidate_executions.proofs.EdgesAreDecidable.{same_event}
-use Rattle.candidate_executions.proofs.Lists.{none_here, first_or_later, first_is_here, later_is_here}
+use Rattle.candidate_executions.proofs.Candidates.EdgesAreDecidable.{same_event}
+use Rattle.candidate_executions.proofs.Orders.Lists.{none_here, first_or_later, first_is_here, later_is_here}
 use Rattle.exec_axioms.specs.Parts.{Parts, mode_in, sketch_of, access_in}
 use Rattle.exec_axioms.specs.Kept.{IsLawful}
 use Rattle.exec_axioms.specs.Known.{IsKnownEdge, HasNoCycle}

@@ -6,7 +6,7 @@ use Rattle.std.proofs.lemmas.Option.{slice_get-get_or}
 use Rattle.candidate_executions.specs.declared.event.Event.{Event}
 use Rattle.candidate_executions.specs.declared.event.Event.TheVariants.{Initial}
 use Rattle.candidate_executions.specs.Consistency.{IsCycle}
-use Rattle.candidate_executions.proofs.EdgesAreDecidable.{same_event}
+use Rattle.candidate_executions.proofs.Candidates.EdgesAreDecidable.{same_event}
 use Rattle.exec_axioms.specs.Search.{EachGoesOn}
 use Rattle.exec_axioms.proofs.Walks.{IsWalk, comes_back, is_open, goes_on, walk_begins}
 

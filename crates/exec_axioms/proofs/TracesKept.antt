@@ -13,7 +13,7 @@ use Rattle.tso_program.specs.Actions.{act}
 use Rattle.candidate_executions.specs.declared.event.Event.{Event}
 use Rattle.candidate_executions.specs.Traces.{trace, fenced_gaps}
 use Rattle.candidate_executions.specs.Sketches as sketches
-use Rattle.candidate_executions.proofs.Lists.{get_some}
+use Rattle.candidate_executions.proofs.Orders.Lists.{get_some}
 use Rattle.exec_axioms.specs.declared.mode.Mode.{Mode}
 use Rattle.exec_axioms.specs.declared.thread_trace.ThreadTrace.{ThreadTrace}
 use Rattle.exec_axioms.specs.Parts.{Parts, machine_mode, sketch_of, given_to, trace_in}

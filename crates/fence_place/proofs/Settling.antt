@@ -13,7 +13,7 @@ use Rattle.search_core.specs.States.{SearchState, IsHeldAt, IsDone, HasNoOpen, I
 use Rattle.search_core.specs.Events.{open_entries, TakesNode, IsSettling, by_cut, by_split, by_confirm}
 use Rattle.search_core.proofs.Places.{Each, each_behind, each_mapped, get_old}
 use Rattle.search_core.proofs.WorkLaws.{held_is}
-use Rattle.fence_place.specs.Searches.{NothingIsHeld}
+use Rattle.fence_place.specs.Internal.Searches.{NothingIsHeld}
 
 abbrev NotHeld : Entry → Type 0
 NotHeld e = is_held_status e.status ≡ false

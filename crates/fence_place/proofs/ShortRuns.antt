@@ -15,7 +15,7 @@ use Rattle.tso_machine.specs.declared.label.Label.TheVariants.{Exec, Flush}
 use Rattle.tso_machine.specs.RunTexts.{IsLabel}
 use Rattle.tso_machine.specs.Machine.{Mode, Sequential, Fenced, State, put, direct, buffered, past_gap, step, run, start, IsRun}
 use Rattle.tso_machine.proofs.Runs.{no_action, no_stores}
-use Rattle.candidate_executions.proofs.RunsAreShort.{every_run_is_short}
+use Rattle.candidate_executions.proofs.FromRuns.RunsAreShort.{every_run_is_short}
 use Rattle.fence_laws.proofs.ChangedAt.{put_other}
 use Rattle.fence_laws.proofs.StepCases.{exec_by, flush_by}
 use Rattle.cert_forest.specs.Limits as limits

@@ -2,4 +2,4 @@ pub mod Recorded
 pub mod Proofs
 pub mod Placements
 pub mod Faults
-pub mod Searches
+pub mod Internal

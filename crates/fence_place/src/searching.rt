@@ -13,7 +13,7 @@ ghost use Rattle.search_core.specs.Events.{IsSettling};
 ghost use Rattle.search_core.specs.States.{IsDone, HoldsOnly, IsSameSearch};
 ghost use Rattle.search_core.specs.Work.{work_left};
 ghost use Rattle.fence_place.specs.Faults.{MaySearchFail};
-ghost use Rattle.fence_place.specs.Searches.{AreOf, NothingIsHeld};
+ghost use Rattle.fence_place.specs.Internal.Searches.{AreOf, NothingIsHeld};
 
 use crate::PlaceFault;
 use crate::gaps::count_open;

@@ -1,5 +1,5 @@
 pub mod Inputs
 pub mod Verdicts
 pub mod Replies
-pub mod Names
 pub mod Laws
+pub mod Internal

@@ -5,7 +5,7 @@ ghost use Rattle.program_streams.specs.Streams.{Prints};
 ghost use Rattle.fencecheck.specs.Verdicts.{IsVerdict};
 ghost use Rattle.fencecheck.specs.Replies.{usage_line, AreOfFiles, IsFilesFault, IsReplyToInput, IsReplyToFiles, IsOutput};
 ghost use Rattle.fencecheck.specs.Inputs.{ReadsEnough};
-ghost use Rattle.fencecheck.specs.Names.{file_names_of};
+ghost use Rattle.fencecheck.specs.Internal.Names.{file_names_of};
 
 use crate::judge::{judge, refusal_line};
 use crate::parts::{CERTIFICATE_LIMIT, read_joined};

@@ -9,8 +9,8 @@ use Rattle.std.specs.Cmp.{nat_cmp_total}
 use Rattle.std.proofs.lemmas.Nat.Bits.{bit_at-suc, bit_at-lt, bit_at_lowest}
 use native.Mathlib.Numerals.{unary_clauses}
 use lib.Count.{ones_step}
-use Rattle.gap_sets.specs.Bits.{has_bit, list_of, gaps_of_bits}
-use Rattle.gap_sets.specs.BitsLaws.{any-below}
+use Rattle.gap_sets.specs.Internal.Bits.{has_bit, list_of, gaps_of_bits}
+use Rattle.gap_sets.specs.Internal.BitsLaws.{any-below}
 use Rattle.gap_sets.specs.declared.gap_set.TheConstants.{MAX_GAPS}
 
 -- a number that is not there yet makes the set larger by one

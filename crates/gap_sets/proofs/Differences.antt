@@ -6,7 +6,7 @@ use Rattle.std.proofs.lemmas.Bool.{cases_lt}
 use Rattle.std.proofs.lemmas.Bool.Decides.{nat_tests}
 use Rattle.std.proofs.lemmas.Nat.{xor_lt}
 use Rattle.std.proofs.lemmas.Nat.Bits.{bit_at-lt, bit_at_xor, bit_at-zero, bit_at-trailing_zeros}
-use Rattle.gap_sets.specs.Bits.{gaps_of_bits}
+use Rattle.gap_sets.specs.Internal.Bits.{gaps_of_bits}
 use Rattle.gap_sets.proofs.WordSets.{contains-word}
 use Rattle.gap_sets.specs.Gaps.{SetOfGaps}
 use Rattle.gap_sets.specs.Order.{HasLeastDifference}

@@ -7,7 +7,7 @@ use Rattle.std.specs.Int.RustNames.{bit_and}
 use Rattle.std.proofs.lemmas.Bool.{cases_lt}
 use Rattle.std.proofs.lemmas.Nat.Bits.{bit_at-zero, bit_at-trailing_zeros, bit_at_clear_same, bit_at_clear_other}
 use Rattle.std.specs.FinSet as set
-use Rattle.gap_sets.specs.Bits.{has_bit, list_of, gaps_of_bits}
+use Rattle.gap_sets.specs.Internal.Bits.{has_bit, list_of, gaps_of_bits}
 use Rattle.gap_sets.proofs.WordSets.{contains-word}
 use Rattle.gap_sets.specs.Gaps.{SetOfGaps, numbers_of_set}
 use Rattle.gap_sets.proofs.Ranges.{filter_alike}

@@ -10,8 +10,8 @@ use Rattle.std.proofs.lemmas.Bool.Decides.{nat_tests, eqb_tells}
 use Rattle.std.proofs.lemmas.Nat.{or_lt, and_le_l}
 use Rattle.std.proofs.Math.Nat.{mod-lt}
 use Rattle.std.proofs.lemmas.Nat.Bits.{bit_at_above, bit_at_and, bit_at_set_same, bit_at_set_other, bit_at_clear_same, bit_at_clear_other, bit_at-zero}
-use Rattle.gap_sets.specs.Bits.{has_bit, gaps_of_bits}
-use Rattle.gap_sets.specs.BitsLaws.{contains-gaps_of, no_bit}
+use Rattle.gap_sets.specs.Internal.Bits.{has_bit, gaps_of_bits}
+use Rattle.gap_sets.specs.Internal.BitsLaws.{contains-gaps_of, no_bit}
 use Rattle.gap_sets.specs.Gaps.{IsGapSet}
 use Rattle.gap_sets.specs.declared.gap_set.TheConstants.{MAX_GAPS}
 

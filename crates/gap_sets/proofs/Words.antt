@@ -5,8 +5,8 @@ use Rattle.std.specs.Int.RustNames.{bit_and}
 use Rattle.std.proofs.lemmas.Bool.{cases_lt}
 use Rattle.std.proofs.lemmas.Nat.{and_le_l}
 use Rattle.std.proofs.lemmas.Nat.Bits.{bit_at_above, bit_at-lt, bit_at_and, bit_at_not, bit_at-zero, bit_at-trailing_zeros}
-use Rattle.gap_sets.specs.Bits.{has_bit, gaps_of_bits, bits_of}
-use Rattle.gap_sets.specs.BitsLaws.{bits_of-gaps_of}
+use Rattle.gap_sets.specs.Internal.Bits.{has_bit, gaps_of_bits, bits_of}
+use Rattle.gap_sets.specs.Internal.BitsLaws.{bits_of-gaps_of}
 use Rattle.gap_sets.specs.Gaps.{SetOfGaps}
 use Rattle.gap_sets.specs.declared.gap_set.TheConstants.{MAX_GAPS}
 

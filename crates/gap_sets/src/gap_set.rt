@@ -23,7 +23,7 @@ impl Model for GapSet {
     ghost use Rattle.std.specs.FinSet as set;
     ghost use Rattle.std.specs.Ordering.{nat_cmp};
     ghost use Rattle.std.specs.Coded.{coded_ℕ};
-    ghost use Rattle.gap_sets.specs.Bits.{gaps_of_bits, bits_of};
+    ghost use Rattle.gap_sets.specs.Internal.Bits.{gaps_of_bits, bits_of};
     ghost use Rattle.gap_sets.specs.declared.gap_set.TheConstants.{MAX_GAPS};
 
     ghost Value = { set.FinSet nat_cmp };
@@ -36,7 +36,7 @@ impl Model for GapSet {
 
     ghost inverse = { λ v. record { bits = bits_of v } };
 
-    ghost use Rattle.gap_sets.specs.BitsLaws.{bits_of-gaps_of};
+    ghost use Rattle.gap_sets.specs.Internal.BitsLaws.{bits_of-gaps_of};
 
     ghost inverse_ok = { λ s h i. record { bits = bits_of-gaps_of s.bits h i } };
 }
@@ -160,7 +160,7 @@ pub struct Gaps {
 
 impl Model for Gaps {
     ghost use Rattle.std.specs.Prelude.{◌<◌, ◌^◌, List, ℕ};
-    ghost use Rattle.gap_sets.specs.Bits.{list_of};
+    ghost use Rattle.gap_sets.specs.Internal.Bits.{list_of};
     ghost use Rattle.gap_sets.specs.declared.gap_set.TheConstants.{MAX_GAPS};
 
     ghost Value = { List ℕ };

@@ -13,7 +13,7 @@ use Rattle.text_tokens.specs.Bytes.{is_blank, is_line_space, AreBlanks, AreLineS
 use Rattle.text_tokens.proofs.Prefixes.{prefix_is, all_pass}
 use Rattle.text_tokens.proofs.StepLaws.{let_through, not_passed}
 use Rattle.litmus_lines.specs.FirstLine.{is_inside, is_visible, AreVisible, IsHeading, IsFirstLine}
-use Rattle.litmus_lines.specs.FirstLineReading.{name_after, heading_name, line_at}
+use Rattle.litmus_lines.specs.Internal.FirstLineReading.{name_after, heading_name, line_at}
 
 weaker : (p q : ℕ → Bool) → ((b : ℕ) → p b ≡ true → q b ≡ true) → (xs : List ℕ) → list_all p xs ≡ true → list_all q xs ≡ true
 weaker p q h [] all = refl

@@ -1,4 +1,4 @@
 pub mod FirstLine
-pub mod FirstLineReading
 pub mod SkippedLines
 pub mod Faults
+pub mod Internal

@@ -2,7 +2,7 @@
 ghost use Rattle.std.specs.Prelude.{◌≡◌, ◌≤◌, ℕ, List, ⊤, length, option_map, IfOk, IfErr, IsOkAnd};
 ghost use Rattle.std.specs.List.{prefix_len};
 ghost use Rattle.litmus_lines.specs.FirstLine.{is_visible, IsFirstLine};
-ghost use Rattle.litmus_lines.specs.FirstLineReading.{heading_name};
+ghost use Rattle.litmus_lines.specs.Internal.FirstLineReading.{heading_name};
 ghost use Rattle.litmus_lines.specs.Faults.{RefusesFirstLine};
 
 use crate::fault::LineFault;
@@ -24,7 +24,7 @@ fn visible_len(bytes: &[u8]) -> usize
 }
 
 /// The name that a first line gives, which is given without its LF.
-#[tactic(auto, unfolding(crate::specs::FirstLineReading::heading_name))]
+#[tactic(auto, unfolding(crate::specs::Internal::FirstLineReading::heading_name))]
 fn heading_name(line: &[u8]) -> Option<&[u8]>
     ensures { option_map (λ name. name.now) result ≡ heading_name line.now }
 {

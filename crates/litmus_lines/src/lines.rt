@@ -2,7 +2,7 @@
 ghost use Rattle.std.specs.Prelude.{◌≡◌, ◌==◌, ◌≤◌, length, option_map, count_by};
 ghost use Rattle.std.specs.List.{prefix_len};
 ghost use Rattle.litmus_lines.specs.FirstLine.{is_inside};
-ghost use Rattle.litmus_lines.specs.FirstLineReading.{line_at};
+ghost use Rattle.litmus_lines.specs.Internal.FirstLineReading.{line_at};
 ghost use Rattle.litmus_lines.specs.Faults.{line_number};
 
 /// How many bytes from the front on are no LF.
@@ -14,7 +14,7 @@ fn line_len(bytes: &[u8]) -> usize
 }
 
 /// The bytes before the first LF and those after it.
-#[tactic(auto, unfolding(crate::specs::FirstLineReading::line_at))]
+#[tactic(auto, unfolding(crate::specs::Internal::FirstLineReading::line_at))]
 pub(crate) fn split_line(bytes: &[u8]) -> Option<(&[u8], &[u8])>
     ensures { option_map (λ x. (x.0.now, x.1.now)) result ≡ line_at bytes.now }
 {

@@ -18,7 +18,7 @@ use Rattle.litmus_reader.specs.Places.{location_name, is_register, names_among}
 use Rattle.litmus_reader.specs.Meaning.{code_in}
 use Rattle.litmus_reader.specs.declared.label.Label.{Label}
 use Rattle.litmus_reader.specs.Labels.{thread_labels, all_labels}
-use Rattle.litmus_reader.specs.Filling.{byte_at, FindsAs, FindAllAs, with_put, no_names, noted, stored, with_initial, value_of, is_of_location, is_of_register, entry_atoms, memory_from, registers_from, thread_in, thread_by}
+use Rattle.litmus_reader.specs.Internal.Filling.{byte_at, FindsAs, FindAllAs, with_put, no_names, noted, stored, with_initial, value_of, is_of_location, is_of_register, entry_atoms, memory_from, registers_from, thread_in, thread_by}
 
 -- ---- lists of numbers' values
 

@@ -16,7 +16,7 @@ use Rattle.litmus_syntax.proofs.SeenLaws.{same_place_is}
 use Rattle.litmus_reader.specs.Names.{all_registers, number_in}
 use Rattle.litmus_reader.specs.Meaning.{atom_of, first_value, memory_of, registers_of, code_in, listing_of}
 use Rattle.litmus_reader.specs.Labels.{thread_labels, position_in}
-use Rattle.litmus_reader.specs.Filling.{value_of, is_of_location, is_of_register, entry_atoms, last_said, memory_from, registers_from, listing_by}
+use Rattle.litmus_reader.specs.Internal.Filling.{value_of, is_of_location, is_of_register, entry_atoms, last_said, memory_from, registers_from, listing_by}
 use Rattle.litmus_reader.proofs.NamesOnce.{Stands, same_number}
 
 -- what is said of p is said of q exactly where they are one

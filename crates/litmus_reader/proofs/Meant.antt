@@ -16,12 +16,12 @@ use Rattle.litmus_reader.specs.Faults.{MatchFault}
 use Rattle.litmus_reader.specs.Names.{Names, number_in}
 use Rattle.litmus_reader.specs.Places.{location_name, places, names_of}
 use Rattle.litmus_reader.specs.Meaning.{listing_of, condition_of, observed_of}
-use Rattle.litmus_reader.specs.Filling.{byte_in, byte_at, listing_by}
+use Rattle.litmus_reader.specs.Internal.Filling.{byte_in, byte_at, listing_by}
 use Rattle.litmus_reader.specs.Labels.{position_in, all_labels}
 use Rattle.tso_program.specs.Limits.{first_long}
 use Rattle.litmus_lines.specs.SkippedLines.{AreSkipped}
 use Rattle.litmus_reader.specs.Texts.{Means, StandsFor, StandsForNothing}
-use Rattle.litmus_reader.specs.Reading.{IsReadOf}
+use Rattle.litmus_reader.specs.Internal.Reading.{IsReadOf}
 use Rattle.litmus_reader.proofs.NamesOnce.{in_order_once, entries_stand}
 use Rattle.litmus_reader.proofs.FirstValues.{listing_filled}
 use Rattle.litmus_reader.proofs.Faults.{match_map, match_memory}

@@ -9,7 +9,7 @@ use Rattle.std.specs.Str.{bytes_eq}
 use Rattle.std.specs.Global.{Vec}
 use Rattle.std.proofs.lemmas.List.{map_push, length-map}
 use Rattle.litmus_reader.specs.Names.{with_name}
-use Rattle.litmus_reader.specs.Filling.{texts}
+use Rattle.litmus_reader.specs.Internal.Filling.{texts}
 
 any_text : (ks : List (Vec ℕ)) (name : List ℕ) → list_any (λ k. bytes_eq name k.items) ks ≡ list_any (bytes_eq name) (texts ks)
 any_text [] name = refl

@@ -20,7 +20,7 @@ use Rattle.std.proofs.lemmas.List.FromFn.{get_or-map-range_with_len}
 use Rattle.litmus_reader.specs.declared.label.Label.{Label}
 use Rattle.litmus_reader.specs.Labels.{thread_labels, position_in}
 use Rattle.litmus_reader.specs.Meaning.{code_in}
-use Rattle.litmus_reader.specs.Filling.{byte_in, byte_at, is_of_location, entry_atoms, last_said, registers_from, memory_from, thread_by, listing_by}
+use Rattle.litmus_reader.specs.Internal.Filling.{byte_in, byte_at, is_of_location, entry_atoms, last_said, registers_from, memory_from, thread_by, listing_by}
 use Rattle.litmus_reader.proofs.Filled.{range_same}
 use Rattle.litmus_reader.proofs.Positions.{code_count, position_same}
 use Rattle.tso_program.specs.declared.limits.TheConstants.{MAX_THREADS, MAX_LOCATIONS, MAX_INSTRUCTIONS, MAX_FENCED_INSTRUCTIONS}

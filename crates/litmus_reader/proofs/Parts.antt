@@ -21,8 +21,8 @@ use Rattle.litmus_reader.specs.Faults.{MatchFault}
 use Rattle.litmus_reader.specs.Places.{names_of}
 use Rattle.litmus_reader.specs.Labels.{all_labels, JumpsAreFound}
 use Rattle.litmus_reader.specs.Meaning.{sign_of, numbered_atom, quantifier_of, observed_of}
-use Rattle.litmus_reader.specs.Filling.{byte_in, byte_at, listing_by}
-use Rattle.litmus_reader.specs.Reading.{numbered_signs, ReadsOne, Found, AreReadTokens, IsSyntaxFault, HasNoParts}
+use Rattle.litmus_reader.specs.Internal.Filling.{byte_in, byte_at, listing_by}
+use Rattle.litmus_reader.specs.Internal.Reading.{numbered_signs, ReadsOne, Found, AreReadTokens, IsSyntaxFault, HasNoParts}
 use Rattle.litmus_reader.specs.Texts.{AreParts}
 use Rattle.litmus_reader.proofs.Faults.{match_map}
 

@@ -9,7 +9,7 @@ use Rattle.litmus_syntax.specs.Views.{CodeView, CellView}
 use Rattle.litmus_reader.specs.declared.label.Label.{Label}
 use Rattle.litmus_reader.specs.Labels.{column, size, labels_behind, thread_labels, position_in}
 use Rattle.litmus_reader.specs.Meaning.{instruction_of, code_in}
-use Rattle.litmus_reader.specs.Filling.{byte_at}
+use Rattle.litmus_reader.specs.Internal.Filling.{byte_at}
 
 -- how many instructions cells have
 abbrev count : List CellView → ℕ

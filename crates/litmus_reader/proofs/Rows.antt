@@ -5,7 +5,7 @@ use Rattle.std.proofs.Math.Nat.{add-zero}
 use Rattle.litmus_syntax.specs.declared.cell.Cell.{Cell}
 use Rattle.litmus_syntax.specs.Views.{PlaceView, CellView, cell_view}
 use Rattle.litmus_reader.specs.Names.{Names}
-use Rattle.litmus_reader.specs.Filling.{noted}
+use Rattle.litmus_reader.specs.Internal.Filling.{noted}
 use Rattle.litmus_reader.specs.Places.{cell_places, cells_places, row_places}
 use Rattle.std.specs.List.{filter_map}
 use Rattle.std.proofs.lemmas.List.{map_more, append-nil, length-map, length-take}

@@ -17,7 +17,7 @@ use Rattle.litmus_reader.specs.Labels.{label_in, all_labels, cell_jump, are_foun
 use Rattle.litmus_reader.specs.declared.fault.ReadFault.{ReadFault}
 use Rattle.litmus_reader.specs.Faults.{MatchFault, IsOfAToken}
 use Rattle.litmus_reader.proofs.Faults.{match_map}
-use Rattle.litmus_reader.specs.Filling.{labels_in, with_label, FindsAs, FindAllAs}
+use Rattle.litmus_reader.specs.Internal.Filling.{labels_in, with_label, FindsAs, FindAllAs}
 
 abbrev named : List ℕ → Label → Bool
 named name l = bytes_eq l.name name

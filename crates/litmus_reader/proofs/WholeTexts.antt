@@ -14,7 +14,7 @@ use Rattle.litmus_lines.specs.declared.fault.LineFault.{LineFault}
 use Rattle.litmus_lines.specs.FirstLine.{IsFirstLine}
 use Rattle.litmus_lines.specs.SkippedLines.{AreSkipped}
 use Rattle.litmus_reader.specs.Texts.{Means, StandsFor, StandsForNothing}
-use Rattle.litmus_reader.specs.Reading.{AreReadTokens, IsReadOf, HasNoParts}
+use Rattle.litmus_reader.specs.Internal.Reading.{AreReadTokens, IsReadOf, HasNoParts}
 use Rattle.litmus_reader.proofs.Faults.{match_map, match_memory, match_lines}
 use Rattle.litmus_reader.proofs.Whole.{parts_whole}
 

@@ -6,7 +6,6 @@ pub mod Faults
 pub mod Texts
 pub mod Outcomes
 pub mod Shown
-pub mod Filling
-pub mod Reading
 pub mod Laws
 pub mod Example
+pub mod Internal

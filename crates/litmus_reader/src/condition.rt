@@ -3,9 +3,9 @@ ghost use Rattle.std.specs.Prelude.{◌≡◌, map, IfOk};
 ghost use Rattle.conditions.specs.Tokens.{sign_of_token as token_sign};
 ghost use Rattle.litmus_syntax.specs.Views.{sign_view, sign_at_view};
 ghost use Rattle.conditions.specs.Grammar.{sign_map};
-ghost use Rattle.litmus_reader.specs.Filling.{byte_in};
+ghost use Rattle.litmus_reader.specs.Internal.Filling.{byte_in};
 ghost use Rattle.litmus_reader.specs.Meaning.{sign_of, numbered_atom, quantifier_of};
-ghost use Rattle.litmus_reader.specs.Reading.{numbered_signs, ReadsFormula};
+ghost use Rattle.litmus_reader.specs.Internal.Reading.{numbered_signs, ReadsFormula};
 
 use crate::fault::ReadFault;
 use crate::lines::fault_at;

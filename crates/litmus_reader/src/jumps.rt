@@ -3,7 +3,7 @@ ghost use Rattle.std.specs.Prelude.{◌≡◌, true, false, not, IfOk, OnOk, IfS
 ghost use Rattle.std.specs.List.{list_all};
 ghost use Rattle.litmus_syntax.specs.Views.{code_view, cell_view, row_view};
 ghost use Rattle.litmus_reader.specs.Labels.{label_in, jump_of, is_found, are_found};
-ghost use Rattle.litmus_reader.specs.Filling.{byte_at, with_label, FindsAs, FindAllAs};
+ghost use Rattle.litmus_reader.specs.Internal.Filling.{byte_at, with_label, FindsAs, FindAllAs};
 
 use crate::label::Label;
 use indexmap::IndexMap;
@@ -21,7 +21,7 @@ pub(crate) struct Targets {
 impl Model for Targets {
     ghost use Rattle.std.specs.Prelude.{List};
     ghost use Rattle.litmus_reader.specs.declared.label.Label.{Label as LabelValue};
-    ghost use Rattle.litmus_reader.specs.Filling.{labels_in};
+    ghost use Rattle.litmus_reader.specs.Internal.Filling.{labels_in};
 
     ghost Value = { List LabelValue };
 

@@ -4,7 +4,7 @@ ghost use Rattle.tso_program.specs.Instructions.{number};
 ghost use Rattle.litmus_syntax.specs.Views.{place_view};
 ghost use Rattle.litmus_reader.specs.Names.{with_name};
 ghost use Rattle.litmus_reader.specs.Outcomes.{is_named};
-ghost use Rattle.litmus_reader.specs.Filling.{no_names, noted, with_put, byte_in};
+ghost use Rattle.litmus_reader.specs.Internal.Filling.{no_names, noted, with_put, byte_in};
 
 use indexmap::IndexSet;
 use litmus_syntax::Place;
@@ -21,7 +21,7 @@ pub struct NameTable {
 
 impl Model for NameTable {
     ghost use Rattle.litmus_reader.specs.Names.{Names};
-    ghost use Rattle.litmus_reader.specs.Filling.{texts};
+    ghost use Rattle.litmus_reader.specs.Internal.Filling.{texts};
 
     ghost Value = { Names };
 

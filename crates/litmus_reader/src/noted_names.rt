@@ -2,7 +2,7 @@
 ghost use Rattle.std.specs.Prelude.{◌≡◌, OnOk, IfOk, map, fold};
 ghost use Rattle.std.specs.List.{flat_map};
 ghost use Rattle.litmus_syntax.specs.Views.{place_view, ending_view, entry_view, code_view, cell_view, row_view, body_view, sign_view, sign_at_view};
-ghost use Rattle.litmus_reader.specs.Filling.{no_names, noted};
+ghost use Rattle.litmus_reader.specs.Internal.Filling.{no_names, noted};
 ghost use Rattle.litmus_reader.specs.Places.{names_of, entry_place, code_places, cell_places, row_places, sign_places};
 
 use crate::names::NameTable;

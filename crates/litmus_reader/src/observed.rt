@@ -2,7 +2,7 @@
 ghost use Rattle.std.specs.Prelude.{◌≡◌, IfOk, map};
 ghost use Rattle.litmus_syntax.specs.Views.{place_view};
 ghost use Rattle.litmus_reader.specs.Meaning.{observed_of};
-ghost use Rattle.litmus_reader.specs.Filling.{byte_in};
+ghost use Rattle.litmus_reader.specs.Internal.Filling.{byte_in};
 
 use crate::names::NameTable;
 use litmus_syntax::Place;

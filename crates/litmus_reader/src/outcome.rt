@@ -1,7 +1,7 @@
 //! How an outcome is written.
 ghost use Rattle.std.specs.Prelude.{◌≡◌, ◌++◌, [], IfOk, OnOk, length, slice_index_or};
 ghost use Rattle.std.specs.List.{join_with_byte};
-ghost use Rattle.litmus_reader.specs.Filling.{texts};
+ghost use Rattle.litmus_reader.specs.Internal.Filling.{texts};
 ghost use Rattle.litmus_reader.specs.Outcomes.{register_name, register_item, location_item, named_item, thread_items, register_items, shown_item, location_items, outcome_text};
 
 use crate::names::NameTable;

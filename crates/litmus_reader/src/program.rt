@@ -5,9 +5,9 @@ ghost use Rattle.litmus_reader.specs.Faults.{MatchFault};
 ghost use Rattle.std.specs.List.{range_with_len};
 ghost use Rattle.litmus_syntax.specs.Views.{place_view, entry_view, code_view, cell_view, row_view, body_view};
 ghost use Rattle.litmus_reader.specs.Labels.{all_labels};
-ghost use Rattle.litmus_reader.specs.Filling.{byte_in, byte_at, FindAllAs, stored, with_initial, entry_atoms, memory_from, registers_from, thread_in, listing_by};
+ghost use Rattle.litmus_reader.specs.Internal.Filling.{byte_in, byte_at, FindAllAs, stored, with_initial, entry_atoms, memory_from, registers_from, thread_in, listing_by};
 ghost use Rattle.litmus_reader.specs.Meaning.{atom_of, instruction_of, instruction_in, code_in};
-ghost use Rattle.litmus_reader.specs.Reading.{MakesProgram, MakesFencedProgram};
+ghost use Rattle.litmus_reader.specs.Internal.Reading.{MakesProgram, MakesFencedProgram};
 
 use crate::fault::ReadFault;
 use crate::jumps::Targets;

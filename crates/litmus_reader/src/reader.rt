@@ -7,9 +7,9 @@ ghost use Rattle.litmus_reader.specs.declared.fault.ReadFault.TheVariants.{OutOf
 ghost use Rattle.litmus_syntax.specs.Views.{body_view, ending_view};
 ghost use Rattle.litmus_reader.specs.Faults.{MatchFault};
 ghost use Rattle.litmus_reader.specs.Labels.{all_labels, JumpsAreFound};
-ghost use Rattle.litmus_reader.specs.Filling.{byte_in, byte_at, listing_by};
+ghost use Rattle.litmus_reader.specs.Internal.Filling.{byte_in, byte_at, listing_by};
 ghost use Rattle.litmus_reader.specs.Texts.{IsLitmus, IsFencedLitmus, Refuses, RefusesFenced};
-ghost use Rattle.litmus_reader.specs.Reading.{Found, IsSyntaxFault, ReadsTokens, ReadsText};
+ghost use Rattle.litmus_reader.specs.Internal.Reading.{Found, IsSyntaxFault, ReadsTokens, ReadsText};
 
 use crate::condition::{quantifier, read_formula};
 use crate::fault::ReadFault;

@@ -24,14 +24,14 @@ use Rattle.candidate_executions.specs.Consistency.{IsOfMode, Relates, Edge, IsAc
 use Rattle.candidate_executions.specs.Sketches.{Completes, IsBefore, KnownRelates, KnownFromReads, MayBeLast}
 use Rattle.candidate_executions.specs.Orders.{followed_union, labels_along, IsOrder}
 use Rattle.candidate_executions.specs.RunCandidates.{IsCandidateOf}
-use Rattle.candidate_executions.proofs.AcyclicIsOrdered.{In}
-use Rattle.candidate_executions.proofs.CandidatesAreRuns.{every_order}
-use Rattle.candidate_executions.proofs.LastWrites.{one_end, ends_with}
-use Rattle.candidate_executions.proofs.Linear.{contains_in, pairs_ordered}
-use Rattle.candidate_executions.proofs.Lists.{some_value}
-use Rattle.candidate_executions.proofs.MoreValues.{end_or_read}
-use Rattle.candidate_executions.proofs.StepsSuffice.{advance}
-use Rattle.candidate_executions.proofs.WiderRelations.{acyclic_narrower}
+use Rattle.candidate_executions.proofs.Orders.AcyclicIsOrdered.{In}
+use Rattle.candidate_executions.proofs.ToRuns.CandidatesAreRuns.{every_order}
+use Rattle.candidate_executions.proofs.Candidates.LastWrites.{one_end, ends_with}
+use Rattle.candidate_executions.proofs.ToRuns.Linear.{contains_in, pairs_ordered}
+use Rattle.candidate_executions.proofs.Orders.Lists.{some_value}
+use Rattle.candidate_executions.proofs.Sketches.MoreValues.{end_or_read}
+use Rattle.candidate_executions.proofs.FromRuns.StepsSuffice.{advance}
+use Rattle.candidate_executions.proofs.Orders.WiderRelations.{acyclic_narrower}
 use Rattle.exec_axioms.specs.Parts.{Parts, mode_in, sketch_of, given_to, trace_in, access_in}
 use Rattle.exec_axioms.specs.Kept.{IsLawful}
 use Rattle.exec_axioms.specs.Known.{IsKnownEdge, HasNoCycle, IsAccess}
@@ -41,7 +41,7 @@ use Rattle.exec_axioms.proofs.Chosen.{once}
 use Rattle.exec_axioms.proofs.Ends.{ends_only}
 use Rattle.exec_axioms.proofs.LastWrites.{of_followed, pair_edge}
 use Rattle.run_maker.specs.Complete.{IsComplete, IsMadeRun}
-use Rattle.run_maker.specs.Orders.{IsKnownOrder}
+use Rattle.run_maker.specs.Internal.Orders.{IsKnownOrder}
 use Rattle.run_maker.proofs.Completeness.{first_there, second_there}
 use Rattle.run_maker.proofs.PlacesInOrder.{place, place_before, place_same, chosen, chosen_is}
 

@@ -36,7 +36,7 @@ impl Model for Ceiling {
 
     ghost coded = { Prim.hlevel (codes, gap_set.the_row.coded) };
 
-    ghost use Rattle.search_core.specs.Limits.{bound_of};
+    ghost use Rattle.search_core.specs.Internal.Limits.{bound_of};
 
     ghost view = { λ c. bound_of c.limit };
 

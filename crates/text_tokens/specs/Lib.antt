@@ -6,6 +6,6 @@ pub mod Space
 pub mod Steps
 pub mod Tokens
 pub mod Lexing
-pub mod Front
 pub mod Parts
 pub mod Pieces
+pub mod Internal

@@ -8,7 +8,7 @@ ghost use Rattle.text_tokens.specs.Marks.{mark_from};
 ghost use Rattle.text_tokens.specs.Comments.{opens};
 ghost use Rattle.text_tokens.specs.Tokens.{Tok, tok, toks, AreAllTokens};
 ghost use Rattle.text_tokens.specs.Lexing.{Lexes, LexesTo};
-ghost use Rattle.text_tokens.specs.Front.{IsFront, lexeme_tok};
+ghost use Rattle.text_tokens.specs.Internal.Front.{IsFront, lexeme_tok};
 
 use crate::bytes::{digits_len, is_letter, is_white_space, is_word_byte};
 use crate::comment::{after_comment, opens, skip};

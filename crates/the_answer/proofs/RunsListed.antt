@@ -19,7 +19,7 @@ use Rattle.tso_machine.specs.Machine.{Mode, State, start, step, run, is_empty, o
 use Rattle.tso_machine.proofs.Runs.{no_action}
 use Rattle.the_answer.specs.OutcomeLists.{is_stop, has_ended, threads_of, labels_to_try, outcomes_here, outcomes_within, most_labels, outcomes_of}
 use Rattle.the_answer.specs.Laws.{OutcomesAreListed}
-use Rattle.candidate_executions.proofs.Lists.{none_here, first_or_later, first_is_here, later_is_here, mapped}
+use Rattle.candidate_executions.proofs.Orders.Lists.{none_here, first_or_later, first_is_here, later_is_here, mapped}
 use Rattle.the_answer.proofs.Lists.{in_flat_map, below_is_here, from_flat_map, both, each_passes, all_pass, from_mapped}
 use Rattle.the_answer.proofs.StepsOfThreads.{NoOtherThread, thread_of, of_program, bounded}
 

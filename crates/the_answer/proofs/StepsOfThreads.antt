@@ -11,8 +11,8 @@ use Rattle.tso_machine.specs.declared.label.Label.{Label}
 use Rattle.tso_machine.specs.declared.label.Label.TheVariants.{Exec, Flush}
 use Rattle.tso_machine.specs.declared.label.Pending.{Pending}
 use Rattle.tso_machine.specs.Machine.{Mode, Sequential, Fenced, no_gaps, State, step}
-use Rattle.candidate_executions.proofs.AllEvents.{no_code}
-use Rattle.candidate_executions.proofs.RunsAreShort.{run_bound}
+use Rattle.candidate_executions.proofs.Candidates.AllEvents.{no_code}
+use Rattle.candidate_executions.proofs.FromRuns.RunsAreShort.{run_bound}
 use Rattle.fence_laws.proofs.ChangedAt.{put_other}
 use Rattle.fence_laws.proofs.EitherMachine.{mode_with, made, others_keep, stands_at, stored, flush_made}
 use Rattle.the_answer.specs.OutcomeLists.{longest}

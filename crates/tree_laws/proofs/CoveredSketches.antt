@@ -11,10 +11,10 @@ use Rattle.candidate_executions.specs.declared.event.Kind.TheVariants as union
 use Rattle.candidate_executions.specs.Candidates.{Candidate}
 use Rattle.candidate_executions.specs.Consistency.{IsOfMode, Edge, IsAcyclic, IsConsistent}
 use Rattle.candidate_executions.specs.Sketches.{Sketch, Completes, IsConsistentCompletion, IsSketch, IsPair, with_value, with_source, with_pair}
-use Rattle.candidate_executions.proofs.Lists.{some_value}
-use Rattle.candidate_executions.proofs.Choices.{a_value_keeps_a_sketch, a_source_keeps_a_sketch, a_pair_keeps_a_sketch, each_has_a_value, each_has_a_source, each_has_an_order}
-use Rattle.candidate_executions.proofs.KnownEdges.{known_cycle_is_a_cycle}
-use Rattle.candidate_executions.proofs.MustEnd.{each_ends_so}
+use Rattle.candidate_executions.proofs.Orders.Lists.{some_value}
+use Rattle.candidate_executions.proofs.Sketches.Choices.{a_value_keeps_a_sketch, a_source_keeps_a_sketch, a_pair_keeps_a_sketch, each_has_a_value, each_has_a_source, each_has_an_order}
+use Rattle.candidate_executions.proofs.Sketches.KnownEdges.{known_cycle_is_a_cycle}
+use Rattle.candidate_executions.proofs.Sketches.MustEnd.{each_ends_so}
 use Rattle.cert_forest.specs.Trees.{Cover, Value, Source, Order, Cycle, Known, Covers, NoCover, MoreCovers}
 use Rattle.tree_laws.specs.CoverTrees.{event_of, HasNextValues, HasSources, HasNoOrder, IsKnownCycle, MustEndAsNumber, IsValidCover, AreValidCovers, IsCovered}
 use Rattle.tree_laws.specs.Laws.{AValidCoverCovers}

@@ -9,9 +9,9 @@ use Rattle.tso_machine.specs.declared.label.Label.{Label}
 use Rattle.tso_machine.specs.Machine.{Mode, Sequential, Fenced}
 use Rattle.tso_machine.specs.Outcomes.{IsShownRun, AllowsShown, IsSequentialOutcome}
 use Rattle.candidate_executions.specs.Sketches.{empty_sketch}
-use Rattle.candidate_executions.proofs.Choices.{empty_is_a_sketch}
-use Rattle.candidate_executions.proofs.RunsAreCandidates.{every_run_is_a_completion}
-use Rattle.candidate_executions.proofs.LastWrites.{outcomes_are_one}
+use Rattle.candidate_executions.proofs.Sketches.Choices.{empty_is_a_sketch}
+use Rattle.candidate_executions.proofs.FromRuns.RunsAreCandidates.{every_run_is_a_completion}
+use Rattle.candidate_executions.proofs.Candidates.LastWrites.{outcomes_are_one}
 use Rattle.fence_laws.proofs.SequentialIsBuffered.{sequential_is_allowed}
 use Rattle.cert_forest.specs.Trees.{Cover}
 use Rattle.tree_laws.specs.CoverTrees.{IsValidCover, IsCovered}

@@ -1,7 +1,7 @@
 -- Elements of lists.
 use Rattle.std.proofs.Common.{◌≡◌, ℕ, List, Some, Contains, All, slice_get, subst}
 use Rattle.std.proofs.lemmas.Option.{slice_get_within, get_or_from_slice_get}
-pub use Rattle.candidate_executions.proofs.Lists.{none_here, first_or_later, first_is_here, later_is_here, mapped}
+pub use Rattle.candidate_executions.proofs.Orders.Lists.{none_here, first_or_later, first_is_here, later_is_here, mapped}
 
 -- what is found at a place is an element
 pub found_is_here : {A : Type 0} (xs : List A) (n : ℕ) (x : A) → slice_get xs n ≡ Some x → Contains xs x

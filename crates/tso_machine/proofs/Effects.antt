@@ -19,7 +19,7 @@ use Rattle.tso_machine.specs.Machine.{put, State, newest, found, is_empty, when_
 use Rattle.tso_machine.specs.Modes.{mode_of}
 use Rattle.tso_program.specs.Fences.{gaps_in}
 use Rattle.tso_machine.specs.Faults.{waits, StepFaultIs}
-use Rattle.tso_machine.specs.Cores.{Core, Cores, core_at, state_of, AreLocated, Fits, after_buffered, after_direct, after_action, ExecFaultIs}
+use Rattle.tso_machine.specs.Internal.Cores.{Core, Cores, core_at, state_of, AreLocated, Fits, after_buffered, after_direct, after_action, ExecFaultIs}
 use Rattle.tso_machine.proofs.Link.{state_set, state_moved, memory_set, located_front, fits_set}
 
 some_is : {A : Type 0} (x y : A) → Some x ≡ Some y → x ≡ y

@@ -12,7 +12,7 @@ use Rattle.tso_program.specs.declared.outcome.Outcome.{Outcome}
 use Rattle.tso_machine.specs.declared.label.Pending.{Pending}
 use Rattle.tso_program.specs.declared.listing.Listing.{Listing}
 use Rattle.tso_machine.specs.Machine.{put, start, outcome_at}
-use Rattle.tso_machine.specs.Cores.{Core, Cores, no_core, core_at, state_of, first_core, first_cores, AreLocated, Fits}
+use Rattle.tso_machine.specs.Internal.Cores.{Core, Cores, no_core, core_at, state_of, first_core, first_cores, AreLocated, Fits}
 
 pub put_same : {A : Type 0} (f : ℕ → A) (n : ℕ) (x : A) → put f n x n ≡ x
 put_same f n x = rw (eq-eqb n n refl) refl

@@ -29,7 +29,7 @@ use Rattle.tso_program.specs.Listings.{action}
 use Rattle.tso_machine.specs.Machine.{Mode, Sequential, State, start, step, run, direct, is_empty, from_some, passes_at, passes, HasEnded}
 use Rattle.tso_machine.specs.Modes.{mode_of, Passes, ArePassed}
 use Rattle.tso_machine.specs.Faults.{Applies, StepFaultIs, Stops, ReplayFaultIs, fault_of}
-use Rattle.tso_machine.specs.Cores.{Core, Cores, no_core, core_at, state_of, Fits, Finished, passed_gap, gap_passed_by}
+use Rattle.tso_machine.specs.Internal.Cores.{Core, Cores, no_core, core_at, state_of, Fits, Finished, passed_gap, gap_passed_by}
 
 and_then_alike : (o : Option State) (f g : State → Option State) → ((s : State) → f s ≡ g s) → option_and_then f o ≡ option_and_then g o
 and_then_alike (Some s) f g alike = alike s

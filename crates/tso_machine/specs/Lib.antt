@@ -2,7 +2,7 @@ pub mod Machine
 pub mod Modes
 pub mod Outcomes
 pub mod Faults
-pub mod Cores
 pub mod Laws
 pub mod RunTexts
 pub mod Examples
+pub mod Internal

@@ -3,7 +3,7 @@ ghost use Rattle.std.specs.Prelude.{◌≡◌, ◌<◌, ℕ, length, OnOk, false
 ghost use Rattle.tso_program.specs.Actions.{IsLocated};
 ghost use Rattle.tso_program.specs.declared.action.Action.TheVariants.{Stop};
 ghost use Rattle.tso_machine.specs.Machine as machine;
-ghost use Rattle.tso_machine.specs.Cores.{after_buffered, after_direct, after_action, ExecFaultIs};
+ghost use Rattle.tso_machine.specs.Internal.Cores.{after_buffered, after_direct, after_action, ExecFaultIs};
 ghost use Rattle.tso_machine.specs.Faults.{waits as does_wait};
 
 use crate::Pending;
@@ -20,7 +20,7 @@ pub(crate) struct Core {
 }
 
 impl marker::Model for Core {
-    ghost use Rattle.tso_machine.specs.Cores as cores;
+    ghost use Rattle.tso_machine.specs.Internal.Cores as cores;
 
     ghost Value = { cores.Core };
 

@@ -8,7 +8,7 @@ ghost use Rattle.tso_machine.specs.Machine as machine;
 ghost use Rattle.tso_machine.specs.Machine.{Mode, HasEnded, outcome_at};
 ghost use Rattle.tso_machine.specs.Modes.{mode_of};
 ghost use Rattle.tso_program.specs.Fences.{gaps_in};
-ghost use Rattle.tso_machine.specs.Cores.{state_of, first_cores, Fits, passed_gap, gap_passed_by, core_at, Finished};
+ghost use Rattle.tso_machine.specs.Internal.Cores.{state_of, first_cores, Fits, passed_gap, gap_passed_by, core_at, Finished};
 ghost use Rattle.tso_machine.specs.Faults.{StepFaultIs, IsUnfinished};
 ghost use Rattle.gap_sets.specs.declared.gap_set.TheConstants.{MAX_GAPS};
 
@@ -28,7 +28,7 @@ pub(crate) struct State {
 }
 
 impl marker::Model for State {
-    ghost use Rattle.tso_machine.specs.Cores.{Cores};
+    ghost use Rattle.tso_machine.specs.Internal.Cores.{Cores};
 
     ghost Value = { Cores };
 

@@ -8,7 +8,7 @@ use Rattle.tree_laws.specs.CoverTrees.{IsValidCover}
 use Rattle.tree_laws.specs.GapTrees.{IsValidGap}
 use Rattle.tree_laws.specs.Certificates.{IsRunOutside, IsValidCertificate}
 use Rattle.cert_check.specs.Faults.{CheckFaultIs, HasServingSet, HasForeignRuns, HasEachOutcome}
-use Rattle.cert_check.specs.Replays.{HavePassed}
+use Rattle.cert_check.specs.Internal.Replays.{HavePassed}
 use Rattle.cover_judge.proofs.Answered.{err_up, on_ok}
 use Rattle.cert_check.proofs.Assembled.{assembled}
 use Rattle.cert_check.proofs.FirstFaults.{foreign_are_runs}

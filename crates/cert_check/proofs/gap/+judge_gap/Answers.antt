@@ -8,7 +8,7 @@ use Rattle.cert_forest.specs.Trees.{Gap, Split, gap_trees_of}
 use Rattle.cover_judge.specs.declared.fault.TreeFault.{TreeFault}
 use Rattle.cover_judge.specs.Judged.{IfWrong, IsAtRoot, IsBelow}
 use Rattle.cert_check.specs.GapDefects.{HasNoSplit, FirstWrongGap}
-use Rattle.cert_check.specs.Children.{IsWrongChildIn}
+use Rattle.cert_check.specs.Internal.Children.{IsWrongChildIn}
 use Rattle.cover_judge.proofs.Answered.{err_up, if_err}
 use Rattle.cover_judge.proofs.ChoicesJudged.{if_wrong}
 use Rattle.cert_check.proofs.GapNodes.{split_here, split_below}

@@ -2,7 +2,7 @@ use Rattle.std.proofs.Common.{List, map, drop}
 use Rattle.tso_program.specs.declared.listing.Listing.{Listing}
 use Rattle.tso_machine.specs.declared.label.Label.{Label}
 use Rattle.cert_forest.specs.Views.{gap}
-use Rattle.cert_check.specs.Replays.{HavePassed}
+use Rattle.cert_check.specs.Internal.Replays.{HavePassed}
 use Rattle.cert_check.proofs.GapSteps.{IsLeft}
 use Rattle.cert_check.proofs.gap.+judge_gap.Given as goal
 

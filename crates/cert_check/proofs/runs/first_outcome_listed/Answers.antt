@@ -1,5 +1,5 @@
 use Rattle.std.proofs.Common.{◌≡◌, true, false, sym, ◌∙◌, subst}
-use Rattle.cert_check.specs.Replays.{IsOutside}
+use Rattle.cert_check.specs.Internal.Replays.{IsOutside}
 use Rattle.exec_axioms.proofs.Lookups.{each_more}
 use Rattle.cert_check.proofs.Found.{first_without}
 use Rattle.cert_check.proofs.OutcomesListed.{borrowed}

@@ -3,7 +3,7 @@ use Rattle.std.specs.Global.{Vec}
 use Rattle.tso_program.specs.Shown.{asked}
 use Rattle.tso_machine.specs.declared.label.Label.{Label}
 use Rattle.cert_forest.specs.Certificates.{labels_of}
-use Rattle.cert_check.specs.Replays.{RunsFaultIs}
+use Rattle.cert_check.specs.Internal.Replays.{RunsFaultIs}
 use Rattle.cover_judge.proofs.Answered.{err_up}
 use Rattle.cert_check.proofs.Replayed.{replays_more, first_fault}
 use Rattle.cert_check.proofs.runs.replay_all.Goals as goal

@@ -1,7 +1,7 @@
 use Rattle.std.proofs.Common.{take}
 use Rattle.tso_program.specs.Shown.{asked}
 use Rattle.cert_forest.specs.Certificates.{labels_of}
-use Rattle.cert_check.specs.Replays.{AreReplaysOf}
+use Rattle.cert_check.specs.Internal.Replays.{AreReplaysOf}
 use Rattle.cert_check.proofs.runs.replay_all.Given as goal
 
 -- the replays of the runs so far

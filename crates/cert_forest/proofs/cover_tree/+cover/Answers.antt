@@ -2,8 +2,8 @@ use Rattle.std.proofs.Common.{◌≡◌, ◌++◌, ◌∷◌, [], map, arith}
 use Rattle.std.proofs.lemmas.Result.{err_from_is_err_and}
 use Rattle.std.proofs.lemmas.List.{map_push}
 use Rattle.cert_forest.specs.Views.{cover}
-use Rattle.cert_forest.specs.HeadViews.{head_view}
-use Rattle.cert_forest.specs.Reading.{cover_at}
+use Rattle.cert_forest.specs.Internal.HeadViews.{head_view}
+use Rattle.cert_forest.specs.Internal.Reading.{cover_at}
 use Rattle.cert_forest.proofs.Loops.{repeat_more, repeat_stops}
 use Rattle.cert_forest.proofs.TreeSteps.{cover_none, cover_node, cover_stops}
 use Rattle.cert_forest.proofs.cover_tree.+cover.Goals as goal

@@ -1,7 +1,7 @@
 use Rattle.std.proofs.Common.{◌≡◌, ◌-◌, ◌+◌, ◌*◌, [], map}
 use Rattle.cert_forest.specs.Views.{cover}
 use Rattle.cert_words.specs.Words.{repeat_at}
-use Rattle.cert_forest.specs.Reading.{cover_at}
+use Rattle.cert_forest.specs.Internal.Reading.{cover_at}
 use Rattle.cert_forest.proofs.cover_tree.+cover.Given as goal
 
 abbrev pub decreases-cover : goal.decreases-cover

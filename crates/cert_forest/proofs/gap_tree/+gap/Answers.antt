@@ -7,7 +7,7 @@ use Rattle.cert_forest.specs.declared.tree.GapTree.TheBlock as block
 use Rattle.cert_forest.specs.declared.tree.GapTree.TheFolds.{fold-roll-GapTree, fold_out-GapTree}
 use Rattle.cert_forest.specs.Trees.{Gap, Split, Bound, gap_trees_of}
 use Rattle.cert_forest.specs.Views.{gap, gap_node}
-use Rattle.cert_forest.specs.Reading.{gap_at}
+use Rattle.cert_forest.specs.Internal.Reading.{gap_at}
 use Rattle.cert_forest.proofs.Loops.{repeat_more, repeat_stops}
 use Rattle.cert_forest.proofs.TreeSteps.{gap_none, gap_no_letter, gap_no_split, gap_no_children, gap_split, gap_bound, gap_other}
 use Rattle.cert_forest.proofs.gap_tree.+gap.Goals as goal

@@ -1,7 +1,7 @@
 use Rattle.std.proofs.Common.{◌≡◌, ◌-◌, ◌+◌, ◌*◌, [], map}
 use Rattle.cert_forest.specs.Views.{gap}
 use Rattle.cert_words.specs.Words.{repeat_at}
-use Rattle.cert_forest.specs.Reading.{gap_at}
+use Rattle.cert_forest.specs.Internal.Reading.{gap_at}
 use Rattle.cert_forest.proofs.gap_tree.+gap.Given as goal
 
 abbrev pub decreases-gap : goal.decreases-gap

@@ -2,7 +2,7 @@ use Rattle.std.proofs.Common.{◌≡◌, ◌++◌, ◌∷◌, []}
 use Rattle.std.proofs.lemmas.Result.{err_from_is_err_and}
 use Rattle.std.proofs.lemmas.List.{map_push}
 use Rattle.cert_forest.specs.Certificates.{labels_of}
-use Rattle.cert_forest.specs.Reading.{run_at}
+use Rattle.cert_forest.specs.Internal.Reading.{run_at}
 use Rattle.cert_forest.proofs.Loops.{repeat_more, repeat_stops}
 use Rattle.cert_forest.proofs.runs.run_lines.Goals as goal
 

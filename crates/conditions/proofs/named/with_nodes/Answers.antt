@@ -1,6 +1,6 @@
 use Rattle.std.proofs.Common.{◌∙◌, sym, ap, arith}
 use Rattle.std.proofs.lemmas.List.{at_drop_all}
-use Rattle.conditions.specs.NamedNodes.{with_nodes}
+use Rattle.conditions.specs.Internal.NamedNodes.{with_nodes}
 use Rattle.conditions.proofs.NodesNamed.{nodes_named}
 use Rattle.conditions.proofs.named.with_nodes.Goals as goal
 

@@ -1,5 +1,5 @@
 use Rattle.std.proofs.Common.{◌≡◌, drop}
-use Rattle.conditions.specs.NamedNodes.{with_nodes}
+use Rattle.conditions.specs.Internal.NamedNodes.{with_nodes}
 use Rattle.conditions.proofs.named.with_nodes.Given as goal
 
 -- the nodes that are left add what they name

@@ -1,5 +1,5 @@
 use Rattle.std.proofs.Common.{refl, sym, ◌∙◌}
-use Rattle.cost_text.specs.TextReading.{digits_of}
+use Rattle.cost_text.specs.Internal.TextReading.{digits_of}
 use Rattle.cost_text.proofs.LineLaws.{unread}
 use Rattle.cost_text.proofs.Judged.{of_no_gap, repeated, new_entry, of_no_cost}
 use Rattle.cost_text.proofs.reader.entry_of.Goals as goal

@@ -1,6 +1,6 @@
 use Rattle.std.proofs.Common.{◌↔◌, ◌≡◌, Some, Contains, sym, ap, ◌∙◌, map, subst}
 use Rattle.candidate_executions.specs.declared.event.Event.{Event}
-use Rattle.candidate_executions.proofs.Lists.{some_value}
+use Rattle.candidate_executions.proofs.Orders.Lists.{some_value}
 use Rattle.exec_axioms.specs.Choices.{IsSourceOf, IsWhole, IsRead}
 use Rattle.tree_laws.specs.CoverTrees.{event_of}
 use Rattle.cover_judge.specs.declared.choice.Choice.TheVariants as choice

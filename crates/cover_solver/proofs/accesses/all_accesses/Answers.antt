@@ -1,6 +1,6 @@
 use Rattle.std.proofs.Common.{List, Contains, sym, ◌∙◌, subst}
 use Rattle.candidate_executions.specs.declared.event.Event.{Event}
-use Rattle.cover_solver.specs.Accesses.{HasAccesses}
+use Rattle.cover_solver.specs.Internal.Accesses.{HasAccesses}
 use Rattle.cover_judge.proofs.Answered.{if_ok}
 use Rattle.cover_solver.proofs.AccessesNamed.{of_thread, named}
 use Rattle.cover_solver.proofs.accesses.all_accesses.Goals as goal

@@ -1,6 +1,6 @@
 use Rattle.std.proofs.Common.{List, subst}
 use Rattle.cert_forest.specs.declared.tree.AccessId.{AccessId}
-use Rattle.cover_solver.specs.ChoicesLeft.{HasEachSource, IsEachInOrder}
+use Rattle.cover_solver.specs.Internal.ChoicesLeft.{HasEachSource, IsEachInOrder}
 use Rattle.cover_solver.proofs.NothingLeft.{complete_of}
 use Rattle.cover_solver.proofs.choices_left.open_in_whole.Goals as goal
 

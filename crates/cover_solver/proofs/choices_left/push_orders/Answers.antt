@@ -1,6 +1,6 @@
 use Rattle.std.proofs.Common.{List, ◌+◌, drop, get_or, subst}
 use Rattle.cert_forest.specs.declared.tree.AccessId.{AccessId}
-use Rattle.cover_solver.specs.ChoicesLeft.{LeavesNone, IsInOrderWithEach}
+use Rattle.cover_solver.specs.Internal.ChoicesLeft.{LeavesNone, IsInOrderWithEach}
 use Rattle.exec_axioms.proofs.Lookups.{same_default}
 use Rattle.cover_solver.proofs.NothingLeft.{leaves_twice, each_later, rest_is}
 use Rattle.cover_solver.proofs.choices_left.push_orders.Goals as goal

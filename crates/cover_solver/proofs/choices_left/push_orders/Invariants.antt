@@ -1,7 +1,7 @@
 use Rattle.std.proofs.Common.{ℕ, ◌<◌, All, length, get_or}
 use Rattle.cert_forest.specs.declared.tree.AccessId.{AccessId}
 use Rattle.cover_solver.specs.Choices.{IsOpen}
-use Rattle.cover_solver.specs.ChoicesLeft.{LeavesNone, AreWritesInOrder}
+use Rattle.cover_solver.specs.Internal.ChoicesLeft.{LeavesNone, AreWritesInOrder}
 use Rattle.cover_solver.proofs.choices_left.push_orders.Given as goal
 
 -- each of these is open; if the list is empty, the accesses so far are in order with all later ones

@@ -2,7 +2,7 @@ use Rattle.std.proofs.Common.{All, sym, subst, ap, ◌∙◌, arith}
 use Rattle.std.proofs.lemmas.List.Elements.{All-push}
 use Rattle.std.specs.Global.{Vec}
 use Rattle.exec_axioms.proofs.Lookups.{each_more}
-use Rattle.cover_solver.specs.ChoicesLeft.{AreWritesInOrder}
+use Rattle.cover_solver.specs.Internal.ChoicesLeft.{AreWritesInOrder}
 use Rattle.cover_solver.specs.declared.choices_left.OpenChoice.{OpenChoice}
 use Rattle.cover_solver.specs.Choices.{IsOpen}
 use Rattle.cover_solver.proofs.NothingLeft.{leaves_one, leaves_same, of_each}

@@ -1,7 +1,7 @@
 use Rattle.std.proofs.Common.{◌≡◌, ℕ, ◌<◌, All, get_or}
 use Rattle.cert_forest.specs.declared.tree.AccessId.{AccessId}
 use Rattle.cover_solver.specs.Choices.{IsOpen}
-use Rattle.cover_solver.specs.ChoicesLeft.{LeavesNone, AreWritesInOrder}
+use Rattle.cover_solver.specs.Internal.ChoicesLeft.{LeavesNone, AreWritesInOrder}
 use Rattle.cover_solver.proofs.choices_left.push_orders_of.Given as goal
 
 -- each of these is open; if the list is empty, the access is in order with each of those so far

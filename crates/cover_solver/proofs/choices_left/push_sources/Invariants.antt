@@ -3,7 +3,7 @@ use Rattle.cert_forest.specs.declared.tree.AccessId.{AccessId}
 use Rattle.tree_laws.specs.CoverTrees.{event_of}
 use Rattle.run_maker.specs.Complete.{HasItsSource}
 use Rattle.cover_solver.specs.Choices.{IsOpen}
-use Rattle.cover_solver.specs.ChoicesLeft.{LeavesNone}
+use Rattle.cover_solver.specs.Internal.ChoicesLeft.{LeavesNone}
 use Rattle.cover_solver.proofs.choices_left.push_sources.Given as goal
 
 -- each of these is open; if the list is empty, the accesses so far have their sources

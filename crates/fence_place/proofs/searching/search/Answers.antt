@@ -1,6 +1,6 @@
 use Rattle.std.proofs.Common.{◌≡◌, List, sym, subst, arith}
 use Rattle.cover_solver.specs.Facts.{Foreign}
-use Rattle.fence_place.specs.Searches.{AreOf}
+use Rattle.fence_place.specs.Internal.Searches.{AreOf}
 use Rattle.fence_place.proofs.Settling.{start_unheld}
 use Rattle.fence_place.proofs.searching.search.Goals as goal
 

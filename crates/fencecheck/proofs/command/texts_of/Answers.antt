@@ -1,5 +1,5 @@
 use Rattle.cover_judge.proofs.Answered.{err_up}
-use Rattle.fencecheck.specs.Names.{file_names_of}
+use Rattle.fencecheck.specs.Internal.Names.{file_names_of}
 use Rattle.fencecheck.specs.Replies.{IsFilesFault, no_certificate, no_costs}
 use Rattle.fencecheck.proofs.command.texts_of.Goals as goal
 

@@ -1,5 +1,5 @@
 use Rattle.std.proofs.Common.{take}
-use Rattle.litmus_reader.specs.Filling.{FindAllAs}
+use Rattle.litmus_reader.specs.Internal.Filling.{FindAllAs}
 use Rattle.litmus_reader.proofs.jumps.targets_of.Given as goal
 
 -- the labels of the threads so far are found

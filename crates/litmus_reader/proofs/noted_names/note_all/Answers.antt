@@ -6,7 +6,7 @@ use Rattle.litmus_syntax.specs.declared.cell.Cell.{Cell}
 use Rattle.litmus_syntax.specs.declared.place.Place.{Place}
 use Rattle.litmus_syntax.specs.declared.formula.SignAt.{SignAt}
 use Rattle.litmus_syntax.specs.Views.{place_view, entry_view, row_view, sign_at_view}
-use Rattle.litmus_reader.specs.Filling.{noted}
+use Rattle.litmus_reader.specs.Internal.Filling.{noted}
 use Rattle.litmus_reader.specs.Places.{entry_place, row_places, sign_places}
 use Rattle.litmus_reader.proofs.Filled.{noted_parts}
 use Rattle.litmus_reader.proofs.noted_names.note_all.Goals as goal

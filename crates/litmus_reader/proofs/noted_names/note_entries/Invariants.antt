@@ -1,6 +1,6 @@
 use Rattle.std.proofs.Common.{◌≡◌, map, take, fold}
 use Rattle.litmus_syntax.specs.Views.{entry_view}
-use Rattle.litmus_reader.specs.Filling.{noted}
+use Rattle.litmus_reader.specs.Internal.Filling.{noted}
 use Rattle.litmus_reader.specs.Places.{entry_place}
 use Rattle.litmus_reader.proofs.noted_names.note_entries.Given as goal
 

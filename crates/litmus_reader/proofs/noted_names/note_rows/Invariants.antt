@@ -1,7 +1,7 @@
 use Rattle.std.proofs.Common.{◌≡◌, map, take, fold}
 use Rattle.std.specs.List.{flat_map}
 use Rattle.litmus_syntax.specs.Views.{row_view}
-use Rattle.litmus_reader.specs.Filling.{noted}
+use Rattle.litmus_reader.specs.Internal.Filling.{noted}
 use Rattle.litmus_reader.specs.Places.{row_places}
 use Rattle.litmus_reader.proofs.noted_names.note_rows.Given as goal
 

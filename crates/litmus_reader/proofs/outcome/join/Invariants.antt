@@ -1,6 +1,6 @@
 use Rattle.std.proofs.Common.{◌≡◌, take}
 use Rattle.std.specs.List.{join_with_byte}
-use Rattle.litmus_reader.specs.Filling.{texts}
+use Rattle.litmus_reader.specs.Internal.Filling.{texts}
 use Rattle.litmus_reader.proofs.outcome.join.Given as goal
 
 -- the items so far, joined

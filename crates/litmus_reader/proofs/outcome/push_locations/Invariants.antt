@@ -1,5 +1,5 @@
 use Rattle.std.proofs.Common.{◌≡◌, ◌++◌}
-use Rattle.litmus_reader.specs.Filling.{texts}
+use Rattle.litmus_reader.specs.Internal.Filling.{texts}
 use Rattle.litmus_reader.specs.Outcomes.{location_items}
 use Rattle.litmus_reader.proofs.outcome.push_locations.Given as goal
 

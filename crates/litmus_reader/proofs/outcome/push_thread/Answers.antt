@@ -1,6 +1,6 @@
 use Rattle.std.proofs.Common.{List, ◌++◌, get_or, ap, ◌∙◌, ℕ}
 use Rattle.tso_program.specs.declared.instruction.Reg.TheVariants.{Eax}
-use Rattle.litmus_reader.specs.Filling.{texts}
+use Rattle.litmus_reader.specs.Internal.Filling.{texts}
 use Rattle.litmus_reader.specs.Outcomes.{named_item}
 use Rattle.litmus_reader.specs.Names.{all_registers}
 use Rattle.litmus_reader.proofs.Joined.{flat_more}

@@ -1,6 +1,6 @@
 use Rattle.std.proofs.Common.{◌≡◌, ◌++◌, take}
 use Rattle.std.specs.List.{flat_map}
-use Rattle.litmus_reader.specs.Filling.{texts}
+use Rattle.litmus_reader.specs.Internal.Filling.{texts}
 use Rattle.litmus_reader.specs.Outcomes.{named_item}
 use Rattle.litmus_reader.specs.Names.{all_registers}
 use Rattle.litmus_reader.proofs.outcome.push_thread.Given as goal

@@ -1,5 +1,5 @@
 use Rattle.std.proofs.Common.{ℕ, List, [], ◌++◌, get_or, ap, ◌∙◌}
-use Rattle.litmus_reader.specs.Filling.{texts}
+use Rattle.litmus_reader.specs.Internal.Filling.{texts}
 use Rattle.litmus_reader.specs.Outcomes.{thread_items}
 use Rattle.litmus_reader.proofs.Joined.{flat_range_more}
 use Rattle.litmus_reader.proofs.outcome.push_threads.Goals as goal

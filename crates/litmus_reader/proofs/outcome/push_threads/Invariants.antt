@@ -1,5 +1,5 @@
 use Rattle.std.proofs.Common.{◌≡◌, ◌++◌}
-use Rattle.litmus_reader.specs.Filling.{texts}
+use Rattle.litmus_reader.specs.Internal.Filling.{texts}
 use Rattle.litmus_reader.specs.Outcomes.{register_items}
 use Rattle.litmus_reader.proofs.outcome.push_threads.Given as goal
 

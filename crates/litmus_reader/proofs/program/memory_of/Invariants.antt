@@ -1,5 +1,5 @@
 use Rattle.std.proofs.Common.{◌≡◌, take, replicate, fold}
-use Rattle.litmus_reader.specs.Filling.{stored}
+use Rattle.litmus_reader.specs.Internal.Filling.{stored}
 use Rattle.litmus_reader.proofs.program.memory_of.Given as goal
 
 -- memory after the initial values so far

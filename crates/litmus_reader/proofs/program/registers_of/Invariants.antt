@@ -1,5 +1,5 @@
 use Rattle.std.proofs.Common.{◌≡◌, take, replicate, fold}
-use Rattle.litmus_reader.specs.Filling.{with_initial}
+use Rattle.litmus_reader.specs.Internal.Filling.{with_initial}
 use Rattle.litmus_reader.proofs.program.registers_of.Given as goal
 
 -- the registers after the initial values so far

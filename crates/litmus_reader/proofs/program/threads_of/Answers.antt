@@ -8,7 +8,7 @@ use Rattle.tso_program.specs.declared.instruction.Instr.{Instr}
 use Rattle.tso_program.specs.declared.listing.Thread.{Thread}
 use Rattle.litmus_syntax.specs.declared.cell.Cell.{Cell}
 use Rattle.litmus_syntax.specs.Views.{row_view}
-use Rattle.litmus_reader.specs.Filling.{byte_in, byte_at, thread_in}
+use Rattle.litmus_reader.specs.Internal.Filling.{byte_in, byte_at, thread_in}
 use Rattle.litmus_reader.specs.Meaning.{code_in}
 use Rattle.litmus_reader.proofs.program.threads_of.Goals as goal
 

@@ -5,7 +5,7 @@ use Rattle.tso_program.specs.declared.listing.Listing.{Listing}
 use Rattle.tso_machine.specs.Machine.{Mode, start, HasEnded}
 use Rattle.tso_machine.specs.Modes.{mode_of}
 use Rattle.tso_machine.specs.Faults.{IsUnfinished}
-use Rattle.tso_machine.specs.Cores.{Cores, state_of, Fits}
+use Rattle.tso_machine.specs.Internal.Cores.{Cores, state_of, Fits}
 use Rattle.tso_machine.proofs.Link.{state_of_first, first_fits, outcome_is}
 use Rattle.tso_machine.proofs.Refused.{no_fault, one_outcome}
 use Rattle.tso_machine.proofs.Runs.{run_on, passed_on, none_passed, faulted, no_stores_by, none_sequential, match_some, match_none}

@@ -1,7 +1,7 @@
 use Rattle.std.proofs.Common.{◌≡◌, take, Some}
 use Rattle.tso_machine.specs.Machine.{run, start}
 use Rattle.tso_machine.specs.Modes.{mode_of, ArePassed}
-use Rattle.tso_machine.specs.Cores.{state_of, Fits}
+use Rattle.tso_machine.specs.Internal.Cores.{state_of, Fits}
 use Rattle.tso_machine.proofs.replaying.replay.Given as goal
 
 -- the steps so far lead to the state, and pass the gaps passed

@@ -1,6 +1,6 @@
-use Rattle.gap_sets.specs.Bits.{list_of, gaps_of_bits}
+use Rattle.gap_sets.specs.Internal.Bits.{list_of, gaps_of_bits}
 use Rattle.gap_sets.proofs.Listed.{list_of-rises, list_of-gaps_in}
-use Rattle.gap_sets.specs.Bits.{has_bit}
+use Rattle.gap_sets.specs.Internal.Bits.{has_bit}
 use Rattle.gap_sets.proofs.Ranges.{below_end}
 use Rattle.std.proofs.Common.{refl}
 use Rattle.gap_sets.proofs.gap_set.GapSet.iter.Goals as goal

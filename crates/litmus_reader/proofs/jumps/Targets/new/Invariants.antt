@@ -1,5 +1,5 @@
 use Rattle.std.proofs.Common.{◌≡◌, [], take, fold}
-use Rattle.litmus_reader.specs.Filling.{with_label}
+use Rattle.litmus_reader.specs.Internal.Filling.{with_label}
 use Rattle.litmus_reader.proofs.jumps.Targets.new.Given as goal
 
 -- the labels so far are added

@@ -4,7 +4,7 @@ use Rattle.std.proofs.lemmas.List.{with_items_is}
 use Rattle.tso_program.specs.declared.listing.Listing.{Listing}
 use Rattle.tso_program.specs.Fences.{gaps_in}
 use Rattle.tso_program.specs.Listings.{action}
-use Rattle.tso_machine.specs.Cores.{Core, Cores, Fits, no_core}
+use Rattle.tso_machine.specs.Internal.Cores.{Core, Cores, Fits, no_core}
 use Rattle.tso_machine.proofs.Link.{read_is}
 use Rattle.tso_machine.proofs.Effects.{IsNext, exec_done, on_ok}
 use Rattle.tso_machine.proofs.state.State.exec.Goals as goal

@@ -1,5 +1,5 @@
 use Rattle.std.proofs.Common.{ap, length, arith}
-use Rattle.tso_machine.specs.Cores.{Cores, Fits}
+use Rattle.tso_machine.specs.Internal.Cores.{Cores, Fits}
 use Rattle.tso_machine.proofs.Runs.{all_ended}
 use Rattle.tso_machine.proofs.state.State.unfinished.Goals as goal
 

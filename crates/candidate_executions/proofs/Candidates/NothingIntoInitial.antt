@@ -1,0 +1,112 @@
+-- No edge leads into an initial write, so no cycle passes through one.
+use Rattle.std.proofs.Common.{◌≡◌, ℕ, zero, suc, ◌<◌, List, [], ◌∷◌, Option, Some, None, IsSome, Contains, refl, sym, ap, ◌∙◌, subst, inl, inr, arith}
+use Rattle.std.proofs.lemmas.Option.{same_Some}
+use Rattle.tso_program.specs.declared.listing.Listing.{Listing}
+use Rattle.tso_machine.specs.Machine.{Mode}
+use Rattle.candidate_executions.specs.declared.access.Access.{Access}
+use Rattle.candidate_executions.specs.declared.event.Event.{Event}
+use Rattle.candidate_executions.specs.declared.event.Event.TheVariants.{Initial, Access as At}
+use Rattle.candidate_executions.specs.declared.event.Kind.{Kind}
+use Rattle.candidate_executions.specs.declared.event.Kind.TheVariants as union
+use Rattle.candidate_executions.specs.Candidates.{Candidate, access, access_by, IsCandidate}
+use Rattle.candidate_executions.specs.Consistency.{Precedes, WriteOrder, FromReads, Edge, Leads, IsCycle}
+use Rattle.candidate_executions.specs.Sketches.{Sketch, IsSketch, IsBefore, KnownEdge}
+use Rattle.candidate_executions.specs.Laws.{NoEdgeLeadsIntoInitial, CyclesAreOfAccesses, NoKnownEdgeLeadsIntoInitial, KnownCyclesAreOfAccesses}
+use Rattle.candidate_executions.proofs.Candidates.WrittenValues.{stored_as, some_written}
+
+no_order : (d : Event) (l : ℕ) → Precedes d (Initial l) → ⊥
+no_order (Initial k) l h = h
+no_order (At t i) l h = h
+
+unread : (y : Access) → y.read ≡ None → IsSome y.read → ⊥
+unread y q h = let z : IsSome {T = ℕ} None = rw q at h in cc
+
+module _ (p : Listing) (mode : Mode) (c : Candidate) (is : IsCandidate p mode c) where
+  least : (e : Event) (x y : Access) (l : ℕ) → access p mode c e ≡ Some x → x.location ≡ y.location → IsSome x.written →
+      access p mode c (Initial l) ≡ Some y → c.rank e < c.rank (Initial l) → ⊥
+  least e x y l a q w b n =
+      let z : y.location ≡ l = sym (ap (λ (z : Access). z.location) (same_Some _ y b)) in
+      let le = is.initial e l (stored_as x.written) (x, a, q ∙ z, some_written x.written w) in omega arith
+
+  no_write_order : (d : Event) (l : ℕ) (x y : Access) → access p mode c d ≡ Some x → access p mode c (Initial l) ≡ Some y → WriteOrder c d x (Initial l) y → ⊥
+  no_write_order d l x y a b r = least d x y l a r.0 r.1 b r.3
+
+  no_from_reads : (d : Event) (l : ℕ) (x y : Access) → access p mode c d ≡ Some x → access p mode c (Initial l) ≡ Some y → FromReads c d x (Initial l) y → ⊥
+  no_from_reads d l x y a b r = go x.read refl
+    where
+      go : (o : Option ℕ) → x.read ≡ o → ⊥
+      go None q = unread x q r.1
+      go (Some v) q = let s = (is.sources d x v a q).1 in least (c.source d) s.0 y l s.1 (s.2 ∙ r.0) (rw s.3 refl) b r.4
+
+  no_read : (l : ℕ) (y : Access) → access p mode c (Initial l) ≡ Some y → IsSome y.read → ⊥
+  no_read l y b h = unread y (sym (ap (λ (z : Access). z.read) (same_Some _ y b))) h
+
+  pub no_edge : (kind : Kind) (d : Event) (l : ℕ) → Edge p mode c kind d (Initial l) → ⊥
+  no_edge union.Sequential d l (x, y, a, b, inl r) = no_order d l r
+  no_edge union.Sequential d l (x, y, a, b, inr (inl r)) = no_read l y b r.0
+  no_edge union.Sequential d l (x, y, a, b, inr (inr (inl r))) = no_write_order d l x y a b r
+  no_edge union.Sequential d l (x, y, a, b, inr (inr (inr r))) = no_from_reads d l x y a b r
+  no_edge union.Location d l (x, y, a, b, inl r) = no_order d l r.0
+  no_edge union.Location d l (x, y, a, b, inr (inl r)) = no_read l y b r.0
+  no_edge union.Location d l (x, y, a, b, inr (inr (inl r))) = no_write_order d l x y a b r
+  no_edge union.Location d l (x, y, a, b, inr (inr (inr r))) = no_from_reads d l x y a b r
+  no_edge union.Global d l (x, y, a, b, inl r) = no_order d l r.0
+  no_edge union.Global d l (x, y, a, b, inr (inl r)) = no_read l y b r.0.0
+  no_edge union.Global d l (x, y, a, b, inr (inr (inl r))) = no_write_order d l x y a b r
+  no_edge union.Global d l (x, y, a, b, inr (inr (inr r))) = no_from_reads d l x y a b r
+
+-- on a way from an event every other event has an edge that leads into it
+module _ (R : Event → Event → Type 0) (x : Event) (closed : (d : Event) → R d x → ⊥) where
+  no_end : (d : Event) (es : List Event) → Leads R d es x → ⊥
+  no_end d [] r = closed d r
+  no_end d (e ∷ es) r = no_end e es r.1
+
+  not_passed : (d z : Event) (es : List Event) → Leads R d es z → Contains es x → ⊥
+  not_passed d z [] r h = let n = h.1 in omega arith
+  not_passed d z (e ∷ es) r (zero, n, q) = closed d (subst (R d) q r.0)
+  not_passed d z (e ∷ es) r (suc k, n, q) = not_passed e z es r.1 (k, omega arith, q)
+
+  pub not_in_cycle : (es : List Event) → IsCycle R es → Contains es x → ⊥
+  not_in_cycle [] r h = r
+  not_in_cycle (e ∷ es) r (zero, n, q) = no_end e es (subst (Leads R e es) q r)
+  not_in_cycle (e ∷ es) r (suc k, n, q) = not_passed e e es r (k, omega arith, q)
+
+-- the same of known edges
+module _ (p : Listing) (mode : Mode) (k : Sketch) (fits : IsSketch p mode k) where
+  no_before : (d : Event) (l : ℕ) (y : Access) → access_by p mode k.given (Initial l) ≡ Some y → IsBefore k d (Initial l) y → ⊥
+  no_before d l y b (inl h) = let (m, v, w, wd, we, nd, ne) = (fits.pairs d (Initial l) h).1 in
+      let same : m ≡ l = sym we.2 ∙ sym (ap (λ (z : Access). z.location) (same_Some _ we.0 we.1)) in
+      ne (ap Initial (sym same))
+  no_before d l y b (inr h) =
+      let same : l ≡ y.location = ap (λ (z : Access). z.location) (same_Some _ y b) in
+      h.1 (ap Initial same ∙ sym h.0)
+
+  no_source : (d : Event) (l : ℕ) → Contains k.sources (Initial l, d) → ⊥
+  no_source d l h = let (x, v, a, r, ne, w) = fits.sources (Initial l) d h in
+      unread x (sym (ap (λ (z : Access). z.read) (same_Some _ x a))) (rw r refl)
+
+  pub no_known_edge : (kind : Kind) (d : Event) (l : ℕ) → KnownEdge p mode k kind d (Initial l) → ⊥
+  no_known_edge union.Sequential d l (x, y, a, b, inl r) = no_order d l r
+  no_known_edge union.Sequential d l (x, y, a, b, inr (inl r)) = no_source d l r
+  no_known_edge union.Sequential d l (x, y, a, b, inr (inr (inl r))) = no_before d l y b r
+  no_known_edge union.Sequential d l (x, y, a, b, inr (inr (inr r))) = no_before r.0 l y b r.2
+  no_known_edge union.Location d l (x, y, a, b, inl r) = no_order d l r.0
+  no_known_edge union.Location d l (x, y, a, b, inr (inl r)) = no_source d l r
+  no_known_edge union.Location d l (x, y, a, b, inr (inr (inl r))) = no_before d l y b r
+  no_known_edge union.Location d l (x, y, a, b, inr (inr (inr r))) = no_before r.0 l y b r.2
+  no_known_edge union.Global d l (x, y, a, b, inl r) = no_order d l r.0
+  no_known_edge union.Global d l (x, y, a, b, inr (inl r)) = no_source d l r.0
+  no_known_edge union.Global d l (x, y, a, b, inr (inr (inl r))) = no_before d l y b r
+  no_known_edge union.Global d l (x, y, a, b, inr (inr (inr r))) = no_before r.0 l y b r.2
+
+pub no_edge_into_initial : NoEdgeLeadsIntoInitial
+no_edge_into_initial p mode c kind d l is h = no_edge p mode c is kind d l h
+
+pub cycles_of_accesses : CyclesAreOfAccesses
+cycles_of_accesses p mode c kind es l is h has = not_in_cycle (Edge p mode c kind) (Initial l) (λ d r. no_edge p mode c is kind d l r) es h has
+
+pub no_known_edge_into_initial : NoKnownEdgeLeadsIntoInitial
+no_known_edge_into_initial p mode k kind d l fits h = no_known_edge p mode k fits kind d l h
+
+pub known_cycles_of_accesses : KnownCyclesAreOfAccesses
+known_cycles_of_accesses p mode k kind es l fits h has = not_in_cycle (KnownEdge p mode k kind) (Initial l) (λ d r. no_known_edge p mode k fits kind d l r) es h has

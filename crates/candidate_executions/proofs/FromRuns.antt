@@ -1,0 +1,24 @@
+-- From a run to a candidate: the run leaves a history, whose edges go forward in time.
+pub mod Histories
+pub mod HistoriesGrow
+pub mod CandidateOfHistory
+pub mod EdgesGoForward
+pub mod MachineSteps
+pub mod FlushesDue
+pub mod NewestStore
+pub mod StoredValues
+pub mod FoundWrites
+pub mod PairsOfMarks
+pub mod MarksAlong
+pub mod RunInvariant
+pub mod SeenByReads
+pub mod ReadsKeepInvariant
+pub mod StoresKeepInvariant
+pub mod FlushesKeepInvariant
+pub mod MarksOfHistories
+pub mod StepsSuffice
+pub mod RunsAreShort
+pub mod RunsLeaveHistories
+pub mod SequentialIsBuffered
+pub mod OtherSections
+pub mod RunsAreCandidates

@@ -1,0 +1,267 @@
+-- Edges go forward in moments, so a good history has no cycle.
+use Rattle.std.proofs.Common.{◌≡◌, ◌≢◌, ℕ, suc, ◌<◌, ◌≤◌, List, ◌⊎◌, Option, Some, None, IsSome, slice_get, refl, sym, ap, ◌∙◌, subst, inl, inr, arith}
+use Rattle.std.proofs.lemmas.Bool.{cases_order}
+use Rattle.candidate_executions.specs.declared.access.Access.{Access}
+use Rattle.candidate_executions.specs.declared.event.Event.{Event}
+use Rattle.candidate_executions.specs.declared.event.Event.TheVariants.{Initial, Access as At}
+use Rattle.candidate_executions.specs.declared.event.Kind.TheVariants as union
+use Rattle.candidate_executions.specs.Consistency.{KeepsOrder, Precedes, SameThread, Relates, IsAcyclic, WriteOrder, FromReads}
+use Rattle.candidate_executions.proofs.Orders.Lists.{some_value}
+use Rattle.candidate_executions.proofs.FromRuns.Histories.{Entry, History, Holds, Visible, Good}
+use Rattle.candidate_executions.proofs.Orders.ForwardIsAcyclic.{Pair, Less, near, nearer, acyclic_by}
+use Rattle.candidate_executions.proofs.FromRuns.CandidateOfHistory.{moment_of_entry, moment_of, source_of_entry, source_of, candidate_with, key_of_entry, key_of, Shows, mapped}
+
+module _ (init : ℕ → ℕ) (h : History) (good : Good init h) (at : Event → Option Access) (shows : Shows at h) where
+  pub at_thread : (t i : ℕ) (x : Access) → at (At t i) ≡ Some x → (e : Entry) × Holds h t i e × (x ≡ e.access)
+  at_thread t i x a = mapped (slice_get (h t) i) x (sym (shows.of_thread t i) ∙ a)
+
+  pub moment_at : (t i : ℕ) (e : Entry) → Holds h t i e → moment_of h (At t i) ≡ e.moment
+  moment_at t i e a = ap moment_of_entry a
+
+  pub source_at : (t i : ℕ) (e : Entry) → Holds h t i e → source_of h (At t i) ≡ e.source
+  source_at t i e a = ap source_of_entry a
+
+  key_at : (t i : ℕ) (e : Entry) → Holds h t i e → key_of h (At t i) ≡ key_of_entry (Some e)
+  key_at t i e a = ap key_of_entry a
+
+  -- the source's moment
+  pub seen_at : (t i : ℕ) (e : Entry) → Holds h t i e → IsSome e.access.read → moment_of h (source_of h (At t i)) ≡ e.seen
+  seen_at t i e a r = go (some_value e.access.read r)
+    where
+      go : (v : ℕ) × (e.access.read ≡ Some v) → moment_of h (source_of h (At t i)) ≡ e.seen
+      go v = elim (good.source t i e v.0 a v.1) [
+        | inl f ↦ ap (moment_of h) (source_at t i e a ∙ f.is_source) ∙ sym f.seen
+        | inr s ↦ ap (moment_of h) (source_at t i e a ∙ s.is_source) ∙ (moment_at s.thread s.index s.write s.holds ∙ sym s.seen)
+      ]
+
+  -- from-reads goes forward in moments
+  from_read : (t i u j : ℕ) (e w : Entry) → Holds h t i e → Holds h u j w → IsSome e.access.read → IsSome w.access.written →
+      e.access.location ≡ w.access.location → At t i ≢ At u j → e.seen < w.moment → e.moment < w.moment
+  from_read t i u j e w a b r s l n m =
+      let p : e.moment ≡ e.exec = good.prompt t i e a r in
+      elim (cases_order w.moment e.moment) [
+        | inl q ↦ absurd (let z : (u ≡ t) × (j ≡ i) = good.apart u j t i w e b a q in let z0 : u ≡ t = z.0 in let z1 : j ≡ i = z.1 in n cc)
+        | inr (inl q) ↦ absurd (let z : w.moment ≤ e.seen = good.latest u j t i w e b a r s (sym l) (inl (omega arith)) in omega arith)
+        | inr (inr q) ↦ q
+      ]
+
+  -- an edge of write order or from-reads goes forward in moments
+  memory_forward : (given : ℕ → List ℕ) (d e : Event) (x y : Access) → at d ≡ Some x → at e ≡ Some y →
+      WriteOrder (candidate_with h given) d x e y ⊎ FromReads (candidate_with h given) d x e y → moment_of h d < moment_of h e
+  memory_forward given d e x y a b (inl o) = o.3
+  memory_forward given d e x y a b (inr f) = go d e a b f.0 f.2 f.1 f.3 f.4
+    where
+      go : (d e : Event) → at d ≡ Some x → at e ≡ Some y → x.location ≡ y.location → IsSome y.written → IsSome x.read → d ≢ e →
+          moment_of h (source_of h d) < moment_of h e → moment_of h d < moment_of h e
+      go (Initial l) e a b q w r n k = k
+      go (At t i) (Initial l) a b q w r n k = absurd (omega arith)
+      go (At t i) (At u j) a b q w r n k =
+          let (f, fh, fx) = at_thread t i x a in
+          let (g, gh, gy) = at_thread u j y b in
+          let r' : IsSome f.access.read = rw fx at r in
+          let w' : IsSome g.access.written = rw gy at w in
+          let q' : f.access.location ≡ g.access.location = sym (ap (λ (z : Access). z.location) fx) ∙ (q ∙ ap (λ (z : Access). z.location) gy) in
+          let k' : f.seen < g.moment = rw (seen_at t i f fh r', moment_at u j g gh) at k in
+          rw (moment_at t i f fh, moment_at u j g gh) (from_read t i u j f g fh gh r' w' q' n k')
+
+  global_forward : (given : ℕ → List ℕ) (d e : Event) (x y : Access) → at d ≡ Some x → at e ≡ Some y →
+      Relates (candidate_with h given) union.Global d x e y → moment_of h d < moment_of h e
+  global_forward given d e x y a b (inl p) = go d e a b p.0 p.1
+    where
+      go : (d e : Event) → at d ≡ Some x → at e ≡ Some y → Precedes d e → KeepsOrder x y → moment_of h d < moment_of h e
+      go (Initial l) e a b p k = absurd p
+      go (At t i) (Initial l) a b p k = absurd p
+      go (At t i) (At u j) a b p k =
+          let (f, fh, fx) = at_thread t i x a in
+          let (g, gh, gy) = at_thread u j y b in
+          let fh' : Holds h u i f = subst (λ z. Holds h z i f) p.0 fh in
+          let k' : KeepsOrder f.access g.access = rw (fx, gy) at k in
+          rw (moment_at t i f fh, moment_at u j g gh) (good.kept u i j f g fh' gh p.1 k')
+  global_forward given d e x y a b (inr (inl r)) = go d e a b r.0.0 r.0.1 r.1
+    where
+      go : (d e : Event) → at d ≡ Some x → at e ≡ Some y → IsSome y.read → source_of h e ≡ d → (SameThread d e → ⊥) → moment_of h d < moment_of h e
+      go d (Initial l) a b r s n = let z = shows.of_initial l y b in let z0 : y.read ≡ None = z.0 in let bad : IsSome {T = ℕ} None = rw z0 at r in absurd cc
+      go d (At t i) a b r s n =
+          let (g, gh, gy) = at_thread t i y b in
+          let r' : IsSome g.access.read = rw gy at r in
+          let v = some_value g.access.read r' in
+          let m : g.moment ≡ g.exec = good.prompt t i g gh r' in
+          let first : 0 < g.exec = good.first t i g gh in
+          let s' : g.source ≡ d = sym (source_at t i g gh) ∙ s in
+          let goal : moment_of h d < g.moment = elim (good.source t i g v.0 gh v.1) [
+            | inl f ↦ (let e : d ≡ Initial g.access.location = sym s' ∙ f.is_source in rw e (omega arith))
+            | inr w ↦ (let e : d ≡ At w.thread w.index = sym s' ∙ w.is_source in
+                elim w.visible [
+                  | inl q ↦ rw (e, moment_at w.thread w.index w.write w.holds) (omega arith)
+                  | inr q ↦ absurd (n (rw e q.0))
+                ])
+          ] in
+          rw (moment_at t i g gh) goal
+  global_forward given d e x y a b (inr (inr m)) = memory_forward given d e x y a b m
+
+  -- the keys of a load and of a write
+  abbrev load_key : Entry → Pair
+  load_key e = (e.seen, suc e.exec)
+
+  abbrev write_key : Entry → Pair
+  write_key e = (e.moment, 0)
+
+  -- a load has read, and what has not written is a load
+  key_cases : (t i : ℕ) (e : Entry) → Holds h t i e →
+      (IsSome e.access.written × (key_of h (At t i) ≡ write_key e)) ⊎ (IsSome e.access.read × (key_of h (At t i) ≡ load_key e))
+  key_cases t i e a = go e.access.written refl
+    where
+      go : (o : Option ℕ) → e.access.written ≡ o →
+          (IsSome e.access.written × (key_of h (At t i) ≡ write_key e)) ⊎ (IsSome e.access.read × (key_of h (At t i) ≡ load_key e))
+      go (Some v) q = inl (rw q refl, key_at t i e a ∙ rw q refl)
+      go None q = inr (elim (good.acts t i e a) [ inl r ↦ r | inr w ↦ (let bad : IsSome {T = ℕ} None = rw q at w in absurd cc) ], key_at t i e a ∙ rw q refl)
+
+  -- of an earlier and a later access of one thread to one location
+  place_forward : (t j i : ℕ) (d e : Entry) → Holds h t j d → Holds h t i e → j < i → d.access.location ≡ e.access.location →
+      Less (key_of h (At t j)) (key_of h (At t i))
+  place_forward t j i d e dh eh n l =
+      let before : d.exec < e.exec = good.order t j i d e dh eh n in
+      let late : e.exec ≤ e.moment = good.delay t i e eh in
+      elim (key_cases t j d dh) [
+        | inl dw ↦ elim (key_cases t i e eh) [
+          | inl ew ↦ rw (dw.1, ew.1) (inl (good.kept t j i d e dh eh n (inr (inl ew.0))))
+          | inr er ↦ (let m : d.moment ≤ e.seen = good.latest t j t i d e dh eh er.0 dw.0 l (inr (refl, n)) in
+              rw (dw.1, er.1) (near d.moment e.seen e.exec m))
+        ]
+        | inr dr ↦ (let v = some_value d.access.read dr.0 in
+            elim (key_cases t i e eh) [
+              | inl ew ↦ (let goal : d.seen < e.moment = elim (good.source t j d v.0 dh v.1) [
+                | inl f ↦ (let z = f.seen in let y = good.first t j d dh in omega arith)
+                | inr s ↦ (let z = s.seen in elim s.visible [
+                  | inl q ↦ omega arith
+                  | inr q ↦ (let same : Holds h t s.index s.write = subst (λ u. Holds h u s.index s.write) q.0 s.holds in
+                      let k : s.write.moment < e.moment = good.kept t s.index i s.write e same eh (omega arith) (inr (inl ew.0)) in omega arith)
+                ])
+              ] in rw (dr.1, ew.1) (inl goal))
+              | inr er ↦ (let goal : d.seen ≤ e.seen = elim (good.source t j d v.0 dh v.1) [
+                | inl f ↦ (let z = f.seen in omega arith)
+                | inr s ↦ (let z = s.seen in
+                    let w : IsSome s.write.access.written = rw s.written refl in
+                    let vis : Visible s.thread s.index s.write.moment t i e.exec = elim s.visible [ inl q ↦ inl (omega arith) | inr q ↦ inr (q.0, omega arith) ] in
+                    let k : s.write.moment ≤ e.seen = good.latest s.thread s.index t i s.write e s.holds eh er.0 w (s.location ∙ l) vis in omega arith)
+              ] in rw (dr.1, er.1) (nearer d.seen e.seen (suc d.exec) (suc e.exec) goal (omega arith)))
+            ])
+      ]
+
+  written_key : (t i : ℕ) (e : Entry) → Holds h t i e → IsSome e.access.written → key_of h (At t i) ≡ write_key e
+  written_key t i e a w = go (some_value e.access.written w)
+    where
+      go : (v : ℕ) × (e.access.written ≡ Some v) → key_of h (At t i) ≡ write_key e
+      go v = key_at t i e a ∙ rw v.1 refl
+
+  key_written : (d : Event) (x : Access) → at d ≡ Some x → IsSome x.written → key_of h d ≡ (moment_of h d, 0)
+  key_written (Initial l) x a w = refl
+  key_written (At t i) x a w =
+      let (f, fh, fx) = at_thread t i x a in
+      let w' : IsSome f.access.written = rw fx at w in
+      written_key t i f fh w' ∙ rw (moment_at t i f fh) refl
+
+  read_forward : (t i : ℕ) (e : Entry) → Holds h t i e → IsSome e.access.read → Less (key_of h (source_of h (At t i))) (key_of h (At t i))
+  read_forward t i e eh r = go (some_value e.access.read r)
+    where
+      first : 0 < e.exec
+      first = good.first t i e eh
+
+      late : e.exec ≤ e.moment
+      late = good.delay t i e eh
+
+      go : (v : ℕ) × (e.access.read ≡ Some v) → Less (key_of h (source_of h (At t i))) (key_of h (At t i))
+      go v = elim (good.source t i e v.0 eh v.1) [
+        | inl f ↦ rw (source_at t i e eh, f.is_source) (elim (key_cases t i e eh) [
+          | inl w ↦ rw w.1 (inl (omega (arith, first, late)))
+          | inr l ↦ rw l.1 (near 0 e.seen e.exec (omega arith))
+        ])
+        | inr s ↦ (let w' : IsSome s.write.access.written = rw s.written refl in
+            let seen : e.seen ≡ s.write.moment = s.seen in
+            rw (source_at t i e eh, s.is_source, written_key s.thread s.index s.write s.holds w') (elim (key_cases t i e eh) [
+              | inl w ↦ rw w.1 (inl (elim s.visible [
+                | inl q ↦ omega (arith, late)
+                | inr q ↦ (let same : Holds h t s.index s.write = subst (λ u. Holds h u s.index s.write) q.0 s.holds in
+                    good.kept t s.index i s.write e same eh q.1 (inr (inl w.0)))
+              ]))
+              | inr l ↦ rw l.1 (near s.write.moment e.seen e.exec (omega arith))
+            ]))
+      ]
+
+  location_forward : (given : ℕ → List ℕ) (d e : Event) (x y : Access) → at d ≡ Some x → at e ≡ Some y →
+      Relates (candidate_with h given) union.Location d x e y → Less (key_of h d) (key_of h e)
+  location_forward given d e x y a b (inl p) = go d e a b p.0 p.1
+    where
+      go : (d e : Event) → at d ≡ Some x → at e ≡ Some y → Precedes d e → x.location ≡ y.location → Less (key_of h d) (key_of h e)
+      go (Initial l) e a b p q = absurd p
+      go (At t i) (Initial l) a b p q = absurd p
+      go (At t i) (At u j) a b p q =
+          let (f, fh, fx) = at_thread t i x a in
+          let (g, gh, gy) = at_thread u j y b in
+          let fh' : Holds h u i f = subst (λ z. Holds h z i f) p.0 fh in
+          let q' : f.access.location ≡ g.access.location = sym (ap (λ (z : Access). z.location) fx) ∙ (q ∙ ap (λ (z : Access). z.location) gy) in
+          subst (λ z. Less (key_of h (At z i)) (key_of h (At u j))) (sym p.0) (place_forward u i j f g fh' gh p.1 q')
+  location_forward given d e x y a b (inr (inl r)) = go d e b r.0 r.1
+    where
+      go : (d e : Event) → at e ≡ Some y → IsSome y.read → source_of h e ≡ d → Less (key_of h d) (key_of h e)
+      go d (Initial l) b r s = let z = shows.of_initial l y b in let z0 : y.read ≡ None = z.0 in let bad : IsSome {T = ℕ} None = rw z0 at r in absurd cc
+      go d (At t i) b r s =
+          let (g, gh, gy) = at_thread t i y b in
+          let r' : IsSome g.access.read = rw gy at r in
+          subst (λ z. Less (key_of h z) (key_of h (At t i))) s (read_forward t i g gh r')
+  location_forward given d e x y a b (inr (inr (inl o))) = rw (key_written d x a o.1, key_written e y b o.2) (inl o.3)
+  location_forward given d e x y a b (inr (inr (inr f))) = rw (key_written e y b f.2) (go d a f.1 f.4 (memory_forward given d e x y a b (inr f)))
+    where
+      go : (d : Event) → at d ≡ Some x → IsSome x.read → moment_of h (source_of h d) < moment_of h e → moment_of h d < moment_of h e → Less (key_of h d) (moment_of h e, 0)
+      go (Initial l) a r k n = inl n
+      go (At t i) a r k n =
+          let (f, fh, fx) = at_thread t i x a in
+          let r' : IsSome f.access.read = rw fx at r in
+          let k' : f.seen < moment_of h e = rw (seen_at t i f fh r') at k in
+          let n' : f.moment < moment_of h e = rw (moment_at t i f fh) at n in
+          elim (key_cases t i f fh) [ inl w ↦ rw w.1 (inl n') | inr l ↦ rw l.1 (inl k') ]
+
+  pub global_acyclic : (given : ℕ → List ℕ) → IsAcyclic (λ d e. (x : Access) × (y : Access) × (at d ≡ Some x) × (at e ≡ Some y) × Relates (candidate_with h given) union.Global d x e y)
+  global_acyclic given = acyclic_by _ (λ e. (moment_of h e, 0)) (λ d e r. inl (global_forward given d e r.0 r.1 r.2 r.3 r.4))
+
+  pub location_acyclic : (given : ℕ → List ℕ) → IsAcyclic (λ d e. (x : Access) × (y : Access) × (at d ≡ Some x) × (at e ≡ Some y) × Relates (candidate_with h given) union.Location d x e y)
+  location_acyclic given = acyclic_by _ (key_of h) (λ d e r. location_forward given d e r.0 r.1 r.2 r.3 r.4)
+
+  -- where all program order goes forward in moments, so does each edge of the whole union
+  module _ (all : (t j i : ℕ) (d e : Entry) → Holds h t j d → Holds h t i e → j < i → d.moment < e.moment) where
+    whole_forward : (given : ℕ → List ℕ) (d e : Event) (x y : Access) → at d ≡ Some x → at e ≡ Some y →
+        Relates (candidate_with h given) union.Sequential d x e y → moment_of h d < moment_of h e
+    whole_forward given d e x y a b (inl p) = go d e a b p
+      where
+        go : (d e : Event) → at d ≡ Some x → at e ≡ Some y → Precedes d e → moment_of h d < moment_of h e
+        go (Initial l) e a b p = absurd p
+        go (At t i) (Initial l) a b p = absurd p
+        go (At t i) (At u j) a b p =
+            let (f, fh, fx) = at_thread t i x a in
+            let (g, gh, gy) = at_thread u j y b in
+            let fh' : Holds h u i f = subst (λ z. Holds h z i f) p.0 fh in
+            rw (moment_at t i f fh, moment_at u j g gh) (all u i j f g fh' gh p.1)
+    whole_forward given d e x y a b (inr (inl r)) = go d e a b r.0 r.1
+      where
+        inside : (t i : ℕ) (g : Entry) (v : ℕ) → Holds h t i g → g.access.read ≡ Some v → moment_of h g.source < g.moment
+        inside t i g v gh r = elim (good.source t i g v gh r) [
+          | inl f ↦ (let z = good.first t i g gh in let k = good.delay t i g gh in rw f.is_source (omega arith))
+          | inr s ↦ (let m : g.moment ≡ g.exec = good.prompt t i g gh (rw r refl) in
+              rw (s.is_source, moment_at s.thread s.index s.write s.holds) (elim s.visible [
+                | inl q ↦ omega arith
+                | inr q ↦ all t s.index i s.write g (subst (λ u. Holds h u s.index s.write) q.0 s.holds) gh q.1
+              ]))
+        ]
+
+        go : (d e : Event) → at d ≡ Some x → at e ≡ Some y → IsSome y.read → source_of h e ≡ d → moment_of h d < moment_of h e
+        go d (Initial l) a b r s = let z = shows.of_initial l y b in let z0 : y.read ≡ None = z.0 in let bad : IsSome {T = ℕ} None = rw z0 at r in absurd cc
+        go d (At t i) a b r s =
+            let (g, gh, gy) = at_thread t i y b in
+            let r' : IsSome g.access.read = rw gy at r in
+            let v = some_value g.access.read r' in
+            let e : g.source ≡ d = sym (source_at t i g gh) ∙ s in
+            rw (moment_at t i g gh) (subst (λ z. moment_of h z < g.moment) e (inside t i g v.0 gh v.1))
+    whole_forward given d e x y a b (inr (inr m)) = memory_forward given d e x y a b m
+
+    pub whole_acyclic : (given : ℕ → List ℕ) → IsAcyclic (λ d e. (x : Access) × (y : Access) × (at d ≡ Some x) × (at e ≡ Some y) × Relates (candidate_with h given) union.Sequential d x e y)
+    whole_acyclic given = acyclic_by _ (λ e. (moment_of h e, 0)) (λ d e r. inl (whole_forward given d e r.0 r.1 r.2 r.3 r.4))

@@ -1,0 +1,141 @@
+-- A flush keeps the invariant of a run.
+use Rattle.std.proofs.Common.{◌≡◌, ℕ, suc, zero, ◌≤◌, List, [], ◌∷◌, ◌⊎◌, Some, slice_get, refl, sym, ap, ◌∙◌, subst, inl, inr, arith, length, eq-eqb, ne_eqb}
+use Rattle.std.proofs.lemmas.Bool.{cases_lt, cases_eq}
+use Rattle.std.proofs.lemmas.Option.{same_Some}
+use Rattle.tso_machine.specs.Machine.{put}
+use Rattle.tso_machine.specs.declared.label.Label.{Label}
+use Rattle.tso_machine.specs.declared.label.Label.TheVariants.{Flush}
+use Rattle.tso_machine.specs.declared.label.Pending.{Pending}
+use Rattle.candidate_executions.specs.declared.event.Event.{Event}
+use Rattle.candidate_executions.specs.declared.event.Event.TheVariants.{Access as At}
+use Rattle.candidate_executions.specs.RunCandidates.{Origins, with_waiting, with_memory}
+use Rattle.candidate_executions.proofs.FromRuns.Histories.{Entry, History, Holds}
+use Rattle.candidate_executions.proofs.Orders.Lists.{put_same, put_other}
+use Rattle.candidate_executions.proofs.FromRuns.FlushesDue.{due, due_late}
+use Rattle.candidate_executions.proofs.FromRuns.RunInvariant.{Latest, Stored, Waiting, Inv}
+
+module _ (init : ℕ → ℕ) (h : History) (buffers : ℕ → List Pending) (memory : ℕ → ℕ) (o : Origins) (n : ℕ) (section : ℕ → ℕ) where
+  -- a flush
+  due_same : (t : ℕ) (ls : List Label) → due t n (Flush t ∷ ls) ≡ n ∷ due t (suc n) ls
+  due_same t ls = rw (eq-eqb t t refl) refl
+
+  due_other : (t u : ℕ) (ls : List Label) → (u ≡ t → ⊥) → due u n (Flush t ∷ ls) ≡ due u (suc n) ls
+  due_other t u ls q = rw (ne_eqb t u (λ e. q (sym e))) refl
+
+  module _ (t : ℕ) (w : Pending) (ws : List Pending) (ls : List Label) (full : buffers t ≡ w ∷ ws) (inv : Inv init h buffers memory o n section (Flush t ∷ ls)) where
+    pub head : Stored h t (o.waiting t) (n ∷ due t (suc n) ls) 0 w
+    head = rw due_same at (inv.stored t 0 w (rw full refl))
+
+    -- the stores that wait on
+    pub others_wait : (xs : List (ℕ × Event)) × (o.waiting t ≡ (w.location, At t head.index) ∷ xs)
+    others_wait = go (o.waiting t) head.tag
+      where
+        go : (es : List (ℕ × Event)) → slice_get es 0 ≡ Some (w.location, At t head.index) → (xs : List (ℕ × Event)) × (es ≡ (w.location, At t head.index) ∷ xs)
+        go [] e = absurd cc
+        go (x ∷ xs) e = (xs, ap (λ z. z ∷ xs) (same_Some x (w.location, At t head.index) e))
+
+    abbrev pub after_it : Origins
+    after_it = with_memory (with_waiting o t others_wait.0) w.location (At t head.index)
+
+    waits : (u i : ℕ) (e : Entry) → Holds h u i e → n ≤ e.moment → ((u ≡ t) × (e.moment ≡ n) × (e.access.location ≡ w.location)) ⊎
+        ((suc n ≤ e.moment) × Waiting (put buffers t ws u) (due u (suc n) ls) (section u) e)
+    waits u i e a b = elim (cases_eq u t) [
+      | inl q ↦ subst (λ z. ((z ≡ t) × (e.moment ≡ n) × (e.access.location ≡ w.location)) ⊎
+          ((suc n ≤ e.moment) × Waiting (put buffers t ws z) (due z (suc n) ls) (section z) e)) (sym q)
+          (own (subst (λ z. Waiting (buffers z) (due z n (Flush t ∷ ls)) (section z) e) q (inv.waiting u i e a b)))
+      | inr q ↦ inr (other u q (inv.waiting u i e a b))
+    ]
+      where
+        at_place : (k : ℕ) (x : Pending) → slice_get (w ∷ ws) k ≡ Some x → slice_get (n ∷ due t (suc n) ls) k ≡ Some e.moment → e.access.location ≡ x.location →
+            e.access.section ≡ section t →
+            ((t ≡ t) × (e.moment ≡ n) × (e.access.location ≡ w.location)) ⊎ ((suc n ≤ e.moment) × Waiting (put buffers t ws t) (due t (suc n) ls) (section t) e)
+        at_place zero x f g l s = inl (refl, cc, l ∙ sym (ap (λ (z : Pending). z.location) (same_Some w x f)))
+        at_place (suc k) x f g l s = inr (
+          due_late t (suc n) ls k e.moment g,
+          record { place = k; store = x; stored = rw put_same f; at = g; location = l; section_is = s },
+        )
+
+        own : Waiting (buffers t) (due t n (Flush t ∷ ls)) (section t) e →
+            ((t ≡ t) × (e.moment ≡ n) × (e.access.location ≡ w.location)) ⊎ ((suc n ≤ e.moment) × Waiting (put buffers t ws t) (due t (suc n) ls) (section t) e)
+        own x = at_place x.place x.store (rw full at x.stored) (rw due_same at x.at) x.location x.section_is
+
+        other : (u : ℕ) → (u ≡ t → ⊥) → Waiting (buffers u) (due u n (Flush t ∷ ls)) (section u) e →
+            (suc n ≤ e.moment) × Waiting (put buffers t ws u) (due u (suc n) ls) (section u) e
+        other u q x =
+            let g : slice_get (due u (suc n) ls) x.place ≡ Some e.moment = rw (due_other t u ls q) at x.at in (
+              due_late u (suc n) ls x.place e.moment g,
+              record { place = x.place; store = x.store; stored = rw (put_other buffers t ws u q) x.stored; at = g; location = x.location; section_is = x.section_is },
+            )
+
+    pub inv_flush : Inv init h (put buffers t ws) (put memory w.location w.value) after_it (suc n) section ls
+    inv_flush = record {
+      good = inv.good;
+      positive = omega arith;
+      early = λ u i e a. let z = inv.early u i e a in omega arith;
+      latest = λ k. elim (cases_eq k w.location) [
+        | inl q ↦ subst (λ z. Latest init h (suc n) z (put memory w.location w.value z) (put o.memory w.location (At t head.index) z)) (sym q)
+            (rw (put_same memory w.location w.value, put_same o.memory w.location (At t head.index)) now)
+        | inr q ↦ rw (put_other memory w.location w.value k q, put_other o.memory w.location (At t head.index) k q) (before k q (inv.latest k))
+      ];
+      made = inv.made;
+      long = λ u. elim (cases_eq u t) [
+        | inl s ↦ subst (λ z. length (put o.waiting t others_wait.0 z) ≡ length (put buffers t ws z)) (sym s)
+            (rw (put_same o.waiting t others_wait.0, put_same buffers t ws) (let a = ap length others_wait.1 in let b = ap length full in let c = inv.long t in omega arith))
+        | inr s ↦ rw (put_other o.waiting t others_wait.0 u s, put_other buffers t ws u s) (inv.long u)
+      ];
+      stored = λ u q x a. elim (cases_eq u t) [
+        | inl s ↦ subst (λ z. Stored h z (put o.waiting t others_wait.0 z) (due z (suc n) ls) q x) (sym s)
+            (rw (put_same o.waiting t others_wait.0) (own q x (rw put_same at (subst (λ z. slice_get (put buffers t ws z) q ≡ Some x) s a))))
+        | inr s ↦ rw (put_other o.waiting t others_wait.0 u s) (other u s q x (inv.stored u q x (rw (put_other buffers t ws u s) at a)))
+      ];
+      waiting = λ u i e a b. elim (waits u i e a (omega arith)) [ inl x ↦ absurd (let z = x.1 in omega arith) | inr x ↦ x.1 ];
+    }
+      where
+        own : (q : ℕ) (x : Pending) → slice_get ws q ≡ Some x → Stored h t others_wait.0 (due t (suc n) ls) q x
+        own q x a =
+            let s : Stored h t (o.waiting t) (due t n (Flush t ∷ ls)) (suc q) x = inv.stored t (suc q) x (rw full a) in
+            record {
+              index = s.index;
+              entry = s.entry;
+              holds = s.holds;
+              location = s.location;
+              written = s.written;
+              at = rw due_same at s.at;
+              tag = subst (λ es. slice_get es (suc q) ≡ Some (x.location, At t s.index)) others_wait.1 s.tag;
+            }
+
+        other : (u : ℕ) → (u ≡ t → ⊥) → (q : ℕ) (x : Pending) → Stored h u (o.waiting u) (due u n (Flush t ∷ ls)) q x → Stored h u (o.waiting u) (due u (suc n) ls) q x
+        other u d q x s =
+            record { index = s.index; entry = s.entry; holds = s.holds; location = s.location; written = s.written; at = rw (due_other t u ls d) at s.at; tag = s.tag }
+
+        now : Latest init h (suc n) w.location w.value (At t head.index)
+        now = record {
+          event = At t head.index;
+          held_is = refl;
+          moment = n;
+          before = omega arith;
+          origin = inr (record {
+            thread = t;
+            index = head.index;
+            write = head.entry;
+            holds = head.holds;
+            is_event = refl;
+            location = head.location;
+            written = head.written;
+            at = same_Some n head.entry.moment head.at;
+          });
+          newest = λ u j d a b c k. omega arith;
+        }
+
+        before : (k : ℕ) → (k ≡ w.location → ⊥) → Latest init h n k (memory k) (o.memory k) → Latest init h (suc n) k (memory k) (o.memory k)
+        before k q m = record {
+          event = m.event;
+          held_is = m.held_is;
+          moment = m.moment;
+          before = let z = m.before in omega arith;
+          origin = m.origin;
+          newest = λ u j d a b c z. elim (cases_lt d.moment n) [
+            | inl y ↦ m.newest u j d a b c y
+            | inr y ↦ elim (waits u j d a y) [ inl x ↦ absurd (q (sym b ∙ x.2)) | inr x ↦ absurd (let g = x.0 in omega arith) ]
+          ];
+        }

@@ -1,0 +1,57 @@
+-- The steps of the store buffer machine, by cases.
+use Rattle.std.proofs.Common.{◌≡◌, ℕ, suc, ◌<◌, ◌≤◌, Bool, true, false, List, [], ◌∷◌, ◌++◌, ◌==◌, Option, Some, option_and_then, refl, sym, ap, ◌∙◌, subst, inl, inr, arith, length, length-append, eq-eqb, ne_eqb, if◌then◌else◌}
+use Rattle.std.proofs.lemmas.Bool.{cases_eq}
+use Rattle.tso_program.specs.declared.instruction.Reg.{Reg}
+use Rattle.tso_program.specs.declared.listing.Listing.{Listing}
+use Rattle.tso_program.specs.declared.action.Local.{Local}
+use Rattle.tso_program.specs.declared.action.Action.{Action}
+use Rattle.tso_program.specs.declared.action.Action.TheVariants.{Stop, Go, Wait, Read, Write, Swap}
+use Rattle.tso_program.specs.Listings.{action}
+use Rattle.tso_program.specs.Actions.{loaded}
+use Rattle.tso_program.specs.Fences.{Gaps}
+use Rattle.tso_machine.specs.Machine.{put, Fenced, State, newest, found, when_empty, past_gap, buffered, flushed, step, run}
+use Rattle.tso_machine.specs.declared.label.Label.{Label}
+use Rattle.tso_machine.specs.declared.label.Label.TheVariants.{Exec, Flush}
+use Rattle.tso_machine.specs.declared.label.Pending.{Pending}
+use Rattle.fence_laws.proofs.StepCases.{exec_by, flush_by}
+use Rattle.candidate_executions.proofs.Orders.Lists.{put_same, put_other}
+use Rattle.candidate_executions.proofs.FromRuns.FlushesDue.{due}
+
+-- an instruction is executed where a fenced gap before it lets it
+pub exec_ok : (p : Listing) (gaps : Gaps) (s s' : State) (t : ℕ) → (gaps t (s.locals t).place ≡ true → s.buffers t ≡ []) → buffered s t (action p.threads t (s.locals t)) ≡ Some s' →
+    step p (Fenced gaps) s (Exec t) ≡ Some s'
+exec_ok p gaps s s' t g h = go (gaps t (s.locals t).place) g
+  where
+    go : (b : Bool) → (b ≡ true → s.buffers t ≡ []) → option_and_then (λ z. buffered z t (action p.threads t (s.locals t))) (past_gap b (s.buffers t) s) ≡ Some s'
+    go true f = ap (λ ws. option_and_then (λ z. buffered z t (action p.threads t (s.locals t))) (past_gap true ws s)) (f refl) ∙ h
+    go false f = h
+
+pub grown_here : (bs : ℕ → List Pending) (t : ℕ) (w : Pending) (m : ℕ) → length (put bs t (bs t ++ w ∷ []) t) ≤ m → length (bs t) < m
+grown_here bs t w m h = let z : length (bs t ++ w ∷ []) ≤ m = rw put_same at h in omega (arith, length-append (bs t) (w ∷ []))
+
+grown : (bs : ℕ → List Pending) (u t : ℕ) (w : Pending) (m : ℕ) → length (put bs u (bs u ++ w ∷ []) t) ≤ m → length (bs t) ≤ m
+grown bs u t w m h = elim (cases_eq t u) [
+  | inl q ↦ (let z = grown_here bs t w m (subst (λ z. length (put bs z (bs z ++ w ∷ []) t) ≤ m) (sym q) h) in omega arith)
+  | inr q ↦ rw (put_other bs u (bs u ++ w ∷ []) t q) at h
+]
+
+shrunk : (bs : ℕ → List Pending) (u t n : ℕ) (w : Pending) (ws : List Pending) (rest : List ℕ) → bs u ≡ w ∷ ws →
+    length (put bs u ws t) ≤ length rest → length (bs t) ≤ length (if u == t then n ∷ rest else rest)
+shrunk bs u t n w ws rest e h = elim (cases_eq t u) [
+  | inl q ↦ (let z : length ws ≤ length rest = rw put_same at (subst (λ z. length (put bs u ws z) ≤ length rest) q h) in
+      let y : bs t ≡ w ∷ ws = ap bs q ∙ e in rw (eq-eqb u t (sym q), y) (omega arith))
+  | inr q ↦ rw (ne_eqb u t (λ a. q (sym a))) (rw (put_other bs u ws t q) at h)
+]
+
+-- a run that ends with an empty buffer flushes each store that waits
+pub enough : (p : Listing) (gaps : Gaps) (t : ℕ) (last : State) → last.buffers t ≡ [] → (ls : List Label) (s : State) (n : ℕ) →
+    run p (Fenced gaps) s ls ≡ Some last → length (s.buffers t) ≤ length (due t n ls)
+enough p gaps t last z [] s n h = let e : s ≡ last = cc in rw (e, z) (omega arith)
+enough p gaps t last z (Exec u ∷ ls) s n h = exec_by last (λ next. run p (Fenced gaps) next ls) p gaps s u _ h
+    (λ next e g r. enough p gaps t last z ls _ (suc n) r)
+    (λ next e g r. enough p gaps t last z ls _ (suc n) r)
+    (λ l to next e g r. enough p gaps t last z ls _ (suc n) r)
+    (λ l v next e g r. grown s.buffers u t (record { location = l; value = v }) (length (due t (suc n) ls)) (enough p gaps t last z ls _ (suc n) r))
+    (λ l v to next e g r. enough p gaps t last z ls _ (suc n) r)
+enough p gaps t last z (Flush u ∷ ls) s n h = flush_by last (λ next. run p (Fenced gaps) next ls) p gaps s u _ h
+    (λ w ws e r. shrunk s.buffers u t n w ws (due t (suc n) ls) e (enough p gaps t last z ls _ (suc n) r))

@@ -1,0 +1,187 @@
+-- What joins the machine's buffers and memory to the history, along a run.
+use Rattle.std.proofs.Common.{◌≡◌, ℕ, suc, ◌<◌, ◌≤◌, List, [], ◌∷◌, ◌++◌, ◌⊎◌, Some, IsSome, slice_get, sym, ap, ◌∙◌, subst, inl, inr, arith, length, length-append}
+use Rattle.std.proofs.lemmas.Bool.{cases_lt, cases_eq}
+use Rattle.tso_machine.specs.Machine.{put}
+use Rattle.tso_machine.specs.declared.label.Label.{Label}
+use Rattle.tso_machine.specs.declared.label.Label.TheVariants.{Exec}
+use Rattle.tso_machine.specs.declared.label.Pending.{Pending}
+use Rattle.candidate_executions.specs.declared.event.Event.{Event}
+use Rattle.candidate_executions.specs.declared.event.Event.TheVariants.{Initial, Access as At}
+use Rattle.candidate_executions.specs.RunCandidates.{Origins}
+use Rattle.candidate_executions.proofs.FromRuns.Histories.{Entry, History, Holds, Visible, Good}
+use Rattle.candidate_executions.proofs.Orders.Lists.{put_same, put_other}
+use Rattle.candidate_executions.proofs.FromRuns.HistoriesGrow.{with_entry, held_old, held_cases}
+use Rattle.candidate_executions.proofs.FromRuns.FlushesDue.{due, due_late}
+
+-- an entry that writes v to the location, with this moment
+pub record Wrote (h : History) (l v : ℕ) (event : Event) (moment : ℕ) : Type 0 where
+  pub thread : ℕ
+  pub index : ℕ
+  pub write : Entry
+  pub holds : Holds h thread index write
+  pub is_event : event ≡ At thread index
+  pub location : write.access.location ≡ l
+  pub written : write.access.written ≡ Some v
+  pub at : moment ≡ write.moment
+
+abbrev pub Untouched : (ℕ → ℕ) → ℕ → ℕ → Event → ℕ → Type 0
+Untouched init l v event moment = (event ≡ Initial l) × (moment ≡ 0) × (v ≡ init l)
+
+-- the write that memory has at the location: the latest before moment n
+pub record Latest (init : ℕ → ℕ) (h : History) (n l v : ℕ) (held : Event) : Type 0 where
+  pub event : Event
+  pub held_is : held ≡ event
+  pub moment : ℕ
+  pub before : moment < n
+  pub origin : Untouched init l v event moment ⊎ Wrote h l v event moment
+  pub newest : (u j : ℕ) (d : Entry) → Holds h u j d → d.access.location ≡ l → IsSome d.access.written → d.moment < n → d.moment ≤ moment
+
+-- the entry of a store that waits in a buffer
+pub record Stored (h : History) (t : ℕ) (waits : List (ℕ × Event)) (dues : List ℕ) (q : ℕ) (w : Pending) : Type 0 where
+  pub index : ℕ
+  pub entry : Entry
+  pub holds : Holds h t index entry
+  pub location : entry.access.location ≡ w.location
+  pub written : entry.access.written ≡ Some w.value
+  pub at : slice_get dues q ≡ Some entry.moment
+  pub tag : slice_get waits q ≡ Some (w.location, At t index)
+
+-- the place in the buffer of an entry that is still to take effect
+pub record Waiting (buffer : List Pending) (dues : List ℕ) (section : ℕ) (e : Entry) : Type 0 where
+  pub place : ℕ
+  pub store : Pending
+  pub stored : slice_get buffer place ≡ Some store
+  pub at : slice_get dues place ≡ Some e.moment
+  pub location : e.access.location ≡ store.location
+  pub section_is : e.access.section ≡ section
+
+pub record Inv (init : ℕ → ℕ) (h : History) (buffers : ℕ → List Pending) (memory : ℕ → ℕ) (o : Origins) (n : ℕ) (section : ℕ → ℕ) (ls : List Label) : Type 0 where
+  pub good : Good init h
+  pub positive : 0 < n
+  pub early : (t i : ℕ) (e : Entry) → Holds h t i e → e.exec < n
+  pub latest : (l : ℕ) → Latest init h n l (memory l) (o.memory l)
+  pub stored : (t q : ℕ) (w : Pending) → slice_get (buffers t) q ≡ Some w → Stored h t (o.waiting t) (due t n ls) q w
+  pub made : (t : ℕ) → o.made t ≡ length (h t)
+  pub long : (t : ℕ) → length (o.waiting t) ≡ length (buffers t)
+  pub waiting : (t i : ℕ) (e : Entry) → Holds h t i e → n ≤ e.moment → Waiting (buffers t) (due t n ls) (section t) e
+
+-- what a load or an exchange of thread t finds at the location
+pub record Seen (init : ℕ → ℕ) (h : History) (t n l v : ℕ) (found : Event) : Type 0 where
+  pub event : Event
+  pub found_is : found ≡ event
+  pub moment : ℕ
+  pub origin : Untouched init l v event moment ⊎ ((w : Wrote h l v event moment) × Visible w.thread w.index w.write.moment t (length (h t)) n)
+  pub newest : (u j : ℕ) (d : Entry) → Holds h u j d → d.access.location ≡ l → IsSome d.access.written →
+      Visible u j d.moment t (length (h t)) n → d.moment ≤ moment
+
+pub none_waits : {buffer : List Pending} {dues : List ℕ} {section : ℕ} {e : Entry} → Waiting buffer dues section e → buffer ≡ [] → ⊥
+none_waits w b = let z : slice_get [] w.place ≡ Some w.store = rw b at w.stored in absurd cc
+
+pub wrote_old : (h : History) (t : ℕ) (e : Entry) (l v : ℕ) (event : Event) (m : ℕ) → Wrote h l v event m → Wrote (with_entry h t e) l v event m
+wrote_old h t e l v event m w = record {
+  thread = w.thread;
+  index = w.index;
+  write = w.write;
+  holds = held_old h t e w.thread w.index w.write w.holds;
+  is_event = w.is_event;
+  location = w.location;
+  written = w.written;
+  at = w.at;
+}
+
+-- one access more
+pub one_more_made : (h : History) (t : ℕ) (e : Entry) (made : ℕ → ℕ) → ((u : ℕ) → made u ≡ length (h u)) → (u : ℕ) → put made t (suc (made t)) u ≡ length (with_entry h t e u)
+one_more_made h t e made is u = elim (cases_eq u t) [
+  | inl q ↦ subst (λ z. put made t (suc (made t)) z ≡ length (with_entry h t e z)) (sym q)
+      (rw (put_same made t (suc (made t)), put_same h t (h t ++ e ∷ [])) (let z = is t in omega (arith, length-append (h t) (e ∷ []))))
+  | inr n ↦ rw (put_other made t (suc (made t)) u n, put_other h t (h t ++ e ∷ []) u n) (is u)
+]
+
+-- what memory has stays the latest, where the new entry does not come after it
+pub latest_old : (init : ℕ → ℕ) (h : History) (t n : ℕ) (e : Entry) (l v : ℕ) (held : Event) (m : Latest init h n l v held) →
+    (e.access.location ≡ l → IsSome e.access.written → e.moment < n → e.moment ≤ m.moment) → Latest init (with_entry h t e) n l v held
+latest_old init h t n e l v held m new = record {
+  event = m.event;
+  held_is = m.held_is;
+  moment = m.moment;
+  before = m.before;
+  origin = elim m.origin [ inl u ↦ inl u | inr w ↦ inr (wrote_old h t e l v m.event m.moment w) ];
+  newest = λ u j d a b c k. elim (held_cases h t e u j d a) [
+    | inl x ↦ m.newest u j d x b c k
+    | inr x ↦ (let p : Entry → Type 0 = λ z. z.access.location ≡ l → IsSome z.access.written → z.moment < n → z.moment ≤ m.moment in
+        subst p (sym x.2) new b c k)
+  ];
+}
+
+pub stored_old : (h : History) (t : ℕ) (e : Entry) (u : ℕ) (waits : List (ℕ × Event)) (dues : List ℕ) (q : ℕ) (w : Pending) → Stored h u waits dues q w → Stored (with_entry h t e) u waits dues q w
+stored_old h t e u waits dues q w s = record {
+  index = s.index;
+  entry = s.entry;
+  holds = held_old h t e u s.index s.entry s.holds;
+  location = s.location;
+  written = s.written;
+  at = s.at;
+  tag = s.tag;
+}
+
+module _ (init : ℕ → ℕ) (h : History) (buffers : ℕ → List Pending) (memory : ℕ → ℕ) (o : Origins) (n : ℕ) (section : ℕ → ℕ) where
+  -- the section of a thread may change while its buffer is empty
+  pub inv_section : (ls : List Label) (t m : ℕ) → (section t ≡ m) ⊎ (buffers t ≡ []) →
+      Inv init h buffers memory o n section ls → Inv init h buffers memory o n (put section t m) ls
+  inv_section ls t m c inv = record {
+    good = inv.good;
+    positive = inv.positive;
+    early = inv.early;
+    latest = inv.latest;
+    stored = inv.stored;
+    made = inv.made;
+    long = inv.long;
+    waiting = λ u i e a b. moved u i e (inv.waiting u i e a b);
+  }
+    where
+      moved : (u i : ℕ) (e : Entry) → Waiting (buffers u) (due u n ls) (section u) e → Waiting (buffers u) (due u n ls) (put section t m u) e
+      moved u i e w = record {
+        place = w.place;
+        store = w.store;
+        stored = w.stored;
+        at = w.at;
+        location = w.location;
+        section_is = elim (cases_eq u t) [
+          | inl q ↦ elim c [
+            | inl s ↦ w.section_is ∙ (ap section q ∙ (s ∙ sym (ap (put section t m) q ∙ put_same section t m)))
+            | inr b ↦ absurd (let z : slice_get [] w.place ≡ Some w.store = rw (q, b) at w.stored in cc)
+          ]
+          | inr q ↦ w.section_is ∙ sym (put_other section t m u q)
+        ];
+      }
+
+  -- at the execution of an instruction no entry has the moment
+  pub free : (t : ℕ) (ls : List Label) → Inv init h buffers memory o n section (Exec t ∷ ls) →
+      (u i : ℕ) (e : Entry) → Holds h u i e → (e.moment < n) ⊎ (suc n ≤ e.moment)
+  free t ls inv u i e a = elim (cases_lt e.moment n) [
+    | inl l ↦ inl l
+    | inr g ↦ (let w = inv.waiting u i e a g in inr (due_late u (suc n) ls w.place e.moment w.at))
+  ]
+
+  -- time goes on
+  pub tick : (t : ℕ) (ls : List Label) → Inv init h buffers memory o n section (Exec t ∷ ls) → Inv init h buffers memory o (suc n) section ls
+  tick t ls inv = record {
+    good = inv.good;
+    positive = omega arith;
+    early = λ u i e a. let z = inv.early u i e a in omega arith;
+    latest = λ l. later l (inv.latest l);
+    stored = inv.stored;
+    made = inv.made;
+    long = inv.long;
+    waiting = λ u i e a b. inv.waiting u i e a (omega arith);
+  }
+    where
+      later : (l : ℕ) → Latest init h n l (memory l) (o.memory l) → Latest init h (suc n) l (memory l) (o.memory l)
+      later l m = record {
+        event = m.event;
+        held_is = m.held_is;
+        moment = m.moment;
+        before = let z = m.before in omega arith;
+        origin = m.origin;
+        newest = λ u j d a b c k. m.newest u j d a b c (elim (free t ls inv u j d a) [ inl x ↦ x | inr x ↦ absurd (omega arith) ]);
+      }

@@ -1,0 +1,151 @@
+-- Jumps lead forward, so a run has at most two labels for each instruction: one that executes it, and a flush.
+use Rattle.std.proofs.Common.{◌≡◌, ℕ, suc, zero, ◌+◌, ◌*◌, ◌-◌, ◌<◌, ◌≤◌, Bool, true, false, List, [], ◌∷◌, ◌++◌, Option, Some, None, option_and_then, refl, sym, ap, ◌∙◌, subst, inl, inr, arith, length}
+use Rattle.std.proofs.lemmas.Bool.{cases_eq, cases_lt}
+use Rattle.std.proofs.lemmas.Option.{same_Some}
+use Rattle.tso_program.specs.declared.listing.Listing.{Listing}
+use Rattle.tso_program.specs.declared.action.Local.{Local}
+use Rattle.tso_program.specs.declared.action.Action.{Action}
+use Rattle.tso_program.specs.declared.action.Action.TheVariants.{Stop, Go, Wait, Read, Write, Swap}
+use Rattle.tso_program.specs.Actions.{loaded}
+use Rattle.tso_program.specs.Listings.{action, code_of}
+use Rattle.tso_program.specs.Limits.{JumpForward}
+use Rattle.tso_machine.specs.Machine.{Mode, Sequential, Fenced, State, put, when_empty, past_gap, buffered, flushed, direct, step, run, start}
+use Rattle.tso_machine.specs.declared.label.Label.{Label}
+use Rattle.tso_machine.specs.declared.label.Label.TheVariants.{Exec, Flush}
+use Rattle.tso_machine.specs.declared.label.Pending.{Pending}
+use Rattle.candidate_executions.specs.Laws.{EveryRunIsShort}
+use Rattle.candidate_executions.proofs.Orders.Lists.{put_same, put_other}
+use Rattle.candidate_executions.proofs.FromRuns.StepsSuffice.{Further, Advances, advance}
+use Rattle.candidate_executions.proofs.Candidates.AllEvents.{no_code}
+
+-- the sum of what each of the first n threads has
+total : (ℕ → ℕ) → ℕ → ℕ
+total f zero = 0
+total f (suc n) = f n + total f n
+
+total_same : (f g : ℕ → ℕ) (n : ℕ) → ((u : ℕ) → u < n → g u ≡ f u) → total g n ≡ total f n
+unfolding total
+total_same f g zero h = refl
+total_same f g (suc n) h = let here = h n (omega arith) in let rest = total_same f g n (λ u l. h u (omega arith)) in omega arith
+
+total_less : (f g : ℕ → ℕ) (n t : ℕ) → t < n → ((u : ℕ) → (u ≡ t → ⊥) → g u ≡ f u) → g t < f t → total g n < total f n
+unfolding total
+total_less f g zero t h other less = absurd (omega arith)
+total_less f g (suc n) t h other less = elim (cases_eq n t) [
+  | inl q ↦ (let here : g n < f n = subst (λ z. g z < f z) (sym q) less in let rest = total_same f g n (λ u l. other u (λ r. omega arith)) in omega arith)
+  | inr ne ↦ (let here = other n ne in let rest = total_less f g n t (omega arith) other less in omega arith)
+]
+
+total_bound : (f : ℕ → ℕ) (k n : ℕ) → ((t : ℕ) → f t ≤ k) → total f n ≤ n * k
+unfolding total
+total_bound f k zero h = omega arith
+total_bound f k (suc n) h = let here = h n in let rest = total_bound f k n h in omega arith
+
+module _ (p : Listing) (forward : JumpForward p.threads) where
+  abbrev len : ℕ → ℕ
+  len t = length (code_of p.threads t)
+
+  -- how many labels of thread t may still come
+  abbrev room : State → ℕ → ℕ
+  room s t = (len t - (s.locals t).place) + (len t - (s.locals t).place) + length (s.buffers t)
+
+  -- no store of a thread that is not there waits
+  abbrev Past : State → Type 0
+  Past s = (t : ℕ) → length p.threads ≤ t → s.buffers t ≡ []
+
+  abbrev Less : State → State → Type 0
+  Less s s' = (total (room s') (length p.threads) < total (room s) (length p.threads)) × Past s'
+
+  there : (t i : ℕ) → i < len t → t < length p.threads
+  there t i h = elim (cases_lt t (length p.threads)) [
+    | inl l ↦ l
+    | inr g ↦ absurd (let none = ap length (no_code p t g) in omega arith)
+  ]
+
+  moved : (s : State) (t : ℕ) (next : Local) (buffers : ℕ → List Pending) (memory : ℕ → ℕ) → Past s → Further (len t) (s.locals t).place next →
+      ((u : ℕ) → (u ≡ t → ⊥) → buffers u ≡ s.buffers u) → length (buffers t) ≤ suc (length (s.buffers t)) →
+      Less s (record { locals = put s.locals t next; buffers = buffers; memory = memory })
+  moved s t next buffers memory past further other short =
+      let here = there t (s.locals t).place further.0 in
+      let now : State = record { locals = put s.locals t next; buffers = buffers; memory = memory } in
+      let first = further.0 in let second = further.1 in
+      let place : (put s.locals t next t).place ≡ next.place = ap (λ (z : Local). z.place) (put_same s.locals t next) in (
+        total_less (room s) (room now) (length p.threads) t here
+            (λ u n. let a : (put s.locals t next u).place ≡ (s.locals u).place = ap (λ (z : Local). z.place) (put_other s.locals t next u n) in let b = ap length (other u n) in omega arith)
+            (omega arith),
+        λ u h. other u (λ q. omega arith) ∙ past u h,
+      )
+
+  direct_less : (s s' : State) (t : ℕ) (a : Action) → Past s → Advances (len t) (s.locals t).place a → direct s t a ≡ Some s' → Less s s'
+  direct_less s s' t Stop past d h = absurd cc
+  direct_less s s' t (Go next) past d h = subst (Less s) (same_Some _ s' h) (moved s t next s.buffers s.memory past d (λ u n. refl) (omega arith))
+  direct_less s s' t (Wait next) past d h = subst (Less s) (same_Some _ s' h) (moved s t next s.buffers s.memory past d (λ u n. refl) (omega arith))
+  direct_less s s' t (Read l to next) past d h = subst (Less s) (same_Some _ s' h) (moved s t (loaded to (s.memory l) next) s.buffers s.memory past d (λ u n. refl) (omega arith))
+  direct_less s s' t (Write l v next) past d h = subst (Less s) (same_Some _ s' h) (moved s t next s.buffers (put s.memory l v) past d (λ u n. refl) (omega arith))
+  direct_less s s' t (Swap l v to next) past d h = subst (Less s) (same_Some _ s' h) (moved s t (loaded to (s.memory l) next) s.buffers (put s.memory l v) past d (λ u n. refl) (omega arith))
+
+  empty_is : (ws : List Pending) (x s' : State) → when_empty ws x ≡ Some s' → x ≡ s'
+  empty_is [] x s' h = same_Some x s' h
+  empty_is (w ∷ ws) x s' h = absurd cc
+
+  one_longer : (ws : List Pending) (w : Pending) → length (ws ++ w ∷ []) ≤ suc (length ws)
+  one_longer [] w = omega arith
+  one_longer (x ∷ ws) w = let z = one_longer ws w in omega arith
+
+  buffered_less : (s s' : State) (t : ℕ) (a : Action) → Past s → Advances (len t) (s.locals t).place a → buffered s t a ≡ Some s' → Less s s'
+  buffered_less s s' t Stop past d h = absurd cc
+  buffered_less s s' t (Go next) past d h = subst (Less s) (same_Some _ s' h) (moved s t next s.buffers s.memory past d (λ u n. refl) (omega arith))
+  buffered_less s s' t (Wait next) past d h = subst (Less s) (empty_is (s.buffers t) _ s' h) (moved s t next s.buffers s.memory past d (λ u n. refl) (omega arith))
+  buffered_less s s' t (Read l to next) past d h = subst (Less s) (same_Some _ s' h) (moved s t _ s.buffers s.memory past d (λ u n. refl) (omega arith))
+  buffered_less s s' t (Write l v next) past d h =
+      let w : Pending = record { location = l; value = v } in
+      subst (Less s) (same_Some _ s' h) (moved s t next (put s.buffers t (s.buffers t ++ w ∷ [])) s.memory past d
+      (λ u n. put_other s.buffers t (s.buffers t ++ w ∷ []) u n)
+      (let a = ap length (put_same s.buffers t (s.buffers t ++ w ∷ [])) in let b = one_longer (s.buffers t) w in omega arith))
+  buffered_less s s' t (Swap l v to next) past d h = subst (Less s) (empty_is (s.buffers t) _ s' h) (moved s t (loaded to (s.memory l) next) s.buffers (put s.memory l v) past d (λ u n. refl) (omega arith))
+
+  after_gap : (b : Bool) (ws : List Pending) (s s' : State) (f : State → Option State) → option_and_then f (past_gap b ws s) ≡ Some s' → f s ≡ Some s'
+  after_gap false ws s s' f h = h
+  after_gap true [] s s' f h = h
+  after_gap true (w ∷ ws) s s' f h = absurd cc
+
+  flush_less : (s s' : State) (t : ℕ) (ws : List Pending) → Past s → s.buffers t ≡ ws → flushed s t ws ≡ Some s' → Less s s'
+  flush_less s s' t [] past e h = absurd cc
+  flush_less s s' t (w ∷ ws) past e h = subst (Less s) (same_Some _ s' h) (
+    total_less (room s) (room now) (length p.threads) t here
+        (λ u n. let b = ap length (put_other s.buffers t ws u n) in omega arith)
+        (let a = ap length (put_same s.buffers t ws) in let b = ap length e in omega arith),
+    λ u g. let inside = here in put_other s.buffers t ws u (λ q. omega arith) ∙ past u g,
+  )
+    where
+      now : State
+      now = record s { buffers = put s.buffers t ws; memory = put s.memory w.location w.value }
+
+      here : t < length p.threads
+      here = elim (cases_lt t (length p.threads)) [ inl l ↦ l | inr g ↦ absurd (let q : [] ≡ w ∷ ws = sym (past t g) ∙ e in cc) ]
+
+  step_less : (mode : Mode) (s s' : State) (l : Label) → Past s → step p mode s l ≡ Some s' → Less s s'
+  step_less Sequential s s' (Exec t) past h = direct_less s s' t (action p.threads t (s.locals t)) past (advance p forward t (s.locals t)) h
+  step_less Sequential s s' (Flush t) past h = absurd cc
+  step_less (Fenced gaps) s s' (Exec t) past h = buffered_less s s' t (action p.threads t (s.locals t)) past (advance p forward t (s.locals t))
+      (after_gap (gaps t (s.locals t).place) (s.buffers t) s s' (λ x. buffered x t (action p.threads t (s.locals t))) h)
+  step_less (Fenced gaps) s s' (Flush t) past h = flush_less s s' t (s.buffers t) past refl h
+
+  run_short : (mode : Mode) (labels : List Label) (s last : State) → Past s → run p mode s labels ≡ Some last → length labels ≤ total (room s) (length p.threads)
+  run_short mode [] s last past h = omega arith
+  run_short mode (l ∷ labels) s last past h = go (step p mode s l) refl h (run_short mode labels)
+    where
+      go : (o : Option State) → step p mode s l ≡ o → option_and_then (λ next. run p mode next labels) o ≡ Some last →
+          ((s last : State) → Past s → run p mode s labels ≡ Some last → length labels ≤ total (room s) (length p.threads)) → suc (length labels) ≤ total (room s) (length p.threads)
+      go None e h ih = absurd cc
+      go (Some s') e h ih = let (less, past') = step_less mode s s' l past e in let rest = ih s' last past' h in omega arith
+
+  -- with at most k instructions a thread
+  pub run_bound : (mode : Mode) (labels : List Label) (last : State) (k : ℕ) → ((t : ℕ) → length (code_of p.threads t) ≤ k) → run p mode (start p) labels ≡ Some last → length labels ≤ length p.threads * (k + k)
+  run_bound mode labels last k few h =
+      let short = run_short mode labels (start p) last (λ t g. refl) h in
+      let most = total_bound (room (start p)) (k + k) (length p.threads) (λ t. let z = few t in omega arith) in
+      omega arith
+
+pub every_run_is_short : EveryRunIsShort
+every_run_is_short p mode labels o n forward few (last, h, ended, e) = run_bound p forward mode labels last n few h

@@ -1,0 +1,189 @@
+-- A sketch stays one by each choice, and each completion has made each choice in one of its ways.
+use Rattle.std.proofs.Common.{◌≡◌, ◌⊎◌, ℕ, zero, suc, ◌<◌, List, [], ◌∷◌, ◌++◌, Some, None, Contains, slice_get, length, refl, sym, ap, ◌∙◌, subst, inl, inr, arith, append_assoc, append-nil}
+use mathlib.Core.Path.{fun_ext}
+use Rattle.std.proofs.lemmas.Bool.{cases_eq, cases_order}
+use Rattle.std.proofs.lemmas.List.Elements.{Contains-append_cases}
+use Rattle.tso_program.specs.declared.action.Action.TheVariants.{Stop}
+use Rattle.tso_program.specs.declared.listing.Listing.{Listing}
+use Rattle.tso_program.specs.Listings.{action, start_of, code_of}
+use Rattle.tso_program.specs.Limits.{JumpForward}
+use Rattle.tso_machine.specs.Machine.{Mode, put}
+use Rattle.candidate_executions.specs.declared.access.Access.{Access}
+use Rattle.candidate_executions.specs.declared.event.Event.{Event}
+use Rattle.candidate_executions.specs.declared.event.Event.TheVariants.{Initial, Access as At}
+use Rattle.candidate_executions.specs.Values.{IsValueOf}
+use Rattle.candidate_executions.specs.Traces.{Trace, trace, trace_by, fenced_gaps}
+use Rattle.candidate_executions.specs.Candidates.{Candidate, access, access_by, Writes, IsCandidate}
+use Rattle.candidate_executions.specs.Sketches.{Sketch, IsPrefixOf, Completes, IsSketch, IsSourceOf, IsPair, with_value, with_source, with_pair, read_by, next_read, IsWhole}
+use Rattle.candidate_executions.specs.Laws.{EmptyIsASketch, AValueKeepsASketch, ASourceKeepsASketch, APairKeepsASketch, EachCompletionHasAValue, EachCompletionHasTheValues, EachCompletionHasASource, EachCompletionHasAnOrder}
+use Rattle.candidate_executions.proofs.Orders.Lists.{put_same, put_other}
+use Rattle.candidate_executions.proofs.FromRuns.StepsSuffice.{advance}
+use Rattle.candidate_executions.proofs.Sketches.MoreValues.{spare, Takes, trace_more, no_values, at_end, end_or_read, at_read, used_up}
+
+-- the one element of a list of one
+only : {A : Type 0} (x y : A) → Contains (x ∷ []) y → x ≡ y
+only x y (zero, h, e) = e
+only x y (suc k, h, e) = absurd (omega arith)
+
+-- events keep what they read and write when values are added
+pub keeps : (p : Listing) (mode : Mode) (given more : ℕ → List ℕ) → ((t : ℕ) → IsPrefixOf (given t) (more t)) → (e : Event) (x : Access) →
+    access_by p mode given e ≡ Some x → access_by p mode more e ≡ Some x
+keeps p mode given more h (Initial l) x a = a
+keeps p mode given more h (At t i) x a = let (rest, q) = h t in
+    subst (λ g. slice_get (trace (action p.threads t) (fenced_gaps mode t) (length (code_of p.threads t)) 0 (start_of p.threads t) g).accesses i ≡ Some x) q
+    (trace_more (action p.threads t) (fenced_gaps mode t) (length (code_of p.threads t)) 0 (start_of p.threads t) (given t) rest i x a)
+
+pub keeps_writes : (p : Listing) (mode : Mode) (given more : ℕ → List ℕ) → ((t : ℕ) → IsPrefixOf (given t) (more t)) → (e : Event) (l v : ℕ) →
+    Writes (access_by p mode given) e l v → Writes (access_by p mode more) e l v
+keeps_writes p mode given more h e l v w = (w.0, keeps p mode given more h e w.0 w.1, w.2, w.3)
+
+pub empty_is_a_sketch : EmptyIsASketch
+empty_is_a_sketch p mode = record {
+  used = λ t. no_values (action p.threads t) (fenced_gaps mode t) (length (code_of p.threads t)) 0 (start_of p.threads t);
+  sources = λ e s h. absurd (let z = h.1 in omega arith);
+  pairs = λ d e h. absurd (let z = h.1 in omega arith);
+}
+
+-- the values with one more for thread t
+longer : (k : Sketch) (t v u : ℕ) → IsPrefixOf (k.given u) ((with_value k t v).given u)
+longer k t v u = elim (cases_eq u t) [
+  | inl q ↦ (v ∷ [], subst (λ z. k.given z ++ v ∷ [] ≡ put k.given t (k.given t ++ v ∷ []) z) (sym q) (sym (put_same k.given t (k.given t ++ v ∷ []))))
+  | inr q ↦ ([], append-nil (k.given u) ∙ sym (put_other k.given t (k.given t ++ v ∷ []) u q))
+]
+
+pub a_value_keeps_a_sketch : AValueKeepsASketch
+a_value_keeps_a_sketch p mode k t l v forward fits next = record {
+  used = λ u. elim (cases_eq u t) [
+    | inl q ↦ subst (λ z. (trace_by p mode (with_value k t v).given z).unused ≡ []) (sym q) (rw (put_same k.given t (k.given t ++ v ∷ []))
+        (used_up (action p.threads t) (fenced_gaps mode t) (length (code_of p.threads t)) (λ s. advance p forward t s) (length (code_of p.threads t)) 0
+        (start_of p.threads t) (k.given t) v l (omega arith) next (fits.used t)))
+    | inr q ↦ rw (put_other k.given t (k.given t ++ v ∷ []) u q) (fits.used u)
+  ];
+  sources = λ e s h. let (x, w, a, r, n, f) = fits.sources e s h in
+      (x, w, keeps p mode k.given (with_value k t v).given (longer k t v) e x a, r, n, keeps_writes p mode k.given (with_value k t v).given (longer k t v) s x.location w f);
+  pairs = λ d e h. let (n, (m, w, x, f, g, nd, ne)) = fits.pairs d e h in
+      (n, (m, w, x, keeps_writes p mode k.given (with_value k t v).given (longer k t v) d m w f, keeps_writes p mode k.given (with_value k t v).given (longer k t v) e m x g, nd, ne));
+}
+
+pub a_source_keeps_a_sketch : ASourceKeepsASketch
+a_source_keeps_a_sketch p mode k e s fits is = record {
+  used = fits.used;
+  sources = λ f z h. elim (Contains-append_cases k.sources ((e, s) ∷ []) (f, z) h) [
+    | inl old ↦ fits.sources f z old
+    | inr new ↦ (let q = only (e, s) (f, z) new in
+        subst (λ (y : Event × Event). IsSourceOf p mode (with_source k e s) y.1 y.0) q is)
+  ];
+  pairs = fits.pairs;
+}
+
+pub a_pair_keeps_a_sketch : APairKeepsASketch
+a_pair_keeps_a_sketch p mode k d e fits is = record {
+  used = fits.used;
+  sources = fits.sources;
+  pairs = λ f z h. elim (Contains-append_cases k.pairs ((d, e) ∷ []) (f, z) h) [
+    | inl old ↦ fits.pairs f z old
+    | inr new ↦ (let q = only (d, e) (f, z) new in
+        subst (λ (y : Event × Event). IsPair p mode (with_pair k d e) y.0 y.1) q is)
+  ];
+}
+
+module _ (p : Listing) (mode : Mode) (k : Sketch) (c : Candidate) (fits : IsSketch p mode k) (is : IsCandidate p mode c) (completes : Completes k c) where
+  -- one source more
+  more_sources : (e s : Event) → c.source e ≡ s → Completes (with_source k e s) c
+  more_sources e s q = record {
+    given = completes.given;
+    sources = λ f z h. elim (Contains-append_cases k.sources ((e, s) ∷ []) (f, z) h) [
+      | inl old ↦ completes.sources f z old
+      | inr new ↦ subst (λ (y : Event × Event). c.source y.0 ≡ y.1) (only (e, s) (f, z) new) q
+    ];
+    pairs = completes.pairs;
+  }
+
+  -- one pair more
+  more_pairs : (d e : Event) → c.rank d < c.rank e → Completes (with_pair k d e) c
+  more_pairs d e q = record {
+    given = completes.given;
+    sources = completes.sources;
+    pairs = λ f z h. elim (Contains-append_cases k.pairs ((d, e) ∷ []) (f, z) h) [
+      | inl old ↦ completes.pairs f z old
+      | inr new ↦ subst (λ (y : Event × Event). c.rank y.0 < c.rank y.1) (only (d, e) (f, z) new) q
+    ];
+  }
+
+  -- one value more
+  more_values : (t v : ℕ) (rest : List ℕ) → k.given t ++ v ∷ rest ≡ c.given t → Completes (with_value k t v) c
+  more_values t v rest q = record {
+    given = λ u. elim (cases_eq u t) [
+      | inl e ↦ subst (λ z. IsPrefixOf ((with_value k t v).given z) (c.given z)) (sym e)
+          (rest, rw (put_same k.given t (k.given t ++ v ∷ [])) (append_assoc (k.given t) (v ∷ []) rest ∙ q))
+      | inr n ↦ rw (put_other k.given t (k.given t ++ v ∷ []) u n) (completes.given u)
+    ];
+    sources = completes.sources;
+    pairs = completes.pairs;
+  }
+
+  order : (d e : Event) → IsPair p mode k d e → Completes (with_pair k d e) c ⊎ Completes (with_pair k e d) c
+  order d e (n, (l, v, w, f, g, nd, ne)) = elim (cases_order (c.rank d) (c.rank e)) [
+    | inl q ↦ absurd (n (is.ranks d e l v w (keeps_writes p mode k.given c.given completes.given d l v f) (keeps_writes p mode k.given c.given completes.given e l w g) q))
+    | inr (inl q) ↦ inl (more_pairs d e q)
+    | inr (inr q) ↦ inr (more_pairs e d q)
+  ]
+
+  module _ (forward : JumpForward p.threads) where
+    abbrev plays : ℕ → List ℕ → Trace
+    plays t given = trace (action p.threads t) (fenced_gaps mode t) (length (code_of p.threads t)) 0 (start_of p.threads t) given
+
+    value : (t l : ℕ) → next_read p mode k t ≡ Some l → (v : ℕ) × IsValueOf p l v × Completes (with_value k t v) c
+    value t l next = let (rest, q) = completes.given t in go rest q
+      where
+        go : (rest : List ℕ) → k.given t ++ rest ≡ c.given t → (v : ℕ) × IsValueOf p l v × Completes (with_value k t v) c
+        go [] q = absurd (
+            let same : k.given t ≡ c.given t = sym (append-nil (k.given t)) ∙ q in
+            let reads : read_by (action p.threads t (plays t (c.given t)).last) ≡ Some l = subst (λ g. read_by (action p.threads t (plays t g).last) ≡ Some l) same next in
+            let ends : read_by (action p.threads t (plays t (c.given t)).last) ≡ None = ap read_by (is.whole t).0 in
+            let z : None ≡ Some l = sym ends ∙ reads in cc)
+        go (v ∷ rest) q =
+            let takes : Takes (plays t (k.given t ++ v ∷ rest)) (length (plays t (k.given t)).accesses) l v =
+            at_read (action p.threads t) (fenced_gaps mode t) (length (code_of p.threads t)) (λ s. advance p forward t s) (length (code_of p.threads t)) 0
+            (start_of p.threads t) (k.given t) rest v l (omega arith) next (fits.used t) in
+            let there : access p mode c (At t (length (plays t (k.given t)).accesses)) ≡ Some takes.access =
+            subst (λ g. slice_get (plays t g).accesses (length (plays t (k.given t)).accesses) ≡ Some takes.access) q takes.there in (
+              v,
+              subst (λ z. IsValueOf p z v) takes.location (is.values (At t (length (plays t (k.given t)).accesses)) takes.access v there takes.value),
+              more_values t v rest q,
+            )
+
+    module _ (whole : IsWhole p mode k) where
+      pub same_given : (t : ℕ) → c.given t ≡ k.given t
+      same_given t =
+          let (rest, q) = completes.given t in
+          let ends : action p.threads t (plays t (k.given t)).last ≡ Stop =
+          end_or_read (action p.threads t) (fenced_gaps mode t) (length (code_of p.threads t)) (λ s. advance p forward t s) (length (code_of p.threads t)) 0
+          (start_of p.threads t) (k.given t) (omega arith) (whole t) in
+          let all : plays t (k.given t ++ rest) ≡ spare (plays t (k.given t)) rest =
+          at_end (action p.threads t) (fenced_gaps mode t) (length (code_of p.threads t)) 0 (start_of p.threads t) (k.given t) rest ends in
+          let left : (plays t (c.given t)).unused ≡ (plays t (k.given t)).unused ++ rest = subst (λ g. (plays t g).unused ≡ (plays t (k.given t)).unused ++ rest) q (ap (λ (z : Trace). z.unused) all) in
+          let none : rest ≡ [] = sym (ap (λ z. z ++ rest) (fits.used t)) ∙ (sym left ∙ (is.whole t).1) in
+          sym q ∙ (ap (λ z. k.given t ++ z) none ∙ append-nil (k.given t))
+
+      pub all_given : c.given ≡ k.given
+      all_given = fun_ext same_given
+
+      source : (e : Event) (x : Access) (v : ℕ) → access_by p mode k.given e ≡ Some x → x.read ≡ Some v →
+          IsSourceOf p mode k (c.source e) e × Completes (with_source k e (c.source e)) c
+      source e x v a r =
+          let b : access p mode c e ≡ Some x = subst (λ g. access_by p mode g e ≡ Some x) (sym all_given) a in
+          let s = is.sources e x v b r in
+          ((x, v, a, r, s.0, subst (λ g. Writes (access_by p mode g) (c.source e) x.location v) all_given s.1), more_sources e (c.source e) refl)
+
+pub each_has_a_value : EachCompletionHasAValue
+each_has_a_value p mode k c t l forward fits is completes next = value p mode k c fits is completes forward t l next
+
+pub each_has_the_values : EachCompletionHasTheValues
+each_has_the_values p mode k c forward fits is completes whole t = same_given p mode k c fits is completes forward whole t
+
+pub each_has_a_source : EachCompletionHasASource
+each_has_a_source p mode k c e x v forward fits is completes whole a r = source p mode k c fits is completes forward whole e x v a r
+
+pub each_has_an_order : EachCompletionHasAnOrder
+each_has_an_order p mode k c d e fits is completes pair = order p mode k c fits is completes d e pair

@@ -1,0 +1,330 @@
+-- A run of the store buffer machine comes to the next event of the order.
+use Rattle.std.proofs.Common.{◌≡◌, ℕ, suc, zero, ◌+◌, ◌-◌, ◌<◌, ◌≤◌, Bool, true, false, List, [], ◌∷◌, ◌++◌, Some, None, IsSome, option_and_then, slice_get, drop, refl, sym, ap, ◌∙◌, subst, inl, inr, arith}
+use Rattle.std.proofs.lemmas.Bool.{cases_lt, cases_eq}
+use Rattle.std.proofs.lemmas.Option.{same_Some}
+use Rattle.tso_program.specs.declared.listing.Listing.{Listing}
+use Rattle.tso_program.specs.Actions.{loaded}
+use Rattle.tso_program.specs.declared.action.Local.{Local}
+use Rattle.tso_program.specs.declared.action.Action.{Action}
+use Rattle.tso_program.specs.declared.action.Action.TheVariants.{Stop, Go, Wait, Read, Write, Swap}
+use Rattle.tso_program.specs.Listings.{action}
+use Rattle.tso_program.specs.Fences.{Gaps}
+use Rattle.tso_machine.specs.Machine.{Mode, put, Fenced, State, newest, found, when_empty, flushed, step, run}
+use Rattle.tso_machine.specs.declared.label.Label.{Label}
+use Rattle.tso_machine.specs.declared.label.Label.TheVariants.{Exec, Flush}
+use Rattle.tso_machine.specs.declared.label.Pending.{Pending}
+use Rattle.candidate_executions.specs.declared.access.Access.{Access}
+use Rattle.candidate_executions.specs.declared.event.Event.{Event}
+use Rattle.candidate_executions.specs.declared.event.Event.TheVariants.{Access as At}
+use Rattle.candidate_executions.specs.declared.event.Kind.TheVariants as union
+use Rattle.candidate_executions.specs.Candidates.{Candidate, IsCandidate, EndsWith}
+use Rattle.candidate_executions.specs.Traces.{Trace, trace, traced, stopped, with_access, entered}
+use Rattle.candidate_executions.specs.Orders.{Steps, steps, steps_by, counted, execs, flush_of}
+use Rattle.candidate_executions.specs.Consistency.{KeepsOrder, Edge, IsAcyclic}
+use Rattle.candidate_executions.proofs.Orders.Lists.{put_same, put_other}
+use Rattle.candidate_executions.proofs.FromRuns.MachineSteps.{exec_ok}
+use Rattle.candidate_executions.proofs.Orders.Dropped.{drop_none, drop_head, get_drop}
+use Rattle.candidate_executions.proofs.Sections.SectionsRise.{from_section}
+use Rattle.candidate_executions.proofs.Candidates.WrittenValues.{stored_as, store_of, some_written}
+use Rattle.candidate_executions.proofs.ToRuns.StepsCounted.{later, tail_counts}
+use Rattle.candidate_executions.proofs.ToRuns.Standing.{at, acc, W, store, Has, steps_from}
+use Rattle.candidate_executions.specs.RunCandidates.{Origins, Mark, Takes, Arrives, found_write, with_made, with_waiting, with_memory, buffered_origins, buffered_marks, flushed_origins, flushed_marks, origins_after, marks_at, marks}
+use Rattle.candidate_executions.proofs.FromRuns.MarksAlong.{marks_step, shown_along, shown_first}
+use Rattle.candidate_executions.proofs.ToRuns.ReadsTheRightValue.{not_kept, clear, no_waits, right_write, right_value}
+use Rattle.candidate_executions.proofs.ToRuns.StandingOn.{mode, final, left, Stand, Share, MadeNext, quiet_stands, write_stands, other_stands, read_stands, shared_next, has_still, has_new, flush_stands}
+
+module _ (p : Listing) (gaps : Gaps) (c : Candidate) (is : IsCandidate p (Fenced gaps) c) (loc : IsAcyclic (Edge p (Fenced gaps) c union.Location)) where
+  -- what a run has to come to
+  abbrev pub Final : State → Type 0
+  Final last = ((t : ℕ) → (last.locals t ≡ final p gaps c is loc t) × (last.buffers t ≡ [])) × ((l : ℕ) → EndsWith p (mode p gaps c is loc) c l (last.memory l))
+
+  abbrev pub shown : List Event → List Mark
+  shown rest = shown_along (at p gaps c is loc) c rest
+
+  abbrev pub Goal : Mode → State → Origins → List Event → List Label → Type 0
+  Goal machine s o rest labels = (last : State) × (run p machine s labels ≡ Some last) × Final last × (marks p machine s o labels ≡ shown rest)
+
+  pub first_step : (machine : Mode) (l : Label) (labels : List Label) (s s' : State) (o o' : Origins) (rest rest' : List Event) (ms : List Mark) → step p machine s l ≡ Some s' →
+      origins_after p machine s o l ≡ o' → marks_at p machine s o l ≡ ms → ms ++ shown rest' ≡ shown rest → Goal machine s' o' rest' labels → Goal machine s o rest (l ∷ labels)
+  first_step machine l labels s s' o o' rest rest' ms e f h k g = (
+    g.0,
+    ap (option_and_then (λ z. run p machine z labels)) e ∙ g.1,
+    g.2,
+    marks_step p machine l labels s s' o o' ms e f h ∙ (ap (λ x. ms ++ x) g.3 ∙ k),
+  )
+
+  -- each thread has executed so many instructions, and the rest of the events are to come
+  pub record Sim (s : State) (o : Origins) (done : ℕ → ℕ) (rest : List Event) : Type 0 where
+    pub threads : (t : ℕ) → (k : ℕ) × Stand p gaps c is loc t (s.locals t) (s.buffers t) (o.waiting t) (o.made t) rest k (done t)
+    pub shared : Share p gaps c is loc s.memory o.memory rest
+
+  pub tail_plays : (a : Access) (T : Trace) (t d : ℕ) → with_access a T ≡ left p gaps c is loc t d → (slice_get (acc p gaps c is loc t) d ≡ Some a) × (T ≡ left p gaps c is loc t (suc d))
+  tail_plays a T t d e =
+      let (x, y) = drop_head d (acc p gaps c is loc t) T.accesses a (ap (λ (z : Trace). z.accesses) e) in
+      (x, λ i. record { accesses = y i; last = (ap (λ (z : Trace). z.last) e) i; unused = (ap (λ (z : Trace). z.unused) e) i })
+
+  pub least : (b : Bool) (n m : ℕ) → entered b n ≤ m → n ≤ m
+  least true n m h = omega arith
+  least false n m h = h
+
+  pub above : (b : Bool) (n : ℕ) → n ≤ entered b n
+  above true n = omega arith
+  above false n = omega arith
+
+  module _ (t i : ℕ) (rest : List Event) (y : Access) (here : at p gaps c is loc (At t i) ≡ Some y) (done : ℕ → ℕ) (n : ℕ)
+      (made : slice_get (steps_by p c.given t).accesses i ≡ Some n) (labels : List Label)
+      (ih : (s : State) (o : Origins) → Sim s o (put done t (done t + (n - done t))) rest → Goal (mode p gaps c is loc) s o rest labels) where
+    abbrev all : List Event
+    all = At t i ∷ rest
+
+    abbrev then : List Label
+    then = flush_of y.read t ++ labels
+
+    -- how many instructions the thread has executed after the event
+    abbrev after_it : ℕ
+    after_it = done t + (n - done t)
+
+    abbrev Others : State → Origins → Type 0
+    Others s o = (u : ℕ) → (u ≡ t → ⊥) → (k : ℕ) × Stand p gaps c is loc u (s.locals u) (s.buffers u) (o.waiting u) (o.made u) all k (done u)
+
+    -- how thread t stands
+    abbrev Here : State → Origins → ℕ → ℕ → Type 0
+    Here s o k e = Stand p gaps c is loc t (s.locals t) (s.buffers t) (o.waiting t) (o.made t) all k e
+
+    abbrev Shares : State → Origins → Type 0
+    Shares s o = Share p gaps c is loc s.memory o.memory all
+
+    flush_case : (s : State) (o : Origins) (k e : ℕ) → Others s o → (mine : Here s o k e) → Shares s o → i < mine.done →
+        done t ≤ e → e ≤ after_it → Goal (mode p gaps c is loc) s o all then
+    flush_case s o k e others mine shared lt low high =
+        let f = flush_stands p gaps c is loc t i rest y here (s.locals t) (s.buffers t) (o.waiting t) (o.made t) s.memory o.memory k e mine shared lt in
+        let w = store p gaps c is loc t i in
+        let past = mine.past i n lt made in
+        let now : e ≡ after_it = omega arith in
+        let o' : Origins = with_memory (with_waiting o t f.others_wait) w.location (At t i) in
+        let plain = mine.plain i y here lt (inl refl) in
+        subst (λ r. Goal (mode p gaps c is loc) s o all (flush_of r t ++ labels)) (sym plain.0)
+        (first_step (mode p gaps c is loc) (Flush t) labels s (record s { buffers = put s.buffers t f.others; memory = put s.memory w.location w.value }) o o' all rest (Arrives (At t i) ∷ [])
+        (ap (flushed s t) f.buffer_is) (ap (flushed_origins o t) f.waits_are) (ap flushed_marks f.waits_are)
+        (shown_first (at p gaps c is loc) c (At t i) rest y None (Some (stored_as y.written)) here plain.0 (some_written y.written plain.1))
+        (ih (record s { buffers = put s.buffers t f.others; memory = put s.memory w.location w.value }) o' (record {
+          threads = λ u. elim (cases_eq u t) [
+            | inl q ↦ subst (λ z. (k : ℕ) × Stand p gaps c is loc z (s.locals z) (put s.buffers t f.others z) (put o.waiting t f.others_wait z) (o.made z) rest k (put done t after_it z)) (sym q) (
+              k,
+              rw (put_same s.buffers t f.others, put_same o.waiting t f.others_wait, put_same done t after_it)
+                  (subst (λ x. Stand p gaps c is loc t (s.locals t) f.others f.others_wait (o.made t) rest k x) now f.stands),
+            )
+            | inr n ↦ (let (k, x) = others u n in (
+              k,
+              rw (put_other s.buffers t f.others u n, put_other o.waiting t f.others_wait u n, put_other done t after_it u n)
+                  (other_stands p gaps c is loc t i u n (s.locals u) (s.buffers u) (o.waiting u) (o.made u) rest k (done u) x),
+            ))
+          ];
+          shared = shared_next p gaps c is loc (At t i) rest s.memory (put s.memory w.location w.value) o.memory (put o.memory w.location (At t i)) shared (λ l. elim (cases_eq l w.location) [
+            | inl q ↦ subst (λ z. Has p gaps c is loc rest z (put s.memory w.location w.value z) (put o.memory w.location (At t i) z)) (sym q)
+                (rw (put_same s.memory w.location w.value, put_same o.memory w.location (At t i)) (has_new p gaps c is loc (At t i) rest s.memory o.memory w.location w.value shared (written mine lt)))
+            | inr n ↦ rw (put_other s.memory w.location w.value l n, put_other o.memory w.location (At t i) l n) (has_still p gaps c is loc (At t i) rest l (s.memory l) (o.memory l) (shared.has l)
+                (λ v a. n (let x : a.0 ≡ y = same_Some a.0 y (sym a.1 ∙ here) in sym a.2 ∙ (ap (λ (z : Access). z.location) x ∙ ap (λ (z : Pending). z.location) (sym (ap store_of here))))))
+          ]);
+        })))
+      where
+        written : (mine : Here s o k e) → i < mine.done →
+            W p gaps c is loc (At t i) (store p gaps c is loc t i).location (store p gaps c is loc t i).value
+        written mine lt = (
+          y,
+          here,
+          ap (λ (z : Pending). z.location) (sym (ap store_of here)),
+          some_written y.written (mine.plain i y here lt (inl refl)).1 ∙ ap Some (ap (λ (z : Pending). z.value) (sym (ap store_of here))),
+        )
+
+    module _ (k e : ℕ) (s : State) (o : Origins) (others : Others s o) (mine : Here s o (suc k) e) (shared : Shares s o) (ge : mine.done ≤ i)
+        (low : done t ≤ e) (high : e ≤ after_it)
+        (again : (s : State) (o : Origins) → Others s o → Here s o k (suc e) → Shares s o → suc e ≤ after_it → Goal (mode p gaps c is loc) s o all (execs t (n - suc e) ++ then)) where
+      abbrev m : ℕ
+      m = entered (gaps t (s.locals t).place) mine.section
+
+      y_at : slice_get (drop mine.done (acc p gaps c is loc t)) (i - mine.done) ≡ Some y
+      y_at = get_drop mine.done i (acc p gaps c is loc t) ge ∙ here
+
+      m_le : m ≤ y.section
+      m_le = from_section (action p.threads t) (gaps t) (suc k) mine.section (s.locals t) mine.given (i - mine.done) y
+          (ap (λ (z : Trace). slice_get z.accesses (i - mine.done)) mine.plays ∙ y_at)
+
+      -- the event's instruction is still to come
+      to_come : e < n
+      to_come = later (action p.threads t) (suc k) e (s.locals t) mine.given (i - mine.done) n
+          (ap (λ (z : Steps). slice_get z.accesses (i - mine.done)) mine.counts ∙ (get_drop mine.done i (steps_by p c.given t).accesses ge ∙ made))
+
+      exec_first : (s' : State) (o' : Origins) (rest' : List Event) (ms : List Mark) → step p (mode p gaps c is loc) s (Exec t) ≡ Some s' → origins_after p (mode p gaps c is loc) s o (Exec t) ≡ o' →
+          marks_at p (mode p gaps c is loc) s o (Exec t) ≡ ms → ms ++ shown rest' ≡ shown all → Goal (mode p gaps c is loc) s' o' rest' (execs t (n - suc e) ++ then) →
+          Goal (mode p gaps c is loc) s o all (execs t (n - e) ++ then)
+      exec_first s' o' rest' ms st f h m g = let lt = to_come in let q : suc (n - suc e) ≡ n - e = omega arith in
+          subst (λ x. Goal (mode p gaps c is loc) s o all (execs t x ++ then)) q (first_step (mode p gaps c is loc) (Exec t) (execs t (n - suc e) ++ then) s s' o o' all rest' ms st f h m g)
+
+      once_more : (s' : State) (o' : Origins) → step p (mode p gaps c is loc) s (Exec t) ≡ Some s' → origins_after p (mode p gaps c is loc) s o (Exec t) ≡ o' →
+          marks_at p (mode p gaps c is loc) s o (Exec t) ≡ [] → Others s' o' → Here s' o' k (suc e) → Shares s' o' → Goal (mode p gaps c is loc) s o all (execs t (n - e) ++ then)
+      once_more s' o' st f m a x h = let lt = to_come in exec_first s' o' all [] st f m refl (again s' o' a x h (omega arith))
+
+      clear_by : ((x : Access) → x.section ≤ mine.section → KeepsOrder x y) → s.buffers t ≡ []
+      clear_by = clear p gaps c is loc t i rest y here (s.locals t) (s.buffers t) (o.waiting t) (o.made t) s.memory o.memory (suc k) e mine shared ge
+
+      gap_free : gaps t (s.locals t).place ≡ true → s.buffers t ≡ []
+      gap_free g = let z : m ≡ suc mine.section = ap (λ b. entered b mine.section) g in let le = m_le in
+          clear_by (λ x h. inr (inr (λ q. omega arith)))
+
+      m_above : mine.section ≤ m
+      m_above = above (gaps t (s.locals t).place) mine.section
+
+      none_left : (given : List ℕ) (labels : List Label) → stopped (s.locals t) given ≡ left p gaps c is loc t mine.done → Goal (mode p gaps c is loc) s o all labels
+      none_left given labels e = absurd (drop_none mine.done i (acc p gaps c is loc t) y (sym (ap (λ (z : Trace). z.accesses) e)) here ge)
+
+      others_at : (next : Local) → (u : ℕ) → (u ≡ t → ⊥) → (k : ℕ) × Stand p gaps c is loc u (put s.locals t next u) (s.buffers u) (o.waiting u) (o.made u) all k (done u)
+      others_at next u n = let (k, x) = others u n in (k, rw (put_other s.locals t next u n) x)
+
+      -- an earlier access that reads would have to come first
+      is_now : (a : Access) → slice_get (acc p gaps c is loc t) mine.done ≡ Some a → IsSome a.read → mine.done ≡ i
+      is_now a b r = elim (cases_eq mine.done i) [
+        | inl q ↦ q
+        | inr n ↦ absurd (not_kept p gaps c is loc t i rest y here (s.locals t) (s.buffers t) (o.waiting t) (o.made t) s.memory o.memory (suc k) e mine shared mine.done a b
+            (mine.behind mine.done a b (omega arith)) (omega arith) (inl r))
+      ]
+
+      is_y : (a : Access) → slice_get (acc p gaps c is loc t) mine.done ≡ Some a → mine.done ≡ i → a ≡ y
+      is_y a b q = same_Some a y (sym b ∙ (ap (slice_get (acc p gaps c is loc t)) q ∙ here))
+
+      -- the event is made by the next instruction
+      is_n : MadeNext p gaps c is loc t mine.done e → mine.done ≡ i → suc e ≡ n
+      is_n a q = same_Some (suc e) n (sym a ∙ (ap (slice_get (steps_by p c.given t).accesses) q ∙ made))
+
+      -- the event is a read or an exchange, and its turn is now
+      leaves : (next : Local) (v x : ℕ) (memory : ℕ → ℕ) (origins : ℕ → Event) (given : List ℕ) → y.read ≡ Some v → mine.section ≤ x → mine.done ≡ i →
+          trace (action p.threads t) (gaps t) k x next given ≡ left p gaps c is loc t (suc mine.done) →
+          steps (action p.threads t) k (suc e) next given ≡ steps_from p gaps c is loc t (suc mine.done) → MadeNext p gaps c is loc t mine.done e →
+          ((l : ℕ) → Has p gaps c is loc rest l (memory l) (origins l)) →
+          Goal (mode p gaps c is loc) (record s { locals = put s.locals t next; memory = memory }) (record o { made = put o.made t (suc (o.made t)); memory = origins }) rest (execs t (n - suc e) ++ then)
+      leaves next v x memory origins given reads h d f g a has =
+          let s' : State = record s { locals = put s.locals t next; memory = memory } in
+          let o' : Origins = record o { made = put o.made t (suc (o.made t)); memory = origins } in
+          let now : suc e ≡ n = is_n a d in
+          let none : 0 ≡ n - suc e = omega arith in
+          let count : suc e ≡ after_it = omega arith in
+          subst (λ z. Goal (mode p gaps c is loc) s' o' rest (execs t z ++ then)) none
+          (subst (λ r. Goal (mode p gaps c is loc) s' o' rest (flush_of r t ++ labels)) (sym reads)
+          (ih s' o' (record {
+            threads = λ u. elim (cases_eq u t) [
+              | inl q ↦ subst (λ z. (k : ℕ) × Stand p gaps c is loc z (put s.locals t next z) (s.buffers z) (o.waiting z) (put o.made t (suc (o.made t)) z) rest k (put done t after_it z)) (sym q) (
+                k,
+                rw (put_same s.locals t next, put_same o.made t (suc (o.made t)), put_same done t after_it)
+                    (subst (λ z. Stand p gaps c is loc t next (s.buffers t) (o.waiting t) (suc (o.made t)) rest k z) count
+                    (read_stands p gaps c is loc t i (s.locals t) (s.buffers t) (o.waiting t) (o.made t) rest (suc k) e mine next k x given h d shared.distinct.0 f g a)),
+              )
+              | inr n ↦ (let (k, x) = others u n in (
+                k,
+                rw (put_other s.locals t next u n, put_other o.made t (suc (o.made t)) u n, put_other done t after_it u n)
+                    (other_stands p gaps c is loc t i u n (s.locals u) (s.buffers u) (o.waiting u) (o.made u) rest k (done u) x),
+              ))
+            ];
+            shared = shared_next p gaps c is loc (At t i) rest s.memory memory o.memory origins shared has;
+          })))
+
+      on_action : (a : Action) → action p.threads t (s.locals t) ≡ a → (given : List ℕ) →
+          traced (trace (action p.threads t) (gaps t) k) m (s.locals t) a given ≡ left p gaps c is loc t mine.done →
+          counted (steps (action p.threads t) k) e a given ≡ steps_from p gaps c is loc t mine.done → Goal (mode p gaps c is loc) s o all (execs t (n - e) ++ then)
+      on_action Stop q given e f = none_left given _ e
+      on_action (Go next) q given h f =
+          once_more (record s { locals = put s.locals t next }) o (exec_ok p gaps s _ t gap_free (rw q refl)) (ap (buffered_origins o t) q) (ap (buffered_marks s o t) q) (others_at next)
+          (rw put_same (quiet_stands p gaps c is loc t (s.locals t) (s.buffers t) (o.waiting t) (o.made t) all (suc k) e mine next k m given m_above h f)) shared
+      on_action (Wait next) q given h f =
+          let le : suc m ≤ y.section = least (gaps t next.place) (suc m) y.section (from_section (action p.threads t) (gaps t) k (suc m) next given (i - mine.done) y
+          (ap (λ (z : Trace). slice_get z.accesses (i - mine.done)) h ∙ y_at)) in
+          let up = m_above in
+          let empty : s.buffers t ≡ [] = clear_by (λ x h. inr (inr (λ q. omega arith))) in
+          once_more (record s { locals = put s.locals t next }) o (exec_ok p gaps s _ t gap_free (rw q (ap (λ b. when_empty b (record s { locals = put s.locals t next })) empty)))
+          (ap (buffered_origins o t) q) (ap (buffered_marks s o t) q) (others_at next)
+          (rw put_same (quiet_stands p gaps c is loc t (s.locals t) (s.buffers t) (o.waiting t) (o.made t) all (suc k) e mine next k (suc m) given (omega arith) h f)) shared
+      on_action (Write l v next) q given h f =
+          let w : Pending = record { location = l; value = v } in
+          let (a, g) = tail_plays (record { section = m; location = l; read = None; written = Some v }) (trace (action p.threads t) (gaps t) k m next given) t mine.done h in
+          let (b, d) = tail_counts (suc e) mine.done (steps (action p.threads t) k (suc e) next given) (steps_by p c.given t) f in
+          let ws : List (ℕ × Event) = o.waiting t ++ (l, At t (o.made t)) ∷ [] in
+          once_more (record s { locals = put s.locals t next; buffers = put s.buffers t (s.buffers t ++ w ∷ []) }) (with_made (with_waiting o t ws) t) (exec_ok p gaps s _ t gap_free (rw q refl))
+          (ap (buffered_origins o t) q) (ap (buffered_marks s o t) q)
+          (λ u n. let (k, x) = others u n in (
+            k,
+            rw (put_other s.locals t next u n, put_other s.buffers t (s.buffers t ++ w ∷ []) u n, put_other o.waiting t ws u n, put_other o.made t (suc (o.made t)) u n) x,
+          ))
+          (rw (put_same s.locals t next, put_same s.buffers t (s.buffers t ++ w ∷ []), put_same o.waiting t ws, put_same o.made t (suc (o.made t)))
+          (write_stands p gaps c is loc t (s.locals t) (s.buffers t) (o.waiting t) (o.made t) all (suc k) e mine next k m l v given m_above a g d b)) shared
+      on_action (Read l to next) q [] h f = none_left [] _ h
+      on_action (Read l to next) q (v ∷ given) h f =
+          let x : Access = record { section = m; location = l; read = Some v; written = None } in
+          let (a, g) = tail_plays x (trace (action p.threads t) (gaps t) k m (loaded to v next) given) t mine.done h in
+          let (b, d) = tail_counts (suc e) mine.done (steps (action p.threads t) k (suc e) (loaded to v next) given) (steps_by p c.given t) f in
+          let now : mine.done ≡ i = is_now x a refl in
+          let same : x ≡ y = is_y x a now in
+          let reads : y.read ≡ Some v = sym (ap (λ (z : Access). z.read) same) in
+          let there : y.location ≡ l = sym (ap (λ (z : Access). z.location) same) in
+          let value : found (newest l (s.buffers t)) (s.memory l) ≡ v = subst (λ z. found (newest z (s.buffers t)) (s.memory z) ≡ v) there
+          (right_value p gaps c is loc t i rest y here (s.locals t) (s.buffers t) (o.waiting t) (o.made t) s.memory o.memory (suc k) e mine shared v reads now) in
+          let write : found_write l (o.waiting t) (o.memory l) ≡ c.source (At t i) = subst (λ z. found_write z (o.waiting t) (o.memory z) ≡ c.source (At t i)) there
+          (right_write p gaps c is loc t i rest y here (s.locals t) (s.buffers t) (o.waiting t) (o.made t) s.memory o.memory (suc k) e mine shared v reads now) in
+          let it : o.made t ≡ i = mine.count_is ∙ now in
+          exec_first (record s { locals = put s.locals t (loaded to v next) }) (with_made o t) rest (Takes (At t i) v (c.source (At t i)) ∷ [])
+          (exec_ok p gaps s _ t gap_free (rw q (ap (λ v. Some (record s { locals = put s.locals t (loaded to v next) })) value)))
+          (ap (buffered_origins o t) q) (ap (buffered_marks s o t) q ∙ (λ j. Takes (At t (it j)) (value j) (write j) ∷ []))
+          (shown_first (at p gaps c is loc) c (At t i) rest y (Some v) None here reads (sym (ap (λ (z : Access). z.written) same)))
+          (leaves (loaded to v next) v m s.memory o.memory given reads m_above now g d b
+          (λ l. has_still p gaps c is loc (At t i) rest l (s.memory l) (o.memory l) (shared.has l)
+          (λ v b. let z : b.0 ≡ y = same_Some b.0 y (sym b.1 ∙ here) in
+          let k : None ≡ Some v = ap (λ (z : Access). z.written) (same ∙ sym z) ∙ b.3 in cc)))
+      on_action (Swap l w to next) q [] h f = none_left [] _ h
+      on_action (Swap l w to next) q (v ∷ given) h f =
+          let x : Access = record { section = m; location = l; read = Some v; written = Some w } in
+          let (a, g) = tail_plays x (trace (action p.threads t) (gaps t) k (suc m) (loaded to v next) given) t mine.done h in
+          let (b, d) = tail_counts (suc e) mine.done (steps (action p.threads t) k (suc e) (loaded to v next) given) (steps_by p c.given t) f in
+          let now : mine.done ≡ i = is_now x a refl in
+          let same : x ≡ y = is_y x a now in
+          let reads : y.read ≡ Some v = sym (ap (λ (z : Access). z.read) same) in
+          let writes : y.written ≡ Some w = sym (ap (λ (z : Access). z.written) same) in
+          let empty : s.buffers t ≡ [] = clear_by (λ x h. inr (inl (rw writes refl))) in
+          let there : y.location ≡ l = sym (ap (λ (z : Access). z.location) same) in
+          let first : found (newest l (s.buffers t)) (s.memory l) ≡ v = subst (λ z. found (newest z (s.buffers t)) (s.memory z) ≡ v) there
+          (right_value p gaps c is loc t i rest y here (s.locals t) (s.buffers t) (o.waiting t) (o.made t) s.memory o.memory (suc k) e mine shared v reads now) in
+          let value : s.memory l ≡ v = sym (ap (λ b. found (newest l b) (s.memory l)) empty) ∙ first in
+          let source : found_write l (o.waiting t) (o.memory l) ≡ c.source (At t i) = subst (λ z. found_write z (o.waiting t) (o.memory z) ≡ c.source (At t i)) there
+          (right_write p gaps c is loc t i rest y here (s.locals t) (s.buffers t) (o.waiting t) (o.made t) s.memory o.memory (suc k) e mine shared v reads now) in
+          let none : o.waiting t ≡ [] = no_waits p gaps c is loc t i rest y here (s.locals t) (s.buffers t) (o.waiting t) (o.made t) s.memory o.memory (suc k) e mine shared empty in
+          let write : o.memory l ≡ c.source (At t i) = sym (ap (λ b. found_write l b (o.memory l)) none) ∙ source in
+          let it : o.made t ≡ i = mine.count_is ∙ now in
+          exec_first (record s { locals = put s.locals t (loaded to v next); memory = put s.memory l w }) (with_made (with_memory o l (At t i)) t) rest
+          (Takes (At t i) v (c.source (At t i)) ∷ Arrives (At t i) ∷ [])
+          (exec_ok p gaps s _ t gap_free (rw q (ap (λ b. when_empty b (record s { locals = put s.locals t (loaded to (s.memory l) next); memory = put s.memory l w })) empty ∙
+          ap (λ v. Some (record s { locals = put s.locals t (loaded to v next); memory = put s.memory l w })) value)))
+          (ap (buffered_origins o t) q ∙ (λ j. with_made (with_memory o l (At t (it j))) t)) (ap (buffered_marks s o t) q ∙ (λ j. Takes (At t (it j)) (value j) (write j) ∷ Arrives (At t (it j)) ∷ []))
+          (shown_first (at p gaps c is loc) c (At t i) rest y (Some v) (Some w) here reads writes)
+          (leaves (loaded to v next) v (suc m) (put s.memory l w) (put o.memory l (At t i)) given reads (let z = m_above in omega arith) now g d b
+          (λ k. elim (cases_eq k l) [
+            | inl q ↦ subst (λ z. Has p gaps c is loc rest z (put s.memory l w z) (put o.memory l (At t i) z)) (sym q)
+                (rw (put_same s.memory l w, put_same o.memory l (At t i)) (has_new p gaps c is loc (At t i) rest s.memory o.memory l w shared (y, here, sym (ap (λ (z : Access). z.location) same), writes)))
+            | inr n ↦ rw (put_other s.memory l w k n, put_other o.memory l (At t i) k n) (has_still p gaps c is loc (At t i) rest k (s.memory k) (o.memory k) (shared.has k)
+                (λ v b. n (let z : b.0 ≡ y = same_Some b.0 y (sym b.1 ∙ here) in
+                sym b.2 ∙ ap (λ (z : Access). z.location) (z ∙ sym same))))
+          ]))
+
+    -- the event has been executed already, and waits in the buffer
+    executed : (s : State) (o : Origins) (k e : ℕ) → Others s o → (mine : Here s o k e) → Shares s o → i < mine.done →
+        done t ≤ e → e ≤ after_it → Goal (mode p gaps c is loc) s o all (execs t (n - e) ++ then)
+    executed s o k e others mine shared lt low high =
+        let past = mine.past i n lt made in
+        let none : 0 ≡ n - e = omega arith in
+        subst (λ z. Goal (mode p gaps c is loc) s o all (execs t z ++ then)) none (flush_case s o k e others mine shared lt low high)
+
+    pub reach : (k e : ℕ) (s : State) (o : Origins) → Others s o → Here s o k e → Shares s o → done t ≤ e → e ≤ after_it → Goal (mode p gaps c is loc) s o all (execs t (n - e) ++ then)
+    reach zero e s o others mine shared low high = elim (cases_lt i mine.done) [
+      | inl lt ↦ executed s o zero e others mine shared lt low high
+      | inr ge ↦ absurd (drop_none mine.done i (acc p gaps c is loc t) y (sym (ap (λ (z : Trace). z.accesses) mine.plays)) here ge)
+    ]
+    reach (suc k) e s o others mine shared low high = elim (cases_lt i mine.done) [
+      | inl lt ↦ executed s o (suc k) e others mine shared lt low high
+      | inr ge ↦ on_action k e s o others mine shared ge low high (λ s o a x h z. reach k (suc e) s o a x h (omega arith) z) (action p.threads t (s.locals t)) refl mine.given mine.plays mine.counts
+    ]

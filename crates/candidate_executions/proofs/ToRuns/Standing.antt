@@ -1,0 +1,117 @@
+-- Where the threads stand in a run that follows the order of a candidate's events.
+use Rattle.std.proofs.Common.{◌≡◌, ◌≢◌, ℕ, ◌<◌, ◌≤◌, List, [], ◌∷◌, Option, Some, None, IsSome, slice_get, map, drop, refl, sym, ap, ◌∙◌, inl, inr}
+use Rattle.std.proofs.lemmas.Option.{same_Some}
+use Rattle.tso_program.specs.declared.listing.Listing.{Listing}
+use Rattle.tso_program.specs.declared.action.Local.{Local}
+use Rattle.tso_program.specs.Listings.{action}
+use Rattle.tso_program.specs.Fences.{Gaps}
+use Rattle.tso_machine.specs.Machine.{Mode, Fenced}
+use Rattle.tso_machine.specs.declared.label.Pending.{Pending}
+use Rattle.candidate_executions.specs.declared.access.Access.{Access}
+use Rattle.candidate_executions.specs.declared.event.Event.{Event}
+use Rattle.candidate_executions.specs.declared.event.Event.TheVariants.{Initial, Access as At}
+use Rattle.candidate_executions.specs.declared.event.Kind.TheVariants as union
+use Rattle.candidate_executions.specs.Candidates.{Candidate, trace_of, access, Writes, IsCandidate}
+use Rattle.candidate_executions.specs.Traces.{trace}
+use Rattle.candidate_executions.specs.Orders.{Steps, steps, steps_by}
+use Rattle.candidate_executions.specs.Consistency.{SameThread, KeepsOrder, Edge, IsAcyclic}
+use Rattle.candidate_executions.proofs.Orders.AcyclicIsOrdered.{In, Distinct, Ordered}
+use Rattle.candidate_executions.proofs.Candidates.WrittenValues.{store_of}
+
+module _ (p : Listing) (gaps : Gaps) (c : Candidate) (is : IsCandidate p (Fenced gaps) c) (loc : IsAcyclic (Edge p (Fenced gaps) c union.Location)) where
+  abbrev pub mode : Mode
+  mode = Fenced gaps
+
+  abbrev pub at : Event → Option Access
+  at = access p mode c
+
+  abbrev pub acc : ℕ → List Access
+  acc t = (trace_of p mode c t).accesses
+
+  abbrev pub G : Event → Event → Type 0
+  G = Edge p mode c union.Global
+
+  abbrev pub Lo : Event → Event → Type 0
+  Lo = Edge p mode c union.Location
+
+  abbrev pub W : Event → ℕ → ℕ → Type 0
+  W = Writes at
+
+  -- edges
+  pub kept_edge : (t j i : ℕ) (x y : Access) → at (At t j) ≡ Some x → at (At t i) ≡ Some y → j < i → KeepsOrder x y → G (At t j) (At t i)
+  kept_edge t j i x y a b n k = (x, y, a, b, inl ((refl, n), k))
+
+  pub place_edge : (t j i : ℕ) (x y : Access) → at (At t j) ≡ Some x → at (At t i) ≡ Some y → j < i → x.location ≡ y.location → Lo (At t j) (At t i)
+  place_edge t j i x y a b n k = (x, y, a, b, inl ((refl, n), k))
+
+  pub write_lo : (d e : Event) (l v w : ℕ) → W d l v → W e l w → c.rank d < c.rank e → Lo d e
+  write_lo d e l v w a b o = (a.0, b.0, a.1, b.1, inr (inr (inl (a.2 ∙ sym b.2, rw a.3 refl, rw b.3 refl, o))))
+
+  pub write_g : (d e : Event) (l v w : ℕ) → W d l v → W e l w → c.rank d < c.rank e → G d e
+  write_g d e l v w a b o = (a.0, b.0, a.1, b.1, inr (inr (inl (a.2 ∙ sym b.2, rw a.3 refl, rw b.3 refl, o))))
+
+  pub from_lo : (e d : Event) (y : Access) (l w : ℕ) → at e ≡ Some y → IsSome y.read → y.location ≡ l → W d l w → e ≢ d → c.rank (c.source e) < c.rank d → Lo e d
+  from_lo e d y l w a r k b n o = (y, b.0, a, b.1, inr (inr (inr (k ∙ sym b.2, r, rw b.3 refl, n, o))))
+
+  pub from_g : (e d : Event) (y : Access) (l w : ℕ) → at e ≡ Some y → IsSome y.read → y.location ≡ l → W d l w → e ≢ d → c.rank (c.source e) < c.rank d → G e d
+  from_g e d y l w a r k b n o = (y, b.0, a, b.1, inr (inr (inr (k ∙ sym b.2, r, rw b.3 refl, n, o))))
+
+  pub reads_lo : (e : Event) (y : Access) (v : ℕ) → at e ≡ Some y → y.read ≡ Some v → Lo (c.source e) e
+  reads_lo e y v a r = let s = (is.sources e y v a r).1 in (s.0, y, s.1, a, inr (inl (rw r refl, refl)))
+
+  pub reads_g : (e : Event) (y : Access) (v : ℕ) → at e ≡ Some y → y.read ≡ Some v → (SameThread (c.source e) e → ⊥) → G (c.source e) e
+  reads_g e y v a r n = let s = (is.sources e y v a r).1 in (s.0, y, s.1, a, inr (inl ((rw r refl, refl), n)))
+
+  pub same_value : (d : Event) (l a b : ℕ) → W d l a → W d l b → b ≡ a
+  same_value d l a b f g = let x : f.0 ≡ g.0 = same_Some f.0 g.0 (sym f.1 ∙ g.1) in
+      sym (same_Some _ _ (sym f.3 ∙ (ap (λ (z : Access). z.written) x ∙ g.3)))
+
+  pub two_lo : (d e : Event) → Lo d e → Lo e d → ⊥
+  two_lo d e a b = loc (d ∷ e ∷ []) (a, b)
+
+  abbrev pub store : ℕ → ℕ → Pending
+  store t j = store_of (slice_get (acc t) j)
+
+  -- the location and the event of a store that waits
+  abbrev pub own : ℕ → ℕ → ℕ × Event
+  own t j = ((store t j).location, At t j)
+
+  -- the steps of thread t from its access d on
+  abbrev pub steps_from : ℕ → ℕ → Steps
+  steps_from t d = record { accesses = drop d (steps_by p c.given t).accesses; all = (steps_by p c.given t).all }
+
+  -- Where thread t stands: it has executed so many instructions, and has made so many accesses by them; those of its stores that
+  -- are still in the rest wait in its buffer.
+  pub record Stands (t : ℕ) (local : Local) (buffer : List Pending) (waits : List (ℕ × Event)) (count : ℕ) (rest : List Event) (fuel executed : ℕ) : Type 0 where
+    pub done : ℕ
+    pub section : ℕ
+    pub queue : List ℕ
+    pub given : List ℕ
+    pub plays : trace (action p.threads t) (gaps t) fuel section local given ≡ record { accesses = drop done (acc t); last = (trace_of p mode c t).last; unused = [] }
+    pub counts : steps (action p.threads t) fuel executed local given ≡ steps_from t done
+    pub past : (j m : ℕ) → j < done → slice_get (steps_by p c.given t).accesses j ≡ Some m → m ≤ executed
+    pub behind : (i : ℕ) (y : Access) → at (At t i) ≡ Some y → done ≤ i → In (At t i) rest
+    pub plain : (i : ℕ) (y : Access) → at (At t i) ≡ Some y → i < done → In (At t i) rest → (y.read ≡ None) × IsSome y.written
+    pub buffer_is : buffer ≡ map (store t) queue
+    pub waits_are : waits ≡ map (own t) queue
+    pub count_is : count ≡ done
+    pub queued : (q j : ℕ) → slice_get queue q ≡ Some j → (j < done) × In (At t j) rest
+    pub in_queue : (j : ℕ) → j < done → In (At t j) rest → (q : ℕ) × (slice_get queue q ≡ Some j)
+    pub rising : (q r i j : ℕ) → q < r → slice_get queue q ≡ Some i → slice_get queue r ≡ Some j → i < j
+    pub early : (j : ℕ) (y : Access) → at (At t j) ≡ Some y → j < done → In (At t j) rest → y.section ≤ section
+
+  -- what memory has, by a write: the last of those that are not in the rest
+  pub record Has (rest : List Event) (l v : ℕ) (origin : Event) : Type 0 where
+    pub event : Event
+    pub origin_is : origin ≡ event
+    pub writes : W event l v
+    pub past : In event rest → ⊥
+    pub last : (d : Event) (w : ℕ) → W d l w → (In d rest → ⊥) → c.rank d ≤ c.rank event
+
+  pub record Shared (memory : ℕ → ℕ) (origins : ℕ → Event) (rest : List Event) : Type 0 where
+    pub has : (l : ℕ) → Has rest l (memory l) (origins l)
+    pub known : (t i : ℕ) → In (At t i) rest → (y : Access) × (at (At t i) ≡ Some y)
+    pub initial : (l : ℕ) → In (Initial l) rest → ⊥
+    pub ordered : Ordered G rest
+    pub distinct : Distinct rest
+    pub closed : (d e : Event) → (In d rest → ⊥) → In e rest → G e d → ⊥

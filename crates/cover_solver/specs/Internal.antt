@@ -1,0 +1,4 @@
+-- What contracts of private functions and proofs cite; no public contract does.
+pub mod Accesses
+pub mod ChoicesLeft
+pub mod Runs
