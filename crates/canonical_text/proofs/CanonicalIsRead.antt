@@ -26,7 +26,7 @@ use Rattle.litmus_syntax.specs.Views.{PlaceView, Location, Register, EntryView, 
 use Rattle.litmus_syntax.specs.Grammar.{NoneTwice, labels_in_rows as all_names}
 use Rattle.litmus_syntax.specs.Places.{same_place}
 use Rattle.litmus_reader.specs.declared.litmus.Litmus.{Litmus}
-use Rattle.litmus_lines.specs.FirstLine.{is_visible, AreVisible}
+use Rattle.litmus_lines.specs.FirstLine.{AreVisible}
 use Rattle.litmus_reader.specs.Names.{Names, all_registers, number_in}
 use Rattle.litmus_reader.specs.Places.{entry_place, row_places, sign_places, places, location_name, is_register, names_of, names_among}
 use Rattle.litmus_reader.specs.Outcomes.{is_named}

@@ -5,7 +5,7 @@ use Rattle.std.proofs.lemmas.List.{append-nil}
 use Rattle.text_tokens.specs.Pieces.{text_of, tokens_of, AreApart}
 use Rattle.text_tokens.proofs.PieceLaws.{pieces_lex}
 use Rattle.text_tokens.specs.Space.{nothing}
-use Rattle.litmus_lines.specs.FirstLine.{is_visible, AreVisible, IsFirstLine}
+use Rattle.litmus_lines.specs.FirstLine.{AreVisible, IsFirstLine}
 use Rattle.litmus_lines.specs.SkippedLines.{brace}
 use Rattle.canonical_text.specs.Spelling.{lines_pieces, ending_pieces, heading}
 use Rattle.canonical_text.specs.Laws.{PrintedPartsAreRead}

@@ -6,7 +6,7 @@ use Rattle.text_tokens.specs.Tokens.{Tok}
 use Rattle.text_tokens.specs.Lexing.{Lexes}
 use Rattle.litmus_syntax.specs.Views.{BodyView, EndingView}
 use Rattle.litmus_syntax.specs.Grammar.{IsBody, IsEnding}
-use Rattle.litmus_lines.specs.FirstLine.{is_visible, AreVisible, IsFirstLine}
+use Rattle.litmus_lines.specs.FirstLine.{AreVisible, IsFirstLine}
 use Rattle.litmus_lines.specs.SkippedLines.{AreSkipped}
 use Rattle.tso_program.specs.declared.listing.Listing.{Listing}
 use Rattle.litmus_reader.specs.declared.litmus.Litmus.{Litmus}

@@ -17,11 +17,11 @@ use Rattle.tso_machine.specs.RunTexts.{spelling, IsLabel, label_at}
 use Rattle.tso_machine.proofs.RunLabels.{label_takes, label_again}
 use Rattle.cert_words.specs.Lines.{spaced}
 use Rattle.text_tokens.specs.Steps.{◌>>=◌}
-use Rattle.cert_words.specs.Words.{is_inner, word_at, letter_at}
+use Rattle.cert_words.specs.Words.{is_inner, letter_at}
 use Rattle.text_tokens.proofs.StepLaws.{bind_some, by_test}
 use Rattle.std.proofs.lemmas.Option.{cond_some, same_Some}
 use Rattle.cert_words.proofs.Steps.{Starts, IsExact}
-use Rattle.cert_words.proofs.WordLaws.{prefix_is, after_prefix, word_takes, word_again, decimal_inner, letter_takes, letter_again, spaced_exact}
+use Rattle.cert_words.proofs.WordLaws.{prefix_is, after_prefix, decimal_inner, letter_takes, letter_again, spaced_exact}
 use Rattle.cert_forest.specs.declared.tree.AccessId.{AccessId}
 use Rattle.cert_forest.specs.Texts.{access_word, kind_word}
 use Rattle.cert_forest.specs.Limits.{IsAccessId}

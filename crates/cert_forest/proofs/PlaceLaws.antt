@@ -8,11 +8,11 @@ use Rattle.std.proofs.lemmas.Fmt.{decimal_digit}
 use Rattle.tso_program.specs.Names.{register_place, location_place}
 use Rattle.cert_words.specs.Lines.{spaced}
 use Rattle.text_tokens.specs.Steps.{◌>>=◌}
-use Rattle.cert_words.specs.Words.{is_inner, word_at}
+use Rattle.cert_words.specs.Words.{is_inner}
 use Rattle.text_tokens.proofs.StepLaws.{bind_some}
 use Rattle.std.proofs.lemmas.Option.{cond_some, same_Some}
-use Rattle.cert_words.proofs.Steps.{Starts, IsExact}
-use Rattle.cert_words.proofs.WordLaws.{word_takes, word_again, spaced_exact}
+use Rattle.cert_words.proofs.Steps.{IsExact}
+use Rattle.cert_words.proofs.WordLaws.{spaced_exact}
 use Rattle.tso_program.specs.declared.instruction.TheConstants.{REGISTERS}
 use Rattle.tso_program.specs.declared.limits.TheConstants.{MAX_THREADS, MAX_LOCATIONS}
 use Rattle.tso_program.specs.declared.shown.TheConstants.{REGISTER_PLACES, PLACES}

@@ -51,13 +51,13 @@ module _ (p : Listing) (mode : Mode) (thread_traces : List ThreadTrace) (sources
       ap (λ given. (trace (action p.threads t) (fenced_gaps (machine_mode p mode) t) (length (code_of p.threads t)) 0 (start_of p.threads t) given).last) (trace_given t c e)
       ∙ (kept.traces_are t c e).last
 
-  pub no_course : (t : ℕ) → slice_get thread_traces t ≡ None → length p.threads ≤ t
-  no_course t e = let h = past_end thread_traces t e in let same = kept.one_each in omega arith
+  pub no_trace : (t : ℕ) → slice_get thread_traces t ≡ None → length p.threads ≤ t
+  no_trace t e = let h = past_end thread_traces t e in let same = kept.one_each in omega arith
 
   pub no_accesses : (t : ℕ) → slice_get thread_traces t ≡ None → (trace_in s t).accesses ≡ []
   no_accesses t e =
       ap (λ code. (trace (action p.threads t) (fenced_gaps (machine_mode p mode) t) (length code) 0 (start_of p.threads t) (given_to (given_lists thread_traces) t)).accesses)
-      (no_code p.threads t (no_course t e))
+      (no_code p.threads t (no_trace t e))
 
   pub trace_next : (t : ℕ) (c : ThreadTrace) → slice_get thread_traces t ≡ Some c →
       sketches.next_read p (machine_mode p mode) (sketch_of s) t ≡ sketches.read_by (action p.threads t c.last)

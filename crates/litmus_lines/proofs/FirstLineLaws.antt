@@ -1,5 +1,5 @@
 -- The first line that is read is the one that stands there.
-use Rattle.std.proofs.Common.{◌≡◌, ℕ, suc, ◌+◌, ◌<◌, Bool, true, false, cond, List, [], ◌∷◌, ◌++◌, length, take, drop, Option, Some, None, refl, sym, ap, ◌∙◌, subst, arith, inl, inr}
+use Rattle.std.proofs.Common.{◌≡◌, ℕ, suc, ◌+◌, ◌<◌, Bool, true, false, List, [], ◌∷◌, ◌++◌, length, take, drop, Option, Some, None, refl, sym, ap, ◌∙◌, subst, arith, inl, inr}
 use Rattle.std.specs.Prelude.{◌&&◌, codes, nat_lt, slice_index}
 use Rattle.std.specs.List.{list_all, prefix_len}
 use Rattle.std.specs.Str.{bytes_eq}
@@ -9,7 +9,7 @@ use Rattle.std.proofs.lemmas.List.{take_at, take_all, drop_at, take-append-drop,
 use Rattle.std.proofs.lemmas.List.Folds.{list_all-append}
 use Rattle.std.proofs.lemmas.Option.{cond_some}
 use Rattle.std.proofs.lemmas.Slice.Eq.{bytes_eq-Decides}
-use Rattle.text_tokens.specs.Bytes.{is_blank, is_line_space, AreBlanks, AreLineSpaces}
+use Rattle.text_tokens.specs.Bytes.{is_blank, is_line_space, AreBlanks}
 use Rattle.text_tokens.proofs.Prefixes.{prefix_is, all_pass}
 use Rattle.text_tokens.proofs.StepLaws.{let_through, not_passed}
 use Rattle.litmus_lines.specs.FirstLine.{is_inside, is_visible, AreVisible, IsHeading, IsFirstLine}

@@ -1,6 +1,7 @@
 -- The elements of a list that pass a test, and whether a number is in a list.
-use Rattle.std.proofs.Common.{◌≡◌, ◌⊎◌, ℕ, Bool, true, false, List, [], ◌∷◌, ◌||◌, nat_eq, cond, Contains, refl, sym, ap, ◌∙◌, subst, inl, inr, arith}
+use Rattle.std.proofs.Common.{◌≡◌, ℕ, Bool, true, false, List, [], ◌∷◌, nat_eq, cond, Contains, refl, sym, ap, ◌∙◌, subst, inl, inr, arith}
 use Rattle.std.specs.List.{filter, list_any}
+use Rattle.std.proofs.lemmas.Bool.{or_cases, or_left, or_right}
 use Rattle.std.proofs.lemmas.Bool.Decides.{nat_tests}
 use Rattle.tree_laws.proofs.Lists.{none_here, first_or_later, first_is_here, later_is_here}
 
@@ -34,25 +35,13 @@ module _ (p : ℕ → Bool) where
     | inr later ↦ to_test y (filter p ys) x (p y) refl (to_filter ys x later e)
   ]
 
-either : (a b : Bool) → (a || b) ≡ true → (a ≡ true) ⊎ (b ≡ true)
-either true b e = inl refl
-either false b e = inr e
-
 -- a number that is found is in the list
 pub has_any : (xs : List ℕ) (g : ℕ) → list_any (λ y. nat_eq y g) xs ≡ true → Contains xs g
 has_any [] g e = absurd cc
-has_any (x ∷ xs) g e = elim (either (nat_eq x g) (list_any (λ y. nat_eq y g) xs) e) [
+has_any (x ∷ xs) g e = elim (or_cases (nat_eq x g) (list_any (λ y. nat_eq y g) xs) e) [
   | inl same ↦ (let is : x ≡ g = grind (arith, nat_tests) in subst (Contains (x ∷ xs)) is (first_is_here x xs))
   | inr later ↦ later_is_here x xs g (has_any xs g later)
 ]
-
-or_left : (a b : Bool) → a ≡ true → (a || b) ≡ true
-or_left true b e = refl
-or_left false b e = absurd cc
-
-or_right : (a b : Bool) → b ≡ true → (a || b) ≡ true
-or_right true b e = refl
-or_right false b e = e
 
 -- and one that is in the list is found
 pub any_has : (xs : List ℕ) (g : ℕ) → Contains xs g → list_any (λ y. nat_eq y g) xs ≡ true
