@@ -115,7 +115,7 @@ module _ (p : Listing) where
       omega arith
 
 -- no event comes before itself
-not_before_itself : (e : Event) → ComesBefore e e → ⊥
+pub not_before_itself : (e : Event) → ComesBefore e e → ⊥
 not_before_itself (Initial l) h = omega arith
 not_before_itself (At t i) (inl h) = omega arith
 not_before_itself (At t i) (inr h) = let less = h.1 in omega arith

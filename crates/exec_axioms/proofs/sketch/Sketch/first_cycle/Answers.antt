@@ -1,10 +1,18 @@
-use Rattle.std.proofs.Common.{◌∙◌, sym, ap}
+use Rattle.std.proofs.Common.{◌∙◌, sym, ap, subst}
 use Rattle.std.proofs.lemmas.Option.{MatchOption-at_none}
 use Rattle.std.proofs.lemmas.Result.{IfOk-weaker}
 use Rattle.exec_axioms.specs.Parts.{Parts}
+use Rattle.exec_axioms.specs.Kept.{IsLawful}
+use Rattle.exec_axioms.specs.Choices.{IsWhole}
+use Rattle.exec_axioms.proofs.KnownParts.{not_by}
+use Rattle.exec_axioms.proofs.Unchosen.{no_cycle_yet}
 use Rattle.exec_axioms.proofs.Lookups.{none_by}
 use Rattle.exec_axioms.proofs.Found.{none_sequential, none_fenced}
 use Rattle.exec_axioms.proofs.sketch.Sketch.first_cycle.Goals as goal
+
+pub returns-then-not-is_whole : goal.returns-then-not-is_whole
+returns-then-not-is_whole c = no_cycle_yet c.args.self.now (subst (λ (s : Parts). IsLawful s) c.self.view_is c.self.invariant.kept.lawful)
+    (not_by _ (IsWhole c.args.self.now) c.is_whole.ensures c.if-not-is_whole.true)
 
 pub returns-in-Sequential : goal.returns-in-Sequential
 returns-in-Sequential c =

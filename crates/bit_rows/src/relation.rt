@@ -1,0 +1,136 @@
+//! Relations, and what they lead to.
+ghost use Rattle.std.specs.Prelude.{◌≡◌, ◌↔◌, ◌⊎◌, ◌<◌, ◌≤◌, ℕ, IsTrue, MatchOption, length};
+ghost use Rattle.bit_rows.specs.Rows.{IsIn, Relates, Reaches, LeadsInto, Meets};
+ghost use Rattle.bit_rows.specs.declared.row.TheConstants.{ROW_BITS};
+
+use crate::row::{ROW_BITS, has, joined, meets, with};
+use std::marker::Model;
+
+/// A relation between the numbers below 32. No call of it takes memory.
+#[derive(Drop)]
+pub struct Relation {
+    next: [u32; ROW_BITS],
+    reach: [u32; ROW_BITS],
+}
+
+impl Model for Relation {
+    ghost use Rattle.std.specs.Prelude.{List, ℕ};
+
+    ghost Value = { List ℕ };
+
+    ghost use Rattle.bit_rows.specs.Rows.{IsReach};
+
+    ghost view = { λ r. r.next };
+
+    ghost invariant = { λ r. IsReach r.next r.reach };
+}
+
+impl Relation {
+    /// No number is related to any.
+    pub fn empty() -> Relation
+        ensures { (d e : ℕ) → Relates result d e → ⊥ }
+    {
+        Relation {
+            next: [0; ROW_BITS],
+            reach: [0; ROW_BITS],
+        }
+    }
+
+    /// The same relation.
+    pub fn copy(&self) -> Relation
+        ensures { result ≡ self.now }
+    {
+        Relation {
+            next: self.next,
+            reach: self.reach,
+        }
+    }
+
+    /// Whether d is related to e.
+    pub fn has(&self, d: u8, e: u8) -> bool
+        requires from { d < ROW_BITS }
+        requires to { e < ROW_BITS }
+        ensures { IsTrue result ↔ Relates self.now d e }
+    {
+        has(self.next[d as usize], e)
+    }
+
+    /// The numbers to which d is related.
+    pub fn row(&self, d: u8) -> u32
+        requires { d < ROW_BITS }
+        ensures { (e : ℕ) → IsIn result e ↔ Relates self.now d e }
+    {
+        self.next[d as usize]
+    }
+
+    /// The numbers to which a path leads from d.
+    pub fn reach(&self, d: u8) -> u32
+        requires { d < ROW_BITS }
+        ensures { (e : ℕ) → IsIn result e ↔ Reaches self.now d e }
+    {
+        self.reach[d as usize]
+    }
+
+    /// Relates each number of the first row to each of the second.
+    pub fn connect(&mut self, from: u32, to: u32)
+        ensures { (d e : ℕ) → Relates self.new d e ↔ (Relates self.old d e ⊎ (IsIn from d × IsIn to e)) }
+    {
+        let beyond = reached(&self.reach, to);
+        put_rows(&mut self.next, from, to);
+        put_reach(&mut self.reach, from, beyond);
+    }
+
+    /// The numbers that a path leads back to.
+    pub fn on_cycles(&self) -> u32
+        ensures { (d : ℕ) → IsIn result d ↔ Reaches self.now d d }
+    {
+        let mut found = 0;
+        for d in 0..ROW_BITS as u8 {
+            if has(self.reach[d as usize], d) {
+                found = with(found, d);
+            }
+        }
+        found
+    }
+}
+
+/// The numbers of a row, and those to which paths lead from them.
+fn reached(reach: &[u32], row: u32) -> u32
+    requires { length reach.now ≡ ROW_BITS }
+    ensures { (e : ℕ) → IsIn result e ↔ (IsIn row e ⊎ LeadsInto reach.now row e) }
+{
+    let mut all = row;
+    for d in 0..ROW_BITS as u8 {
+        if has(row, d) {
+            all = joined(all, reach[d as usize]);
+        }
+    }
+    all
+}
+
+/// Puts the numbers of one row into the rows of the other's numbers.
+pub fn put_rows(next: &mut [u32], from: u32, to: u32)
+    requires { length next.old ≡ ROW_BITS }
+    ensures { (d e : ℕ) → Relates next.new d e ↔ (Relates next.old d e ⊎ (IsIn from d × IsIn to e)) }
+{
+    for d in 0..ROW_BITS as u8 {
+        if has(from, d) {
+            next[d as usize] = joined(next[d as usize], to);
+        }
+    }
+}
+
+/// Puts the numbers of one row into the rows of the other's numbers, and of those from which a path
+/// leads to one of these.
+fn put_reach(reach: &mut [u32], from: u32, beyond: u32)
+    requires { length reach.old ≡ ROW_BITS }
+    ensures { (d e : ℕ) → Relates reach.new d e
+        ↔ (Relates reach.old d e ⊎ ((IsIn from d ⊎ Meets reach.old d from) × IsIn beyond e)) }
+{
+    for d in 0..ROW_BITS as u8 {
+        let row = reach[d as usize];
+        if has(from, d) || meets(row, from) {
+            reach[d as usize] = joined(row, beyond);
+        }
+    }
+}

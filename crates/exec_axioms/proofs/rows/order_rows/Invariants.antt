@@ -1,0 +1,6 @@
+use Rattle.exec_axioms.specs.Rows.{InOrder}
+use Rattle.exec_axioms.proofs.Masks.{AreRowsBelow}
+use Rattle.exec_axioms.proofs.rows.order_rows.Given as goal
+
+abbrev pub invariant-loop-d : goal.invariant-loop-d
+invariant-loop-d l = AreRowsBelow l.events (InOrder l.thread_traces l.kind) l.d l.rows

@@ -1,0 +1,125 @@
+-- Accesses by number, and what is kept of them in rows.
+use Rattle.std.specs.Prelude.{◌≡◌, ◌≢◌, ◌↔◌, ◌<◌, ◌≤◌, ℕ, List, [], Option, Some, None, IsSome, slice_get, length, Contains}
+use Rattle.std.specs.List.{AllPairs}
+use Rattle.std.specs.Option.{option_map_or}
+use Rattle.bit_rows.specs.Rows.{IsIn, Relates}
+use Rattle.tso_program.specs.declared.listing.Listing.{Listing}
+use Rattle.candidate_executions.specs.declared.access.Access.{Access}
+use Rattle.candidate_executions.specs.declared.event.Event.{Event}
+use Rattle.candidate_executions.specs.declared.event.Event.TheVariants.{Initial, Access as At}
+use Rattle.candidate_executions.specs.declared.event.Kind.{Kind}
+use Rattle.candidate_executions.specs.declared.event.Kind.TheVariants as union
+use Rattle.candidate_executions.specs.Events.{ComesBefore}
+use Rattle.exec_axioms.specs.declared.mode.Mode.{Mode}
+use Rattle.exec_axioms.specs.declared.mode.Mode.TheVariants.{Sequential, Fenced}
+use Rattle.exec_axioms.specs.declared.thread_trace.ThreadTrace.{ThreadTrace}
+use Rattle.exec_axioms.specs.Parts.{Parts}
+use Rattle.exec_axioms.specs.Known.{IsKnownEdge, OrderPart}
+use Rattle.exec_axioms.specs.Kept.{parts_of, KeepsTraces}
+use Rattle.exec_axioms.specs.Choices.{IsWhole}
+use Rattle.bit_rows.specs.declared.row.TheConstants.{ROW_BITS}
+use Rattle.tso_program.specs.Listings.{action}
+use Rattle.candidate_executions.specs.Sketches as sketches
+
+-- the accesses of thread t, none where there is no such thread
+abbrev pub accesses_at : List ThreadTrace → ℕ → List Access
+accesses_at thread_traces t = option_map_or (λ (c : ThreadTrace). c.accesses) (slice_get thread_traces t) []
+
+-- what an access reads and writes
+abbrev pub access_of : List ThreadTrace → Event → Option Access
+access_of thread_traces (Initial l) = None
+access_of thread_traces (At t i) = slice_get (accesses_at thread_traces t) i
+
+-- one of thread t's first n accesses
+abbrev pub IsEarly : ℕ → ℕ → Event → Type 0
+IsEarly t n (Initial l) = ⊥
+IsEarly t n (At u i) = (u ≡ t) × (i < n)
+
+-- an access of some thread
+abbrev pub IsOfThreads : List ThreadTrace → Event → Type 0
+IsOfThreads thread_traces (Initial l) = ⊥
+IsOfThreads thread_traces (At t i) = i < length (accesses_at thread_traces t)
+
+-- all accesses, by thread and index
+pub record AreAccesses (thread_traces : List ThreadTrace) (events : List Event) : Type 0 where
+  pub exact : (e : Event) → Contains events e ↔ IsOfThreads thread_traces e
+  pub ordered : AllPairs ComesBefore events
+
+-- the row has the numbers of those events of which P holds
+abbrev pub IsRowOf : List Event → (Event → Type 0) → ℕ → Type 0
+IsRowOf events P row = (d : ℕ) → IsIn row d ↔ ((x : Event) × (slice_get events d ≡ Some x) × P x)
+
+-- the rows have the numbers of those pairs of events of which R holds
+abbrev pub AreRowsOf : List Event → (Event → Event → Type 0) → List ℕ → Type 0
+AreRowsOf events R rows =
+    (d e : ℕ) → Relates rows d e ↔ ((x : Event) × (y : Event) × (slice_get events d ≡ Some x) × (slice_get events e ≡ Some y) × R x y)
+
+-- the union has program order from d to e
+abbrev pub InOrder : List ThreadTrace → Kind → Event → Event → Type 0
+InOrder thread_traces kind d e =
+    (x : Access) × (y : Access) × (access_of thread_traces d ≡ Some x) × (access_of thread_traces e ≡ Some y) × OrderPart kind d x e y
+
+-- an access that writes the location, but for one event
+abbrev pub WritesBut : List ThreadTrace → ℕ → Event → Event → Type 0
+WritesBut thread_traces l except e = (y : Access) × (access_of thread_traces e ≡ Some y) × (y.location ≡ l) × IsSome y.written × (except ≢ e)
+
+-- the event is chosen as the source of another than this one
+abbrev pub ReadsBut : List (Event × Event) → Event → Event → Event → Type 0
+ReadsBut sources source except read = Contains sources (read, source) × (read ≢ except)
+
+-- what stands in the rows of one event is one
+abbrev pub IsAlike : List Event → List ℕ → Type 0
+IsAlike events rows = (j k d : ℕ) → slice_get events j ≡ slice_get events k → Relates rows j d → Relates rows k d
+
+-- d is in the row of the event, and not the number of another
+abbrev pub IsAfterBut : List Event → List ℕ → Event → Event → ℕ → Type 0
+IsAfterBut events rows event except d = ((k : ℕ) × (slice_get events k ≡ Some event) × Relates rows k d) × (slice_get events d ≡ Some except → ⊥)
+
+-- the union that a mode has alone, or beside the global one
+abbrev pub main_kind : Mode → Kind
+main_kind Sequential = union.Sequential
+main_kind (Fenced gaps) = union.Location
+
+-- an event of the row
+abbrev pub IsEventIn : List Event → ℕ → Event → Type 0
+IsEventIn events row e = (d : ℕ) × (slice_get events d ≡ Some e) × IsIn row d
+
+-- the rows of a union
+abbrev pub rows_of : Kind → List ℕ → List ℕ → List ℕ
+rows_of union.Sequential main global = main
+rows_of union.Location main global = main
+rows_of union.Global main global = global
+
+-- each thread has come to its end: no read is without a value
+abbrev pub EachEnds : Listing → List ThreadTrace → Type 0
+EachEnds p thread_traces = (t : ℕ) (c : ThreadTrace) → slice_get thread_traces t ≡ Some c → sketches.read_by (action p.threads t c.last) ≡ None
+
+-- the thread_traces are those of some sketch
+abbrev pub AreOfSketch : Listing → List ThreadTrace → Type 0
+AreOfSketch p thread_traces = (mode : Mode) × (sources : List (Event × Event)) × (pairs : List (Event × Event)) × KeepsTraces p mode thread_traces sources pairs
+
+-- the accesses that have numbers, all of them where each thread has come to its end
+pub record AreNumbered (p : Listing) (thread_traces : List ThreadTrace) (events : List Event) : Type 0 where
+  pub all : EachEnds p thread_traces → AreAccesses thread_traces events
+  pub of_threads : (e : Event) → Contains events e → IsOfThreads thread_traces e
+  pub few : length events ≤ ROW_BITS
+
+-- the rows have the program order of the mode's unions between the accesses that have numbers
+pub record HasOrder (p : Listing) (mode : Mode) (thread_traces : List ThreadTrace) (events : List Event) (main global : List ℕ) : Type 0 where
+  pub numbered : AreNumbered p thread_traces events
+  pub main_rows : AreRowsOf events (InOrder thread_traces (main_kind mode)) main
+  pub global_rows : AreRowsOf events (λ d e. (mode ≡ Sequential → ⊥) × InOrder thread_traces union.Global d e) global
+
+-- the rows have the chosen pairs and the known edges of the mode's unions between the accesses that have numbers: all of them once each read has its value
+pub record HasRows (s : Parts) (thread_traces : List ThreadTrace) (events : List Event) (later main global : List ℕ) : Type 0 where
+  pub all : IsWhole s → AreAccesses thread_traces events
+  pub of_threads : (e : Event) → Contains events e → IsOfThreads thread_traces e
+  pub few : length events ≤ ROW_BITS
+  pub later_rows : AreRowsOf events (λ d e. Contains s.pairs (d, e)) later
+  pub main_rows : AreRowsOf events (IsKnownEdge s (main_kind s.mode)) main
+  pub global_rows : AreRowsOf events (IsKnownEdge s union.Global) global
+
+-- what the code keeps of a sketch
+pub record IsRepresented (p : Listing) (mode : Mode) (thread_traces : List ThreadTrace) (events : List Event) (sources pairs : List (Event × Event)) (later main global : List ℕ) : Type 0 where
+  pub kept : KeepsTraces p mode thread_traces sources pairs
+  pub rows : HasRows (parts_of p mode thread_traces sources pairs) thread_traces events later main global

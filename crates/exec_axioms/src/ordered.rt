@@ -1,0 +1,67 @@
+//! What is known before anything but values is chosen.
+ghost use Rattle.std.specs.Prelude.{◌≡◌, ◌≤◌, IfOk, length};
+ghost use Rattle.std.specs.Arc.{arc_value};
+ghost use Rattle.bit_rows.specs.declared.row.TheConstants.{ROW_BITS};
+ghost use Rattle.candidate_executions.specs.declared.event.Kind.TheVariants as union;
+ghost use Rattle.exec_axioms.specs.declared.mode.Mode.TheVariants.{Sequential};
+ghost use Rattle.exec_axioms.specs.Rows.{main_kind, AreOfSketch, AreRowsOf, InOrder, HasOrder};
+
+use crate::Mode;
+use crate::thread_trace::ThreadTrace;
+use crate::rows::order_rows;
+use crate::traces::{Traces, events_if_whole};
+use bit_rows::Relation;
+use candidate_executions::{Event, Kind};
+use std::alloc::{AllocError, Global};
+use std::sync::Arc;
+use tso_program::Program;
+
+/// The traces, and the program order of the mode's unions between the accesses that have numbers.
+#[derive(Drop)]
+pub(crate) struct Ordered {
+    pub(crate) traces: Arc<Traces>,
+    pub(crate) main: Relation,
+    pub(crate) global: Relation,
+}
+
+/// What is known of these thread_traces.
+pub(crate) fn in_order(
+    alloc: Global,
+    program: &Program,
+    mode: Mode,
+    thread_traces: Vec<ThreadTrace>,
+) -> Result<Ordered, AllocError>
+    requires { AreOfSketch program.now thread_traces.items }
+    ensures thread_traces { IfOk result (λ ordered. (arc_value ordered.traces).thread_traces.items ≡ thread_traces.items) }
+    ensures order { IfOk result (λ ordered. HasOrder program.now mode thread_traces.items (arc_value ordered.traces).events.items ordered.main ordered.global) }
+{
+    let events = events_if_whole(alloc, program, thread_traces.as_slice())?;
+    let main = order_rows(main_union(mode), thread_traces.as_slice(), events.as_slice());
+    let global = global_rows(mode, thread_traces.as_slice(), events.as_slice());
+    Ok(Ordered {
+        traces: Arc::new(alloc, Traces { thread_traces, events })?,
+        main,
+        global,
+    })
+}
+
+/// The union that a mode has beside the global one, or alone.
+fn main_union(mode: Mode) -> Kind
+    ensures { result ≡ main_kind mode }
+{
+    match mode {
+        Mode::Sequential => Kind::Sequential,
+        Mode::Fenced(_) => Kind::Location,
+    }
+}
+
+/// The program order of the global union, which sequential mode has not.
+fn global_rows(mode: Mode, thread_traces: &[ThreadTrace], events: &[Event]) -> Relation
+    requires { length events.now ≤ ROW_BITS }
+    ensures { AreRowsOf events.now (λ d e. (mode ≡ Sequential → ⊥) × InOrder thread_traces.now union.Global d e) result }
+{
+    match mode {
+        Mode::Sequential => Relation::empty(),
+        Mode::Fenced(_) => order_rows(Kind::Global, thread_traces, events),
+    }
+}

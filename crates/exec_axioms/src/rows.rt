@@ -1,0 +1,198 @@
+//! Rows of accesses by their numbers, their places among all accesses.
+ghost use Rattle.std.specs.Prelude.{◌≡◌, ◌≤◌, ◌<◌, ◌↔◌, IsTrue, ℕ, Some, IfOk, MatchOption, Contains, length, slice_get};
+ghost use Rattle.candidate_executions.specs.declared.event.Event.{Event};
+ghost use Rattle.bit_rows.specs.Rows.{IsIn};
+ghost use Rattle.bit_rows.specs.declared.row.TheConstants.{ROW_BITS};
+ghost use Rattle.exec_axioms.specs.Rows.{IsRowOf, AreRowsOf, InOrder, WritesBut, ReadsBut, IsAlike, IsAfterBut, IsEventIn, rows_of};
+ghost use Rattle.exec_axioms.specs.declared.mode.Mode.TheVariants.{Sequential};
+ghost use Rattle.candidate_executions.specs.Consistency.{SameThread};
+
+use crate::Mode;
+use crate::thread_trace::ThreadTrace;
+use crate::edges::keeps_order;
+use crate::events::{is_one_thread, is_same, precedes};
+use crate::traces::{Traces, access_at};
+use bit_rows::{Relation, has, joined, minus, with};
+use candidate_executions::{Event, Kind};
+use std::alloc::{AllocError, Global};
+
+/// The row of one event.
+pub(crate) fn row_of(events: &[Event], event: Event) -> u32
+    requires { length events.now ≤ ROW_BITS }
+    ensures { IsRowOf events.now (λ e. e ≡ event) result }
+{
+    let mut row = 0;
+    for (d, other) in events.iter().enumerate() {
+        if is_same(*other, event) {
+            row = with(row, d as u8);
+        }
+    }
+    row
+}
+
+/// The accesses to which the union has program order from one of them.
+fn later_in_order(kind: Kind, thread_traces: &[ThreadTrace], events: &[Event], from: Event) -> u32
+    requires { length events.now ≤ ROW_BITS }
+    ensures { IsRowOf events.now (InOrder thread_traces.now kind from) result }
+{
+    let mut row = 0;
+    for (d, to) in events.iter().enumerate() {
+        if is_in_order(kind, thread_traces, from, *to) {
+            row = with(row, d as u8);
+        }
+    }
+    row
+}
+
+/// Whether the union has program order between two accesses.
+fn is_in_order(kind: Kind, thread_traces: &[ThreadTrace], from: Event, to: Event) -> bool
+    ensures { IsTrue result ↔ InOrder thread_traces.now kind from to }
+{
+    if !precedes(from, to) {
+        return false;
+    }
+    match (access_at(thread_traces, from), access_at(thread_traces, to)) {
+        (Some(x), Some(y)) => keeps_order(kind, from, x, to, y),
+        _ => false,
+    }
+}
+
+/// The program order of the union.
+pub(crate) fn order_rows(kind: Kind, thread_traces: &[ThreadTrace], events: &[Event]) -> Relation
+    requires { length events.now ≤ ROW_BITS }
+    ensures { AreRowsOf events.now (InOrder thread_traces.now kind) result }
+{
+    let mut rows = Relation::empty();
+    for (d, from) in events.iter().enumerate() {
+        rows.connect(
+            with(0, d as u8),
+            later_in_order(kind, thread_traces, events, *from),
+        );
+    }
+    rows
+}
+
+/// The accesses that write a location, but for one event.
+pub(crate) fn writes_to(thread_traces: &[ThreadTrace], events: &[Event], location: u8, except: Event) -> u32
+    requires { length events.now ≤ ROW_BITS }
+    ensures { IsRowOf events.now (WritesBut thread_traces.now location except) result }
+{
+    let mut row = 0;
+    for (d, event) in events.iter().enumerate() {
+        if writes_but(thread_traces, location, except, *event) {
+            row = with(row, d as u8);
+        }
+    }
+    row
+}
+
+fn writes_but(thread_traces: &[ThreadTrace], location: u8, except: Event, event: Event) -> bool
+    ensures { IsTrue result ↔ WritesBut thread_traces.now location except event }
+{
+    match access_at(thread_traces, event) {
+        Some(access) => {
+            access.location == location && access.written.is_some() && !is_same(except, event)
+        }
+        None => false,
+    }
+}
+
+/// The reads that have the event as their source, but for one.
+pub(crate) fn readers_of(
+    sources: &[(Event, Event)],
+    events: &[Event],
+    source: Event,
+    except: Event,
+) -> u32
+    requires { length events.now ≤ ROW_BITS }
+    ensures { IsRowOf events.now (ReadsBut sources.now source except) result }
+{
+    let mut row = 0;
+    for chosen in sources {
+        if is_same(chosen.1, source) && !is_same(chosen.0, except) {
+            row = joined(row, row_of(events, chosen.0));
+        }
+    }
+    row
+}
+
+/// The numbers in the row of an event, but for that of another.
+fn writes_after(events: &[Event], later: &[u32], source: Event, except: Event) -> u32
+    requires few { length events.now ≤ ROW_BITS }
+    requires rows { length later.now ≡ ROW_BITS }
+    requires alike { IsAlike events.now later.now }
+    ensures { (d : ℕ) → IsIn result d ↔ IsAfterBut events.now later.now source except d }
+{
+    match place_of(events, source) {
+        Some(d) => minus(later[d], row_of(events, except)),
+        None => 0,
+    }
+}
+
+/// The writes that are known to come after the source of a read, but for the read itself.
+pub(crate) fn overwriting(traces: &Traces, later: &[u32], source: Event, read: Event) -> u32
+    requires few { length traces.now.events.items ≤ ROW_BITS }
+    requires rows { length later.now ≡ ROW_BITS }
+    requires alike { IsAlike traces.now.events.items later.now }
+    ensures initial { (l : ℕ) → source ≡ Event.Initial l → IsRowOf traces.now.events.items (WritesBut traces.now.thread_traces.items l read) result }
+    ensures after { (t i : ℕ) → source ≡ Event.Access t i → (d : ℕ) → IsIn result d ↔ IsAfterBut traces.now.events.items later.now source read d }
+{
+    let events = traces.events.as_slice();
+    match source {
+        Event::Initial(location) => writes_to(traces.thread_traces.as_slice(), events, location, read),
+        Event::Access(_, _) => writes_after(events, later, source, read),
+    }
+}
+
+/// The events of a row.
+pub(crate) fn events_in(alloc: Global, events: &[Event], row: u32) -> Result<Vec<Event>, AllocError>
+    requires { length events.now ≤ ROW_BITS }
+    ensures { IfOk result (λ nodes. (e : Event) → Contains nodes.items e ↔ IsEventIn events.now row e) }
+{
+    let mut nodes = Vec::new(alloc);
+    for (d, event) in events.iter().enumerate() {
+        if has(row, d as u8) {
+            nodes.push(*event)?;
+        }
+    }
+    Ok(nodes)
+}
+
+/// The rows of a union.
+pub(crate) fn rows_for<'a>(kind: Kind, main: &'a Relation, global: &'a Relation) -> &'a Relation
+    ensures { result.now ≡ rows_of kind main.now global.now }
+{
+    match kind {
+        Kind::Sequential | Kind::Location => main,
+        Kind::Global => global,
+    }
+}
+
+/// The first place of an event.
+pub(crate) fn place_of(events: &[Event], event: Event) -> Option<usize>
+    ensures { MatchOption result (Contains events.now event → ⊥) (λ i. (i < length events.now) × (slice_get events.now i ≡ Some event)) }
+{
+    for (i, other) in events.iter().enumerate() {
+        if is_same(*other, event) {
+            return Some(i);
+        }
+    }
+    None
+}
+
+/// The row, or none in sequential mode.
+pub(crate) fn if_fenced(mode: Mode, row: u32) -> u32
+    ensures { (k : ℕ) → IsIn result k ↔ ((mode ≡ Sequential → ⊥) × IsIn row k) }
+{
+    match mode {
+        Mode::Sequential => 0,
+        Mode::Fenced(_) => row,
+    }
+}
+
+/// The row, or none where both are accesses of one thread.
+pub(crate) fn if_far(source: Event, read: Event, row: u32) -> u32
+    ensures { (k : ℕ) → IsIn result k ↔ ((SameThread source read → ⊥) × IsIn row k) }
+{
+    if is_one_thread(source, read) { 0 } else { row }
+}
