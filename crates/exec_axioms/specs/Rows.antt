@@ -94,7 +94,7 @@ rows_of union.Global main global = global
 abbrev pub EachEnds : Listing → List ThreadTrace → Type 0
 EachEnds p thread_traces = (t : ℕ) (c : ThreadTrace) → slice_get thread_traces t ≡ Some c → sketches.read_by (action p.threads t c.last) ≡ None
 
--- the thread_traces are those of some sketch
+-- the traces are those of some sketch
 abbrev pub AreOfSketch : Listing → List ThreadTrace → Type 0
 AreOfSketch p thread_traces = (mode : Mode) × (sources : List (Event × Event)) × (pairs : List (Event × Event)) × KeepsTraces p mode thread_traces sources pairs
 

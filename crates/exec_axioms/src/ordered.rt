@@ -7,8 +7,8 @@ ghost use Rattle.exec_axioms.specs.declared.mode.Mode.TheVariants.{Sequential};
 ghost use Rattle.exec_axioms.specs.Rows.{main_kind, AreOfSketch, AreRowsOf, InOrder, HasOrder};
 
 use crate::Mode;
-use crate::thread_trace::ThreadTrace;
 use crate::rows::order_rows;
+use crate::thread_trace::ThreadTrace;
 use crate::traces::{Traces, events_if_whole};
 use bit_rows::Relation;
 use candidate_executions::{Event, Kind};
@@ -24,7 +24,7 @@ pub(crate) struct Ordered {
     pub(crate) global: Relation,
 }
 
-/// What is known of these thread_traces.
+/// What is known of these traces.
 pub(crate) fn in_order(
     alloc: Global,
     program: &Program,
@@ -36,10 +36,20 @@ pub(crate) fn in_order(
     ensures order { IfOk result (λ ordered. HasOrder program.now mode thread_traces.items (arc_value ordered.traces).events.items ordered.main ordered.global) }
 {
     let events = events_if_whole(alloc, program, thread_traces.as_slice())?;
-    let main = order_rows(main_union(mode), thread_traces.as_slice(), events.as_slice());
+    let main = order_rows(
+        main_union(mode),
+        thread_traces.as_slice(),
+        events.as_slice(),
+    );
     let global = global_rows(mode, thread_traces.as_slice(), events.as_slice());
     Ok(Ordered {
-        traces: Arc::new(alloc, Traces { thread_traces, events })?,
+        traces: Arc::new(
+            alloc,
+            Traces {
+                thread_traces,
+                events,
+            },
+        )?,
         main,
         global,
     })

@@ -8,9 +8,9 @@ ghost use Rattle.exec_axioms.specs.declared.mode.Mode.TheVariants.{Sequential};
 ghost use Rattle.candidate_executions.specs.Consistency.{SameThread};
 
 use crate::Mode;
-use crate::thread_trace::ThreadTrace;
 use crate::edges::keeps_order;
 use crate::events::{is_one_thread, is_same, precedes};
+use crate::thread_trace::ThreadTrace;
 use crate::traces::{Traces, access_at};
 use bit_rows::{Relation, has, joined, minus, with};
 use candidate_executions::{Event, Kind};
@@ -73,7 +73,12 @@ pub(crate) fn order_rows(kind: Kind, thread_traces: &[ThreadTrace], events: &[Ev
 }
 
 /// The accesses that write a location, but for one event.
-pub(crate) fn writes_to(thread_traces: &[ThreadTrace], events: &[Event], location: u8, except: Event) -> u32
+pub(crate) fn writes_to(
+    thread_traces: &[ThreadTrace],
+    events: &[Event],
+    location: u8,
+    except: Event,
+) -> u32
     requires { length events.now ≤ ROW_BITS }
     ensures { IsRowOf events.now (WritesBut thread_traces.now location except) result }
 {
@@ -139,7 +144,12 @@ pub(crate) fn overwriting(traces: &Traces, later: &[u32], source: Event, read: E
 {
     let events = traces.events.as_slice();
     match source {
-        Event::Initial(location) => writes_to(traces.thread_traces.as_slice(), events, location, read),
+        Event::Initial(location) => writes_to(
+            traces.thread_traces.as_slice(),
+            events,
+            location,
+            read,
+        ),
         Event::Access(_, _) => writes_after(events, later, source, read),
     }
 }

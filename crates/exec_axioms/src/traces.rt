@@ -7,8 +7,8 @@ ghost use Rattle.candidate_executions.specs.Events.{ComesBefore};
 ghost use Rattle.exec_axioms.specs.Known.{IsInitialWrite};
 ghost use Rattle.exec_axioms.specs.Rows.{accesses_at, access_of, AreNumbered, AreOfSketch, EachEnds, IsEarly, IsOfThreads};
 
-use crate::thread_trace::ThreadTrace;
 use crate::sketch::read_by;
+use crate::thread_trace::ThreadTrace;
 use candidate_executions::{Access, Event};
 use std::alloc::{AllocError, Global};
 use tso_program::Program;
@@ -21,8 +21,11 @@ pub(crate) struct Traces {
     pub(crate) events: Vec<Event>,
 }
 
-/// The same thread_traces.
-pub(crate) fn copied(alloc: Global, thread_traces: &[ThreadTrace]) -> Result<Vec<ThreadTrace>, AllocError>
+/// The same traces.
+pub(crate) fn copied(
+    alloc: Global,
+    thread_traces: &[ThreadTrace],
+) -> Result<Vec<ThreadTrace>, AllocError>
     ensures { IfOk result (λ copies. copies.items ≡ thread_traces.now) }
 {
     let mut copies = Vec::new(alloc);
@@ -63,7 +66,10 @@ fn each_ends(program: &Program, thread_traces: &[ThreadTrace]) -> bool
 }
 
 /// Appends all accesses to the events, by thread and index.
-pub(crate) fn push_events(thread_traces: &[ThreadTrace], events: &mut Vec<Event>) -> Result<(), AllocError>
+pub(crate) fn push_events(
+    thread_traces: &[ThreadTrace],
+    events: &mut Vec<Event>,
+) -> Result<(), AllocError>
     requires few { length thread_traces.now ≤ MAX_THREADS }
     requires short { (t : ℕ) → length (accesses_at thread_traces.now t) ≤ MAX_INSTRUCTIONS }
     requires initial { (e : Event) → Contains events.old.items e → IsInitialWrite e }
