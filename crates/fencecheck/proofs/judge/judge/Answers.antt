@@ -1,9 +1,10 @@
-use Rattle.std.proofs.Common.{◌≡◌, refl, sym, subst}
+use Rattle.std.proofs.Common.{◌≡◌, refl, sym, ap, ◌∙◌, subst}
 use Rattle.tso_program.specs.declared.listing.Listing.{Listing}
 use Rattle.tso_program.specs.declared.shown.Shown.{Shown}
 use Rattle.tso_program.specs.declared.shown.Shown.TheVariants.{All, Only}
 use Rattle.tso_program.specs.Shown.{asked}
 use Rattle.litmus_reader.specs.declared.litmus.Litmus.{Litmus}
+use Rattle.cert_forest.specs.Certificates.{Certificate}
 use Rattle.cert_check.specs.Faults.{CheckFaultIs}
 use Rattle.fencecheck.specs.Verdicts.{handed_in}
 use Rattle.fencecheck.proofs.judge.judge.Goals as goal
@@ -30,7 +31,7 @@ returns-in-Ok-checked_line-clause-accepted c = record {
     gap_costs = c.in-Ok-costs_of.costs;
     given = c.in-Ok-costs_of.ensures.costs;
     shown = c.handed_in-shown.result;
-    as_asked = subst (λ shown. handed_in c.in-Ok.litmus shown ≡ shown) (sym c.handed_in-shown.ensures) (asked_once c.in-Ok.litmus c.in-Ok-read_cert.certificate.shown);
+    as_asked = subst (λ shown. handed_in c.in-Ok.litmus shown ≡ shown) (sym c.handed_in-shown.ensures) (asked_once c.in-Ok.litmus c.certificate.inside.shown);
     gaps = c.in-Ok-read_cert.certificate.gaps;
     headline = c.in-Ok-checked_line.ensures.headline;
     printed = c.in-Ok-checked_line.ensures.line;
@@ -48,5 +49,5 @@ returns-clause-refused c = (
   c.in-Ok-costs_of.costs,
   record { of_program = c.in-Ok.ensures.found; of_certificate = c.in-Ok-read_cert.ensures.found },
   c.in-Ok-costs_of.ensures.costs,
-  subst (λ shown. CheckFaultIs (asked c.in-Ok.litmus.program shown) c.in-Ok-costs_of.costs c.in-Ok-read_cert.certificate c.in-Err-checked_line.fault) c.handed_in-shown.ensures c.in-Err-checked_line.ensures.refused,
+  subst (λ shown. CheckFaultIs (asked c.in-Ok.litmus.program shown) c.in-Ok-costs_of.costs c.in-Ok-read_cert.certificate c.in-Err-checked_line.fault) (c.handed_in-shown.ensures ∙ ap (λ (claimed : Certificate). handed_in c.in-Ok.litmus claimed.shown) c.certificate.view_is) c.in-Err-checked_line.ensures.refused,
 )
