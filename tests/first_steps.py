@@ -31,15 +31,9 @@ def lines_of(path):
 
 def shown_commands(path):
     """The lines of a document that show a command, each with the lines that it prints."""
-    commands = []
-    for line in lines_of(path):
-        if line.startswith("    $ "):
-            commands.append((line[6:], []))
-        elif line.startswith("    ") and commands and commands[-1][1] is not None:
-            commands[-1][1].append(line[4:])
-        elif commands:
-            commands.append((None, None))
-    return [(command, printed) for command, printed in commands if command]
+    text = "\n".join(lines_of(path))
+    blocks = re.findall(r"^    \$ (.*)\n((?:    (?!\$ ).*\n|\n(?=    (?!\$ )))*)", text, flags=re.M)
+    return [(command, [line[4:] for line in printed.split("\n")[:-1]]) for command, printed in blocks]
 
 
 def spans(line):
@@ -83,6 +77,40 @@ def table_cases(tell, programs):
                 program = "./fencecheck" if command.startswith("examples/") else "./fencer"
                 found = printed_by(f"{program} {command}", folder)
                 tell(f"examples/README.md: {command}", set(wanted) <= set(found), f"wanted {wanted!r}\n  found  {found!r}")
+
+
+def part(spelled):
+    """A part of a text as a document spells it: \\n stands for a LF, \\xff for a byte."""
+    return spelled.encode().replace(b"\\n", b"\n").replace(b"\\xff", b"\xff")
+
+
+def refusal_cases(tell, programs):
+    """Each input that docs/formats.md shows beside a refusal gets it."""
+    litmus, certificate = (os.path.join(TOP, "examples", file) for file in ("SB.litmus", "SB.cert"))
+    rows = [row for row in lines_of(os.path.join(TOP, "docs", "formats.md")) if re.search(r"`: `refused [^`]*` \|$", row)]
+    tell("docs/formats.md shows refusals", len(rows) >= 30, len(rows))
+    for row in rows:
+        *shown, line = spans(row.replace("\\|", "\0").split("|")[-2].replace("\0", "|"))
+        kind = line.split()[1]
+        with tempfile.TemporaryDirectory() as folder:
+            changed = os.path.join(folder, "changed")
+            source = certificate if kind in ("certificate", "check") else litmus
+            with open(source, "rb") as file:
+                text = file.read()
+            if kind != "costs" and len(shown) >= 2:
+                new, old = map(part, shown[-2:])
+                tell(f"{old} stands once", text.count(old) == 1, row)
+                text = text.replace(old, new)
+            with open(changed, "wb") as file:
+                file.write(part(shown[0]) if kind == "costs" else text)
+            words = {
+                "litmus": ["fencer", "outcomes", changed],
+                "costs": ["fencer", "place", "--costs", changed, litmus],
+                "replay": ["fencer", "replay", changed, *shown[0].split()],
+            }.get(kind, ["fencecheck", litmus, changed])
+            ran = subprocess.run([programs[words[0]], *words[1:]], capture_output=True, timeout=120)
+        found = ran.returncode, ran.stdout.decode()
+        tell(f"docs/formats.md: {line}", found == (1, line + "\n"), found)
 
 
 class Clone:
@@ -172,7 +200,7 @@ def wrapper_cases(tell, programs):
         clone = Clone(folder, programs)
         clone.call("fencer", "place", "SB.litmus")
         _, _, said = clone.call("fencer", "place", "SB.litmus")
-        why = "fencer: unproved, since the proved build is missing; ./build makes it in half an hour on 4 processors\n"
+        why = "fencer: unproved, since the proved build is missing; ./build makes it in half an hour to an hour on 4 processors\n"
         tell("the proved build is missing", said == why and clone.tries() == 1, (clone.tries(), said))
         clone.call("fencecheck", "-")
         called_cases(tell, clone, "unproved", why)
@@ -194,4 +222,5 @@ def wrapper_cases(tell, programs):
 def cases(tell, programs):
     command_cases(tell, programs)
     table_cases(tell, programs)
+    refusal_cases(tell, programs)
     wrapper_cases(tell, programs)
