@@ -12,33 +12,33 @@ use thiserror::Error;
 #[derive(Debug, Drop, Error)]
 pub enum CheckFault {
     /// The set has a number that is no gap of the program.
-    #[error("1 Set")]
+    #[error("the set has a number that is no gap of the program")]
     Set,
     /// The cost isn't the set's, or there isn't one cost for each gap.
-    #[error("2 Cost")]
+    #[error("the cost is not that of the set")]
     Cost,
     /// The sequential run of this number, from 0, is not a run.
-    #[error("3 SequentialRun {0}")]
+    #[error("the sequential run {0} is not a run of the program")]
     SequentialRun(usize),
-    /// The tree doesn't show at this node that the sequential runs have all outcomes.
-    #[error("4 SequentialTree {0}")]
+    /// The tree doesn't show at this node, by its path, that the sequential runs have all outcomes.
+    #[error("at node {0} the tree does not show that the sequential runs have every sequential outcome")]
     SequentialTree(Path),
-    /// The store buffer run of this number is not a run.
-    #[error("5 Run {0}")]
+    /// The store buffer run of this number, from 0, is not a run.
+    #[error("the store buffer run {0} is not a run of the program with no gap fenced")]
     Run(usize),
-    /// The store buffer run of this number has a sequential outcome.
-    #[error("6 NotForeign {0}")]
+    /// The store buffer run of this number, from 0, has a sequential outcome.
+    #[error("the store buffer run {0} has a sequential outcome")]
     NotForeign(usize),
-    /// The tree doesn't show at this node that the set serves.
-    #[error("7 FencedTree {0}")]
+    /// The tree doesn't show at this node, by its path, that the set serves.
+    #[error("at node {0} the tree does not show that the set serves")]
     FencedTree(Path),
-    /// The tree doesn't show at this node that no better set serves.
-    #[error("8 GapTree {0}")]
+    /// The tree doesn't show at this node, by its path, that no better set serves.
+    #[error("at node {0} the tree does not show that no better set serves")]
     GapTree(Path),
-    #[error("9 OutOfMemory")]
+    #[error("out of memory")]
     OutOfMemory,
     /// The certificate is about something else than what is shown. Tried before all others.
-    #[error("10 Shown")]
+    #[error("the certificate shows other registers or locations than it is judged with")]
     Shown,
 }
 

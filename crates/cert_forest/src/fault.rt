@@ -10,29 +10,30 @@ use thiserror::Error;
 #[derive(Clone, Copy, Debug, PartialEq, Eq, Error)]
 pub enum CertFault {
     /// The first line can't become `FENCECERT 1` or `FENCECERT 2`.
-    #[error("1 Header")]
+    #[error("the first line is neither `FENCECERT 1` nor `FENCECERT 2`")]
     Header,
-    /// The token or the separator at this place can't stand there, or is no token. A gap, or a register or
+    /// The token or the separator at this byte offset, from 0, can't stand there, or is no token. A gap, or a register or
     /// location that is shown, can't stand after one that isn't less.
-    #[error("2 Token {0}")]
+    #[error("what is at byte {0} can't stand there")]
     Token(usize),
-    /// A number in the token at this place has a leading zero, or is past its limit.
-    #[error("3 Number {0}")]
+    /// A number in the token at this byte offset, from 0, has a leading zero, or is past its limit.
+    #[error("the number at byte {0} has a leading zero or is past its limit")]
     Number(usize),
-    /// The node that begins at this place is deeper than its tree may be.
-    #[error("4 TooDeep {0}")]
+    /// The node that begins at this byte offset, from 0, is deeper than its tree may be.
+    #[error("the node at byte {0} is deeper than its tree may be")]
     TooDeep(usize),
-    /// A count of children or events past `MAX_COUNT` of `cert_words`, or one label more than that in a run.
-    #[error("5 TooMany {0}")]
+    /// A count of children or events past `MAX_COUNT` of `cert_words`, or one label more than that in a run, at this
+    /// byte offset, from 0.
+    #[error("at byte {0} there are more children, accesses or labels than there may be")]
     TooMany(usize),
-    /// The bytes end where more are needed, and some certificate's text goes on behind them, as far as single tokens
-    /// tell.
-    #[error("6 Ended")]
+    /// The bytes end where more are needed, and some certificate's text goes on after them, as far as single tokens
+    /// show.
+    #[error("the text ends and more is needed")]
     Ended,
-    /// Bytes follow the last line, from this place on.
-    #[error("7 Trailing {0}")]
+    /// Bytes follow the last line, from this byte offset on, from 0.
+    #[error("bytes follow the last line, from byte {0} on")]
     Trailing(usize),
-    #[error("8 OutOfMemory")]
+    #[error("out of memory")]
     OutOfMemory,
 }
 

@@ -63,7 +63,7 @@ pub fn refused_unless_cut(wrong: Wrong, could_go_on: bool, bytes: &[u8], rest: &
 /// Why reading stopped.
 #[derive(Clone, Copy, Debug, PartialEq, Eq, Error)]
 pub enum Stop {
-    #[error("refused: {0:?}")]
+    #[error("the text is refused: {0:?}")]
     Refused(Refusal),
     #[error("out of memory")]
     OutOfMemory,

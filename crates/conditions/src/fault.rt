@@ -8,9 +8,9 @@ use thiserror::Error;
 /// Why tokens could not be read as a formula.
 #[derive(Clone, Copy, Debug, PartialEq, Eq, Error)]
 pub enum FormulaFault {
-    /// No formula begins with the tokens up to and with the one of this index. It is the number of tokens where all of
+    /// No formula begins with the tokens up to and with the one of this index, from 0. It is the number of tokens where all of
     /// them begin a formula and more are needed.
-    #[error("no formula from token {0} on")]
+    #[error("no formula begins with the tokens up to number {0}")]
     Refused(usize),
     #[error("out of memory")]
     OutOfMemory,

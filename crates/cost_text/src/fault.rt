@@ -9,19 +9,19 @@ use thiserror::Error;
 /// Why a text of costs could not be read, with the number of the line where it shows.
 #[derive(Clone, Copy, PartialEq, Eq, Debug, Error)]
 pub enum CostTextFault {
-    /// The line is neither blank nor `t:k`, spaces or tabs, and a cost.
-    #[error("1 Line line {0}")]
+    /// The line with this number, from 1, is neither blank nor `t:k`, spaces or tabs, and a cost.
+    #[error("line {0} is neither blank nor a gap with its cost")]
     Line(usize),
-    /// The program has no gap there.
-    #[error("2 NoSuchGap line {0}")]
+    /// The line with this number, from 1, names a gap that the program lacks.
+    #[error("line {0} names a gap that the program lacks")]
     NoSuchGap(usize),
-    /// An earlier line has the gap already.
-    #[error("3 Repeated line {0}")]
+    /// The line with this number, from 1, names a gap that an earlier line names.
+    #[error("line {0} names a gap that an earlier line names")]
     Repeated(usize),
-    /// The gap may not cost that.
-    #[error("4 Cost line {0}: {1}")]
+    /// The line with this number, from 1, gives its gap a cost that no gap may have.
+    #[error("line {0}: {1}")]
     Cost(usize, CostFault),
-    #[error("5 OutOfMemory")]
+    #[error("out of memory")]
     OutOfMemory,
 }
 

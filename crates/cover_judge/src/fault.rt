@@ -10,10 +10,10 @@ use thiserror::Error;
 /// Why a tree isn't valid: its first wrong node. A node comes before its children.
 #[derive(Debug, Drop, Error)]
 pub enum TreeFault {
-    /// The node at this place is wrong.
-    #[error("1 Wrong {0}")]
+    /// The node of this path is wrong.
+    #[error("node {0} is not valid")]
     Wrong(Path),
-    #[error("2 OutOfMemory")]
+    #[error("out of memory")]
     OutOfMemory,
 }
 

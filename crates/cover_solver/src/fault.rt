@@ -13,9 +13,9 @@ use tso_machine::ReplayFault;
 #[derive(Clone, Copy, PartialEq, Eq, Debug, Error)]
 pub enum SolveFault {
     /// A candidate execution without a cycle has no run. No call of this crate answers this.
-    #[error("1 NoRun")]
+    #[error("a candidate execution without a cycle has no run")]
     NoRun,
-    #[error("2 OutOfMemory")]
+    #[error("out of memory")]
     OutOfMemory,
 }
 
@@ -39,12 +39,12 @@ impl<T: Drop> From<AllocFailed<T>> for SolveFault {
 #[derive(Clone, Copy, PartialEq, Eq, Debug, Error)]
 pub enum ForeignFault {
     /// They are no run of the store buffer machine with no gap fenced.
-    #[error("1 Replay {0}")]
+    #[error("the labels are not a run: {0}")]
     Replay(ReplayFault),
     /// The outcome is sequential.
-    #[error("2 Sequential")]
+    #[error("a sequential run has the same outcome")]
     Sequential,
-    #[error("3 OutOfMemory")]
+    #[error("out of memory")]
     OutOfMemory,
 }
 

@@ -9,18 +9,18 @@ use thiserror::Error;
 #[derive(Clone, Copy, Debug, PartialEq, Eq, Error)]
 pub enum PlaceFault {
     /// There are no workers, or more than `MAX_WORKERS`.
-    #[error("1 Workers")]
+    #[error("the number of workers is not from 1 to 32")]
     Workers,
     /// There isn't one cost for each gap.
-    #[error("2 Costs")]
+    #[error("there is not one cost for each gap")]
     Costs,
     /// The oracle lacks a run, as it says that it may.
-    #[error("3 NotCertified")]
+    #[error("the oracle lacks a run")]
     NotCertified,
     /// The record of the search doesn't close. No call of this crate answers this.
-    #[error("4 Board")]
+    #[error("the record of the search does not close")]
     Board,
-    #[error("5 OutOfMemory")]
+    #[error("out of memory")]
     OutOfMemory,
 }
 

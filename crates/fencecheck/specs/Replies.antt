@@ -9,8 +9,16 @@ use Rattle.fencecheck.specs.declared.parts.TheConstants.{CERTIFICATE_LIMIT}
 use Rattle.fencecheck.specs.Inputs.{ArePartsOf, IsTooLongInput}
 use Rattle.fencecheck.specs.Verdicts.{IsVerdict}
 
-abbrev pub usage_line : List ℕ
-usage_line = codes "usage: fencecheck LITMUS CERTIFICATE [COSTS]" ++ 10 ∷ []
+-- how the program is called, what it prints and with which status
+abbrev pub usage_text : List ℕ
+usage_text =
+    codes "usage: fencecheck LITMUS CERTIFICATE [COSTS]\n"
+    ++ (codes "Judges whether a certificate proves which gaps of a program are its cheapest places for MFENCE.\n"
+    ++ (codes "Prints `accepted cost N set T:K ..` with status 0, or a refusal in one line with status 1.\n"
+    ++ (codes "LITMUS is a litmus file, or - for standard input; COSTS says what gaps cost, 1 each without it.\n"
+    ++ (codes "With no words the litmus text, and the certificate after it, are read from standard input.\n"
+    ++ (codes "Refusals are explained in docs/formats.md.\n"
+    ++ (codes "Example: fencecheck examples/SB.litmus examples/SB.cert\n"))))))
 
 -- The reply to an input alone: a litmus text and a certificate after it, with each gap of cost 1. An input with a part that is too
 -- long is refused, whatever comes after the bytes that show it.
@@ -45,9 +53,9 @@ pub data IsReplyToFiles (names : FileNames) (input : Option (List ℕ)) (files :
       → IsVerdict litmus certificate costs status text → IsReplyToFiles names input files status text
   no_file : (why : FileFault) → IsFilesFault names input files why → IsReplyToFiles names input files 1 (file_line why)
 
--- the line that says how the program is called
+-- the lines that say how the program is called
 abbrev pub IsUsage : ℕ → List ℕ → Type 0
-IsUsage status text = (status ≡ 2) × (text ≡ usage_line)
+IsUsage status text = (status ≡ 2) × (text ≡ usage_text)
 
 -- what the program prints for the words after its name, an input and files, with which status
 abbrev pub IsOutput : List (List ℕ) → Option (List ℕ) → (List ℕ → Option (List ℕ)) → ℕ → List ℕ → Type 0

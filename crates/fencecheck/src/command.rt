@@ -3,7 +3,7 @@
 ghost use Rattle.std.specs.Prelude.{◌≡◌, ◌==◌, ◌||◌, [], IfOk, IfErr, ⊤, length, map, nat_lt, option_map, string_bytes};
 ghost use Rattle.program_streams.specs.Streams.{Prints};
 ghost use Rattle.fencecheck.specs.Verdicts.{IsVerdict};
-ghost use Rattle.fencecheck.specs.Replies.{usage_line, AreOfFiles, IsFilesFault, IsReplyToInput, IsReplyToFiles, IsOutput};
+ghost use Rattle.fencecheck.specs.Replies.{usage_text, AreOfFiles, IsFilesFault, IsReplyToInput, IsReplyToFiles, IsOutput};
 ghost use Rattle.fencecheck.specs.Inputs.{ReadsEnough};
 ghost use Rattle.fencecheck.specs.Internal.Names.{file_names_of};
 
@@ -15,11 +15,21 @@ use program_streams::{
 use std::alloc::{AllocError, Global};
 use std::io::{Read, Write};
 
+const USAGE: &[u8] = b"\
+usage: fencecheck LITMUS CERTIFICATE [COSTS]
+Judges whether a certificate proves which gaps of a program are its cheapest places for MFENCE.
+Prints `accepted cost N set T:K ..` with status 0, or a refusal in one line with status 1.
+LITMUS is a litmus file, or - for standard input; COSTS says what gaps cost, 1 each without it.
+With no words the litmus text, and the certificate after it, are read from standard input.
+Refusals are explained in docs/formats.md.
+Example: fencecheck examples/SB.litmus examples/SB.cert
+";
+
 /// How the program is called.
-fn usage_line(alloc: Global) -> Result<Vec<u8>, AllocError>
-    ensures { IfOk result (λ line. line.items ≡ usage_line) }
+fn usage_text(alloc: Global) -> Result<Vec<u8>, AllocError>
+    ensures { IfOk result (λ text. text.items ≡ usage_text) }
 {
-    Vec::from_slice(alloc, b"usage: fencecheck LITMUS CERTIFICATE [COSTS]\n")
+    Vec::from_slice(alloc, USAGE)
 }
 
 /// Judges a certificate, prints the verdict, and returns the status.
@@ -141,7 +151,7 @@ pub fn run_command<S: FileStore, R: Read, W: Write>(
     ensures read { words.now ≡ [] → ReadsEnough (R.remaining input.old) (R.remaining input.new) }
 {
     if is_misused(words) {
-        return print(output, usage_line(alloc), 2);
+        return print(output, usage_text(alloc), 2);
     }
     let names = match words {
         [] => return run_input(alloc, input, output),

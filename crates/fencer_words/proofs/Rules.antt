@@ -14,11 +14,11 @@ use Rattle.clap.specs.declared.builder.range.ValueRange.{ValueRange}
 use Rattle.clap.specs.declared.builder.texts.Texts.TheVariants.{One}
 use Rattle.clap.specs.declared.builder.value_parser.ValueParser.{ValueParser}
 use Rattle.clap.specs.declared.builder.value_parser.ValueParser.TheVariants as parser
-use Rattle.fencer_words.specs.CommandLines.{ModelNames, model_rule, label_rule, observed_rule}
+use Rattle.fencer_words.specs.CommandLines.{ModelNames, named_rule, model_rule, label_rule, observed_rule}
 
 -- an argument with a long name, a parser and a default value
 pub model_rule_of : (new long parsed done : Arg) (name value : Bor Text) (models : ModelNames)
-    → rule_of new ≡ new_rule (codes "model")
+    → rule_of new ≡ named_rule (codes "model")
     → long ≡ record new { long = Some name } → name.now ≡ codes "model"
     → parsed ≡ record long { value_parser = parsed.value_parser } → parsed.value_parser ≡ Some (parser.Names models)
     → done ≡ record parsed { default_vals = One value } → value.now ≡ codes "buffered"
@@ -34,7 +34,7 @@ model_rule_of new long parsed done name value models new_is long_is name_is pars
     value_is
 
 -- an argument with a range of values and an action
-pub label_rule_of : (new ranged done : Arg) → rule_of new ≡ new_rule (codes "label")
+pub label_rule_of : (new ranged done : Arg) → rule_of new ≡ named_rule (codes "label")
     → ranged ≡ record new { num_vals = ranged.num_vals }
     → ranged.num_vals ≡ Some (record { start_inclusive = 0; end_inclusive = usize_max })
     → done ≡ record ranged { action = Some Append }

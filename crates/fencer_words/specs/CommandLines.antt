@@ -26,9 +26,13 @@ ModelNames = Bor (List (Bor Text))
 abbrev pub AreModels : ModelNames → Type 0
 AreModels names = map (λ (name : Bor Text). name.now) names.now ≡ codes "buffered" ∷ codes "sequential" ∷ []
 
+-- an argument with one value, which help calls by a name
+abbrev pub named_rule : Text → Rule
+named_rule id = record (new_rule id) { value_names = 1 }
+
 -- `--model MODEL`
 abbrev pub model_rule : ModelNames → Rule
-model_rule models = record (new_rule (codes "model")) {
+model_rule models = record (named_rule (codes "model")) {
   long = Some (codes "model");
   parser = Some (parser.Names models);
   defaults = codes "buffered" ∷ [];
@@ -36,11 +40,11 @@ model_rule models = record (new_rule (codes "model")) {
 
 -- `LITMUS`
 abbrev pub litmus_rule : Rule
-litmus_rule = record (new_rule (codes "litmus")) { required = true }
+litmus_rule = record (named_rule (codes "litmus")) { required = true }
 
 -- `[LABEL..]`
 abbrev pub label_rule : Rule
-label_rule = record (new_rule (codes "label")) {
+label_rule = record (named_rule (codes "label")) {
   action = Some Append;
   range = Some (record { start_inclusive = 0; end_inclusive = usize_max });
 }
@@ -54,11 +58,11 @@ observed_rule = record (new_rule (codes "observed")) {
 
 -- `--NAME FILE`
 abbrev pub file_rule : Text → Rule
-file_rule name = record (new_rule name) { long = Some name }
+file_rule name = record (named_rule name) { long = Some name }
 
 -- `--workers N`
 abbrev pub workers_rule : Rule
-workers_rule = record (new_rule (codes "workers")) {
+workers_rule = record (named_rule (codes "workers")) {
   long = Some (codes "workers");
   parser = Some (parser.Unsigned 1 MAX_WORKERS);
   defaults = codes "1" ∷ [];

@@ -1,19 +1,41 @@
-//! Arguments, each for every command that takes it, and their values.
+//! Commands and arguments with what help says of them, the arguments of several commands, and their values.
 
 ghost use Rattle.std.specs.Prelude.{◌≡◌, false, IfOk, codes, map, option_map, string_bytes, unwrap_or};
-ghost use Rattle.clap.specs.Words.{all_of, first_of, found_of, rows_of, rule_of};
-ghost use Rattle.fencer_words.specs.CommandLines.{model_rule, litmus_rule, observed_rule, has_value, is_flagged, model_in, text_in};
+ghost use Rattle.clap.specs.Words.{all_of, app_of, first_of, found_of, new_app, rows_of, rule_of};
+ghost use Rattle.clap.specs.declared.builder.command.Command.TheViews.{out-Command};
+ghost use Rattle.fencer_words.specs.CommandLines.{named_rule, model_rule, litmus_rule, observed_rule, has_value, is_flagged, model_in, text_in};
 
-use clap::{Arg, ArgAction, ArgMatches};
+use clap::{Arg, ArgAction, ArgMatches, Command};
 use std::alloc::{AllocError, Global};
 use tso_machine::Model;
+
+/// A command, with what help says of it first and last.
+pub fn described_command<'a>(
+    alloc: Global,
+    name: &'a str,
+    first: &'a str,
+    last: &'a str,
+) -> Command<'a>
+    ensures app { app_of result ≡ new_app name.entry.now }
+    ensures local { (out-Command result).has_globals ≡ false }
+{
+    Command::new(alloc, name).about(first).after_help(last)
+}
+
+/// An argument, with what help calls its value and says of it.
+pub fn named_arg<'a>(alloc: Global, id: &'a str, value: &'a str, help: &'a str) -> Arg<'a>
+    ensures rule { rule_of result ≡ named_rule id.entry.now }
+    ensures own { result.global ≡ false }
+{
+    Arg::new(alloc, id).value_name(value).help(help)
+}
 
 /// `--model MODEL`, of models with these names.
 pub fn model_arg<'a>(alloc: Global, names: &'a [&'a str]) -> Arg<'a>
     ensures rule { rule_of result ≡ model_rule names.entry }
     ensures own { result.global ≡ false }
 {
-    Arg::new(alloc, "model")
+    named_arg(alloc, "model", "MODEL", "The machine")
         .long("model")
         .value_parser(names)
         .default_value("buffered")
@@ -24,7 +46,13 @@ pub fn litmus_arg<'a>(alloc: Global) -> Arg<'a>
     ensures rule { rule_of result ≡ litmus_rule }
     ensures own { result.global ≡ false }
 {
-    Arg::new(alloc, "litmus").required(true)
+    named_arg(
+        alloc,
+        "litmus",
+        "LITMUS",
+        "The litmus file, or - for standard input",
+    )
+    .required(true)
 }
 
 /// `--observed`
@@ -33,6 +61,7 @@ pub fn observed_arg<'a>(alloc: Global) -> Arg<'a>
     ensures own { result.global ≡ false }
 {
     Arg::new(alloc, "observed")
+        .help("Compare outcomes by what the condition and `locations` name, and by nothing else")
         .long("observed")
         .action(ArgAction::SetTrue)
 }

@@ -5,15 +5,27 @@ ghost use Rattle.clap.specs.Words.{found_of, rows_of};
 ghost use Rattle.fencer_words.specs.CommandLines.{outcomes_app, IsJobOf};
 ghost use Rattle.fencer_words.specs.Commands.{IsBuiltAs};
 
-use crate::arguments::{is_flagged, litmus_arg, model_arg, model_in, observed_arg, text_in};
+use crate::arguments::{
+    described_command, is_flagged, litmus_arg, model_arg, model_in, observed_arg, text_in,
+};
 use crate::job::Job;
 use clap::{ArgMatches, Command};
 use std::alloc::{AllocError, Global};
 
+const FIRST: &str =
+    "Lists each outcome of a program once, and what the list shows of its condition";
+
+const LAST: &str = "\
+Prints `outcomes N`, a line `outcome: ..` for each in ascending order, `observation ..` and
+`condition ..`, with status 0; a refusal with status 1; what is wrong with the command line, or
+this help, with status 2. Refusals are explained in docs/formats.md.
+
+Example: fencer outcomes --model sequential examples/SB.litmus";
+
 pub fn outcomes_command<'a>(alloc: Global, models: &'a [&'a str]) -> Result<Command<'a>, AllocError>
     ensures { IfOk result (IsBuiltAs (outcomes_app models.entry)) }
 {
-    Command::new(alloc, "outcomes")
+    described_command(alloc, "outcomes", FIRST, LAST)
         .arg(model_arg(alloc, models))?
         .arg(observed_arg(alloc))?
         .arg(litmus_arg(alloc))

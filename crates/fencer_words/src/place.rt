@@ -5,19 +5,37 @@ ghost use Rattle.clap.specs.Words.{found_of, rows_of, rule_of};
 ghost use Rattle.fencer_words.specs.CommandLines.{file_rule, workers_rule, place_app, AreWorkers, IsJobOf};
 ghost use Rattle.fencer_words.specs.Commands.{IsBuiltAs};
 
-use crate::arguments::{is_flagged, litmus_arg, observed_arg, text_given, text_in, value_in};
+use crate::arguments::{
+    described_command, is_flagged, litmus_arg, named_arg, observed_arg, text_given, text_in,
+    value_in,
+};
 use crate::job::{Job, Placement};
 use clap::builder::ValueParser;
 use clap::{Arg, ArgMatches, Command};
 use std::alloc::{AllocError, Global};
 use tso_program::MAX_WORKERS;
 
+const FIRST: &str =
+    "Places the cheapest fences with which a program behaves as under sequential consistency";
+
+const LAST: &str = "\
+Prints `answer cost N set T:K ..`, where T:K lies before instruction K of thread T, and the
+program with an MFENCE in each of these gaps, with status 0; a refusal with status 1; what is
+wrong with the command line, or this help, with status 2. Refusals are explained in
+docs/formats.md.
+
+Example: fencer place --certificate SB.cert examples/SB.litmus";
+
+const COSTS_HELP: &str = "Read what gaps cost, in lines like `0:1 5`; without a line a gap costs 1";
+
+const CERTIFICATE_HELP: &str = "Write the certificate there, for fencecheck";
+
 /// `--NAME FILE`
-fn file_arg<'a>(alloc: Global, name: &'a str) -> Arg<'a>
+fn file_arg<'a>(alloc: Global, name: &'a str, help: &'a str) -> Arg<'a>
     ensures rule { rule_of result ≡ file_rule name.entry.now }
     ensures own { result.global ≡ false }
 {
-    Arg::new(alloc, name).long(name)
+    named_arg(alloc, name, "FILE", help).long(name)
 }
 
 /// `--workers N`
@@ -25,7 +43,7 @@ fn workers_arg<'a>(alloc: Global) -> Arg<'a>
     ensures rule { rule_of result ≡ workers_rule }
     ensures own { result.global ≡ false }
 {
-    Arg::new(alloc, "workers")
+    named_arg(alloc, "workers", "N", "How many workers search, 1 to 32")
         .long("workers")
         .value_parser(ValueParser::unsigned(1, MAX_WORKERS as u64))
         .default_value("1")
@@ -34,10 +52,10 @@ fn workers_arg<'a>(alloc: Global) -> Arg<'a>
 pub fn place_command<'a>(alloc: Global) -> Result<Command<'a>, AllocError>
     ensures { IfOk result (IsBuiltAs place_app) }
 {
-    Command::new(alloc, "place")
-        .arg(file_arg(alloc, "costs"))?
+    described_command(alloc, "place", FIRST, LAST)
+        .arg(file_arg(alloc, "costs", COSTS_HELP))?
         .arg(workers_arg(alloc))?
-        .arg(file_arg(alloc, "certificate"))?
+        .arg(file_arg(alloc, "certificate", CERTIFICATE_HELP))?
         .arg(observed_arg(alloc))?
         .arg(litmus_arg(alloc))
 }

@@ -5,25 +5,40 @@ ghost use Rattle.clap.specs.Words.{found_of, rows_of, rule_of};
 ghost use Rattle.fencer_words.specs.CommandLines.{label_rule, replay_app, texts_in, IsJobOf};
 ghost use Rattle.fencer_words.specs.Commands.{IsBuiltAs};
 
-use crate::arguments::{litmus_arg, model_arg, model_in, text_in, values_of};
+use crate::arguments::{
+    described_command, litmus_arg, model_arg, model_in, named_arg, text_in, values_of,
+};
 use crate::job::Job;
 use clap::{Arg, ArgAction, ArgMatches, Command};
 use std::alloc::{AllocError, Global};
+
+const FIRST: &str = "Replays a run of a program: its outcome, and the gaps that it passes";
+
+const LAST: &str = "\
+Prints `outcome: ..` and `passed T:K ..`, with status 0; a refusal with status 1; what is wrong
+with the command line, or this help, with status 2. Refusals are explained in docs/formats.md.
+
+Example: fencer replay examples/SB.litmus e0 e1 e0 e1 f0 f1";
 
 /// `[LABEL..]`
 fn label_arg<'a>(alloc: Global) -> Arg<'a>
     ensures rule { rule_of result ≡ label_rule }
     ensures own { result.global ≡ false }
 {
-    Arg::new(alloc, "label")
-        .num_args(0..)
-        .action(ArgAction::Append)
+    named_arg(
+        alloc,
+        "label",
+        "LABEL",
+        "A step: e0 executes the next instruction of thread 0, f0 moves its oldest waiting store to memory",
+    )
+    .num_args(0..)
+    .action(ArgAction::Append)
 }
 
 pub fn replay_command<'a>(alloc: Global, models: &'a [&'a str]) -> Result<Command<'a>, AllocError>
     ensures { IfOk result (IsBuiltAs (replay_app models.entry)) }
 {
-    Command::new(alloc, "replay")
+    described_command(alloc, "replay", FIRST, LAST)
         .arg(model_arg(alloc, models))?
         .arg(litmus_arg(alloc))?
         .arg(label_arg(alloc))

@@ -5,6 +5,7 @@ ghost use Rattle.clap.specs.Words.{found_of, kind_of, rows_of};
 ghost use Rattle.fencer_words.specs.CommandLines.{command_names, AsksFor, IsJobOf, IsNoCommand};
 ghost use Rattle.fencer_words.specs.Commands.{IsFencerCommand, IsJobMet, MeetsNoCommand};
 
+use crate::arguments::described_command;
 use crate::job::Job;
 use crate::outcomes::{outcomes_command, outcomes_job};
 use crate::place::{place_command, place_job};
@@ -13,6 +14,17 @@ use clap::error::ErrorKind;
 use clap::{ArgMatches, Command, Error};
 use std::alloc::{AllocError, Global};
 
+const FIRST: &str = "\
+Finds the cheapest places for MFENCE with which a small x86 program behaves as on a sequentially
+consistent machine, replays its runs and lists its outcomes";
+
+const LAST: &str = "\
+With no words they are the first line of standard input; where LITMUS there is -, the litmus text
+is the rest. The status is 0 for an answer, 1 for a refusal, which is one line, and 2 for a bad
+command line or this help. docs/guide.md explains the commands, docs/formats.md each refusal.
+
+Example: fencer place examples/SB.litmus";
+
 static MODELS: [&str; 2] = ["buffered", "sequential"];
 
 /// The command line.
@@ -20,10 +32,11 @@ fn command<'a>(alloc: Global) -> Result<Command<'a>, AllocError>
     ensures { IfOk result IsFencerCommand }
 {
     let models = MODELS.as_slice();
-    Command::new(alloc, "fencer")
+    described_command(alloc, "fencer", FIRST, LAST)
         .no_binary_name(true)
         .subcommand_required(true)
         .disable_help_subcommand(true)
+        .bin_name("fencer")?
         .subcommand(replay_command(alloc, models)?)?
         .subcommand(outcomes_command(alloc, models)?)?
         .subcommand(place_command(alloc)?)

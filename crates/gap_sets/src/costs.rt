@@ -18,17 +18,17 @@ pub const MAX_COST: u32 = 1_000_000;
 /// Why a list of numbers is no list of costs, by number and name, with the gap.
 #[derive(Clone, Copy, Debug, PartialEq, Eq, Error)]
 pub enum CostFault {
-    /// The gap costs nothing.
-    #[error("1 Zero {0}")]
+    /// The gap of this number, from 0, costs nothing.
+    #[error("gap number {0} costs nothing")]
     Zero(u8),
-    /// The gap costs more than `MAX_COST`.
-    #[error("2 TooLarge {0}")]
+    /// The gap of this number, from 0, costs more than `MAX_COST`.
+    #[error("gap number {0} costs more than 1000000")]
     TooLarge(u8),
     /// There are more costs than `MAX_GAPS`.
-    #[error("3 TooMany")]
+    #[error("there are more than 128 costs")]
     TooMany,
     /// The list could not be stored.
-    #[error("4 OutOfMemory")]
+    #[error("out of memory")]
     OutOfMemory,
 }
 

@@ -40,7 +40,7 @@ pub struct Refusal {
 /// Why tokens could not be read.
 #[derive(Clone, Copy, Debug, PartialEq, Eq, Error)]
 pub enum SyntaxFault {
-    #[error("refused: {0:?}")]
+    #[error("the tokens are refused: {0:?}")]
     Refused(Refusal),
     #[error("out of memory")]
     OutOfMemory,

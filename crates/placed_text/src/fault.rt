@@ -9,14 +9,14 @@ use thiserror::Error;
 #[derive(Clone, Copy, Debug, PartialEq, Eq, Error)]
 pub enum TextFault {
     /// The text isn't a litmus text.
-    #[error("1 Read: {0}")]
+    #[error("the litmus text: {0}")]
     Read(ReadFault),
     /// The text of costs isn't one for the program.
-    #[error("2 CostText: {0}")]
+    #[error("the costs: {0}")]
     CostText(CostTextFault),
     /// There is no such number of workers.
-    #[error("3 Place: {0}")]
+    #[error("{0}")]
     Place(PlaceFault),
-    #[error("4 OutOfMemory")]
+    #[error("out of memory")]
     OutOfMemory,
 }

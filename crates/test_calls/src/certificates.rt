@@ -55,7 +55,7 @@ fn push_judgment(
 ) -> Result<(), AllocError> {
     match judged {
         Ok(accepted) => push_acceptance(alloc, &accepted, printed),
-        Err(fault) => write!(printed, "refused check {fault}\n"),
+        Err(fault) => write!(printed, "refused check {fault:?}\n"),
     }
 }
 

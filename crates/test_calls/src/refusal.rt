@@ -24,34 +24,34 @@ pub enum Refusal {
     Gap,
     #[error("memory")]
     Memory(#[from(alloc)] AllocError),
-    #[error("costs {0}")]
+    #[error("costs {0:?}")]
     Costs(#[from] CostFault),
-    #[error("program {0}")]
+    #[error("program {0:?}")]
     Program(#[from] ProgramFault),
-    #[error("fence {0}")]
+    #[error("fence {0:?}")]
     Fence(#[from] FenceFault),
-    #[error("run {0}")]
+    #[error("run {0:?}")]
     Run(#[from] RunFault),
-    #[error("replay {0}")]
+    #[error("replay {0:?}")]
     Replay(#[from] ReplayFault),
-    #[error("sketch {0}")]
+    #[error("sketch {0:?}")]
     Sketch(#[from] SketchFault),
-    #[error("make {0}")]
+    #[error("make {0:?}")]
     Make(#[from] MakeFault),
     #[error("formula {0:?}")]
     Formula(#[from] FormulaFault),
     #[error("syntax {0:?}")]
     Syntax(#[from] SyntaxFault),
-    #[error("litmus {0}")]
+    #[error("litmus {0:?}")]
     Litmus(#[from] ReadFault),
-    #[error("certificate {0}")]
+    #[error("certificate {0:?}")]
     Certificate(#[from] CertFault),
-    #[error("solve {0}")]
+    #[error("solve {0:?}")]
     Solve(#[from] SolveFault),
-    #[error("foreign {0}")]
+    #[error("foreign {0:?}")]
     Foreign(#[from] ForeignFault),
-    #[error("tree {0}")]
+    #[error("tree {0:?}")]
     Tree(#[from] TreeFault),
-    #[error("place {0}")]
+    #[error("place {0:?}")]
     Place(#[from] PlaceFault),
 }

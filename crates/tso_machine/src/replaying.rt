@@ -29,22 +29,22 @@ pub struct Ended {
 #[derive(Clone, Copy, PartialEq, Eq, Debug, Error)]
 pub enum ReplayFault {
     /// The step with this index is of a thread that the program hasn't.
-    #[error("1 NoSuchThread {0}")]
+    #[error("step {0} is of a thread that the program lacks")]
     NoSuchThread(usize),
     /// The step with this index executes an instruction of a thread that is at its end.
-    #[error("2 AtEnd {0}")]
+    #[error("step {0} executes an instruction of a thread that has ended")]
     AtEnd(usize),
     /// The step with this index flushes a thread that has no waiting store.
-    #[error("3 BufferEmpty {0}")]
+    #[error("step {0} moves a store of a thread that has none waiting")]
     BufferEmpty(usize),
     /// The step with this index executes an instruction that has to wait for an empty buffer.
-    #[error("4 FenceWaits {0}")]
+    #[error("step {0} executes what waits until the thread's store buffer is empty")]
     FenceWaits(usize),
     /// Each of the steps, of which there are so many, is possible, but then a thread isn't at its end or
     /// has a waiting store.
-    #[error("5 NotEnded {0}")]
+    #[error("after {0} steps a thread has not ended or a store waits")]
     NotEnded(usize),
-    #[error("6 OutOfMemory")]
+    #[error("out of memory")]
     OutOfMemory,
 }
 

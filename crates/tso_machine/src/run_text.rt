@@ -16,9 +16,9 @@ use thiserror::Error;
 #[derive(Clone, Copy, Debug, PartialEq, Eq, Error)]
 pub enum RunFault {
     /// The word with this index, from 0, is no label.
-    #[error("1 Token {0}")]
+    #[error("word {0} is not a label")]
     Token(usize),
-    #[error("2 OutOfMemory")]
+    #[error("out of memory")]
     OutOfMemory,
 }
 

@@ -20,10 +20,10 @@ use thiserror::Error;
 /// Why a program can't be fenced.
 #[derive(Clone, Copy, PartialEq, Eq, Debug, Error)]
 pub enum FenceFault {
-    /// The least gap of the set that the program hasn't.
-    #[error("1 NoSuchGap {0}")]
+    /// The least gap of the set that the program lacks, by its number from 0.
+    #[error("the program lacks gap number {0}")]
     NoSuchGap(u8),
-    #[error("2 OutOfMemory")]
+    #[error("out of memory")]
     OutOfMemory,
 }
 
@@ -135,7 +135,7 @@ impl Program {
     }
 }
 
-/// The least gap of the set that the program hasn't.
+/// The least gap of the set that the program lacks, by its number from 0.
 fn missing_gap(program: &Program, gaps: &GapSet) -> Option<u8>
     ensures { result ≡ first_missing program.now gaps.now }
 {

@@ -27,28 +27,28 @@ pub const MAX_WORKERS: u8 = 32;
 /// Why threads and initial values make no program: the first of these that applies.
 #[derive(Clone, Copy, PartialEq, Eq, Debug, Error)]
 pub enum ProgramFault {
-    #[error("1 NoThreads")]
+    #[error("there is no thread")]
     NoThreads,
-    #[error("2 TooManyThreads")]
+    #[error("there are more than 8 threads")]
     TooManyThreads,
-    /// A thread of more than `MAX_INSTRUCTIONS` instructions, or `MAX_FENCED_INSTRUCTIONS` in a fenced program.
-    #[error("3 TooLong {0}")]
+    /// A thread, from 0, of more than `MAX_INSTRUCTIONS` instructions, or `MAX_FENCED_INSTRUCTIONS` in a fenced program.
+    #[error("thread {0} has too many instructions")]
     TooLong(u8),
     /// More than `MAX_LOCATIONS` initial values, or an instruction that names a location without one.
-    #[error("4 Locations")]
+    #[error("there are more than 8 locations, or one without an initial value")]
     Locations,
-    #[error("5 TooManyAccesses")]
+    #[error("there are more than 32 accesses to memory")]
     TooManyAccesses,
-    /// A thread, and its instruction whose jump doesn't lead to a later place.
-    #[error("6 BackwardJump {0} {1}")]
+    /// A thread, and its instruction whose jump doesn't lead to a later place, both from 0.
+    #[error("the jump of thread {0} at instruction {1} does not lead to a later place")]
     BackwardJump(u8, u8),
-    /// A thread, and its instruction whose jump leads past the thread's end.
-    #[error("7 JumpPastEnd {0} {1}")]
+    /// A thread, and its instruction whose jump leads past the thread's end, both from 0.
+    #[error("the jump of thread {0} at instruction {1} leads past the thread's end")]
     JumpPastEnd(u8, u8),
     /// Never of a fenced program.
-    #[error("8 TooManyGaps")]
+    #[error("there are more than 128 gaps")]
     TooManyGaps,
-    #[error("9 OutOfMemory")]
+    #[error("out of memory")]
     OutOfMemory,
 }
 

@@ -1,7 +1,7 @@
 use Rattle.std.proofs.Common.{◌≡◌, ◌∙◌, ◌==◌, ◌||◌, true, false, length, map, refl, sym, ap}
 use Rattle.std.specs.Prelude.{nat_lt, string_bytes}
 use Rattle.program_streams.proofs.Printed.{prints_more, prints_line}
-use Rattle.fencecheck.specs.Replies.{IsOutput, IsUsage, usage_line}
+use Rattle.fencecheck.specs.Replies.{IsOutput, IsUsage, usage_text}
 use Rattle.fencecheck.proofs.Usage.{usage_output}
 use Rattle.fencecheck.proofs.command.run_command.Goals as goal
 
@@ -11,7 +11,7 @@ returns-then-is_misused-clause-printed g c =
     let files = g.S.FileStore.held c.args.files.now in
     prints_more IsUsage (IsOutput (map string_bytes c.args.words.now) input files) _ _ c.print.result
     (λ status out is. usage_output string_bytes c.args.words.now input files status out (sym c.is_misused.ensures ∙ c.if-is_misused.true) is)
-    (prints_line c.usage_line.result 2 usage_line IsUsage _ _ c.print.result (refl, refl) c.usage_line.ensures c.print.ensures)
+    (prints_line c.usage_text.result 2 usage_text IsUsage _ _ c.print.result (refl, refl) c.usage_text.ensures c.print.ensures)
 
 pub returns-then-is_misused-clause-read : goal.returns-then-is_misused-clause-read
 returns-then-is_misused-clause-read g c none =

@@ -6,5 +6,5 @@ use Rattle.fencer_words.proofs.arguments.model_arg.Goals as goal
 pub returns-clause-rule : goal.returns-clause-rule
 returns-clause-rule c =
     let parser_is : c.value_parser.result.value_parser ≡ Some (Names c.args.names) = search rules in
-    model_rule_of c.new.result c.long.result c.value_parser.result c.default_value.result _ _ c.args.names
-    c.new.ensures.rule c.long.ensures (search rules) c.value_parser.ensures.others parser_is c.default_value.ensures (search rules)
+    model_rule_of c.named_arg.result c.long.result c.value_parser.result c.default_value.result _ _ c.args.names
+    c.named_arg.ensures.rule c.long.ensures (search rules) c.value_parser.ensures.others parser_is c.default_value.ensures (search rules)

@@ -15,11 +15,11 @@ returns c =
           ∙ ap₂ with_rule (observed.shape c.observed_arg.ensures.own
           ∙ ap₂ with_rule (certificate.shape c.file_arg-2.ensures.own
           ∙ ap₂ with_rule (workers.shape c.workers_arg.ensures.own
-          ∙ ap₂ with_rule (costs.shape c.file_arg.ensures.own ∙ ap₂ with_rule c.new.ensures.app c.file_arg.ensures.rule) c.workers_arg.ensures.rule) c.file_arg-2.ensures.rule) c.observed_arg.ensures.rule) c.litmus_arg.ensures.rule;
+          ∙ ap₂ with_rule (costs.shape c.file_arg.ensures.own ∙ ap₂ with_rule c.described_command.ensures.app c.file_arg.ensures.rule) c.workers_arg.ensures.rule) c.file_arg-2.ensures.rule) c.observed_arg.ensures.rule) c.litmus_arg.ensures.rule;
       no_globals = neither _ _ _ h.globals
           (neither _ _ _ observed.globals
           (neither _ _ _ certificate.globals
-          (neither _ _ _ workers.globals (neither _ _ _ costs.globals c.new.ensures.local c.file_arg.ensures.own) c.workers_arg.ensures.own)
+          (neither _ _ _ workers.globals (neither _ _ _ costs.globals c.described_command.ensures.local c.file_arg.ensures.own) c.workers_arg.ensures.own)
           c.file_arg-2.ensures.own) c.observed_arg.ensures.own)
           c.litmus_arg.ensures.own;
     }) c.arg-5.ensures

@@ -6,4 +6,4 @@ use Rattle.fencer_words.proofs.replay.label_arg.Goals as goal
 pub returns-clause-rule : goal.returns-clause-rule
 returns-clause-rule c =
     let range_is : c.num_args.result.num_vals ≡ Some (record { start_inclusive = 0; end_inclusive = usize_max }) = search rules in
-    label_rule_of c.new.result c.num_args.result c.action.result c.new.ensures.rule c.num_args.ensures.0 range_is c.action.ensures
+    label_rule_of c.named_arg.result c.num_args.result c.action.result c.named_arg.ensures.rule c.num_args.ensures.0 range_is c.action.ensures
