@@ -1,4 +1,4 @@
-//! Reads that have no source.
+//! Reads that have no source. Which of them is taken changes the tree, and nothing that is proved of it.
 ghost use Rattle.std.specs.Prelude.{◌<◌, IfOk, IfSome, All, length};
 ghost use Rattle.cover_solver.specs.Choices.{IsOpen};
 
@@ -7,8 +7,8 @@ use crate::choices_left::OpenChoice;
 use exec_axioms::Sketch;
 use std::alloc::{AllocError, Global};
 
-/// The number of the first read among what is left that has no source: that choice closes the sketch, and
-/// no other needs a look.
+/// The number of the first read among what is left that has no source. It closes the sketch, so no other
+/// choice needs a look.
 pub(crate) fn first_unsourced(
     alloc: Global,
     sketch: &Sketch,
