@@ -7,6 +7,7 @@ ghost use Rattle.cover_solver.specs.Ordered.{Ascend};
 
 use crate::choices_left::{OpenChoice, open_choices};
 use crate::preference::preferred;
+use crate::unsourced::first_unsourced;
 use cert_forest::AccessId;
 use cover_judge::{Choice, source_choices, value_choices};
 use exec_axioms::Sketch;
@@ -27,7 +28,10 @@ pub(crate) fn next_choice(
     if left.is_empty() {
         return Ok(None);
     }
-    let number = preferred(alloc, sketch, shown, outcomes, &left)?;
+    let number = match first_unsourced(alloc, sketch, &left)? {
+        Some(number) => number,
+        None => preferred(alloc, sketch, shown, outcomes, &left)?,
+    };
     Ok(Some(left[number]))
 }
 

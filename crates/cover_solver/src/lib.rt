@@ -21,6 +21,7 @@ mod preference;
 mod run;
 mod served;
 mod table;
+mod unsourced;
 
 pub use fault::{ForeignFault, SolveFault};
 pub use foreign::ForeignRun;
