@@ -1,11 +1,10 @@
 -- Runs that are replayed in turn, and the first that is not a run.
-use Rattle.std.proofs.Common.{◌≡◌, ◌≢◌, ℕ, zero, suc, ◌+◌, ◌<◌, List, [], ◌∷◌, ◌++◌, length, All, take, get_or, refl, sym, ap, ◌∙◌, subst, arith}
-use Rattle.std.specs.List.{AllZip}
-use Rattle.std.specs.Option.{option_map}
-use Rattle.std.specs.Global.{Vec}
+use Rattle.std.proofs.Common.{◌≡◌, ◌≢◌, ℕ, zero, suc, ◌<◌, List, [], ◌∷◌, ◌++◌, Some, length, All, refl, sym, ap, ◌∙◌, subst, arith}
+use Rattle.std.specs.List.{AllZip, slice_get}
 use Rattle.std.specs.FinSet as set
-use Rattle.std.proofs.lemmas.List.{map_more, take-map}
-use Rattle.std.proofs.lemmas.Option.{slice_get-map, slice_get-get_or}
+use Rattle.std.proofs.Math.Seq.{take-append_seam}
+use Rattle.std.proofs.lemmas.List.{append_assoc, append-nil}
+use Rattle.std.proofs.lemmas.Slice.Zip.{AllZip-long}
 use Rattle.tso_program.specs.declared.listing.Listing.{Listing}
 use Rattle.tso_program.specs.declared.outcome.Outcome.{Outcome}
 use Rattle.tso_program.specs.declared.shown.Shown.{Shown}
@@ -25,7 +24,6 @@ use Rattle.tso_machine.specs.Outcomes.{IsShownRun}
 use Rattle.tso_machine.specs.Faults.{ReplayFaultIs}
 use Rattle.tso_machine.proofs.Refused.{no_fault}
 use Rattle.fence_laws.proofs.GapsAvoided.{empty_fences_nothing}
-use Rattle.cert_forest.specs.Certificates.{labels_of}
 use Rattle.cert_check.specs.Faults.{IsRunOf, IsFirstWithout}
 use Rattle.cert_check.specs.Internal.Replays.{machine_of, IsReplayOf, AreReplaysOf, IsNoRunAt, IsFaultFrom, RunsFaultIs}
 
@@ -76,38 +74,60 @@ zip_left R P f (x ∷ xs) (y ∷ ys) all (suc k) d h = zip_left R P f xs ys all.
 pub of_shown : (q : Question) (mode : Mode) (labels : List Label) (o : Outcome) → IsShownRun q mode labels o → IsRunOf q.program mode labels
 of_shown q mode labels o (whole, is_run, shown) = (whole, is_run)
 
--- of one run more, at the next place of a list in step
-module _ {B : Type 0} (R : List Label → B → Type 0) (all : List (Vec Label)) (i : ℕ) (d : Vec Label) (h : i < length all) (labels : List Label) (same : labels ≡ (get_or all i d).items) where
-  step_more : (xs more : List B) (x : B) → AllZip R (labels_of (take i all)) xs → R labels x → more ≡ xs ++ x ∷ [] → AllZip R (labels_of (take (i + 1) all)) more
-  step_more xs more x each is pushed =
-      subst (λ labels. AllZip R labels more) (sym (map_more (λ (run : Vec Label). run.items) all i d h))
-      (subst (AllZip R (labels_of (take i all) ++ (get_or all i d).items ∷ [])) (sym pushed)
-      (zip_more R (labels_of (take i all)) xs (get_or all i d).items x each (subst (λ labels. R labels x) same is)))
+-- what stands at the seam of two lists
+at_seam : {A : Type 0} (xs : List A) (y : A) (ys : List A) → slice_get (xs ++ y ∷ ys) (length xs) ≡ Some y
+at_seam [] y ys = refl
+at_seam (x ∷ xs) y ys = at_seam xs y ys
 
-module _ (q : Question) (model : Model) (all : List (Vec Label)) where
-  -- the replays so far, and one more
-  pub replays_more : (i : ℕ) (d : Vec Label) (labels : List Label) → labels ≡ (get_or all i d).items → (outcomes more_outcomes : List Outcome) (passed more_passed : List SetOfGaps) (end : Ended) →
-      i < length all → AreReplaysOf q model (labels_of (take i all)) outcomes passed → IsReplayOf q model labels end → more_outcomes ≡ outcomes ++ end.outcome ∷ [] →
-      more_passed ≡ passed ++ end.passed ∷ [] → AreReplaysOf q model (labels_of (take (i + 1) all)) more_outcomes more_passed
-  replays_more i d labels same outcomes more_outcomes passed more_passed end h each is pushed pushed_too = record {
-    are_runs = step_more (IsShownRun q (machine_of model)) all i d h labels same outcomes more_outcomes end.outcome each.are_runs is.is_run pushed;
-    are_passed = step_more (ArePassed q.program (machine_of model)) all i d h labels same passed more_passed end.passed each.are_passed is.passed pushed_too;
-  }
+module _ (q : Question) (model : Model) (all : List (List Label)) where
+  -- all but these last runs are replayed
+  abbrev pub AreReplayedBut : List (List Label) → List Outcome → List SetOfGaps → Type 0
+  AreReplayedBut left outcomes passed = (front : List (List Label)) × (front ++ left ≡ all) × AreReplaysOf q model front outcomes passed
 
-  -- the first that is not a run
-  pub first_no_run : (i : ℕ) (d : Vec Label) (outcomes : List Outcome) (passed : List SetOfGaps) → i < length all → AreReplaysOf q model (labels_of (take i all)) outcomes passed →
-      (IsRunOf q.program (machine_of model) (get_or all i d).items → ⊥) → IsFirstWithout (IsRunOf q.program (machine_of model)) (labels_of all) i
-  first_no_run i d outcomes passed h each none = record {
-    value = (get_or all i d).items;
-    there = slice_get-map (λ (run : Vec Label). run.items) all i ∙ ap (λ o. option_map (λ (run : Vec Label). run.items) o) (slice_get-get_or all i d h);
-    without = none;
-    before = subst (All (IsRunOf q.program (machine_of model))) (sym (take-map (λ (run : Vec Label). run.items) i all))
-        (zip_left (IsShownRun q (machine_of model)) (IsRunOf q.program (machine_of model)) (of_shown q (machine_of model)) (labels_of (take i all)) outcomes each.are_runs);
-  }
+  pub none_replayed : (outcomes : List Outcome) (passed : List SetOfGaps) → outcomes ≡ [] → passed ≡ [] → AreReplayedBut all outcomes passed
+  none_replayed outcomes passed no_outcome no_gaps = (
+    [],
+    refl,
+    record {
+      are_runs = subst (AllZip (IsShownRun q (machine_of model)) []) (sym no_outcome) tt;
+      are_passed = subst (AllZip (ArePassed q.program (machine_of model)) []) (sym no_gaps) tt;
+    },
+  )
 
-  -- the fault of the first that is not a run
-  pub first_fault : (i : ℕ) (d : Vec Label) (outcomes : List Outcome) (passed : List SetOfGaps) (labels : List Label) → labels ≡ (get_or all i d).items → (fault : RunsFault) → i < length all →
-      AreReplaysOf q model (labels_of (take i all)) outcomes passed → IsNoRunAt q.program (machine_of model) labels i fault → RunsFaultIs q.program model (labels_of all) fault
-  first_fault i d outcomes passed labels same (runs.NoRun n) h each (at, none) = subst (IsFirstWithout (IsRunOf q.program (machine_of model)) (labels_of all)) (sym at)
-      (first_no_run i d outcomes passed h each (λ run. none (subst (IsRunOf q.program (machine_of model)) (sym same) run)))
-  first_fault i d outcomes passed labels same runs.OutOfMemory h each none = tt
+  pub all_replayed : (left : List (List Label)) (outcomes : List Outcome) (passed : List SetOfGaps) → left ≡ [] → AreReplayedBut left outcomes passed → AreReplaysOf q model all outcomes passed
+  all_replayed left outcomes passed none (front, same, each) =
+      subst (λ runs. AreReplaysOf q model runs outcomes passed) (sym (append-nil front) ∙ ap (λ (runs : List (List Label)). front ++ runs) (sym none) ∙ same) each
+
+  module _ (labels : List Label) (left rest : List (List Label)) (first : left ≡ labels ∷ rest) (outcomes : List Outcome) (passed : List SetOfGaps) (so_far : AreReplayedBut left outcomes passed) where
+    -- the replays so far, and one more
+    pub replays_more : (more_outcomes : List Outcome) (more_passed : List SetOfGaps) (end : Ended) → IsReplayOf q model labels end → more_outcomes ≡ outcomes ++ end.outcome ∷ [] → more_passed ≡ passed ++ end.passed ∷ [] →
+        AreReplayedBut rest more_outcomes more_passed
+    replays_more more_outcomes more_passed end is pushed pushed_too =
+        let (front, same, each) = so_far in (
+          front ++ labels ∷ [],
+          append_assoc front (labels ∷ []) rest ∙ ap (λ (runs : List (List Label)). front ++ runs) (sym first) ∙ same,
+          record {
+            are_runs = subst (AllZip (IsShownRun q (machine_of model)) (front ++ labels ∷ [])) (sym pushed) (zip_more (IsShownRun q (machine_of model)) front outcomes labels end.outcome each.are_runs is.is_run);
+            are_passed = subst (AllZip (ArePassed q.program (machine_of model)) (front ++ labels ∷ [])) (sym pushed_too) (zip_more (ArePassed q.program (machine_of model)) front passed labels end.passed each.are_passed is.passed);
+          },
+        )
+
+    -- the next is the first that is not a run
+    first_no_run : (IsRunOf q.program (machine_of model) labels → ⊥) → IsFirstWithout (IsRunOf q.program (machine_of model)) all (length outcomes)
+    first_no_run none =
+        let (front, same, each) = so_far in
+        let whole : front ++ labels ∷ rest ≡ all = ap (λ (runs : List (List Label)). front ++ runs) (sym first) ∙ same in
+        let long : length outcomes ≡ length front = AllZip-long (IsShownRun q (machine_of model)) front outcomes each.are_runs in
+        subst (IsFirstWithout (IsRunOf q.program (machine_of model)) all) (sym long)
+        (subst (λ runs. IsFirstWithout (IsRunOf q.program (machine_of model)) runs (length front)) whole (record {
+          value = labels;
+          there = at_seam front labels rest;
+          without = none;
+          before = subst (All (IsRunOf q.program (machine_of model))) (sym (take-append_seam front (labels ∷ rest)))
+              (zip_left (IsShownRun q (machine_of model)) (IsRunOf q.program (machine_of model)) (of_shown q (machine_of model)) front outcomes each.are_runs);
+        }))
+
+    -- its fault
+    pub first_fault : (fault : RunsFault) (number : ℕ) → number ≡ length outcomes → IsNoRunAt q.program (machine_of model) labels number fault → RunsFaultIs q.program model all fault
+    first_fault (runs.NoRun n) number is (at, none) = subst (IsFirstWithout (IsRunOf q.program (machine_of model)) all) (sym (at ∙ is)) (first_no_run none)
+    first_fault runs.OutOfMemory number is none = tt

@@ -1,6 +1,5 @@
 //! The runs of a certificate, replayed.
 ghost use Rattle.std.specs.Prelude.{◌≡◌, ◌↔◌, IsTrue, IfOk, IfErr, MatchOption, All, Contains, slice_get};
-ghost use Rattle.cert_forest.specs.Certificates.{labels_of};
 ghost use Rattle.std.specs.BTreeSet.{contains};
 ghost use Rattle.std.specs.Borrow.{Bor};
 ghost use Rattle.tso_program.specs.declared.outcome.Outcome.{Outcome};
@@ -9,6 +8,7 @@ ghost use Rattle.cert_check.specs.Faults.{IsFirstWithout};
 ghost use Rattle.cert_check.specs.Internal.Replays.{machine_of, IsReplayOf, AreReplaysOf, borrowed_cmp, IsOutside, IsNoRunAt, IsFaultFrom, RunsFaultIs};
 
 use crate::fault::RunsFault;
+use cert_forest::Runs;
 use gap_sets::GapSet;
 use std::alloc::{AllocError, Global};
 use std::collections::BTreeSet;
@@ -30,15 +30,15 @@ pub(crate) fn replay_all(
     program: &Program,
     shown: &Shown,
     model: Model,
-    runs: &[Vec<Label>],
+    runs: &Runs,
 ) -> Result<Replays, RunsFault>
-    ensures replays { IfOk result (λ replays. AreReplaysOf (asked program.now shown.now) model (labels_of runs.now) replays.outcomes.items replays.passed.items) }
-    ensures fault { IfErr result (RunsFaultIs program.now model (labels_of runs.now)) }
+    ensures replays { IfOk result (λ replays. AreReplaysOf (asked program.now shown.now) model runs.now replays.outcomes.items replays.passed.items) }
+    ensures fault { IfErr result (RunsFaultIs program.now model runs.now) }
 {
     let mut outcomes = Vec::new(alloc);
     let mut passed = Vec::new(alloc);
-    for (number, run) in runs.iter().enumerate() {
-        let end = replay_one(alloc, program, shown, model, number, run)?;
+    for run in runs {
+        let end = replay_one(alloc, program, shown, model, outcomes.len(), run)?;
         outcomes.push(end.outcome)?;
         passed.push(end.passed)?;
     }

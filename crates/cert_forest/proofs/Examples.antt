@@ -10,7 +10,8 @@ use Rattle.gap_sets.specs.Laws.{these}
 use Rattle.tso_program.specs.declared.shown.TheConstants.{PLACES}
 use Rattle.cert_forest.specs.declared.tree.TheConstants.{MAX_COVER_DEPTH}
 use Rattle.cert_forest.specs.Limits.{IsCoverTo, HasNumbers}
-use Rattle.cert_forest.specs.Laws.{TheExamplesAreCertificates, crossed, either, observed_tree}
+use Rattle.cert_forest.specs.StoreBuffering.{cover_of}
+use Rattle.cert_forest.specs.Laws.{TheExamplesAreCertificates, either, observed_tree}
 use Rattle.cert_forest.proofs.Ascending.{Ascend, numbers_back, ascending_are_below}
 
 -- single digits
@@ -29,7 +30,7 @@ d3 = decimal_digit 3 (lit< tt)
 d4 : decimal 4 ≡ 52 ∷ []
 d4 = decimal_digit 4 (lit< tt)
 
-crossed_numbers : (kind : Kind) → HasNumbers (crossed kind)
+crossed_numbers : (kind : Kind) → HasNumbers (cover_of kind)
 crossed_numbers kind = (
   lit< tt,
   lit≤ tt,
@@ -60,7 +61,7 @@ crossed_numbers kind = (
   ),
 )
 
-crossed_fits : (kind : Kind) → IsCoverTo MAX_COVER_DEPTH (crossed kind)
+crossed_fits : (kind : Kind) → IsCoverTo MAX_COVER_DEPTH (cover_of kind)
 crossed_fits kind = (lit≤ tt, crossed_numbers kind)
 
 either_numbers : HasNumbers either

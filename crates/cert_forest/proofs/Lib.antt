@@ -12,3 +12,4 @@ pub mod Examples
 pub mod Loops
 pub mod Writing
 pub mod TreeSteps
+pub mod RunPlaces

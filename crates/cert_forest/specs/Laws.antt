@@ -1,15 +1,13 @@
 -- Laws of certificates and their texts, and the definitions at three of them.
 use Rattle.std.specs.Prelude.{◌≡◌, ℕ, List, [], ◌∷◌, ◌++◌, codes}
 use Rattle.gap_sets.specs.Laws.{these}
-use Rattle.candidate_executions.specs.declared.event.Kind.{Kind}
-use Rattle.candidate_executions.specs.declared.event.Kind.TheVariants as kinds
-use Rattle.tso_machine.specs.declared.label.Label.TheVariants.{Exec, Flush}
+use Rattle.tso_machine.specs.declared.label.Label.TheVariants.{Exec}
 use Rattle.tso_program.specs.declared.shown.Shown.TheVariants.{All, Only}
 use Rattle.tso_program.specs.Names.{register_place}
-use Rattle.cert_forest.specs.declared.tree.AccessId.{AccessId}
-use Rattle.cert_forest.specs.Trees.{Cover, Value, Source, Cycle, Known, covers_of, Split, Bound, gap_trees_of}
+use Rattle.cert_forest.specs.Trees.{Cover, Value, Known, covers_of, Bound}
 use Rattle.cert_forest.specs.Certificates.{Certificate}
 use Rattle.cert_forest.specs.Limits.{IsCertificate}
+use Rattle.cert_forest.specs.StoreBuffering.{certificate}
 
 abbrev pub OneText : Type 0
 OneText = (c : Certificate) (text other : List ℕ) → IsCertificate text c → IsCertificate other c → text ≡ other
@@ -21,37 +19,7 @@ OneCertificate = (text : List ℕ) (c d : Certificate) → IsCertificate text c 
 abbrev pub NoTextBeginsAnother : Type 0
 NoTextBeginsAnother = (text more : List ℕ) (c d : Certificate) → IsCertificate text c → IsCertificate (text ++ more) d → more ≡ []
 
--- ---- store buffering: two threads store to a location each and load the other's
-
-abbrev pub access : ℕ → ℕ → AccessId
-access t i = record { thread = t; access = i }
-
--- the tree of store buffering, by the kind of its cycle
-abbrev pub crossed : Kind → Cover
-crossed kind =
-    Value 0 (covers_of (
-    Value 1 (covers_of (
-    Source (access 0 1) (covers_of (Source (access 1 1) (covers_of (Cycle kind (access 0 0 ∷ (access 0 1 ∷ (access 1 0 ∷ (access 1 1 ∷ [])))) ∷ [])) ∷ []))
-    ∷ (Known 0 ∷ [])))
-    ∷ (Value 1 (covers_of (Known 1 ∷ (Known 2 ∷ []))) ∷ [])))
-
-abbrev pub store_buffering_cert : Certificate
-store_buffering_cert = record {
-  shown = All;
-  gaps = these (0 ∷ (1 ∷ []));
-  cost = 2;
-  seq_runs =
-      (Exec 0 ∷ (Exec 0 ∷ (Exec 1 ∷ (Exec 1 ∷ []))))
-      ∷ ((Exec 1 ∷ (Exec 1 ∷ (Exec 0 ∷ (Exec 0 ∷ []))))
-      ∷ ((Exec 0 ∷ (Exec 1 ∷ (Exec 0 ∷ (Exec 1 ∷ [])))) ∷ []));
-  seq_tree = crossed kinds.Sequential;
-  runs =
-      (Exec 0 ∷ (Exec 1 ∷ (Exec 0 ∷ (Exec 1 ∷ (Flush 0 ∷ (Flush 1 ∷ []))))))
-      ∷ ((Exec 1 ∷ (Exec 1 ∷ (Exec 0 ∷ (Flush 0 ∷ (Exec 0 ∷ (Flush 1 ∷ []))))))
-      ∷ ((Exec 0 ∷ (Exec 0 ∷ (Exec 1 ∷ (Flush 1 ∷ (Exec 1 ∷ (Flush 0 ∷ [])))))) ∷ []));
-  fenced_tree = crossed kinds.Global;
-  gap_tree = Split 0 (gap_trees_of (Split 1 (gap_trees_of (Bound ∷ [])) ∷ (Split 2 (gap_trees_of []) ∷ [])));
-}
+-- ---- store buffering
 
 abbrev pub ended : List ℕ → List ℕ
 ended words = words ++ 10 ∷ []
@@ -137,6 +105,6 @@ n6_observed_text =
     ++ ended (codes "gaps B"))))))))))
 
 pub record TheExamplesAreCertificates : Type 0 where
-  pub crossing : IsCertificate store_buffering_text store_buffering_cert
+  pub crossing : IsCertificate store_buffering_text certificate
   pub nothing : IsCertificate nothing_to_do_text nothing_to_do
   pub observed : IsCertificate n6_observed_text n6_observed

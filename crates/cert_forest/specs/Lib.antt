@@ -5,5 +5,6 @@ pub mod Certificates
 pub mod Texts
 pub mod Limits
 pub mod Exact
+pub mod StoreBuffering
 pub mod Laws
 pub mod Internal

@@ -1,9 +1,9 @@
 //! Certificates.
 
+use crate::run_list::Runs;
 use crate::tree::{CoverTree, GapTree};
 use gap_sets::GapSet;
 use std::marker::Model;
-use tso_machine::Label;
 use tso_program::Shown;
 
 /// What shows that a set of gaps is the answer for a program.
@@ -15,11 +15,11 @@ pub struct Certificate {
     /// The set's cost.
     pub cost: u64,
     /// Runs of the sequential machine.
-    pub seq_runs: Vec<Vec<Label>>,
+    pub seq_runs: Runs,
     /// Shows that these runs have all sequential outcomes.
     pub seq_tree: CoverTree,
     /// Runs of the store buffer machine with no gap fenced.
-    pub runs: Vec<Vec<Label>>,
+    pub runs: Runs,
     /// Shows that with the set fenced there are no other outcomes than the sequential ones.
     pub fenced_tree: CoverTree,
     /// Shows that no better set serves.
@@ -27,7 +27,7 @@ pub struct Certificate {
 }
 
 impl Model for Certificate {
-    ghost use Rattle.cert_forest.specs.Certificates.{Certificate, labels_of};
+    ghost use Rattle.cert_forest.specs.Certificates.{Certificate};
 
     ghost Value = { Certificate };
 
@@ -45,9 +45,9 @@ impl Model for Certificate {
       shown = c.shown;
       gaps = c.set;
       cost = c.cost;
-      seq_runs = labels_of c.seq_runs.items;
+      seq_runs = c.seq_runs;
       seq_tree = cover c.seq_tree;
-      runs = labels_of c.runs.items;
+      runs = c.runs;
       fenced_tree = cover c.fenced_tree;
       gap_tree = gap c.gap_tree;
     } };

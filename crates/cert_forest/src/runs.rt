@@ -1,12 +1,12 @@
 //! Lines of runs.
 
-ghost use Rattle.std.specs.Prelude.{◌≡◌, map, []};
-ghost use Rattle.cert_forest.specs.Certificates.{labels_of};
+ghost use Rattle.std.specs.Prelude.{◌≡◌, []};
 ghost use Rattle.cert_words.specs.declared.numbers.TheConstants.{MAX_COUNT};
 ghost use Rattle.text_tokens.specs.Steps.{Gives, GivesUnless};
 ghost use Rattle.cert_words.specs.Words.{repeat_at, stops_for_memory};
 ghost use Rattle.cert_forest.specs.Internal.Reading.{label_word_at, run_labels_at, run_at, runs_at};
 
+use crate::run_list::Runs;
 use cert_words::{
     MAX_COUNT, Refusal, Stop, Wrong, begins_word, end, first_word, name, number, refused,
     refused_unless_cut, refused_word, word,
@@ -92,10 +92,10 @@ fn run(alloc: Global, bytes: &[u8]) -> Result<(Vec<Label>, &[u8]), Stop>
 }
 
 /// So many lines of runs.
-fn run_lines(alloc: Global, count: u64, bytes: &[u8]) -> Result<(Vec<Vec<Label>>, &[u8]), Stop>
-    ensures { GivesUnless stops_for_memory (λ x. (labels_of x.0.items, x.1.now)) result (repeat_at run_at count [] bytes.now) }
+fn run_lines(alloc: Global, count: u64, bytes: &[u8]) -> Result<(Runs, &[u8]), Stop>
+    ensures { GivesUnless stops_for_memory (λ x. (x.0, x.1.now)) result (repeat_at run_at count [] bytes.now) }
 {
-    let mut found = Vec::new(alloc);
+    let mut found = Runs::new(alloc);
     let mut rest = bytes;
     for _ in 0..count {
         let (run, after) = run(alloc, rest)?;
@@ -111,8 +111,8 @@ pub(crate) fn runs<'t>(
     alloc: Global,
     first: &[u8],
     bytes: &'t [u8],
-) -> Result<(Vec<Vec<Label>>, &'t [u8]), Stop>
-    ensures { GivesUnless stops_for_memory (λ x. (labels_of x.0.items, x.1.now)) result (runs_at first.now bytes.now) }
+) -> Result<(Runs, &'t [u8]), Stop>
+    ensures { GivesUnless stops_for_memory (λ x. (x.0, x.1.now)) result (runs_at first.now bytes.now) }
 {
     let rest = name(first, bytes)?;
     let (count, rest) = number(u64::MAX, rest)?;

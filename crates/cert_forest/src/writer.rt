@@ -6,11 +6,11 @@ ghost use Rattle.gap_sets.specs.Gaps.{numbers_of_set};
 ghost use Rattle.tso_machine.specs.RunTexts.{spelling};
 ghost use Rattle.cert_forest.specs.Views.{cover, gap};
 ghost use Rattle.cert_forest.specs.Trees.{covers_of, gap_trees_of};
-ghost use Rattle.cert_forest.specs.Certificates.{labels_of};
 ghost use Rattle.cert_words.specs.Lines.{texts_of, spaced, line};
 ghost use Rattle.cert_forest.specs.Texts.{register_word, location_word, place_word, head_lines, access_word, kind_word, cover_words, covers_words, gap_words, gaps_words, labels_line, runs_lines, certificate_text};
 
 use crate::certificate::Certificate;
+use crate::run_list::Runs;
 use crate::shown::{MAX_REGISTERS, THREAD_REGISTERS};
 use crate::tree::{AccessId, CoverTree, GapTree};
 use candidate_executions::Kind;
@@ -171,8 +171,8 @@ fn push_run(out: &mut String, labels: &[Label]) -> Result<(), AllocError>
     out.push('\n')
 }
 
-fn push_run_lines(out: &mut String, runs: &[Vec<Label>]) -> Result<(), AllocError>
-    ensures { OnOk result (string_bytes out.new ≡ string_bytes out.old ++ texts_of labels_line (labels_of runs.now)) }
+fn push_run_lines(out: &mut String, runs: &Runs) -> Result<(), AllocError>
+    ensures { OnOk result (string_bytes out.new ≡ string_bytes out.old ++ texts_of labels_line runs.now) }
 {
     for run in runs {
         push_run(out, run)?;
@@ -180,8 +180,8 @@ fn push_run_lines(out: &mut String, runs: &[Vec<Label>]) -> Result<(), AllocErro
     Ok(())
 }
 
-fn push_runs(out: &mut String, name: &str, runs: &[Vec<Label>]) -> Result<(), AllocError>
-    ensures { OnOk result (string_bytes out.new ≡ string_bytes out.old ++ runs_lines name.now (labels_of runs.now)) }
+fn push_runs(out: &mut String, name: &str, runs: &Runs) -> Result<(), AllocError>
+    ensures { OnOk result (string_bytes out.new ≡ string_bytes out.old ++ runs_lines name.now runs.now) }
 {
     out.push_str(name)?;
     push_len(out, runs.len())?;

@@ -1,5 +1,5 @@
 -- What is put into a list at its place.
-use Rattle.std.proofs.Common.{◌≡◌, ℕ, zero, suc, ◌+◌, ◌-◌, ◌<◌, List, [], ◌∷◌, Some, Result, Ok, Err, IfOk, IfErr, Contains, slice_get, get_or, length, map, refl, sym, ap, ◌∙◌, subst, inl, inr, arith}
+use Rattle.std.proofs.Common.{◌≡◌, ℕ, zero, suc, ◌+◌, ◌-◌, ◌<◌, List, [], ◌∷◌, Some, Result, Ok, Err, IfOk, IfErr, Contains, slice_get, get_or, length, sym, ap, ◌∙◌, subst, inl, inr, arith}
 use Rattle.std.specs.List.{AllZip, insert}
 use Rattle.std.specs.List.Sorted.{IsSorted, IsSearchInRange, IsBinarySearchResult, IsNonDecreasingBy}
 use Rattle.std.specs.Ordering.{ordering_index, ordering_reverse, is_lt}
@@ -88,11 +88,6 @@ zip_insert R [] [] (suc i) x y all r = (r, tt)
 zip_insert R [] (b ∷ ys) (suc i) x y all r = absurd all
 zip_insert R (a ∷ xs) [] (suc i) x y all r = absurd all
 zip_insert R (a ∷ xs) (b ∷ ys) (suc i) x y all r = (all.0, zip_insert R xs ys i x y all.1 r)
-
-pub map_insert : {A B : Type 0} (f : A → B) (xs : List A) (i : ℕ) (x : A) → map f (insert xs i x) ≡ insert (map f xs) i (f x)
-map_insert f xs zero x = refl
-map_insert f [] (suc i) x = refl
-map_insert f (a ∷ xs) (suc i) x = ap (λ ys. f a ∷ ys) (map_insert f xs i x)
 
 -- an outcome that belongs at a place is not there yet
 pub not_there : (os : List Outcome) (o : Outcome) (p : ℕ) → BelongsAt os o p → Contains os o → ⊥

@@ -16,7 +16,6 @@ use Rattle.exec_axioms.specs.Parts.{Parts, mode_in, machine_mode, sketch_of, fir
 use Rattle.tree_laws.specs.CoverTrees.{IsCovered}
 use Rattle.tree_laws.proofs.ListedOutcomes.{listed, allowed_is_shown}
 use Rattle.cover_judge.proofs.SketchesAfter.{first_sketch}
-use Rattle.cert_forest.specs.Certificates.{labels_of}
 use Rattle.cover_solver.specs.declared.found.Found.{Found}
 use Rattle.cover_solver.specs.Found.{AreRunsOf, HasRunOfEach}
 use Rattle.cover_solver.specs.Explored.{Grows, IsListed}
@@ -49,9 +48,9 @@ covered_first p mode s shown outcomes same listed =
     subst (IsCovered (asked p shown) (machine_mode p mode) outcomes) (first_sketch p mode) (subst (λ (n : Parts). IsCovered (asked n.program shown) (mode_in n) outcomes (sketch_of n)) same listed)
 
 -- what has grown from nothing has a run of each outcome
-pub runs_first : (p : Listing) (mode : own.Mode) (s : Parts) (shown : Shown) (old new : Found) → s ≡ first_parts p mode → old.outcomes.items ≡ [] → old.runs.items ≡ [] → Grows s shown old new →
+pub runs_first : (p : Listing) (mode : own.Mode) (s : Parts) (shown : Shown) (old new : Found) → s ≡ first_parts p mode → old.outcomes.items ≡ [] → old.runs ≡ [] → Grows s shown old new →
     HasRunOfEach (asked p shown) (machine_mode p mode) new
 runs_first p mode s shown old new same no_outcomes no_runs grows =
     subst (λ (n : Parts). HasRunOfEach (asked n.program shown) (mode_in n) new) same
-    (grows.runs (subst (λ os. AreRunsOf (asked s.program shown) (mode_in s) (labels_of old.runs.items) os) (sym no_outcomes)
-    (subst (λ rs. AreRunsOf (asked s.program shown) (mode_in s) (labels_of rs) []) (sym no_runs) tt)))
+    (grows.runs (subst (λ os. AreRunsOf (asked s.program shown) (mode_in s) old.runs os) (sym no_outcomes)
+    (subst (λ rs. AreRunsOf (asked s.program shown) (mode_in s) rs []) (sym no_runs) tt)))

@@ -6,6 +6,7 @@ ghost use Rattle.tso_machine.specs.Outcomes.{IsShownRun};
 ghost use Rattle.cover_solver.specs.Found.{AscendWithRuns, HasRunOfEach, Keeps};
 
 use crate::ordered::place_of;
+use cert_forest::Runs;
 use std::alloc::{AllocError, Global};
 use tso_machine::Label;
 use tso_program::Outcome;
@@ -14,18 +15,18 @@ use tso_program::Outcome;
 #[derive(Debug, Drop)]
 pub(crate) struct Found {
     pub(crate) outcomes: Vec<Outcome>,
-    pub(crate) runs: Vec<Vec<Label>>,
+    pub(crate) runs: Runs,
 }
 
 impl Found {
     /// No outcome yet.
     pub(crate) fn none(alloc: Global) -> Found
         ensures outcomes { result.outcomes.items ≡ [] }
-        ensures runs { result.runs.items ≡ [] }
+        ensures runs { result.runs ≡ [] }
     {
         Found {
             outcomes: Vec::new(alloc),
-            runs: Vec::new(alloc),
+            runs: Runs::new(alloc),
         }
     }
 

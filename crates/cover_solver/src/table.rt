@@ -3,7 +3,6 @@ ghost use Rattle.std.specs.Prelude.{◌≡◌, ◌↔◌, IfOk, IfErr, IsTrue};
 ghost use Rattle.tso_program.specs.Shown.{asked};
 ghost use Rattle.tso_machine.specs.Outcomes.{IsSequentialOutcome};
 ghost use Rattle.tso_machine.specs.Machine.{Sequential};
-ghost use Rattle.cert_forest.specs.Certificates.{labels_of};
 ghost use Rattle.cert_forest.specs.Views.{cover};
 ghost use Rattle.cover_solver.specs.Covers.{IsWholeCover};
 ghost use Rattle.cover_solver.specs.Facts.{IsSequentialTable, IsListOf};
@@ -12,11 +11,10 @@ use crate::cover::cover_all;
 use crate::explore::explore_all;
 use crate::fault::{SolveFault, Stop};
 use crate::ordered::place_of;
-use cert_forest::CoverTree;
+use cert_forest::{CoverTree, Runs};
 use exec_axioms::Mode;
 use std::alloc::{AllocError, Global};
 use std::marker::Model;
-use tso_machine::Label;
 use tso_program::{Outcome, Program, Shown};
 
 /// The sequential outcomes of a program, as far as they are shown, ascending and each of them once, with
@@ -26,7 +24,7 @@ pub struct SeqTable {
     program: Program,
     shown: Shown,
     outcomes: Vec<Outcome>,
-    runs: Vec<Vec<Label>>,
+    runs: Runs,
     tree: CoverTree,
 }
 
@@ -41,14 +39,13 @@ impl Model for SeqTable {
 
     ghost coded = { Prim.hlevel (codes, names.the_row.coded, coded_cover) };
 
-    ghost use Rattle.cert_forest.specs.Certificates.{labels_of};
     ghost use Rattle.cert_forest.specs.Views.{cover};
     ghost use Rattle.cover_solver.specs.Facts.{IsSequentialTable};
     ghost use Rattle.tso_program.specs.Shown.{asked};
 
-    ghost view = { λ t. record { question = asked t.program t.shown; outcomes = t.outcomes.items; runs = labels_of t.runs.items; tree = cover t.tree } };
+    ghost view = { λ t. record { question = asked t.program t.shown; outcomes = t.outcomes.items; runs = t.runs; tree = cover t.tree } };
 
-    ghost invariant = { λ t. IsSequentialTable (record { question = asked t.program t.shown; outcomes = t.outcomes.items; runs = labels_of t.runs.items; tree = cover t.tree }) };
+    ghost invariant = { λ t. IsSequentialTable (record { question = asked t.program t.shown; outcomes = t.outcomes.items; runs = t.runs; tree = cover t.tree }) };
 }
 
 /// The sequential outcomes of a program, as far as they are shown. They are found first; the tree is then
@@ -112,8 +109,8 @@ impl SeqTable {
     }
 
     /// A run of each outcome, in the order of the outcomes.
-    pub fn runs(&self) -> &[Vec<Label>]
-        ensures { labels_of result.now ≡ self.now.runs }
+    pub fn runs(&self) -> &Runs
+        ensures { result.now ≡ self.now.runs }
     {
         &self.runs
     }

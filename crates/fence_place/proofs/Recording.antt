@@ -1,14 +1,11 @@
 -- What the record says of each node, and the runs of its splits.
-use Rattle.std.proofs.Common.{◌≡◌, ◌≢◌, ◌⊎◌, Contains, ℕ, zero, suc, ◌+◌, ◌<◌, true, List, [], ◌∷◌, ◌++◌, Some, length, get_or, take, refl, sym, ap, ◌∙◌, subst, inl, inr, arith}
+use Rattle.std.proofs.Common.{◌≡◌, ◌≢◌, ◌⊎◌, Contains, ℕ, zero, suc, ◌+◌, ◌<◌, true, List, [], ◌∷◌, ◌++◌, Some, length, refl, sym, ap, ◌∙◌, subst, inl, inr, arith}
 use Rattle.std.specs.Prelude.{slice_get}
 use Rattle.std.proofs.lemmas.Option.{same_Some, none-some, slice_get_within}
-use Rattle.std.proofs.lemmas.List.{map-append, take_more}
-use Rattle.std.proofs.lemmas.List.Elements.{Contains-get_or, Contains-push_cases}
+use Rattle.std.proofs.lemmas.List.Elements.{Contains-get_or}
 use Rattle.std.proofs.lemmas.List.Quantifiers.{all_pairs_push}
 use Rattle.gap_sets.specs.Regions.{open_gaps}
 use Rattle.tso_machine.specs.declared.label.Label.{Label}
-use Rattle.std.specs.Global.{Vec}
-use Rattle.cert_forest.specs.Certificates.{labels_of}
 use Rattle.cert_forest.specs.Trees.{Gap, gap_trees_of}
 use Rattle.cover_solver.specs.Facts.{Foreign}
 use Rattle.search_core.specs.declared.entry.Entry.{Entry}
@@ -20,8 +17,7 @@ use Rattle.search_core.specs.declared.finished.Settled.{Settled}
 use Rattle.search_core.specs.Children.{children}
 use Rattle.search_core.specs.Entries.{is_closed_status}
 use Rattle.search_core.specs.Records.{Outcome, finished_state, IsOutcome, IsEventOf, IsSettledAs, IsFirstChild}
-use Rattle.search_core.proofs.Places.{get_longer, get_behind, get_mapped}
-use Rattle.std.proofs.lemmas.Option.{slice_get_read}
+use Rattle.search_core.proofs.Places.{get_longer, get_behind}
 use Rattle.search_core.proofs.Kept.{facts_of}
 use Rattle.fence_place.specs.Recorded.{AreNumbersOf, AreSplitRuns, AreDistinct, ListsRun, is_there, is_new, ListsEvent, IsRecorded, AreRecorded}
 use Rattle.fence_place.proofs.GapTreeValid.{as_many}
@@ -105,19 +101,6 @@ module _ (labels : List Label) (number : ℕ) (runs after : List (List Label)) w
   once_more (is_there at same) once = subst AreDistinct (sym same) once
   once_more (is_new fresh last same) once =
       subst AreDistinct (sym same) (all_pairs_push (λ a b. a ≢ b) runs labels once (λ k d within is. fresh (subst (Contains runs) is (Contains-get_or runs k d within))))
-
--- a run that is looked up among others, and is not one of those so far
-pub none_more : (runs : List (Vec Label)) (n : ℕ) (run : Vec Label) (labels : List Label) → n < length runs → run ≡ get_or runs n run → (run.items ≡ labels → ⊥) → ¬ Contains (labels_of (take n runs)) labels →
-    ¬ Contains (labels_of (take (n + 1) runs)) labels
-none_more runs n run labels within is other none has =
-    let e : take (n + 1) runs ≡ take n runs ++ run ∷ [] = take_more runs n run within ∙ ap (λ (r : Vec Label). take n runs ++ r ∷ []) (sym is) in
-    let f : labels_of (take (n + 1) runs) ≡ labels_of (take n runs) ++ run.items ∷ [] = ap labels_of e ∙ map-append (λ (r : Vec Label). r.items) (take n runs) (run ∷ []) in
-    elim (Contains-push_cases (labels_of (take n runs)) run.items labels (subst (λ l. Contains l labels) f has)) [ inl old ↦ none old | inr new ↦ other new ]
-
--- the labels of a run that stands there
-pub there_as : (runs : List (Vec Label)) (n : ℕ) (run : Vec Label) (labels : List Label) → n < length runs → run ≡ get_or runs n run → run.items ≡ labels → slice_get (labels_of runs) n ≡ Some labels
-there_as runs n run labels within is same =
-    get_mapped (λ (r : Vec Label). r.items) runs n run (slice_get_read runs (length runs) n run refl within is) ∙ ap (λ (l : List Label). Some l) same
 
 -- a node that is not split has any number
 pub not_listed : (v : Event) (number : ℕ) (runs : List (List Label)) → ((run : _) → v ≡ event.Split run → ⊥) → ListsEvent v number runs runs

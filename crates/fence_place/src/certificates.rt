@@ -1,6 +1,5 @@
 //! The certificate of a search that is done.
-ghost use Rattle.std.specs.Prelude.{◌≡◌, ◌↔◌, ◌<◌, ◌+◌, ℕ, IfOk, IsTrue, MatchOption, Some, Contains, length, slice_get, map};
-ghost use Rattle.cert_forest.specs.Certificates.{labels_of};
+ghost use Rattle.std.specs.Prelude.{◌≡◌, ◌<◌, ◌+◌, ℕ, IfOk, length, map};
 ghost use Rattle.cert_forest.specs.Limits.{AreShownPlaces};
 ghost use Rattle.cert_forest.specs.Trees.{gap_trees_of};
 ghost use Rattle.cert_forest.specs.Views.{gap};
@@ -8,11 +7,10 @@ ghost use Rattle.fence_place.specs.Recorded.{AreNumbersOf, AreSplitRuns, AreDist
 ghost use Rattle.fence_place.specs.Proofs.{IsProof};
 
 use crate::gaps::count_open;
-use cert_forest::{Certificate, GapTree};
+use cert_forest::{Certificate, GapTree, Runs};
 use cover_solver::SeqTable;
 use search_core::{Event, Finished};
 use std::alloc::{AllocError, Global};
-use tso_machine::Label;
 use tso_program::Shown;
 
 /// The certificate of the answer: the table's runs with their tree, the tree with the set's gaps fenced,
@@ -37,11 +35,15 @@ pub fn certify(
     let (runs, numbers) = listed_runs(alloc, finished)?;
     let gap_tree = gap_tree(alloc, finished, &numbers, 0)?;
     let set = served.set();
+    let seq_runs = table.runs().copy(alloc)?;
+    // As for these: there are no more of them than a number can count.
+    let _ = runs.len();
+    let _ = seq_runs.len();
     Ok(Certificate {
         shown: *shown,
         set,
         cost: finished.costs().total(&set),
-        seq_runs: run_copies(alloc, table.runs())?,
+        seq_runs,
         seq_tree: table.tree().copy(alloc)?,
         runs,
         fenced_tree: served.tree().copy(alloc)?,
@@ -61,16 +63,13 @@ fn names_have_places(shown: &Shown)
 
 /// The runs that split nodes, each of them once, and for each node a number: that of its run, where it was
 /// split.
-fn listed_runs(
-    alloc: Global,
-    finished: &Finished,
-) -> Result<(Vec<Vec<Label>>, Vec<usize>), AllocError>
-    ensures numbers { IfOk result (λ found. AreNumbersOf finished.now.entries (labels_of found.0.items) found.1.items) }
+fn listed_runs(alloc: Global, finished: &Finished) -> Result<(Runs, Vec<usize>), AllocError>
+    ensures numbers { IfOk result (λ found. AreNumbersOf finished.now.entries found.0 found.1.items) }
     ensures as_many { IfOk result (λ found. length found.1.items ≡ length finished.now.entries) }
-    ensures runs { IfOk result (λ found. AreSplitRuns finished.now.entries (labels_of found.0.items)) }
-    ensures once { IfOk result (λ found. AreDistinct (labels_of found.0.items)) }
+    ensures runs { IfOk result (λ found. AreSplitRuns finished.now.entries found.0) }
+    ensures once { IfOk result (λ found. AreDistinct found.0) }
 {
-    let mut runs = Vec::new(alloc);
+    let mut runs = Runs::new(alloc);
     let mut numbers = Vec::new(alloc);
     while let Some(settled) = finished.settled(numbers.len()) {
         let number = run_number(alloc, &mut runs, settled.event)?;
@@ -81,41 +80,18 @@ fn listed_runs(
 
 /// The number of the run of a split, which is put after the others where none of them is equal to it. A
 /// node that isn't split has any number.
-fn run_number(
-    alloc: Global,
-    runs: &mut Vec<Vec<Label>>,
-    event: Event<'_>,
-) -> Result<usize, AllocError>
-    ensures { IfOk result (λ number. ListsEvent event.entry number (labels_of runs.old.items) (labels_of runs.new.items)) }
+fn run_number(alloc: Global, runs: &mut Runs, event: Event<'_>) -> Result<usize, AllocError>
+    ensures { IfOk result (λ number. ListsEvent event.entry number runs.old runs.new) }
 {
     let Event::Split(run) = event else {
         return Ok(0);
     };
-    if let Some(number) = place_of(runs, run.labels()) {
+    if let Some(number) = runs.position(run.labels()) {
         return Ok(number);
     }
     let number = runs.len();
     runs.push(Vec::from_slice(alloc, run.labels())?)?;
     Ok(number)
-}
-
-/// The number of the run with these labels, from 0.
-fn place_of(runs: &[Vec<Label>], labels: &[Label]) -> Option<usize>
-    ensures { MatchOption result (¬ Contains (labels_of runs.now) labels.now) (λ number. slice_get (labels_of runs.now) number ≡ Some labels.now) }
-{
-    for (number, run) in runs.iter().enumerate() {
-        if are_same(run, labels) {
-            return Some(number);
-        }
-    }
-    None
-}
-
-/// Whether the two are the same steps.
-fn are_same(run: &[Label], labels: &[Label]) -> bool
-    ensures { IsTrue result ↔ (run.now ≡ labels.now) }
-{
-    run == labels
 }
 
 /// What became of the node of this number and of its descendants. It recurses as deep as a tree of gaps
@@ -168,15 +144,4 @@ fn gap_trees(
         trees.push(tree)?;
     }
     Ok(trees)
-}
-
-/// Equal runs.
-fn run_copies(alloc: Global, runs: &[Vec<Label>]) -> Result<Vec<Vec<Label>>, AllocError>
-    ensures { IfOk result (λ copies. labels_of copies.items ≡ labels_of runs.now) }
-{
-    let mut copies = Vec::new(alloc);
-    for run in runs {
-        copies.push(Vec::from_slice(alloc, run)?)?;
-    }
-    Ok(copies)
 }

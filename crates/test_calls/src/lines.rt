@@ -1,7 +1,7 @@
 //! The lines of the solver's answers.
 
 use crate::input::push_bytes;
-use cert_forest::CoverTree;
+use cert_forest::{CoverTree, Runs};
 use cover_solver::{ForeignRun, SeqTable};
 use gap_sets::GapSet;
 use litmus_text::NameTable;
@@ -20,7 +20,7 @@ fn push_run(alloc: Global, labels: &[Label], printed: &mut String) -> Result<(),
     printed.push('\n')
 }
 
-fn push_runs(alloc: Global, runs: &[Vec<Label>], printed: &mut String) -> Result<(), AllocError> {
+fn push_runs(alloc: Global, runs: &Runs, printed: &mut String) -> Result<(), AllocError> {
     for run in runs {
         push_run(alloc, run, printed)?;
     }

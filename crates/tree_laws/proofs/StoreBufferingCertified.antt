@@ -10,7 +10,8 @@ use Rattle.tso_machine.specs.Outcomes.{AreGapsOf}
 use Rattle.tso_machine.specs.Examples.{store_buffering}
 use Rattle.candidate_executions.specs.declared.event.Kind.TheVariants as union
 use Rattle.tree_laws.specs.Certificates.{IsValidCertificate}
-use Rattle.tree_laws.specs.StoreBuffering.{costs, certificate, StoreBufferingIsCertified}
+use Rattle.cert_forest.specs.StoreBuffering.{certificate}
+use Rattle.tree_laws.specs.StoreBuffering.{costs, StoreBufferingIsCertified}
 use Rattle.tree_laws.proofs.Regions.{new_or_old}
 use Rattle.tree_laws.proofs.CertificateIsProof.{certificate_proves}
 use Rattle.tree_laws.proofs.StoreBufferingCovered.{question, outcomes, cover_is_valid}

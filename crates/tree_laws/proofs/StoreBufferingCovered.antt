@@ -16,7 +16,7 @@ use Rattle.candidate_executions.specs.Candidates.{access_by, Writes}
 use Rattle.candidate_executions.specs.Sketches.{Sketch, empty_sketch, with_value, with_source, IsSourceOf, MayBeLast, MustEndAs}
 use Rattle.candidate_executions.specs.Events.{ComesBefore}
 use Rattle.tree_laws.specs.CoverTrees.{event_of, MustEndAsNumber, HasNextValues, HasSources, IsKnownCycle, IsValidCover}
-use Rattle.tree_laws.specs.StoreBuffering.{around, cover_of}
+use Rattle.cert_forest.specs.StoreBuffering.{around, cover_of}
 use Rattle.tree_laws.proofs.Lists.{none_here, first_or_later, first_is_here}
 use Rattle.tree_laws.proofs.StoreBufferingValues.{zero_one, values, both, whole, writes_one, writes_initial}
 

@@ -9,7 +9,7 @@ use Rattle.candidate_executions.specs.declared.event.Event.TheVariants.{Initial}
 use Rattle.candidate_executions.specs.declared.event.Kind.TheVariants as union
 use Rattle.candidate_executions.specs.Traces.{entered}
 use Rattle.tree_laws.specs.CoverTrees.{event_of, IsKnownCycle}
-use Rattle.tree_laws.specs.StoreBuffering.{around}
+use Rattle.cert_forest.specs.StoreBuffering.{around}
 use Rattle.tree_laws.proofs.StoreBufferingCovered.{read_twice}
 
 -- the gaps 0:1 and 1:1

@@ -13,7 +13,8 @@ use Rattle.gap_sets.specs.Laws.{these}
 use Rattle.gap_sets.proofs.Orders.{not_itself}
 use Rattle.tso_machine.specs.Examples.{store_buffering, waiting_stores}
 use Rattle.tree_laws.specs.GapTrees.{PassesGap, IsSplitBy, IsValidGap}
-use Rattle.tree_laws.specs.StoreBuffering.{second_waits, first_waits, gap_tree, costs}
+use Rattle.cert_forest.specs.StoreBuffering.{second_waits, first_waits, gap_tree}
+use Rattle.tree_laws.specs.StoreBuffering.{costs}
 use Rattle.tree_laws.proofs.Lists.{none_here, first_or_later, first_is_here}
 use Rattle.tree_laws.proofs.Regions.{new_or_old}
 use Rattle.tree_laws.proofs.StoreBufferingValues.{zero_one, in_zero_one, of_zero_one}

@@ -13,7 +13,7 @@ use Rattle.tso_machine.proofs.Runs.{no_action, no_stores}
 use Rattle.tso_machine.proofs.Refused.{run_keeps}
 use Rattle.tree_laws.specs.GapTrees.{PassesGap}
 use Rattle.tree_laws.specs.Certificates.{AreSequentialRuns, IsRunOutside}
-use Rattle.tree_laws.specs.StoreBuffering.{first_first, second_first, stores_first, sequential_runs, second_waits, first_waits}
+use Rattle.cert_forest.specs.StoreBuffering.{first_first, second_first, stores_first, sequential_runs, second_waits, first_waits}
 use Rattle.tree_laws.proofs.Lists.{none_here, first_or_later}
 use Rattle.tree_laws.proofs.StoreBufferingCovered.{question, end_of, outcomes}
 

@@ -10,13 +10,13 @@ pub returns-in-Some-clause-fault : goal.returns-in-Some-clause-fault
 returns-in-Some-clause-fault c = rw (← c.certificate.view_is) (λ costs has.
     let q = asked c.args.program.now c.args.shown.now in
     let outcomes = c.in-Ok.replays.outcomes.items in
-    let each = (rw c.deref.ensures.value at c.in-Ok.ensures.replays).are_runs in (
+    let each = c.in-Ok.ensures.replays.are_runs in (
       c.args.listed.now,
       record { complete = has; runs = zip_left (IsShownRun q (Fenced no_gaps)) (IsRunOf q.program (Fenced no_gaps)) (of_shown q (Fenced no_gaps)) _ outcomes each },
-      first_not_foreign q c.args.listed.now _ outcomes c.in-Some.number each (rw c.deref-2.ensures.value at (rw c.in-Some.is at c.in_ok-known.ensures)),
+      first_not_foreign q c.args.listed.now _ outcomes c.in-Some.number each (rw c.deref.ensures.value at (rw c.in-Some.is at c.in_ok-known.ensures)),
     ))
 
 pub returns-in-None-clause-foreign : goal.returns-in-None-clause-foreign
 returns-in-None-clause-foreign c =
-    rw (← c.certificate.view_is) (each_outside (asked c.args.program.now c.args.shown.now) c.args.listed.now _ c.in-Ok.replays.outcomes.items (rw c.deref.ensures.value at c.in-Ok.ensures.replays).are_runs
-    (rw c.deref-2.ensures.value at (rw c.in-None.is at c.in_ok-known.ensures)))
+    rw (← c.certificate.view_is) (each_outside (asked c.args.program.now c.args.shown.now) c.args.listed.now _ c.in-Ok.replays.outcomes.items c.in-Ok.ensures.replays.are_runs
+    (rw c.deref.ensures.value at (rw c.in-None.is at c.in_ok-known.ensures)))

@@ -1,7 +1,4 @@
-use Rattle.std.proofs.Common.{◌≡◌, ◌++◌, ◌∷◌, []}
 use Rattle.std.proofs.lemmas.Result.{err_from_is_err_and}
-use Rattle.std.proofs.lemmas.List.{map_push}
-use Rattle.cert_forest.specs.Certificates.{labels_of}
 use Rattle.cert_forest.specs.Internal.Reading.{run_at}
 use Rattle.cert_forest.proofs.Loops.{repeat_more, repeat_stops}
 use Rattle.cert_forest.proofs.runs.run_lines.Goals as goal
@@ -9,9 +6,8 @@ use Rattle.cert_forest.proofs.runs.run_lines.Goals as goal
 pub returns-in_err-run : goal.returns-in_err-run
 returns-in_err-run c =
     let p = err_from_is_err_and c.from_residual.result c.from_residual.ensures.1 in
-    rw (p.1, p.2) (repeat_stops run_at c.args.count c.loop.counter (labels_of c.loop.found.items) c.loop.rest.now c.in_err-run.field-0.0 _ c.loop-test.true c.in_err-run.ensures c.loop.invariant)
+    rw (p.1, p.2) (repeat_stops run_at c.args.count c.loop.counter c.loop.found c.loop.rest.now c.in_err-run.field-0.0 _ c.loop-test.true c.in_err-run.ensures c.loop.invariant)
 
 pub loop-preserved : goal.loop-preserved
 loop-preserved c =
-    let e : labels_of c.push.new.self.items ≡ labels_of c.loop.found.items ++ c.in_ok-run.run'.items ∷ [] = rw c.in_ok-push.ensures.items (map_push _ c.loop.found.items c.in_ok-run.run') in
-    rw e (repeat_more run_at c.args.count c.loop.counter (labels_of c.loop.found.items) c.loop.rest.now c.in_ok-run.run'.items c.in_ok-run.after.now _ c.loop-test.true c.in_ok-run.ensures c.loop.invariant)
+    rw c.in_ok-push.ensures (repeat_more run_at c.args.count c.loop.counter c.loop.found c.loop.rest.now c.in_ok-run.run'.items c.in_ok-run.after.now _ c.loop-test.true c.in_ok-run.ensures c.loop.invariant)

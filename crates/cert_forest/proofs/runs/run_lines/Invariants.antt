@@ -1,8 +1,7 @@
 use Rattle.std.proofs.Common.{◌≡◌, ◌-◌, []}
-use Rattle.cert_forest.specs.Certificates.{labels_of}
 use Rattle.cert_words.specs.Words.{repeat_at}
 use Rattle.cert_forest.specs.Internal.Reading.{run_at}
 use Rattle.cert_forest.proofs.runs.run_lines.Given as goal
 
 abbrev pub invariant-loop : goal.invariant-loop
-invariant-loop l = repeat_at run_at (l.count - l.counter) (labels_of l.found.items) l.rest ≡ repeat_at run_at l.count [] l.bytes
+invariant-loop l = repeat_at run_at (l.count - l.counter) l.found l.rest ≡ repeat_at run_at l.count [] l.bytes

@@ -1,9 +1,9 @@
-use Rattle.std.proofs.Common.{◌≡◌, ◌++◌, take}
+use Rattle.std.proofs.Common.{◌≡◌, ◌++◌}
 use Rattle.std.specs.Prelude.{string_bytes}
-use Rattle.cert_forest.specs.Certificates.{labels_of}
 use Rattle.cert_words.specs.Lines.{texts_of}
 use Rattle.cert_forest.specs.Texts.{labels_line}
 use Rattle.cert_forest.proofs.writer.push_run_lines.Given as goal
 
+-- the text so far, and that of the runs to come
 abbrev pub invariant-loop-run : goal.invariant-loop-run
-invariant-loop-run l = string_bytes l.out ≡ string_bytes l.fn.out ++ texts_of labels_line (labels_of (take l.run-index l.runs))
+invariant-loop-run l = string_bytes l.out ++ texts_of labels_line l.run-iterator ≡ string_bytes l.fn.out ++ texts_of labels_line l.runs

@@ -2,7 +2,6 @@ use Rattle.std.proofs.Common.{List, sym, subst}
 use Rattle.tso_program.specs.declared.outcome.Outcome.{Outcome}
 use Rattle.tso_program.specs.Shown.{asked}
 use Rattle.tso_machine.specs.Machine.{Sequential}
-use Rattle.cert_forest.specs.Certificates.{labels_of}
 use Rattle.cert_forest.specs.Views.{cover}
 use Rattle.cover_solver.specs.Covers.{IsWholeCover}
 use Rattle.cover_solver.specs.Facts.{IsListOf, IsSequentialTable}
@@ -20,8 +19,8 @@ invariant_of-result c =
     let q = asked p shown in
     let found = c.in_ok-found.found in
     let tree = cover c.in_ok-tree.tree in
-    subst (λ other. IsSequentialTable (record { question = asked other shown; outcomes = found.outcomes.items; runs = labels_of found.runs.items; tree = tree })) (sym c.in_ok-copy.ensures)
-    (table_is q found.outcomes.items (labels_of found.runs.items) tree (record { ascend = c.in_ok-found.ensures.in_order.ascend; exact = c.in_ok-found.ensures.exact }) c.in_ok-found.ensures.runs
+    subst (λ other. IsSequentialTable (record { question = asked other shown; outcomes = found.outcomes.items; runs = found.runs; tree = tree })) (sym c.in_ok-copy.ensures)
+    (table_is q found.outcomes.items found.runs tree (record { ascend = c.in_ok-found.ensures.in_order.ascend; exact = c.in_ok-found.ensures.exact }) c.in_ok-found.ensures.runs
     (subst (λ (os : List Outcome). IsWholeCover q Sequential os tree) c.deref.ensures.value c.in_ok-tree.ensures))
 
 pub returns-clause-table : goal.returns-clause-table

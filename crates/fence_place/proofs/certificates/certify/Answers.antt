@@ -1,17 +1,10 @@
-use Rattle.std.proofs.Common.{◌≡◌, ◌∙◌, ◌<◌, ◌^◌, ℕ, List, length, ap, subst, refl, arith}
-use Rattle.std.proofs.lemmas.List.{length-map}
-use Rattle.std.specs.Global.{Vec}
+use Rattle.std.proofs.Common.{◌≡◌, ◌∙◌, ℕ, List, ap, subst}
 use Rattle.gap_sets.specs.Order.{total}
-use Rattle.tso_machine.specs.declared.label.Label.{Label}
-use Rattle.cert_forest.specs.Certificates.{labels_of}
 use Rattle.cert_forest.specs.Views.{cover, gap}
 use Rattle.cover_solver.specs.Facts.{Serving, IsServing}
 use Rattle.fence_place.specs.Recorded.{IsRecorded}
 use Rattle.fence_place.proofs.CertificateMade.{is_proof}
 use Rattle.fence_place.proofs.certificates.certify.Goals as goal
-
-short : (runs : List (Vec Label)) (n : ℕ) → length runs ≡ n → n < 2 ^ 64 → length (labels_of runs) < 2 ^ 64
-short runs n e h = omega (arith, length-map runs (λ (run : Vec Label). run.items))
 
 pub returns-clause-proof : goal.returns-clause-proof
 returns-clause-proof c =
@@ -21,18 +14,14 @@ returns-clause-proof c =
     let same_gaps : c.set-set.result ≡ o.served.gaps = c.set-set.ensures ∙ ap (λ (s : Serving). s.gaps) is_served in
     let cost : c.total.result ≡ total o.costs c.set-set.result = c.total.ensures.value ∙ ap (λ (l : List ℕ). total l c.set-set.result) c.costs.ensures.value in
     let low = c.total.ensures.limit in
-    let runs_long = c.in_ok-runs.runs.ok in
-    let runs_small = c.in_ok-runs.runs.small in
-    let seq_long = c.in_ok-run_copies.field-0.ok in
-    let seq_small = c.in_ok-run_copies.field-0.small in
     is_proof t o c.in_ok-runs.numbers.items
     (record {
       shown = c.shown-shown.result.now;
       gaps = c.set-set.result;
       cost = c.total.result;
-      seq_runs = labels_of c.in_ok-run_copies.field-0.items;
+      seq_runs = c.in_ok-seq_runs.seq_runs;
       seq_tree = cover c.in_ok-copy.field-0;
-      runs = labels_of c.in_ok-runs.runs.items;
+      runs = c.in_ok-runs.runs;
       fenced_tree = cover c.in_ok-copy-2.field-0;
       gap_tree = gap c.in_ok-gap_tree.gap_tree;
     })
@@ -42,12 +31,12 @@ returns-clause-proof c =
       places = c.names_have_places.ensures;
       same_gaps = same_gaps;
       cost = cost;
-      seq_runs = c.in_ok-run_copies.ensures ∙ c.runs.ensures;
+      seq_runs = c.in_ok-seq_runs.ensures ∙ c.runs.ensures;
       seq_tree = c.in_ok-copy.ensures ∙ c.tree.ensures;
       fenced_tree = c.in_ok-copy-2.ensures ∙ c.tree-2.ensures ∙ ap (λ (s : Serving). s.tree) is_served;
       numbered = c.in_ok-runs.ensures.numbers;
       of_nodes = c.in_ok-runs.ensures.runs;
       recorded = subst (λ (ns : List ℕ). IsRecorded o.entries ns (gap c.in_ok-gap_tree.gap_tree) 0) c.deref.ensures.value c.in_ok-gap_tree.ensures;
-      few_runs = short c.in_ok-runs.runs.items (length c.in_ok-runs.runs.items) refl (omega arith);
-      few_seq_runs = short c.in_ok-run_copies.field-0.items (length c.in_ok-run_copies.field-0.items) refl (omega arith);
+      few_runs = c.len.ensures.few;
+      few_seq_runs = c.len-2.ensures.few;
     })

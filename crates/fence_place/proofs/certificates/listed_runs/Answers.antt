@@ -1,7 +1,6 @@
 use Rattle.std.proofs.Common.{◌≡◌, ◌∙◌, ◌<◌, ◌≤◌, ℕ, zero, suc, List, [], ◌∷◌, ◌++◌, Some, None, length, length-append, sym, ap, subst, arith}
 use Rattle.std.specs.Prelude.{slice_get}
 use Rattle.std.proofs.lemmas.Option.{slice_get_within}
-use Rattle.cert_forest.specs.Certificates.{labels_of}
 use Rattle.fence_place.specs.Recorded.{AreNumbersOf}
 use Rattle.fence_place.proofs.Recording.{numbered_more, of_nodes_more, still_distinct}
 use Rattle.fence_place.proofs.certificates.listed_runs.Goals as goal
@@ -18,8 +17,8 @@ pub loop-settled-preserved : goal.loop-settled-preserved
 loop-settled-preserved c =
     let entries = c.args.finished.now.entries in
     let numbers = c.loop-settled.numbers.items in
-    let runs = labels_of c.loop-settled.runs.items in
-    let after = labels_of c.run_number.new.runs.items in
+    let runs = c.loop-settled.runs in
+    let after = c.run_number.new.runs in
     let many : c.len.result ≡ length numbers = let a = c.loop-settled.numbers.ok.0 in let b = c.len.ensures in omega arith in
     let (e, found, is) = c.in-Some.ensures in
     let there : slice_get entries (length numbers) ≡ Some e = ap (slice_get entries) (sym many) ∙ found in

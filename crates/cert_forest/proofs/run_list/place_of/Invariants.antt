@@ -1,6 +1,6 @@
 use Rattle.std.proofs.Common.{Contains, take}
 use Rattle.cert_forest.specs.Certificates.{labels_of}
-use Rattle.fence_place.proofs.certificates.place_of.Given as goal
+use Rattle.cert_forest.proofs.run_list.place_of.Given as goal
 
 -- none of those so far has the labels
 abbrev pub invariant-loop-number : goal.invariant-loop-number

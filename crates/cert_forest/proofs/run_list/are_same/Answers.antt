@@ -1,6 +1,6 @@
 use Rattle.std.proofs.Common.{◌≡◌, Decides, rules}
 use Rattle.std.proofs.lemmas.Slice.Eq.{slice_eq-Decides}
-use Rattle.fence_place.proofs.certificates.are_same.Goals as goal
+use Rattle.cert_forest.proofs.run_list.are_same.Goals as goal
 
 pub returns : goal.returns
 returns c =

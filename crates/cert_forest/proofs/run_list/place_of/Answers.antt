@@ -3,8 +3,8 @@ use Rattle.std.specs.Global.{Vec}
 use Rattle.std.proofs.lemmas.List.{take_all}
 use Rattle.tso_machine.specs.declared.label.Label.{Label}
 use Rattle.cert_forest.specs.Certificates.{labels_of}
-use Rattle.fence_place.proofs.Recording.{none_more, there_as}
-use Rattle.fence_place.proofs.certificates.place_of.Goals as goal
+use Rattle.cert_forest.proofs.RunPlaces.{none_more, there_as}
+use Rattle.cert_forest.proofs.run_list.place_of.Goals as goal
 
 pub returns-then-are_same : goal.returns-then-are_same
 returns-then-are_same c = there_as c.args.runs.now c.loop-number.number c.index-runs-number.result c.args.labels.now c.loop-number-test.true c.index-runs-number.is (sym c.deref.ensures.value ∙ c.are_same.ensures.0 c.if-are_same.true)

@@ -1,0 +1,6 @@
+use Rattle.std.proofs.Common.{◌≡◌, ◌++◌}
+use Rattle.cert_forest.proofs.run_list.Runs.copy.Given as goal
+
+-- the copies so far, and the runs to come
+abbrev pub invariant-loop-run : goal.invariant-loop-run
+invariant-loop-run l = l.copies ++ l.run-iterator ≡ l.self

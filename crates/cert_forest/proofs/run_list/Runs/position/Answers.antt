@@ -1,0 +1,9 @@
+use Rattle.std.proofs.Common.{List, Contains, MatchOption, Some, slice_get, ap, ◌≡◌, ◌∙◌, subst}
+use Rattle.tso_machine.specs.declared.label.Label.{Label}
+use Rattle.cert_forest.specs.Certificates.{labels_of}
+use Rattle.cert_forest.proofs.run_list.Runs.position.Goals as goal
+
+pub returns : goal.returns
+returns c =
+    subst (λ (runs : List (List Label)). MatchOption c.place_of.result (¬ Contains runs c.args.labels.now) (λ number. slice_get runs number ≡ Some c.args.labels.now)) (ap labels_of c.deref.ensures.value ∙ c.self.view_is)
+    c.place_of.ensures

@@ -1,0 +1,9 @@
+use Rattle.std.proofs.Common.{List, [], ◌∷◌, ◌++◌, ap, ◌∙◌}
+use Rattle.std.proofs.lemmas.List.{map_push}
+use Rattle.tso_machine.specs.declared.label.Label.{Label}
+use Rattle.cert_forest.specs.Certificates.{labels_of}
+use Rattle.cert_forest.proofs.run_list.Runs.push.Goals as goal
+
+pub returns : goal.returns
+returns c =
+    ap labels_of c.in_ok-push.ensures.items ∙ map_push _ c.self.inside.runs.items c.args.labels ∙ ap (λ (runs : List (List Label)). runs ++ c.args.labels.items ∷ []) c.self.view_is
