@@ -20,17 +20,17 @@ use Rattle.gap_sets.specs.Gaps.{SetOfGaps}
 use Rattle.cert_check.specs.declared.fault.RunsFault.{RunsFault}
 use Rattle.cert_check.specs.declared.fault.RunsFault.TheVariants as runs
 use Rattle.tso_machine.specs.Machine.{Mode, Fenced, IsRun}
-use Rattle.tso_machine.specs.Modes.{mode_of, ArePassed}
+use Rattle.tso_machine.specs.Modes.{mode_of, unfenced, ArePassed}
 use Rattle.tso_machine.specs.Outcomes.{IsShownRun}
 use Rattle.tso_machine.specs.Faults.{ReplayFaultIs}
 use Rattle.tso_machine.proofs.Refused.{no_fault}
 use Rattle.fence_laws.proofs.GapsAvoided.{empty_fences_nothing}
 use Rattle.cert_forest.specs.Certificates.{labels_of}
 use Rattle.cert_check.specs.Faults.{IsRunOf, IsFirstWithout}
-use Rattle.cert_check.specs.Internal.Replays.{machine_of, IsReplayOf, AreReplaysOf, IsNoRunAt, IsFaultFrom, RunsFaultIs}
+use Rattle.cert_check.specs.Internal.Replays.{IsReplayOf, AreReplaysOf, IsNoRunAt, IsFaultFrom, RunsFaultIs}
 
 -- with the empty set fenced a model's machine is the one with no gap fenced
-pub machine_is : (p : Listing) (model : Model) → mode_of p set.empty model ≡ machine_of model
+pub machine_is : (p : Listing) (model : Model) → mode_of p set.empty model ≡ unfenced model
 machine_is p models.Sequential = refl
 machine_is p models.Buffered = ap Fenced (empty_fences_nothing p)
 
@@ -41,7 +41,7 @@ no_run p mode machine labels why same fault no_memory run =
     let (o, is_run) = subst (λ m. IsRunOf p m labels) (sym same) run in no_memory (no_fault p mode labels o why is_run fault)
 
 module _ (p : Listing) (model : Model) (labels : List Label) (empty : SetOfGaps) (is_empty : empty ≡ set.empty) where
-  same_machine : mode_of p empty model ≡ machine_of model
+  same_machine : mode_of p empty model ≡ unfenced model
   same_machine = ap (λ s. mode_of p s model) is_empty ∙ machine_is p model
 
   -- what a replay says of a run, where its outcome is as it is shown
@@ -54,8 +54,8 @@ module _ (p : Listing) (model : Model) (labels : List Label) (empty : SetOfGaps)
 
   -- and what it says where the labels are not a run
   pub fault_is : (why : ReplayFault) (number : ℕ) (fault : RunsFault) → ReplayFaultIs p (mode_of p empty model) labels why → IsFaultFrom why number fault →
-      IsNoRunAt p (machine_of model) labels number fault
-  fault_is why number (runs.NoRun n) h (at, no_memory) = (at, no_run p (mode_of p empty model) (machine_of model) labels why same_machine h no_memory)
+      IsNoRunAt p (unfenced model) labels number fault
+  fault_is why number (runs.NoRun n) h (at, no_memory) = (at, no_run p (mode_of p empty model) (unfenced model) labels why same_machine h no_memory)
   fault_is why number runs.OutOfMemory h none = tt
 
 -- lists in step, and one value more
@@ -90,24 +90,24 @@ module _ (q : Question) (model : Model) (all : List (Vec Label)) where
       i < length all → AreReplaysOf q model (labels_of (take i all)) outcomes passed → IsReplayOf q model labels end → more_outcomes ≡ outcomes ++ end.outcome ∷ [] →
       more_passed ≡ passed ++ end.passed ∷ [] → AreReplaysOf q model (labels_of (take (i + 1) all)) more_outcomes more_passed
   replays_more i d labels same outcomes more_outcomes passed more_passed end h each is pushed pushed_too = record {
-    are_runs = step_more (IsShownRun q (machine_of model)) all i d h labels same outcomes more_outcomes end.outcome each.are_runs is.is_run pushed;
-    are_passed = step_more (ArePassed q.program (machine_of model)) all i d h labels same passed more_passed end.passed each.are_passed is.passed pushed_too;
+    are_runs = step_more (IsShownRun q (unfenced model)) all i d h labels same outcomes more_outcomes end.outcome each.are_runs is.is_run pushed;
+    are_passed = step_more (ArePassed q.program (unfenced model)) all i d h labels same passed more_passed end.passed each.are_passed is.passed pushed_too;
   }
 
   -- the first that is not a run
   pub first_no_run : (i : ℕ) (d : Vec Label) (outcomes : List Outcome) (passed : List SetOfGaps) → i < length all → AreReplaysOf q model (labels_of (take i all)) outcomes passed →
-      (IsRunOf q.program (machine_of model) (get_or all i d).items → ⊥) → IsFirstWithout (IsRunOf q.program (machine_of model)) (labels_of all) i
+      (IsRunOf q.program (unfenced model) (get_or all i d).items → ⊥) → IsFirstWithout (IsRunOf q.program (unfenced model)) (labels_of all) i
   first_no_run i d outcomes passed h each none = record {
     value = (get_or all i d).items;
     there = slice_get-map (λ (run : Vec Label). run.items) all i ∙ ap (λ o. option_map (λ (run : Vec Label). run.items) o) (slice_get-get_or all i d h);
     without = none;
-    before = subst (All (IsRunOf q.program (machine_of model))) (sym (take-map (λ (run : Vec Label). run.items) i all))
-        (zip_left (IsShownRun q (machine_of model)) (IsRunOf q.program (machine_of model)) (of_shown q (machine_of model)) (labels_of (take i all)) outcomes each.are_runs);
+    before = subst (All (IsRunOf q.program (unfenced model))) (sym (take-map (λ (run : Vec Label). run.items) i all))
+        (zip_left (IsShownRun q (unfenced model)) (IsRunOf q.program (unfenced model)) (of_shown q (unfenced model)) (labels_of (take i all)) outcomes each.are_runs);
   }
 
   -- the fault of the first that is not a run
   pub first_fault : (i : ℕ) (d : Vec Label) (outcomes : List Outcome) (passed : List SetOfGaps) (labels : List Label) → labels ≡ (get_or all i d).items → (fault : RunsFault) → i < length all →
-      AreReplaysOf q model (labels_of (take i all)) outcomes passed → IsNoRunAt q.program (machine_of model) labels i fault → RunsFaultIs q.program model (labels_of all) fault
-  first_fault i d outcomes passed labels same (runs.NoRun n) h each (at, none) = subst (IsFirstWithout (IsRunOf q.program (machine_of model)) (labels_of all)) (sym at)
-      (first_no_run i d outcomes passed h each (λ run. none (subst (IsRunOf q.program (machine_of model)) (sym same) run)))
+      AreReplaysOf q model (labels_of (take i all)) outcomes passed → IsNoRunAt q.program (unfenced model) labels i fault → RunsFaultIs q.program model (labels_of all) fault
+  first_fault i d outcomes passed labels same (runs.NoRun n) h each (at, none) = subst (IsFirstWithout (IsRunOf q.program (unfenced model)) (labels_of all)) (sym at)
+      (first_no_run i d outcomes passed h each (λ run. none (subst (IsRunOf q.program (unfenced model)) (sym same) run)))
   first_fault i d outcomes passed labels same runs.OutOfMemory h each none = tt

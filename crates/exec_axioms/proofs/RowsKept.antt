@@ -10,8 +10,8 @@ use Rattle.candidate_executions.specs.declared.event.Kind.{Kind}
 use Rattle.candidate_executions.specs.declared.event.Kind.TheVariants as union
 use Rattle.candidate_executions.specs.Consistency.{IsOfMode, SameThread}
 use Rattle.candidate_executions.specs.Sketches.{IsBefore}
-use Rattle.exec_axioms.specs.declared.mode.Mode.{Mode}
-use Rattle.exec_axioms.specs.declared.mode.Mode.TheVariants.{Sequential, Fenced}
+use Rattle.tso_machine.specs.declared.mode.Mode.{Mode}
+use Rattle.tso_machine.specs.declared.mode.Mode.TheVariants.{Sequential, Fenced}
 use Rattle.exec_axioms.specs.declared.thread_trace.ThreadTrace.{ThreadTrace}
 use Rattle.exec_axioms.specs.Parts.{Parts, mode_in, sketch_of, access_in, with_pair, with_source}
 use Rattle.exec_axioms.specs.Kept.{parts_of, KeepsTraces}

@@ -4,7 +4,7 @@ ghost use Rattle.candidate_executions.specs.declared.event.Event.{Event};
 ghost use Rattle.bit_rows.specs.Rows.{IsIn};
 ghost use Rattle.bit_rows.specs.declared.row.TheConstants.{ROW_BITS};
 ghost use Rattle.exec_axioms.specs.Rows.{IsRowOf, AreRowsOf, InOrder, WritesBut, ReadsBut, IsAlike, IsAfterBut, IsEventIn, rows_of};
-ghost use Rattle.exec_axioms.specs.declared.mode.Mode.TheVariants.{Sequential};
+ghost use Rattle.tso_machine.specs.declared.mode.Mode.TheVariants.{Sequential};
 ghost use Rattle.candidate_executions.specs.Consistency.{SameThread};
 
 use crate::Mode;
