@@ -19,16 +19,16 @@ use Rattle.gap_sets.specs.Gaps.{SetOfGaps}
 use Rattle.cert_check.specs.declared.fault.RunsFault.{RunsFault}
 use Rattle.cert_check.specs.declared.fault.RunsFault.TheVariants as runs
 use Rattle.tso_machine.specs.Machine.{Mode, Fenced, IsRun}
-use Rattle.tso_machine.specs.Modes.{mode_of, ArePassed}
+use Rattle.tso_machine.specs.Modes.{mode_of, unfenced, ArePassed}
 use Rattle.tso_machine.specs.Outcomes.{IsShownRun}
 use Rattle.tso_machine.specs.Faults.{ReplayFaultIs}
 use Rattle.tso_machine.proofs.Refused.{no_fault}
 use Rattle.fence_laws.proofs.GapsAvoided.{empty_fences_nothing}
 use Rattle.cert_check.specs.Faults.{IsRunOf, IsFirstWithout}
-use Rattle.cert_check.specs.Internal.Replays.{machine_of, IsReplayOf, AreReplaysOf, IsNoRunAt, IsFaultFrom, RunsFaultIs}
+use Rattle.cert_check.specs.Internal.Replays.{IsReplayOf, AreReplaysOf, IsNoRunAt, IsFaultFrom, RunsFaultIs}
 
 -- with the empty set fenced a model's machine is the one with no gap fenced
-pub machine_is : (p : Listing) (model : Model) → mode_of p set.empty model ≡ machine_of model
+pub machine_is : (p : Listing) (model : Model) → mode_of p set.empty model ≡ unfenced model
 machine_is p models.Sequential = refl
 machine_is p models.Buffered = ap Fenced (empty_fences_nothing p)
 
@@ -39,7 +39,7 @@ no_run p mode machine labels why same fault no_memory run =
     let (o, is_run) = subst (λ m. IsRunOf p m labels) (sym same) run in no_memory (no_fault p mode labels o why is_run fault)
 
 module _ (p : Listing) (model : Model) (labels : List Label) (empty : SetOfGaps) (is_empty : empty ≡ set.empty) where
-  same_machine : mode_of p empty model ≡ machine_of model
+  same_machine : mode_of p empty model ≡ unfenced model
   same_machine = ap (λ s. mode_of p s model) is_empty ∙ machine_is p model
 
   -- what a replay says of a run, where its outcome is as it is shown
@@ -52,8 +52,8 @@ module _ (p : Listing) (model : Model) (labels : List Label) (empty : SetOfGaps)
 
   -- and what it says where the labels are not a run
   pub fault_is : (why : ReplayFault) (number : ℕ) (fault : RunsFault) → ReplayFaultIs p (mode_of p empty model) labels why → IsFaultFrom why number fault →
-      IsNoRunAt p (machine_of model) labels number fault
-  fault_is why number (runs.NoRun n) h (at, no_memory) = (at, no_run p (mode_of p empty model) (machine_of model) labels why same_machine h no_memory)
+      IsNoRunAt p (unfenced model) labels number fault
+  fault_is why number (runs.NoRun n) h (at, no_memory) = (at, no_run p (mode_of p empty model) (unfenced model) labels why same_machine h no_memory)
   fault_is why number runs.OutOfMemory h none = tt
 
 -- lists in step, and one value more
@@ -89,8 +89,8 @@ module _ (q : Question) (model : Model) (all : List (List Label)) where
     [],
     refl,
     record {
-      are_runs = subst (AllZip (IsShownRun q (machine_of model)) []) (sym no_outcome) tt;
-      are_passed = subst (AllZip (ArePassed q.program (machine_of model)) []) (sym no_gaps) tt;
+      are_runs = subst (AllZip (IsShownRun q (unfenced model)) []) (sym no_outcome) tt;
+      are_passed = subst (AllZip (ArePassed q.program (unfenced model)) []) (sym no_gaps) tt;
     },
   )
 
@@ -107,27 +107,27 @@ module _ (q : Question) (model : Model) (all : List (List Label)) where
           front ++ labels ∷ [],
           append_assoc front (labels ∷ []) rest ∙ ap (λ (runs : List (List Label)). front ++ runs) (sym first) ∙ same,
           record {
-            are_runs = subst (AllZip (IsShownRun q (machine_of model)) (front ++ labels ∷ [])) (sym pushed) (zip_more (IsShownRun q (machine_of model)) front outcomes labels end.outcome each.are_runs is.is_run);
-            are_passed = subst (AllZip (ArePassed q.program (machine_of model)) (front ++ labels ∷ [])) (sym pushed_too) (zip_more (ArePassed q.program (machine_of model)) front passed labels end.passed each.are_passed is.passed);
+            are_runs = subst (AllZip (IsShownRun q (unfenced model)) (front ++ labels ∷ [])) (sym pushed) (zip_more (IsShownRun q (unfenced model)) front outcomes labels end.outcome each.are_runs is.is_run);
+            are_passed = subst (AllZip (ArePassed q.program (unfenced model)) (front ++ labels ∷ [])) (sym pushed_too) (zip_more (ArePassed q.program (unfenced model)) front passed labels end.passed each.are_passed is.passed);
           },
         )
 
     -- the next is the first that is not a run
-    first_no_run : (IsRunOf q.program (machine_of model) labels → ⊥) → IsFirstWithout (IsRunOf q.program (machine_of model)) all (length outcomes)
+    first_no_run : (IsRunOf q.program (unfenced model) labels → ⊥) → IsFirstWithout (IsRunOf q.program (unfenced model)) all (length outcomes)
     first_no_run none =
         let (front, same, each) = so_far in
         let whole : front ++ labels ∷ rest ≡ all = ap (λ (runs : List (List Label)). front ++ runs) (sym first) ∙ same in
-        let long : length outcomes ≡ length front = AllZip-long (IsShownRun q (machine_of model)) front outcomes each.are_runs in
-        subst (IsFirstWithout (IsRunOf q.program (machine_of model)) all) (sym long)
-        (subst (λ runs. IsFirstWithout (IsRunOf q.program (machine_of model)) runs (length front)) whole (record {
+        let long : length outcomes ≡ length front = AllZip-long (IsShownRun q (unfenced model)) front outcomes each.are_runs in
+        subst (IsFirstWithout (IsRunOf q.program (unfenced model)) all) (sym long)
+        (subst (λ runs. IsFirstWithout (IsRunOf q.program (unfenced model)) runs (length front)) whole (record {
           value = labels;
           there = at_seam front labels rest;
           without = none;
-          before = subst (All (IsRunOf q.program (machine_of model))) (sym (take-append_seam front (labels ∷ rest)))
-              (zip_left (IsShownRun q (machine_of model)) (IsRunOf q.program (machine_of model)) (of_shown q (machine_of model)) front outcomes each.are_runs);
+          before = subst (All (IsRunOf q.program (unfenced model))) (sym (take-append_seam front (labels ∷ rest)))
+              (zip_left (IsShownRun q (unfenced model)) (IsRunOf q.program (unfenced model)) (of_shown q (unfenced model)) front outcomes each.are_runs);
         }))
 
     -- its fault
-    pub first_fault : (fault : RunsFault) (number : ℕ) → number ≡ length outcomes → IsNoRunAt q.program (machine_of model) labels number fault → RunsFaultIs q.program model all fault
-    first_fault (runs.NoRun n) number is (at, none) = subst (IsFirstWithout (IsRunOf q.program (machine_of model)) all) (sym (at ∙ is)) (first_no_run none)
+    pub first_fault : (fault : RunsFault) (number : ℕ) → number ≡ length outcomes → IsNoRunAt q.program (unfenced model) labels number fault → RunsFaultIs q.program model all fault
+    first_fault (runs.NoRun n) number is (at, none) = subst (IsFirstWithout (IsRunOf q.program (unfenced model)) all) (sym (at ∙ is)) (first_no_run none)
     first_fault runs.OutOfMemory number is none = tt

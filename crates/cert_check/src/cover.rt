@@ -2,7 +2,7 @@
 ghost use Rattle.std.specs.Prelude.{OnOk, IfErr};
 ghost use Rattle.tso_program.specs.Shown.{asked};
 ghost use Rattle.cert_forest.specs.Views.{cover};
-ghost use Rattle.exec_axioms.specs.Parts.{machine_mode};
+ghost use Rattle.tso_machine.specs.Modes.{machine_mode};
 ghost use Rattle.candidate_executions.specs.Sketches.{empty_sketch};
 ghost use Rattle.tree_laws.specs.CoverTrees.{IsValidCover};
 ghost use Rattle.cover_judge.specs.CoverDefects.{FirstWrongCover};

@@ -4,8 +4,9 @@ ghost use Rattle.std.specs.BTreeSet.{contains};
 ghost use Rattle.std.specs.Borrow.{Bor};
 ghost use Rattle.tso_program.specs.declared.outcome.Outcome.{Outcome};
 ghost use Rattle.tso_program.specs.Shown.{show, asked};
+ghost use Rattle.tso_machine.specs.Modes.{unfenced};
 ghost use Rattle.cert_check.specs.Faults.{IsFirstWithout};
-ghost use Rattle.cert_check.specs.Internal.Replays.{machine_of, IsReplayOf, AreReplaysOf, borrowed_cmp, IsOutside, IsNoRunAt, IsFaultFrom, RunsFaultIs};
+ghost use Rattle.cert_check.specs.Internal.Replays.{IsReplayOf, AreReplaysOf, borrowed_cmp, IsOutside, IsNoRunAt, IsFaultFrom, RunsFaultIs};
 
 use crate::fault::RunsFault;
 use cert_forest::Runs;
@@ -55,7 +56,7 @@ fn replay_one(
     labels: &[Label],
 ) -> Result<Ended, RunsFault>
     ensures replay { IfOk result (IsReplayOf (asked program.now shown.now) model labels.now) }
-    ensures fault { IfErr result (IsNoRunAt program.now (machine_of model) labels.now number) }
+    ensures fault { IfErr result (IsNoRunAt program.now (unfenced model) labels.now number) }
 {
     match replay(alloc, program, &GapSet::empty(), model, labels) {
         Ok(end) => Ok(as_shown(end, shown)),

@@ -8,7 +8,7 @@ use Rattle.tso_program.specs.declared.listing.Listing.{Listing}
 use Rattle.tso_machine.specs.Machine.{Mode, put}
 use Rattle.candidate_executions.specs.Sketches as sketches
 use Rattle.fence_laws.proofs.ChangedAt.{put_same, put_other}
-use Rattle.exec_axioms.specs.declared.mode.Mode as own
+use Rattle.tso_machine.specs.declared.mode.Mode as own
 use Rattle.exec_axioms.specs.Parts.{Parts, mode_in, sketch_of, given_to, trace_in, first_parts, with_given}
 use Rattle.exec_axioms.specs.Kept.{IsLawful}
 use Rattle.exec_axioms.proofs.TracesKept.{no_action}

@@ -11,8 +11,9 @@ use Rattle.tso_machine.specs.declared.label.Label.{Label}
 use Rattle.tso_machine.specs.Machine.{Mode}
 use Rattle.tso_machine.specs.Outcomes.{IsShownRun, AllowsShown}
 use Rattle.candidate_executions.specs.Sketches.{empty_sketch}
-use Rattle.exec_axioms.specs.declared.mode.Mode as own
-use Rattle.exec_axioms.specs.Parts.{Parts, mode_in, machine_mode, sketch_of, first_parts}
+use Rattle.tso_machine.specs.declared.mode.Mode as own
+use Rattle.tso_machine.specs.Modes.{machine_mode}
+use Rattle.exec_axioms.specs.Parts.{Parts, mode_in, sketch_of, first_parts}
 use Rattle.tree_laws.specs.CoverTrees.{IsCovered}
 use Rattle.tree_laws.proofs.ListedOutcomes.{listed, allowed_is_shown}
 use Rattle.cover_judge.proofs.SketchesAfter.{first_sketch}

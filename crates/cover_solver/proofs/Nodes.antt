@@ -6,8 +6,9 @@ use Rattle.tso_program.specs.declared.outcome.Outcome.{Outcome}
 use Rattle.tso_program.specs.declared.shown.Shown.{Shown}
 use Rattle.tso_program.specs.Shown.{asked}
 use Rattle.candidate_executions.specs.Sketches.{Sketch}
-use Rattle.exec_axioms.specs.declared.mode.Mode as own
-use Rattle.exec_axioms.specs.Parts.{Parts, mode_in, machine_mode, sketch_of, first_parts}
+use Rattle.tso_machine.specs.declared.mode.Mode as own
+use Rattle.tso_machine.specs.Modes.{machine_mode}
+use Rattle.exec_axioms.specs.Parts.{Parts, mode_in, sketch_of, first_parts}
 use Rattle.exec_axioms.specs.Choices.{MayFollow}
 use Rattle.exec_axioms.specs.Kept.{IsLawful}
 use Rattle.exec_axioms.specs.Known.{IsAccess}

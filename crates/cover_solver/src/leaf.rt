@@ -39,7 +39,11 @@ pub(crate) fn leaf(
 }
 
 /// The number of the outcome as which the sketch must end.
-fn known(sketch: &Sketch, shown: &Shown, outcomes: &[Outcome]) -> Result<Option<usize>, AllocError>
+pub(crate) fn known(
+    sketch: &Sketch,
+    shown: &Shown,
+    outcomes: &[Outcome],
+) -> Result<Option<usize>, AllocError>
     requires { Ascend outcomes.now }
     ensures { IfOk result (λ number. MatchOption number (IsEndNotListed sketch.now shown.now outcomes.now) (MustEndAsNumber (asked sketch.now.program shown.now) (mode_in sketch.now) outcomes.now (sketch_of sketch.now))) }
 {

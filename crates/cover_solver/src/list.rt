@@ -1,18 +1,15 @@
 //! The outcomes of a program.
 ghost use Rattle.std.specs.Prelude.{◌≡◌, ◌↔◌, IfOk, IfErr, Contains};
 ghost use Rattle.std.specs.FinSet as set;
-ghost use Rattle.tso_program.specs.declared.listing.Listing.{Listing};
 ghost use Rattle.tso_program.specs.declared.outcome.Outcome.{Outcome};
 ghost use Rattle.tso_program.specs.Shown.{asked};
 ghost use Rattle.tso_machine.specs.Outcomes.{AllowsShown};
 ghost use Rattle.tso_machine.specs.Modes.{mode_of};
-ghost use Rattle.exec_axioms.specs.Parts.{machine_mode};
 ghost use Rattle.cover_solver.specs.Ordered.{Ascend};
 
 use crate::explore::explore_all;
 use crate::fault::SolveFault;
 use exec_axioms::Mode;
-use gap_sets::GapSet;
 use std::alloc::Global;
 use tso_machine::Model;
 use tso_program::{Outcome, Program, Shown};
@@ -29,15 +26,5 @@ pub fn outcomes(
     ensures fault { IfErr result (λ fault. fault ≡ SolveFault.OutOfMemory) }
     ensures exact { IfOk result (λ outcomes. (o : Outcome) → Contains outcomes.items o ↔ AllowsShown (asked program.now shown.now) (mode_of program.now set.empty model) o) }
 {
-    Ok(explore_all(alloc, program, shown, unfenced(model))?.outcomes)
-}
-
-/// The mode of a model, with no gap fenced.
-fn unfenced(model: Model) -> Mode
-    ensures { (p : Listing) → machine_mode p result ≡ mode_of p set.empty model }
-{
-    match model {
-        Model::Sequential => Mode::Sequential,
-        Model::Buffered => Mode::Fenced(GapSet::empty()),
-    }
+    Ok(explore_all(alloc, program, shown, Mode::unfenced(model))?.outcomes)
 }

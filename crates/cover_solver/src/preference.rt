@@ -1,14 +1,14 @@
 //! Which choice is made first. The size of a tree depends on it, and nothing that is proved of the tree
 //! does.
 ghost use Rattle.std.specs.Prelude.{◌<◌, IfOk, All, length};
-ghost use Rattle.cover_judge.specs.Choices.{MayChooseEach};
+ghost use Rattle.cover_judge.specs.Choices.{MayChoose, MayChooseEach};
 ghost use Rattle.cover_solver.specs.Choices.{IsOpen};
 ghost use Rattle.cover_solver.specs.Ordered.{Ascend};
 
 use crate::branch::choices_of;
 use crate::choices_left::OpenChoice;
-use crate::leaf::leaf;
-use cover_judge::{Choice, sketch_with};
+use crate::leaf::known;
+use cover_judge::{Choice, event_of, sketch_with};
 use exec_axioms::Sketch;
 use std::alloc::{AllocError, Global};
 use tso_program::{Outcome, Shown};
@@ -60,7 +60,7 @@ fn merit_of(
     let choices = choices_of(alloc, sketch, next)?;
     let open = match next {
         OpenChoice::Value(_) => choices.len(),
-        _ => count_open(alloc, sketch, shown, outcomes, &choices)?,
+        _ => count_open(sketch, shown, outcomes, &choices)?,
     };
     Ok(Merit {
         open,
@@ -69,10 +69,8 @@ fn merit_of(
     })
 }
 
-/// After how many of the choices the sketch stays open: neither an outcome of the list nor a cycle
-/// closes it.
+/// After how many of the choices the sketch stays open.
 fn count_open(
-    alloc: Global,
     sketch: &Sketch,
     shown: &Shown,
     outcomes: &[Outcome],
@@ -83,10 +81,41 @@ fn count_open(
 {
     let mut count: usize = 0;
     for choice in choices {
-        let after = sketch_with(sketch, *choice)?;
-        if leaf(alloc, &after, shown, outcomes)?.is_none() {
+        if stays_open(sketch, shown, outcomes, *choice)? {
             count = count.saturating_add(1);
         }
     }
     Ok(count)
+}
+
+/// Whether an open sketch stays open after a choice: neither a cycle nor an outcome of the list closes
+/// it. A source changes no outcome, so only an order is tried in a copy.
+fn stays_open(
+    sketch: &Sketch,
+    shown: &Shown,
+    outcomes: &[Outcome],
+    choice: Choice,
+) -> Result<bool, AllocError>
+    requires ascend { Ascend outcomes.now }
+    requires may { MayChoose sketch.now choice }
+{
+    if closes(sketch, choice) {
+        return Ok(false);
+    }
+    if matches!(choice, Choice::Source(..)) {
+        return Ok(true);
+    }
+    let after = sketch_with(sketch, choice)?;
+    Ok(known(&after, shown, outcomes)?.is_none())
+}
+
+/// Whether the choice makes a cycle. A value makes none.
+fn closes(sketch: &Sketch, choice: Choice) -> bool
+    requires { MayChoose sketch.now choice }
+{
+    match choice {
+        Choice::Value(..) => false,
+        Choice::Source(read, source) => sketch.closes_source(event_of(read), source),
+        Choice::Order(first, second) => sketch.closes_order(event_of(first), event_of(second)),
+    }
 }

@@ -14,10 +14,11 @@ use Rattle.candidate_executions.specs.declared.event.Kind.TheVariants as union
 use Rattle.candidate_executions.specs.Candidates.{Writes}
 use Rattle.candidate_executions.specs.Events.{ComesBefore}
 use Rattle.candidate_executions.specs.Consistency.{IsOfMode}
-use Rattle.exec_axioms.specs.declared.mode.Mode.{Mode}
-use Rattle.exec_axioms.specs.declared.mode.Mode.TheVariants.{Sequential, Fenced}
+use Rattle.tso_machine.specs.declared.mode.Mode.{Mode}
+use Rattle.tso_machine.specs.declared.mode.Mode.TheVariants.{Sequential, Fenced}
 use Rattle.exec_axioms.specs.declared.thread_trace.ThreadTrace.{ThreadTrace}
-use Rattle.exec_axioms.specs.Parts.{Parts, machine_mode, trace_in, access_in}
+use Rattle.tso_machine.specs.Modes.{machine_mode}
+use Rattle.exec_axioms.specs.Parts.{Parts, trace_in, access_in}
 use Rattle.exec_axioms.specs.Kept.{parts_of, KeepsTraces}
 use Rattle.exec_axioms.specs.Known.{IsAccess}
 use Rattle.exec_axioms.specs.Choices.{IsPair, IsWhole}

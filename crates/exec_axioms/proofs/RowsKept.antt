@@ -1,5 +1,5 @@
 -- The rows of a sketch at its start, and after each choice.
-use Rattle.std.proofs.Common.{◌≡◌, ◌↔◌, ◌⊎◌, ℕ, ◌<◌, ◌≤◌, List, [], ◌∷◌, ◌++◌, Option, Some, None, Contains, slice_get, get_or, length, refl, sym, ap, ◌∙◌, subst, inl, inr, arith}
+use Rattle.std.proofs.Common.{◌≡◌, ◌↔◌, ◌⊎◌, ℕ, ◌<◌, List, [], ◌∷◌, ◌++◌, Some, None, Contains, slice_get, get_or, length, refl, sym, ap, ◌∙◌, subst, inl, inr}
 use Rattle.std.proofs.lemmas.Option.{slice_get-get_or, same_Some}
 use Rattle.bit_rows.specs.Rows.{IsIn, Relates}
 use Rattle.tso_program.specs.declared.listing.Listing.{Listing}
@@ -9,13 +9,12 @@ use Rattle.candidate_executions.specs.declared.event.Event.TheVariants.{Initial,
 use Rattle.candidate_executions.specs.declared.event.Kind.{Kind}
 use Rattle.candidate_executions.specs.declared.event.Kind.TheVariants as union
 use Rattle.candidate_executions.specs.Consistency.{IsOfMode, SameThread}
-use Rattle.candidate_executions.specs.Sketches.{IsBefore}
-use Rattle.exec_axioms.specs.declared.mode.Mode.{Mode}
-use Rattle.exec_axioms.specs.declared.mode.Mode.TheVariants.{Sequential, Fenced}
+use Rattle.tso_machine.specs.declared.mode.Mode.{Mode}
+use Rattle.tso_machine.specs.declared.mode.Mode.TheVariants.{Sequential, Fenced}
 use Rattle.exec_axioms.specs.declared.thread_trace.ThreadTrace.{ThreadTrace}
 use Rattle.exec_axioms.specs.Parts.{Parts, mode_in, sketch_of, access_in, with_pair, with_source}
 use Rattle.exec_axioms.specs.Kept.{parts_of, KeepsTraces}
-use Rattle.exec_axioms.specs.Known.{IsKnownEdge, SourcePart}
+use Rattle.exec_axioms.specs.Known.{IsKnownEdge}
 use Rattle.exec_axioms.specs.Choices.{MayRead, MayFollow}
 use Rattle.exec_axioms.specs.Rows.{accesses_at, access_of, IsOfThreads, IsRowOf, AreRowsOf, InOrder, WritesBut, ReadsBut, IsAfterBut, HasOrder, IsRepresented, main_kind}
 use Rattle.exec_axioms.proofs.KnownParts.{to_relates}

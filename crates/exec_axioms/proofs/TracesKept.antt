@@ -14,9 +14,10 @@ use Rattle.candidate_executions.specs.declared.event.Event.{Event}
 use Rattle.candidate_executions.specs.Traces.{trace, fenced_gaps}
 use Rattle.candidate_executions.specs.Sketches as sketches
 use Rattle.candidate_executions.proofs.Orders.Lists.{get_some}
-use Rattle.exec_axioms.specs.declared.mode.Mode.{Mode}
+use Rattle.tso_machine.specs.declared.mode.Mode.{Mode}
 use Rattle.exec_axioms.specs.declared.thread_trace.ThreadTrace.{ThreadTrace}
-use Rattle.exec_axioms.specs.Parts.{Parts, machine_mode, sketch_of, given_to, trace_in}
+use Rattle.tso_machine.specs.Modes.{machine_mode}
+use Rattle.exec_axioms.specs.Parts.{Parts, sketch_of, given_to, trace_in}
 use Rattle.exec_axioms.specs.Kept.{given_lists, parts_of, KeepsTraces}
 use Rattle.exec_axioms.specs.Sizes.{HaveAllRegisters}
 

@@ -1,11 +1,11 @@
 -- What is known where neither a source nor an order is chosen: program order, which has no cycle.
-use Rattle.std.proofs.Common.{◌≡◌, ◌⊎◌, ℕ, suc, ◌<◌, List, [], ◌∷◌, Contains, refl, sym, ap, ◌∙◌, subst, inl, inr, arith}
+use Rattle.std.proofs.Common.{◌⊎◌, suc, List, [], ◌∷◌, Contains, refl, ◌∙◌, subst, inl, inr, arith}
 use Rattle.candidate_executions.specs.declared.access.Access.{Access}
 use Rattle.candidate_executions.specs.declared.event.Event.{Event}
 use Rattle.candidate_executions.specs.declared.event.Event.TheVariants.{Initial, Access as At}
 use Rattle.candidate_executions.specs.declared.event.Kind.{Kind}
 use Rattle.candidate_executions.specs.declared.event.Kind.TheVariants as union
-use Rattle.candidate_executions.specs.Consistency.{Leads, IsCycle, Precedes}
+use Rattle.candidate_executions.specs.Consistency.{Leads, Precedes}
 use Rattle.candidate_executions.specs.Sketches.{IsBefore, KnownRelates}
 use Rattle.exec_axioms.specs.Parts.{Parts, sketch_of}
 use Rattle.exec_axioms.specs.Kept.{IsLawful}

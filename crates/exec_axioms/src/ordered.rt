@@ -3,7 +3,7 @@ ghost use Rattle.std.specs.Prelude.{◌≡◌, ◌≤◌, IfOk, length};
 ghost use Rattle.std.specs.Arc.{arc_value};
 ghost use Rattle.bit_rows.specs.declared.row.TheConstants.{ROW_BITS};
 ghost use Rattle.candidate_executions.specs.declared.event.Kind.TheVariants as union;
-ghost use Rattle.exec_axioms.specs.declared.mode.Mode.TheVariants.{Sequential};
+ghost use Rattle.tso_machine.specs.declared.mode.Mode.TheVariants.{Sequential};
 ghost use Rattle.exec_axioms.specs.Rows.{main_kind, AreOfSketch, AreRowsOf, InOrder, HasOrder};
 
 use crate::Mode;

@@ -3,8 +3,8 @@ ghost use Rattle.std.specs.Prelude.{◌≡◌, ◌≤◌, ◌<◌, ◌↔◌, Is
 ghost use Rattle.candidate_executions.specs.declared.event.Event.{Event};
 ghost use Rattle.bit_rows.specs.Rows.{IsIn};
 ghost use Rattle.bit_rows.specs.declared.row.TheConstants.{ROW_BITS};
-ghost use Rattle.exec_axioms.specs.Rows.{IsRowOf, AreRowsOf, InOrder, WritesBut, ReadsBut, IsAlike, IsAfterBut, IsEventIn, rows_of};
-ghost use Rattle.exec_axioms.specs.declared.mode.Mode.TheVariants.{Sequential};
+ghost use Rattle.exec_axioms.specs.Rows.{IsRowOf, AreRowsOf, InOrder, WritesBut, ReadsBut, IsAlike, IsAfterBut, IsEventIn};
+ghost use Rattle.tso_machine.specs.declared.mode.Mode.TheVariants.{Sequential};
 ghost use Rattle.candidate_executions.specs.Consistency.{SameThread};
 
 use crate::Mode;
@@ -166,16 +166,6 @@ pub(crate) fn events_in(alloc: Global, events: &[Event], row: u32) -> Result<Vec
         }
     }
     Ok(nodes)
-}
-
-/// The rows of a union.
-pub(crate) fn rows_for<'a>(kind: Kind, main: &'a Relation, global: &'a Relation) -> &'a Relation
-    ensures { result.now ≡ rows_of kind main.now global.now }
-{
-    match kind {
-        Kind::Sequential | Kind::Location => main,
-        Kind::Global => global,
-    }
 }
 
 /// The first place of an event.

@@ -1,11 +1,11 @@
 //! What one thread does under its given values.
 ghost use Rattle.std.specs.Prelude.{◌≡◌, ◌<◌, ◌≤◌, ◌+◌, [], ◌∷◌, ◌++◌, length, IfOk};
 ghost use Rattle.candidate_executions.specs.Traces.{entered, store_of};
-ghost use Rattle.exec_axioms.specs.Parts.{machine_mode};
+ghost use Rattle.tso_machine.specs.Modes.{machine_mode};
 ghost use Rattle.exec_axioms.specs.ThreadTraces.{GoesOn, IsTraceSoFarOf, IsThreadTraceOf, first_local};
 
 use crate::Mode;
-use crate::mode::ends_section;
+use crate::sections::ends_section;
 use candidate_executions::Access;
 use std::alloc::{AllocError, Global};
 use tso_program::{Action, Items, Local, Program, REGISTERS, Reg};

@@ -1,5 +1,4 @@
 pub mod Lines
-pub mod Machines
 pub mod Refusals
 pub mod TextAnswers
 pub mod Replays

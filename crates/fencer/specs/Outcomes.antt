@@ -2,12 +2,14 @@
 use Rattle.std.specs.Prelude.{◌≡◌, ◌↔◌, ℕ, Bool, List, [], ◌∷◌, ◌++◌, Contains, Option, codes, length}
 use Rattle.std.specs.Fmt.{decimal}
 use Rattle.std.specs.List.{flat_map}
+use Rattle.std.specs.FinSet as set
 use Rattle.tso_program.specs.declared.listing.Listing.{Listing}
 use Rattle.tso_program.specs.declared.outcome.Outcome.{Outcome}
 use Rattle.tso_program.specs.declared.shown.Shown.{Shown}
 use Rattle.tso_program.specs.Shown.{Question}
 use Rattle.tso_machine.specs.declared.label.Model.{Model}
 use Rattle.tso_machine.specs.Machine.{Mode}
+use Rattle.tso_machine.specs.Modes.{mode_of}
 use Rattle.tso_machine.specs.Outcomes.{AllowsShown}
 use Rattle.litmus_reader.specs.declared.litmus.Litmus.{Litmus}
 use Rattle.litmus_reader.specs.Texts.{IsLitmus, IsNoLitmus}
@@ -18,7 +20,6 @@ use Rattle.report.specs.Answers.{outcome_line}
 use Rattle.report.specs.Observations.{observation_line, condition_line}
 use Rattle.fencer.specs.declared.refusals.Refusal.{Refusal}
 use Rattle.fencer.specs.declared.refusals.Refusal.TheVariants as refusal
-use Rattle.fencer.specs.Machines.{unfenced}
 use Rattle.fencer.specs.TextAnswers.{IsAnswerTo}
 
 -- the list ascends, and has exactly the outcomes that the machine of the mode allows, as far as they are shown
@@ -39,7 +40,7 @@ pub record PrintsOutcomes (model : Model) (observed : Bool) (bytes lines : List 
   pub litmus : Litmus Listing
   pub spelled : IsLitmus bytes litmus
   pub outcomes : List Outcome
-  pub listed : ListsOutcomes (question_of litmus observed) (unfenced litmus.program model) outcomes
+  pub listed : ListsOutcomes (question_of litmus observed) (mode_of litmus.program set.empty model) outcomes
   pub printed : lines ≡ list_text litmus (shown_as litmus observed) outcomes
 
 -- why there is no list: the text is no litmus text, or memory was wanting

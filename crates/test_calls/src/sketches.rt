@@ -10,10 +10,9 @@ use crate::input::{
 use crate::machines::{outcome_of, push_outcome};
 use crate::refusal::Refusal;
 use exec_axioms::{Event, Kind, Mode, Sketch};
-use gap_sets::GapSet;
 use run_maker::{MadeRun, make_run};
 use std::alloc::{AllocError, Global};
-use tso_machine::{Model, replay};
+use tso_machine::replay;
 use tso_program::{Outcome, Program, Shown};
 
 /// A call of a sketch, by its name.
@@ -149,14 +148,6 @@ fn push_cycle(sketch: &Sketch, printed: &mut String) -> Result<(), AllocError> {
     write!(printed, "{kind:?} {is_cycle}")
 }
 
-/// The machine of a sketch, and the gaps that are fenced.
-fn machine_of(mode: Mode) -> (Model, GapSet) {
-    match mode {
-        Mode::Sequential => (Model::Sequential, GapSet::empty()),
-        Mode::Fenced(gaps) => (Model::Buffered, gaps),
-    }
-}
-
 /// The outcome of the run that is made of a sketch, if the run is replayed to it.
 fn push_replayed(
     alloc: Global,
@@ -164,7 +155,7 @@ fn push_replayed(
     made: &MadeRun,
     printed: &mut String,
 ) -> Result<(), Refusal> {
-    let (model, gaps) = machine_of(sketch.mode());
+    let (model, gaps) = sketch.mode().model_and_gaps();
     let ended = replay(
         alloc,
         sketch.program(),

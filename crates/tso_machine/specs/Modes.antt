@@ -1,4 +1,4 @@
--- The mode of a replay, and the set of gaps that its run passes.
+-- The machines of models and modes, and the set of gaps that a run passes.
 use Rattle.std.specs.Prelude.{◌≡◌, ◌↔◌, ℕ, true, List, Some}
 use Rattle.std.specs.FinSet as set
 use Rattle.gap_sets.specs.Gaps.{SetOfGaps}
@@ -7,13 +7,25 @@ use Rattle.tso_program.specs.Fences.{gaps_in}
 use Rattle.tso_machine.specs.declared.label.Label.{Label}
 use Rattle.tso_machine.specs.declared.label.Model.{Model}
 use Rattle.tso_machine.specs.declared.label.Model.TheVariants as models
-use Rattle.tso_machine.specs.Machine.{Mode, Sequential, Fenced, State, start, passes}
+use Rattle.tso_machine.specs.declared.mode.Mode as own
+use Rattle.tso_machine.specs.declared.mode.Mode.TheVariants as modes
+use Rattle.tso_machine.specs.Machine.{Mode, Sequential, Fenced, no_gaps, State, start, passes}
 use Rattle.tso_program.specs.declared.listing.Listing.{Listing}
 
--- the sequential machine has no use for the set
+-- the machine of a model, with the gaps of a set fenced; the sequential machine has no use for the set
 abbrev pub mode_of : Listing → SetOfGaps → Model → Mode
 mode_of p gaps models.Sequential = Sequential
 mode_of p gaps models.Buffered = Fenced (gaps_in p gaps)
+
+-- the machine of a model, with no gap fenced
+abbrev pub unfenced : Model → Mode
+unfenced models.Sequential = Sequential
+unfenced models.Buffered = Fenced no_gaps
+
+-- the machine of a mode
+abbrev pub machine_mode : Listing → own.Mode → Mode
+machine_mode p modes.Sequential = Sequential
+machine_mode p (modes.Fenced gaps) = Fenced (gaps_in p gaps)
 
 -- the steps pass the gap of this number
 abbrev pub Passes : Listing → Mode → State → List Label → ℕ → Type 0

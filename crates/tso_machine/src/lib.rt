@@ -4,6 +4,7 @@
 mod cores;
 mod label;
 mod laws;
+mod mode;
 mod replaying;
 mod run_text;
 mod state;
@@ -13,5 +14,6 @@ pub use laws::{
     all_shown_are_the_outcomes, examples_are_told, fences_are_avoided, runs_have_no_fault,
     the_first_fault_is_unique,
 };
+pub use mode::Mode;
 pub use replaying::{Ended, ReplayFault, replay};
 pub use run_text::{RunFault, label_of, read_run, write_run};

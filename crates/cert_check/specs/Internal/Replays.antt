@@ -10,31 +10,25 @@ use Rattle.tso_program.specs.Shown.{Question}
 use Rattle.tso_program.specs.Ordered.{outcome_cmp}
 use Rattle.tso_machine.specs.declared.label.Label.{Label}
 use Rattle.tso_machine.specs.declared.label.Model.{Model}
-use Rattle.tso_machine.specs.declared.label.Model.TheVariants as models
 use Rattle.tso_machine.specs.declared.replaying.Ended.{Ended}
 use Rattle.tso_machine.specs.declared.replaying.ReplayFault.{ReplayFault}
 use Rattle.tso_machine.specs.declared.replaying.ReplayFault.TheVariants as replays
-use Rattle.tso_machine.specs.Machine.{Mode, Sequential, Fenced, no_gaps}
-use Rattle.tso_machine.specs.Modes.{ArePassed}
+use Rattle.tso_machine.specs.Machine.{Mode, Fenced, no_gaps}
+use Rattle.tso_machine.specs.Modes.{unfenced, ArePassed}
 use Rattle.tso_machine.specs.Outcomes.{IsShownRun}
 use Rattle.cert_check.specs.declared.fault.RunsFault.{RunsFault}
 use Rattle.cert_check.specs.declared.fault.RunsFault.TheVariants as why
 use Rattle.cert_check.specs.Faults.{IsRunOf, IsFirstWithout}
 
--- the model's machine, with no gap fenced
-abbrev pub machine_of : Model → Mode
-machine_of models.Sequential = Sequential
-machine_of models.Buffered = Fenced no_gaps
-
 -- the labels are a run of which this outcome is shown, and which passes these gaps
 pub record IsReplayOf (q : Question) (model : Model) (labels : List Label) (ended : Ended) : Type 0 where
-  pub is_run : IsShownRun q (machine_of model) labels ended.outcome
-  pub passed : ArePassed q.program (machine_of model) labels ended.passed
+  pub is_run : IsShownRun q (unfenced model) labels ended.outcome
+  pub passed : ArePassed q.program (unfenced model) labels ended.passed
 
 -- each of the runs leaves the outcome of its number, as far as it is shown, and passes the gaps of its number
 pub record AreReplaysOf (q : Question) (model : Model) (runs : List (List Label)) (outcomes : List Outcome) (passed : List SetOfGaps) : Type 0 where
-  pub are_runs : AllZip (IsShownRun q (machine_of model)) runs outcomes
-  pub are_passed : AllZip (ArePassed q.program (machine_of model)) runs passed
+  pub are_runs : AllZip (IsShownRun q (unfenced model)) runs outcomes
+  pub are_passed : AllZip (ArePassed q.program (unfenced model)) runs passed
 
 -- the order of outcomes that are borrowed
 abbrev pub borrowed_cmp : Bor Outcome → Bor Outcome → Ordering
@@ -46,7 +40,7 @@ IsOutside list o = Contains list o → ⊥
 
 -- the first that is not a run; out of memory says nothing
 abbrev pub RunsFaultIs : Listing → Model → List (List Label) → RunsFault → Type 0
-RunsFaultIs p model runs (why.NoRun number) = IsFirstWithout (IsRunOf p (machine_of model)) runs number
+RunsFaultIs p model runs (why.NoRun number) = IsFirstWithout (IsRunOf p (unfenced model)) runs number
 RunsFaultIs p model runs why.OutOfMemory = Unit {0}
 
 -- the labels of this number are no run of the machine; out of memory says nothing

@@ -2,7 +2,8 @@ use Rattle.std.proofs.Common.{subst}
 use Rattle.std.specs.Prelude.{OnOk, IfErr}
 use Rattle.cert_forest.specs.Views.{cover}
 use Rattle.tso_program.specs.Shown.{asked}
-use Rattle.exec_axioms.specs.Parts.{Parts, mode_in, sketch_of, machine_mode}
+use Rattle.tso_machine.specs.Modes.{machine_mode}
+use Rattle.exec_axioms.specs.Parts.{Parts, mode_in, sketch_of}
 use Rattle.tree_laws.specs.CoverTrees.{IsValidCover}
 use Rattle.cover_judge.specs.CoverDefects.{FirstWrongCover}
 use Rattle.cover_judge.specs.Judged.{IfWrong}

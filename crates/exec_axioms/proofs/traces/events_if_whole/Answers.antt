@@ -1,6 +1,6 @@
-use Rattle.std.proofs.Common.{◌≡◌, List, [], Contains, sym, ap, length, subst, arith}
+use Rattle.std.proofs.Common.{List, Contains, ap, length, subst, arith}
 use Rattle.candidate_executions.specs.declared.event.Event.{Event}
-use Rattle.exec_axioms.specs.Rows.{EachEnds, IsOfThreads}
+use Rattle.exec_axioms.specs.Rows.{EachEnds}
 use Rattle.exec_axioms.proofs.KnownParts.{not_by}
 use Rattle.exec_axioms.proofs.Lawful.{none_in}
 use Rattle.exec_axioms.proofs.Accesses.{grown_alone}

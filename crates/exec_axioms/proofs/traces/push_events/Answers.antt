@@ -1,4 +1,4 @@
-use Rattle.std.proofs.Common.{◌∙◌, length, sym, ap, arith}
+use Rattle.std.proofs.Common.{◌∙◌, length, sym, ap}
 use Rattle.exec_axioms.proofs.Accesses.{IsBelow, grown_none, grown_threads, grown_all, before_thread, below_none, accesses_read}
 use Rattle.exec_axioms.proofs.traces.push_events.Goals as goal
 

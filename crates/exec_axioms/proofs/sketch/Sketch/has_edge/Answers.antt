@@ -19,11 +19,11 @@ returns-in-Some-Some c =
     let to_at = subst (λ (es : List Event). slice_get es c.in-Some-Some.e ≡ Some c.args.to) same (c.in-Some-Some.ensures' {u = tt}).1 in
     let of_mode = subst (λ (s : Parts). IsOfMode (mode_in s) c.args.kind) (sym c.self.view_is) (c.has_union.ensures.0 c.if-not-has_union.false) in
     let parts : Parts = parts_of c.self.inside.program c.self.inside.mode (arc_value c.self.inside.traces).thread_traces.items c.self.inside.sources.items c.self.inside.pairs.items in
-    let rows = rows_of_kind c.self.inside.program c.self.inside.mode c.args.kind (arc_value c.self.inside.traces).events.items (λ (kind : Kind). IsKnownEdge parts kind) c.self.inside.main c.self.inside.global of_mode
+    let rows = rows_of_kind c.self.inside.program c.self.inside.mode c.args.kind (arc_value c.self.inside.traces).events.items (λ (kind : Kind). IsKnownEdge parts kind) c.self.inside.rows.main c.self.inside.rows.global of_mode
     c.self.invariant.rows.main_rows c.self.invariant.rows.global_rows in
-    let both = at_numbers (arc_value c.self.inside.traces).events.items (IsKnownEdge parts c.args.kind) (rows_of c.args.kind c.self.inside.main c.self.inside.global) c.in-Some-Some.d c.in-Some-Some.e c.args.from c.args.to rows at to_at in (
+    let both = at_numbers (arc_value c.self.inside.traces).events.items (IsKnownEdge parts c.args.kind) (rows_of c.args.kind c.self.inside.rows.main c.self.inside.rows.global) c.in-Some-Some.d c.in-Some-Some.e c.args.from c.args.to rows at to_at in (
       λ t. subst (λ (s : Parts). IsKnownEdge s c.args.kind c.args.from c.args.to) c.self.view_is
-          (both.0 (subst (λ (xs : List ℕ). Relates xs c.in-Some-Some.d c.in-Some-Some.e) c.rows_for.ensures (c.has.ensures.0 t))),
-      λ h. c.has.ensures.1 (subst (λ (xs : List ℕ). Relates xs c.in-Some-Some.d c.in-Some-Some.e) (sym c.rows_for.ensures)
+          (both.0 (subst (λ (xs : List ℕ). Relates xs c.in-Some-Some.d c.in-Some-Some.e) c.of_union.ensures (c.has.ensures.0 t))),
+      λ h. c.has.ensures.1 (subst (λ (xs : List ℕ). Relates xs c.in-Some-Some.d c.in-Some-Some.e) (sym c.of_union.ensures)
           (both.1 (subst (λ (s : Parts). IsKnownEdge s c.args.kind c.args.from c.args.to) (sym c.self.view_is) h))),
     )

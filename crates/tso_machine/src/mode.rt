@@ -1,0 +1,39 @@
+//! Memory models with the gaps that are fenced.
+ghost use Rattle.std.specs.Prelude.{◌≡◌};
+ghost use Rattle.std.specs.FinSet as set;
+ghost use Rattle.tso_program.specs.declared.listing.Listing.{Listing};
+ghost use Rattle.tso_machine.specs.Modes.{mode_of, machine_mode};
+
+use crate::Model;
+use gap_sets::GapSet;
+
+/// A memory model, and the gaps that are fenced.
+#[derive(Clone, Copy, Debug)]
+pub enum Mode {
+    /// Sequential consistency: no store waits, so fences make no difference.
+    Sequential,
+    /// x86-TSO, with these gaps of the program fenced.
+    Fenced(GapSet),
+}
+
+impl Mode {
+    /// The mode of a model, with no gap fenced.
+    pub fn unfenced(model: Model) -> Mode
+        ensures { (p : Listing) → machine_mode p result ≡ mode_of p set.empty model }
+    {
+        match model {
+            Model::Sequential => Mode::Sequential,
+            Model::Buffered => Mode::Fenced(GapSet::empty()),
+        }
+    }
+
+    /// The model, and the gaps that are fenced.
+    pub fn model_and_gaps(self) -> (Model, GapSet)
+        ensures { (p : Listing) → mode_of p result.1 result.0 ≡ machine_mode p self }
+    {
+        match self {
+            Mode::Sequential => (Model::Sequential, GapSet::empty()),
+            Mode::Fenced(gaps) => (Model::Buffered, gaps),
+        }
+    }
+}
