@@ -2,7 +2,7 @@
 ghost use Rattle.std.specs.Prelude.{OnOk, IfErr};
 ghost use Rattle.tso_program.specs.Shown.{asked};
 ghost use Rattle.cert_forest.specs.Views.{cover};
-ghost use Rattle.exec_axioms.specs.Parts.{machine_mode};
+ghost use Rattle.exec_axioms.specs.ProgramSketches.{machine_mode};
 ghost use Rattle.candidate_executions.specs.Sketches.{empty_sketch};
 ghost use Rattle.tree_laws.specs.CoverTrees.{IsValidCover};
 ghost use Rattle.cover_judge.specs.CoverDefects.{FirstWrongCover};
@@ -23,8 +23,8 @@ pub(crate) fn judge_from_start(
     shown: &Shown,
     outcomes: &[Outcome],
 ) -> Result<(), TreeFault>
-    ensures valid { OnOk result (IsValidCover (asked program.now shown.now) (machine_mode program.now mode) outcomes.now (cover tree.now) empty_sketch) }
-    ensures wrong { IfErr result (IfWrong (FirstWrongCover (asked program.now shown.now) (machine_mode program.now mode) outcomes.now (cover tree.now) empty_sketch)) }
+    ensures valid { OnOk result (IsValidCover (asked program.now shown.now) (machine_mode program.now mode) outcomes.now (cover tree.now) (empty_sketch program.now)) }
+    ensures wrong { IfErr result (IfWrong (FirstWrongCover (asked program.now shown.now) (machine_mode program.now mode) outcomes.now (cover tree.now) (empty_sketch program.now))) }
 {
     let sketch = Sketch::new(alloc, program, mode)?;
     judge_cover(alloc, tree, &sketch, shown, outcomes)

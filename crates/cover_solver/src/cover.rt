@@ -1,7 +1,7 @@
 //! The search for a cover tree over a list of outcomes.
 ghost use Rattle.std.specs.Prelude.{◌≡◌, IfOk, IfErr, IsTrue, map, length};
 ghost use Rattle.tso_program.specs.Shown.{asked};
-ghost use Rattle.exec_axioms.specs.Parts.{machine_mode, mode_in};
+ghost use Rattle.exec_axioms.specs.ProgramSketches.{machine_mode, mode_in};
 ghost use Rattle.cert_forest.specs.Views.{cover};
 ghost use Rattle.cover_judge.specs.Choices.{MayChooseEach};
 ghost use Rattle.cover_solver.specs.Ordered.{Ascend};

@@ -4,7 +4,7 @@ ghost use Rattle.tso_program.specs.declared.outcome.Outcome.{Outcome};
 ghost use Rattle.tso_program.specs.Shown.{asked};
 ghost use Rattle.tso_machine.specs.Outcomes.{AllowsShown};
 ghost use Rattle.exec_axioms.specs.Known.{HasNoCycle};
-ghost use Rattle.exec_axioms.specs.Parts.{machine_mode};
+ghost use Rattle.exec_axioms.specs.ProgramSketches.{machine_mode};
 ghost use Rattle.run_maker.specs.Complete.{IsComplete};
 ghost use Rattle.cover_judge.specs.Choices.{MayChooseEach};
 ghost use Rattle.cover_solver.specs.Found.{AscendWithRuns, HasRunOfEach};

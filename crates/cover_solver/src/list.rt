@@ -6,7 +6,7 @@ ghost use Rattle.tso_program.specs.declared.outcome.Outcome.{Outcome};
 ghost use Rattle.tso_program.specs.Shown.{asked};
 ghost use Rattle.tso_machine.specs.Outcomes.{AllowsShown};
 ghost use Rattle.tso_machine.specs.Modes.{mode_of};
-ghost use Rattle.exec_axioms.specs.Parts.{machine_mode};
+ghost use Rattle.exec_axioms.specs.ProgramSketches.{machine_mode};
 ghost use Rattle.cover_solver.specs.Ordered.{Ascend};
 
 use crate::explore::explore_all;

@@ -1,7 +1,7 @@
 //! What one thread does under its given values.
 ghost use Rattle.std.specs.Prelude.{◌≡◌, ◌<◌, ◌≤◌, ◌+◌, [], ◌∷◌, ◌++◌, length, IfOk};
 ghost use Rattle.candidate_executions.specs.Traces.{entered, store_of};
-ghost use Rattle.exec_axioms.specs.Parts.{machine_mode};
+ghost use Rattle.exec_axioms.specs.ProgramSketches.{machine_mode};
 ghost use Rattle.exec_axioms.specs.ThreadTraces.{GoesOn, IsTraceSoFarOf, IsThreadTraceOf, first_local};
 
 use crate::Mode;

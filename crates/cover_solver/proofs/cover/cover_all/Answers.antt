@@ -1,5 +1,5 @@
 use Rattle.tso_program.specs.Shown.{asked}
-use Rattle.exec_axioms.specs.Parts.{machine_mode}
+use Rattle.exec_axioms.specs.ProgramSketches.{machine_mode}
 use Rattle.cert_forest.specs.Views.{cover}
 use Rattle.cover_solver.specs.Covers.{IsCoverAt, IsWholeCover}
 use Rattle.cover_judge.proofs.Answered.{if_ok}

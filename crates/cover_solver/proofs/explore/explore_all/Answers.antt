@@ -1,5 +1,5 @@
 use Rattle.tso_program.specs.Shown.{asked}
-use Rattle.exec_axioms.specs.Parts.{machine_mode}
+use Rattle.exec_axioms.specs.ProgramSketches.{machine_mode}
 use Rattle.cert_forest.specs.Certificates.{labels_of}
 use Rattle.cover_solver.proofs.Listing.{exactly_allowed, covered_first, runs_first}
 use Rattle.cover_solver.proofs.explore.explore_all.Goals as goal

@@ -1,7 +1,7 @@
 use Rattle.std.proofs.Common.{◌∙◌, ap, subst, length, arith}
 use Rattle.tso_program.specs.Listings.{action, code_of}
 use Rattle.candidate_executions.specs.Traces.{fenced_gaps, trace_by, entered}
-use Rattle.exec_axioms.specs.Parts.{machine_mode}
+use Rattle.exec_axioms.specs.ProgramSketches.{machine_mode}
 use Rattle.exec_axioms.specs.ThreadTraces.{GoesOn}
 use Rattle.exec_axioms.proofs.TraceSteps.{begun, stepped, halted, finished, code_there, registers_there, entered_by}
 use Rattle.exec_axioms.proofs.thread_trace.walked.Goals as goal

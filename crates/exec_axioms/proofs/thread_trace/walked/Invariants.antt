@@ -1,7 +1,7 @@
 use Rattle.std.proofs.Common.{◌≡◌, ◌≤◌, ◌-◌, ◌*◌, drop, length}
 use Rattle.tso_program.specs.Listings.{action, code_of}
 use Rattle.candidate_executions.specs.Traces.{trace, trace_by, fenced_gaps}
-use Rattle.exec_axioms.specs.Parts.{machine_mode}
+use Rattle.exec_axioms.specs.ProgramSketches.{machine_mode}
 use Rattle.exec_axioms.specs.ThreadTraces.{with_accesses}
 use Rattle.exec_axioms.proofs.thread_trace.walked.Given as goal
 
