@@ -9,13 +9,12 @@ use Rattle.candidate_executions.specs.declared.event.Event.TheVariants.{Initial,
 use Rattle.candidate_executions.specs.declared.event.Kind.{Kind}
 use Rattle.candidate_executions.specs.declared.event.Kind.TheVariants as union
 use Rattle.candidate_executions.specs.Consistency.{IsOfMode, SameThread}
-use Rattle.candidate_executions.specs.Sketches.{IsBefore, with_source, with_pair, KnownEdgeOfMode}
+use Rattle.candidate_executions.specs.Sketches.{with_source, with_pair, KnownEdgeOfMode}
 use Rattle.exec_axioms.specs.declared.mode.Mode.{Mode}
 use Rattle.exec_axioms.specs.declared.mode.Mode.TheVariants.{Sequential, Fenced}
 use Rattle.exec_axioms.specs.declared.thread_trace.ThreadTrace.{ThreadTrace}
 use Rattle.exec_axioms.specs.ProgramSketches.{ProgramSketch, mode_in, access_in, with_chosen}
 use Rattle.exec_axioms.specs.Kept.{view_of, KeepsTraces}
-use Rattle.exec_axioms.specs.Known.{SourcePart}
 use Rattle.exec_axioms.specs.Choices.{MayRead, MayFollow}
 use Rattle.exec_axioms.specs.Rows.{accesses_at, access_of, IsOfThreads, IsRowOf, AreRowsOf, InOrder, WritesBut, ReadsBut, IsAfterBut, HasOrder, IsRepresented, main_kind}
 use Rattle.exec_axioms.proofs.KnownParts.{to_relates}
