@@ -3,49 +3,51 @@ use Rattle.std.specs.Prelude.{◌≡◌, List}
 use Rattle.tso_program.specs.declared.outcome.Outcome.{Outcome}
 use Rattle.tso_program.specs.declared.shown.Shown.{Shown}
 use Rattle.tso_program.specs.declared.shown.Shown.TheVariants.{All}
+use Rattle.tso_program.specs.Shown.{asked}
 use Rattle.tso_machine.specs.declared.label.Label.{Label}
 use Rattle.tso_machine.specs.Machine.{IsRun}
 use Rattle.candidate_executions.specs.declared.event.Event.{Event}
 use Rattle.candidate_executions.specs.Candidates.{Candidate, HasOutcome}
 use Rattle.candidate_executions.specs.RunCandidates.{IsCandidateOf}
-use Rattle.exec_axioms.specs.Parts.{Parts, mode_in}
-use Rattle.exec_axioms.specs.Choices.{IsWhole, IsRead, HasSource, IsPair, IsOrdered}
-use Rattle.exec_axioms.specs.Completions.{IsCompletion, HasCompletion, MustEnd}
+use Rattle.candidate_executions.specs.Sketches.{IsConsistentCompletion, IsPair, IsWhole, MustEndAs}
+use Rattle.exec_axioms.specs.ProgramSketches.{ProgramSketch, mode_in}
+use Rattle.exec_axioms.specs.Choices.{IsRead, HasSource, IsOrdered}
+use Rattle.exec_axioms.specs.Completions.{HasCompletion}
 use Rattle.run_maker.specs.declared.fault.MakeFault.{MakeFault}
 use Rattle.run_maker.specs.declared.fault.MakeFault.TheVariants.{NotComplete, NoRun, OutOfMemory}
 
 -- a read has its source
-abbrev pub HasItsSource : Parts → Event → Type 0
+abbrev pub HasItsSource : ProgramSketch → Event → Type 0
 HasItsSource s e = IsRead s e → HasSource s e
 
 -- two writes to one location, neither of them initial, are in order
-abbrev pub IsOrderedWith : Parts → Event → Event → Type 0
-IsOrderedWith s d e = IsPair s d e → IsOrdered s d e
+abbrev pub IsOrderedWith : ProgramSketch → Event → Event → Type 0
+IsOrderedWith s d e = IsPair s.program (mode_in s) s.chosen d e → IsOrdered s d e
 
 -- nothing is left to choose: each read has its value and its source, and each two writes to one location, neither of them initial, are in order
-pub record IsComplete (s : Parts) : Type 0 where
-  pub whole : IsWhole s
+pub record IsComplete (s : ProgramSketch) : Type 0 where
+  pub whole : IsWhole s.program (mode_in s) s.chosen
   pub sources : (e : Event) → HasItsSource s e
   pub pairs : (d e : Event) → IsOrderedWith s d e
 
 -- the labels are a run of the sketch's machine with the outcome, that of a consistent completion
-pub record IsMadeRun (s : Parts) (labels : List Label) (outcome : Outcome) : Type 0 where
+pub record IsMadeRun (s : ProgramSketch) (labels : List Label) (outcome : Outcome) : Type 0 where
   pub is_run : IsRun s.program (mode_in s) labels outcome
   -- the run is that of a consistent completion with the outcome, and none has another
   pub completion : Candidate
-  pub is_completion : IsCompletion s completion
+  pub is_completion : IsConsistentCompletion s.program (mode_in s) s.chosen completion
   pub has_outcome : HasOutcome s.program (mode_in s) completion outcome
   pub of_completion : IsCandidateOf s.program (mode_in s) labels completion
   pub only : (other : Outcome) → HasCompletion s other → other ≡ outcome
   -- the sketch must end so, as far as any of it is shown
-  pub must_end : (shown : Shown) → MustEnd s shown outcome
+  pub must_end : (shown : Shown) → MustEndAs (asked s.program shown) (mode_in s) s.chosen outcome
 
 -- some outcome is the one as which the sketch must end
-abbrev pub HasEnd : Parts → Type 0
-HasEnd s = (o : Outcome) × MustEnd s All o
+abbrev pub HasEnd : ProgramSketch → Type 0
+HasEnd s = (o : Outcome) × MustEndAs (asked s.program All) (mode_in s) s.chosen o
 
 -- why no run is made; never because no run exists
-abbrev pub MakeFaultIs : Parts → MakeFault → Type 0
+abbrev pub MakeFaultIs : ProgramSketch → MakeFault → Type 0
 MakeFaultIs s NotComplete = IsComplete s → ⊥
 MakeFaultIs s NoRun = ⊥
 MakeFaultIs s OutOfMemory = Unit {0}
