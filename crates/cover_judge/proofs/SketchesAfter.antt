@@ -3,7 +3,7 @@ use Rattle.std.proofs.Common.{◌≡◌, subst}
 use Rattle.tso_program.specs.declared.listing.Listing.{Listing}
 use Rattle.tso_machine.specs.Machine.{Mode}
 use Rattle.candidate_executions.specs.Sketches.{Sketch}
-use Rattle.tso_machine.specs.ProgramSketches.{ProgramSketch, mode_in, with_chosen}
+use Rattle.exec_axioms.specs.ProgramSketches.{ProgramSketch, mode_in, with_chosen}
 use Rattle.cover_judge.specs.declared.choice.Choice.{Choice}
 use Rattle.cover_judge.specs.Choices.{sketch_with}
 
