@@ -10,7 +10,7 @@ use Rattle.candidate_executions.specs.Sketches.{MayBeLast, MustEndAs}
 use Rattle.exec_axioms.specs.ProgramSketches.{ProgramSketch, mode_in, access_in}
 use Rattle.exec_axioms.specs.Completions.{MustEndSo}
 use Rattle.run_maker.specs.declared.run.MadeRun.{MadeRun}
-use Rattle.run_maker.specs.Complete.{IsMadeRun}
+use Rattle.run_maker.specs.MadeRuns.{IsMadeRun}
 use Rattle.tree_laws.specs.CoverTrees.{MustEndAsNumber}
 use Rattle.cover_solver.specs.Internal.Runs.{IsShownRunOf}
 use Rattle.cover_solver.specs.Covers.{IsEndNotListed}

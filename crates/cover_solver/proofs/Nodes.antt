@@ -16,7 +16,7 @@ use Rattle.exec_axioms.specs.Kept.{IsLawful}
 use Rattle.exec_axioms.specs.Sizes.{choice_count, most_choices, HaveAllRegisters}
 use Rattle.exec_axioms.proofs.ChoicesCounted.{event_small}
 use Rattle.exec_axioms.proofs.BranchesCounted.{few_values, few_sources}
-use Rattle.run_maker.proofs.Completeness.{read_there, first_there, second_there}
+use Rattle.exec_axioms.proofs.Completeness.{read_there, first_there, second_there}
 use Rattle.cert_forest.specs.declared.tree.AccessId.{AccessId}
 use Rattle.cert_forest.specs.Trees.{Cover, Value, Source, Order, covers_of}
 use Rattle.cert_forest.specs.Texts.{count_covers}

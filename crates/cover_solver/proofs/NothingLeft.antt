@@ -15,8 +15,8 @@ use Rattle.cover_judge.specs.Choices.{MayChoose, MayChooseEach}
 use Rattle.cover_judge.proofs.ChoicesJudged.{other_way, turned}
 use Rattle.exec_axioms.proofs.TracesKept.{no_action}
 use Rattle.exec_axioms.proofs.Lookups.{same_default}
-use Rattle.run_maker.specs.Complete.{IsComplete, HasItsSource}
-use Rattle.run_maker.proofs.Completeness.{read_there, first_there, second_there}
+use Rattle.exec_axioms.specs.Complete.{IsComplete, HasItsSource}
+use Rattle.exec_axioms.proofs.Completeness.{read_there, first_there, second_there}
 use Rattle.cover_solver.specs.declared.choices_left.OpenChoice.{OpenChoice}
 use Rattle.cert_forest.specs.declared.tree.AccessId.{AccessId}
 use Rattle.tree_laws.specs.CoverTrees.{event_of}

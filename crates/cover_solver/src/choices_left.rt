@@ -3,7 +3,7 @@ ghost use Rattle.std.specs.Prelude.{◌≡◌, ◌<◌, IfOk, OnOk, IsTrue, All,
 ghost use Rattle.candidate_executions.specs.Sketches.{IsWhole};
 ghost use Rattle.exec_axioms.specs.ProgramSketches.{mode_in};
 ghost use Rattle.tree_laws.specs.CoverTrees as trees;
-ghost use Rattle.run_maker.specs.Complete.{IsComplete, HasItsSource, IsOrderedWith};
+ghost use Rattle.exec_axioms.specs.Complete.{IsComplete, HasItsSource, IsOrderedWith};
 ghost use Rattle.cover_solver.specs.Choices.{IsOpen, NeedsSource, NeedsOrder};
 ghost use Rattle.cover_solver.specs.Internal.ChoicesLeft.{LeavesNone, HasEachSource, IsEachInOrder, IsInOrderWithEach};
 

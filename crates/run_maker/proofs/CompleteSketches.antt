@@ -39,9 +39,10 @@ use Rattle.exec_axioms.specs.Completions.{MustEndSo}
 use Rattle.exec_axioms.proofs.Chosen.{once}
 use Rattle.exec_axioms.proofs.Ends.{ends_only}
 use Rattle.exec_axioms.proofs.LastWrites.{of_followed, pair_edge}
-use Rattle.run_maker.specs.Complete.{IsComplete, IsMadeRun}
+use Rattle.exec_axioms.specs.Complete.{IsComplete}
+use Rattle.run_maker.specs.MadeRuns.{IsMadeRun}
 use Rattle.run_maker.specs.Internal.Orders.{IsKnownOrder}
-use Rattle.run_maker.proofs.Completeness.{first_there, second_there}
+use Rattle.exec_axioms.proofs.Completeness.{first_there, second_there}
 use Rattle.run_maker.proofs.PlacesInOrder.{place, place_before, place_same, chosen, chosen_is}
 
 consistent_by : (p : Listing) (m : Mode) (c : Candidate) → ((kind : Kind) → IsOfMode m kind → IsAcyclic (Edge p m c kind)) → IsConsistent p m c

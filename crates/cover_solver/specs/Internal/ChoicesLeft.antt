@@ -2,7 +2,7 @@
 use Rattle.std.specs.Prelude.{◌≡◌, List, [], Contains}
 use Rattle.std.specs.List.{AllPairs}
 use Rattle.exec_axioms.specs.ProgramSketches.{ProgramSketch}
-use Rattle.run_maker.specs.Complete.{HasItsSource, IsOrderedWith}
+use Rattle.exec_axioms.specs.Complete.{HasItsSource, IsOrderedWith}
 use Rattle.cert_forest.specs.declared.tree.AccessId.{AccessId}
 use Rattle.tree_laws.specs.CoverTrees.{event_of}
 use Rattle.cover_solver.specs.declared.choices_left.OpenChoice.{OpenChoice}

@@ -2,7 +2,7 @@ use Rattle.std.proofs.Common.{List, [], ◌∷◌, get_or, map, sym, ap, ◌∙�
 use Rattle.std.specs.Option.{MatchOption}
 use Rattle.std.proofs.lemmas.List.{map-append, length-map}
 use Rattle.cert_forest.specs.Views.{cover}
-use Rattle.run_maker.specs.Complete.{IsComplete}
+use Rattle.exec_axioms.specs.Complete.{IsComplete}
 use Rattle.cover_judge.specs.declared.choice.Choice.{Choice}
 use Rattle.cover_judge.specs.declared.choice.Choice.TheVariants as choice
 use Rattle.cover_solver.specs.Choices.{IsOpen}

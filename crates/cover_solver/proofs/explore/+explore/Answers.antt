@@ -3,7 +3,7 @@ use Rattle.std.specs.Option.{MatchOption}
 use Rattle.std.specs.Prelude.{OnOk}
 use Rattle.std.proofs.lemmas.List.{take_more, take_all}
 use Rattle.std.proofs.lemmas.List.Elements.{All-push, All-weaker}
-use Rattle.run_maker.specs.Complete.{IsComplete}
+use Rattle.exec_axioms.specs.Complete.{IsComplete}
 use Rattle.cover_judge.specs.declared.choice.Choice.{Choice}
 use Rattle.cover_judge.specs.declared.choice.Choice.TheVariants as choice
 use Rattle.cover_judge.specs.Choices.{sketch_with}

@@ -1,4 +1,4 @@
--- Complete sketches, and the runs that are made of them.
+-- The runs that are made of complete sketches.
 use Rattle.std.specs.Prelude.{◌≡◌, List}
 use Rattle.tso_program.specs.declared.outcome.Outcome.{Outcome}
 use Rattle.tso_program.specs.declared.shown.Shown.{Shown}
@@ -6,29 +6,14 @@ use Rattle.tso_program.specs.declared.shown.Shown.TheVariants.{All}
 use Rattle.tso_program.specs.Shown.{asked}
 use Rattle.tso_machine.specs.declared.label.Label.{Label}
 use Rattle.tso_machine.specs.Machine.{IsRun}
-use Rattle.candidate_executions.specs.declared.event.Event.{Event}
 use Rattle.candidate_executions.specs.Candidates.{Candidate, HasOutcome}
 use Rattle.candidate_executions.specs.RunCandidates.{IsCandidateOf}
-use Rattle.candidate_executions.specs.Sketches.{IsConsistentCompletion, IsPair, IsWhole, MustEndAs}
+use Rattle.candidate_executions.specs.Sketches.{IsConsistentCompletion, MustEndAs}
 use Rattle.exec_axioms.specs.ProgramSketches.{ProgramSketch, mode_in}
-use Rattle.exec_axioms.specs.Choices.{IsRead, HasSource, IsOrdered}
+use Rattle.exec_axioms.specs.Complete.{IsComplete}
 use Rattle.exec_axioms.specs.Completions.{HasCompletion}
 use Rattle.run_maker.specs.declared.fault.MakeFault.{MakeFault}
 use Rattle.run_maker.specs.declared.fault.MakeFault.TheVariants.{NotComplete, NoRun, OutOfMemory}
-
--- a read has its source
-abbrev pub HasItsSource : ProgramSketch → Event → Type 0
-HasItsSource s e = IsRead s e → HasSource s e
-
--- two writes to one location, neither of them initial, are in order
-abbrev pub IsOrderedWith : ProgramSketch → Event → Event → Type 0
-IsOrderedWith s d e = IsPair s.program (mode_in s) s.chosen d e → IsOrdered s d e
-
--- nothing is left to choose: each read has its value and its source, and each two writes to one location, neither of them initial, are in order
-pub record IsComplete (s : ProgramSketch) : Type 0 where
-  pub whole : IsWhole s.program (mode_in s) s.chosen
-  pub sources : (e : Event) → HasItsSource s e
-  pub pairs : (d e : Event) → IsOrderedWith s d e
 
 -- the labels are a run of the sketch's machine with the outcome, that of a consistent completion
 pub record IsMadeRun (s : ProgramSketch) (labels : List Label) (outcome : Outcome) : Type 0 where
