@@ -151,11 +151,11 @@ fn lacks_order(sketch: &Sketch, first: Event, second: Event) -> bool
     ensures needs { IsTrue result → NeedsOrder sketch.now first second }
     ensures has { result ≡ false → IsOrderedWith sketch.now first second }
 {
+    if !sketch.is_pair(first, second) {
+        return false;
+    }
     if sketch.before(first, second) {
         return false;
     }
-    if sketch.before(second, first) {
-        return false;
-    }
-    sketch.is_pair(first, second)
+    !sketch.before(second, first)
 }
