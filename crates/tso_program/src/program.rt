@@ -5,6 +5,7 @@ ghost use Rattle.tso_program.specs.declared.limits.TheConstants.{MAX_LOCATIONS};
 ghost use Rattle.gap_sets.specs.declared.gap_set.TheConstants.{MAX_GAPS};
 ghost use Rattle.tso_program.specs.Limits.{IsWithinLimits, first_fault};
 ghost use Rattle.tso_program.specs.Listings.{action, code_of, gap_count, gap_number, instr_at};
+ghost use Rattle.tso_program.specs.Fences.{gaps_in};
 ghost use Rattle.tso_program.specs.Actions.{IsLocated};
 ghost use Rattle.tso_program.specs.declared.limits.ProgramFault.{ProgramFault};
 ghost use Rattle.tso_program.specs.declared.limits.ProgramFault.TheVariants.{OutOfMemory};
@@ -111,6 +112,16 @@ impl Program {
             left -= gaps;
         }
         None
+    }
+
+    /// Whether the gap before instruction k of thread t is in the set.
+    pub fn is_fenced(&self, gaps: &GapSet, t: u8, k: u8) -> bool
+        ensures { result ≡ gaps_in self.now gaps.now t k }
+    {
+        match self.gap_number(t, k) {
+            Some(gap) => gaps.has(gap),
+            None => false,
+        }
     }
 
     /// All gaps.
