@@ -20,8 +20,6 @@ use Rattle.tso_program.proofs.FencedLimits.{fencing_stays_within_limits}
 use Rattle.conditions.specs.Tree.{Tree, tree_map}
 use Rattle.conditions.specs.Grammar.{Spells, Sum}
 use Rattle.conditions.specs.Canonical.{enclosed_signs_of}
-use Rattle.litmus_syntax.specs.declared.ending.Quantifier.{Quantifier as Word}
-use Rattle.litmus_syntax.specs.declared.ending.Quantifier.TheVariants as word
 use Rattle.litmus_syntax.specs.Views.{PlaceView, Location, Register, EntryView, CellView, BodyView, SignView, EndingView}
 use Rattle.litmus_syntax.specs.Grammar.{NoneTwice, labels_in_rows as all_names}
 use Rattle.litmus_syntax.specs.Places.{same_place}
@@ -32,11 +30,11 @@ use Rattle.litmus_reader.specs.Places.{entry_place, row_places, sign_places, pla
 use Rattle.litmus_reader.specs.Outcomes.{is_named}
 use Rattle.litmus_reader.specs.declared.label.Label.{Label}
 use Rattle.litmus_reader.specs.Labels.{column, labels_behind, thread_labels, all_labels, position_in, are_found, JumpsAreFound}
-use Rattle.litmus_reader.specs.Meaning.{first_value, memory_of, registers_of, thread_read, listing_of, observed_of, numbered_atom, quantifier_of, condition_of}
+use Rattle.litmus_reader.specs.Meaning.{first_value, memory_of, registers_of, thread_read, listing_of, observed_of, numbered_atom, condition_of}
 use Rattle.litmus_reader.specs.Meaning as meaning
 use Rattle.litmus_reader.specs.Texts.{AreParts, Means, StandsFor, IsFencedLitmus}
 use Rattle.litmus_reader.proofs.NamesOnce.{in_order_once}
-use Rattle.canonical_text.specs.Canonical.{entries_of, own_labels, moved_labels, body_of, place_named, signs_named, word_of, ending_of, litmus_fenced_at, canonical_text}
+use Rattle.canonical_text.specs.Canonical.{entries_of, own_labels, moved_labels, body_of, place_named, signs_named, ending_of, litmus_fenced_at, canonical_text}
 use Rattle.canonical_text.specs.Printable.{IsTextNumber, IsLocationName, IsPrintablePlace, IsPrintableEntry, IsPrintableRow, IsPrintable, IsPrintableSign, ArePrintable, IsPrintableEnding}
 use Rattle.canonical_text.specs.Laws.{HasParts, CanonicalTextIsRead}
 use Rattle.canonical_text.proofs.PrintedIsRead.{printed_is_read}
@@ -75,11 +73,6 @@ source name b e f = record {
   observed = map (observed_of (number_in (names_of b e).locations)) e.observed;
   labels = all_labels b;
 }
-
-word_again : (q : Word) → word_of (quantifier_of q) ≡ q
-word_again word.Exists = refl
-word_again word.NotExists = refl
-word_again word.Forall = refl
 
 -- a place that is named, named again
 place_again : (names : List (List ℕ)) (named : Named) → IsDistinct bytes_eq names → (p : PlaceView) → IsKnown names named p → place_named names (observed_of (number_in names) p) ≡ p
@@ -306,9 +299,6 @@ module _ (b : BodyView) (e : EndingView) (f : Tree Said) (text : IsGoodText b e 
   same_program : program ≡ listing_of locations body
   same_program = λ i. record { threads = same_threads i; memory = same_memory i }
 
-  same_condition : condition_of (number_in locations) e.quantifier f ≡ condition_of (number_in locations) ending.quantifier f
-  same_condition = ap (λ (q : Word). condition_of (number_in locations) q f) (sym (word_again e.quantifier))
-
   -- the canonical text stands for the fenced program
   stands : (name : List ℕ) → AreVisible name
       → StandsFor (canonical_text (record (source name b e f) { program = program; labels = labels })) (record (source name b e f) { program = program; labels = labels })
@@ -330,7 +320,7 @@ module _ (b : BodyView) (e : EndingView) (f : Tree Said) (text : IsGoodText b e 
           parts = record { others = h.others; begins = h.begins; ends = h.ends; spells = spells; jumps = jumps_found };
           names = same_names;
           program = same_program;
-          condition = same_condition;
+          condition = refl;
           observed = ap (map (observed_of (number_in locations))) (sym shown_again);
           labels = same_labels;
         };

@@ -13,8 +13,8 @@ use Rattle.text_tokens.specs.Lexing.{IsWord, NoWordGoesOn}
 use Rattle.text_tokens.proofs.NumberLaws.{own}
 use Rattle.text_tokens.specs.Pieces.{Piece, text_of, AreApartBefore, AreApart}
 use Rattle.text_tokens.proofs.PieceLaws.{AreApartBefore-append}
-use Rattle.litmus_syntax.specs.declared.ending.Quantifier.{Quantifier}
-use Rattle.litmus_syntax.specs.declared.ending.Quantifier.TheVariants.{Exists, NotExists, Forall}
+use Rattle.conditions.specs.declared.condition.Quantifier.{Quantifier}
+use Rattle.conditions.specs.declared.condition.Quantifier.TheVariants.{Exists, NotExists, Forall}
 use Rattle.litmus_syntax.specs.Views.{PlaceView, Location, Register, EntryView, CodeView, LoadImm, Copy, Load, StoreImm, Store, Xchg, Fence, CmpImm, CmpReg, Je, Jne, Jmp, CellView, BodyView, SignView, Atom, Const, Not, And, Or, Open, Close, EndingView}
 use Rattle.canonical_text.specs.Spelling.{line_end, next, joined_by, bar, gap, valued_pieces, entry_pieces, initial_pieces, row_end, line_of, column_pieces, header_pieces, code_pieces, label_pieces, cell_pieces, row_pieces, body_pieces, observed_place_pieces, observed_pieces, sign_pieces, condition_pieces, ending_pieces, lines_pieces, sign, space}
 use Rattle.text_tokens.specs.declared.token.Mark.TheVariants as the

@@ -7,8 +7,8 @@ use Rattle.std.proofs.lemmas.List.Elements.{All-from_recursion}
 use Rattle.text_tokens.specs.declared.token.Mark.TheVariants as the
 use Rattle.text_tokens.specs.Tokens.{Tok, Sign}
 use Rattle.text_tokens.specs.Pieces.{Piece, tokens_of}
-use Rattle.litmus_syntax.specs.declared.ending.Quantifier.{Quantifier}
-use Rattle.litmus_syntax.specs.declared.ending.Quantifier.TheVariants.{Exists, NotExists, Forall}
+use Rattle.conditions.specs.declared.condition.Quantifier.{Quantifier}
+use Rattle.conditions.specs.declared.condition.Quantifier.TheVariants.{Exists, NotExists, Forall}
 use Rattle.litmus_syntax.specs.Views.{PlaceView, Location, Register, EntryView, CodeView, LoadImm, Copy, Load, StoreImm, Store, Xchg, Fence, CmpImm, CmpReg, Je, Jne, Jmp, CellView, BodyView, SignView, Atom, Const, Not, And, Or, Open, Close, EndingView}
 use Rattle.litmus_syntax.specs.Words.{mnemonic_of}
 use Rattle.litmus_syntax.specs.Phrases.{Phrase, ◌▸◌, mark, number, begins_with_word, Items, end, item}

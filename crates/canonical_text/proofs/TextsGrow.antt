@@ -8,7 +8,7 @@ use Rattle.std.proofs.lemmas.Grind.{flat_map-append}
 use Rattle.std.proofs.lemmas.Bool.{lt-ltb}
 use Rattle.text_tokens.specs.declared.token.Mark.TheVariants as the
 use Rattle.text_tokens.specs.Pieces.{Piece, text_of}
-use Rattle.litmus_syntax.specs.declared.ending.Quantifier.{Quantifier}
+use Rattle.conditions.specs.declared.condition.Quantifier.{Quantifier}
 use Rattle.litmus_syntax.specs.Views.{PlaceView, EntryView, CodeView, SignView}
 use Rattle.text_tokens.proofs.PieceLaws.{text_of-append}
 use Rattle.tso_program.specs.declared.listing.Thread.{Thread}

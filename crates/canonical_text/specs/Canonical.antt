@@ -13,14 +13,10 @@ use Rattle.tso_program.specs.Fences.{Gaps, gaps_in, place_of, fence}
 use Rattle.conditions.specs.declared.atom.Atom.{Atom}
 use Rattle.conditions.specs.declared.atom.Atom.TheVariants as atom
 use Rattle.conditions.specs.declared.condition.Condition.{Condition}
-use Rattle.conditions.specs.declared.condition.Quantifier.{Quantifier}
-use Rattle.conditions.specs.declared.condition.Quantifier.TheVariants.{Exists, NotExists, Forall}
 use Rattle.conditions.specs.Tree.{Tree}
 use Rattle.conditions.specs.Grammar.{Sign}
 use Rattle.conditions.specs.Grammar as sign
 use Rattle.conditions.specs.Canonical.{enclosed_signs_of}
-use Rattle.litmus_syntax.specs.declared.ending.Quantifier.{Quantifier as Word}
-use Rattle.litmus_syntax.specs.declared.ending.Quantifier.TheVariants as word
 use Rattle.litmus_syntax.specs.Views.{PlaceView, Location, Register, EntryView, CodeView, CellView, BodyView, SignView, EndingView}
 use Rattle.litmus_syntax.specs.Views as view
 use Rattle.litmus_reader.specs.declared.label.Label.{Label}
@@ -150,15 +146,10 @@ sign_named names sign.Close = view.Close
 abbrev pub signs_named : List (List ℕ) → Tree Atom → List SignView
 signs_named names formula = map (sign_named names) (enclosed_signs_of formula)
 
-abbrev pub word_of : Quantifier → Word
-word_of Exists = word.Exists
-word_of NotExists = word.NotExists
-word_of Forall = word.Forall
-
 -- what is observed, and the condition
 abbrev pub ending_of : List (List ℕ) → List Observed → Condition → EndingView
 ending_of names shown condition =
-    record { observed = map (place_named names) shown; quantifier = word_of condition.quantifier; signs = signs_named names condition.formula }
+    record { observed = map (place_named names) shown; quantifier = condition.quantifier; signs = signs_named names condition.formula }
 
 -- ---- the whole
 

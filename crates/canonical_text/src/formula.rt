@@ -4,7 +4,7 @@ ghost use Rattle.std.specs.List.{flat_map};
 ghost use Rattle.text_tokens.specs.Pieces.{text_of};
 ghost use Rattle.conditions.specs.Tokens.{sign_of_token};
 ghost use Rattle.canonical_text.specs.Spelling.{sign_pieces, quantifier_pieces, condition_pieces};
-ghost use Rattle.canonical_text.specs.Canonical.{atom_named, sign_named, signs_named, word_of};
+ghost use Rattle.canonical_text.specs.Canonical.{atom_named, sign_named, signs_named};
 
 use crate::words::{name_at, push_location_value, push_register_value};
 use conditions::{Atom, Condition, Quantifier, Token};
@@ -67,7 +67,7 @@ fn push_signs(
 }
 
 fn push_quantifier(out: &mut Vec<u8>, quantifier: Quantifier) -> Result<(), AllocError>
-    ensures { OnOk result (out.new.items ≡ out.old.items ++ text_of (quantifier_pieces (word_of quantifier))) }
+    ensures { OnOk result (out.new.items ≡ out.old.items ++ text_of (quantifier_pieces quantifier)) }
 {
     match quantifier {
         Quantifier::Exists => out.extend_from_slice(b"exists"),
@@ -84,7 +84,7 @@ pub fn push_condition(
     condition: &Condition,
 ) -> Result<(), AllocError>
     ensures { OnOk result (out.new.items ≡ out.old.items
-        ++ text_of (condition_pieces (word_of condition.now.quantifier) (signs_named names.now.locations condition.now.formula))) }
+        ++ text_of (condition_pieces condition.now.quantifier (signs_named names.now.locations condition.now.formula))) }
 {
     let signs = condition.formula.enclosed_tokens(alloc)?;
     push_quantifier(out, condition.quantifier)?;

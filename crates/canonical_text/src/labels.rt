@@ -11,16 +11,6 @@ use litmus_reader::{Label, Litmus};
 use std::alloc::AllocError;
 use tso_program::{Items, Program};
 
-/// Whether the gap before instruction k of thread t is in the set.
-fn is_fenced(program: &Program, gaps: &GapSet, t: u8, k: u8) -> bool
-    ensures { result ≡ gaps_in program.now gaps.now t k }
-{
-    match program.gap_number(t, k) {
-        Some(gap) => gaps.has(gap),
-        None => false,
-    }
-}
-
 /// The position that lies at this place of the fenced thread; `None` at an instruction after its fence.
 fn position_at(program: &Program, gaps: &GapSet, t: u8, place: u8) -> Option<usize>
     ensures found { IfSome result (λ k. place_of (gaps_in program.now gaps.now t) k ≡ place) }
@@ -29,7 +19,7 @@ fn position_at(program: &Program, gaps: &GapSet, t: u8, place: u8) -> Option<usi
     let mut position: usize = 0;
     let mut reached: usize = 0;
     while reached < place as usize {
-        reached += if is_fenced(program, gaps, t, position as u8) {
+        reached += if program.is_fenced(gaps, t, position as u8) {
             2
         } else {
             1

@@ -8,7 +8,7 @@ use Rattle.conditions.specs.Grammar.{atom, parens, operand, conjunction, term}
 use Rattle.text_tokens.specs.declared.token.Mark.TheVariants as the
 use Rattle.text_tokens.specs.Tokens.{Tok, Word, Number, Sign}
 use Rattle.tso_program.specs.declared.instruction.Reg.TheVariants.{Eax, Ebx}
-use Rattle.litmus_syntax.specs.declared.ending.Quantifier.TheVariants.{Exists}
+use Rattle.conditions.specs.declared.condition.Quantifier.TheVariants.{Exists}
 use Rattle.litmus_syntax.specs.Words.{reg_of, opens_condition, joins_formula, is_name, mnemonic_of, column_name}
 use Rattle.litmus_syntax.specs.Views.{Location, Register, EntryView, CodeView, StoreImm, Load, CellView, BodyView, EndingView}
 use Rattle.litmus_syntax.specs.Views as view

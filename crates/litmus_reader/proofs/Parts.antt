@@ -20,7 +20,7 @@ use Rattle.litmus_reader.specs.declared.fault.ReadFault.{ReadFault}
 use Rattle.litmus_reader.specs.Faults.{MatchFault}
 use Rattle.litmus_reader.specs.Places.{names_of}
 use Rattle.litmus_reader.specs.Labels.{all_labels, JumpsAreFound}
-use Rattle.litmus_reader.specs.Meaning.{sign_of, numbered_atom, quantifier_of, observed_of}
+use Rattle.litmus_reader.specs.Meaning.{sign_of, numbered_atom, observed_of}
 use Rattle.litmus_reader.specs.Internal.Filling.{byte_in, byte_at, listing_by}
 use Rattle.litmus_reader.specs.Internal.Reading.{numbered_signs, ReadsOne, Found, AreReadTokens, IsSyntaxFault, HasNoParts}
 use Rattle.litmus_reader.specs.Texts.{AreParts}
@@ -111,7 +111,7 @@ unnumbered numbered ending f only = spells_unmapped (numbered_atom numbered) (ma
 
 -- what is read are the tokens' parts, and no others are
 pub parts_read : (tokens : List Tok) (body : BodyView) (refusal : Option Refusal) (ending : EndingView) (litmus : Litmus Listing) → Found tokens body refusal ending → JumpsAreFound body
-    → litmus.names ≡ names_of body ending → litmus.condition.quantifier ≡ quantifier_of ending.quantifier → (refusal ≡ None) × SpellsOnly (numbered_signs (byte_in litmus.names.locations) ending.signs) litmus.condition.formula
+    → litmus.names ≡ names_of body ending → litmus.condition.quantifier ≡ ending.quantifier → (refusal ≡ None) × SpellsOnly (numbered_signs (byte_in litmus.names.locations) ending.signs) litmus.condition.formula
     → litmus.program ≡ listing_by (byte_in litmus.names.locations) byte_at (length litmus.names.locations) body → litmus.observed ≡ map (observed_of (byte_in litmus.names.locations)) ending.observed
     → litmus.labels ≡ all_labels body → AreReadTokens tokens litmus
 parts_read tokens body refusal ending litmus found jumps names quantifier spelled program observed labels =

@@ -10,15 +10,12 @@ use Rattle.conditions.specs.declared.atom.Atom.{Atom}
 use Rattle.conditions.specs.declared.atom.Atom.TheVariants as atom
 use Rattle.conditions.specs.declared.condition.Condition.{Condition}
 use Rattle.conditions.specs.declared.condition.Quantifier.{Quantifier}
-use Rattle.conditions.specs.declared.condition.Quantifier.TheVariants.{Exists, NotExists, Forall}
 use Rattle.conditions.specs.Tree.{Tree, tree_map}
 use Rattle.conditions.specs.Grammar.{Sign}
 use Rattle.conditions.specs.Grammar as sign
 use Rattle.litmus_syntax.specs.Views.{PlaceView, Location, Register, EntryView, CodeView, CellView, BodyView, SignView}
 use Rattle.litmus_syntax.specs.Views as view
 use Rattle.litmus_syntax.specs.Places.{same_place}
-use Rattle.litmus_syntax.specs.declared.ending.Quantifier.{Quantifier as Word}
-use Rattle.litmus_syntax.specs.declared.ending.Quantifier.TheVariants as word
 use Rattle.litmus_reader.specs.declared.observed.Observed.{Observed}
 use Rattle.litmus_reader.specs.declared.observed.Observed.TheVariants as observed
 use Rattle.litmus_reader.specs.Names.{all_registers, number_in}
@@ -101,11 +98,6 @@ atom_of numbered (Register t r) n = atom.Register t r n
 abbrev pub numbered_atom : (List ℕ → ℕ) → PlaceView × ℕ → Atom
 numbered_atom numbered said = atom_of numbered said.0 said.1
 
-abbrev pub quantifier_of : Word → Quantifier
-quantifier_of word.Exists = Exists
-quantifier_of word.NotExists = NotExists
-quantifier_of word.Forall = Forall
-
 -- the condition: over which outcomes it speaks, and what it says of them
-abbrev pub condition_of : (List ℕ → ℕ) → Word → Tree (PlaceView × ℕ) → Condition
-condition_of numbered quantifier formula = record { quantifier = quantifier_of quantifier; formula = tree_map (numbered_atom numbered) formula }
+abbrev pub condition_of : (List ℕ → ℕ) → Quantifier → Tree (PlaceView × ℕ) → Condition
+condition_of numbered quantifier formula = record { quantifier = quantifier; formula = tree_map (numbered_atom numbered) formula }

@@ -4,15 +4,15 @@ ghost use Rattle.conditions.specs.Tokens.{sign_of_token as token_sign};
 ghost use Rattle.litmus_syntax.specs.Views.{sign_view, sign_at_view};
 ghost use Rattle.conditions.specs.Grammar.{sign_map};
 ghost use Rattle.litmus_reader.specs.Internal.Filling.{byte_in};
-ghost use Rattle.litmus_reader.specs.Meaning.{sign_of, numbered_atom, quantifier_of};
+ghost use Rattle.litmus_reader.specs.Meaning.{sign_of, numbered_atom};
 ghost use Rattle.litmus_reader.specs.Internal.Reading.{numbered_signs, ReadsFormula};
 
 use crate::fault::ReadFault;
 use crate::lines::fault_at;
 use crate::names::NameTable;
 use crate::program::atom;
-use conditions::{Formula, FormulaFault, Quantifier, Token};
-use litmus_syntax::{Part, Quantifier as Word, Refusal, Sign, SignAt, Signs};
+use conditions::{Formula, FormulaFault, Token};
+use litmus_syntax::{Part, Refusal, Sign, SignAt, Signs};
 use std::alloc::{AllocError, Global};
 use text_tokens::Tokens;
 
@@ -28,17 +28,6 @@ fn token(names: &NameTable, sign: Sign<'_>) -> Token
         Sign::Or => Token::Or,
         Sign::Open => Token::Open,
         Sign::Close => Token::Close,
-    }
-}
-
-/// Over which outcomes the condition speaks.
-pub(crate) fn quantifier(word: Word) -> Quantifier
-    ensures { result ≡ quantifier_of word }
-{
-    match word {
-        Word::Exists => Quantifier::Exists,
-        Word::NotExists => Quantifier::NotExists,
-        Word::Forall => Quantifier::Forall,
     }
 }
 

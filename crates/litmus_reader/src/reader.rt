@@ -11,7 +11,7 @@ ghost use Rattle.litmus_reader.specs.Internal.Filling.{byte_in, byte_at, listing
 ghost use Rattle.litmus_reader.specs.Texts.{IsLitmus, IsFencedLitmus, Refuses, RefusesFenced};
 ghost use Rattle.litmus_reader.specs.Internal.Reading.{Found, IsSyntaxFault, ReadsTokens, ReadsText};
 
-use crate::condition::{quantifier, read_formula};
+use crate::condition::read_formula;
 use crate::fault::ReadFault;
 use crate::jumps::{lost_jump, targets_of};
 use crate::label::{Label, all_labels};
@@ -93,7 +93,7 @@ fn litmus_of(
         program,
         names,
         condition: Condition {
-            quantifier: quantifier(ending.quantifier),
+            quantifier: ending.quantifier,
             formula,
         },
         observed: Items::of(observed),

@@ -5,8 +5,8 @@ use Rattle.std.proofs.lemmas.List.Elements.{All-cons, All-nil}
 use Rattle.text_tokens.specs.declared.token.Mark.TheVariants as the
 use Rattle.text_tokens.specs.Tokens.{Tok, Word, Number, Sign}
 use Rattle.tso_program.specs.declared.instruction.Reg.TheVariants.{Eax, Ebx}
+use Rattle.conditions.specs.declared.condition.Quantifier.TheVariants.{NotExists}
 use Rattle.litmus_syntax.specs.declared.mnemonic.Mnemonic.TheVariants as op
-use Rattle.litmus_syntax.specs.declared.ending.Quantifier.TheVariants.{NotExists}
 use Rattle.litmus_syntax.specs.Words.{reg_of, opens_condition, joins_formula, is_label, is_name, mnemonic_of, column_name}
 use Rattle.litmus_syntax.specs.Views.{Location, Register, EntryView, CodeView, StoreImm, Load, Xchg, CmpImm, Jne, CellView, BodyView, SignView, Atom, Const, Not, And, Or, Open, Close, EndingView}
 use Rattle.litmus_syntax.specs.Phrases.{end, item}

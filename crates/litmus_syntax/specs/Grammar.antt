@@ -9,10 +9,10 @@ use Rattle.text_tokens.specs.Tokens.{Tok, Word, Number, Sign, NoToken}
 use Rattle.text_tokens.specs.Marks.{same_mark}
 use Rattle.text_tokens.specs.Parts.{begins_with}
 use Rattle.tso_program.specs.declared.instruction.Reg.{Reg}
+use Rattle.conditions.specs.declared.condition.Quantifier.{Quantifier}
+use Rattle.conditions.specs.declared.condition.Quantifier.TheVariants.{Exists, NotExists, Forall}
 use Rattle.litmus_syntax.specs.declared.mnemonic.Mnemonic.{Mnemonic}
 use Rattle.litmus_syntax.specs.declared.mnemonic.Mnemonic.TheVariants as op
-use Rattle.litmus_syntax.specs.declared.ending.Quantifier.{Quantifier}
-use Rattle.litmus_syntax.specs.declared.ending.Quantifier.TheVariants.{Exists, NotExists, Forall}
 use Rattle.litmus_syntax.specs.Words.{reg_of, opens_condition, is_label, is_name, mnemonic_of, column_name}
 use Rattle.litmus_syntax.specs.Views.{PlaceView, Location, Register, EntryView, CodeView, LoadImm, Copy, Load, StoreImm, Store, Xchg, Fence, CmpImm, CmpReg, Je, Jne, Jmp, CellView, BodyView, SignView, Atom, Const, Not, And, Or, Open, Close, EndingView}
 use Rattle.litmus_syntax.specs.Phrases.{Phrase, ◌▸◌, ◌or◌, mark, word, number, before, no_word, Items}

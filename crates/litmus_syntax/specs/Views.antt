@@ -1,6 +1,7 @@
 -- What is read, without where its names lie in memory.
 use Rattle.std.specs.Prelude.{ℕ, Bool, List, map, Option, option_map}
 use Rattle.tso_program.specs.declared.instruction.Reg.{Reg}
+use Rattle.conditions.specs.declared.condition.Quantifier.{Quantifier}
 use Rattle.litmus_syntax.specs.declared.place.Place.{Place}
 use Rattle.litmus_syntax.specs.declared.place.Place.TheVariants as place
 use Rattle.litmus_syntax.specs.declared.entry.Entry.{Entry}
@@ -12,7 +13,6 @@ use Rattle.litmus_syntax.specs.declared.body.Body.{Body}
 use Rattle.litmus_syntax.specs.declared.formula.Sign.{Sign}
 use Rattle.litmus_syntax.specs.declared.formula.Sign.TheVariants as sign
 use Rattle.litmus_syntax.specs.declared.formula.SignAt.{SignAt}
-use Rattle.litmus_syntax.specs.declared.ending.Quantifier.{Quantifier}
 use Rattle.litmus_syntax.specs.declared.ending.Ending.{Ending}
 use Rattle.std.specs.Global.{Vec}
 

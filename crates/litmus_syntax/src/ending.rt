@@ -11,19 +11,9 @@ use crate::formula::{Signs, read_signs};
 use crate::observed::read_observed;
 use crate::parts::{begins_word, keyword, mark};
 use crate::place::Place;
+use conditions::Quantifier;
 use std::alloc::Global;
 use text_tokens::{Mark, Token, begins};
-
-/// Which outcomes a condition speaks of.
-#[derive(Clone, Copy, Debug, PartialEq, Eq)]
-pub enum Quantifier {
-    /// `exists`: some outcome meets the formula.
-    Exists,
-    /// `~exists`: none does.
-    NotExists,
-    /// `forall`: all do.
-    Forall,
-}
 
 /// What follows the rows. Names are borrowed from the tokens.
 #[derive(Debug, Drop)]

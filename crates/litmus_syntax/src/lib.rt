@@ -23,7 +23,7 @@ mod seen;
 pub use body::{Body, read_body};
 pub use cell::Cell;
 pub use code::Code;
-pub use ending::{Ending, Quantifier, read_ending};
+pub use ending::{Ending, read_ending};
 pub use entry::Entry;
 pub use fault::{Part, Refusal, SyntaxFault};
 pub use formula::{Sign, SignAt, Signs};

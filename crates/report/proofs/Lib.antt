@@ -1,2 +1,1 @@
-pub mod GapPlaces
 pub mod ObservationLaws

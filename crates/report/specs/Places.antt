@@ -1,20 +1,11 @@
 -- Where the gaps of a program lie.
-use Rattle.std.specs.Prelude.{◌≡◌, ◌↔◌, ℕ, ◌+◌, List, [], ◌∷◌, ◌++◌, map, slice_get, Option, Some}
+use Rattle.std.specs.Prelude.{◌≡◌, ◌↔◌, ℕ, List, [], ◌∷◌, ◌++◌, Some}
 use Rattle.std.specs.Option.{option_map_or}
-use Rattle.std.specs.List.{flat_map, range_with_len}
+use Rattle.std.specs.List.{flat_map}
 use Rattle.std.specs.Fmt.{decimal}
 use Rattle.gap_sets.specs.Gaps.{SetOfGaps, numbers_of_set}
 use Rattle.tso_program.specs.declared.listing.Thread.{Thread}
-use Rattle.tso_program.specs.Listings.{gap_number, gaps_of_thread}
-
--- the gaps of the threads from thread t on, each by its thread and the instruction that it lies before
-abbrev pub places_from : ℕ → List Thread → List (ℕ × ℕ)
-places_from t [] = []
-places_from t (thread ∷ threads) = map (λ k. (t, k)) (range_with_len 1 (gaps_of_thread thread)) ++ places_from (t + 1) threads
-
--- the gap of this number
-abbrev pub gap_place : List Thread → ℕ → Option (ℕ × ℕ)
-gap_place threads gap = slice_get (places_from 0 threads) gap
+use Rattle.tso_program.specs.Listings.{gap_number, gap_place}
 
 -- a place as it is printed: ` t:k`
 abbrev pub place_text : ℕ × ℕ → List ℕ

@@ -1,7 +1,7 @@
 //! Where gaps lie, as it is printed.
 
 ghost use Rattle.std.specs.Prelude.{◌≡◌, ◌++◌, OnOk, string_bytes};
-ghost use Rattle.report.specs.Places.{gap_text, gap_place, gaps_text};
+ghost use Rattle.report.specs.Places.{gap_text, gaps_text};
 
 use gap_sets::GapSet;
 use std::alloc::AllocError;
@@ -21,14 +21,8 @@ pub fn push_gaps(line: &mut String, program: &Program, gaps: &GapSet) -> Result<
 fn push_gap(line: &mut String, program: &Program, gap: u8) -> Result<(), AllocError>
     ensures { OnOk result (string_bytes line.new ≡ string_bytes line.old ++ gap_text program.now.threads gap) }
 {
-    if let Some((thread, k)) = gap_place(program, gap) {
+    if let Some((thread, k)) = program.gap_place(gap) {
         write!(line, " {thread}:{k}")?;
     }
     Ok(())
-}
-
-fn gap_place(program: &Program, gap: u8) -> Option<(u8, u8)>
-    ensures { result ≡ gap_place program.now.threads gap }
-{
-    program.gap_place(gap)
 }

@@ -28,16 +28,16 @@ pub struct Ended {
 /// Why labels aren't a run, by number and name. Steps are counted from 0.
 #[derive(Clone, Copy, PartialEq, Eq, Debug, Error)]
 pub enum ReplayFault {
-    /// The step with this index is of a thread that the program hasn't.
+    /// The step with this index, from 0, is of a thread that the program hasn't.
     #[error("step {0} is of a thread that the program lacks")]
     NoSuchThread(usize),
-    /// The step with this index executes an instruction of a thread that is at its end.
+    /// The step with this index, from 0, executes an instruction of a thread that is at its end.
     #[error("step {0} executes an instruction of a thread that has ended")]
     AtEnd(usize),
-    /// The step with this index flushes a thread that has no waiting store.
+    /// The step with this index, from 0, flushes a thread that has no waiting store.
     #[error("step {0} moves a store of a thread that has none waiting")]
     BufferEmpty(usize),
-    /// The step with this index executes an instruction that has to wait for an empty buffer.
+    /// The step with this index, from 0, executes an instruction that has to wait for an empty buffer.
     #[error("step {0} executes what waits until the thread's store buffer is empty")]
     FenceWaits(usize),
     /// Each of the steps, of which there are so many, is possible, but then a thread isn't at its end or

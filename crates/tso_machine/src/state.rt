@@ -7,7 +7,6 @@ ghost use Rattle.tso_program.specs.declared.action.Action.TheVariants.{Stop};
 ghost use Rattle.tso_machine.specs.Machine as machine;
 ghost use Rattle.tso_machine.specs.Machine.{Mode, HasEnded, outcome_at};
 ghost use Rattle.tso_machine.specs.Modes.{mode_of};
-ghost use Rattle.tso_program.specs.Fences.{gaps_in};
 ghost use Rattle.tso_machine.specs.Internal.Cores.{state_of, first_cores, Fits, passed_gap, gap_passed_by, core_at, Finished};
 ghost use Rattle.tso_machine.specs.Faults.{StepFaultIs, IsUnfinished};
 ghost use Rattle.gap_sets.specs.declared.gap_set.TheConstants.{MAX_GAPS};
@@ -144,7 +143,7 @@ impl State {
         if is_stop(action) {
             return Err(StepFault::Refused(Cause::AtEnd));
         }
-        let fenced_here = is_fenced(program, fenced, t, local.place);
+        let fenced_here = program.is_fenced(fenced, t, local.place);
         core.act(fenced_here, model, action, self.memory.as_mut_slice())
     }
 
@@ -165,16 +164,6 @@ impl State {
                 Ok(())
             }
         }
-    }
-}
-
-/// Whether there is a fenced gap before instruction k of thread t.
-fn is_fenced(program: &Program, fenced: &GapSet, t: u8, k: u8) -> bool
-    ensures { result ≡ gaps_in program.now fenced.now t k }
-{
-    match program.gap_number(t, k) {
-        Some(gap) => fenced.has(gap),
-        None => false,
     }
 }
 

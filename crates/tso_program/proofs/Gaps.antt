@@ -14,7 +14,7 @@ use Rattle.tso_program.specs.Listings.{code_of, gap_count, gap_number, gaps_of_t
 abbrev gaps_at : List Thread → ℕ → ℕ
 gaps_at threads t = length (code_of threads t) - 1
 
-count_first : (x : Thread) (xs : List Thread) → gap_count (x ∷ xs) ≡ (length x.code - 1) + gap_count xs
+pub count_first : (x : Thread) (xs : List Thread) → gap_count (x ∷ xs) ≡ (length x.code - 1) + gap_count xs
 count_first x xs = sum_by-cons gaps_of_thread x xs
 
 count_before : (threads : List Thread) (t u : ℕ) → t < u → gap_count (take t threads) + gaps_at threads t ≤ gap_count (take u threads)
@@ -32,10 +32,10 @@ count_within [] (suc t) = omega arith
 count_within (x ∷ xs) zero = omega (arith, count_first x xs)
 count_within (x ∷ xs) (suc t) = omega (arith, count_within xs t, count_first x xs, count_first x (take t xs))
 
-record IsGap (threads : List Thread) (t k gap : ℕ) : Type 0 where
-  low : 1 ≤ k
-  high : k < length (code_of threads t)
-  number : gap ≡ gap_count (take t threads) + (k - 1)
+pub record IsGap (threads : List Thread) (t k gap : ℕ) : Type 0 where
+  pub low : 1 ≤ k
+  pub high : k < length (code_of threads t)
+  pub number : gap ≡ gap_count (take t threads) + (k - 1)
 
 of_test : (a b : Bool) (n gap : ℕ) → (if a && b then Some n else None) ≡ Some gap → (a ≡ true) × (b ≡ true) × (n ≡ gap)
 of_test true true n gap e = (refl, refl, (let q : n ≡ gap = cc in q))
@@ -48,7 +48,7 @@ low_of k e = grind (arith, nat_tests)
 high_of : (k n : ℕ) → nat_lt k n ≡ true → k < n
 high_of k n e = grind (arith, nat_tests)
 
-gap_facts : (threads : List Thread) (t k gap : ℕ) → gap_number threads t k ≡ Some gap → IsGap threads t k gap
+pub gap_facts : (threads : List Thread) (t k gap : ℕ) → gap_number threads t k ≡ Some gap → IsGap threads t k gap
 gap_facts threads t k gap e =
     let f = of_test (nat_le 1 k) (nat_lt k (length (code_of threads t))) (gap_count (take t threads) + (k - 1)) gap e in
     record { low = low_of k f.0; high = high_of k (length (code_of threads t)) f.1; number = sym f.2 }

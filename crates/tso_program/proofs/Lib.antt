@@ -1,6 +1,7 @@
 pub mod Found
 pub mod WithinLimits
 pub mod Gaps
+pub mod GapPlaces
 pub mod Located
 pub mod FencedPlaces
 pub mod FencedLimits

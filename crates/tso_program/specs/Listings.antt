@@ -1,6 +1,7 @@
 -- Programs, their instructions and their gaps (Bouajjani et al., ESOP 2013: fences between the instructions of a thread).
-use Rattle.std.specs.Prelude.{ℕ, ◌+◌, ◌-◌, ◌&&◌, nat_lt, nat_le, false, List, [], length, take, slice_get, slice_index_or, Option, Some, None, is_some, sum_by, count_by, if◌then◌else◌}
+use Rattle.std.specs.Prelude.{ℕ, ◌+◌, ◌-◌, ◌&&◌, nat_lt, nat_le, false, List, [], ◌∷◌, ◌++◌, length, map, take, slice_get, slice_index_or, Option, Some, None, is_some, sum_by, count_by, if◌then◌else◌}
 use Rattle.std.specs.Option.{option_map_or}
+use Rattle.std.specs.List.{range_with_len}
 use Rattle.tso_program.specs.declared.instruction.Instr.{Instr}
 use Rattle.tso_program.specs.declared.listing.Thread.{Thread}
 use Rattle.tso_program.specs.declared.action.Local.{Local}
@@ -40,3 +41,12 @@ gap_count threads = sum_by gaps_of_thread threads
 abbrev pub gap_number : List Thread → ℕ → ℕ → Option ℕ
 gap_number threads t k =
     if nat_le 1 k && nat_lt k (length (code_of threads t)) then Some (gap_count (take t threads) + (k - 1)) else None
+
+-- the gaps of the threads from thread t on, each by its thread and the instruction that it lies before
+abbrev pub places_from : ℕ → List Thread → List (ℕ × ℕ)
+places_from t [] = []
+places_from t (thread ∷ threads) = map (λ k. (t, k)) (range_with_len 1 (gaps_of_thread thread)) ++ places_from (t + 1) threads
+
+-- the place of the gap of this number
+abbrev pub gap_place : List Thread → ℕ → Option (ℕ × ℕ)
+gap_place threads gap = slice_get (places_from 0 threads) gap

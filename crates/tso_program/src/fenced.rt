@@ -173,7 +173,7 @@ fn fenced_thread(
     let code = thread.code.as_slice();
     let mut fenced = Items::of(Vec::new(alloc));
     for (k, instr) in code.iter().enumerate() {
-        let is_fenced = is_fenced(program, gaps, t, k as u8);
+        let is_fenced = program.is_fenced(gaps, t, k as u8);
         let moved = moved(program, gaps, t, *instr);
         push_fenced(&mut fenced, is_fenced, moved)?;
     }
@@ -214,23 +214,13 @@ fn fenced_place(program: &Program, gaps: &GapSet, t: u8, k: u8) -> u8
 {
     let mut place = 0;
     for earlier in 0..k {
-        place += if is_fenced(program, gaps, t, earlier) {
+        place += if program.is_fenced(gaps, t, earlier) {
             2
         } else {
             1
         };
     }
     place
-}
-
-/// Whether the gap before instruction k of thread t is in the set.
-fn is_fenced(program: &Program, gaps: &GapSet, t: u8, k: u8) -> bool
-    ensures { result ≡ gaps_in program.now gaps.now t k }
-{
-    match program.gap_number(t, k) {
-        Some(gap) => gaps.has(gap),
-        None => false,
-    }
 }
 
 /// A program within its limits is, with its fences, within those of a fenced program.

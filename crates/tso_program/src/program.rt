@@ -4,7 +4,8 @@ ghost use Rattle.std.specs.FinSet as set;
 ghost use Rattle.tso_program.specs.declared.limits.TheConstants.{MAX_LOCATIONS};
 ghost use Rattle.gap_sets.specs.declared.gap_set.TheConstants.{MAX_GAPS};
 ghost use Rattle.tso_program.specs.Limits.{IsWithinLimits, first_fault};
-ghost use Rattle.tso_program.specs.Listings.{action, code_of, gap_count, gap_number, instr_at};
+ghost use Rattle.tso_program.specs.Listings.{action, code_of, gap_count, gap_number, gap_place, instr_at};
+ghost use Rattle.tso_program.specs.Fences.{gaps_in};
 ghost use Rattle.tso_program.specs.Actions.{IsLocated};
 ghost use Rattle.tso_program.specs.declared.limits.ProgramFault.{ProgramFault};
 ghost use Rattle.tso_program.specs.declared.limits.ProgramFault.TheVariants.{OutOfMemory};
@@ -99,6 +100,7 @@ impl Program {
 
     /// The thread and the instruction before which the gap of this number lies.
     pub fn gap_place(&self, gap: u8) -> Option<(u8, u8)>
+        ensures value { result ≡ gap_place self.now.threads gap }
         ensures number { IfSome result (λ place. gap_number self.now.threads place.0 place.1 ≡ Some gap) }
         ensures found { (t k : ℕ) → gap_number self.now.threads t k ≡ Some gap → result ≡ Some (t, k) }
     {
@@ -111,6 +113,16 @@ impl Program {
             left -= gaps;
         }
         None
+    }
+
+    /// Whether the gap before instruction k of thread t is in the set.
+    pub fn is_fenced(&self, gaps: &GapSet, t: u8, k: u8) -> bool
+        ensures { result ≡ gaps_in self.now gaps.now t k }
+    {
+        match self.gap_number(t, k) {
+            Some(gap) => gaps.has(gap),
+            None => false,
+        }
     }
 
     /// All gaps.

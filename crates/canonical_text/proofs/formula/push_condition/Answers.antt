@@ -6,7 +6,7 @@ use Rattle.conditions.specs.declared.token.Token.{Token}
 use Rattle.conditions.specs.Grammar.{Sign}
 use Rattle.conditions.specs.Tokens.{sign_of_token}
 use Rattle.canonical_text.specs.Spelling.{quantifier_pieces, sign_pieces}
-use Rattle.canonical_text.specs.Canonical.{sign_named, signs_named, word_of}
+use Rattle.canonical_text.specs.Canonical.{sign_named, signs_named}
 use Rattle.canonical_text.proofs.TextsGrow.{condition_grown}
 use Rattle.canonical_text.proofs.formula.push_condition.Goals as goal
 
@@ -15,11 +15,11 @@ returns c =
     let names = c.args.names.now.locations in
     let condition = c.args.condition.now in
     let written : List (Sign Atom) → List ℕ = λ ss. text_of (flat_map sign_pieces (map (sign_named names) ss)) in
-    let front : List ℕ = (c.args.out.now.items ++ text_of (quantifier_pieces (word_of condition.quantifier))) ++ 32 ∷ [] in
+    let front : List ℕ = (c.args.out.now.items ++ text_of (quantifier_pieces condition.quantifier)) ++ 32 ∷ [] in
     let begun = c.in_ok-push.ensures.items ∙ ap (λ (bs : List ℕ). bs ++ 32 ∷ []) c.in_ok-push_quantifier.ensures in
     c.in_ok-push-2.ensures.items
     ∙ ap (λ (bs : List ℕ). bs ++ 10 ∷ []) (c.in_ok-push_signs.ensures
     ∙ ap (λ (bs : List ℕ). bs ++ written (map sign_of_token c.as_slice.result.now)) begun
     ∙ ap (λ (ts : List Token). front ++ written (map sign_of_token ts)) c.as_slice.ensures.value
     ∙ ap (λ (ss : List (Sign Atom)). front ++ written ss) c.in_ok-signs.ensures)
-    ∙ condition_grown c.args.out.now.items (word_of condition.quantifier) (signs_named names condition.formula)
+    ∙ condition_grown c.args.out.now.items condition.quantifier (signs_named names condition.formula)

@@ -2,7 +2,7 @@ use Rattle.std.proofs.Common.{ℕ, List, ◌++◌, map, ap, ◌∙◌}
 use Rattle.text_tokens.specs.Pieces.{Piece, text_of}
 use Rattle.litmus_reader.specs.declared.observed.Observed.{Observed}
 use Rattle.canonical_text.specs.Spelling.{observed_pieces, condition_pieces}
-use Rattle.canonical_text.specs.Canonical.{place_named, signs_named, word_of}
+use Rattle.canonical_text.specs.Canonical.{place_named, signs_named}
 use Rattle.canonical_text.proofs.TextsGrow.{grown}
 use Rattle.canonical_text.proofs.writer.push_ending.Goals as goal
 
@@ -12,7 +12,7 @@ returns c =
     let out = c.args.out.now.items in
     let named = place_named litmus.names.locations in
     let shown : List Piece = observed_pieces (map named litmus.observed) in
-    let condition : List Piece = condition_pieces (word_of litmus.condition.quantifier) (signs_named litmus.names.locations litmus.condition.formula) in
+    let condition : List Piece = condition_pieces litmus.condition.quantifier (signs_named litmus.names.locations litmus.condition.formula) in
     c.in_ok-push_condition.ensures
     ∙ ap (λ (bs : List ℕ). bs ++ text_of condition) (c.in_ok-push_observed.ensures ∙ ap (λ (places : List Observed). out ++ text_of (observed_pieces (map named places))) c.as_slice.ensures)
     ∙ grown out shown condition

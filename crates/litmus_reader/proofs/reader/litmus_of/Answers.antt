@@ -27,6 +27,6 @@ returns c =
     let ending = c.args.ending.now in
     let observed = c.of.ensures ∙ c.in_ok-observed.ensures ∙ ap (λ (places : List Place). map (observed_of (byte_in c.in_ok-names.names.locations)) (map place_view places)) c.as_slice-2.ensures.value in (
       refl,
-      parts_read c.args.tokens.now body ending.signs.refusal (ending_view ending) _ c.requires c.in_ok-program.ensures.found c.in_ok-names.ensures c.quantifier.ensures c.in_ok-formula.ensures c.in_ok-program.ensures.made observed
+      parts_read c.args.tokens.now body ending.signs.refusal (ending_view ending) _ c.requires c.in_ok-program.ensures.found c.in_ok-names.ensures refl c.in_ok-formula.ensures c.in_ok-program.ensures.made observed
           (c.of-2.ensures ∙ c.in_ok-labels.ensures),
     )

@@ -1,5 +1,5 @@
-use Rattle.report.proofs.GapPlaces.{printed_places}
+use Rattle.tso_program.proofs.GapPlaces.{places_are_numbered}
 use Rattle.report.proofs.laws.printed_places_are_the_gaps.Goals as goal
 
 pub returns : goal.returns
-returns c = printed_places
+returns c = places_are_numbered

@@ -1,15 +1,13 @@
 -- The gaps of a program, listed in the order of their numbers.
 use Rattle.std.proofs.Common.{◌≡◌, ℕ, zero, suc, ◌+◌, ◌-◌, ◌<◌, ◌≤◌, Bool, true, false, ◌&&◌, List, [], ◌∷◌, ◌++◌, length, take, get_or, Option, Some, None, refl, sym, ap, subst, ◌∙◌, arith, inl, inr}
-use Rattle.std.specs.Prelude.{map, slice_get, nat_lt, nat_le, IfSome, if◌then◌else◌}
+use Rattle.std.specs.Prelude.{◌↔◌, map, slice_get, nat_lt, nat_le, IfSome, if◌then◌else◌}
 use Rattle.std.specs.List.{range_with_len}
 use Rattle.std.proofs.lemmas.Bool.{cases_lt}
-use Rattle.std.proofs.lemmas.Bool.Decides.{nat_tests}
 use Rattle.std.proofs.lemmas.Option.{slice_get-get_or}
 use Rattle.std.proofs.lemmas.List.FromFn.{length-map-range_with_len, get_or-map-range_with_len}
-use Rattle.std.proofs.lemmas.List.Sums.{sum_by-cons}
 use Rattle.tso_program.specs.declared.listing.Thread.{Thread}
-use Rattle.tso_program.specs.Listings.{code_of, gap_count, gap_number, gaps_of_thread}
-use Rattle.report.specs.Places.{places_from, gap_place, PrintedPlacesAreTheGaps}
+use Rattle.tso_program.specs.Listings.{code_of, gap_count, gap_number, gap_place, gaps_of_thread, places_from}
+use Rattle.tso_program.proofs.Gaps.{count_first, gap_facts, gap_is}
 
 in_front : {X : Type 0} (xs ys : List X) (i : ℕ) → i < length xs → slice_get (xs ++ ys) i ≡ slice_get xs i
 in_front [] ys i h = absurd (omega arith)
@@ -19,9 +17,6 @@ in_front (x ∷ xs) ys (suc i) h = in_front xs ys i (omega arith)
 behind : {X : Type 0} (xs ys : List X) (i : ℕ) → slice_get (xs ++ ys) (length xs + i) ≡ slice_get ys i
 behind [] ys i = ap (slice_get ys) (let e : 0 + i ≡ i = omega arith in e)
 behind (x ∷ xs) ys i = ap (slice_get (x ∷ (xs ++ ys))) (let e : suc (length xs) + i ≡ suc (length xs + i) = omega arith in e) ∙ behind xs ys i
-
-count_first : (x : Thread) (xs : List Thread) → gap_count (x ∷ xs) ≡ gaps_of_thread x + gap_count xs
-count_first x xs = sum_by-cons gaps_of_thread x xs
 
 -- a number is that of a gap, which is listed there, or it is past all gaps
 data IsListed (t : ℕ) (threads : List Thread) (gap : ℕ) : Type 0 where
@@ -40,25 +35,7 @@ later x xs u k gap e =
     ap (λ n. if there then Some n else None) sum ∙ shifted there (gaps_of_thread x) (gap_count (take u xs) + (k - 1)) gap e
 
 first_listed : (x : Thread) (xs : List Thread) (gap : ℕ) → gap < gaps_of_thread x → gap_number (x ∷ xs) 0 (gap + 1) ≡ Some gap
-first_listed x xs gap h =
-    let low : nat_le 1 (gap + 1) ≡ true = grind (arith, nat_tests) in
-    let high : nat_lt (gap + 1) (length x.code) ≡ true = grind (arith, nat_tests) in
-    let number : gap_count [] + (gap + 1 - 1) ≡ gap = omega arith in
-    rw (low, high) (ap Some number)
-
-record Passed (k len n gap : ℕ) : Type 0 where
-  low : 1 ≤ k
-  high : k < len
-  number : n ≡ gap
-
-tested : (a b : Bool) (k len n gap : ℕ) → (a ≡ true → 1 ≤ k) → (b ≡ true → k < len) → (if a && b then Some n else None) ≡ Some gap → Passed k len n gap
-tested true true k len n gap low high e = record { low = low refl; high = high refl; number = cc }
-tested true false k len n gap low high e = absurd cc
-tested false b k len n gap low high e = absurd cc
-
--- what a number says of its gap
-passed : (threads : List Thread) (u k gap : ℕ) → gap_number threads u k ≡ Some gap → Passed k (length (code_of threads u)) (gap_count (take u threads) + (k - 1)) gap
-passed threads u k gap e = tested (nat_le 1 k) (nat_lt k (length (code_of threads u))) k _ _ gap (λ e. grind (arith, nat_tests)) (λ e. grind (arith, nat_tests)) e
+first_listed x xs gap h = gap_is (x ∷ xs) 0 (gap + 1) gap (omega arith) (omega arith) (omega arith)
 
 earlier : (b : Bool) (m n gap : ℕ) → m ≤ gap → (if b then Some (m + n) else None) ≡ Some gap → (if b then Some n else None) ≡ Some (gap - m)
 earlier true m n gap h e = let q : m + n ≡ gap = cc in ap Some (let k : n ≡ gap - m = omega arith in k)
@@ -68,7 +45,7 @@ earlier false m n gap h e = absurd cc
 not_here : (x : Thread) (xs : List Thread) (gap : ℕ) → gaps_of_thread x ≤ gap → ((u k : ℕ) → gap_number xs u k ≡ Some (gap - gaps_of_thread x) → ⊥)
     → (u k : ℕ) → gap_number (x ∷ xs) u k ≡ Some gap → ⊥
 not_here x xs gap h none zero k e =
-    let p = passed (x ∷ xs) 0 k gap e in
+    let p = gap_facts (x ∷ xs) 0 k gap e in
     let low = p.low in let high = p.high in let number = p.number in
     omega arith
 not_here x xs gap h none (suc u) k e =
@@ -121,7 +98,7 @@ onward t x xs gap h (past place none) =
 
 none_of_none : (gap : ℕ) → (u k : ℕ) → gap_number [] u k ≡ Some gap → ⊥
 none_of_none gap u k e =
-    let high = (passed [] u k gap e).high in
+    let high = (gap_facts [] u k gap e).high in
     omega arith
 
 -- each number is listed, or past all gaps
@@ -133,28 +110,17 @@ listed t (x ∷ xs) gap =
       | inr h ↦ onward t x xs gap h (listed (t + 1) xs (gap - gaps_of_thread x))
     ]
 
--- what is found by a gap's number is where it is listed
-pub same_place : (threads : List Thread) (gap : ℕ) (found : Option (ℕ × ℕ)) → IfSome found (λ place. gap_number threads place.0 place.1 ≡ Some gap)
-    → ((u k : ℕ) → gap_number threads u k ≡ Some gap → found ≡ Some (u, k)) → found ≡ gap_place threads gap
-same_place threads gap found number only = go (listed 0 threads gap) found number only
-  where
-    go : IsListed 0 threads gap → (found : Option (ℕ × ℕ)) → IfSome found (λ place. gap_number threads place.0 place.1 ≡ Some gap)
-        → ((u k : ℕ) → gap_number threads u k ≡ Some gap → found ≡ Some (u, k)) → found ≡ gap_place threads gap
-    go (there u k place is) found number only = only u k is ∙ sym (place ∙ ap (λ v. Some (v, k)) (let e : 0 + u ≡ u = omega arith in e))
-    go (past place none) None number only = sym place
-    go (past place none) (Some (u, k)) number only = absurd (none u k number)
-
 -- the gap of a number is listed there
 found_place : (s : ℕ) (threads : List Thread) (t k gap : ℕ) → gap_number threads t k ≡ Some gap → slice_get (places_from s threads) gap ≡ Some (s + t, k)
 found_place s [] t k gap e = absurd (none_of_none gap t k e)
 found_place s (x ∷ xs) zero k gap e =
-    let p = passed (x ∷ xs) 0 k gap e in
+    let p = gap_facts (x ∷ xs) 0 k gap e in
     let low = p.low in let high = p.high in let number = p.number in
     let within : gap < gaps_of_thread x = omega arith in
     let next : gap + 1 ≡ k = omega arith in
     here s x _ (places_from (s + 1) xs) gap (first_places s x) within ∙ ap (λ k. Some (s + 0, k)) next
 found_place s (x ∷ xs) (suc t) k gap e =
-    let number = (passed (x ∷ xs) (suc t) k gap e).number in
+    let number = (gap_facts (x ∷ xs) (suc t) k gap e).number in
     let past_first : gaps_of_thread x ≤ gap = omega (arith, count_first x (take t xs)) in
     let there : Bool = nat_le 1 k && nat_lt k (length (code_of xs t)) in
     let sum : gaps_of_thread x + (gap_count (take t xs) + (k - 1)) ≡ gap_count (x ∷ take t xs) + (k - 1) = omega (arith, count_first x (take t xs)) in
@@ -174,8 +140,17 @@ place_number threads gap t k e = subst (HasNumber threads gap) e (go (listed 0 t
     go (there u k place is) = subst (HasNumber threads gap) (sym place) (subst (λ v. gap_number threads v k ≡ Some gap) (let q : u ≡ 0 + u = omega arith in q) is)
     go (past place none) = subst (HasNumber threads gap) (sym place) tt
 
-pub printed_places : PrintedPlacesAreTheGaps
-printed_places threads gap t k = (
+-- a gap lies where its number is that of the place
+pub places_are_numbered : (threads : List Thread) (gap t k : ℕ) → (gap_place threads gap ≡ Some (t, k)) ↔ (gap_number threads t k ≡ Some gap)
+places_are_numbered threads gap t k = (
   place_number threads gap t k,
   λ e. found_place 0 threads t k gap e ∙ ap (λ u. Some (u, k)) (let q : 0 + t ≡ t = omega arith in q),
 )
+
+-- a number of no gap has no place
+pub no_place : (threads : List Thread) (gap : ℕ) → ((t k : ℕ) → gap_number threads t k ≡ Some gap → ⊥) → gap_place threads gap ≡ None
+no_place threads gap none = go (gap_place threads gap) refl
+  where
+    go : (found : Option (ℕ × ℕ)) → gap_place threads gap ≡ found → gap_place threads gap ≡ None
+    go None e = e
+    go (Some (t, k)) e = absurd (none t k (place_number threads gap t k e))
