@@ -3,6 +3,8 @@ pub mod Machines
 pub mod Refusals
 pub mod TextAnswers
 pub mod Replays
+pub mod Traces
 pub mod Outcomes
 pub mod Placements
+pub mod Whys
 pub mod Answers

@@ -9,6 +9,8 @@ ghost use Rattle.fencer.specs.Answers.{certificate_of, IsAnswer, IsReply, IsOutp
 use crate::outcomes::run_outcomes;
 use crate::place::run_place;
 use crate::replays::run_replay;
+use crate::traces::run_trace;
+use crate::whys::run_why;
 use clap::Error;
 use clap::error::ErrorKind;
 use fencer_words::{Job, read_words};
@@ -58,6 +60,19 @@ fn run_job<T: Threads + Sync, U: Wait + Sync, S: WritableFileStore, R: Read, W: 
             input,
             output,
         ),
+        Job::Trace {
+            model,
+            litmus,
+            labels,
+        } => run_trace(
+            alloc,
+            &*files,
+            *model,
+            litmus.as_str(),
+            labels.as_slice(),
+            input,
+            output,
+        ),
         Job::Outcomes {
             model,
             observed,
@@ -72,6 +87,7 @@ fn run_job<T: Threads + Sync, U: Wait + Sync, S: WritableFileStore, R: Read, W: 
             output,
         ),
         Job::Place(asked) => run_place(rt, wait, alloc, files, asked, input, output),
+        Job::Why(asked) => run_why(rt, wait, alloc, &*files, asked, input, output),
     }
 }
 

@@ -29,7 +29,7 @@ fn run_text(alloc: Global, words: &[String]) -> Result<Vec<u8>, AllocError>
 }
 
 /// The steps that label words spell.
-fn steps_of(alloc: Global, words: &[String]) -> Result<Vec<Label>, RunFault>
+pub(crate) fn steps_of(alloc: Global, words: &[String]) -> Result<Vec<Label>, RunFault>
     ensures found { IfOk result (λ steps. IsRunText (label_words_text words.now) steps.items) }
     ensures err { IfErr result (RunFaultIs (label_words_text words.now)) }
 {
@@ -40,7 +40,7 @@ fn steps_of(alloc: Global, words: &[String]) -> Result<Vec<Label>, RunFault>
 }
 
 /// The outcome line and the passed line.
-fn ended_lines(
+pub(crate) fn ended_lines(
     alloc: Global,
     litmus: &Litmus<Program>,
     ended: &Ended,

@@ -26,6 +26,12 @@ pub enum Job {
         litmus: String,
         labels: Vec<String>,
     },
+    /// Show the steps of labels on the program of a litmus file as a table.
+    Trace {
+        model: Model,
+        litmus: String,
+        labels: Vec<String>,
+    },
     /// List the outcomes of the program of a litmus file.
     Outcomes {
         model: Model,
@@ -35,4 +41,6 @@ pub enum Job {
     },
     /// Place fences in the program of a litmus file.
     Place(Placement),
+    /// Show for each fence of a placement, which writes no certificate, why it is needed.
+    Why(Placement),
 }

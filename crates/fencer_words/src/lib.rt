@@ -6,6 +6,8 @@ mod job;
 mod outcomes;
 mod place;
 mod replay;
+mod trace;
+mod why;
 mod words;
 
 pub use job::{Job, Placement};

@@ -13,7 +13,7 @@ use std::alloc::{AllocError, Global};
 use tso_program::MAX_WORKERS;
 
 /// `--NAME FILE`
-fn file_arg<'a>(alloc: Global, name: &'a str) -> Arg<'a>
+pub fn file_arg<'a>(alloc: Global, name: &'a str) -> Arg<'a>
     ensures rule { rule_of result ≡ file_rule name.entry.now }
     ensures own { result.global ≡ false }
 {
@@ -21,7 +21,7 @@ fn file_arg<'a>(alloc: Global, name: &'a str) -> Arg<'a>
 }
 
 /// `--workers N`
-fn workers_arg<'a>(alloc: Global) -> Arg<'a>
+pub fn workers_arg<'a>(alloc: Global) -> Arg<'a>
     ensures rule { rule_of result ≡ workers_rule }
     ensures own { result.global ≡ false }
 {
@@ -43,7 +43,7 @@ pub fn place_command<'a>(alloc: Global) -> Result<Command<'a>, AllocError>
 }
 
 /// The number that a text names, among those of workers.
-fn workers_of(text: &str) -> u8
+pub fn workers_of(text: &str) -> u8
     ensures { AreWorkers text.now result }
 {
     match text.parse::<u8>() {

@@ -11,7 +11,7 @@ use clap::{Arg, ArgAction, ArgMatches, Command};
 use std::alloc::{AllocError, Global};
 
 /// `[LABEL..]`
-fn label_arg<'a>(alloc: Global) -> Arg<'a>
+pub fn label_arg<'a>(alloc: Global) -> Arg<'a>
     ensures rule { rule_of result ≡ label_rule }
     ensures own { result.global ≡ false }
 {
@@ -39,7 +39,8 @@ fn owned(alloc: Global, words: &[&str]) -> Result<Vec<String>, AllocError>
     Ok(all)
 }
 
-fn labels_in(alloc: Global, matches: &ArgMatches<'_>) -> Result<Vec<String>, AllocError>
+/// The labels that are given.
+pub fn labels_in(alloc: Global, matches: &ArgMatches<'_>) -> Result<Vec<String>, AllocError>
     ensures { IfOk result (λ labels. map string_bytes labels.items ≡ texts_in (codes "label") (rows_of (found_of matches.now))) }
 {
     match values_of(matches, "label") {

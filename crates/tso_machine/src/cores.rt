@@ -6,11 +6,11 @@ ghost use Rattle.tso_machine.specs.Machine as machine;
 ghost use Rattle.tso_machine.specs.Internal.Cores.{after_buffered, after_direct, after_action, ExecFaultIs};
 ghost use Rattle.tso_machine.specs.Faults.{waits as does_wait};
 
-use crate::Pending;
+use crate::{Pending, ThreadState};
 use crate::label::{Cause, Model, StepFault};
 use std::alloc::{AllocError, Global};
 use std::marker;
-use tso_program::{Action, Local};
+use tso_program::{Action, Items, Local};
 
 /// A thread, and its stores that wait.
 #[derive(Drop)]
@@ -41,6 +41,17 @@ impl Core {
             local,
             buffer: Vec::new(alloc),
         }
+    }
+
+    /// An equal thread, as it is shown.
+    pub(crate) fn thread(&self, alloc: Global) -> Result<ThreadState, AllocError>
+        ensures { IfOk result (λ thread. thread ≡ record { local = self.now.local; waiting = self.now.buffer }) }
+    {
+        let waiting = Vec::from_slice(alloc, self.buffer.as_slice())?;
+        Ok(ThreadState {
+            local: self.local,
+            waiting: Items::of(waiting),
+        })
     }
 
     pub(crate) fn local(&self) -> Local

@@ -7,6 +7,7 @@ mod laws;
 mod replaying;
 mod run_text;
 mod state;
+mod stepping;
 
 pub use label::{Cause, Label, Model, Pending};
 pub use laws::{
@@ -15,3 +16,4 @@ pub use laws::{
 };
 pub use replaying::{Ended, ReplayFault, replay};
 pub use run_text::{RunFault, label_of, read_run, write_run};
+pub use stepping::{Step, ThreadState, steps};

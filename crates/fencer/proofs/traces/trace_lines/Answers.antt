@@ -1,0 +1,18 @@
+use Rattle.fencer.proofs.traces.trace_lines.Goals as goal
+
+pub returns-in-Ok-clause-run : goal.returns-in-Ok-clause-run
+returns-in-Ok-clause-run c = record {
+  ending = _;
+  run = record {
+    litmus = c.in_ok-litmus.litmus;
+    spelled = c.in_ok-litmus.ensures.found;
+    steps = c.in_ok-labels.labels.items;
+    read = c.in_ok-labels.ensures.found;
+    outcome = c.in_ok-ended.ended.outcome;
+    run = rw (c.empty.ensures, c.deref.ensures.value) at c.in_ok-ended.ensures.run;
+    passed = c.in_ok-ended.ended.passed;
+    passes = rw (c.empty.ensures, c.deref.ensures.value) at c.in_ok-ended.ensures.passed;
+    printed = refl;
+  };
+  printed = c.in-Ok.ensures;
+}

@@ -1,0 +1,74 @@
+//! Traces: the table of a run with its lines, or why there is no run.
+
+ghost use Rattle.std.specs.Prelude.{◌≡◌, ◌++◌, IfOk, IfErr};
+ghost use Rattle.tso_program.specs.declared.shown.Shown.TheVariants.{All};
+ghost use Rattle.report.specs.Answers.{outcome_line, passed_line};
+ghost use Rattle.program_streams.specs.Streams.{Prints};
+ghost use Rattle.fencer.specs.Replays.{label_words_text, HasNoRun};
+ghost use Rattle.fencer.specs.Traces.{PrintsTrace, IsTrace, EndsSo};
+
+use crate::refusals::{Refusal, print_answer};
+use crate::replays::{ended_lines, steps_of};
+use gap_sets::GapSet;
+use litmus_text::{Litmus, read_litmus};
+use program_streams::{FileStore, TEXT_LIMIT, file_line, named_bytes, print};
+use run_table::run_table;
+use std::alloc::{AllocError, Global};
+use std::io::{Read, Write};
+use tso_machine::{Ended, Model, ReplayFault, Step, replay, steps};
+use tso_program::Program;
+
+/// The table, the outcome line and the passed line.
+fn traced_lines(
+    alloc: Global,
+    litmus: &Litmus<Program>,
+    steps: &[Step],
+    ended: &Ended,
+) -> Result<Vec<u8>, AllocError>
+    ensures { IfOk result (λ lines. EndsSo lines.items (outcome_line litmus.now.names All ended.now.outcome ++ passed_line litmus.now.program ended.now.passed)) }
+{
+    let mut lines = run_table(alloc, litmus, steps)?;
+    let ending = ended_lines(alloc, litmus, ended)?;
+    lines.extend_from_slice(&ending)?;
+    Ok(lines)
+}
+
+/// The lines of the run that label words spell in the program that a text spells. The text is judged
+/// before the labels, and these before the replay.
+fn trace_lines(
+    alloc: Global,
+    bytes: &[u8],
+    model: Model,
+    labels: &[String],
+) -> Result<Vec<u8>, Refusal>
+    ensures run { IfOk result (λ lines. PrintsTrace model (label_words_text labels.now) bytes.now lines.items) }
+    ensures refused { IfErr result (HasNoRun model (label_words_text labels.now) bytes.now) }
+{
+    let litmus = read_litmus(alloc, bytes)?;
+    let labels = steps_of(alloc, labels)?;
+    let ended = replay(alloc, &litmus.program, &GapSet::empty(), model, &labels)?;
+    let steps = steps(alloc, &litmus.program, &GapSet::empty(), model, &labels)?;
+    match traced_lines(alloc, &litmus, &steps, &ended) {
+        Ok(lines) => Ok(lines),
+        Err(_) => Err(Refusal::Replay(ReplayFault::OutOfMemory)),
+    }
+}
+
+/// Shows the steps of label words on the program of a litmus file as a table, prints the answer, and returns the
+/// status.
+pub fn run_trace<S: FileStore, R: Read, W: Write>(
+    alloc: Global,
+    files: &S,
+    model: Model,
+    litmus: &str,
+    labels: &[String],
+    input: &mut R,
+    output: &mut W,
+) -> u8
+    ensures { Prints (IsTrace model (label_words_text labels.now) litmus.now (R.remaining input.old) (S.held files.now)) (W.contents output.old) (W.contents output.new) result }
+{
+    match named_bytes(alloc, files, litmus, input, TEXT_LIMIT) {
+        Ok(bytes) => print_answer(alloc, trace_lines(alloc, &bytes, model, labels), output),
+        Err(fault) => print(output, file_line(alloc, fault), 1),
+    }
+}
