@@ -1,5 +1,5 @@
 //! One thread of the machine.
-ghost use Rattle.std.specs.Prelude.{◌≡◌, ◌<◌, ℕ, length, OnOk, false, [], ◌++◌, ◌∷◌, option_to_list, ◌+◌, IfErr, IfNone, Some, slice_index};
+ghost use Rattle.std.specs.Prelude.{◌≡◌, ◌<◌, ℕ, length, OnOk, false, [], ◌++◌, ◌∷◌, option_to_list, ◌+◌, IfErr, IfNone, IfOk, Some, slice_index};
 ghost use Rattle.tso_program.specs.Actions.{IsLocated};
 ghost use Rattle.tso_program.specs.declared.action.Action.TheVariants.{Stop};
 ghost use Rattle.tso_machine.specs.Machine as machine;

@@ -82,11 +82,10 @@ pub fn steps(
     let mut steps = Vec::new(alloc);
     for (n, label) in labels.iter().enumerate() {
         match make_step(alloc, program, fenced, model, &mut state, *label) {
-            Ok(step) => {
-                if steps.push(step).is_err() {
-                    return Err(ReplayFault::OutOfMemory);
-                }
-            }
+            Ok(step) => match steps.push(step) {
+                Ok(()) => {}
+                Err(_) => return Err(ReplayFault::OutOfMemory),
+            },
             Err(fault) => return Err(fault_at(fault, n)),
         }
     }

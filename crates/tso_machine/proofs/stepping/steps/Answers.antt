@@ -13,7 +13,7 @@ use Rattle.tso_machine.proofs.stepping.steps.Goals as goal
 pub loop-n-init : goal.loop-n-init
 loop-n-init c = record {
   reached = ap Some (sym (state_of_first c.args.program.now) ∙ ap state_of (sym c.in-Ok.ensures));
-  made = tt;
+  made = rw c.new-steps.ensures.items tt;
   fits = subst (λ (s : Cores). Fits c.args.program.now s) (sym c.in-Ok.ensures) (first_fits c.args.program.now);
 }
 
@@ -24,3 +24,13 @@ make_step-requires-clause-direct c =
 pub returns-in-Err-clause-fault : goal.returns-in-Err-clause-fault
 returns-in-Err-clause-fault c =
     rw c.fault_at.ensures (faulted c.args.program.now (mode_of c.args.program.now c.args.fenced.now c.args.model) c.args.labels.now c.loop-n.n (Exec 0) (state_of c.loop-n.state) c.in-Err.fault (omega arith) c.loop-n.invariant.reached c.in-Err.ensures.err)
+
+pub loop-n-preserved : goal.loop-n-preserved
+loop-n-preserved c =
+    let p : Listing = c.args.program.now in
+    let mode : Mode = mode_of p c.args.fenced.now c.args.model in
+    record {
+      reached = run_on p mode (start p) c.args.labels.now c.loop-n.n (Exec 0) (state_of c.loop-n.state) (state_of c.make_step.new.state) (omega arith) c.loop-n.invariant.reached c.in-Ok-make_step.ensures.made;
+      made = ?;
+      fits = c.in-Ok-make_step.ensures.fits;
+    }
