@@ -6,8 +6,8 @@ ghost use Rattle.tso_machine.specs.Machine as machine;
 ghost use Rattle.tso_machine.specs.Internal.Cores.{after_buffered, after_direct, after_action, ExecFaultIs};
 ghost use Rattle.tso_machine.specs.Faults.{waits as does_wait};
 
-use crate::{Pending, ThreadState};
 use crate::label::{Cause, Model, StepFault};
+use crate::{Pending, ThreadState};
 use std::alloc::{AllocError, Global};
 use std::marker;
 use tso_program::{Action, Items, Local};

@@ -31,6 +31,7 @@ loop-n-preserved c =
     let mode : Mode = mode_of p c.args.fenced.now c.args.model in
     record {
       reached = run_on p mode (start p) c.args.labels.now c.loop-n.n (Exec 0) (state_of c.loop-n.state) (state_of c.make_step.new.state) (omega arith) c.loop-n.invariant.reached c.in-Ok-make_step.ensures.made;
-      made = ?;
+      made = rw c.in-Ok-push.ensures.items (steps_on p mode (start p) c.args.labels.now c.loop-n.n (Exec 0) c.loop-n.steps.items (state_of c.loop-n.state) (state_of c.make_step.new.state) c.in-Ok-make_step.step (omega arith)
+          c.loop-n.invariant.made c.loop-n.invariant.reached c.in-Ok-make_step.ensures.made c.in-Ok-make_step.ensures.step);
       fits = c.in-Ok-make_step.ensures.fits;
     }
