@@ -5,7 +5,7 @@ ghost use Rattle.tso_program.specs.declared.shown.Shown.TheVariants.{All};
 ghost use Rattle.report.specs.Answers.{outcome_line, passed_line};
 ghost use Rattle.program_streams.specs.Streams.{Prints};
 ghost use Rattle.fencer.specs.Replays.{label_words_text, HasNoRun};
-ghost use Rattle.fencer.specs.Traces.{PrintsTrace, IsTrace, EndsSo};
+ghost use Rattle.fencer.specs.Traces.{PrintsTrace, IsTrace};
 
 use crate::refusals::{Refusal, print_answer};
 use crate::replays::{ended_lines, steps_of};
@@ -15,19 +15,19 @@ use program_streams::{FileStore, TEXT_LIMIT, file_line, named_bytes, print};
 use run_table::run_table;
 use std::alloc::{AllocError, Global};
 use std::io::{Read, Write};
-use tso_machine::{Ended, Model, ReplayFault, Step, replay, steps};
+use tso_machine::{Ended, Model, ReplayFault, replay, steps};
 use tso_program::Program;
 
-/// The table, the outcome line and the passed line.
+/// A table, the outcome line and the passed line.
 fn traced_lines(
     alloc: Global,
+    table: Vec<u8>,
     litmus: &Litmus<Program>,
-    steps: &[Step],
     ended: &Ended,
 ) -> Result<Vec<u8>, AllocError>
-    ensures { IfOk result (λ lines. EndsSo lines.items (outcome_line litmus.now.names All ended.now.outcome ++ passed_line litmus.now.program ended.now.passed)) }
+    ensures { IfOk result (λ lines. lines.items ≡ table.items ++ (outcome_line litmus.now.names All ended.now.outcome ++ passed_line litmus.now.program ended.now.passed)) }
 {
-    let mut lines = run_table(alloc, litmus, steps)?;
+    let mut lines = table;
     let ending = ended_lines(alloc, litmus, ended)?;
     lines.extend_from_slice(&ending)?;
     Ok(lines)
@@ -48,7 +48,10 @@ fn trace_lines(
     let labels = steps_of(alloc, labels)?;
     let ended = replay(alloc, &litmus.program, &GapSet::empty(), model, &labels)?;
     let steps = steps(alloc, &litmus.program, &GapSet::empty(), model, &labels)?;
-    match traced_lines(alloc, &litmus, &steps, &ended) {
+    let Ok(table) = run_table(alloc, &litmus, &steps) else {
+        return Err(Refusal::Replay(ReplayFault::OutOfMemory));
+    };
+    match traced_lines(alloc, table, &litmus, &ended) {
         Ok(lines) => Ok(lines),
         Err(_) => Err(Refusal::Replay(ReplayFault::OutOfMemory)),
     }

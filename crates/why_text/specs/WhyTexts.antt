@@ -55,10 +55,20 @@ AreReasons source shown gaps [] (text ∷ texts) = ⊥
 AreReasons source shown gaps (gap ∷ more) [] = ⊥
 AreReasons source shown gaps (gap ∷ more) (text ∷ texts) = IsReason source shown gaps gap text × AreReasons source shown gaps more texts
 
+-- the text has one for each of these gaps, in order
+abbrev pub TellsReasons : Litmus Listing → Shown → SetOfGaps → List ℕ → List ℕ → Type 0
+TellsReasons source shown gaps numbers text = (texts : List (List ℕ)) × AreReasons source shown gaps numbers texts × (text ≡ concat texts)
+
 -- what is said of an answer: why each of its gaps is needed, or that none is
 abbrev pub reasons_text : List (List ℕ) → List ℕ
 reasons_text [] = all_sequential
 reasons_text (text ∷ texts) = text ++ concat texts
+
+-- the text has the line, and why each of the gaps is needed
+pub record TellsWhy (source : Litmus Listing) (shown : Shown) (gaps : SetOfGaps) (line text : List ℕ) : Type 0 where
+  pub reasons : List (List ℕ)
+  pub each : AreReasons source shown gaps (numbers_of_set gaps) reasons
+  pub printed : text ≡ line ++ reasons_text reasons
 
 -- What the text tells: the litmus text stands for this program, its gaps have these costs, these gaps are the answer; the
 -- text has the line of the answer, and why each gap of it is needed.
@@ -69,6 +79,4 @@ pub record IsWhyText (litmus : List ℕ) (costs : Option (List ℕ)) (observed :
   pub given : AreGiven source.program costs gap_costs
   pub gaps : SetOfGaps
   pub answer : IsTheAnswer (question_of source observed) gap_costs gaps
-  pub reasons : List (List ℕ)
-  pub each : AreReasons source (shown_as source observed) gaps (numbers_of_set gaps) reasons
-  pub printed : text ≡ answer_line source.program (shown_as source observed) gaps (total gap_costs gaps) ++ reasons_text reasons
+  pub told : TellsWhy source (shown_as source observed) gaps (answer_line source.program (shown_as source observed) gaps (total gap_costs gaps)) text

@@ -1,8 +1,11 @@
+use Rattle.std.proofs.Common.{◌++◌, refl}
+use Rattle.tso_program.specs.declared.shown.Shown.TheVariants.{All}
+use Rattle.report.specs.Answers.{outcome_line, passed_line}
 use Rattle.fencer.proofs.traces.trace_lines.Goals as goal
 
 pub returns-in-Ok-clause-run : goal.returns-in-Ok-clause-run
 returns-in-Ok-clause-run c = record {
-  ending = _;
+  ending = outcome_line c.in_ok-litmus.litmus.names All c.in_ok-ended.ended.outcome ++ passed_line c.in_ok-litmus.litmus.program c.in_ok-ended.ended.passed;
   run = record {
     litmus = c.in_ok-litmus.litmus;
     spelled = c.in_ok-litmus.ensures.found;
@@ -14,5 +17,5 @@ returns-in-Ok-clause-run c = record {
     passes = rw (c.empty.ensures, c.deref.ensures.value) at c.in_ok-ended.ensures.passed;
     printed = refl;
   };
-  printed = c.in-Ok.ensures;
+  printed = (c.in_default.table.items, c.in-Ok.ensures);
 }
