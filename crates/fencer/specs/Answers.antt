@@ -21,8 +21,8 @@ use Rattle.fencer.specs.Whys.{IsExplained}
 
 -- the answer to a job
 abbrev pub IsAnswer : Job → Option (List ℕ) → (List ℕ → Option (List ℕ)) → (List ℕ → Option (List ℕ)) → ℕ → List ℕ → Type 0
-IsAnswer (Replay model litmus labels) input files left = IsReplay model (label_words_text labels.items) (string_bytes litmus) input files
-IsAnswer (Trace model litmus labels) input files left = IsTrace model (label_words_text labels.items) (string_bytes litmus) input files
+IsAnswer (Replay asked) input files left = IsReplay asked.model (label_words_text asked.labels.items) (string_bytes asked.litmus) input files
+IsAnswer (Trace asked) input files left = IsTrace asked.model (label_words_text asked.labels.items) (string_bytes asked.litmus) input files
 IsAnswer (Outcomes model observed litmus) input files left = AreOutcomes model observed (string_bytes litmus) input files
 IsAnswer (Place asked) input files left = IsPlaced asked input files left
 IsAnswer (Why asked) input files left = IsExplained asked input files
@@ -50,8 +50,8 @@ IsOutput (word ∷ words) input files left = IsReply (word ∷ words) input file
 
 -- the file to which a job writes a certificate
 abbrev pub certificate_of : Job → Option (List ℕ)
-certificate_of (Replay model litmus labels) = None
-certificate_of (Trace model litmus labels) = None
+certificate_of (Replay asked) = None
+certificate_of (Trace asked) = None
 certificate_of (Outcomes model observed litmus) = None
 certificate_of (Place asked) = name_of asked.certificate
 certificate_of (Why asked) = None

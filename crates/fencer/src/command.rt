@@ -47,32 +47,8 @@ fn run_job<T: Threads + Sync, U: Wait + Sync, S: WritableFileStore, R: Read, W: 
     ensures others { KeepFiles (certificate_of job.now) (S.held files.old) (S.held files.new) }
 {
     match job {
-        Job::Replay {
-            model,
-            litmus,
-            labels,
-        } => run_replay(
-            alloc,
-            &*files,
-            *model,
-            litmus.as_str(),
-            labels.as_slice(),
-            input,
-            output,
-        ),
-        Job::Trace {
-            model,
-            litmus,
-            labels,
-        } => run_trace(
-            alloc,
-            &*files,
-            *model,
-            litmus.as_str(),
-            labels.as_slice(),
-            input,
-            output,
-        ),
+        Job::Replay(asked) => run_replay(alloc, &*files, asked, input, output),
+        Job::Trace(asked) => run_trace(alloc, &*files, asked, input, output),
         Job::Outcomes {
             model,
             observed,

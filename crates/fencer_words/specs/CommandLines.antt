@@ -13,6 +13,7 @@ use Rattle.clap.specs.declared.builder.value_parser.ValueParser.TheVariants as p
 use Rattle.tso_machine.specs.declared.label.Model.{Model}
 use Rattle.tso_machine.specs.declared.label.Model.TheVariants.{Buffered, Sequential}
 use Rattle.fencer_words.specs.declared.job.Job.{Job}
+use Rattle.fencer_words.specs.declared.job.Run.{Run}
 use Rattle.fencer_words.specs.declared.job.Job.TheVariants.{Replay, Trace, Outcomes, Place, Why}
 use Rattle.tso_program.specs.declared.limits.TheConstants.{MAX_WORKERS}
 
@@ -128,18 +129,16 @@ pub record AreWorkers (text : Text) (workers : ℕ) : Type 0 where
 
 -- ---- jobs
 
+-- the run that is asked about
+pub record IsRunOf (rows : List Row) (asked : Run) : Type 0 where
+  pub model : asked.model ≡ model_in rows
+  pub litmus : string_bytes asked.litmus ≡ text_in (codes "litmus") rows
+  pub labels : map string_bytes asked.labels.items ≡ texts_in (codes "label") rows
+
 -- the job that the command of this name asks for, by the rows of its values
 abbrev pub IsJobOf : Text → List Row → Job → Type 0
-IsJobOf name rows (Replay model litmus labels) =
-    (name ≡ codes "replay")
-    × (model ≡ model_in rows)
-    × (string_bytes litmus ≡ text_in (codes "litmus") rows)
-    × (map string_bytes labels.items ≡ texts_in (codes "label") rows)
-IsJobOf name rows (Trace model litmus labels) =
-    (name ≡ codes "trace")
-    × (model ≡ model_in rows)
-    × (string_bytes litmus ≡ text_in (codes "litmus") rows)
-    × (map string_bytes labels.items ≡ texts_in (codes "label") rows)
+IsJobOf name rows (Replay asked) = (name ≡ codes "replay") × IsRunOf rows asked
+IsJobOf name rows (Trace asked) = (name ≡ codes "trace") × IsRunOf rows asked
 IsJobOf name rows (Outcomes model observed litmus) =
     (name ≡ codes "outcomes")
     × (model ≡ model_in rows)

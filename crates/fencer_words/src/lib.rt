@@ -10,5 +10,5 @@ mod trace;
 mod why;
 mod words;
 
-pub use job::{Job, Placement};
+pub use job::{Job, Placement, Run};
 pub use words::read_words;

@@ -2,11 +2,11 @@
 
 ghost use Rattle.std.specs.Prelude.{◌≡◌, false, IfOk, codes, map, string_bytes};
 ghost use Rattle.clap.specs.Words.{found_of, rows_of, rule_of};
-ghost use Rattle.fencer_words.specs.CommandLines.{label_rule, replay_app, texts_in, IsJobOf};
+ghost use Rattle.fencer_words.specs.CommandLines.{label_rule, replay_app, texts_in, IsJobOf, IsRunOf};
 ghost use Rattle.fencer_words.specs.Commands.{IsBuiltAs};
 
 use crate::arguments::{litmus_arg, model_arg, model_in, text_in, values_of};
-use crate::job::Job;
+use crate::job::{Job, Run};
 use clap::{Arg, ArgAction, ArgMatches, Command};
 use std::alloc::{AllocError, Global};
 
@@ -39,8 +39,7 @@ fn owned(alloc: Global, words: &[&str]) -> Result<Vec<String>, AllocError>
     Ok(all)
 }
 
-/// The labels that are given.
-pub fn labels_in(alloc: Global, matches: &ArgMatches<'_>) -> Result<Vec<String>, AllocError>
+fn labels_in(alloc: Global, matches: &ArgMatches<'_>) -> Result<Vec<String>, AllocError>
     ensures { IfOk result (λ labels. map string_bytes labels.items ≡ texts_in (codes "label") (rows_of (found_of matches.now))) }
 {
     match values_of(matches, "label") {
@@ -49,12 +48,19 @@ pub fn labels_in(alloc: Global, matches: &ArgMatches<'_>) -> Result<Vec<String>,
     }
 }
 
-pub fn replay_job(alloc: Global, matches: &ArgMatches<'_>) -> Result<Job, AllocError>
-    ensures { IfOk result (IsJobOf (codes "replay") (rows_of (found_of matches.now))) }
+/// The run that is asked about.
+pub fn run_in(alloc: Global, matches: &ArgMatches<'_>) -> Result<Run, AllocError>
+    ensures { IfOk result (IsRunOf (rows_of (found_of matches.now))) }
 {
-    Ok(Job::Replay {
+    Ok(Run {
         model: model_in(matches),
         litmus: text_in(alloc, matches, "litmus")?,
         labels: labels_in(alloc, matches)?,
     })
+}
+
+pub fn replay_job(alloc: Global, matches: &ArgMatches<'_>) -> Result<Job, AllocError>
+    ensures { IfOk result (IsJobOf (codes "replay") (rows_of (found_of matches.now))) }
+{
+    Ok(Job::Replay(run_in(alloc, matches)?))
 }

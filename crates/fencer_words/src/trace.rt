@@ -5,9 +5,9 @@ ghost use Rattle.clap.specs.Words.{found_of, rows_of};
 ghost use Rattle.fencer_words.specs.CommandLines.{trace_app, IsJobOf};
 ghost use Rattle.fencer_words.specs.Commands.{IsBuiltAs};
 
-use crate::arguments::{litmus_arg, model_arg, model_in, text_in};
+use crate::arguments::{litmus_arg, model_arg};
 use crate::job::Job;
-use crate::replay::{label_arg, labels_in};
+use crate::replay::{label_arg, run_in};
 use clap::{ArgMatches, Command};
 use std::alloc::{AllocError, Global};
 
@@ -23,9 +23,5 @@ pub fn trace_command<'a>(alloc: Global, models: &'a [&'a str]) -> Result<Command
 pub fn trace_job(alloc: Global, matches: &ArgMatches<'_>) -> Result<Job, AllocError>
     ensures { IfOk result (IsJobOf (codes "trace") (rows_of (found_of matches.now))) }
 {
-    Ok(Job::Trace {
-        model: model_in(matches),
-        litmus: text_in(alloc, matches, "litmus")?,
-        labels: labels_in(alloc, matches)?,
-    })
+    Ok(Job::Trace(run_in(alloc, matches)?))
 }

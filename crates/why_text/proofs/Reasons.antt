@@ -65,7 +65,7 @@ numbers_are_held gaps small = held_of gaps small (range_with_len 0 MAX_GAPS)
 pub first_held : (gaps : SetOfGaps) (left : List ℕ) (gap : ℕ) (more : List ℕ) → left ≡ gap ∷ more → AreHeld gaps left → ((set.contains gaps gap ≡ true) × (gap < MAX_GAPS)) × AreHeld gaps more
 first_held gaps left gap more is held = subst (AreHeld gaps) is held
 
--- reasons that are told are texts, unless there is none
+-- what is said where some reason is printed, and where no reason is
 pub told_all : (source : Litmus Listing) (shown : Shown) (gaps : SetOfGaps) (line text all : List ℕ) → TellsReasons source shown gaps (numbers_of_set gaps) all → (length all == 0) ≡ false → text ≡ line ++ all → TellsWhy source shown gaps line text
 told_all source shown gaps line text all (reasons, each, is) some printed = record { reasons = reasons; each = each; printed = printed ∙ ap (λ (t : List ℕ). line ++ t) (is ∙ by_texts reasons (subst (λ (t : List ℕ). (length t == 0) ≡ false) is some)) }
   where

@@ -68,7 +68,7 @@ fn explained(
     Ok(lines)
 }
 
-/// Places fences in the program of a litmus text as [`placed_text::place_text`] does, and tells why each of them is
+/// Places fences in the program of a litmus text as [`placed_text::place_text`] does, and says why each of them is
 /// needed: after the answer line, for each gap of the answer a run with the other gaps fenced, whose outcome no
 /// sequential run has.
 pub fn why_text<R: Threads + Sync, W: Wait + Sync>(
