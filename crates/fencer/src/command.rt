@@ -15,8 +15,8 @@ use clap::Error;
 use clap::error::ErrorKind;
 use fencer_words::{Job, read_words};
 use program_streams::{
-    LineFault, TEXT_LIMIT, WritableFileStore, file_line, line_words, read_line_up_to, refuse_words,
-    print,
+    LineFault, TEXT_LIMIT, WritableFileStore, file_line, line_words, print, read_line_up_to,
+    refuse_words,
 };
 use std::alloc::{AllocError, Global};
 use std::io::{Read, Write};
