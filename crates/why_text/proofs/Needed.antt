@@ -31,6 +31,6 @@ each_is_needed q costs gaps gap limits one_each small answer there serves =
     let others = set.remove gaps gap in
     let some : All (λ cost. 1 ≤ cost) costs = λ k d h. (limits.each k d h).0 in
     let better = cheaper costs others gaps some small (λ g held. subst (λ (n : ℕ). g < n) (sym one_each) (answer.of_program g held))
-        (set.contains-is_subset nat_cmp_total others gaps (kept gaps gap)) (differs gaps gap there) in
+    (set.contains-is_subset nat_cmp_total others gaps (kept gaps gap)) (differs gaps gap there) in
     let left = answer.least others (λ g held. answer.of_program g (kept gaps gap g held)) better in
     left.foreign ((serves left.outcome).0 left.left)
