@@ -26,7 +26,8 @@ docs/formats.md.
 
 Example: fencer place --certificate SB.cert examples/SB.litmus";
 
-pub const COSTS_HELP: &str = "Read what gaps cost, in lines like `0:1 5`; without a line a gap costs 1";
+pub const COSTS_HELP: &str =
+    "Read what gaps cost, in lines like `0:1 5`; without a line a gap costs 1";
 
 const CERTIFICATE_HELP: &str = "Write the certificate there, for fencecheck";
 

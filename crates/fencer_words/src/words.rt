@@ -2,7 +2,7 @@
 
 ghost use Rattle.std.specs.Prelude.{◌≡◌, ◌⊎◌, Contains, IfErr, IfOk, IfNone, IfSome, map, string_bytes};
 ghost use Rattle.clap.specs.Words.{found_of, kind_of, rows_of};
-ghost use Rattle.fencer_words.specs.CommandLines.{command_names, AsksFor, IsJobOf, IsNoCommand};
+ghost use Rattle.fencer_words.specs.CommandLines.{command_names, AreModels, AsksFor, IsJobOf, IsNoCommand};
 ghost use Rattle.fencer_words.specs.Commands.{IsFencerCommand, IsJobMet, MeetsNoCommand};
 
 use crate::arguments::described_command;
@@ -29,11 +29,18 @@ Example: fencer place examples/SB.litmus";
 
 static MODELS: [&str; 2] = ["buffered", "sequential"];
 
+/// The names of the models.
+fn model_names() -> &'static [&'static str]
+    ensures { AreModels result }
+{
+    MODELS.as_slice()
+}
+
 /// The command line.
 fn command<'a>(alloc: Global) -> Result<Command<'a>, AllocError>
     ensures { IfOk result IsFencerCommand }
 {
-    let models = MODELS.as_slice();
+    let models = model_names();
     described_command(alloc, "fencer", FIRST, LAST)
         .no_binary_name(true)
         .subcommand_required(true)

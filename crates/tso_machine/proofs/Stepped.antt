@@ -1,12 +1,12 @@
 -- How the steps of a run go on by one.
-use Rattle.std.proofs.Common.{◌≡◌, ℕ, ◌+◌, ◌<◌, take, length, get_or, List, [], ◌∷◌, ◌++◌, Some, sym, subst, ap}
+use Rattle.std.proofs.Common.{◌≡◌, ℕ, ◌+◌, ◌<◌, take, length, get_or, List, [], ◌∷◌, ◌++◌, Some, sym, subst}
 use Rattle.std.proofs.lemmas.List.{take_more}
 use Rattle.tso_program.specs.declared.listing.Listing.{Listing}
 use Rattle.tso_machine.specs.declared.label.Label.{Label}
 use Rattle.tso_machine.specs.declared.stepping.Step.{Step}
 use Rattle.tso_machine.specs.Machine.{Mode, State, step, run}
 use Rattle.tso_machine.specs.Steps.{AreSteps, IsStepBetween}
-use Rattle.std.specs.Prelude.{Option, None}
+use Rattle.std.specs.Prelude.{Option}
 use Rattle.std.specs.Option.{option_and_then}
 
 module _ (p : Listing) (mode : Mode) where

@@ -1,4 +1,4 @@
-use Rattle.std.proofs.Common.{rules, ◌≡◌, ap, ap₂, ◌∙◌}
+use Rattle.std.proofs.Common.{◌≡◌, ap, ap₂, ◌∙◌}
 use Rattle.std.proofs.lemmas.Result.{IfOk-weaker}
 use Rattle.clap.specs.Simple.{app_of_fields}
 use Rattle.clap.specs.Words.{App, with_subcommand}
@@ -26,8 +26,8 @@ returns c =
     let shape = ap app_of_fields named.0 ∙ fencer_shape c.described_command.result c.no_binary_name.result c.subcommand_required.result c.disable_help_subcommand.result is c.described_command.ensures.app in
     let own = ap (λ (fields : Command-F Command). fields.has_globals) named.0 ∙ fencer_globals c.described_command.result c.no_binary_name.result c.subcommand_required.result c.disable_help_subcommand.result is c.described_command.ensures.local in
     IfOk-weaker c.subcommand-5.result _ _ (λ command h. record {
-      models = c.as_slice-models.result;
-      are_models = search rules;
+      models = c.model_names-models.result;
+      are_models = c.model_names-models.ensures;
       built = record {
         shape = h.shape why.no_globals
             ∙ ap₂ with_subcommand (fourth.shape trace.no_globals

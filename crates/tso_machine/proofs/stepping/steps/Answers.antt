@@ -1,5 +1,4 @@
-use Rattle.std.proofs.Common.{◌≡◌, ◌∙◌, take, Some, sym, ap, subst, refl, arith}
-use Rattle.std.proofs.lemmas.List.{take_all}
+use Rattle.std.proofs.Common.{◌∙◌, take, Some, sym, ap, subst, arith}
 use Rattle.tso_machine.specs.declared.label.Label.TheVariants.{Exec}
 use Rattle.tso_program.specs.declared.listing.Listing.{Listing}
 use Rattle.tso_machine.specs.Machine.{Mode, start}
