@@ -1,7 +1,6 @@
 -- The gap tree of the record of a search that is done is valid for its answer, and within the limits of a text.
 use Rattle.std.proofs.Common.{◌≡◌, ℕ, suc, ◌+◌, List, [], ◌∷◌, Some, length, refl, sym, ap, ◌∙◌, subst, arith}
 use Rattle.std.specs.Prelude.{slice_get}
-use Rattle.std.specs.FinSet as set
 use Rattle.std.proofs.lemmas.Option.{same_Some}
 use Rattle.gap_sets.specs.Gaps.{SetOfGaps}
 use Rattle.gap_sets.specs.Order.{Better}
@@ -11,7 +10,7 @@ use Rattle.tso_program.specs.Shown.{Question}
 use Rattle.tso_machine.specs.declared.label.Label.{Label}
 use Rattle.tso_machine.specs.Outcomes.{IsTheAnswer}
 use Rattle.cert_forest.specs.Trees.{Gap, Split, Bound, GapTrees, NoGap, MoreGaps}
-use Rattle.tree_laws.specs.GapTrees.{PassesGap, IsOpenGap, IsSplitBy, IsValidGap, AreValidGaps}
+use Rattle.tree_laws.specs.GapTrees.{PassesGap, IsSplitBy, IsValidGap, AreValidGaps}
 use Rattle.cover_solver.specs.Facts.{Foreign}
 use Rattle.search_core.specs.declared.entry.Entry.{Entry}
 use Rattle.search_core.specs.States.{SearchState}

@@ -1,8 +1,11 @@
-use Rattle.std.proofs.Common.{◌≡◌, ◌∙◌, ℕ, List, ap, subst}
+use Rattle.std.proofs.Common.{◌≡◌, ◌∙◌, ℕ, List, sym, ap, subst}
 use Rattle.gap_sets.specs.Order.{total}
+use Rattle.tso_machine.specs.declared.label.Label.{Label}
+use Rattle.cert_forest.specs.Certificates.{Certificate}
 use Rattle.cert_forest.specs.Views.{cover, gap}
 use Rattle.cover_solver.specs.Facts.{Serving, IsServing}
 use Rattle.fence_place.specs.Recorded.{IsRecorded}
+use Rattle.fence_place.specs.Proofs.{IsProof}
 use Rattle.fence_place.proofs.CertificateMade.{is_proof}
 use Rattle.fence_place.proofs.certificates.certify.Goals as goal
 
@@ -14,24 +17,25 @@ returns-clause-proof c =
     let same_gaps : c.set-set.result ≡ o.served.gaps = c.set-set.ensures ∙ ap (λ (s : Serving). s.gaps) is_served in
     let cost : c.total.result ≡ total o.costs c.set-set.result = c.total.ensures.value ∙ ap (λ (l : List ℕ). total l c.set-set.result) c.costs.ensures.value in
     let low = c.total.ensures.limit in
-    is_proof t o c.in_ok-runs.numbers.items
-    (record {
+    let with_runs : List (List Label) → Certificate = λ (runs : List (List Label)). record {
       shown = c.shown-shown.result.now;
       gaps = c.set-set.result;
       cost = c.total.result;
       seq_runs = c.in_ok-seq_runs.seq_runs;
       seq_tree = cover c.in_ok-copy.field-0;
-      runs = c.in_ok-runs.runs;
+      runs = runs;
       fenced_tree = cover c.in_ok-copy-2.field-0;
       gap_tree = gap c.in_ok-gap_tree.gap_tree;
-    })
+    } in
+    subst (λ (runs : List (List Label)). IsProof o.question o.costs (with_runs runs)) (sym c.runs.view_is)
+    (is_proof t o c.in_ok-runs.numbers.items (with_runs c.in_ok-runs.runs)
     c.program.ensures.table c.served-served.ensures.outcome (subst IsServing is_served c.program-2.ensures.serving) low c.requires c.served-served.ensures.answer.0 c.served-served.ensures.answer.1
     (record {
       same_shown = c.shown-shown.ensures;
       places = c.names_have_places.ensures;
       same_gaps = same_gaps;
       cost = cost;
-      seq_runs = c.in_ok-seq_runs.ensures ∙ c.runs.ensures;
+      seq_runs = c.in_ok-seq_runs.ensures ∙ c.runs-2.ensures;
       seq_tree = c.in_ok-copy.ensures ∙ c.tree.ensures;
       fenced_tree = c.in_ok-copy-2.ensures ∙ c.tree-2.ensures ∙ ap (λ (s : Serving). s.tree) is_served;
       numbered = c.in_ok-runs.ensures.numbers;
@@ -39,4 +43,4 @@ returns-clause-proof c =
       recorded = subst (λ (ns : List ℕ). IsRecorded o.entries ns (gap c.in_ok-gap_tree.gap_tree) 0) c.deref.ensures.value c.in_ok-gap_tree.ensures;
       few_runs = c.len.ensures.few;
       few_seq_runs = c.len-2.ensures.few;
-    })
+    }))
