@@ -15,7 +15,7 @@ use litmus_text::Litmus;
 use report::{outcome_line, passed_line, without_line};
 use run_table::run_table;
 use std::alloc::{AllocError, Global};
-use tso_machine::{Label, Model, Step, steps, write_run};
+use tso_machine::{Label, Model, steps, write_run};
 use tso_program::{Program, Shown};
 
 /// The other gaps of the answer don't serve: a run that passes none of them.
@@ -52,10 +52,15 @@ fn run_line(alloc: Global, labels: &[Label]) -> Result<Vec<u8>, AllocError>
     Ok(line)
 }
 
-/// The steps of a run where the other gaps of the answer are fenced.
-fn steps_of(alloc: Global, run: &ForeignRun, others: &GapSet) -> Result<Vec<Step>, AllocError> {
+/// The table of a run where the other gaps of the answer are fenced.
+fn table_of(
+    alloc: Global,
+    litmus: &Litmus<Program>,
+    others: &GapSet,
+    run: &ForeignRun,
+) -> Result<Vec<u8>, AllocError> {
     match steps(alloc, run.program(), others, Model::Buffered, run.labels()) {
-        Ok(steps) => Ok(steps),
+        Ok(steps) => run_table(alloc, litmus, &steps),
         Err(_) => Err(AllocError),
     }
 }
@@ -99,7 +104,6 @@ pub(crate) fn reason_lines(
     requires gap { gap < MAX_GAPS }
     ensures { IfOk result (λ lines. IsReason litmus.now shown.now set.now gap lines.items) }
 {
-    let steps = steps_of(alloc, run, &set.without(gap))?;
-    let table = run_table(alloc, litmus, &steps)?;
+    let table = table_of(alloc, litmus, &set.without(gap), run)?;
     lines_with(alloc, litmus, shown, gap, run, &table)
 }
