@@ -1,6 +1,7 @@
 -- Reasons one after the other.
-use Rattle.std.proofs.Common.{◌≡◌, ◌∙◌, ◌==◌, ◌<◌, ℕ, Bool, List, [], ◌∷◌, ◌++◌, true, false, length, ap, refl, sym, subst}
+use Rattle.std.proofs.Common.{◌≡◌, ◌∙◌, ◌==◌, ◌<◌, ℕ, suc, Bool, List, [], ◌∷◌, ◌++◌, true, false, arith, length, ap, refl, sym, subst}
 use Rattle.std.specs.List.{concat, filter, range_with_len}
+use Rattle.std.proofs.lemmas.Bool.Decides.{nat_tests}
 use Rattle.std.proofs.lemmas.List.{append-nil}
 use Rattle.std.proofs.lemmas.List.Folds.{concat-append}
 use Rattle.std.specs.FinSet as set
@@ -19,7 +20,7 @@ use Rattle.litmus_reader.specs.declared.litmus.Litmus.{Litmus}
 use Rattle.fence_laws.proofs.GapsAvoided.{passed_gaps_tell}
 use Rattle.cover_solver.specs.Facts as facts
 use Rattle.cover_solver.specs.Verdicts.{PassesNoneOf}
-use Rattle.why_text.specs.WhyTexts.{IsReason, AreReasons, TellsReasons, TellsWhy, all_sequential, reason_text, reasons_text}
+use Rattle.why_text.specs.WhyTexts.{IsReason, AreReasons, TellsReasons, TellsWhy, all_sequential, reason_text, reasons_or_none}
 
 -- a foreign run that passes none of some gaps is a run with these gaps fenced
 pub runs_fenced : (run : facts.Foreign) (gaps : SetOfGaps) → facts.IsForeignValue run → PassesNoneOf gaps run → IsShownRun run.question (Fenced (gaps_in run.question.program gaps)) run.labels run.outcome
@@ -65,26 +66,21 @@ numbers_are_held gaps small = held_of gaps small (range_with_len 0 MAX_GAPS)
 pub first_held : (gaps : SetOfGaps) (left : List ℕ) (gap : ℕ) (more : List ℕ) → left ≡ gap ∷ more → AreHeld gaps left → ((set.contains gaps gap ≡ true) × (gap < MAX_GAPS)) × AreHeld gaps more
 first_held gaps left gap more is held = subst (AreHeld gaps) is held
 
--- what is said where some reason is printed, and where no reason is
-pub told_all : (source : Litmus Listing) (shown : Shown) (gaps : SetOfGaps) (line text all : List ℕ) → TellsReasons source shown gaps (numbers_of_set gaps) all → (length all == 0) ≡ false → text ≡ line ++ all → TellsWhy source shown gaps line text
-told_all source shown gaps line text all (reasons, each, is) some printed = record { reasons = reasons; each = each; printed = printed ∙ ap (λ (t : List ℕ). line ++ t) (is ∙ by_texts reasons (subst (λ (t : List ℕ). (length t == 0) ≡ false) is some)) }
-  where
-    by_texts : (texts : List (List ℕ)) → (length (concat texts) == 0) ≡ false → concat texts ≡ reasons_text texts
-    by_texts [] none = absurd cc
-    by_texts (t ∷ texts) some = refl
+-- the line of the answer and what follows it
+pub says_why : (source : Litmus Listing) (shown : Shown) (gaps : SetOfGaps) (line all text : List ℕ) → TellsReasons source shown gaps (numbers_of_set gaps) all → text ≡ line ++ reasons_or_none all → TellsWhy source shown gaps line text
+says_why source shown gaps line all text (reasons, each, is) printed = record { reasons = reasons; each = each; printed = printed ∙ ap (λ (t : List ℕ). line ++ reasons_or_none t) is }
 
-none_told : (source : Litmus Listing) (shown : Shown) (gaps : SetOfGaps) (numbers : List ℕ) (texts : List (List ℕ)) → AreReasons source shown gaps numbers texts → (length (concat texts) == 0) ≡ true → all_sequential ≡ reasons_text texts
-none_told source shown gaps [] [] each none = refl
-none_told source shown gaps (gap ∷ numbers) [] each none = refl
-none_told source shown gaps [] (t ∷ texts) each none = absurd each
-none_told source shown gaps (gap ∷ numbers) (t ∷ texts) each none = absurd (let z : (length (t ++ concat texts) == 0) ≡ true = none in some_text t (concat texts) each.0.printed z)
-  where
-    some_text : (t rest : List ℕ) {more : List ℕ} → t ≡ 119 ∷ more → (length (t ++ rest) == 0) ≡ true → ⊥
-    some_text t rest is none = let z : false ≡ true = subst (λ (x : List ℕ). (length (x ++ rest) == 0) ≡ true) is none in cc
+not_zero : (n : ℕ) → (suc n == 0) ≡ true → ⊥
+not_zero n e = grind (arith, nat_tests)
 
-pub told_none : (source : Litmus Listing) (shown : Shown) (gaps : SetOfGaps) (line text all : List ℕ) → TellsReasons source shown gaps (numbers_of_set gaps) all → (length all == 0) ≡ true → text ≡ line ++ all_sequential → TellsWhy source shown gaps line text
-told_none source shown gaps line text all (reasons, each, is) none printed =
-    record { reasons = reasons; each = each; printed = printed ∙ ap (λ (t : List ℕ). line ++ t) (none_told source shown gaps (numbers_of_set gaps) reasons each (subst (λ (t : List ℕ). (length t == 0) ≡ true) is none)) }
+-- of a text without a byte, and of one with some
+pub none_said : (text : List ℕ) → (length text == 0) ≡ true → all_sequential ≡ reasons_or_none text
+none_said [] none = refl
+none_said (byte ∷ bytes) none = absurd (not_zero (length bytes) none)
+
+pub some_said : (text : List ℕ) → (length text == 0) ≡ false → text ≡ reasons_or_none text
+some_said [] some = absurd cc
+some_said (byte ∷ bytes) some = refl
 
 -- one more
 pub one_more_reason : (source : Litmus Listing) (shown : Shown) (gaps : SetOfGaps) (so_far : List ℕ) (texts : List (List ℕ)) (gap : ℕ) (text : List ℕ) → AreReasons source shown gaps so_far texts

@@ -59,16 +59,16 @@ AreReasons source shown gaps (gap ∷ more) (text ∷ texts) = IsReason source s
 abbrev pub TellsReasons : Litmus Listing → Shown → SetOfGaps → List ℕ → List ℕ → Type 0
 TellsReasons source shown gaps numbers text = (texts : List (List ℕ)) × AreReasons source shown gaps numbers texts × (text ≡ concat texts)
 
--- what is said of an answer: why each of its gaps is needed, or that none is
-abbrev pub reasons_text : List (List ℕ) → List ℕ
-reasons_text [] = all_sequential
-reasons_text (text ∷ texts) = text ++ concat texts
+-- the text of the reasons; where it has no byte, the line that no gap is needed
+abbrev pub reasons_or_none : List ℕ → List ℕ
+reasons_or_none [] = all_sequential
+reasons_or_none (byte ∷ bytes) = byte ∷ bytes
 
 -- the text has the line, and why each of the gaps is needed
 pub record TellsWhy (source : Litmus Listing) (shown : Shown) (gaps : SetOfGaps) (line text : List ℕ) : Type 0 where
   pub reasons : List (List ℕ)
   pub each : AreReasons source shown gaps (numbers_of_set gaps) reasons
-  pub printed : text ≡ line ++ reasons_text reasons
+  pub printed : text ≡ line ++ reasons_or_none (concat reasons)
 
 -- What the text tells: the litmus text stands for this program, its gaps have these costs, these gaps are the answer; the
 -- text has the line of the answer, and why each gap of it is needed.

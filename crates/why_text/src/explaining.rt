@@ -6,7 +6,7 @@ ghost use Rattle.tso_program.specs.Shown.{asked};
 ghost use Rattle.tso_machine.specs.Outcomes.{IsTheAnswer};
 ghost use Rattle.report.specs.Answers.{answer_line};
 ghost use Rattle.placed_text.specs.TextFaults.{HasNoPlacedText};
-ghost use Rattle.why_text.specs.WhyTexts.{IsWhyText, TellsReasons, TellsWhy};
+ghost use Rattle.why_text.specs.WhyTexts.{reasons_or_none, IsWhyText, TellsReasons, TellsWhy};
 
 use crate::reasons::{reason_lines, run_without};
 use cover_solver::Solver;
@@ -44,6 +44,17 @@ fn reasons(
     Ok(lines)
 }
 
+/// The reasons, or a line that no gap is needed.
+fn reasons_or_none(alloc: Global, reasons: Vec<u8>) -> Result<Vec<u8>, AllocError>
+    ensures { IfOk result (λ said. said.items ≡ reasons_or_none reasons.items) }
+{
+    if reasons.is_empty() {
+        Vec::from_slice(alloc, b"Every store buffer outcome is sequential.\n")
+    } else {
+        Ok(reasons)
+    }
+}
+
 /// The answer line, and why each gap of the answer is needed.
 fn explained(
     alloc: Global,
@@ -59,12 +70,9 @@ fn explained(
 {
     let set = found.placed.set;
     let reasons = reasons(alloc, litmus, shown, costs, &found.solver, &set)?;
+    let said = reasons_or_none(alloc, reasons)?;
     let mut lines = answer_line(alloc, &litmus.program, shown, set, found.placed.cost)?;
-    if reasons.is_empty() {
-        lines.extend_from_slice(b"Every store buffer outcome is sequential.\n")?;
-    } else {
-        lines.extend_from_slice(&reasons)?;
-    }
+    lines.extend_from_slice(&said)?;
     Ok(lines)
 }
 
