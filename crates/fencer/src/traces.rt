@@ -2,6 +2,9 @@
 
 ghost use Rattle.std.specs.Prelude.{◌≡◌, ◌++◌, IfOk, IfErr, string_bytes};
 ghost use Rattle.tso_program.specs.declared.shown.Shown.TheVariants.{All};
+ghost use Rattle.std.specs.FinSet as set;
+ghost use Rattle.tso_machine.specs.Faults.{ReplayFaultIs};
+ghost use Rattle.tso_machine.specs.Modes.{mode_of};
 ghost use Rattle.report.specs.Answers.{outcome_line, passed_line};
 ghost use Rattle.program_streams.specs.Streams.{Prints};
 ghost use Rattle.fencer.specs.Replays.{label_words_text, HasNoRun};
@@ -16,8 +19,27 @@ use program_streams::{FileStore, TEXT_LIMIT, file_line, named_bytes, print};
 use run_table::run_table;
 use std::alloc::{AllocError, Global};
 use std::io::{Read, Write};
-use tso_machine::{Ended, Model, ReplayFault, replay, steps};
+use tso_machine::{Ended, Label, Model, ReplayFault, replay, steps};
 use tso_program::Program;
+
+/// The table of the steps that labels make.
+fn table_of(
+    alloc: Global,
+    litmus: &Litmus<Program>,
+    model: Model,
+    labels: &[Label],
+) -> Result<Vec<u8>, ReplayFault>
+    ensures { IfErr result (ReplayFaultIs litmus.now.program (mode_of litmus.now.program set.empty model) labels.now) }
+{
+    let steps = match steps(alloc, &litmus.program, &GapSet::empty(), model, labels) {
+        Ok(steps) => steps,
+        Err(fault) => return Err(fault),
+    };
+    match run_table(alloc, litmus, &steps) {
+        Ok(table) => Ok(table),
+        Err(_) => Err(ReplayFault::OutOfMemory),
+    }
+}
 
 /// A table, the outcome line and the passed line.
 fn traced_lines(
@@ -48,10 +70,7 @@ fn trace_lines(
     let litmus = read_litmus(alloc, bytes)?;
     let labels = steps_of(alloc, labels)?;
     let ended = replay(alloc, &litmus.program, &GapSet::empty(), model, &labels)?;
-    let steps = steps(alloc, &litmus.program, &GapSet::empty(), model, &labels)?;
-    let Ok(table) = run_table(alloc, &litmus, &steps) else {
-        return Err(Refusal::Replay(ReplayFault::OutOfMemory));
-    };
+    let table = table_of(alloc, &litmus, model, &labels)?;
     match traced_lines(alloc, table, &litmus, &ended) {
         Ok(lines) => Ok(lines),
         Err(_) => Err(Refusal::Replay(ReplayFault::OutOfMemory)),

@@ -17,5 +17,5 @@ returns-in-Ok-clause-run c = record {
     passes = rw (c.empty.ensures, c.deref.ensures.value) at c.in_ok-ended.ensures.passed;
     printed = refl;
   };
-  printed = (c.in_default.table.items, c.in-Ok.ensures);
+  printed = (c.in_ok-table.table.items, c.in-Ok.ensures);
 }
