@@ -1,2 +1,2 @@
 pub mod Needed
-pub mod Reasons
+pub mod ReasonTexts

@@ -1,5 +1,5 @@
 use Rattle.report.specs.Answers.{answer_line}
-use Rattle.why_text.proofs.Reasons.{says_why}
+use Rattle.why_text.proofs.ReasonTexts.{says_why}
 use Rattle.why_text.proofs.explaining.explained.Goals as goal
 
 pub returns : goal.returns

@@ -1,5 +1,5 @@
 use Rattle.std.proofs.Common.{◌∙◌, [], sym, subst}
-use Rattle.why_text.proofs.Reasons.{AreHeld, first_held, numbers_are_held, tells_more}
+use Rattle.why_text.proofs.ReasonTexts.{AreHeld, first_held, numbers_are_held, tells_more}
 use Rattle.why_text.proofs.explaining.reasons.Goals as goal
 
 pub loop-gap-init : goal.loop-gap-init

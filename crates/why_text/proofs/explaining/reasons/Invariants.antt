@@ -1,5 +1,5 @@
 use Rattle.why_text.specs.WhyTexts.{TellsReasons}
-use Rattle.why_text.proofs.Reasons.{AreHeld}
+use Rattle.why_text.proofs.ReasonTexts.{AreHeld}
 use Rattle.why_text.proofs.explaining.reasons.Given as goal
 
 -- the lines so far are reasons of the gaps so far, and those to come are in the set

@@ -1,5 +1,5 @@
 use Rattle.std.proofs.lemmas.Result.{IfOk-weaker}
-use Rattle.why_text.proofs.Reasons.{reason_of}
+use Rattle.why_text.proofs.ReasonTexts.{reason_of}
 use Rattle.why_text.proofs.reasons.reason_lines.Goals as goal
 
 pub returns : goal.returns
