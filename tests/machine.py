@@ -6,6 +6,7 @@ import re
 
 REGISTERS = ("Eax", "Ebx", "Ecx", "Edx", "Esi", "Edi")
 JUMPS = ("Jmp", "Je", "Jne")
+ACCESSES = ("Load", "Store", "StoreImm", "Xchg")
 
 
 class Test:

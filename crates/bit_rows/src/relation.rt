@@ -3,7 +3,7 @@ ghost use Rattle.std.specs.Prelude.{◌≡◌, ◌↔◌, ◌⊎◌, ◌<◌, �
 ghost use Rattle.bit_rows.specs.Rows.{IsIn, Relates, Reaches, LeadsInto, Meets};
 ghost use Rattle.bit_rows.specs.declared.row.TheConstants.{ROW_BITS};
 
-use crate::row::{ROW_BITS, has, joined, meets, with};
+use crate::row::{ROW_BITS, has, has_any, joined, meets, with};
 use std::marker::Model;
 
 /// A relation between the numbers below 32. No call of it takes memory.
@@ -75,6 +75,9 @@ impl Relation {
     pub fn connect(&mut self, from: u32, to: u32)
         ensures { (d e : ℕ) → Relates self.new d e ↔ (Relates self.old d e ⊎ (IsIn from d × IsIn to e)) }
     {
+        if !has_any(from) || !has_any(to) {
+            return;
+        }
         let beyond = reached(&self.reach, to);
         put_rows(&mut self.next, from, to);
         put_reach(&mut self.reach, from, beyond);

@@ -18,7 +18,7 @@ use Rattle.candidate_executions.specs.Orders.{labels_along, IsOrder}
 use Rattle.candidate_executions.specs.RunCandidates.{IsCandidateOf}
 use Rattle.candidate_executions.specs.Paths.{path_of, LiesBetween}
 use Rattle.candidate_executions.specs.Values.{IsValueOf}
-use Rattle.candidate_executions.specs.Sketches.{Sketch, empty_sketch, Completes, IsConsistentCompletion, IsSketch, IsSourceOf, IsPair, with_value, with_source, with_pair, next_read, IsWhole, MustEndAs, KnownEdge}
+use Rattle.candidate_executions.specs.Sketches.{Sketch, empty_sketch, given_to, Completes, IsConsistentCompletion, IsSketch, IsSourceOf, IsPair, with_value, with_source, with_pair, next_read, IsWhole, MustEndAs, KnownEdge}
 
 -- the labels have a consistent candidate, with the outcome
 abbrev pub HasItsCandidate : Listing → Mode → List Label → Outcome → Type 0
@@ -78,7 +78,7 @@ OutcomesAreOne = (p : Listing) (mode : Mode) (c : Candidate) (o q : Outcome) →
 
 -- the sketch in which nothing is chosen is one
 abbrev pub EmptyIsASketch : Type 0
-EmptyIsASketch = (p : Listing) (mode : Mode) → IsSketch p mode empty_sketch
+EmptyIsASketch = (p : Listing) (mode : Mode) → IsSketch p mode (empty_sketch p)
 
 -- a value for a read that has none keeps a sketch
 abbrev pub AValueKeepsASketch : Type 0
@@ -97,12 +97,12 @@ APairKeepsASketch = (p : Listing) (mode : Mode) (k : Sketch) (d e : Event) → I
 
 -- every candidate completes the sketch in which nothing is chosen
 abbrev pub EveryCandidateCompletesEmpty : Type 0
-EveryCandidateCompletesEmpty = (c : Candidate) → Completes empty_sketch c
+EveryCandidateCompletesEmpty = (p : Listing) (c : Candidate) → Completes (empty_sketch p) c
 
 -- so every run of the mode's machine is a consistent completion of it with the run's outcome
 abbrev pub EveryRunIsACompletion : Type 0
 EveryRunIsACompletion = (p : Listing) (mode : Mode) (labels : List Label) (o : Outcome) → JumpForward p.threads → IsRun p mode labels o →
-    (c : Candidate) × IsConsistentCompletion p mode empty_sketch c × HasOutcome p mode c o
+    (c : Candidate) × IsConsistentCompletion p mode (empty_sketch p) c × HasOutcome p mode c o
 
 -- an edge that is known of a sketch is one of each completion
 abbrev pub AKnownEdgeIsAnEdge : Type 0
@@ -132,12 +132,12 @@ EachCompletionHasAValue = (p : Listing) (mode : Mode) (k : Sketch) (c : Candidat
 -- once each read has its value, each completion has these given values and no others
 abbrev pub EachCompletionHasTheValues : Type 0
 EachCompletionHasTheValues = (p : Listing) (mode : Mode) (k : Sketch) (c : Candidate) → JumpForward p.threads → IsSketch p mode k →
-    IsCandidate p mode c → Completes k c → IsWhole p mode k → (t : ℕ) → c.given t ≡ k.given t
+    IsCandidate p mode c → Completes k c → IsWhole p mode k → (t : ℕ) → c.given t ≡ given_to k t
 
 -- and each completion's source of a read is one of the read's sources
 abbrev pub EachCompletionHasASource : Type 0
 EachCompletionHasASource = (p : Listing) (mode : Mode) (k : Sketch) (c : Candidate) (e : Event) (x : Access) (v : ℕ) → JumpForward p.threads →
-    IsSketch p mode k → IsCandidate p mode c → Completes k c → IsWhole p mode k → access_by p mode k.given e ≡ Some x → x.read ≡ Some v →
+    IsSketch p mode k → IsCandidate p mode c → Completes k c → IsWhole p mode k → access_by p mode (given_to k) e ≡ Some x → x.read ≡ Some v →
     IsSourceOf p mode k (c.source e) e × Completes (with_source k e (c.source e)) c
 
 -- each completion orders two writes to one location

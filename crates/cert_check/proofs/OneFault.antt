@@ -99,20 +99,20 @@ module _ (q : Question) (costs : List ℕ) (c : Certificate) where
 
   -- the first wrong node of a cover tree, and a valid one
   abbrev WrongCover : Mode → Cover → List ℕ → Type 0
-  WrongCover mode tree path = OutcomesHave (λ outcomes. FirstWrongCover q mode outcomes tree empty_sketch path)
+  WrongCover mode tree path = OutcomesHave (λ outcomes. FirstWrongCover q mode outcomes tree (empty_sketch q.program) path)
 
   abbrev RightCover : Mode → Cover → Type 0
-  RightCover mode tree = OutcomesHave (λ outcomes. IsValidCover q mode outcomes tree empty_sketch)
+  RightCover mode tree = OutcomesHave (λ outcomes. IsValidCover q mode outcomes tree (empty_sketch q.program))
 
   one_path : (mode : Mode) (tree : Cover) (path other : List ℕ) → WrongCover mode tree path → WrongCover mode tree other → path ≡ other
   one_path mode tree path other wrong also =
-      let (outcomes, left, right) = have_both (λ os. FirstWrongCover q mode os tree empty_sketch path) (λ os. FirstWrongCover q mode os tree empty_sketch other) wrong also in
-      one_wrong_node q mode outcomes tree empty_sketch path other left right
+      let (outcomes, left, right) = have_both (λ os. FirstWrongCover q mode os tree (empty_sketch q.program) path) (λ os. FirstWrongCover q mode os tree (empty_sketch q.program) other) wrong also in
+      one_wrong_node q mode outcomes tree (empty_sketch q.program) path other left right
 
   not_wrong : (mode : Mode) (tree : Cover) (path : List ℕ) → WrongCover mode tree path → RightCover mode tree → ⊥
   not_wrong mode tree path wrong valid =
-      let (outcomes, left, right) = have_both (λ os. FirstWrongCover q mode os tree empty_sketch path) (λ os. IsValidCover q mode os tree empty_sketch) wrong valid in
-      valid_is_not_wrong q mode outcomes tree empty_sketch path right left
+      let (outcomes, left, right) = have_both (λ os. FirstWrongCover q mode os tree (empty_sketch q.program) path) (λ os. IsValidCover q mode os tree (empty_sketch q.program)) wrong valid in
+      valid_is_not_wrong q mode outcomes tree (empty_sketch q.program) path right left
 
   -- the first run that is not foreign, and foreign runs
   abbrev NotForeign : ℕ → Type 0

@@ -50,7 +50,7 @@ module _ (q : Question) (costs : List ℕ) (c : Certificate) where
     -- a valid tree shows that there are no other sequential outcomes
     pub record HasEachOutcome : Type 0 where
       pub listed : HasOutcomes
-      pub sequential : IsValidCover q Sequential outcomes c.seq_tree empty_sketch
+      pub sequential : IsValidCover q Sequential outcomes c.seq_tree (empty_sketch q.program)
 
     -- its other runs are runs of the store buffer machine with no gap fenced
     pub record HasRuns : Type 0 where
@@ -65,7 +65,7 @@ module _ (q : Question) (costs : List ℕ) (c : Certificate) where
     -- a valid tree shows that the set serves
     pub record HasServingSet : Type 0 where
       pub runs : HasForeignRuns
-      pub fenced : IsValidCover q (Fenced (gaps_in q.program c.gaps)) outcomes c.fenced_tree empty_sketch
+      pub fenced : IsValidCover q (Fenced (gaps_in q.program c.gaps)) outcomes c.fenced_tree (empty_sketch q.program)
 
   -- The fault is the first in their order, in which what is shown comes before the set. `OutOfMemory` says that these, the set and the cost
   -- are right: they are judged without memory.
@@ -74,10 +74,10 @@ module _ (q : Question) (costs : List ℕ) (c : Certificate) where
   CheckFaultIs fault.Set = (c.shown ≡ q.shown) × (AreGapsOf q.program c.gaps → ⊥)
   CheckFaultIs fault.Cost = (c.shown ≡ q.shown) × AreGapsOf q.program c.gaps × (HasRightCost → ⊥)
   CheckFaultIs (fault.SequentialRun number) = HasHead × IsFirstWithout (IsRunOf q.program Sequential) c.seq_runs number
-  CheckFaultIs (fault.SequentialTree path) = (outcomes : List Outcome) × HasOutcomes outcomes × FirstWrongCover q Sequential outcomes c.seq_tree empty_sketch path
+  CheckFaultIs (fault.SequentialTree path) = (outcomes : List Outcome) × HasOutcomes outcomes × FirstWrongCover q Sequential outcomes c.seq_tree (empty_sketch q.program) path
   CheckFaultIs (fault.Run number) = (outcomes : List Outcome) × HasEachOutcome outcomes × IsFirstWithout (IsRunOf q.program (Fenced no_gaps)) c.runs number
   CheckFaultIs (fault.NotForeign number) = (outcomes : List Outcome) × HasRuns outcomes × IsFirstWithout (IsRunOutside q outcomes) c.runs number
   CheckFaultIs (fault.FencedTree path) =
-      (outcomes : List Outcome) × HasForeignRuns outcomes × FirstWrongCover q (Fenced (gaps_in q.program c.gaps)) outcomes c.fenced_tree empty_sketch path
+      (outcomes : List Outcome) × HasForeignRuns outcomes × FirstWrongCover q (Fenced (gaps_in q.program c.gaps)) outcomes c.fenced_tree (empty_sketch q.program) path
   CheckFaultIs (fault.GapTree path) = (outcomes : List Outcome) × HasServingSet outcomes × FirstWrongGap q.program costs c.gaps c.runs c.gap_tree all_sets path
   CheckFaultIs fault.OutOfMemory = HasHead

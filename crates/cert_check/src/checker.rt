@@ -144,7 +144,7 @@ fn sequential_list(
     certificate: &Certificate,
 ) -> Result<Vec<Outcome>, CheckFault>
     ensures replayed { IfOk result (λ listed. AreSequentialRuns (asked program.now shown.now) certificate.now.seq_runs listed.items) }
-    ensures sequential { IfOk result (λ listed. IsValidCover (asked program.now shown.now) Sequential listed.items certificate.now.seq_tree empty_sketch) }
+    ensures sequential { IfOk result (λ listed. IsValidCover (asked program.now shown.now) Sequential listed.items certificate.now.seq_tree (empty_sketch program.now)) }
     ensures fault { (costs : List ℕ) → HasHead (asked program.now shown.now) costs certificate.now
         → IfErr result (CheckFaultIs (asked program.now shown.now) costs certificate.now) }
 {
@@ -206,7 +206,7 @@ fn check_fenced(
     certificate: &Certificate,
     listed: &[Outcome],
 ) -> Result<(), CheckFault>
-    ensures fenced { OnOk result (IsValidCover (asked program.now shown.now) (Fenced (gaps_in program.now certificate.now.gaps)) listed.now certificate.now.fenced_tree empty_sketch) }
+    ensures fenced { OnOk result (IsValidCover (asked program.now shown.now) (Fenced (gaps_in program.now certificate.now.gaps)) listed.now certificate.now.fenced_tree (empty_sketch program.now)) }
     ensures fault { (costs : List ℕ) → HasForeignRuns (asked program.now shown.now) costs certificate.now listed.now
         → IfErr result (CheckFaultIs (asked program.now shown.now) costs certificate.now) }
 {

@@ -23,8 +23,8 @@ pub(crate) fn judge_from_start(
     shown: &Shown,
     outcomes: &[Outcome],
 ) -> Result<(), TreeFault>
-    ensures valid { OnOk result (IsValidCover (asked program.now shown.now) (machine_mode program.now mode) outcomes.now (cover tree.now) empty_sketch) }
-    ensures wrong { IfErr result (IfWrong (FirstWrongCover (asked program.now shown.now) (machine_mode program.now mode) outcomes.now (cover tree.now) empty_sketch)) }
+    ensures valid { OnOk result (IsValidCover (asked program.now shown.now) (machine_mode program.now mode) outcomes.now (cover tree.now) (empty_sketch program.now)) }
+    ensures wrong { IfErr result (IfWrong (FirstWrongCover (asked program.now shown.now) (machine_mode program.now mode) outcomes.now (cover tree.now) (empty_sketch program.now))) }
 {
     let sketch = Sketch::new(alloc, program, mode)?;
     judge_cover(alloc, tree, &sketch, shown, outcomes)

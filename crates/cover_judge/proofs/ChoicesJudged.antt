@@ -1,5 +1,5 @@
 -- What the nodes of a cover tree are judged by.
-use Rattle.std.proofs.Common.{◌≡◌, ◌↔◌, ℕ, true, false, Bool, not, IsTrue, List, [], ◌∷◌, Option, Some, None, IsSome, MatchOption, length, map, All, Contains, slice_get, refl, sym, ap, ◌∙◌, subst, inl, inr}
+use Rattle.std.proofs.Common.{◌≡◌, ◌↔◌, ℕ, true, false, Bool, not, IsTrue, List, [], Option, Some, None, IsSome, MatchOption, length, All, Contains, slice_get, refl, sym, ap, ◌∙◌, subst, inl, inr}
 use Rattle.std.specs.Global.{Vec}
 use Rattle.std.specs.List.{AllPairs}
 use Rattle.std.specs.Option.{is_some}
@@ -12,15 +12,12 @@ use Rattle.tso_program.specs.declared.shown.Shown.{Shown}
 use Rattle.tso_program.specs.Shown.{asked}
 use Rattle.tso_machine.specs.Machine as machine
 use Rattle.candidate_executions.specs.declared.event.Event.{Event}
-use Rattle.candidate_executions.specs.declared.event.Kind.{Kind}
 use Rattle.candidate_executions.specs.Events.{ComesBefore}
-use Rattle.candidate_executions.specs.Consistency.{IsOfMode, Leads, IsCycle}
-use Rattle.candidate_executions.specs.Sketches as sketches
-use Rattle.exec_axioms.specs.Parts.{Parts, mode_in, sketch_of}
+use Rattle.candidate_executions.specs.Sketches.{Sketch, IsSourceOf, IsPair, IsWhole, MustEndAs}
+use Rattle.exec_axioms.specs.ProgramSketches.{ProgramSketch, mode_in}
 use Rattle.exec_axioms.specs.Choices as choices
-use Rattle.exec_axioms.specs.Known as known
 use Rattle.cert_forest.specs.declared.tree.AccessId.{AccessId}
-use Rattle.tree_laws.specs.CoverTrees.{event_of, HasNextValues, HasSources, HasNoOrder, IsKnownCycle, MustEndAsNumber}
+use Rattle.tree_laws.specs.CoverTrees.{event_of, HasNextValues, HasSources, HasNoOrder, MustEndAsNumber}
 use Rattle.tree_laws.proofs.OneList.{one_list_of_values, one_list_of_sources}
 use Rattle.cover_judge.specs.declared.fault.TreeFault.{TreeFault}
 use Rattle.cover_judge.specs.declared.fault.TreeFault.TheVariants.{Wrong, OutOfMemory}
@@ -40,14 +37,14 @@ pub here : (P : Type 0) (fault : TreeFault) → fault ≡ Wrong [] → P → IfW
 here P fault e p = subst (IfWrong (IsAtRoot P)) (sym e) (refl, p)
 
 -- the sketch takes each value of a next read
-pub values_may : (s : Parts) (t : ℕ) (cs : List Choice) → AreValueChoices s t cs → MayChooseEach s cs
+pub values_may : (s : ProgramSketch) (t : ℕ) (cs : List Choice) → AreValueChoices s t cs → MayChooseEach s cs
 values_may s t cs are = record {
   each = subst (All (MayChoose s)) (sym are.each) (All-map (MayChoose s) (choice.Value t) are.values
       (All-weaker (Contains are.values) (λ v. MayChoose s (choice.Value t v)) (λ v here. (are.next.location, are.next.next, (are.next.exact v).0 here)) are.values (All-contains_itself are.values)));
 }
 
 -- and each source of a read that has none
-pub sources_may : (s : Parts) (read : AccessId) (cs : List Choice) → AreSourceChoices s read cs → MayChooseEach s cs
+pub sources_may : (s : ProgramSketch) (read : AccessId) (cs : List Choice) → AreSourceChoices s read cs → MayChooseEach s cs
 sources_may s read cs are = record {
   each = subst (All (MayChoose s)) (sym are.each) (All-map (MayChoose s) (choice.Source read) are.sources
       (All-weaker (Contains are.sources) (λ d. MayChoose s (choice.Source read d))
@@ -56,10 +53,10 @@ sources_may s read cs are = record {
 }
 
 -- where values were found, the thread has a next read
-pub next_is_open : (s : Parts) (t : ℕ) (values : List ℕ) → HasNextValues s.program (mode_in s) (sketch_of s) t values → IsValueOpen s t
+pub next_is_open : (s : ProgramSketch) (t : ℕ) (values : List ℕ) → HasNextValues s.program (mode_in s) s.chosen t values → IsValueOpen s t
 next_is_open s t values has = subst (λ (o : Option ℕ). IsSome o) (sym has.next) refl
 
-pub source_is_open : (s : Parts) (read : AccessId) (sources : List Event) → HasSources s.program (mode_in s) (sketch_of s) (event_of read) sources → IsSourceOpen s read
+pub source_is_open : (s : ProgramSketch) (read : AccessId) (sources : List Event) → HasSources s.program (mode_in s) s.chosen (event_of read) sources → IsSourceOpen s read
 source_is_open s read sources has = record {
   whole = has.whole;
   is_read = (has.access, has.is_access, has.is_read);
@@ -67,20 +64,20 @@ source_is_open s read sources has = record {
 }
 
 -- they are not so many
-pub values_differ : (s : Parts) (t count : ℕ) (found : Option (Vec Choice)) → MatchOption found (IsValueOpen s t → ⊥) (λ cs. AreValueChoices s t cs.items) → AreNotSoMany found count →
-    HasNoValues s.program (mode_in s) (sketch_of s) t count
+pub values_differ : (s : ProgramSketch) (t count : ℕ) (found : Option (Vec Choice)) → MatchOption found (IsValueOpen s t → ⊥) (λ cs. AreValueChoices s t cs.items) → AreNotSoMany found count →
+    HasNoValues s.program (mode_in s) s.chosen t count
 values_differ s t count None none differ values has e = none (next_is_open s t values has)
 values_differ s t count (Some cs) are differ values has e =
     let same : length values ≡ length cs.items =
-    ap length (one_list_of_values s.program (mode_in s) (sketch_of s) t values are.values has are.next) ∙ sym (length-map are.values (choice.Value t)) ∙ ap length (sym are.each) in
+    ap length (one_list_of_values s.program (mode_in s) s.chosen t values are.values has are.next) ∙ sym (length-map are.values (choice.Value t)) ∙ ap length (sym are.each) in
     differ cs (record { found_are = refl; many = e ∙ same })
 
-pub sources_differ : (s : Parts) (read : AccessId) (count : ℕ) (found : Option (Vec Choice)) → MatchOption found (IsSourceOpen s read → ⊥) (λ cs. AreSourceChoices s read cs.items) →
-    AreNotSoMany found count → HasNoSources s.program (mode_in s) (sketch_of s) (event_of read) count
+pub sources_differ : (s : ProgramSketch) (read : AccessId) (count : ℕ) (found : Option (Vec Choice)) → MatchOption found (IsSourceOpen s read → ⊥) (λ cs. AreSourceChoices s read cs.items) →
+    AreNotSoMany found count → HasNoSources s.program (mode_in s) s.chosen (event_of read) count
 sources_differ s read count None none differ sources has e = none (source_is_open s read sources has)
 sources_differ s read count (Some cs) are differ sources has e =
     let same : length sources ≡ length cs.items =
-    ap length (one_list_of_sources s.program (mode_in s) (sketch_of s) (event_of read) sources are.sources has are.next) ∙ sym (length-map are.sources (choice.Source read)) ∙ ap length (sym are.each) in
+    ap length (one_list_of_sources s.program (mode_in s) s.chosen (event_of read) sources are.sources has are.next) ∙ sym (length-map are.sources (choice.Source read)) ∙ ap length (sym are.each) in
     differ cs (record { found_are = refl; many = e ∙ same })
 
 -- the choices that were found
@@ -88,8 +85,8 @@ pub found_so_many : (count : ℕ) (found : Option (Vec Choice)) (cs : Vec Choice
 found_so_many count found cs N P many are = subst (λ (o : Option (Vec Choice)). MatchOption o N (λ each. P each.items)) many.found_are are
 
 -- the sources of a read that has none yet
-pub sources_are : (s : Parts) (read : Event) (sources : List Event) → choices.IsWhole s × choices.IsRead s read → (choices.HasSource s read → ⊥) →
-    AllPairs ComesBefore sources → ((source : Event) → Contains sources source ↔ choices.IsSourceOf s source read) → HasSources s.program (mode_in s) (sketch_of s) read sources
+pub sources_are : (s : ProgramSketch) (read : Event) (sources : List Event) → IsWhole s.program (mode_in s) s.chosen × choices.IsRead s read → (choices.HasSource s read → ⊥) →
+    AllPairs ComesBefore sources → ((source : Event) → Contains sources source ↔ IsSourceOf s.program (mode_in s) s.chosen source read) → HasSources s.program (mode_in s) s.chosen read sources
 sources_are s read sources (whole, (x, is, reads)) free ordered exact = record {
   whole = whole;
   access = x;
@@ -100,58 +97,32 @@ sources_are s read sources (whole, (x, is, reads)) free ordered exact = record {
   exact = exact;
 }
 
--- what holds of each edge of a cycle
-module _ (A : Type 0) (R : Event → Event → Type 0) where
-  parted : (d : Event) (es : List Event) (z : Event) → Leads (λ d e. A × R d e) d es z → A × Leads R d es z
-  parted d [] z h = h
-  parted d (e ∷ es) z h = (h.0.0, (h.0.1, (parted e es z h.1).1))
-
-  joined : A → (d : Event) (es : List Event) (z : Event) → Leads R d es z → Leads (λ d e. A × R d e) d es z
-  joined a d [] z h = (a, h)
-  joined a d (e ∷ es) z h = ((a, h.0), joined a e es z h.1)
-
-  cycle_parted : (es : List Event) → IsCycle (λ d e. A × R d e) es → A × IsCycle R es
-  cycle_parted [] h = absurd h
-  cycle_parted (e ∷ es) h = parted e es e h
-
-  cycle_joined : A → (es : List Event) → IsCycle R es → IsCycle (λ d e. A × R d e) es
-  cycle_joined a [] h = h
-  cycle_joined a (e ∷ es) h = joined a e es e h
-
-pub cycle_is : (s : Parts) (kind : Kind) (es : List Event) → known.IsKnownCycle s kind es → IsKnownCycle s.program (mode_in s) (sketch_of s) kind es
-cycle_is s kind es h =
-    let parts = cycle_parted (IsOfMode (mode_in s) kind) (sketches.KnownEdge s.program (mode_in s) (sketch_of s) kind) es h in
-    record { of_mode = parts.0; cycle = parts.1 }
-
-pub is_cycle : (s : Parts) (kind : Kind) (es : List Event) → IsKnownCycle s.program (mode_in s) (sketch_of s) kind es → known.IsKnownCycle s kind es
-is_cycle s kind es h = cycle_joined (IsOfMode (mode_in s) kind) (sketches.KnownEdge s.program (mode_in s) (sketch_of s) kind) h.of_mode es h.cycle
-
 -- no such outcome, or the sketch need not end so
-module _ (s : Parts) (shown : Shown) (outcomes : List Outcome) (n : ℕ) where
-  pub not_known : slice_get outcomes n ≡ None → MustEndAsNumber (asked s.program shown) (mode_in s) outcomes (sketch_of s) n → ⊥
+module _ (s : ProgramSketch) (shown : Shown) (outcomes : List Outcome) (n : ℕ) where
+  pub not_known : slice_get outcomes n ≡ None → MustEndAsNumber (asked s.program shown) (mode_in s) outcomes s.chosen n → ⊥
   not_known none must = (let no : Some must.outcome ≡ None = sym must.is_outcome ∙ none in cc)
 
-  pub not_so : (o : Outcome) → slice_get outcomes n ≡ Some o → (sketches.MustEndAs (asked s.program shown) (mode_in s) (sketch_of s) o → ⊥) →
-      MustEndAsNumber (asked s.program shown) (mode_in s) outcomes (sketch_of s) n → ⊥
-  not_so o there not must = not (subst (sketches.MustEndAs (asked s.program shown) (mode_in s) (sketch_of s)) (same_Some must.outcome o (sym must.is_outcome ∙ there)) must.must_end)
+  pub not_so : (o : Outcome) → slice_get outcomes n ≡ Some o → (MustEndAs (asked s.program shown) (mode_in s) s.chosen o → ⊥) →
+      MustEndAsNumber (asked s.program shown) (mode_in s) outcomes s.chosen n → ⊥
+  not_so o there not must = not (subst (MustEndAs (asked s.program shown) (mode_in s) s.chosen) (same_Some must.outcome o (sym must.is_outcome ∙ there)) must.must_end)
 
-  pub is_so : (o : Outcome) → slice_get outcomes n ≡ Some o → sketches.MustEndAs (asked s.program shown) (mode_in s) (sketch_of s) o →
-      MustEndAsNumber (asked s.program shown) (mode_in s) outcomes (sketch_of s) n
+  pub is_so : (o : Outcome) → slice_get outcomes n ≡ Some o → MustEndAs (asked s.program shown) (mode_in s) s.chosen o →
+      MustEndAsNumber (asked s.program shown) (mode_in s) outcomes s.chosen n
   is_so o there must = record { outcome = o; is_outcome = there; must_end = must }
 
 -- a read whose source is `None` has no source
-pub no_source : (s : Parts) (read : Event) (o : Option Event) → is_some o ≡ false → ((source : Event) → (o ≡ Some source) ↔ Contains s.sources (read, source)) → choices.HasSource s read → ⊥
+pub no_source : (s : ProgramSketch) (read : Event) (o : Option Event) → is_some o ≡ false → ((source : Event) → (o ≡ Some source) ↔ Contains s.chosen.sources (read, source)) → choices.HasSource s read → ⊥
 no_source s read o e exact (source, has) = (let is = (exact source).1 has in let yes : is_some o ≡ true = ap is_some is in let no : true ≡ false = sym yes ∙ e in cc)
 
 -- two writes to one location, the other way round
-pub turned : (p : Listing) (mode : machine.Mode) (k : sketches.Sketch) (d e : Event) → sketches.IsPair p mode k d e → sketches.IsPair p mode k e d
+pub turned : (p : Listing) (mode : machine.Mode) (k : Sketch) (d e : Event) → IsPair p mode k d e → IsPair p mode k e d
 turned p mode k d e (differ, (l, v, w, first, second, not_first, not_second)) = ((λ same. differ (sym same)), (l, w, v, second, first, not_second, not_first))
 
 -- an order that may be chosen may be chosen the other way round
-pub other_way : (s : Parts) (d e : Event) → choices.MayFollow s d e → choices.MayFollow s e d
+pub other_way : (s : ProgramSketch) (d e : Event) → choices.MayFollow s d e → choices.MayFollow s e d
 other_way s d e may = record {
   whole = may.whole;
-  is_pair = turned s.program (mode_in s) (sketch_of s) d e may.is_pair;
+  is_pair = turned s.program (mode_in s) s.chosen d e may.is_pair;
   free = λ h. may.free (elim h [ inl a ↦ inr a | inr a ↦ inl a ]);
 }
 
@@ -161,10 +132,10 @@ untrue true is = ((λ t. (let no : false ≡ true = t in absurd cc)), (λ none. 
 untrue false is = ((λ t p. (let no : false ≡ true = is.1 p in cc)), (λ none. refl))
 
 -- writes that may be put in order are in none
-pub no_order : (s : Parts) (d e : Event) → choices.MayFollow s d e → HasNoOrder s.program (mode_in s) (sketch_of s) d e
+pub no_order : (s : ProgramSketch) (d e : Event) → choices.MayFollow s d e → HasNoOrder s.program (mode_in s) s.chosen d e
 no_order s d e may = record { whole = may.whole; is_pair = may.is_pair; free = may.free }
 
-pub may_order : (s : Parts) (d e : Event) → HasNoOrder s.program (mode_in s) (sketch_of s) d e → choices.MayFollow s d e
+pub may_order : (s : ProgramSketch) (d e : Event) → HasNoOrder s.program (mode_in s) s.chosen d e → choices.MayFollow s d e
 may_order s d e has = record { whole = has.whole; is_pair = has.is_pair; free = has.free }
 
 -- the fault of a child, from its parent

@@ -5,7 +5,7 @@ use Rattle.tso_program.specs.declared.outcome.Outcome.{Outcome}
 use Rattle.tso_program.specs.declared.shown.Shown.{Shown}
 use Rattle.tso_program.specs.Shown.{asked}
 use Rattle.candidate_executions.specs.Sketches as sketches
-use Rattle.exec_axioms.specs.Parts.{Parts, mode_in, sketch_of}
+use Rattle.exec_axioms.specs.ProgramSketches.{ProgramSketch, mode_in}
 use Rattle.cert_forest.specs.declared.tree.AccessId.{AccessId}
 use Rattle.cert_forest.specs.Trees.{Cover, Value, Source, Order, covers_of}
 use Rattle.cert_forest.proofs.TreeTexts.{covers_count}
@@ -18,16 +18,16 @@ use Rattle.cover_judge.specs.Judged.{IsAtRoot, IsBelow, IsValidAfter, IsWrongAt,
 use Rattle.cover_judge.proofs.Mapped.{map_map}
 use Rattle.cover_judge.proofs.ChoicesJudged.{no_order}
 
-module _ (shown : Shown) (outcomes : List Outcome) (s : Parts) (trees : List Cover) where
+module _ (shown : Shown) (outcomes : List Outcome) (s : ProgramSketch) (trees : List Cover) where
   module _ (t : ℕ) (choices : List Choice) (are : AreValueChoices s t choices) where
-    values_sketches : map (sketch_with (sketch_of s)) choices ≡ map (sketches.with_value (sketch_of s) t) are.values
-    values_sketches = ap (map (sketch_with (sketch_of s))) are.each ∙ map_map (sketch_with (sketch_of s)) (choice.Value t) are.values
+    values_sketches : map (sketch_with s.chosen) choices ≡ map (sketches.with_value s.chosen t) are.values
+    values_sketches = ap (map (sketch_with s.chosen)) are.each ∙ map_map (sketch_with s.chosen) (choice.Value t) are.values
 
-    pub value_valid : AreValidAfter shown outcomes s trees choices → IsValidAfter shown outcomes s (Value t (covers_of trees)) (sketch_of s)
+    pub value_valid : AreValidAfter shown outcomes s trees choices → IsValidAfter shown outcomes s (Value t (covers_of trees)) s.chosen
     value_valid valid = (are.values, are.next, subst (AreValidCovers (asked s.program shown) (mode_in s) outcomes (covers_of trees)) values_sketches valid)
 
     pub value_below : length trees ≡ length choices → (path : List ℕ) → IsBelow (IsWrongChild shown outcomes s trees choices) path →
-        IsWrongAt shown outcomes s (Value t (covers_of trees)) (sketch_of s) path
+        IsWrongAt shown outcomes s (Value t (covers_of trees)) s.chosen path
     value_below many [] wrong = absurd wrong
     value_below many (number ∷ path) wrong = (
       are.values,
@@ -36,20 +36,20 @@ module _ (shown : Shown) (outcomes : List Outcome) (s : Parts) (trees : List Cov
       subst (λ ks. FirstWrongCoverChild (asked s.program shown) (mode_in s) outcomes (covers_of trees) ks number path) values_sketches wrong,
     )
 
-  pub value_here : (t : ℕ) (path : List ℕ) → IsAtRoot (HasNoValues s.program (mode_in s) (sketch_of s) t (length trees)) path →
-      IsWrongAt shown outcomes s (Value t (covers_of trees)) (sketch_of s) path
-  value_here t path (at, none) = subst (IsWrongAt shown outcomes s (Value t (covers_of trees)) (sketch_of s)) (sym at)
+  pub value_here : (t : ℕ) (path : List ℕ) → IsAtRoot (HasNoValues s.program (mode_in s) s.chosen t (length trees)) path →
+      IsWrongAt shown outcomes s (Value t (covers_of trees)) s.chosen path
+  value_here t path (at, none) = subst (IsWrongAt shown outcomes s (Value t (covers_of trees)) s.chosen) (sym at)
       (λ values next e. none values next (sym (covers_count trees) ∙ e))
 
   module _ (read : AccessId) (choices : List Choice) (are : AreSourceChoices s read choices) where
-    sources_sketches : map (sketch_with (sketch_of s)) choices ≡ map (sketches.with_source (sketch_of s) (event_of read)) are.sources
-    sources_sketches = ap (map (sketch_with (sketch_of s))) are.each ∙ map_map (sketch_with (sketch_of s)) (choice.Source read) are.sources
+    sources_sketches : map (sketch_with s.chosen) choices ≡ map (sketches.with_source s.chosen (event_of read)) are.sources
+    sources_sketches = ap (map (sketch_with s.chosen)) are.each ∙ map_map (sketch_with s.chosen) (choice.Source read) are.sources
 
-    pub source_valid : AreValidAfter shown outcomes s trees choices → IsValidAfter shown outcomes s (Source read (covers_of trees)) (sketch_of s)
+    pub source_valid : AreValidAfter shown outcomes s trees choices → IsValidAfter shown outcomes s (Source read (covers_of trees)) s.chosen
     source_valid valid = (are.sources, are.next, subst (AreValidCovers (asked s.program shown) (mode_in s) outcomes (covers_of trees)) sources_sketches valid)
 
     pub source_below : length trees ≡ length choices → (path : List ℕ) → IsBelow (IsWrongChild shown outcomes s trees choices) path →
-        IsWrongAt shown outcomes s (Source read (covers_of trees)) (sketch_of s) path
+        IsWrongAt shown outcomes s (Source read (covers_of trees)) s.chosen path
     source_below many [] wrong = absurd wrong
     source_below many (number ∷ path) wrong = (
       are.sources,
@@ -58,39 +58,39 @@ module _ (shown : Shown) (outcomes : List Outcome) (s : Parts) (trees : List Cov
       subst (λ ks. FirstWrongCoverChild (asked s.program shown) (mode_in s) outcomes (covers_of trees) ks number path) sources_sketches wrong,
     )
 
-  pub source_here : (read : AccessId) (path : List ℕ) → IsAtRoot (HasNoSources s.program (mode_in s) (sketch_of s) (event_of read) (length trees)) path →
-      IsWrongAt shown outcomes s (Source read (covers_of trees)) (sketch_of s) path
-  source_here read path (at, none) = subst (IsWrongAt shown outcomes s (Source read (covers_of trees)) (sketch_of s)) (sym at)
+  pub source_here : (read : AccessId) (path : List ℕ) → IsAtRoot (HasNoSources s.program (mode_in s) s.chosen (event_of read) (length trees)) path →
+      IsWrongAt shown outcomes s (Source read (covers_of trees)) s.chosen path
+  source_here read path (at, none) = subst (IsWrongAt shown outcomes s (Source read (covers_of trees)) s.chosen) (sym at)
       (λ sources next e. none sources next (sym (covers_count trees) ∙ e))
 
-module _ (shown : Shown) (outcomes : List Outcome) (s : Parts) (first second : AccessId) (one other : Cover) where
+module _ (shown : Shown) (outcomes : List Outcome) (s : ProgramSketch) (first second : AccessId) (one other : Cover) where
   abbrev first_choice : Choice
   first_choice = choice.Order first second
 
   abbrev second_choice : Choice
   second_choice = choice.Order second first
 
-  in_no_order : MayChoose s first_choice → HasNoOrder s.program (mode_in s) (sketch_of s) (event_of first) (event_of second)
+  in_no_order : MayChoose s first_choice → HasNoOrder s.program (mode_in s) s.chosen (event_of first) (event_of second)
   in_no_order may = no_order s (event_of first) (event_of second) may
 
-  pub order_valid : MayChoose s first_choice → IsValidAfter shown outcomes s one (sketch_with (sketch_of s) first_choice) → IsValidAfter shown outcomes s other (sketch_with (sketch_of s) second_choice) →
-      IsValidAfter shown outcomes s (Order first second one other) (sketch_of s)
+  pub order_valid : MayChoose s first_choice → IsValidAfter shown outcomes s one (sketch_with s.chosen first_choice) → IsValidAfter shown outcomes s other (sketch_with s.chosen second_choice) →
+      IsValidAfter shown outcomes s (Order first second one other) s.chosen
   order_valid may a b = (in_no_order may, a, b)
 
-  pub order_first : MayChoose s first_choice → (path : List ℕ) → IsBelow (λ n rest. (n ≡ 0) × IsWrongAt shown outcomes s one (sketch_with (sketch_of s) first_choice) rest) path →
-      IsWrongAt shown outcomes s (Order first second one other) (sketch_of s) path
+  pub order_first : MayChoose s first_choice → (path : List ℕ) → IsBelow (λ n rest. (n ≡ 0) × IsWrongAt shown outcomes s one (sketch_with s.chosen first_choice) rest) path →
+      IsWrongAt shown outcomes s (Order first second one other) s.chosen path
   order_first may [] wrong = absurd wrong
   order_first may (zero ∷ path) (at, wrong) = (in_no_order may, wrong)
   order_first may (suc n ∷ path) (at, wrong) = absurd (omega arith)
 
-  pub order_second : MayChoose s first_choice → IsValidAfter shown outcomes s one (sketch_with (sketch_of s) first_choice) →
-      (path : List ℕ) → IsBelow (λ n rest. (n ≡ 1) × IsWrongAt shown outcomes s other (sketch_with (sketch_of s) second_choice) rest) path →
-      IsWrongAt shown outcomes s (Order first second one other) (sketch_of s) path
+  pub order_second : MayChoose s first_choice → IsValidAfter shown outcomes s one (sketch_with s.chosen first_choice) →
+      (path : List ℕ) → IsBelow (λ n rest. (n ≡ 1) × IsWrongAt shown outcomes s other (sketch_with s.chosen second_choice) rest) path →
+      IsWrongAt shown outcomes s (Order first second one other) s.chosen path
   order_second may valid [] wrong = absurd wrong
   order_second may valid (zero ∷ path) (at, wrong) = absurd (omega arith)
   order_second may valid (suc zero ∷ path) (at, wrong) = (in_no_order may, (valid, wrong))
   order_second may valid (suc (suc n) ∷ path) (at, wrong) = absurd (omega arith)
 
-  pub order_here : (path : List ℕ) → IsAtRoot (HasNoOrder s.program (mode_in s) (sketch_of s) (event_of first) (event_of second) → ⊥) path →
-      IsWrongAt shown outcomes s (Order first second one other) (sketch_of s) path
-  order_here path (at, none) = subst (IsWrongAt shown outcomes s (Order first second one other) (sketch_of s)) (sym at) none
+  pub order_here : (path : List ℕ) → IsAtRoot (HasNoOrder s.program (mode_in s) s.chosen (event_of first) (event_of second) → ⊥) path →
+      IsWrongAt shown outcomes s (Order first second one other) s.chosen path
+  order_here path (at, none) = subst (IsWrongAt shown outcomes s (Order first second one other) s.chosen) (sym at) none

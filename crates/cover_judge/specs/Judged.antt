@@ -4,8 +4,8 @@ use Rattle.std.specs.Global.{Vec}
 use Rattle.tso_program.specs.declared.outcome.Outcome.{Outcome}
 use Rattle.tso_program.specs.declared.shown.Shown.{Shown}
 use Rattle.tso_program.specs.Shown.{asked}
-use Rattle.candidate_executions.specs.Sketches as sketches
-use Rattle.exec_axioms.specs.Parts.{Parts, mode_in, sketch_of}
+use Rattle.candidate_executions.specs.Sketches.{Sketch}
+use Rattle.exec_axioms.specs.ProgramSketches.{ProgramSketch, mode_in}
 use Rattle.cert_forest.specs.Trees.{Cover, covers_of}
 use Rattle.tree_laws.specs.CoverTrees.{IsValidCover, AreValidCovers}
 use Rattle.cover_judge.specs.declared.choice.Choice.{Choice}
@@ -34,21 +34,21 @@ IsFrom number (Wrong path) (Wrong other) = other ≡ number ∷ path
 IsFrom number OutOfMemory (Wrong other) = ⊥
 IsFrom number fault OutOfMemory = Unit {0}
 
-module _ (shown : Shown) (outcomes : List Outcome) (s : Parts) where
+module _ (shown : Shown) (outcomes : List Outcome) (s : ProgramSketch) where
   -- the tree is valid at the sketch after a choice
-  abbrev pub IsValidAfter : Cover → sketches.Sketch → Type 0
+  abbrev pub IsValidAfter : Cover → Sketch → Type 0
   IsValidAfter tree k = IsValidCover (asked s.program shown) (mode_in s) outcomes tree k
 
-  abbrev pub IsWrongAt : Cover → sketches.Sketch → List ℕ → Type 0
+  abbrev pub IsWrongAt : Cover → Sketch → List ℕ → Type 0
   IsWrongAt tree k path = covers.FirstWrongCover (asked s.program shown) (mode_in s) outcomes tree k path
 
   -- the trees are valid at the sketches after these choices, in order
   abbrev pub AreValidAfter : List Cover → List Choice → Type 0
-  AreValidAfter trees choices = AreValidCovers (asked s.program shown) (mode_in s) outcomes (covers_of trees) (map (sketch_with (sketch_of s)) choices)
+  AreValidAfter trees choices = AreValidCovers (asked s.program shown) (mode_in s) outcomes (covers_of trees) (map (sketch_with s.chosen) choices)
 
   abbrev pub IsWrongChild : List Cover → List Choice → ℕ → List ℕ → Type 0
   IsWrongChild trees choices number path =
-      covers.FirstWrongCoverChild (asked s.program shown) (mode_in s) outcomes (covers_of trees) (map (sketch_with (sketch_of s)) choices) number path
+      covers.FirstWrongCoverChild (asked s.program shown) (mode_in s) outcomes (covers_of trees) (map (sketch_with s.chosen) choices) number path
 
 -- what was found are these choices, and they are as many as this
 pub record AreSoMany (found : Option (Vec Choice)) (count : ℕ) (choices : Vec Choice) : Type 0 where

@@ -1,9 +1,9 @@
 //! What branches in a sketch.
 ghost use Rattle.std.specs.Prelude.{◌≡◌, ◌↔◌, IsTrue, IfOk, IfSome, MatchOption, map};
-ghost use Rattle.exec_axioms.specs.Parts.{sketch_of};
+ghost use Rattle.exec_axioms.specs.ProgramSketches.{with_chosen};
 ghost use Rattle.exec_axioms.specs.Choices.{IsOrdered};
 ghost use Rattle.tree_laws.specs.CoverTrees as trees;
-ghost use Rattle.cover_judge.specs.Choices.{sketch_with, parts_after, MayChoose, MayChooseEach, IsValueOpen, IsSourceOpen, AreValueChoices, AreSourceChoices};
+ghost use Rattle.cover_judge.specs.Choices.{sketch_with, MayChoose, MayChooseEach, IsValueOpen, IsSourceOpen, AreValueChoices, AreSourceChoices};
 
 use candidate_executions::Event;
 use cert_forest::AccessId;
@@ -31,17 +31,7 @@ pub fn event_of(access: AccessId) -> Event
 /// The sketch with one more choice.
 pub fn sketch_with(sketch: &Sketch, choice: Choice) -> Result<Sketch, AllocError>
     requires { MayChoose sketch.now choice }
-    ensures parts { IfOk result (λ next. next ≡ parts_after sketch.now choice) }
-    ensures sketch_with { IfOk result (λ next. sketch_of next ≡ sketch_with (sketch_of sketch.now) choice) }
-{
-    // For the proof alone: what holds of every sketch is known where its program is read.
-    let _ = sketch.program();
-    with_choice(sketch, choice)
-}
-
-fn with_choice(sketch: &Sketch, choice: Choice) -> Result<Sketch, AllocError>
-    requires { MayChoose sketch.now choice }
-    ensures { IfOk result (λ next. next ≡ parts_after sketch.now choice) }
+    ensures { IfOk result (λ next. next ≡ with_chosen sketch.now (sketch_with sketch.now.chosen choice)) }
 {
     let mut next = sketch.copy()?;
     let taken = match choice {

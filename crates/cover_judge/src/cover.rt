@@ -4,7 +4,8 @@ ghost use Rattle.std.specs.Option.{option_copied};
 ghost use Rattle.tso_program.specs.Shown.{asked};
 ghost use Rattle.cert_forest.specs.Views.{cover};
 ghost use Rattle.cert_forest.specs.Trees.{Value, Source, covers_of};
-ghost use Rattle.exec_axioms.specs.Parts.{mode_in, sketch_of};
+ghost use Rattle.candidate_executions.specs.Sketches.{IsKnownCycle};
+ghost use Rattle.exec_axioms.specs.ProgramSketches.{mode_in};
 ghost use Rattle.tree_laws.specs.CoverTrees as trees;
 ghost use Rattle.cover_judge.specs.Choices.{sketch_with, MayChoose, MayChooseEach};
 ghost use Rattle.cover_judge.specs.CoverDefects.{FirstWrongCover};
@@ -27,11 +28,11 @@ pub fn judge_cover(
     shown: &Shown,
     outcomes: &[Outcome],
 ) -> Result<(), TreeFault>
-    ensures valid { OnOk result (trees.IsValidCover (asked sketch.now.program shown.now) (mode_in sketch.now) outcomes.now (cover tree.now) (sketch_of sketch.now)) }
+    ensures valid { OnOk result (trees.IsValidCover (asked sketch.now.program shown.now) (mode_in sketch.now) outcomes.now (cover tree.now) sketch.now.chosen) }
 
     // A valid tree is accepted if memory is there, any other is refused by its first wrong node.
-    ensures accepts { trees.IsValidCover (asked sketch.now.program shown.now) (mode_in sketch.now) outcomes.now (cover tree.now) (sketch_of sketch.now) → IsOkUnless result TreeFault.OutOfMemory }
-    ensures wrong { IfErr result (IfWrong (FirstWrongCover (asked sketch.now.program shown.now) (mode_in sketch.now) outcomes.now (cover tree.now) (sketch_of sketch.now))) }
+    ensures accepts { trees.IsValidCover (asked sketch.now.program shown.now) (mode_in sketch.now) outcomes.now (cover tree.now) sketch.now.chosen → IsOkUnless result TreeFault.OutOfMemory }
+    ensures wrong { IfErr result (IfWrong (FirstWrongCover (asked sketch.now.program shown.now) (mode_in sketch.now) outcomes.now (cover tree.now) sketch.now.chosen)) }
 {
     judge(alloc, tree, sketch, shown, outcomes)
 }
@@ -45,8 +46,8 @@ fn judge(
     shown: &Shown,
     outcomes: &[Outcome],
 ) -> Result<(), TreeFault>
-    ensures valid { OnOk result (IsValidAfter shown.now outcomes.now sketch.now (cover tree.now) (sketch_of sketch.now)) }
-    ensures wrong { IfErr result (IfWrong (IsWrongAt shown.now outcomes.now sketch.now (cover tree.now) (sketch_of sketch.now))) }
+    ensures valid { OnOk result (IsValidAfter shown.now outcomes.now sketch.now (cover tree.now) sketch.now.chosen) }
+    ensures wrong { IfErr result (IfWrong (IsWrongAt shown.now outcomes.now sketch.now (cover tree.now) sketch.now.chosen)) }
 {
     match tree {
         CoverTree::Value { thread, children } => {
@@ -82,8 +83,8 @@ fn judge_values(
     shown: &Shown,
     outcomes: &[Outcome],
 ) -> Result<(), TreeFault>
-    ensures valid { OnOk result (IsValidAfter shown.now outcomes.now sketch.now (Value thread (covers_of (map cover children.now))) (sketch_of sketch.now)) }
-    ensures wrong { IfErr result (IfWrong (IsWrongAt shown.now outcomes.now sketch.now (Value thread (covers_of (map cover children.now))) (sketch_of sketch.now))) }
+    ensures valid { OnOk result (IsValidAfter shown.now outcomes.now sketch.now (Value thread (covers_of (map cover children.now))) sketch.now.chosen) }
+    ensures wrong { IfErr result (IfWrong (IsWrongAt shown.now outcomes.now sketch.now (Value thread (covers_of (map cover children.now))) sketch.now.chosen)) }
 {
     let found = value_choices(alloc, sketch, thread)?;
     let choices = so_many(alloc, found, children.len())?;
@@ -100,8 +101,8 @@ fn judge_sources(
     shown: &Shown,
     outcomes: &[Outcome],
 ) -> Result<(), TreeFault>
-    ensures valid { OnOk result (IsValidAfter shown.now outcomes.now sketch.now (Source read (covers_of (map cover children.now))) (sketch_of sketch.now)) }
-    ensures wrong { IfErr result (IfWrong (IsWrongAt shown.now outcomes.now sketch.now (Source read (covers_of (map cover children.now))) (sketch_of sketch.now))) }
+    ensures valid { OnOk result (IsValidAfter shown.now outcomes.now sketch.now (Source read (covers_of (map cover children.now))) sketch.now.chosen) }
+    ensures wrong { IfErr result (IfWrong (IsWrongAt shown.now outcomes.now sketch.now (Source read (covers_of (map cover children.now))) sketch.now.chosen)) }
 {
     let found = source_choices(alloc, sketch, read)?;
     let choices = so_many(alloc, found, children.len())?;
@@ -169,8 +170,8 @@ fn judge_child(
     outcomes: &[Outcome],
 ) -> Result<(), TreeFault>
     requires { MayChoose sketch.now choice }
-    ensures valid { OnOk result (IsValidAfter shown.now outcomes.now sketch.now (cover tree.now) (sketch_with (sketch_of sketch.now) choice)) }
-    ensures wrong { IfErr result (IfWrong (IsBelow (λ n path. (n ≡ number) × IsWrongAt shown.now outcomes.now sketch.now (cover tree.now) (sketch_with (sketch_of sketch.now) choice) path))) }
+    ensures valid { OnOk result (IsValidAfter shown.now outcomes.now sketch.now (cover tree.now) (sketch_with sketch.now.chosen choice)) }
+    ensures wrong { IfErr result (IfWrong (IsBelow (λ n path. (n ≡ number) × IsWrongAt shown.now outcomes.now sketch.now (cover tree.now) (sketch_with sketch.now.chosen choice) path))) }
 {
     let next = sketch_with(sketch, choice)?;
     match judge(alloc, tree, &next, shown, outcomes) {
@@ -187,7 +188,7 @@ fn judge_order(
     second: AccessId,
 ) -> Result<(), TreeFault>
     ensures may { OnOk result (MayChoose sketch.now (Choice.Order first second) × MayChoose sketch.now (Choice.Order second first)) }
-    ensures wrong { IfErr result (IfWrong (IsAtRoot (trees.HasNoOrder sketch.now.program (mode_in sketch.now) (sketch_of sketch.now) (trees.event_of first) (trees.event_of second) → ⊥))) }
+    ensures wrong { IfErr result (IfWrong (IsAtRoot (trees.HasNoOrder sketch.now.program (mode_in sketch.now) sketch.now.chosen (trees.event_of first) (trees.event_of second) → ⊥))) }
 {
     if is_order_open(sketch, first, second) {
         Ok(())
@@ -203,8 +204,8 @@ fn judge_cycle(
     kind: Kind,
     accesses: &[AccessId],
 ) -> Result<(), TreeFault>
-    ensures cycle { OnOk result (trees.IsKnownCycle sketch.now.program (mode_in sketch.now) (sketch_of sketch.now) kind (map trees.event_of accesses.now)) }
-    ensures wrong { IfErr result (IfWrong (IsAtRoot (trees.IsKnownCycle sketch.now.program (mode_in sketch.now) (sketch_of sketch.now) kind (map trees.event_of accesses.now) → ⊥))) }
+    ensures cycle { OnOk result (IsKnownCycle sketch.now.program (mode_in sketch.now) sketch.now.chosen kind (map trees.event_of accesses.now)) }
+    ensures wrong { IfErr result (IfWrong (IsAtRoot (IsKnownCycle sketch.now.program (mode_in sketch.now) sketch.now.chosen kind (map trees.event_of accesses.now) → ⊥))) }
 {
     let events = events_of(alloc, accesses)?;
     if sketch.is_cycle(kind, &events) {
@@ -231,8 +232,8 @@ fn judge_known(
     shown: &Shown,
     outcomes: &[Outcome],
 ) -> Result<(), TreeFault>
-    ensures known { OnOk result (trees.MustEndAsNumber (asked sketch.now.program shown.now) (mode_in sketch.now) outcomes.now (sketch_of sketch.now) number) }
-    ensures wrong { IfErr result (IfWrong (IsAtRoot (trees.MustEndAsNumber (asked sketch.now.program shown.now) (mode_in sketch.now) outcomes.now (sketch_of sketch.now) number → ⊥))) }
+    ensures known { OnOk result (trees.MustEndAsNumber (asked sketch.now.program shown.now) (mode_in sketch.now) outcomes.now sketch.now.chosen number) }
+    ensures wrong { IfErr result (IfWrong (IsAtRoot (trees.MustEndAsNumber (asked sketch.now.program shown.now) (mode_in sketch.now) outcomes.now sketch.now.chosen number → ⊥))) }
 {
     match outcome_of(outcomes, number) {
         Some(outcome) => {

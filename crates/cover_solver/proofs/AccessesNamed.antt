@@ -2,15 +2,16 @@
 use Rattle.std.proofs.Common.{List, [], ◌∷◌, Contains, map, inl, inr}
 use Rattle.candidate_executions.specs.declared.event.Event.{Event}
 use Rattle.candidate_executions.specs.declared.event.Event.TheVariants.{Initial, Access as At}
-use Rattle.exec_axioms.specs.Parts.{Parts}
-use Rattle.exec_axioms.specs.Known.{IsAccess}
+use Rattle.candidate_executions.specs.Candidates.{IsAccess}
+use Rattle.candidate_executions.specs.Sketches.{given_to}
+use Rattle.exec_axioms.specs.ProgramSketches.{ProgramSketch, mode_in}
 use Rattle.cert_forest.specs.declared.tree.AccessId.{AccessId}
 use Rattle.tree_laws.specs.CoverTrees.{event_of}
 use Rattle.tree_laws.proofs.Lists.{none_here, first_or_later, first_is_here, later_is_here}
 use Rattle.cover_solver.specs.Internal.Accesses.{IsOfThread, NamesEvent}
 
 -- an access is no initial write
-pub of_thread : (s : Parts) (e : Event) → IsAccess s e → IsOfThread e
+pub of_thread : (s : ProgramSketch) (e : Event) → IsAccess s.program (mode_in s) (given_to s.chosen) e → IsOfThread e
 of_thread s (Initial l) h = h
 of_thread s (At t i) h = tt
 

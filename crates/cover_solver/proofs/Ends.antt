@@ -6,11 +6,11 @@ use Rattle.tso_program.specs.Shown.{show, shown_value, shows_location, value_if,
 use Rattle.tso_program.proofs.Kept.{memory_long, value_at, shown_twice}
 use Rattle.candidate_executions.specs.declared.event.Event.{Event}
 use Rattle.candidate_executions.specs.Candidates.{Writes}
-use Rattle.exec_axioms.specs.Parts.{Parts, mode_in, sketch_of, access_in}
-use Rattle.exec_axioms.specs.Completions.{MustEnd, MustEndSo}
-use Rattle.exec_axioms.specs.Endings.{MayBeLast}
+use Rattle.candidate_executions.specs.Sketches.{MayBeLast, MustEndAs}
+use Rattle.exec_axioms.specs.ProgramSketches.{ProgramSketch, mode_in, access_in}
+use Rattle.exec_axioms.specs.Completions.{MustEndSo}
 use Rattle.run_maker.specs.declared.run.MadeRun.{MadeRun}
-use Rattle.run_maker.specs.Complete.{IsMadeRun}
+use Rattle.run_maker.specs.MadeRuns.{IsMadeRun}
 use Rattle.tree_laws.specs.CoverTrees.{MustEndAsNumber}
 use Rattle.cover_solver.specs.Internal.Runs.{IsShownRunOf}
 use Rattle.cover_solver.specs.Covers.{IsEndNotListed}
@@ -20,7 +20,7 @@ twice true v = refl
 twice false v = refl
 
 -- a sketch that must end as an outcome must end as what is shown of it
-pub shown_end : (s : Parts) (shown : Shown) (o : Outcome) → MustEnd s shown o → MustEnd s shown (show shown o)
+pub shown_end : (s : ProgramSketch) (shown : Shown) (o : Outcome) → MustEndAs (asked s.program shown) (mode_in s) s.chosen o → MustEndAs (asked s.program shown) (mode_in s) s.chosen (show shown o)
 shown_end s shown o must = record {
   whole = must.whole;
   registers = ap (λ (x : Outcome). x.registers) (shown_twice shown o) ∙ must.registers;
@@ -28,7 +28,7 @@ shown_end s shown o must = record {
   memory = memory;
 }
   where
-    memory : (l v : ℕ) (e : Event) → l < length s.program.memory → Writes (access_in s) e l v → MayBeLast s l e →
+    memory : (l v : ℕ) (e : Event) → l < length s.program.memory → Writes (access_in s) e l v → MayBeLast s.program (mode_in s) s.chosen l e →
         shown_value shown l v ≡ shown_value shown l (slice_index (show shown o).memory l)
     memory l v e h w last =
         let long = must.long in
@@ -36,7 +36,7 @@ shown_end s shown o must = record {
         must.memory l v e h w last ∙ sym (ap (shown_value shown l) there ∙ twice (shows_location shown l) (slice_index o.memory l))
 
 -- the run of a sketch, with what is shown of its outcome
-pub shown_run_of : (s : Parts) (shown : Shown) (run made : MadeRun) → IsMadeRun s run.labels.items run.outcome → made ≡ record run { outcome = show shown run.outcome } → IsShownRunOf s shown made
+pub shown_run_of : (s : ProgramSketch) (shown : Shown) (run made : MadeRun) → IsMadeRun s run.labels.items run.outcome → made ≡ record run { outcome = show shown run.outcome } → IsShownRunOf s shown made
 shown_run_of s shown run made is same = subst (IsShownRunOf s shown) (sym same) (record {
   is_run = (run.outcome, is.is_run, refl);
   must_end = shown_end s shown run.outcome (is.must_end shown);
@@ -44,10 +44,10 @@ shown_run_of s shown run made is same = subst (IsShownRunOf s shown) (sym same) 
 })
 
 -- the end has this place in the list
-pub end_at : (s : Parts) (shown : Shown) (outcomes : List Outcome) (n : ℕ) (end : Outcome) → MustEndSo s shown end → slice_get outcomes n ≡ Some end →
-    MustEndAsNumber (asked s.program shown) (mode_in s) outcomes (sketch_of s) n
+pub end_at : (s : ProgramSketch) (shown : Shown) (outcomes : List Outcome) (n : ℕ) (end : Outcome) → MustEndSo s shown end → slice_get outcomes n ≡ Some end →
+    MustEndAsNumber (asked s.program shown) (mode_in s) outcomes s.chosen n
 end_at s shown outcomes n end must at = record { outcome = end; is_outcome = at; must_end = must.must_end }
 
 -- the end is not in the list
-pub end_not_there : (s : Parts) (shown : Shown) (outcomes : List Outcome) (end : Outcome) → MustEndSo s shown end → (Contains outcomes end → ⊥) → IsEndNotListed s shown outcomes
+pub end_not_there : (s : ProgramSketch) (shown : Shown) (outcomes : List Outcome) (end : Outcome) → MustEndSo s shown end → (Contains outcomes end → ⊥) → IsEndNotListed s shown outcomes
 end_not_there s shown outcomes end must none acyclic o ends here = none (subst (Contains outcomes) (must.only acyclic o ends) here)

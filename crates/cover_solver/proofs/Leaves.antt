@@ -4,20 +4,20 @@ use Rattle.tso_program.specs.declared.outcome.Outcome.{Outcome}
 use Rattle.tso_program.specs.declared.shown.Shown.{Shown}
 use Rattle.candidate_executions.specs.declared.event.Event.{Event}
 use Rattle.candidate_executions.specs.declared.event.Kind.{Kind}
-use Rattle.exec_axioms.specs.Parts.{Parts, mode_in, sketch_of}
+use Rattle.candidate_executions.specs.Sketches.{IsKnownCycle}
+use Rattle.exec_axioms.specs.ProgramSketches.{ProgramSketch, mode_in}
 use Rattle.exec_axioms.specs.Search.{IsSimpleCycle, AreFewAccesses}
 use Rattle.cert_forest.specs.declared.tree.AccessId.{AccessId}
 use Rattle.cert_forest.specs.Trees.{Cycle}
-use Rattle.tree_laws.specs.CoverTrees.{event_of, IsKnownCycle}
-use Rattle.cover_judge.proofs.ChoicesJudged.{cycle_is}
+use Rattle.tree_laws.specs.CoverTrees.{event_of}
 use Rattle.cover_solver.specs.Covers.{IsLeafAt}
 use Rattle.cover_solver.proofs.Neat.{neat_cycle}
 
 -- the leaf of a cycle
-pub cycle_leaf : (s : Parts) (shown : Shown) (outcomes : List Outcome) (kind : Kind) (accesses : List AccessId) (es : List Event) → map event_of accesses ≡ es → IsSimpleCycle s kind es → AreFewAccesses s es →
+pub cycle_leaf : (s : ProgramSketch) (shown : Shown) (outcomes : List Outcome) (kind : Kind) (accesses : List AccessId) (es : List Event) → map event_of accesses ≡ es → IsSimpleCycle s kind es → AreFewAccesses s es →
     IsLeafAt s shown outcomes (Cycle kind accesses)
 cycle_leaf s shown outcomes kind accesses es same simple few = record {
-  valid = subst (IsKnownCycle s.program (mode_in s) (sketch_of s) kind) (sym same) (cycle_is s kind es simple.cycle);
+  valid = subst (IsKnownCycle s.program (mode_in s) s.chosen kind) (sym same) simple.cycle;
   neat = neat_cycle s kind accesses es same simple few;
   leaf = refl;
 }

@@ -13,10 +13,9 @@ use Rattle.tso_machine.specs.Outcomes.{IsShownRun, AllowsShown}
 use Rattle.candidate_executions.specs.Sketches.{empty_sketch}
 use Rattle.tso_machine.specs.declared.mode.Mode as own
 use Rattle.tso_machine.specs.Modes.{machine_mode}
-use Rattle.exec_axioms.specs.Parts.{Parts, mode_in, sketch_of, first_parts}
+use Rattle.exec_axioms.specs.ProgramSketches.{ProgramSketch, mode_in, nothing_chosen}
 use Rattle.tree_laws.specs.CoverTrees.{IsCovered}
 use Rattle.tree_laws.proofs.ListedOutcomes.{listed, allowed_is_shown}
-use Rattle.cover_judge.proofs.SketchesAfter.{first_sketch}
 use Rattle.cover_solver.specs.declared.found.Found.{Found}
 use Rattle.cover_solver.specs.Found.{AreRunsOf, HasRunOfEach}
 use Rattle.cover_solver.specs.Explored.{Grows, IsListed}
@@ -33,7 +32,7 @@ there outcomes o (k, h, e) = (k, slice_get-get_or outcomes k o h ∙ ap Some e)
 
 -- a list that has the outcomes of all completions of the sketch with no choice, and a run of each, has exactly what the mode's machine allows
 pub exactly_allowed : (q : Question) (mode : Mode) (runs : List (List Label)) (outcomes : List Outcome) → JumpForward q.program.threads → AreRunsOf q mode runs outcomes →
-    IsCovered q mode outcomes empty_sketch → (o : Outcome) → Contains outcomes o ↔ AllowsShown q mode o
+    IsCovered q mode outcomes (empty_sketch q.program) → (o : Outcome) → Contains outcomes o ↔ AllowsShown q mode o
 exactly_allowed q mode runs outcomes forward are covered o = (
   allowed o,
   listed q mode outcomes o forward (λ x here. allowed_is_shown q mode x (allowed x here)) covered,
@@ -43,15 +42,15 @@ exactly_allowed q mode runs outcomes forward are covered o = (
     allowed x has = (let (n, at) = there outcomes x has in let (labels, found, is_run) = zip_at_right (IsShownRun q mode) runs outcomes n x are at in (labels, is_run))
 
 -- what is listed at the sketch with no choice
-pub covered_first : (p : Listing) (mode : own.Mode) (s : Parts) (shown : Shown) (outcomes : List Outcome) → s ≡ first_parts p mode → IsListed s shown outcomes (sketch_of s) →
-    IsCovered (asked p shown) (machine_mode p mode) outcomes empty_sketch
+pub covered_first : (p : Listing) (mode : own.Mode) (s : ProgramSketch) (shown : Shown) (outcomes : List Outcome) → s ≡ nothing_chosen p mode → IsListed s shown outcomes s.chosen →
+    IsCovered (asked p shown) (machine_mode p mode) outcomes (empty_sketch p)
 covered_first p mode s shown outcomes same listed =
-    subst (IsCovered (asked p shown) (machine_mode p mode) outcomes) (first_sketch p mode) (subst (λ (n : Parts). IsCovered (asked n.program shown) (mode_in n) outcomes (sketch_of n)) same listed)
+    subst (λ (n : ProgramSketch). IsCovered (asked n.program shown) (mode_in n) outcomes n.chosen) same listed
 
 -- what has grown from nothing has a run of each outcome
-pub runs_first : (p : Listing) (mode : own.Mode) (s : Parts) (shown : Shown) (old new : Found) → s ≡ first_parts p mode → old.outcomes.items ≡ [] → old.runs ≡ [] → Grows s shown old new →
+pub runs_first : (p : Listing) (mode : own.Mode) (s : ProgramSketch) (shown : Shown) (old new : Found) → s ≡ nothing_chosen p mode → old.outcomes.items ≡ [] → old.runs ≡ [] → Grows s shown old new →
     HasRunOfEach (asked p shown) (machine_mode p mode) new
 runs_first p mode s shown old new same no_outcomes no_runs grows =
-    subst (λ (n : Parts). HasRunOfEach (asked n.program shown) (mode_in n) new) same
+    subst (λ (n : ProgramSketch). HasRunOfEach (asked n.program shown) (mode_in n) new) same
     (grows.runs (subst (λ os. AreRunsOf (asked s.program shown) (mode_in s) old.runs os) (sym no_outcomes)
     (subst (λ rs. AreRunsOf (asked s.program shown) (mode_in s) rs []) (sym no_runs) tt)))

@@ -5,7 +5,7 @@ use Rattle.std.specs.Prelude.{◌^◌}
 use Rattle.std.proofs.lemmas.List.{length-map}
 use Rattle.candidate_executions.specs.declared.event.Event.{Event}
 use Rattle.candidate_executions.specs.declared.event.Kind.{Kind}
-use Rattle.exec_axioms.specs.Parts.{Parts}
+use Rattle.exec_axioms.specs.ProgramSketches.{ProgramSketch}
 use Rattle.exec_axioms.specs.Search.{HasSmallNumbers, IsSimpleCycle, AreFewAccesses}
 use Rattle.cert_forest.specs.declared.tree.AccessId.{AccessId}
 use Rattle.cert_forest.specs.Trees.{Cycle, Known}
@@ -35,7 +35,7 @@ all_other accesses pairs i j d h l same =
     pairs i j (event_of d) h (subst (λ n. j < n) (sym (length-map accesses event_of)) l) (mapped_at accesses i d ∙ ap event_of same ∙ sym (mapped_at accesses j d))
 
 -- a cycle with no event twice
-pub neat_cycle : (s : Parts) (kind : Kind) (accesses : List AccessId) (es : List Event) → map event_of accesses ≡ es → IsSimpleCycle s kind es → AreFewAccesses s es → IsNeat (Cycle kind accesses)
+pub neat_cycle : (s : ProgramSketch) (kind : Kind) (accesses : List AccessId) (es : List Event) → map event_of accesses ≡ es → IsSimpleCycle s kind es → AreFewAccesses s es → IsNeat (Cycle kind accesses)
 neat_cycle s kind accesses es same simple few = record {
   numbers = (
     (let long = sym (length-map accesses event_of) ∙ ap length same in let h = few.few in omega arith),

@@ -5,17 +5,18 @@ use Rattle.tso_program.specs.declared.listing.Listing.{Listing}
 use Rattle.tso_program.specs.declared.outcome.Outcome.{Outcome}
 use Rattle.tso_program.specs.declared.shown.Shown.{Shown}
 use Rattle.tso_program.specs.Shown.{asked}
-use Rattle.candidate_executions.specs.Sketches.{Sketch}
+use Rattle.candidate_executions.specs.Sketches.{Sketch, given_to}
+use Rattle.candidate_executions.specs.Candidates.{IsAccess}
+use Rattle.candidate_executions.proofs.Sketches.GivenValues.{reads_there}
 use Rattle.tso_machine.specs.declared.mode.Mode as own
 use Rattle.tso_machine.specs.Modes.{machine_mode}
-use Rattle.exec_axioms.specs.Parts.{Parts, mode_in, sketch_of, first_parts}
+use Rattle.exec_axioms.specs.ProgramSketches.{ProgramSketch, mode_in, nothing_chosen, with_chosen}
 use Rattle.exec_axioms.specs.Choices.{MayFollow}
 use Rattle.exec_axioms.specs.Kept.{IsLawful}
-use Rattle.exec_axioms.specs.Known.{IsAccess}
 use Rattle.exec_axioms.specs.Sizes.{choice_count, most_choices, HaveAllRegisters}
 use Rattle.exec_axioms.proofs.ChoicesCounted.{event_small}
 use Rattle.exec_axioms.proofs.BranchesCounted.{few_values, few_sources}
-use Rattle.run_maker.proofs.Completeness.{read_there, first_there, second_there}
+use Rattle.exec_axioms.proofs.Completeness.{read_there, first_there, second_there}
 use Rattle.cert_forest.specs.declared.tree.AccessId.{AccessId}
 use Rattle.cert_forest.specs.Trees.{Cover, Value, Source, Order, covers_of}
 use Rattle.cert_forest.specs.Texts.{count_covers}
@@ -24,9 +25,9 @@ use Rattle.cert_forest.specs.Limits.{cover_depth, covers_depth}
 use Rattle.tree_laws.specs.CoverTrees.{event_of, IsValidCover, AreValidCovers}
 use Rattle.cover_judge.specs.declared.choice.Choice.{Choice}
 use Rattle.cover_judge.specs.declared.choice.Choice.TheVariants as choice
-use Rattle.cover_judge.specs.Choices.{sketch_with, parts_after, MayChoose, IsValueOpen, AreValueChoices, AreSourceChoices}
+use Rattle.cover_judge.specs.Choices.{sketch_with, MayChoose, IsValueOpen, AreValueChoices, AreSourceChoices}
 use Rattle.cover_judge.proofs.ChoicesJudged.{no_order}
-use Rattle.cover_judge.proofs.SketchesAfter.{reads_there, moved, first_sketch}
+use Rattle.cover_judge.proofs.SketchesAfter.{moved}
 use Rattle.cover_solver.specs.declared.choices_left.OpenChoice.{OpenChoice}
 use Rattle.cover_solver.specs.declared.choices_left.OpenChoice.TheVariants as left
 use Rattle.cover_solver.specs.declared.fault.Stop.{Stop}
@@ -39,7 +40,7 @@ map_map f g [] = refl
 map_map f g (x ∷ xs) = ap (λ ys. f (g x) ∷ ys) (map_map f g xs)
 
 -- as many trees as sketches
-as_many : (s : Parts) (shown : Shown) (outcomes : List Outcome) (trees : List Cover) (ks : List Sketch) → AreValidCovers (asked s.program shown) (mode_in s) outcomes (covers_of trees) ks → length trees ≡ length ks
+as_many : (s : ProgramSketch) (shown : Shown) (outcomes : List Outcome) (trees : List Cover) (ks : List Sketch) → AreValidCovers (asked s.program shown) (mode_in s) outcomes (covers_of trees) ks → length trees ≡ length ks
 as_many s shown outcomes [] [] valid = refl
 as_many s shown outcomes [] (k ∷ ks) valid = absurd valid
 as_many s shown outcomes (tree ∷ trees) [] valid = absurd valid
@@ -50,13 +51,13 @@ counted [] = refl
 counted (tree ∷ trees) = ap suc (counted trees)
 
 -- an access of a lawful sketch has the numbers of one in a certificate
-named_small : (s : Parts) (a : AccessId) → IsLawful s → IsAccess s (event_of a) → limits.IsAccessId a
+named_small : (s : ProgramSketch) (a : AccessId) → IsLawful s → IsAccess s.program (mode_in s) (given_to s.chosen) (event_of a) → limits.IsAccessId a
 named_small s a lawful is = (let small = event_small s lawful (event_of a) is in ((let h = small.0 in omega arith), (let h = small.1 in omega arith)))
 
-module _ (s : Parts) (shown : Shown) (outcomes : List Outcome) (lawful : IsLawful s) where
+module _ (s : ProgramSketch) (shown : Shown) (outcomes : List Outcome) (lawful : IsLawful s) where
   -- there are as many trees as choices
   pub as_many_choices : (choices : List Choice) (trees : List Cover) → AreCoversAfter s shown outcomes choices trees → length trees ≡ length choices
-  as_many_choices choices trees are = as_many s shown outcomes trees (map (sketch_with (sketch_of s)) choices) are.valid ∙ length-map choices (sketch_with (sketch_of s))
+  as_many_choices choices trees are = as_many s shown outcomes trees (map (sketch_with s.chosen) choices) are.valid ∙ length-map choices (sketch_with s.chosen)
 
   -- over the values of a read
   value_cover : (t : ℕ) (choices : List Choice) (trees : List Cover) → HaveAllRegisters s.program.threads → IsValueOpen s t → AreValueChoices s t choices → AreCoversAfter s shown outcomes choices trees →
@@ -65,11 +66,11 @@ module _ (s : Parts) (shown : Shown) (outcomes : List Outcome) (lawful : IsLawfu
     valid = (
       are.values,
       are.next,
-      subst (AreValidCovers (asked s.program shown) (mode_in s) outcomes (covers_of trees)) (ap (map (sketch_with (sketch_of s))) are.each ∙ map_map (sketch_with (sketch_of s)) (choice.Value t) are.values) covers.valid,
+      subst (AreValidCovers (asked s.program shown) (mode_in s) outcomes (covers_of trees)) (ap (map (sketch_with s.chosen)) are.each ∙ map_map (sketch_with s.chosen) (choice.Value t) are.values) covers.valid,
     );
     neat = record {
       numbers = (
-        (let there = reads_there s t are.next.location are.next.next in let few = lawful.within.shared.few_threads in omega arith),
+        (let there = reads_there s.program (mode_in s) s.chosen t are.next.location are.next.next in let few = lawful.within.shared.few_threads in omega arith),
         (let few = few_values s.program are.next.location are.values lawful.within six are.next.ascending (λ v. (are.next.exact v).0) in
             let long = counted trees ∙ as_many_choices choices trees covers ∙ ap length are.each ∙ length-map are.values (choice.Value t) in
             omega arith),
@@ -81,18 +82,18 @@ module _ (s : Parts) (shown : Shown) (outcomes : List Outcome) (lawful : IsLawfu
   }
 
   -- over the sources of a read
-  source_cover : (read : AccessId) (choices : List Choice) (trees : List Cover) → IsAccess s (event_of read) → AreSourceChoices s read choices → AreCoversAfter s shown outcomes choices trees →
+  source_cover : (read : AccessId) (choices : List Choice) (trees : List Cover) → IsAccess s.program (mode_in s) (given_to s.chosen) (event_of read) → AreSourceChoices s read choices → AreCoversAfter s shown outcomes choices trees →
       IsCoverAt s shown outcomes (Source read (covers_of trees))
   source_cover read choices trees is are covers = record {
     valid = (
       are.sources,
       are.next,
-      subst (AreValidCovers (asked s.program shown) (mode_in s) outcomes (covers_of trees)) (ap (map (sketch_with (sketch_of s))) are.each ∙ map_map (sketch_with (sketch_of s)) (choice.Source read) are.sources) covers.valid,
+      subst (AreValidCovers (asked s.program shown) (mode_in s) outcomes (covers_of trees)) (ap (map (sketch_with s.chosen)) are.each ∙ map_map (sketch_with s.chosen) (choice.Source read) are.sources) covers.valid,
     );
     neat = record {
       numbers = (
         named_small s read lawful is,
-        (let few = few_sources s.program (mode_in s) (sketch_of s) (event_of read) lawful.within are.sources are.next.in_order (λ e. (are.next.exact e).0) in
+        (let few = few_sources s.program (mode_in s) s.chosen (event_of read) lawful.within are.sources are.next.in_order (λ e. (are.next.exact e).0) in
             let long = counted trees ∙ as_many_choices choices trees covers ∙ ap length are.each ∙ length-map are.sources (choice.Source read) in
             omega arith),
         covers.neat.numbers,
@@ -171,20 +172,20 @@ module _ (s : Parts) (shown : Shown) (outcomes : List Outcome) (lawful : IsLawfu
   covers_more choices trees more i d tree h pushed are is =
       subst (AreCoversAfter s shown outcomes (take (i + 1) choices)) (sym pushed)
       (subst (λ cs. AreCoversAfter s shown outcomes cs (trees ++ tree ∷ [])) (sym (take_more choices i d h)) (record {
-        valid = subst (AreValidCovers (asked s.program shown) (mode_in s) outcomes (covers_of (trees ++ tree ∷ []))) (sym (map-append (sketch_with (sketch_of s)) (take i choices) (get_or choices i d ∷ [])))
-            (valid_push trees (map (sketch_with (sketch_of s)) (take i choices)) tree (sketch_with (sketch_of s) (get_or choices i d)) are.valid is.valid);
+        valid = subst (AreValidCovers (asked s.program shown) (mode_in s) outcomes (covers_of (trees ++ tree ∷ []))) (sym (map-append (sketch_with s.chosen) (take i choices) (get_or choices i d ∷ [])))
+            (valid_push trees (map (sketch_with s.chosen) (take i choices)) tree (sketch_with s.chosen (get_or choices i d)) are.valid is.valid);
         neat = neat_push trees tree are.neat is.neat;
         shallow = depth_push trees tree (choice_count s) most_choices are.shallow is.shallow;
       }))
 
   -- a tree at the sketch with one choice more
-  module _ (next : Parts) (c : Choice) (tree : Cover) (may : MayChoose s c) (same : next ≡ parts_after s c) (moves : sketch_of next ≡ sketch_with (sketch_of s) c) (is : IsCoverAt next shown outcomes tree) where
+  module _ (next : ProgramSketch) (c : Choice) (tree : Cover) (may : MayChoose s c) (same : next ≡ with_chosen s (sketch_with s.chosen c)) (is : IsCoverAt next shown outcomes tree) where
     one_more : choice_count next ≡ choice_count s + 1
     one_more = ap choice_count same ∙ counted_after s c lawful may
 
     pub cover_next : IsCoverAfter s shown outcomes c tree
     cover_next = record {
-      valid = moved (λ p mode k. IsValidCover (asked p shown) mode outcomes tree k) s next c same moves is.valid;
+      valid = moved (λ p mode k. IsValidCover (asked p shown) mode outcomes tree k) s next c same is.valid;
       neat = is.neat;
       shallow = (let count = one_more in let below = is.shallow in omega arith);
     }
@@ -194,17 +195,17 @@ module _ (s : Parts) (shown : Shown) (outcomes : List Outcome) (lawful : IsLawfu
     cover_without valid = record { valid = valid; neat = is.neat; shallow = (let count = one_more in let below = is.shallow in omega arith) }
 
 -- a tree at the sketch with no choice
-pub cover_first : (p : Listing) (mode : own.Mode) (s : Parts) (shown : Shown) (outcomes : List Outcome) (tree : Cover) → s ≡ first_parts p mode → IsCoverAt s shown outcomes tree →
+pub cover_first : (p : Listing) (mode : own.Mode) (s : ProgramSketch) (shown : Shown) (outcomes : List Outcome) (tree : Cover) → s ≡ nothing_chosen p mode → IsCoverAt s shown outcomes tree →
     IsWholeCover (asked p shown) (machine_mode p mode) outcomes tree
 cover_first p mode s shown outcomes tree same is =
-    let first = subst (λ (n : Parts). IsCoverAt n shown outcomes tree) same is in
+    let first = subst (λ (n : ProgramSketch). IsCoverAt n shown outcomes tree) same is in
     record {
-      valid = subst (IsValidCover (asked p shown) (machine_mode p mode) outcomes tree) (first_sketch p mode) first.valid;
+      valid = first.valid;
       neat = first.neat;
       shallow = (let below = first.shallow in omega arith);
     }
 
 -- a search that stops at the sketch after a choice stops at the sketch
-pub stop_after : (s next : Parts) (shown : Shown) (outcomes : List Outcome) (c : Choice) (why : Stop) → next ≡ parts_after s c → sketch_of next ≡ sketch_with (sketch_of s) c →
+pub stop_after : (s next : ProgramSketch) (shown : Shown) (outcomes : List Outcome) (c : Choice) (why : Stop) → next ≡ with_chosen s (sketch_with s.chosen c) →
     StopIs (asked next.program shown) (mode_in next) outcomes why → StopIs (asked s.program shown) (mode_in s) outcomes why
-stop_after s next shown outcomes c why same moves is = moved (λ p mode k. StopIs (asked p shown) mode outcomes why) s next c same moves is
+stop_after s next shown outcomes c why same is = moved (λ p mode k. StopIs (asked p shown) mode outcomes why) s next c same is

@@ -6,16 +6,17 @@ use Rattle.std.proofs.lemmas.List.{get_or-drop, length-drop, take_all}
 use Rattle.tso_program.specs.declared.listing.Thread.{Thread}
 use Rattle.candidate_executions.specs.declared.event.Event.{Event}
 use Rattle.candidate_executions.specs.Sketches as sketches
-use Rattle.exec_axioms.specs.Parts.{Parts, mode_in, sketch_of, trace_in}
-use Rattle.exec_axioms.specs.Choices.{IsWhole, IsPair, IsOrdered, MayFollow}
+use Rattle.candidate_executions.specs.Sketches.{IsPair, IsWhole}
+use Rattle.exec_axioms.specs.ProgramSketches.{ProgramSketch, mode_in, trace_in}
+use Rattle.exec_axioms.specs.Choices.{IsOrdered, MayFollow}
 use Rattle.cover_judge.specs.declared.choice.Choice.{Choice}
 use Rattle.cover_judge.specs.declared.choice.Choice.TheVariants as choice
 use Rattle.cover_judge.specs.Choices.{MayChoose, MayChooseEach}
 use Rattle.cover_judge.proofs.ChoicesJudged.{other_way, turned}
 use Rattle.exec_axioms.proofs.TracesKept.{no_action}
 use Rattle.exec_axioms.proofs.Lookups.{same_default}
-use Rattle.run_maker.specs.Complete.{IsComplete, HasItsSource}
-use Rattle.run_maker.proofs.Completeness.{read_there, first_there, second_there}
+use Rattle.exec_axioms.specs.Complete.{IsComplete, HasItsSource}
+use Rattle.exec_axioms.proofs.Completeness.{read_there, first_there, second_there}
 use Rattle.cover_solver.specs.declared.choices_left.OpenChoice.{OpenChoice}
 use Rattle.cert_forest.specs.declared.tree.AccessId.{AccessId}
 use Rattle.tree_laws.specs.CoverTrees.{event_of}
@@ -59,7 +60,7 @@ later_found xs i j d h l = (
 )
 
 -- the events so far are in order with all later ones, and so is the next one
-pub each_later : (s : Parts) (xs : List AccessId) (i : ℕ) (first : AccessId) → i < length xs → ((d : AccessId) → get_or xs i d ≡ first) →
+pub each_later : (s : ProgramSketch) (xs : List AccessId) (i : ℕ) (first : AccessId) → i < length xs → ((d : AccessId) → get_or xs i d ≡ first) →
     ((a b : ℕ) (d : AccessId) → a < i → a < b → b < length xs → AreWritesInOrder s (get_or xs a d) (get_or xs b d)) → IsInOrderWithEach s first (drop (i + 1) xs) →
     (a b : ℕ) (d : AccessId) → a < i + 1 → a < b → b < length xs → AreWritesInOrder s (get_or xs a d) (get_or xs b d)
 each_later s xs i first h is below here a b d l m n = elim (cases_lt a i) [
@@ -71,11 +72,11 @@ each_later s xs i first h is below here a b d l m n = elim (cases_lt a i) [
 ]
 
 -- the other way round
-other_order : (s : Parts) (d e : Event) → IsOrdered s d e → IsOrdered s e d
+other_order : (s : ProgramSketch) (d e : Event) → IsOrdered s d e → IsOrdered s e d
 other_order s d e h = elim h [ inl a ↦ inr a | inr a ↦ inl a ]
 
 -- a sketch with each value, source and order is complete
-pub complete_of : (s : Parts) (accesses : List AccessId) → HasAccesses s accesses → IsWhole s → HasEachSource s accesses → IsEachInOrder s accesses → IsComplete s
+pub complete_of : (s : ProgramSketch) (accesses : List AccessId) → HasAccesses s accesses → IsWhole s.program (mode_in s) s.chosen → HasEachSource s accesses → IsEachInOrder s accesses → IsComplete s
 complete_of s accesses has whole sources orders = record {
   whole = whole;
   sources = λ e reads. (let (a, here, is) = has e (read_there s e reads) in subst (HasItsSource s) is (sources a here) reads);
@@ -83,24 +84,24 @@ complete_of s accesses has whole sources orders = record {
       let (a, here, is) = has d (first_there s d e pair) in
       let (b, there, same) = has e (second_there s d e pair) in
       subst (λ x. IsOrdered s x e) is (subst (IsOrdered s (event_of a)) same
-      (in_order a b here there (subst (λ x. IsPair s x (event_of b)) (sym is) (subst (IsPair s d) (sym same) pair)))));
+      (in_order a b here there (subst (λ x. IsPair s.program (mode_in s) s.chosen x (event_of b)) (sym is) (subst (IsPair s.program (mode_in s) s.chosen d) (sym same) pair)))));
 }
   where
-    in_order : (a b : AccessId) → Contains accesses a → Contains accesses b → IsPair s (event_of a) (event_of b) → IsOrdered s (event_of a) (event_of b)
+    in_order : (a b : AccessId) → Contains accesses a → Contains accesses b → IsPair s.program (mode_in s) s.chosen (event_of a) (event_of b) → IsOrdered s (event_of a) (event_of b)
     in_order a b (i, h, p) (j, l, q) pair = elim (cases_lt i j) [
       | inl less ↦ subst (λ x. IsOrdered s (event_of x) (event_of b)) p (subst (λ y. IsOrdered s (event_of (get_or accesses i a)) (event_of y)) (same_default accesses j a b l ∙ q)
-          (orders i j a less l (subst (λ x. IsPair s (event_of x) (event_of (get_or accesses j a))) (sym p) (subst (λ y. IsPair s (event_of a) (event_of y)) (sym (same_default accesses j a b l ∙ q)) pair))))
+          (orders i j a less l (subst (λ x. IsPair s.program (mode_in s) s.chosen (event_of x) (event_of (get_or accesses j a))) (sym p) (subst (λ y. IsPair s.program (mode_in s) s.chosen (event_of a) (event_of y)) (sym (same_default accesses j a b l ∙ q)) pair))))
       | inr more ↦ elim (cases_lt j i) [
         | inl less ↦ other_order s (event_of b) (event_of a)
             (subst (λ x. IsOrdered s (event_of x) (event_of a)) q (subst (λ y. IsOrdered s (event_of (get_or accesses j b)) (event_of y)) (same_default accesses i b a h ∙ p)
-            (orders j i b less h (subst (λ x. IsPair s (event_of x) (event_of (get_or accesses i b))) (sym q)
-            (subst (λ y. IsPair s (event_of b) (event_of y)) (sym (same_default accesses i b a h ∙ p)) (turned s.program (mode_in s) (sketch_of s) (event_of a) (event_of b) pair))))))
+            (orders j i b less h (subst (λ x. IsPair s.program (mode_in s) s.chosen (event_of x) (event_of (get_or accesses i b))) (sym q)
+            (subst (λ y. IsPair s.program (mode_in s) s.chosen (event_of b) (event_of y)) (sym (same_default accesses i b a h ∙ p)) (turned s.program (mode_in s) s.chosen (event_of a) (event_of b) pair))))))
         | inr none ↦ (let same : i ≡ j = omega arith in absurd (pair.0 (ap event_of (sym p ∙ ap (λ n. get_or accesses n a) same ∙ same_default accesses j a b l ∙ q))))
       ]
     ]
 
 -- a thread that is not there has no next read
-pub no_read : (s : Parts) (threads : List Thread) (t : ℕ) → threads ≡ s.program.threads → length threads ≤ t → sketches.next_read s.program (mode_in s) (sketch_of s) t ≡ None
+pub no_read : (s : ProgramSketch) (threads : List Thread) (t : ℕ) → threads ≡ s.program.threads → length threads ≤ t → sketches.next_read s.program (mode_in s) s.chosen t ≡ None
 no_read s threads t same h = ap sketches.read_by (no_action s.program.threads t (trace_in s t).last (subst (λ ts. length ts ≤ t) same h))
 
 -- an option that has no value
@@ -113,7 +114,7 @@ pub rest_is : {A : Type 0} (xs : List A) (n : ℕ) → take (length xs - n) (dro
 rest_is xs n = take_all (length xs - n) (drop n xs) (subst (λ m. m ≤ length xs - n) (sym (length-drop n xs)) (omega arith))
 
 -- both orders of two writes may be chosen
-pub both_may : (s : Parts) (first second : AccessId) (choices : List Choice) → MayFollow s (event_of first) (event_of second) →
+pub both_may : (s : ProgramSketch) (first second : AccessId) (choices : List Choice) → MayFollow s (event_of first) (event_of second) →
     choices ≡ choice.Order first second ∷ choice.Order second first ∷ [] → MayChooseEach s choices
 both_may s first second choices may same = subst (MayChooseEach s) (sym same) (record { each = each })
   where

@@ -6,9 +6,8 @@ use Rattle.tso_program.specs.declared.shown.Shown.{Shown}
 use Rattle.tso_program.specs.Shown.{Question, asked, show}
 use Rattle.tso_machine.specs.Machine.{Mode}
 use Rattle.tso_machine.specs.Outcomes.{IsShownRun}
-use Rattle.candidate_executions.specs.Sketches.{empty_sketch}
-use Rattle.exec_axioms.specs.Parts.{Parts, mode_in, sketch_of}
-use Rattle.exec_axioms.specs.Completions.{MustEnd}
+use Rattle.candidate_executions.specs.Sketches.{empty_sketch, MustEndAs}
+use Rattle.exec_axioms.specs.ProgramSketches.{ProgramSketch, mode_in}
 use Rattle.exec_axioms.specs.Known.{HasNoCycle}
 use Rattle.exec_axioms.specs.Sizes.{choice_count, most_choices}
 use Rattle.cert_forest.specs.Trees.{Cover, Value, Source, Order, Cycle, Known, Covers, NoCover, MoreCovers, covers_of}
@@ -48,44 +47,44 @@ pub record AreNeat (trees : Covers) : Type 0 where
   pub simple : HaveSimpleCycles trees
 
 -- what is shown of no outcome as which the sketch must end is in the list
-abbrev pub IsEndNotListed : Parts → Shown → List Outcome → Type 0
-IsEndNotListed s shown outcomes = HasNoCycle s → (o : Outcome) → MustEnd s shown o → Contains outcomes (show shown o) → ⊥
+abbrev pub IsEndNotListed : ProgramSketch → Shown → List Outcome → Type 0
+IsEndNotListed s shown outcomes = HasNoCycle s → (o : Outcome) → MustEndAs (asked s.program shown) (mode_in s) s.chosen o → Contains outcomes (show shown o) → ⊥
 
 -- neither an outcome of the list nor a cycle closes the sketch
-pub record IsUnsettled (s : Parts) (shown : Shown) (outcomes : List Outcome) : Type 0 where
+pub record IsUnsettled (s : ProgramSketch) (shown : Shown) (outcomes : List Outcome) : Type 0 where
   pub not_listed : IsEndNotListed s shown outcomes
   pub acyclic : HasNoCycle s
 
 -- the tree is valid at the sketch
-abbrev pub IsValidAt : Parts → Shown → List Outcome → Cover → Type 0
-IsValidAt s shown outcomes tree = IsValidCover (asked s.program shown) (mode_in s) outcomes tree (sketch_of s)
+abbrev pub IsValidAt : ProgramSketch → Shown → List Outcome → Cover → Type 0
+IsValidAt s shown outcomes tree = IsValidCover (asked s.program shown) (mode_in s) outcomes tree s.chosen
 
 -- a valid leaf at the sketch
-pub record IsLeafAt (s : Parts) (shown : Shown) (outcomes : List Outcome) (tree : Cover) : Type 0 where
+pub record IsLeafAt (s : ProgramSketch) (shown : Shown) (outcomes : List Outcome) (tree : Cover) : Type 0 where
   pub valid : IsValidAt s shown outcomes tree
   pub neat : IsNeat tree
   pub leaf : cover_depth tree ≡ 1
 
 -- a valid tree at the sketch, which has one level for each choice that is left at most, and one for its leaves
-pub record IsCoverAt (s : Parts) (shown : Shown) (outcomes : List Outcome) (tree : Cover) : Type 0 where
+pub record IsCoverAt (s : ProgramSketch) (shown : Shown) (outcomes : List Outcome) (tree : Cover) : Type 0 where
   pub valid : IsValidAt s shown outcomes tree
   pub neat : IsNeat tree
   pub shallow : cover_depth tree + choice_count s ≤ most_choices + 1
 
 -- the same at the sketch after a choice
-pub record IsCoverAfter (s : Parts) (shown : Shown) (outcomes : List Outcome) (choice : Choice) (tree : Cover) : Type 0 where
-  pub valid : IsValidCover (asked s.program shown) (mode_in s) outcomes tree (sketch_with (sketch_of s) choice)
+pub record IsCoverAfter (s : ProgramSketch) (shown : Shown) (outcomes : List Outcome) (choice : Choice) (tree : Cover) : Type 0 where
+  pub valid : IsValidCover (asked s.program shown) (mode_in s) outcomes tree (sketch_with s.chosen choice)
   pub neat : IsNeat tree
   pub shallow : cover_depth tree + choice_count s ≤ most_choices
 
 -- the same of a tree for each choice
-pub record AreCoversAfter (s : Parts) (shown : Shown) (outcomes : List Outcome) (choices : List Choice) (trees : List Cover) : Type 0 where
-  pub valid : AreValidCovers (asked s.program shown) (mode_in s) outcomes (covers_of trees) (map (sketch_with (sketch_of s)) choices)
+pub record AreCoversAfter (s : ProgramSketch) (shown : Shown) (outcomes : List Outcome) (choices : List Choice) (trees : List Cover) : Type 0 where
+  pub valid : AreValidCovers (asked s.program shown) (mode_in s) outcomes (covers_of trees) (map (sketch_with s.chosen) choices)
   pub neat : AreNeat (covers_of trees)
   pub shallow : covers_depth (covers_of trees) + choice_count s ≤ most_choices
 
 -- a tree for each choice, or one that needs none
-abbrev pub AreChildren : Parts → Shown → List Outcome → List Choice → Children → Type 0
+abbrev pub AreChildren : ProgramSketch → Shown → List Outcome → List Choice → Children → Type 0
 AreChildren s shown outcomes choices (children.Each trees) = AreCoversAfter s shown outcomes choices (map cover trees.items)
 AreChildren s shown outcomes choices (children.One tree) = IsCoverAt s shown outcomes (cover tree)
 
@@ -105,7 +104,7 @@ IsArity (left.Order first second) n = n ≡ 2
 
 -- a valid tree at the sketch with no choice
 pub record IsWholeCover (q : Question) (mode : Mode) (outcomes : List Outcome) (tree : Cover) : Type 0 where
-  pub valid : IsValidCover q mode outcomes tree empty_sketch
+  pub valid : IsValidCover q mode outcomes tree (empty_sketch q.program)
   pub neat : IsNeat tree
   pub shallow : cover_depth tree ≤ most_choices + 1
 

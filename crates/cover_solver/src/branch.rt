@@ -1,6 +1,6 @@
 //! Branches: what is chosen next, and its choices.
 ghost use Rattle.std.specs.Prelude.{◌≡◌, IfOk, MatchOption, [], ◌∷◌};
-ghost use Rattle.run_maker.specs.Complete.{IsComplete};
+ghost use Rattle.exec_axioms.specs.Complete.{IsComplete};
 ghost use Rattle.cover_judge.specs.Choices.{MayChooseEach};
 ghost use Rattle.cover_solver.specs.Choices.{IsOpen, AreChoicesOf};
 ghost use Rattle.cover_solver.specs.Ordered.{Ascend};

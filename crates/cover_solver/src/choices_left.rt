@@ -1,8 +1,9 @@
 //! What is left to be chosen in a sketch.
 ghost use Rattle.std.specs.Prelude.{◌≡◌, ◌<◌, IfOk, OnOk, IsTrue, All, Contains, [], false};
-ghost use Rattle.exec_axioms.specs.Choices.{IsWhole};
+ghost use Rattle.candidate_executions.specs.Sketches.{IsWhole};
+ghost use Rattle.exec_axioms.specs.ProgramSketches.{mode_in};
 ghost use Rattle.tree_laws.specs.CoverTrees as trees;
-ghost use Rattle.run_maker.specs.Complete.{IsComplete, HasItsSource, IsOrderedWith};
+ghost use Rattle.exec_axioms.specs.Complete.{IsComplete, HasItsSource, IsOrderedWith};
 ghost use Rattle.cover_solver.specs.Choices.{IsOpen, NeedsSource, NeedsOrder};
 ghost use Rattle.cover_solver.specs.Internal.ChoicesLeft.{LeavesNone, HasEachSource, IsEachInOrder, IsInOrderWithEach};
 
@@ -39,7 +40,7 @@ pub(crate) fn open_choices(alloc: Global, sketch: &Sketch) -> Result<Vec<OpenCho
 /// The threads that have a next read.
 fn open_values(alloc: Global, sketch: &Sketch) -> Result<Vec<OpenChoice>, AllocError>
     ensures each { IfOk result (λ left. All (IsOpen sketch.now) left.items) }
-    ensures whole { IfOk result (λ left. left.items ≡ [] → IsWhole sketch.now) }
+    ensures whole { IfOk result (λ left. left.items ≡ [] → IsWhole sketch.now.program (mode_in sketch.now) sketch.now.chosen) }
 {
     let mut left = Vec::new(alloc);
     for t in 0..sketch.program().threads().len() as u8 {
@@ -52,7 +53,7 @@ fn open_values(alloc: Global, sketch: &Sketch) -> Result<Vec<OpenChoice>, AllocE
 
 /// The sources and orders that are left, where each read has its value.
 fn open_in_whole(alloc: Global, sketch: &Sketch) -> Result<Vec<OpenChoice>, AllocError>
-    requires { IsWhole sketch.now }
+    requires { IsWhole sketch.now.program (mode_in sketch.now) sketch.now.chosen }
     ensures each { IfOk result (λ left. All (IsOpen sketch.now) left.items) }
     ensures complete { IfOk result (λ left. left.items ≡ [] → IsComplete sketch.now) }
 {
@@ -69,7 +70,7 @@ fn push_sources(
     accesses: &[AccessId],
     left: &mut Vec<OpenChoice>,
 ) -> Result<(), AllocError>
-    requires whole { IsWhole sketch.now }
+    requires whole { IsWhole sketch.now.program (mode_in sketch.now) sketch.now.chosen }
     requires each { All (IsOpen sketch.now) left.old.items }
     ensures each { OnOk result (All (IsOpen sketch.now) left.new.items) }
     ensures none { OnOk result (LeavesNone left.old.items left.new.items (HasEachSource sketch.now accesses.now)) }
@@ -107,7 +108,7 @@ fn push_orders(
     accesses: &[AccessId],
     left: &mut Vec<OpenChoice>,
 ) -> Result<(), AllocError>
-    requires whole { IsWhole sketch.now }
+    requires whole { IsWhole sketch.now.program (mode_in sketch.now) sketch.now.chosen }
     requires each { All (IsOpen sketch.now) left.old.items }
     ensures each { OnOk result (All (IsOpen sketch.now) left.new.items) }
     ensures none { OnOk result (LeavesNone left.old.items left.new.items (IsEachInOrder sketch.now accesses.now)) }
@@ -125,7 +126,7 @@ fn push_orders_of(
     others: &[AccessId],
     left: &mut Vec<OpenChoice>,
 ) -> Result<(), AllocError>
-    requires whole { IsWhole sketch.now }
+    requires whole { IsWhole sketch.now.program (mode_in sketch.now) sketch.now.chosen }
     requires each { All (IsOpen sketch.now) left.old.items }
     ensures each { OnOk result (All (IsOpen sketch.now) left.new.items) }
     ensures none { OnOk result (LeavesNone left.old.items left.new.items (IsInOrderWithEach sketch.now first others.now)) }
@@ -150,11 +151,11 @@ fn lacks_order(sketch: &Sketch, first: Event, second: Event) -> bool
     ensures needs { IsTrue result → NeedsOrder sketch.now first second }
     ensures has { result ≡ false → IsOrderedWith sketch.now first second }
 {
+    if !sketch.is_pair(first, second) {
+        return false;
+    }
     if sketch.before(first, second) {
         return false;
     }
-    if sketch.before(second, first) {
-        return false;
-    }
-    sketch.is_pair(first, second)
+    !sketch.before(second, first)
 }

@@ -2,7 +2,7 @@
 ghost use Rattle.std.specs.Prelude.{◌≡◌, IfOk, IfErr, IsTrue, map, length};
 ghost use Rattle.tso_program.specs.Shown.{asked};
 ghost use Rattle.tso_machine.specs.Modes.{machine_mode};
-ghost use Rattle.exec_axioms.specs.Parts.{mode_in};
+ghost use Rattle.exec_axioms.specs.ProgramSketches.{mode_in};
 ghost use Rattle.cert_forest.specs.Views.{cover};
 ghost use Rattle.cover_judge.specs.Choices.{MayChooseEach};
 ghost use Rattle.cover_solver.specs.Ordered.{Ascend};

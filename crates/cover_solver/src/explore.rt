@@ -5,7 +5,7 @@ ghost use Rattle.tso_program.specs.Shown.{asked};
 ghost use Rattle.tso_machine.specs.Outcomes.{AllowsShown};
 ghost use Rattle.exec_axioms.specs.Known.{HasNoCycle};
 ghost use Rattle.tso_machine.specs.Modes.{machine_mode};
-ghost use Rattle.run_maker.specs.Complete.{IsComplete};
+ghost use Rattle.exec_axioms.specs.Complete.{IsComplete};
 ghost use Rattle.cover_judge.specs.Choices.{MayChooseEach};
 ghost use Rattle.cover_solver.specs.Found.{AscendWithRuns, HasRunOfEach};
 ghost use Rattle.cover_solver.specs.Explored.{Explores, ExploresEach};

@@ -3,7 +3,7 @@ ghost use Rattle.std.specs.Prelude.{◌≡◌, IfOk, MatchOption, List};
 ghost use Rattle.tso_program.specs.declared.outcome.Outcome.{Outcome};
 ghost use Rattle.tso_program.specs.declared.shown.Shown.{Shown};
 ghost use Rattle.tso_program.specs.Shown.{asked};
-ghost use Rattle.exec_axioms.specs.Parts.{mode_in, sketch_of};
+ghost use Rattle.exec_axioms.specs.ProgramSketches.{mode_in};
 ghost use Rattle.exec_axioms.specs.Known.{HasNoCycle};
 ghost use Rattle.exec_axioms.specs.Search.{IsSimpleCycle, AreFewAccesses};
 ghost use Rattle.cert_forest.specs.Views.{cover};
@@ -45,7 +45,7 @@ pub(crate) fn known(
     outcomes: &[Outcome],
 ) -> Result<Option<usize>, AllocError>
     requires { Ascend outcomes.now }
-    ensures { IfOk result (λ number. MatchOption number (IsEndNotListed sketch.now shown.now outcomes.now) (MustEndAsNumber (asked sketch.now.program shown.now) (mode_in sketch.now) outcomes.now (sketch_of sketch.now))) }
+    ensures { IfOk result (λ number. MatchOption number (IsEndNotListed sketch.now shown.now outcomes.now) (MustEndAsNumber (asked sketch.now.program shown.now) (mode_in sketch.now) outcomes.now sketch.now.chosen)) }
 {
     match sketch.must_end(shown)? {
         Some(end) => match place_of(outcomes, &end) {

@@ -22,7 +22,8 @@ struct Merit {
     is_order: bool,
 }
 
-/// The number of the choice that is made first.
+/// The number of the choice that is made first. Where a choice leaves no child open, it is made, and no
+/// other is looked at.
 pub(crate) fn preferred(
     alloc: Global,
     sketch: &Sketch,
@@ -38,6 +39,9 @@ pub(crate) fn preferred(
     let mut best: usize = 0;
     let mut merit = merit_of(alloc, sketch, shown, outcomes, left[0])?;
     for (number, next) in left.iter().enumerate() {
+        if merit.open == 0 {
+            return Ok(best);
+        }
         let other = merit_of(alloc, sketch, shown, outcomes, *next)?;
         if other < merit {
             best = number;

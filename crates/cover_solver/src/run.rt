@@ -1,7 +1,7 @@
 //! Runs of complete sketches, as far as their outcomes are shown.
 ghost use Rattle.std.specs.Prelude.{◌≡◌, IfOk};
 ghost use Rattle.exec_axioms.specs.Known.{HasNoCycle};
-ghost use Rattle.run_maker.specs.Complete.{IsComplete};
+ghost use Rattle.exec_axioms.specs.Complete.{IsComplete};
 ghost use Rattle.tso_program.specs.Shown.{show};
 ghost use Rattle.cover_solver.specs.Internal.Runs.{IsShownRunOf};
 

@@ -19,10 +19,10 @@ use Rattle.candidate_executions.specs.declared.event.Event.{Event}
 use Rattle.candidate_executions.specs.declared.event.Event.TheVariants.{Initial, Access as At}
 use Rattle.candidate_executions.specs.Candidates.{access_by}
 use Rattle.candidate_executions.specs.Events.{ComesBefore}
-use Rattle.candidate_executions.specs.Sketches.{Sketch, IsSourceOf}
+use Rattle.candidate_executions.specs.Sketches.{Sketch, given_to, IsSourceOf}
 use Rattle.candidate_executions.specs.Values.{IsKnown, IsValueOf}
 use Rattle.candidate_executions.proofs.Orders.Lists.{first_is_here, later_is_here, mapped}
-use Rattle.exec_axioms.specs.Parts.{Parts, mode_in, sketch_of}
+use Rattle.exec_axioms.specs.ProgramSketches.{ProgramSketch, mode_in}
 use Rattle.exec_axioms.specs.Kept.{IsLawful}
 use Rattle.exec_axioms.specs.Internal.Immediates.{any_number}
 use Rattle.exec_axioms.specs.Sizes.{HaveAllRegisters, most_values, most_sources}
@@ -122,27 +122,27 @@ not_before_itself (At t i) (inr h) = let less = h.1 in omega arith
 
 module _ (p : Listing) (mode : Mode) (k : Sketch) (read : Event) (within : IsWithinLimits p.threads p.memory) where
   -- a source is the initial write of the read's location, or an access
-  source_here : (x : Access) → access_by p mode k.given read ≡ Some x → (source : Event) → IsSourceOf p mode k source read → Contains (Initial x.location ∷ all_events p mode k.given within) source
+  source_here : (x : Access) → access_by p mode (given_to k) read ≡ Some x → (source : Event) → IsSourceOf p mode k source read → Contains (Initial x.location ∷ all_events p mode (given_to k) within) source
   source_here x at (Initial l) (y, v, there, reads, differ, w) =
       let location : l ≡ x.location = ap (λ (z : Access). z.location) (same_Some _ w.0 w.1) ∙ w.2 ∙ ap (λ (z : Access). z.location) (same_Some y x (sym there ∙ at)) in
-      subst (λ m. Contains (Initial x.location ∷ all_events p mode k.given within) (Initial m)) (sym location) (first_is_here (Initial x.location) (all_events p mode k.given within))
+      subst (λ m. Contains (Initial x.location ∷ all_events p mode (given_to k) within) (Initial m)) (sym location) (first_is_here (Initial x.location) (all_events p mode (given_to k) within))
   source_here x at (At t i) (y, v, there, reads, differ, w) =
-      later_is_here (Initial x.location) (all_events p mode k.given within) (At t i) (all_events_has p mode k.given within t i (slice_get_within _ i w.0 w.1))
+      later_is_here (Initial x.location) (all_events p mode (given_to k) within) (At t i) (all_events_has p mode (given_to k) within t i (slice_get_within _ i w.0 w.1))
 
   -- so different sources of a read are few
   pub few_sources : (sources : List Event) → AllPairs ComesBefore sources → ((source : Event) → Contains sources source → IsSourceOf p mode k source read) → length sources ≤ most_sources
   few_sources [] ordered are = omega arith
   few_sources (first ∷ sources) ordered are =
       let (x, v, at, reads, differ, w) = are first (first_is_here first sources) in
-      let few = few_of (λ e. e) (first ∷ sources) (Initial x.location ∷ all_events p mode k.given within)
+      let few = few_of (λ e. e) (first ∷ sources) (Initial x.location ∷ all_events p mode (given_to k) within)
       (λ i j d h l same. not_before_itself _ (subst (λ e. ComesBefore e (get_or (first ∷ sources) j d)) same (ordered i j d h l)))
       (λ source has. source_here x at source (are source has)) in
-      let all = all_events_few p mode k.given within in
+      let all = all_events_few p mode (given_to k) within in
       omega arith
 
 -- where the sources are listed in order
-pub few_listed : {E : Type 0} (s : Parts) (read : Event) (found : Result (Vec Event Global) E) → IsLawful s →
-    IfOk found (λ sources. (source : Event) → Contains sources.items source ↔ IsSourceOf s.program (mode_in s) (sketch_of s) source read) →
+pub few_listed : {E : Type 0} (s : ProgramSketch) (read : Event) (found : Result (Vec Event Global) E) → IsLawful s →
+    IfOk found (λ sources. (source : Event) → Contains sources.items source ↔ IsSourceOf s.program (mode_in s) s.chosen source read) →
     IfOk found (λ sources. AllPairs ComesBefore sources.items) → IfOk found (λ sources. length sources.items ≤ most_sources)
-few_listed s read (Ok sources) lawful exact ordered = few_sources s.program (mode_in s) (sketch_of s) read lawful.within sources.items ordered (λ source. (exact source).0)
+few_listed s read (Ok sources) lawful exact ordered = few_sources s.program (mode_in s) s.chosen read lawful.within sources.items ordered (λ source. (exact source).0)
 few_listed s read (Err fault) lawful exact ordered = tt

@@ -12,15 +12,16 @@ use Rattle.candidate_executions.specs.declared.access.Access.{Access}
 use Rattle.candidate_executions.specs.declared.event.Event.{Event}
 use Rattle.candidate_executions.specs.declared.event.Event.TheVariants.{Initial, Access as At}
 use Rattle.candidate_executions.proofs.Orders.Lists.{get_some, first_or_later, first_is_here, later_is_here, mapped}
-use Rattle.exec_axioms.specs.Parts.{Parts, mode_in, given_to, trace_in, access_in, with_given, with_source, with_pair}
+use Rattle.exec_axioms.specs.ProgramSketches.{ProgramSketch, mode_in, trace_in, access_in, with_chosen}
 use Rattle.exec_axioms.specs.Kept.{IsLawful, AreOtherTwo}
-use Rattle.exec_axioms.specs.Known.{IsAccess}
 use Rattle.exec_axioms.specs.Search.{HasSmallNumbers, AreFewAccesses}
 use Rattle.exec_axioms.specs.Sizes.{choice_count, most_choices}
 use Rattle.exec_axioms.proofs.Accesses.{none_past}
 use Rattle.exec_axioms.proofs.AccessesCounted.{given_few}
 use Rattle.exec_axioms.proofs.EventsCounted.{stays, first_pairs, later_pairs, few_of, rows, rows_many, code_there, all_events, all_events_few, all_events_has}
 use Rattle.tso_program.specs.declared.limits.TheConstants.{MAX_ACCESSES}
+use Rattle.candidate_executions.specs.Candidates.{IsAccess}
+use Rattle.candidate_executions.specs.Sketches.{given_to, with_value, with_source, with_pair}
 
 abbrev Two : Type 0
 Two = Event × Event
@@ -70,33 +71,33 @@ products_few (x ∷ xs) ys h =
     let same = length-map ys (with_each x) in
     omega arith
 
-module _ (s : Parts) (lawful : IsLawful s) where
+module _ (s : ProgramSketch) (lawful : IsLawful s) where
   abbrev pub counts : ℕ → ℕ
   counts t = length (trace_in s t).accesses
 
   -- the accesses of the sketch
   abbrev pub events : List Event
-  events = all_events s.program (mode_in s) (given_to s.given) lawful.within
+  events = all_events s.program (mode_in s) (given_to s.chosen) lawful.within
 
   pub events_few : length events ≤ MAX_ACCESSES
-  events_few = all_events_few s.program (mode_in s) (given_to s.given) lawful.within
+  events_few = all_events_few s.program (mode_in s) (given_to s.chosen) lawful.within
 
   -- an access of a thread is one of them
   pub events_has : (t i : ℕ) (x : Access) → access_in s (At t i) ≡ Some x → Contains events (At t i)
-  events_has t i x at = all_events_has s.program (mode_in s) (given_to s.given) lawful.within t i (slice_get_within (trace_in s t).accesses i x at)
+  events_has t i x at = all_events_has s.program (mode_in s) (given_to s.chosen) lawful.within t i (slice_get_within (trace_in s t).accesses i x at)
 
-  event_has : (e : Event) → IsAccess s e → Contains events e
+  event_has : (e : Event) → IsAccess s.program (mode_in s) (given_to s.chosen) e → Contains events e
   event_has (Initial l) h = absurd h
   event_has (At t i) h = (let (x, at) = get_some (trace_in s t).accesses i h in events_has t i x at)
 
   -- and has small numbers
-  pub event_small : (e : Event) → IsAccess s e → HasSmallNumbers e
+  pub event_small : (e : Event) → IsAccess s.program (mode_in s) (given_to s.chosen) e → HasSmallNumbers e
   event_small (Initial l) h = h
   event_small (At t i) h = elim (cases_lt t (length s.program.threads)) [
     | inr past ↦ absurd (none_past s t i past h)
     | inl there ↦
         (let (x, at) = get_some s.program.threads t there in
-        let few = code_there s.program (mode_in s) (given_to s.given) lawful.within t x at in
+        let few = code_there s.program (mode_in s) (given_to s.chosen) lawful.within t x at in
         let one = get_or-le-sum_by accesses_of s.program.threads t x there in
         let same = ap accesses_of (get_or_from_slice_get s.program.threads t x x at) in
         let limit = lawful.within.shared.few_accesses in
@@ -105,7 +106,7 @@ module _ (s : Parts) (lawful : IsLawful s) where
   ]
 
   -- so different accesses are few
-  pub few_accesses : (es : List Event) → AllPairs (λ d e. d ≢ e) es → ((e : Event) → Contains es e → IsAccess s e) → AreFewAccesses s es
+  pub few_accesses : (es : List Event) → AllPairs (λ d e. d ≢ e) es → ((e : Event) → Contains es e → IsAccess s.program (mode_in s) (given_to s.chosen) e) → AreFewAccesses s es
   few_accesses es differ are = record {
     few = (let few = few_of (λ e. e) es events differ (λ e has. event_has e (are e has)) in let limit = events_few in omega arith);
     accesses = are;
@@ -120,24 +121,24 @@ module _ (s : Parts) (lawful : IsLawful s) where
   write_has (Initial m) x l at there not_initial = (let is = same_Some _ x at in absurd (not_initial (ap Initial (ap (λ (y : Access). y.location) is ∙ there))))
   write_has (At t i) x l at there not_initial = events_has t i x at
 
-  given_fewer : sum_by length s.given ≤ MAX_ACCESSES
+  given_fewer : sum_by length s.chosen.given ≤ MAX_ACCESSES
   given_fewer =
-      let many = rows_many counts s.given (λ t. given_few s.program (mode_in s) (given_to s.given) t (lawful.is_sketch.used t)) (length s.given) (omega arith) in
-      let all = ap (λ xs. sum_by length xs) (take_all (length s.given) s.given (omega arith)) in
-      let same = ap (λ n. length (rows counts n)) lawful.each_thread in
+      let many = rows_many counts s.chosen.given (λ t. given_few s.program (mode_in s) (given_to s.chosen) t (lawful.is_sketch.used t)) (length s.chosen.given) (omega arith) in
+      let all = ap (λ xs. sum_by length xs) (take_all (length s.chosen.given) s.chosen.given (omega arith)) in
+      let same = ap (λ n. length (rows counts n)) lawful.is_sketch.each_thread in
       let few = events_few in
       omega arith
 
-  sources_few : length s.sources ≤ MAX_ACCESSES
+  sources_few : length s.chosen.sources ≤ MAX_ACCESSES
   sources_few =
-      let few = few_of (λ (a : Two). a.0) s.sources events lawful.one_source
+      let few = few_of (λ (a : Two). a.0) s.chosen.sources events lawful.one_source
       (λ a has. (let (x, v, at, reads, differ, writes) = lawful.is_sketch.sources a.0 a.1 has in read_has a.0 x v at reads)) in
       let limit = events_few in
       omega arith
 
-  pairs_few : 2 * length s.pairs ≤ MAX_ACCESSES * MAX_ACCESSES
+  pairs_few : 2 * length s.chosen.pairs ≤ MAX_ACCESSES * MAX_ACCESSES
   pairs_few =
-      let few = two_each s.pairs (products events events) lawful.one_order
+      let few = two_each s.chosen.pairs (products events events) lawful.one_order
       (λ a has same. (lawful.is_sketch.pairs a.0 a.1 has).0 (ap (λ (b : Two). b.0) same))
       (λ a has. (let (differ, (l, v, w, first, second, not_first, not_second)) = lawful.is_sketch.pairs a.0 a.1 has in
       let one = write_has a.0 first.0 l first.1 first.2 not_first in
@@ -158,15 +159,15 @@ module _ (s : Parts) (lawful : IsLawful s) where
       omega arith
 
 -- each choice is one more
-pub value_counted : (s : Parts) (t v : ℕ) → t < length s.given → choice_count (with_given s t v) ≡ choice_count s + 1
+pub value_counted : (s : ProgramSketch) (t v : ℕ) → t < length s.chosen.given → choice_count (with_chosen s (with_value s.chosen t v)) ≡ choice_count s + 1
 value_counted s t v h =
-    let sum = sum_by-set length s.given t (given_to s.given t ++ v ∷ []) [] h in
-    let is = ap length (unwrap_or-slice_get s.given t []) in
-    let long = length-append (given_to s.given t) (v ∷ []) in
+    let sum = sum_by-set length s.chosen.given t (given_to s.chosen t ++ v ∷ []) [] h in
+    let is = ap length (unwrap_or-slice_get s.chosen.given t []) in
+    let long = length-append (given_to s.chosen t) (v ∷ []) in
     omega arith
 
-pub source_counted : (s : Parts) (read source : Event) → choice_count (with_source s read source) ≡ choice_count s + 1
-source_counted s read source = (let long = length-append s.sources ((read, source) ∷ []) in omega arith)
+pub source_counted : (s : ProgramSketch) (read source : Event) → choice_count (with_chosen s (with_source s.chosen read source)) ≡ choice_count s + 1
+source_counted s read source = (let long = length-append s.chosen.sources ((read, source) ∷ []) in omega arith)
 
-pub pair_counted : (s : Parts) (first second : Event) → choice_count (with_pair s first second) ≡ choice_count s + 1
-pair_counted s first second = (let long = length-append s.pairs ((first, second) ∷ []) in omega arith)
+pub pair_counted : (s : ProgramSketch) (first second : Event) → choice_count (with_chosen s (with_pair s.chosen first second)) ≡ choice_count s + 1
+pair_counted s first second = (let long = length-append s.chosen.pairs ((first, second) ∷ []) in omega arith)

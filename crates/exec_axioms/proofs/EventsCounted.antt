@@ -1,6 +1,7 @@
 -- Lists of different elements are no longer than a list that has them all; a program's threads have no more accesses than a program may have.
 use Rattle.std.proofs.Common.{◌≡◌, ◌≢◌, ℕ, zero, suc, ◌+◌, ◌<◌, ◌≤◌, List, [], ◌∷◌, ◌++◌, Some, take, get_or, length, slice_get, Contains, sum_by, refl, sym, ap, ◌∙◌, subst, inl, inr, arith}
 use Rattle.std.specs.List.{AllPairs, remove}
+use Rattle.std.specs.Prelude.{unwrap_or}
 use Rattle.std.specs.Option.{option_map_or}
 use Rattle.std.proofs.lemmas.Bool.{cases_lt, cases_eq}
 use Rattle.std.proofs.lemmas.List.{length-append}
@@ -17,7 +18,6 @@ use Rattle.candidate_executions.specs.Traces.{trace_by}
 use Rattle.candidate_executions.specs.declared.event.Event.{Event}
 use Rattle.candidate_executions.specs.declared.event.Event.TheVariants.{Access as At}
 use Rattle.candidate_executions.proofs.Orders.Lists.{first_is_here, later_is_here}
-use Rattle.exec_axioms.specs.Parts.{given_to}
 use Rattle.exec_axioms.proofs.Accesses.{none_past_by}
 use Rattle.exec_axioms.proofs.AccessesCounted.{weight, accesses_few}
 use Rattle.exec_axioms.proofs.Walks.{contains_remove}
@@ -89,7 +89,7 @@ module _ (counts : ℕ → ℕ) where
       omega arith
 
   -- and no fewer than other lists, each no longer than its row
-  pub rows_many : (xs : List (List ℕ)) → ((t : ℕ) → length (given_to xs t) ≤ counts t) → (n : ℕ) → n ≤ length xs → sum_by length (take n xs) ≤ length (rows n)
+  pub rows_many : (xs : List (List ℕ)) → ((t : ℕ) → length (unwrap_or (slice_get xs t) []) ≤ counts t) → (n : ℕ) → n ≤ length xs → sum_by length (take n xs) ≤ length (rows n)
   rows_many xs each zero h = omega arith
   rows_many xs each (suc n) h =
       let rest = rows_many xs each n (omega arith) in

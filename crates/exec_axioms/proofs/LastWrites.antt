@@ -12,12 +12,12 @@ use Rattle.candidate_executions.specs.declared.event.Kind.TheVariants as union
 use Rattle.candidate_executions.specs.Candidates.{Writes}
 use Rattle.candidate_executions.specs.Consistency.{IsOfMode}
 use Rattle.candidate_executions.specs.Orders.{followed_union}
-use Rattle.candidate_executions.specs.Sketches.{IsBefore, KnownRelates}
+use Rattle.candidate_executions.specs.Sketches.{IsBefore, KnownRelates, KnownEdgeOfMode}
 use Rattle.candidate_executions.proofs.Candidates.EdgesAreDecidable.{same_event}
 use Rattle.candidate_executions.proofs.Orders.Lists.{none_here, first_or_later, first_is_here, later_is_here}
-use Rattle.exec_axioms.specs.Parts.{Parts, mode_in, sketch_of, access_in}
+use Rattle.exec_axioms.specs.ProgramSketches.{ProgramSketch, mode_in, access_in}
 use Rattle.exec_axioms.specs.Kept.{IsLawful}
-use Rattle.exec_axioms.specs.Known.{IsKnownEdge, HasNoCycle}
+use Rattle.exec_axioms.specs.Known.{HasNoCycle}
 use Rattle.exec_axioms.specs.Search.{IsNext}
 use Rattle.exec_axioms.specs.Endings.{WritesTo, MayEndWith}
 use Rattle.exec_axioms.proofs.ChoicesCounted.{events, events_has}
@@ -27,13 +27,13 @@ pub of_followed : (m : Mode) → IsOfMode m (followed_union m)
 of_followed Sequential = tt
 of_followed (Fenced gaps) = tt
 
-pub known_before : (s : Parts) (kind : Kind) (d e : Event) (x y : Access) → IsBefore (sketch_of s) d e y → KnownRelates (sketch_of s) kind d x e y
+pub known_before : (s : ProgramSketch) (kind : Kind) (d e : Event) (x y : Access) → IsBefore s.chosen d e y → KnownRelates s.chosen kind d x e y
 known_before s union.Sequential d e x y h = inr (inr (inl h))
 known_before s union.Location d e x y h = inr (inr (inl h))
 known_before s union.Global d e x y h = inr (inr (inl h))
 
 -- a chosen pair is a known edge
-pub pair_edge : (s : Parts) (d e : Event) → IsLawful s → Contains s.pairs (d, e) → IsKnownEdge s (followed_union (mode_in s)) d e
+pub pair_edge : (s : ProgramSketch) (d e : Event) → IsLawful s → Contains s.chosen.pairs (d, e) → KnownEdgeOfMode s.program (mode_in s) s.chosen (followed_union (mode_in s)) d e
 pair_edge s d e lawful h =
     let (differ, (l, v, w, first, second, not_first, not_second)) = lawful.is_sketch.pairs d e h in
     (of_followed (mode_in s), (first.0, second.0, first.1, second.1, known_before s (followed_union (mode_in s)) d e first.0 second.0 (inl h)))
@@ -61,7 +61,7 @@ some_end pairs (x ∷ es) = elim (later pairs x) [
   ]
 ]
 
-module _ (s : Parts) (l : ℕ) where
+module _ (s : ProgramSketch) (l : ℕ) where
   -- an access that writes the location
   abbrev IsOwnWrite : Event → Type 0
   IsOwnWrite (Initial m) = ⊥
@@ -113,13 +113,13 @@ module _ (s : Parts) (l : ℕ) where
   not_initial (Initial m) h q = h
   not_initial (At t i) h q = cc
 
-module _ (s : Parts) (l : ℕ) (lawful : IsLawful s) (fs : List Event) (exact : (e : Event) → Contains fs e ↔ (Contains (events s lawful) e × IsOwnWrite s l e)) where
+module _ (s : ProgramSketch) (l : ℕ) (lawful : IsLawful s) (fs : List Event) (exact : (e : Event) → Contains fs e ↔ (Contains (events s lawful) e × IsOwnWrite s l e)) where
   there : (e : Event) (v : ℕ) → Writes (access_in s) e l v → (e ≡ Initial l → ⊥) → Contains fs e
   there (Initial m) v w n = absurd (n (ap Initial (ap (λ (z : Access). z.location) (same_Some _ w.0 w.1) ∙ w.2)))
   there (At t i) v w n = (exact (At t i)).1 (events_has s lawful t i w.0 w.1, (v, w))
 
   -- where each such write has one after it, there is a cycle
-  goes : (e : Event) → Contains fs e → ((d : Event) × Contains s.pairs (e, d)) → (d : Event) × IsNext (IsKnownEdge s (followed_union (mode_in s))) fs e d
+  goes : (e : Event) → Contains fs e → ((d : Event) × Contains s.chosen.pairs (e, d)) → (d : Event) × IsNext (KnownEdgeOfMode s.program (mode_in s) s.chosen (followed_union (mode_in s))) fs e d
   goes e has (d, h) =
       let (differ, (m, v, w, first, second, not_first, not_second)) = lawful.is_sketch.pairs e d h in
       let (u, own_write) = writes_of s l e ((exact e).0 has).1 in
@@ -142,7 +142,7 @@ module _ (s : Parts) (l : ℕ) (lawful : IsLawful s) (fs : List Event) (exact : 
   )
 
   found : HasNoCycle s → (v : ℕ) × MayEndWith s l v
-  found acyclic = elim (some_end s.pairs fs) [
+  found acyclic = elim (some_end s.chosen.pairs fs) [
     | inl (e, here, none) ↦
         (let is = ((exact e).0 here).1 in
         let (v, w) = writes_of s l e is in
@@ -150,12 +150,12 @@ module _ (s : Parts) (l : ℕ) (lawful : IsLawful s) (fs : List Event) (exact : 
     | inr each ↦ by fs refl each
   ]
     where
-      by : (es : List Event) → fs ≡ es → ((e : Event) → Contains fs e → (d : Event) × Contains s.pairs (e, d)) → (v : ℕ) × MayEndWith s l v
+      by : (es : List Event) → fs ≡ es → ((e : Event) → Contains fs e → (d : Event) × Contains s.chosen.pairs (e, d)) → (v : ℕ) × MayEndWith s l v
       by [] q each = (slice_index s.program.memory l, initial_last (λ e h. none_here e (subst (λ xs. Contains xs e) q h)))
       by (x ∷ es) q each = absurd
-          (let (round, cycle) = round_trip (IsKnownEdge s (followed_union (mode_in s))) fs (λ e h. goes e h (each e h)) (subst (λ xs. 0 < length xs) (sym q) (omega arith)) in
+          (let (round, cycle) = round_trip (KnownEdgeOfMode s.program (mode_in s) s.chosen (followed_union (mode_in s))) fs (λ e h. goes e h (each e h)) (subst (λ xs. 0 < length xs) (sym q) (omega arith)) in
           acyclic (followed_union (mode_in s)) round cycle)
 
 -- each location has a write that may be its last
-pub some_last : (s : Parts) (l : ℕ) → IsLawful s → HasNoCycle s → (v : ℕ) × MayEndWith s l v
+pub some_last : (s : ProgramSketch) (l : ℕ) → IsLawful s → HasNoCycle s → (v : ℕ) × MayEndWith s l v
 some_last s l lawful acyclic = (let (fs, exact) = sifted s l (events s lawful) in found s l lawful fs exact acyclic)

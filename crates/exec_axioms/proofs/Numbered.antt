@@ -11,17 +11,16 @@ use Rattle.candidate_executions.specs.declared.event.Event.{Event}
 use Rattle.candidate_executions.specs.declared.event.Event.TheVariants.{Initial, Access as At}
 use Rattle.candidate_executions.specs.declared.event.Kind.{Kind}
 use Rattle.candidate_executions.specs.declared.event.Kind.TheVariants as union
-use Rattle.candidate_executions.specs.Candidates.{Writes}
+use Rattle.candidate_executions.specs.Candidates.{Writes, IsAccess}
 use Rattle.candidate_executions.specs.Events.{ComesBefore}
 use Rattle.candidate_executions.specs.Consistency.{IsOfMode}
+use Rattle.candidate_executions.specs.Sketches.{IsWhole, IsPair, given_to}
 use Rattle.tso_machine.specs.declared.mode.Mode.{Mode}
 use Rattle.tso_machine.specs.declared.mode.Mode.TheVariants.{Sequential, Fenced}
 use Rattle.exec_axioms.specs.declared.thread_trace.ThreadTrace.{ThreadTrace}
 use Rattle.tso_machine.specs.Modes.{machine_mode}
-use Rattle.exec_axioms.specs.Parts.{Parts, trace_in, access_in}
-use Rattle.exec_axioms.specs.Kept.{parts_of, KeepsTraces}
-use Rattle.exec_axioms.specs.Known.{IsAccess}
-use Rattle.exec_axioms.specs.Choices.{IsPair, IsWhole}
+use Rattle.exec_axioms.specs.ProgramSketches.{ProgramSketch, mode_in, trace_in, access_in}
+use Rattle.exec_axioms.specs.Kept.{view_of, KeepsTraces}
 use Rattle.exec_axioms.specs.Rows.{accesses_at, access_of, IsOfThreads, AreAccesses, EachEnds, AreRowsOf, main_kind, rows_of}
 use Rattle.exec_axioms.proofs.TracesKept.{trace_accesses, no_accesses, trace_next}
 use Rattle.exec_axioms.proofs.Connected.{HasNumber}
@@ -55,8 +54,8 @@ rows_of_kind p (Fenced gaps) union.Location events R main global of_mode a b = a
 rows_of_kind p (Fenced gaps) union.Global events R main global of_mode a b = b
 
 module _ (p : Listing) (mode : Mode) (thread_traces : List ThreadTrace) (sources pairs : List (Event × Event)) (kept : KeepsTraces p mode thread_traces sources pairs) where
-  abbrev s : Parts
-  s = parts_of p mode thread_traces sources pairs
+  abbrev s : ProgramSketch
+  s = view_of p mode thread_traces sources pairs
 
   pub accesses_same : (t : ℕ) → accesses_at thread_traces t ≡ (trace_in s t).accesses
   accesses_same t = go (slice_get thread_traces t) refl
@@ -65,7 +64,7 @@ module _ (p : Listing) (mode : Mode) (thread_traces : List ThreadTrace) (sources
       go (Some c) e = ap (λ q. option_map_or (λ (x : ThreadTrace). x.accesses) q []) e ∙ sym (trace_accesses p mode thread_traces sources pairs kept t c e)
       go None e = ap (λ q. option_map_or (λ (x : ThreadTrace). x.accesses) q []) e ∙ sym (no_accesses p mode thread_traces sources pairs kept t e)
 
-  pub is_access : (e : Event) → IsAccess s e ↔ IsOfThreads thread_traces e
+  pub is_access : (e : Event) → IsAccess s.program (mode_in s) (given_to s.chosen) e ↔ IsOfThreads thread_traces e
   is_access (Initial l) = (λ h. h, λ h. h)
   is_access (At t i) = let same = ap length (accesses_same t) in (λ h. omega arith, λ h. omega arith)
 
@@ -74,11 +73,11 @@ module _ (p : Listing) (mode : Mode) (thread_traces : List ThreadTrace) (sources
   access_same (At t i) h = ap (λ xs. slice_get xs i) (accesses_same t)
 
   -- both writes of a pair are accesses
-  writes_access : (e : Event) (l v : ℕ) → Writes (access_in s) e l v → (e ≡ Initial l → ⊥) → IsAccess s e
+  writes_access : (e : Event) (l v : ℕ) → Writes (access_in s) e l v → (e ≡ Initial l → ⊥) → IsAccess s.program (mode_in s) (given_to s.chosen) e
   writes_access (Initial m) l v w other = absurd (other (ap (λ n. Initial n) (ap (λ (x : Access). x.location) (same_Some _ w.0 w.1) ∙ w.2)))
   writes_access (At t i) l v w other = slice_get_within _ i w.0 w.1
 
-  pub pair_accesses : (d e : Event) → IsPair s d e → IsAccess s d × IsAccess s e
+  pub pair_accesses : (d e : Event) → IsPair s.program (mode_in s) s.chosen d e → IsAccess s.program (mode_in s) (given_to s.chosen) d × IsAccess s.program (mode_in s) (given_to s.chosen) e
   pair_accesses d e h = let (l, v, u, w, w2, a, b) = h.1 in (writes_access d l v w a, writes_access e l u w2 b)
 
   -- the threads are few
@@ -94,7 +93,7 @@ module _ (p : Listing) (mode : Mode) (thread_traces : List ThreadTrace) (sources
       go None e = let same = ap (λ q. length (option_map_or (λ (x : ThreadTrace). x.accesses) q [])) e in omega arith
 
   -- once each read has its value, each thread has come to its end
-  pub whole_ends : IsWhole s → EachEnds p thread_traces
+  pub whole_ends : IsWhole s.program (mode_in s) s.chosen → EachEnds p thread_traces
   whole_ends whole t c at = sym (trace_next p mode thread_traces sources pairs kept t c at) ∙ whole t
 
   module _ (events : List Event) (accesses : AreAccesses thread_traces events) where
@@ -105,11 +104,11 @@ module _ (p : Listing) (mode : Mode) (thread_traces : List ThreadTrace) (sources
         (λ e has. (is_access e).1 ((accesses.exact e).0 has))).few in
         omega arith
 
-    pub access_number : (e : Event) → IsAccess s e → HasNumber events e
+    pub access_number : (e : Event) → IsAccess s.program (mode_in s) (given_to s.chosen) e → HasNumber events e
     access_number e h = number_of events e ((accesses.exact e).1 ((is_access e).0 h))
 
   -- both writes of a chosen pair have numbers
-  pub chosen_numbers : (events : List Event) → (IsWhole s → AreAccesses thread_traces events) → (d e : Event) → Contains pairs (d, e) → HasNumber events d × HasNumber events e
+  pub chosen_numbers : (events : List Event) → (IsWhole s.program (mode_in s) s.chosen → AreAccesses thread_traces events) → (d e : Event) → Contains pairs (d, e) → HasNumber events d × HasNumber events e
   chosen_numbers events all d e h =
       let both = pair_accesses d e (kept.lawful.is_sketch.pairs d e h) in
       let accesses = all (kept.lawful.whole d e (inr h)) in

@@ -9,12 +9,12 @@ use Rattle.candidate_executions.specs.declared.event.Event.TheVariants.{Initial,
 use Rattle.candidate_executions.specs.declared.event.Kind.{Kind}
 use Rattle.candidate_executions.specs.declared.event.Kind.TheVariants as union
 use Rattle.candidate_executions.specs.Consistency.{IsOfMode, SameThread}
+use Rattle.candidate_executions.specs.Sketches.{with_source, with_pair, KnownEdgeOfMode}
 use Rattle.tso_machine.specs.declared.mode.Mode.{Mode}
 use Rattle.tso_machine.specs.declared.mode.Mode.TheVariants.{Sequential, Fenced}
 use Rattle.exec_axioms.specs.declared.thread_trace.ThreadTrace.{ThreadTrace}
-use Rattle.exec_axioms.specs.Parts.{Parts, mode_in, sketch_of, access_in, with_pair, with_source}
-use Rattle.exec_axioms.specs.Kept.{parts_of, KeepsTraces}
-use Rattle.exec_axioms.specs.Known.{IsKnownEdge}
+use Rattle.exec_axioms.specs.ProgramSketches.{ProgramSketch, mode_in, access_in, with_chosen}
+use Rattle.exec_axioms.specs.Kept.{view_of, KeepsTraces}
 use Rattle.exec_axioms.specs.Choices.{MayRead, MayFollow}
 use Rattle.exec_axioms.specs.Rows.{accesses_at, access_of, IsOfThreads, IsRowOf, AreRowsOf, InOrder, WritesBut, ReadsBut, IsAfterBut, HasOrder, IsRepresented, main_kind}
 use Rattle.exec_axioms.proofs.KnownParts.{to_relates}
@@ -42,16 +42,16 @@ row_if events P Q F row out of each same d = (
 
 module _ (p : Listing) (mode : Mode) (thread_traces : List ThreadTrace) (events : List Event) (sources pairs : List (Event × Event)) (kept : KeepsTraces p mode thread_traces sources pairs)
     (none : (d e : Event) → Contains sources (d, e) ⊎ Contains pairs (d, e) → ⊥) (main global : List ℕ) (order : HasOrder p mode thread_traces events main global) where
-  abbrev s : Parts
-  s = parts_of p mode thread_traces sources pairs
+  abbrev s : ProgramSketch
+  s = view_of p mode thread_traces sources pairs
 
   -- where nothing is chosen, program order is what is known
-  known_order : (kind : Kind) → IsOfMode (mode_in s) kind → (d e : Event) → HasNumber events d → HasNumber events e → InOrder thread_traces kind d e ↔ IsKnownEdge s kind d e
+  known_order : (kind : Kind) → IsOfMode (mode_in s) kind → (d e : Event) → HasNumber events d → HasNumber events e → InOrder thread_traces kind d e ↔ KnownEdgeOfMode s.program (mode_in s) s.chosen kind d e
   known_order kind m d e num num' =
       let here = number_access thread_traces events order.numbered.of_threads d num in
       let same = access_same p mode thread_traces sources pairs kept d here in
       let same' = access_same p mode thread_traces sources pairs kept e (number_access thread_traces events order.numbered.of_threads e num') in (
-        λ (x, y, ad, ae, o). (m, (x, y, sym same ∙ ad, sym same' ∙ ae, to_relates (sketch_of s) kind d x e y (inl o))),
+        λ (x, y, ad, ae, o). (m, (x, y, sym same ∙ ad, sym same' ∙ ae, to_relates s.chosen kind d x e y (inl o))),
         λ (m', (x, y, ad, ae, r)). (x, y, same ∙ ad, same' ∙ ae, only_order s none kind d x e y ((is_access p mode thread_traces sources pairs kept d).1 here) r),
       )
 
@@ -64,8 +64,8 @@ module _ (p : Listing) (mode : Mode) (thread_traces : List ThreadTrace) (events 
       of_threads = order.numbered.of_threads;
       few = order.numbered.few;
       later_rows = λ d e. (λ h. absurd (empty d e h), λ (x, y, at, to_at, h). absurd (none x y (inr h)));
-      main_rows = rows_by events (InOrder thread_traces (main_kind mode)) (IsKnownEdge s (main_kind mode)) main (known_order (main_kind mode) (main_of_mode p mode)) order.main_rows;
-      global_rows = rows_by events (λ d e. (mode ≡ Sequential → ⊥) × InOrder thread_traces union.Global d e) (IsKnownEdge s union.Global) global
+      main_rows = rows_by events (InOrder thread_traces (main_kind mode)) (KnownEdgeOfMode s.program (mode_in s) s.chosen (main_kind mode)) main (known_order (main_kind mode) (main_of_mode p mode)) order.main_rows;
+      global_rows = rows_by events (λ d e. (mode ≡ Sequential → ⊥) × InOrder thread_traces union.Global d e) (KnownEdgeOfMode s.program (mode_in s) s.chosen union.Global) global
           (λ d e num num'. (
             λ h. (known_order union.Global ((global_of_mode p mode).1 h.0) d e num num').0 h.1,
             λ k. ((global_of_mode p mode).0 k.0, (known_order union.Global k.0 d e num num').1 k),
@@ -81,8 +81,8 @@ later_empty events pairs later are none d e h = let (x, y, at, to_at, has) = (ar
 
 module _ (p : Listing) (mode : Mode) (thread_traces : List ThreadTrace) (events : List Event) (sources pairs : List (Event × Event)) (later main global : List ℕ)
     (is : IsRepresented p mode thread_traces events sources pairs later main global) where
-  abbrev v : Parts
-  v = parts_of p mode thread_traces sources pairs
+  abbrev v : ProgramSketch
+  v = view_of p mode thread_traces sources pairs
 
   -- after an order is chosen
   pub pair_represented : (first second : Event) (may : MayFollow v first second) (before after readers earlier outer : ℕ) (later' main' global' : List ℕ) →
@@ -94,7 +94,7 @@ module _ (p : Listing) (mode : Mode) (thread_traces : List ThreadTrace) (events 
       IsRepresented p mode thread_traces events sources (pairs ++ (first, second) ∷ []) later' main' global'
   pair_represented first second may before after readers earlier outer later' main' global' of_before of_after of_readers both fenced put put_main put_global =
       let lawful = is.kept.lawful in
-      let t : Parts = with_pair v first second in
+      let t : ProgramSketch = with_chosen v (with_pair v.chosen first second) in
       let of_earlier : IsRowOf events (Earlier v lawful first second may) earlier =
       row_joined events (λ e. e ≡ first) (ReadsBut sources first second) (Earlier v lawful first second may) before readers earlier of_before of_readers both (λ x. (λ h. h, λ h. h)) in
       record {
@@ -105,12 +105,12 @@ module _ (p : Listing) (mode : Mode) (thread_traces : List ThreadTrace) (events 
           few = is.rows.few;
           later_rows = connected events (λ d e. Contains pairs (d, e)) (λ d e. Contains (pairs ++ (first, second) ∷ []) (d, e)) (λ e. e ≡ first) (λ e. e ≡ second) before after later later'
               is.rows.later_rows of_before of_after put (λ x y _ _. pair_pairs v lawful first second may x y);
-          main_rows = connected events (IsKnownEdge v (main_kind mode)) (IsKnownEdge t (main_kind mode)) (λ x. IsOfMode (mode_in v) (main_kind mode) × Earlier v lawful first second may x)
+          main_rows = connected events (KnownEdgeOfMode v.program (mode_in v) v.chosen (main_kind mode)) (KnownEdgeOfMode t.program (mode_in t) t.chosen (main_kind mode)) (λ x. IsOfMode (mode_in v) (main_kind mode) × Earlier v lawful first second may x)
               (λ e. e ≡ second) earlier after main main' is.rows.main_rows
               (row_by events (Earlier v lawful first second may) (λ x. IsOfMode (mode_in v) (main_kind mode) × Earlier v lawful first second may x) earlier
               (λ d x at. (λ h. (main_of_mode p mode, h), λ h. h.1)) of_earlier)
               of_after put_main (λ x y _ _. pair_edges v lawful first second may (main_kind mode) x y);
-          global_rows = connected events (IsKnownEdge v union.Global) (IsKnownEdge t union.Global) (λ x. IsOfMode (mode_in v) union.Global × Earlier v lawful first second may x)
+          global_rows = connected events (KnownEdgeOfMode v.program (mode_in v) v.chosen union.Global) (KnownEdgeOfMode t.program (mode_in t) t.chosen union.Global) (λ x. IsOfMode (mode_in v) union.Global × Earlier v lawful first second may x)
               (λ e. e ≡ second) outer after global global' is.rows.global_rows
               (row_if events (Earlier v lawful first second may) (λ x. IsOfMode (mode_in v) union.Global × Earlier v lawful first second may x) (mode ≡ Sequential → ⊥) earlier outer of_earlier fenced
               (λ x. (λ h. ((global_of_mode p mode).1 h.0, h.1), λ h. ((global_of_mode p mode).0 h.0, h.1))))
@@ -119,8 +119,8 @@ module _ (p : Listing) (mode : Mode) (thread_traces : List ThreadTrace) (events 
       }
 
   module _ (read source : Event) (may : MayRead v read source) where
-    abbrev w : Parts
-    w = with_source v read source
+    abbrev w : ProgramSketch
+    w = with_chosen v (with_source v.chosen read source)
 
     abbrev Comes : Event → Type 0
     Comes e = After v is.kept.lawful read source may e
@@ -181,14 +181,14 @@ module _ (p : Listing) (mode : Mode) (thread_traces : List ThreadTrace) (events 
     step_main (Fenced gaps) d e = (λ h. h, λ h. h)
 
     -- two steps
-    twice : (kind : Kind) (A : Event → Type 0) (near reader far after : ℕ) (old between new : List ℕ) → AreRowsOf events (IsKnownEdge v kind) old →
+    twice : (kind : Kind) (A : Event → Type 0) (near reader far after : ℕ) (old between new : List ℕ) → AreRowsOf events (KnownEdgeOfMode v.program (mode_in v) v.chosen kind) old →
         ((d e : Event) → (IsOfMode (mode_in v) kind × Step v is.kept.lawful read source may kind d e) ↔ (A d × (e ≡ read))) →
         IsRowOf events A near → IsRowOf events (λ e. e ≡ read) reader → IsRowOf events (λ d. IsOfMode (mode_in v) kind × (d ≡ read)) far → IsRowOf events Comes after →
         ((d e : ℕ) → Relates between d e ↔ (Relates old d e ⊎ (IsIn near d × IsIn reader e))) →
-        ((d e : ℕ) → Relates new d e ↔ (Relates between d e ⊎ (IsIn far d × IsIn after e))) → AreRowsOf events (IsKnownEdge w kind) new
+        ((d e : ℕ) → Relates new d e ↔ (Relates between d e ⊎ (IsIn far d × IsIn after e))) → AreRowsOf events (KnownEdgeOfMode w.program (mode_in w) w.chosen kind) new
     twice kind A near reader far after old between new rows steps of_near of_reader of_far of_after put put_after =
-        connected events (λ d e. IsKnownEdge v kind d e ⊎ (A d × (e ≡ read))) (IsKnownEdge w kind) (λ d. IsOfMode (mode_in v) kind × (d ≡ read)) Comes far after between new
-        (connected events (IsKnownEdge v kind) (λ d e. IsKnownEdge v kind d e ⊎ (A d × (e ≡ read))) A (λ e. e ≡ read) near reader old between rows of_near of_reader put (λ x y _ _. (λ h. h, λ h. h)))
+        connected events (λ d e. KnownEdgeOfMode v.program (mode_in v) v.chosen kind d e ⊎ (A d × (e ≡ read))) (KnownEdgeOfMode w.program (mode_in w) w.chosen kind) (λ d. IsOfMode (mode_in v) kind × (d ≡ read)) Comes far after between new
+        (connected events (KnownEdgeOfMode v.program (mode_in v) v.chosen kind) (λ d e. KnownEdgeOfMode v.program (mode_in v) v.chosen kind d e ⊎ (A d × (e ≡ read))) A (λ e. e ≡ read) near reader old between rows of_near of_reader put (λ x y _ _. (λ h. h, λ h. h)))
         of_far of_after put_after
         (λ x y _ _. (
           λ h. elim ((source_edges v is.kept.lawful read source may kind x y).0 h) [

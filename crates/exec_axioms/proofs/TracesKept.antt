@@ -17,8 +17,8 @@ use Rattle.candidate_executions.proofs.Orders.Lists.{get_some}
 use Rattle.tso_machine.specs.declared.mode.Mode.{Mode}
 use Rattle.exec_axioms.specs.declared.thread_trace.ThreadTrace.{ThreadTrace}
 use Rattle.tso_machine.specs.Modes.{machine_mode}
-use Rattle.exec_axioms.specs.Parts.{Parts, sketch_of, given_to, trace_in}
-use Rattle.exec_axioms.specs.Kept.{given_lists, parts_of, KeepsTraces}
+use Rattle.exec_axioms.specs.ProgramSketches.{ProgramSketch, trace_in}
+use Rattle.exec_axioms.specs.Kept.{given_in, view_of, KeepsTraces}
 use Rattle.exec_axioms.specs.Sizes.{HaveAllRegisters}
 
 -- nothing stands past the end
@@ -36,10 +36,10 @@ pub no_action : (threads : List Thread) (t : ℕ) (s : Local) → length threads
 no_action threads t s h = ap (λ code. act (slice_get code s.place) s) (no_code threads t h)
 
 module _ (p : Listing) (mode : Mode) (thread_traces : List ThreadTrace) (sources pairs : List (Event × Event)) (kept : KeepsTraces p mode thread_traces sources pairs) where
-  abbrev s : Parts
-  s = parts_of p mode thread_traces sources pairs
+  abbrev s : ProgramSketch
+  s = view_of p mode thread_traces sources pairs
 
-  pub trace_given : (t : ℕ) (c : ThreadTrace) → slice_get thread_traces t ≡ Some c → given_to (given_lists thread_traces) t ≡ c.given
+  pub trace_given : (t : ℕ) (c : ThreadTrace) → slice_get thread_traces t ≡ Some c → given_in thread_traces t ≡ c.given
   trace_given t c e = ap (λ o. unwrap_or o []) (slice_get-map (λ (x : ThreadTrace). x.given) thread_traces t ∙ ap (option_map (λ (x : ThreadTrace). x.given)) e)
 
   pub trace_accesses : (t : ℕ) (c : ThreadTrace) → slice_get thread_traces t ≡ Some c → (trace_in s t).accesses ≡ c.accesses
@@ -57,18 +57,18 @@ module _ (p : Listing) (mode : Mode) (thread_traces : List ThreadTrace) (sources
 
   pub no_accesses : (t : ℕ) → slice_get thread_traces t ≡ None → (trace_in s t).accesses ≡ []
   no_accesses t e =
-      ap (λ code. (trace (action p.threads t) (fenced_gaps (machine_mode p mode) t) (length code) 0 (start_of p.threads t) (given_to (given_lists thread_traces) t)).accesses)
+      ap (λ code. (trace (action p.threads t) (fenced_gaps (machine_mode p mode) t) (length code) 0 (start_of p.threads t) (given_in thread_traces t)).accesses)
       (no_code p.threads t (no_trace t e))
 
   pub trace_next : (t : ℕ) (c : ThreadTrace) → slice_get thread_traces t ≡ Some c →
-      sketches.next_read p (machine_mode p mode) (sketch_of s) t ≡ sketches.read_by (action p.threads t c.last)
+      sketches.next_read p (machine_mode p mode) s.chosen t ≡ sketches.read_by (action p.threads t c.last)
   trace_next t c e = ap (λ l. sketches.read_by (action p.threads t l)) (trace_last t c e)
 
-  pub past_next : (t : ℕ) → length p.threads ≤ t → sketches.next_read p (machine_mode p mode) (sketch_of s) t ≡ None
+  pub past_next : (t : ℕ) → length p.threads ≤ t → sketches.next_read p (machine_mode p mode) s.chosen t ≡ None
   past_next t h = ap sketches.read_by (no_action p.threads t (trace_in s t).last h)
 
   -- a thread with a next read is there
-  pub reads_there : (t : ℕ) → IsSome (sketches.next_read p (machine_mode p mode) (sketch_of s) t) → t < length thread_traces
+  pub reads_there : (t : ℕ) → IsSome (sketches.next_read p (machine_mode p mode) s.chosen t) → t < length thread_traces
   reads_there t some = elim (cases_lt t (length thread_traces)) [
     | inl h ↦ h
     | inr h ↦ (let same = kept.one_each in

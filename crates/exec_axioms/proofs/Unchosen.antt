@@ -6,11 +6,11 @@ use Rattle.candidate_executions.specs.declared.event.Event.TheVariants.{Initial,
 use Rattle.candidate_executions.specs.declared.event.Kind.{Kind}
 use Rattle.candidate_executions.specs.declared.event.Kind.TheVariants as union
 use Rattle.candidate_executions.specs.Consistency.{Leads, Precedes}
-use Rattle.candidate_executions.specs.Sketches.{IsBefore, KnownRelates}
-use Rattle.exec_axioms.specs.Parts.{Parts, sketch_of}
+use Rattle.candidate_executions.specs.Sketches.{IsBefore, KnownRelates, KnownEdgeOfMode, IsKnownCycle, IsWhole, given_to}
+use Rattle.candidate_executions.specs.Candidates.{IsAccess}
+use Rattle.exec_axioms.specs.ProgramSketches.{ProgramSketch, mode_in}
 use Rattle.exec_axioms.specs.Kept.{IsLawful}
-use Rattle.exec_axioms.specs.Choices.{IsWhole}
-use Rattle.exec_axioms.specs.Known.{IsKnownEdge, IsKnownCycle, IsAccess, HasNoCycle, OrderPart, SourcePart}
+use Rattle.exec_axioms.specs.Known.{HasNoCycle, OrderPart, SourcePart}
 use Rattle.exec_axioms.proofs.KnownParts.{of_relates}
 use Rattle.exec_axioms.proofs.Found.{cycle_of_accesses}
 
@@ -30,38 +30,38 @@ not_itself : (e : Event) → Precedes e e → ⊥
 not_itself (Initial l) h = h
 not_itself (At t i) h = let n = h.1 in omega arith
 
-module _ (s : Parts) (none : (d e : Event) → Contains s.sources (d, e) ⊎ Contains s.pairs (d, e) → ⊥) where
-  no_source : (kind : Kind) (d e : Event) → SourcePart (sketch_of s) kind d e → ⊥
+module _ (s : ProgramSketch) (none : (d e : Event) → Contains s.chosen.sources (d, e) ⊎ Contains s.chosen.pairs (d, e) → ⊥) where
+  no_source : (kind : Kind) (d e : Event) → SourcePart s.chosen kind d e → ⊥
   no_source union.Sequential d e h = none e d (inl h)
   no_source union.Location d e h = none e d (inl h)
   no_source union.Global d e h = none e d (inl h.0)
 
-  no_before : (d e : Event) (y : Access) → IsAccess s d → IsBefore (sketch_of s) d e y → ⊥
+  no_before : (d e : Event) (y : Access) → IsAccess s.program (mode_in s) (given_to s.chosen) d → IsBefore s.chosen d e y → ⊥
   no_before d e y there (inl h) = none d e (inr h)
-  no_before d e y there (inr h) = subst (IsAccess s) h.0 there
+  no_before d e y there (inr h) = subst (IsAccess s.program (mode_in s) (given_to s.chosen)) h.0 there
 
   -- from an access only program order leads on
-  pub only_order : (kind : Kind) (d : Event) (x : Access) (e : Event) (y : Access) → IsAccess s d → KnownRelates (sketch_of s) kind d x e y → OrderPart kind d x e y
-  only_order kind d x e y there r = elim (of_relates (sketch_of s) kind d x e y r) [
+  pub only_order : (kind : Kind) (d : Event) (x : Access) (e : Event) (y : Access) → IsAccess s.program (mode_in s) (given_to s.chosen) d → KnownRelates s.chosen kind d x e y → OrderPart kind d x e y
+  only_order kind d x e y there r = elim (of_relates s.chosen kind d x e y r) [
     | inl o ↦ o
     | inr (inl h) ↦ absurd (no_source kind d e h)
     | inr (inr (inl h)) ↦ absurd (no_before d e y there h)
     | inr (inr (inr h)) ↦ absurd (none d h.0 (inl h.1))
   ]
 
-  edge_precedes : (kind : Kind) (d e : Event) → IsAccess s d → IsKnownEdge s kind d e → Precedes d e
+  edge_precedes : (kind : Kind) (d e : Event) → IsAccess s.program (mode_in s) (given_to s.chosen) d → KnownEdgeOfMode s.program (mode_in s) s.chosen kind d e → Precedes d e
   edge_precedes kind d e there (m, (x, y, ad, ae, r)) = order_precedes kind d x e y (only_order kind d x e y there r)
 
-  way_precedes : (kind : Kind) (d : Event) (es : List Event) (z : Event) → IsAccess s d → ((e : Event) → Contains es e → IsAccess s e) → Leads (IsKnownEdge s kind) d es z → Precedes d z
+  way_precedes : (kind : Kind) (d : Event) (es : List Event) (z : Event) → IsAccess s.program (mode_in s) (given_to s.chosen) d → ((e : Event) → Contains es e → IsAccess s.program (mode_in s) (given_to s.chosen) e) → Leads (KnownEdgeOfMode s.program (mode_in s) s.chosen kind) d es z → Precedes d z
   way_precedes kind d [] z there all h = edge_precedes kind d z there h
   way_precedes kind d (e ∷ es) z there all h = precedes_then d e z (edge_precedes kind d e there h.0)
       (way_precedes kind e es z (all e (0, omega arith, refl)) (λ f c. all f (suc c.0, (let l = c.1 in omega arith), c.2)) h.1)
 
-  never_round : (kind : Kind) (es : List Event) → ((e : Event) → Contains es e → IsAccess s e) → IsKnownCycle s kind es → ⊥
+  never_round : (kind : Kind) (es : List Event) → ((e : Event) → Contains es e → IsAccess s.program (mode_in s) (given_to s.chosen) e) → IsKnownCycle s.program (mode_in s) s.chosen kind es → ⊥
   never_round kind [] all h = h
   never_round kind (e ∷ es) all h = not_itself e (way_precedes kind e es e (all e (0, omega arith, refl)) (λ f c. all f (suc c.0, (let l = c.1 in omega arith), c.2)) h)
 
 -- before each read has its value no known edges make a cycle
-pub no_cycle_yet : (s : Parts) → IsLawful s → (IsWhole s → ⊥) → HasNoCycle s
+pub no_cycle_yet : (s : ProgramSketch) → IsLawful s → (IsWhole s.program (mode_in s) s.chosen → ⊥) → HasNoCycle s
 no_cycle_yet s lawful not_whole kind es cycle =
     never_round s (λ d e h. not_whole (lawful.whole d e h)) kind es (cycle_of_accesses s kind es lawful cycle) cycle

@@ -13,13 +13,13 @@ use Rattle.candidate_executions.specs.Events.{ComesBefore}
 use Rattle.tso_machine.specs.declared.mode.Mode.{Mode}
 use Rattle.tso_machine.specs.declared.mode.Mode.TheVariants.{Sequential, Fenced}
 use Rattle.exec_axioms.specs.declared.thread_trace.ThreadTrace.{ThreadTrace}
-use Rattle.exec_axioms.specs.Parts.{Parts}
-use Rattle.exec_axioms.specs.Known.{IsKnownEdge, OrderPart}
-use Rattle.exec_axioms.specs.Kept.{parts_of, KeepsTraces}
-use Rattle.exec_axioms.specs.Choices.{IsWhole}
+use Rattle.exec_axioms.specs.ProgramSketches.{ProgramSketch, mode_in}
+use Rattle.exec_axioms.specs.Known.{OrderPart}
+use Rattle.exec_axioms.specs.Kept.{view_of, KeepsTraces}
 use Rattle.bit_rows.specs.declared.row.TheConstants.{ROW_BITS}
 use Rattle.tso_program.specs.Listings.{action}
 use Rattle.candidate_executions.specs.Sketches as sketches
+use Rattle.candidate_executions.specs.Sketches.{KnownEdgeOfMode, IsWhole}
 
 -- the accesses of thread t, none where there is no such thread
 abbrev pub accesses_at : List ThreadTrace → ℕ → List Access
@@ -111,15 +111,15 @@ pub record HasOrder (p : Listing) (mode : Mode) (thread_traces : List ThreadTrac
   pub global_rows : AreRowsOf events (λ d e. (mode ≡ Sequential → ⊥) × InOrder thread_traces union.Global d e) global
 
 -- the rows have the chosen pairs and the known edges of the mode's unions between the accesses that have numbers: all of them once each read has its value
-pub record HasRows (s : Parts) (thread_traces : List ThreadTrace) (events : List Event) (later main global : List ℕ) : Type 0 where
-  pub all : IsWhole s → AreAccesses thread_traces events
+pub record HasRows (s : ProgramSketch) (thread_traces : List ThreadTrace) (events : List Event) (later main global : List ℕ) : Type 0 where
+  pub all : IsWhole s.program (mode_in s) s.chosen → AreAccesses thread_traces events
   pub of_threads : (e : Event) → Contains events e → IsOfThreads thread_traces e
   pub few : length events ≤ ROW_BITS
-  pub later_rows : AreRowsOf events (λ d e. Contains s.pairs (d, e)) later
-  pub main_rows : AreRowsOf events (IsKnownEdge s (main_kind s.mode)) main
-  pub global_rows : AreRowsOf events (IsKnownEdge s union.Global) global
+  pub later_rows : AreRowsOf events (λ d e. Contains s.chosen.pairs (d, e)) later
+  pub main_rows : AreRowsOf events (KnownEdgeOfMode s.program (mode_in s) s.chosen (main_kind s.mode)) main
+  pub global_rows : AreRowsOf events (KnownEdgeOfMode s.program (mode_in s) s.chosen union.Global) global
 
 -- what the code keeps of a sketch
 pub record IsRepresented (p : Listing) (mode : Mode) (thread_traces : List ThreadTrace) (events : List Event) (sources pairs : List (Event × Event)) (later main global : List ℕ) : Type 0 where
   pub kept : KeepsTraces p mode thread_traces sources pairs
-  pub rows : HasRows (parts_of p mode thread_traces sources pairs) thread_traces events later main global
+  pub rows : HasRows (view_of p mode thread_traces sources pairs) thread_traces events later main global

@@ -2,15 +2,15 @@
 use Rattle.std.specs.Prelude.{◌≡◌, ℕ, ◌+◌, ◌*◌, ◌/◌, ◌<◌, List, length, sum_by}
 use Rattle.tso_program.specs.declared.listing.Thread.{Thread}
 use Rattle.tso_program.specs.Listings.{start_of}
-use Rattle.exec_axioms.specs.Parts.{Parts}
+use Rattle.exec_axioms.specs.ProgramSketches.{ProgramSketch}
 use Rattle.gap_sets.specs.declared.gap_set.TheConstants.{MAX_GAPS}
 use Rattle.tso_program.specs.declared.limits.TheConstants.{MAX_THREADS, MAX_LOCATIONS, MAX_ACCESSES}
 use Rattle.tso_program.specs.declared.instruction.TheConstants.{REGISTERS}
 use Rattle.tso_program.specs.declared.shown.TheConstants.{REGISTER_PLACES}
 
 -- the values, sources and pairs of writes that are chosen
-abbrev pub choice_count : Parts → ℕ
-choice_count s = sum_by length s.given + length s.sources + length s.pairs
+abbrev pub choice_count : ProgramSketch → ℕ
+choice_count s = sum_by length s.chosen.given + length s.chosen.sources + length s.chosen.pairs
 
 -- no more can be chosen: each access has one value and one source at most, and of each two accesses at most one comes first
 abbrev pub most_choices : ℕ

@@ -4,7 +4,7 @@ ghost use Rattle.bit_rows.specs.Rows.{Reaches};
 ghost use Rattle.bit_rows.specs.declared.row.TheConstants.{ROW_BITS};
 ghost use Rattle.tso_program.specs.declared.listing.Listing.{Listing};
 ghost use Rattle.candidate_executions.specs.declared.event.Event.{Event};
-ghost use Rattle.exec_axioms.specs.Kept.{parts_of};
+ghost use Rattle.exec_axioms.specs.Kept.{view_of};
 ghost use Rattle.exec_axioms.specs.Choices.{MayRead, MayFollow};
 ghost use Rattle.exec_axioms.specs.Rows.{rows_of, IsAlike, IsRepresented};
 
@@ -56,7 +56,7 @@ impl EdgeRows {
         requires few { length traces.now.events.items ≤ ROW_BITS }
         requires alike { IsAlike traces.now.events.items self.old.later }
         ensures { (p : Listing) (sources pairs : List (Event × Event)) → IsRepresented p mode.now traces.now.thread_traces.items traces.now.events.items sources pairs self.old.later self.old.main self.old.global
-            → MayRead (parts_of p mode.now traces.now.thread_traces.items sources pairs) read source
+            → MayRead (view_of p mode.now traces.now.thread_traces.items sources pairs) read source
             → IsRepresented p mode.now traces.now.thread_traces.items traces.now.events.items (sources ++ (read, source) ∷ []) pairs self.new.later self.new.main self.new.global }
     {
         let events = traces.events.as_slice();
@@ -84,7 +84,7 @@ impl EdgeRows {
     )
         requires { length traces.now.events.items ≤ ROW_BITS }
         ensures { (p : Listing) (pairs : List (Event × Event)) → IsRepresented p mode.now traces.now.thread_traces.items traces.now.events.items sources.now pairs self.old.later self.old.main self.old.global
-            → MayFollow (parts_of p mode.now traces.now.thread_traces.items sources.now pairs) first second
+            → MayFollow (view_of p mode.now traces.now.thread_traces.items sources.now pairs) first second
             → IsRepresented p mode.now traces.now.thread_traces.items traces.now.events.items sources.now (pairs ++ (first, second) ∷ []) self.new.later self.new.main self.new.global }
     {
         let events = traces.events.as_slice();

@@ -10,7 +10,7 @@ use Rattle.tso_program.specs.declared.listing.Listing.{Listing}
 use Rattle.tso_program.specs.declared.outcome.Outcome.{Outcome}
 use Rattle.tso_program.specs.declared.shown.Shown.{Shown}
 use Rattle.tso_program.specs.declared.shown.Shown.TheVariants.{All}
-use Rattle.tso_program.specs.Shown.{shown_value}
+use Rattle.tso_program.specs.Shown.{shown_value, asked}
 use Rattle.tso_program.specs.Listings.{action, start_of, code_of}
 use Rattle.tso_machine.specs.Machine.{Mode, Sequential, Fenced, IsRun}
 use Rattle.candidate_executions.specs.declared.access.Access.{Access}
@@ -19,9 +19,9 @@ use Rattle.candidate_executions.specs.declared.event.Event.TheVariants.{Initial,
 use Rattle.candidate_executions.specs.declared.event.Kind.{Kind}
 use Rattle.candidate_executions.specs.declared.event.Kind.TheVariants as union
 use Rattle.candidate_executions.specs.Traces.{fenced_gaps}
-use Rattle.candidate_executions.specs.Candidates.{Candidate, Writes, IsCandidate, EndsWith, HasOutcome}
+use Rattle.candidate_executions.specs.Candidates.{Candidate, Writes, IsCandidate, EndsWith, HasOutcome, IsAccess}
 use Rattle.candidate_executions.specs.Consistency.{IsOfMode, Relates, Edge, IsAcyclic, IsConsistent}
-use Rattle.candidate_executions.specs.Sketches.{Completes, IsBefore, KnownRelates, KnownFromReads, MayBeLast}
+use Rattle.candidate_executions.specs.Sketches.{Completes, IsBefore, KnownRelates, KnownFromReads, MayBeLast, IsPair, KnownEdgeOfMode, MustEndAs, given_to}
 use Rattle.candidate_executions.specs.Orders.{followed_union, labels_along, IsOrder}
 use Rattle.candidate_executions.specs.RunCandidates.{IsCandidateOf}
 use Rattle.candidate_executions.proofs.Orders.AcyclicIsOrdered.{In}
@@ -32,24 +32,24 @@ use Rattle.candidate_executions.proofs.Orders.Lists.{some_value}
 use Rattle.candidate_executions.proofs.Sketches.MoreValues.{end_or_read}
 use Rattle.candidate_executions.proofs.FromRuns.StepsSuffice.{advance}
 use Rattle.candidate_executions.proofs.Orders.WiderRelations.{acyclic_narrower}
-use Rattle.exec_axioms.specs.Parts.{Parts, mode_in, sketch_of, given_to, trace_in, access_in}
+use Rattle.exec_axioms.specs.ProgramSketches.{ProgramSketch, mode_in, trace_in, access_in}
 use Rattle.exec_axioms.specs.Kept.{IsLawful}
-use Rattle.exec_axioms.specs.Known.{IsKnownEdge, HasNoCycle, IsAccess}
-use Rattle.exec_axioms.specs.Choices.{IsPair}
-use Rattle.exec_axioms.specs.Completions.{MustEnd, MustEndSo}
+use Rattle.exec_axioms.specs.Known.{HasNoCycle}
+use Rattle.exec_axioms.specs.Completions.{MustEndSo}
 use Rattle.exec_axioms.proofs.Chosen.{once}
 use Rattle.exec_axioms.proofs.Ends.{ends_only}
 use Rattle.exec_axioms.proofs.LastWrites.{of_followed, pair_edge}
-use Rattle.run_maker.specs.Complete.{IsComplete, IsMadeRun}
+use Rattle.exec_axioms.specs.Complete.{IsComplete}
+use Rattle.run_maker.specs.MadeRuns.{IsMadeRun}
 use Rattle.run_maker.specs.Internal.Orders.{IsKnownOrder}
-use Rattle.run_maker.proofs.Completeness.{first_there, second_there}
+use Rattle.exec_axioms.proofs.Completeness.{first_there, second_there}
 use Rattle.run_maker.proofs.PlacesInOrder.{place, place_before, place_same, chosen, chosen_is}
 
 consistent_by : (p : Listing) (m : Mode) (c : Candidate) → ((kind : Kind) → IsOfMode m kind → IsAcyclic (Edge p m c kind)) → IsConsistent p m c
 consistent_by p Sequential c each = each union.Sequential tt
 consistent_by p (Fenced gaps) c each = (each union.Location tt, each union.Global tt)
 
-module _ (s : Parts) (lawful : IsLawful s) (whole : IsComplete s) (acyclic : HasNoCycle s) (order : List Event) (is : IsKnownOrder s order) where
+module _ (s : ProgramSketch) (lawful : IsLawful s) (whole : IsComplete s) (acyclic : HasNoCycle s) (order : List Event) (is : IsKnownOrder s order) where
   abbrev p : Listing
   p = s.program
 
@@ -57,7 +57,7 @@ module _ (s : Parts) (lawful : IsLawful s) (whole : IsComplete s) (acyclic : Has
   mode = mode_in s
 
   abbrev R : Event → Event → Type 0
-  R = IsKnownEdge s (followed_union mode)
+  R = KnownEdgeOfMode s.program (mode_in s) s.chosen (followed_union mode)
 
   abbrev W : Event → ℕ → ℕ → Type 0
   W = Writes (access_in s)
@@ -68,18 +68,18 @@ module _ (s : Parts) (lawful : IsLawful s) (whole : IsComplete s) (acyclic : Has
 
   -- the candidate that the sketch has become
   abbrev pub become : Candidate
-  become = record { given = given_to s.given; source = chosen s.sources; rank = rank }
+  become = record { given = given_to s.chosen; source = chosen s.chosen.sources; rank = rank }
 
-  in_order : (e : Event) → IsAccess s e → In e order
+  in_order : (e : Event) → IsAccess s.program (mode_in s) (given_to s.chosen) e → In e order
   in_order e h = contains_in order e ((is.accesses e).1 h)
 
   -- pairs rise
-  pair_rises : (d e : Event) → Contains s.pairs (d, e) → rank d < rank e
+  pair_rises : (d e : Event) → Contains s.chosen.pairs (d, e) → rank d < rank e
   pair_rises d e h =
       let pair = lawful.is_sketch.pairs d e h in
       rise d e h pair (first_there s d e pair) (second_there s d e pair)
     where
-      rise : (d e : Event) → Contains s.pairs (d, e) → IsPair s d e → IsAccess s d → IsAccess s e → rank d < rank e
+      rise : (d e : Event) → Contains s.chosen.pairs (d, e) → IsPair s.program (mode_in s) s.chosen d e → IsAccess s.program (mode_in s) (given_to s.chosen) d → IsAccess s.program (mode_in s) (given_to s.chosen) e → rank d < rank e
       rise (Initial l) e h pair a b = absurd a
       rise (At t i) (Initial l) h pair a b = absurd b
       rise (At t i) (At u j) h pair a b =
@@ -88,7 +88,7 @@ module _ (s : Parts) (lawful : IsLawful s) (whole : IsComplete s) (acyclic : Has
           omega arith
 
   -- writes that rise are known to
-  rises_known : (d e : Event) (x y : Access) → access_in s d ≡ Some x → access_in s e ≡ Some y → x.location ≡ y.location → IsSome x.written → IsSome y.written → rank d < rank e → IsBefore (sketch_of s) d e y
+  rises_known : (d e : Event) (x y : Access) → access_in s d ≡ Some x → access_in s e ≡ Some y → x.location ≡ y.location → IsSome x.written → IsSome y.written → rank d < rank e → IsBefore s.chosen d e y
   rises_known (Initial l) e x y a b q w v h =
       let same : l ≡ y.location = ap (λ (z : Access). z.location) (same_Some _ x a) ∙ q in
       inr (ap Initial same, (λ r. let z : rank e ≡ 0 = ap rank r in omega arith), v)
@@ -96,24 +96,24 @@ module _ (s : Parts) (lawful : IsLawful s) (whole : IsComplete s) (acyclic : Has
   rises_known (At t i) (At u j) x y a b q w v h =
       let (n, f) = some_value x.written w in
       let (m, g) = some_value y.written v in
-      let pair : IsPair s (At t i) (At u j) = ((λ r. let z : rank (At t i) ≡ rank (At u j) = ap rank r in omega arith), (y.location, n, m, (x, a, q, f), (y, b, refl, g), (λ r. cc), (λ r. cc))) in
+      let pair : IsPair s.program (mode_in s) s.chosen (At t i) (At u j) = ((λ r. let z : rank (At t i) ≡ rank (At u j) = ap rank r in omega arith), (y.location, n, m, (x, a, q, f), (y, b, refl, g), (λ r. cc), (λ r. cc))) in
       elim (whole.pairs (At t i) (At u j) pair) [
         | inl k ↦ inl k
         | inr k ↦ absurd (let z = pair_rises (At u j) (At t i) k in omega arith)
       ]
 
   -- a read has its chosen source
-  has_source : (e : Event) (x : Access) → access_in s e ≡ Some x → IsSome x.read → Contains s.sources (e, chosen s.sources e)
-  has_source e x a r = let (d, h) = whole.sources e (x, a, r) in chosen_is s.sources e d h
+  has_source : (e : Event) (x : Access) → access_in s e ≡ Some x → IsSome x.read → Contains s.chosen.sources (e, chosen s.chosen.sources e)
+  has_source e x a r = let (d, h) = whole.sources e (x, a, r) in chosen_is s.chosen.sources e d h
 
-  source_writes : (e : Event) (x : Access) (v : ℕ) → access_in s e ≡ Some x → x.read ≡ Some v → (chosen s.sources e ≢ e) × W (chosen s.sources e) x.location v
+  source_writes : (e : Event) (x : Access) (v : ℕ) → access_in s e ≡ Some x → x.read ≡ Some v → (chosen s.chosen.sources e ≢ e) × W (chosen s.chosen.sources e) x.location v
   source_writes e x v a r =
-      let (y, w, b, f, ne, writes) = lawful.is_sketch.sources e (chosen s.sources e) (has_source e x a (subst (λ o. IsSome o) (sym r) refl)) in
+      let (y, w, b, f, ne, writes) = lawful.is_sketch.sources e (chosen s.chosen.sources e) (has_source e x a (subst (λ o. IsSome o) (sym r) refl)) in
       let same : y ≡ x = same_Some y x (sym b ∙ a) in
       let value : w ≡ v = same_Some w v (sym f ∙ ap (λ (z : Access). z.read) same ∙ r) in
-      (ne, subst (λ u. W (chosen s.sources e) x.location u) value (subst (λ (z : Access). W (chosen s.sources e) z.location w) same writes))
+      (ne, subst (λ u. W (chosen s.chosen.sources e) x.location u) value (subst (λ (z : Access). W (chosen s.chosen.sources e) z.location w) same writes))
 
-  write_there : (t i l v : ℕ) → W (At t i) l v → IsAccess s (At t i)
+  write_there : (t i l v : ℕ) → W (At t i) l v → IsAccess s.program (mode_in s) (given_to s.chosen) (At t i)
   write_there t i l v w = slice_get_within _ i w.0 w.1
 
   different : (d e : Event) (l v w : ℕ) → W d l v → W e l w → rank d ≡ rank e → d ≡ e
@@ -127,7 +127,7 @@ module _ (s : Parts) (lawful : IsLawful s) (whole : IsComplete s) (acyclic : Has
   is_candidate = record {
     whole = λ t. (
       end_or_read (action p.threads t) (fenced_gaps mode t) (length (code_of p.threads t)) (λ l. advance p lawful.within.shared.forward_jumps t l) (length (code_of p.threads t)) 0
-          (start_of p.threads t) (given_to s.given t) (omega arith) (whole.whole t),
+          (start_of p.threads t) (given_to s.chosen t) (omega arith) (whole.whole t),
       lawful.is_sketch.used t,
     );
     values = lawful.values;
@@ -137,22 +137,22 @@ module _ (s : Parts) (lawful : IsLawful s) (whole : IsComplete s) (acyclic : Has
   }
 
   -- each edge of the candidate is a known one
-  relates : (kind : Kind) (d e : Event) (x y : Access) → access_in s d ≡ Some x → access_in s e ≡ Some y → Relates become kind d x e y → KnownRelates (sketch_of s) kind d x e y
+  relates : (kind : Kind) (d e : Event) (x y : Access) → access_in s d ≡ Some x → access_in s e ≡ Some y → Relates become kind d x e y → KnownRelates s.chosen kind d x e y
   relates kind d e x y a b = go kind
     where
-      reads : IsSome y.read → chosen s.sources e ≡ d → Contains s.sources (e, d)
-      reads r q = subst (λ z. Contains s.sources (e, z)) q (has_source e y b r)
+      reads : IsSome y.read → chosen s.chosen.sources e ≡ d → Contains s.chosen.sources (e, d)
+      reads r q = subst (λ z. Contains s.chosen.sources (e, z)) q (has_source e y b r)
 
-      orders_known : x.location ≡ y.location → IsSome x.written → IsSome y.written → rank d < rank e → IsBefore (sketch_of s) d e y
+      orders_known : x.location ≡ y.location → IsSome x.written → IsSome y.written → rank d < rank e → IsBefore s.chosen d e y
       orders_known q w v h = rises_known d e x y a b q w v h
 
-      from_known : x.location ≡ y.location → IsSome x.read → IsSome y.written → (d ≢ e) → rank (chosen s.sources d) < rank e → KnownFromReads (sketch_of s) d e y
+      from_known : x.location ≡ y.location → IsSome x.read → IsSome y.written → (d ≢ e) → rank (chosen s.chosen.sources d) < rank e → KnownFromReads s.chosen d e y
       from_known q r w ne h =
           let (v, f) = some_value x.read r in
           let source = (source_writes d x v a f).1 in
-          (chosen s.sources d, has_source d x a r, rises_known (chosen s.sources d) e source.0 y source.1 b (source.2 ∙ q) (subst (λ o. IsSome o) (sym source.3) refl) w h, ne)
+          (chosen s.chosen.sources d, has_source d x a r, rises_known (chosen s.chosen.sources d) e source.0 y source.1 b (source.2 ∙ q) (subst (λ o. IsSome o) (sym source.3) refl) w h, ne)
 
-      go : (kind : Kind) → Relates become kind d x e y → KnownRelates (sketch_of s) kind d x e y
+      go : (kind : Kind) → Relates become kind d x e y → KnownRelates s.chosen kind d x e y
       go union.Sequential (inl r) = inl r
       go union.Sequential (inr (inl r)) = inr (inl (reads r.0 r.1))
       go union.Sequential (inr (inr (inl r))) = inr (inr (inl (orders_known r.0 r.1 r.2 r.3)))
@@ -166,16 +166,16 @@ module _ (s : Parts) (lawful : IsLawful s) (whole : IsComplete s) (acyclic : Has
       go union.Global (inr (inr (inl r))) = inr (inr (inl (orders_known r.0 r.1 r.2 r.3)))
       go union.Global (inr (inr (inr r))) = inr (inr (inr (from_known r.0 r.1 r.2 r.3 r.4)))
 
-  known_edge : (kind : Kind) → IsOfMode mode kind → (d e : Event) → Edge p mode become kind d e → IsKnownEdge s kind d e
+  known_edge : (kind : Kind) → IsOfMode mode kind → (d e : Event) → Edge p mode become kind d e → KnownEdgeOfMode s.program (mode_in s) s.chosen kind d e
   known_edge kind of d e r = (of, (r.0, r.1, r.2, r.3, relates kind d e r.0 r.1 r.2 r.3 r.4))
 
   pub consistent : IsConsistent p mode become
-  consistent = consistent_by p mode become (λ kind of. acyclic_narrower (Edge p mode become kind) (IsKnownEdge s kind) (known_edge kind of) (acyclic kind))
+  consistent = consistent_by p mode become (λ kind of. acyclic_narrower (Edge p mode become kind) (KnownEdgeOfMode s.program (mode_in s) s.chosen kind) (known_edge kind of) (acyclic kind))
 
-  pub completes : Completes (sketch_of s) become
+  pub completes : Completes s.chosen become
   completes = record {
-    given = λ t. ([], append-nil (given_to s.given t));
-    sources = λ e d h. once s.sources lawful.one_source e (chosen s.sources e) d (chosen_is s.sources e d h) h;
+    given = λ t. ([], append-nil (given_to s.chosen t));
+    sources = λ e d h. once s.chosen.sources lawful.one_source e (chosen s.chosen.sources e) d (chosen_is s.chosen.sources e d h) h;
     pairs = pair_rises;
   }
 
@@ -205,7 +205,7 @@ module _ (s : Parts) (lawful : IsLawful s) (whole : IsComplete s) (acyclic : Has
   }
 
   -- a write that may be the last by what is chosen is the last
-  is_last : (l v : ℕ) (e : Event) → W e l v → MayBeLast p mode (sketch_of s) l e → (d : Event) (w : ℕ) → W d l w → rank d ≤ rank e
+  is_last : (l v : ℕ) (e : Event) → W e l v → MayBeLast p mode s.chosen l e → (d : Event) (w : ℕ) → W d l w → rank d ≤ rank e
   is_last l v e a may d w b = elim (cases_lt (rank e) (rank d)) [
     | inl less ↦ absurd (elim (rises_known e d a.0 b.0 a.1 b.1 (a.2 ∙ sym b.2) (subst (λ o. IsSome o) (sym a.3) refl) (subst (λ o. IsSome o) (sym b.3) refl) less) [
       | inl h ↦ may.no_later d h
@@ -214,7 +214,7 @@ module _ (s : Parts) (lawful : IsLawful s) (whole : IsComplete s) (acyclic : Has
     | inr more ↦ more
   ]
 
-  pub must_end : (shown : Shown) → MustEnd s shown end
+  pub must_end : (shown : Shown) → MustEndAs (asked s.program shown) (mode_in s) s.chosen end
   must_end shown = record {
     whole = whole.whole;
     registers = refl;
@@ -222,10 +222,10 @@ module _ (s : Parts) (lawful : IsLawful s) (whole : IsComplete s) (acyclic : Has
     memory = λ l v e h a may. ap (shown_value shown l) (one_end p mode become is_candidate l v (slice_index end.memory l) (e, a, is_last l v e a may) (has_outcome.memory l h));
   }
 
-  runs_along : IsRun p mode (labels_along p mode (given_to s.given) (λ t. 0) order) end × IsCandidateOf p mode (labels_along p mode (given_to s.given) (λ t. 0) order) become
+  runs_along : IsRun p mode (labels_along p mode (given_to s.chosen) (λ t. 0) order) end × IsCandidateOf p mode (labels_along p mode (given_to s.chosen) (λ t. 0) order) become
   runs_along = every_order p mode become order end is_candidate consistent is_order has_outcome
 
-  pub run_of : IsMadeRun s (labels_along p mode (given_to s.given) (λ t. 0) order) end
+  pub run_of : IsMadeRun s (labels_along p mode (given_to s.chosen) (λ t. 0) order) end
   run_of = record {
     is_run = runs_along.0;
     completion = become;
@@ -237,5 +237,5 @@ module _ (s : Parts) (lawful : IsLawful s) (whole : IsComplete s) (acyclic : Has
   }
 
   -- the same with the one outcome as which the sketch must end
-  pub run_with : (o : Outcome) → MustEndSo s All o → IsMadeRun s (labels_along p mode (given_to s.given) (λ t. 0) order) o
-  run_with o so = subst (IsMadeRun s (labels_along p mode (given_to s.given) (λ t. 0) order)) (so.only acyclic end (must_end All)) run_of
+  pub run_with : (o : Outcome) → MustEndSo s All o → IsMadeRun s (labels_along p mode (given_to s.chosen) (λ t. 0) order) o
+  run_with o so = subst (IsMadeRun s (labels_along p mode (given_to s.chosen) (λ t. 0) order)) (so.only acyclic end (must_end All)) run_of

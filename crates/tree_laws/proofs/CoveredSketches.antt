@@ -4,30 +4,19 @@ use Rattle.tso_program.specs.declared.listing.Listing.{Listing}
 use Rattle.tso_program.specs.declared.outcome.Outcome.{Outcome}
 use Rattle.tso_program.specs.Shown.{Question}
 use Rattle.tso_program.specs.Limits.{JumpForward}
-use Rattle.tso_machine.specs.Machine.{Mode, Sequential, Fenced}
+use Rattle.tso_machine.specs.Machine.{Mode}
 use Rattle.candidate_executions.specs.declared.event.Event.{Event}
 use Rattle.candidate_executions.specs.declared.event.Kind.{Kind}
-use Rattle.candidate_executions.specs.declared.event.Kind.TheVariants as union
 use Rattle.candidate_executions.specs.Candidates.{Candidate}
-use Rattle.candidate_executions.specs.Consistency.{IsOfMode, Edge, IsAcyclic, IsConsistent}
-use Rattle.candidate_executions.specs.Sketches.{Sketch, Completes, IsConsistentCompletion, IsSketch, IsPair, with_value, with_source, with_pair}
+use Rattle.candidate_executions.specs.Sketches.{Sketch, Completes, IsConsistentCompletion, IsSketch, IsPair, with_value, with_source, with_pair, IsKnownCycle}
 use Rattle.candidate_executions.proofs.Orders.Lists.{some_value}
 use Rattle.candidate_executions.proofs.Sketches.Choices.{a_value_keeps_a_sketch, a_source_keeps_a_sketch, a_pair_keeps_a_sketch, each_has_a_value, each_has_a_source, each_has_an_order}
-use Rattle.candidate_executions.proofs.Sketches.KnownEdges.{known_cycle_is_a_cycle}
+use Rattle.candidate_executions.proofs.Sketches.KnownCycles.{known_cycle_refutes}
 use Rattle.candidate_executions.proofs.Sketches.MustEnd.{each_ends_so}
 use Rattle.cert_forest.specs.Trees.{Cover, Value, Source, Order, Cycle, Known, Covers, NoCover, MoreCovers}
-use Rattle.tree_laws.specs.CoverTrees.{event_of, HasNextValues, HasSources, HasNoOrder, IsKnownCycle, MustEndAsNumber, IsValidCover, AreValidCovers, IsCovered}
+use Rattle.tree_laws.specs.CoverTrees.{event_of, HasNextValues, HasSources, HasNoOrder, MustEndAsNumber, IsValidCover, AreValidCovers, IsCovered}
 use Rattle.tree_laws.specs.Laws.{AValidCoverCovers}
 use Rattle.tree_laws.proofs.Lists.{none_here, first_or_later, mapped, found_is_here}
-
--- a consistent candidate has no cycle of a union of its mode
-no_cycle : (p : Listing) (mode : Mode) (c : Candidate) (kind : Kind) → IsOfMode mode kind → IsConsistent p mode c → IsAcyclic (Edge p mode c kind)
-no_cycle p Sequential c union.Sequential of_mode consistent = consistent
-no_cycle p Sequential c union.Location of_mode consistent = absurd of_mode
-no_cycle p Sequential c union.Global of_mode consistent = absurd of_mode
-no_cycle p (Fenced gaps) c union.Sequential of_mode consistent = absurd of_mode
-no_cycle p (Fenced gaps) c union.Location of_mode consistent = consistent.0
-no_cycle p (Fenced gaps) c union.Global of_mode consistent = consistent.1
 
 -- a completion of one sketch that completes another
 of_other : (p : Listing) (mode : Mode) (k j : Sketch) (c : Candidate) → IsConsistentCompletion p mode k c → Completes j c → IsConsistentCompletion p mode j c
@@ -69,7 +58,7 @@ module _ (q : Question) (mode : Mode) (outcomes : List Outcome) (forward : JumpF
 
   by_cycle : (k : Sketch) (kind : Kind) (es : List Event) → IsKnownCycle p mode k kind es → Covered k
   by_cycle k kind es known fits c is =
-      absurd (no_cycle p mode c kind known.of_mode is.consistent es (known_cycle_is_a_cycle p mode k c kind es fits is.is_candidate is.completes known.cycle))
+      absurd (known_cycle_refutes p mode k kind es fits known c is)
 
   by_outcome : (k : Sketch) (number : ℕ) → MustEndAsNumber q mode outcomes k number → Covered k
   by_outcome k number must fits c is = (

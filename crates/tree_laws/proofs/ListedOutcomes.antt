@@ -29,8 +29,8 @@ listed q mode outcomes o forward are_shown covered (labels, (whole, is_run, show
 
 -- a valid tree covers the sketch with no choice
 covered_from_nothing : (q : Question) (mode : Mode) (outcomes : List Outcome) (tree : Cover) → JumpForward q.program.threads →
-    IsValidCover q mode outcomes tree empty_sketch → IsCovered q mode outcomes empty_sketch
-covered_from_nothing q mode outcomes tree forward valid = valid_covers q mode outcomes tree empty_sketch forward (empty_is_a_sketch q.program mode) valid
+    IsValidCover q mode outcomes tree (empty_sketch q.program) → IsCovered q mode outcomes (empty_sketch q.program)
+covered_from_nothing q mode outcomes tree forward valid = valid_covers q mode outcomes tree (empty_sketch q.program) forward (empty_is_a_sketch q.program mode) valid
 
 -- the outcomes of sequential runs are sequential
 of_runs : (q : Question) (runs : List (List Label)) (outcomes : List Outcome) (o : Outcome) → AreSequentialRuns q runs outcomes → Contains outcomes o → IsSequentialOutcome q o

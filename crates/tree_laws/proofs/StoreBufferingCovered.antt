@@ -13,9 +13,9 @@ use Rattle.candidate_executions.specs.declared.event.Event.{Event}
 use Rattle.candidate_executions.specs.declared.event.Event.TheVariants.{Initial, Access as At}
 use Rattle.candidate_executions.specs.declared.event.Kind.{Kind}
 use Rattle.candidate_executions.specs.Candidates.{access_by, Writes}
-use Rattle.candidate_executions.specs.Sketches.{Sketch, empty_sketch, with_value, with_source, IsSourceOf, MayBeLast, MustEndAs}
+use Rattle.candidate_executions.specs.Sketches.{Sketch, empty_sketch, given_to, IsKnownCycle, with_value, with_source, IsSourceOf, MayBeLast, MustEndAs}
 use Rattle.candidate_executions.specs.Events.{ComesBefore}
-use Rattle.tree_laws.specs.CoverTrees.{event_of, MustEndAsNumber, HasNextValues, HasSources, IsKnownCycle, IsValidCover}
+use Rattle.tree_laws.specs.CoverTrees.{event_of, MustEndAsNumber, HasNextValues, HasSources, IsValidCover}
 use Rattle.cert_forest.specs.StoreBuffering.{around, cover_of}
 use Rattle.tree_laws.proofs.Lists.{none_here, first_or_later, first_is_here}
 use Rattle.tree_laws.proofs.StoreBufferingValues.{zero_one, values, both, whole, writes_one, writes_initial}
@@ -48,10 +48,10 @@ another_thread : (d e : Event × Event) → thread_of d.0 ≡ 0 → thread_of e.
 another_thread d e first second same = let one : thread_of d.0 ≡ thread_of e.0 = ap (λ (z : Event × Event). thread_of z.0) same in omega arith
 
 module _ (mode : Mode) where
-  first_next : HasNextValues store_buffering mode empty_sketch 0 zero_one
+  first_next : HasNextValues store_buffering mode (empty_sketch store_buffering) 0 zero_one
   first_next = record { location = 1; next = refl; ascending = ascending; exact = values 1 (lit< tt) }
 
-  second_next : (a : ℕ) → HasNextValues store_buffering mode (with_value empty_sketch 0 a) 1 zero_one
+  second_next : (a : ℕ) → HasNextValues store_buffering mode (with_value (empty_sketch store_buffering) 0 a) 1 zero_one
   second_next a = record { location = 0; next = refl; ascending = ascending; exact = values 0 (lit< tt) }
 
   -- a location's initial write is not its last, since a thread's first access writes to it
@@ -65,7 +65,7 @@ module _ (mode : Mode) where
   ones (suc zero) h = refl
   ones (suc (suc l)) h = absurd (omega arith)
 
-  last_writes : (a b l v : ℕ) (e : Event) → l < 2 → Writes (access_by store_buffering mode (both a b).given) e l v →
+  last_writes : (a b l v : ℕ) (e : Event) → l < 2 → Writes (access_by store_buffering mode (given_to (both a b))) e l v →
       MayBeLast store_buffering mode (both a b) l e → v ≡ slice_index (1 ∷ 1 ∷ []) l
   last_writes a b l v (At t i) h writes last = (writes_one mode a b t i l v writes).0 ∙ ones l h
   last_writes a b l v (Initial m) h writes last =
@@ -75,7 +75,7 @@ module _ (mode : Mode) where
   ends a b = record { whole = whole mode a b; registers = refl; long = refl; memory = λ l v e h. last_writes a b l v e h }
 
   -- under both values 0, the one source of a read is the initial write of its location
-  only_initial : (l : ℕ) (s : Event) → Writes (access_by store_buffering mode (both 0 0).given) s l 0 → Initial l ≡ s
+  only_initial : (l : ℕ) (s : Event) → Writes (access_by store_buffering mode (given_to (both 0 0))) s l 0 → Initial l ≡ s
   only_initial l (Initial m) writes = ap Initial (sym (writes_initial mode 0 0 m l 0 writes))
   only_initial l (At t i) writes = absurd (let one : 0 ≡ 1 = (writes_one mode 0 0 t i l 0 writes).0 in omega arith)
 
@@ -87,7 +87,7 @@ module _ (mode : Mode) where
     -- e is a load of the location that gives 0, without a source
     record ReadsZero : Type 0 where
       access : Access
-      is_access : access_by store_buffering mode (both 0 0).given e ≡ Some access
+      is_access : access_by store_buffering mode (given_to (both 0 0)) e ≡ Some access
       here : l ≡ access.location
       zero_read : Some 0 ≡ access.read
       other : Initial l ≢ e
@@ -102,9 +102,9 @@ module _ (mode : Mode) where
         let same : r.access ≡ x = same_Some r.access x (sym r.is_access ∙ is) in
         let value : v ≡ 0 = sym (same_Some 0 v (r.zero_read ∙ ap (λ (z : Access). z.read) same ∙ reads)) in
         let location : x.location ≡ l = sym (r.here ∙ ap (λ (z : Access). z.location) same) in
-        let there : Writes (access_by store_buffering mode (both 0 0).given) s l 0 =
-        subst (λ (w : ℕ). Writes (access_by store_buffering mode (both 0 0).given) s l w) value
-        (subst (λ (n : ℕ). Writes (access_by store_buffering mode (both 0 0).given) s n v) location writes) in
+        let there : Writes (access_by store_buffering mode (given_to (both 0 0))) s l 0 =
+        subst (λ (w : ℕ). Writes (access_by store_buffering mode (given_to (both 0 0))) s l w) value
+        (subst (λ (n : ℕ). Writes (access_by store_buffering mode (given_to (both 0 0))) s n v) location writes) in
         subst (λ (z : Event). Contains (Initial l ∷ []) z) (only_initial l s there) (first_is_here (Initial l) [])
 
     there : ReadsZero → (s : Event) → Contains (Initial l ∷ []) s → IsSourceOf store_buffering mode so_far s e
@@ -160,7 +160,7 @@ module _ (mode : Mode) where
   abbrev pub read_twice : Sketch
   read_twice = with_source read_once (At 1 1) (Initial 0)
 
-  pub cover_is_valid : (kind : Kind) → IsKnownCycle store_buffering mode read_twice kind (map event_of around) → IsValidCover question mode outcomes (cover_of kind) empty_sketch
+  pub cover_is_valid : (kind : Kind) → IsKnownCycle store_buffering mode read_twice kind (map event_of around) → IsValidCover question mode outcomes (cover_of kind) (empty_sketch store_buffering)
   cover_is_valid kind cycle = (
     zero_one,
     first_next,

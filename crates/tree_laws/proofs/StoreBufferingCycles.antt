@@ -8,7 +8,8 @@ use Rattle.tso_machine.specs.Examples.{store_buffering}
 use Rattle.candidate_executions.specs.declared.event.Event.TheVariants.{Initial}
 use Rattle.candidate_executions.specs.declared.event.Kind.TheVariants as union
 use Rattle.candidate_executions.specs.Traces.{entered}
-use Rattle.tree_laws.specs.CoverTrees.{event_of, IsKnownCycle}
+use Rattle.candidate_executions.specs.Sketches.{IsKnownCycle}
+use Rattle.tree_laws.specs.CoverTrees.{event_of}
 use Rattle.cert_forest.specs.StoreBuffering.{around}
 use Rattle.tree_laws.proofs.StoreBufferingCovered.{read_twice}
 
@@ -28,31 +29,25 @@ second_fenced : set.contains (these (0 ∷ 1 ∷ [])) 1 ≡ true
 second_fenced = set.contains-from_list_nat (0 ∷ 1 ∷ []) 1
 
 pub sequential_cycle : IsKnownCycle store_buffering Sequential (read_twice Sequential) union.Sequential (map event_of around)
-sequential_cycle = record {
-  of_mode = tt;
-  cycle = (
-    (_, _, refl, refl, inl (refl, lit< tt)),
+sequential_cycle = (
+  (tt, (_, _, refl, refl, inl (refl, lit< tt))),
+  (
+    (tt, (_, _, refl, refl, inr (inr (inr (Initial 1, (0, lit< tt, refl), inr (refl, (λ q. cc), refl), (λ q. cc)))))),
     (
-      (_, _, refl, refl, inr (inr (inr (Initial 1, (0, lit< tt, refl), inr (refl, (λ q. cc), refl), (λ q. cc))))),
-      (
-        (_, _, refl, refl, inl (refl, lit< tt)),
-        (_, _, refl, refl, inr (inr (inr (Initial 0, (1, lit< tt, refl), inr (refl, (λ q. cc), refl), (λ q. cc))))),
-      ),
+      (tt, (_, _, refl, refl, inl (refl, lit< tt))),
+      (tt, (_, _, refl, refl, inr (inr (inr (Initial 0, (1, lit< tt, refl), inr (refl, (λ q. cc), refl), (λ q. cc)))))),
     ),
-  );
-}
+  ),
+)
 
 pub fenced_cycle : IsKnownCycle store_buffering both_fenced (read_twice both_fenced) union.Global (map event_of around)
-fenced_cycle = record {
-  of_mode = tt;
-  cycle = (
-    (_, _, refl, refl, inl ((refl, lit< tt), inr (inr (new_section (set.contains (these (0 ∷ 1 ∷ [])) 0) 0 0 first_fenced refl)))),
+fenced_cycle = (
+  (tt, (_, _, refl, refl, inl ((refl, lit< tt), inr (inr (new_section (set.contains (these (0 ∷ 1 ∷ [])) 0) 0 0 first_fenced refl))))),
+  (
+    (tt, (_, _, refl, refl, inr (inr (inr (Initial 1, (0, lit< tt, refl), inr (refl, (λ q. cc), refl), (λ q. cc)))))),
     (
-      (_, _, refl, refl, inr (inr (inr (Initial 1, (0, lit< tt, refl), inr (refl, (λ q. cc), refl), (λ q. cc))))),
-      (
-        (_, _, refl, refl, inl ((refl, lit< tt), inr (inr (new_section (set.contains (these (0 ∷ 1 ∷ [])) 1) 0 0 second_fenced refl)))),
-        (_, _, refl, refl, inr (inr (inr (Initial 0, (1, lit< tt, refl), inr (refl, (λ q. cc), refl), (λ q. cc))))),
-      ),
+      (tt, (_, _, refl, refl, inl ((refl, lit< tt), inr (inr (new_section (set.contains (these (0 ∷ 1 ∷ [])) 1) 0 0 second_fenced refl))))),
+      (tt, (_, _, refl, refl, inr (inr (inr (Initial 0, (1, lit< tt, refl), inr (refl, (λ q. cc), refl), (λ q. cc)))))),
     ),
-  );
-}
+  ),
+)

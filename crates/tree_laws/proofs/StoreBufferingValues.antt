@@ -12,7 +12,7 @@ use Rattle.candidate_executions.specs.declared.access.Access.{Access}
 use Rattle.candidate_executions.specs.declared.event.Event.TheVariants.{Initial, Access as At}
 use Rattle.candidate_executions.specs.Values.{Occurs, IsValueOf}
 use Rattle.candidate_executions.specs.Candidates.{access_by, Writes}
-use Rattle.candidate_executions.specs.Sketches.{Sketch, empty_sketch, with_value, IsWhole}
+use Rattle.candidate_executions.specs.Sketches.{Sketch, empty_sketch, given_to, with_value, IsWhole}
 use Rattle.tree_laws.proofs.Lists.{none_here, first_or_later, first_is_here, later_is_here}
 
 -- one of the four instructions
@@ -77,7 +77,7 @@ values l h v = (there, back)
 
 -- both loads have their values
 abbrev pub both : ℕ → ℕ → Sketch
-both a b = with_value (with_value empty_sketch 0 a) 1 b
+both a b = with_value (with_value (empty_sketch store_buffering) 0 a) 1 b
 
 module _ (mode : Mode) (a b : ℕ) where
   pub whole : IsWhole store_buffering mode (both a b)
@@ -86,7 +86,7 @@ module _ (mode : Mode) (a b : ℕ) where
   whole (suc (suc t)) = refl
 
   -- the accesses that write: each thread's first, which writes 1 to its location
-  pub writes_one : (t i l v : ℕ) → Writes (access_by store_buffering mode (both a b).given) (At t i) l v → (v ≡ 1) × (t ≡ l)
+  pub writes_one : (t i l v : ℕ) → Writes (access_by store_buffering mode (given_to (both a b))) (At t i) l v → (v ≡ 1) × (t ≡ l)
   writes_one zero zero l v (x, is, at, writes) =
       let location : 0 ≡ x.location = ap (λ (z : Access). z.location) (same_Some _ x is) in
       let written : Some 1 ≡ x.written = ap (λ (z : Access). z.written) (same_Some _ x is) in
@@ -104,5 +104,5 @@ module _ (mode : Mode) (a b : ℕ) where
   writes_one (suc (suc t)) i l v (x, is, at, writes) = absurd cc
 
   -- an initial write writes to its location
-  pub writes_initial : (m l v : ℕ) → Writes (access_by store_buffering mode (both a b).given) (Initial m) l v → m ≡ l
+  pub writes_initial : (m l v : ℕ) → Writes (access_by store_buffering mode (given_to (both a b))) (Initial m) l v → m ≡ l
   writes_initial m l v (x, is, at, writes) = ap (λ (z : Access). z.location) (same_Some _ x is) ∙ at

@@ -31,7 +31,7 @@ pub record IsValidCertificate (q : Question) (costs : List ℕ) (c : Certificate
   pub cost : c.cost ≡ total costs c.gaps
   pub outcomes : List Outcome
   pub replayed : AreSequentialRuns q c.seq_runs outcomes
-  pub sequential : IsValidCover q Sequential outcomes c.seq_tree empty_sketch
+  pub sequential : IsValidCover q Sequential outcomes c.seq_tree (empty_sketch q.program)
   pub foreign : All (IsRunOutside q outcomes) c.runs
-  pub fenced : IsValidCover q (Fenced (gaps_in q.program c.gaps)) outcomes c.fenced_tree empty_sketch
+  pub fenced : IsValidCover q (Fenced (gaps_in q.program c.gaps)) outcomes c.fenced_tree (empty_sketch q.program)
   pub least : IsValidGap q.program costs c.gaps c.runs c.gap_tree all_sets

@@ -9,12 +9,10 @@ use Rattle.tso_machine.specs.Machine.{Mode}
 use Rattle.candidate_executions.specs.declared.access.Access.{Access}
 use Rattle.candidate_executions.specs.declared.event.Event.{Event}
 use Rattle.candidate_executions.specs.declared.event.Event.TheVariants.{Access as At}
-use Rattle.candidate_executions.specs.declared.event.Kind.{Kind}
 use Rattle.candidate_executions.specs.Events.{ComesBefore}
 use Rattle.candidate_executions.specs.Values.{IsValueOf}
 use Rattle.candidate_executions.specs.Candidates.{Candidate, access_by, HasShownOutcome}
-use Rattle.candidate_executions.specs.Consistency.{IsOfMode, IsCycle}
-use Rattle.candidate_executions.specs.Sketches.{Sketch, IsConsistentCompletion, IsSourceOf, IsPair, with_value, with_source, with_pair, next_read, IsWhole, MustEndAs, KnownEdge}
+use Rattle.candidate_executions.specs.Sketches.{Sketch, given_to, IsConsistentCompletion, IsSourceOf, IsPair, with_value, with_source, with_pair, next_read, IsWhole, MustEndAs, IsKnownCycle}
 use Rattle.cert_forest.specs.declared.tree.AccessId.{AccessId}
 use Rattle.cert_forest.specs.Trees.{Cover, Value, Source, Order, Cycle, Known, Covers, NoCover, MoreCovers}
 
@@ -33,7 +31,7 @@ module _ (p : Listing) (mode : Mode) where
   pub record HasSources (k : Sketch) (e : Event) (sources : List Event) : Type 0 where
     pub whole : IsWhole p mode k
     pub access : Access
-    pub is_access : access_by p mode k.given e ≡ Some access
+    pub is_access : access_by p mode (given_to k) e ≡ Some access
     pub is_read : IsSome access.read
     pub free : (s : Event) → ¬ Contains k.sources (e, s)
     pub in_order : AllPairs ComesBefore sources
@@ -44,11 +42,6 @@ module _ (p : Listing) (mode : Mode) where
     pub whole : IsWhole p mode k
     pub is_pair : IsPair p mode k d e
     pub free : ¬ (Contains k.pairs (d, e) ⊎ Contains k.pairs (e, d))
-
-  -- the events are a cycle of known edges, of a union of the mode
-  pub record IsKnownCycle (k : Sketch) (kind : Kind) (es : List Event) : Type 0 where
-    pub of_mode : IsOfMode mode kind
-    pub cycle : IsCycle (KnownEdge p mode k kind) es
 
 module _ (q : Question) (mode : Mode) (outcomes : List Outcome) where
   -- the sketch must end as the outcome of this number

@@ -32,7 +32,7 @@ AreShown q outcomes = (o : Outcome) → Contains outcomes o → show q.shown o �
 -- where the sketch with no choice is covered, each outcome of the mode's machine is in the list
 abbrev pub ACoveredListHasEachOutcome : Type 0
 ACoveredListHasEachOutcome = (q : Question) (mode : Mode) (outcomes : List Outcome) (o : Outcome) → JumpForward q.program.threads →
-    AreShown q outcomes → IsCovered q mode outcomes empty_sketch → AllowsShown q mode o → Contains outcomes o
+    AreShown q outcomes → IsCovered q mode outcomes (empty_sketch q.program) → AllowsShown q mode o → Contains outcomes o
 
 -- the list has the sequential outcomes and no others
 abbrev pub IsSequentialList : Question → List Outcome → Type 0
@@ -41,12 +41,12 @@ IsSequentialList q outcomes = (o : Outcome) → Contains outcomes o ↔ IsSequen
 -- sequential runs and a valid tree in sequential mode make the list of their outcomes the sequential outcomes
 abbrev pub AValidTreeMakesTheSequentialList : Type 0
 AValidTreeMakesTheSequentialList = (q : Question) (runs : List (List Label)) (outcomes : List Outcome) (tree : Cover) → JumpForward q.program.threads →
-    AreSequentialRuns q runs outcomes → IsValidCover q Sequential outcomes tree empty_sketch → IsSequentialList q outcomes
+    AreSequentialRuns q runs outcomes → IsValidCover q Sequential outcomes tree (empty_sketch q.program) → IsSequentialList q outcomes
 
 -- and a valid tree with the gaps of a set fenced, over that list, says that the set serves
 abbrev pub AValidFencedTreeServes : Type 0
 AValidFencedTreeServes = (q : Question) (gaps : SetOfGaps) (outcomes : List Outcome) (tree : Cover) → JumpForward q.program.threads →
-    IsSequentialList q outcomes → IsValidCover q (Fenced (gaps_in q.program gaps)) outcomes tree empty_sketch → Serves q gaps
+    IsSequentialList q outcomes → IsValidCover q (Fenced (gaps_in q.program gaps)) outcomes tree (empty_sketch q.program) → Serves q gaps
 
 -- the labels are a foreign run
 abbrev pub IsForeign : Question → List Label → Type 0

@@ -10,7 +10,7 @@ use Rattle.candidate_executions.specs.declared.event.Kind.{Kind}
 use Rattle.candidate_executions.specs.declared.event.Kind.TheVariants as union
 use Rattle.candidate_executions.specs.Candidates.{Candidate, access, access_by, IsCandidate}
 use Rattle.candidate_executions.specs.Consistency.{Precedes, WriteOrder, FromReads, Edge, Leads, IsCycle}
-use Rattle.candidate_executions.specs.Sketches.{Sketch, IsSketch, IsBefore, KnownEdge}
+use Rattle.candidate_executions.specs.Sketches.{Sketch, given_to, IsSketch, IsBefore, KnownEdge}
 use Rattle.candidate_executions.specs.Laws.{NoEdgeLeadsIntoInitial, CyclesAreOfAccesses, NoKnownEdgeLeadsIntoInitial, KnownCyclesAreOfAccesses}
 use Rattle.candidate_executions.proofs.Candidates.WrittenValues.{stored_as, some_written}
 
@@ -73,7 +73,7 @@ module _ (R : Event → Event → Type 0) (x : Event) (closed : (d : Event) → 
 
 -- the same of known edges
 module _ (p : Listing) (mode : Mode) (k : Sketch) (fits : IsSketch p mode k) where
-  no_before : (d : Event) (l : ℕ) (y : Access) → access_by p mode k.given (Initial l) ≡ Some y → IsBefore k d (Initial l) y → ⊥
+  no_before : (d : Event) (l : ℕ) (y : Access) → access_by p mode (given_to k) (Initial l) ≡ Some y → IsBefore k d (Initial l) y → ⊥
   no_before d l y b (inl h) = let (m, v, w, wd, we, nd, ne) = (fits.pairs d (Initial l) h).1 in
       let same : m ≡ l = sym we.2 ∙ sym (ap (λ (z : Access). z.location) (same_Some _ we.0 we.1)) in
       ne (ap Initial (sym same))

@@ -325,4 +325,4 @@ every_run p (Fenced gaps) labels o = fenced_run p gaps labels o
 pub every_run_is_a_completion : EveryRunIsACompletion
 every_run_is_a_completion p mode labels o forward r =
     let (c, is, consistent, out, of) = every_run p mode labels o forward r in
-    (c, record { is_candidate = is; consistent = consistent; completes = completes_empty c }, out)
+    (c, record { is_candidate = is; consistent = consistent; completes = completes_empty p c }, out)

@@ -1,22 +1,23 @@
 -- A sketch stays one by each choice, and each completion has made each choice in one of its ways.
-use Rattle.std.proofs.Common.{◌≡◌, ◌⊎◌, ℕ, zero, suc, ◌<◌, List, [], ◌∷◌, ◌++◌, Some, None, Contains, slice_get, length, refl, sym, ap, ◌∙◌, subst, inl, inr, arith, append_assoc, append-nil}
+use Rattle.std.proofs.Common.{◌≡◌, ◌⊎◌, ℕ, zero, suc, ◌<◌, List, [], ◌∷◌, ◌++◌, Some, None, Contains, slice_get, length, refl, sym, ap, ◌∙◌, subst, inl, inr, arith, append_assoc, append-nil, length-set}
 use mathlib.Core.Path.{fun_ext}
 use Rattle.std.proofs.lemmas.Bool.{cases_eq, cases_order}
+use Rattle.std.proofs.lemmas.List.{length-map}
 use Rattle.std.proofs.lemmas.List.Elements.{Contains-append_cases}
 use Rattle.tso_program.specs.declared.action.Action.TheVariants.{Stop}
 use Rattle.tso_program.specs.declared.listing.Listing.{Listing}
 use Rattle.tso_program.specs.Listings.{action, start_of, code_of}
 use Rattle.tso_program.specs.Limits.{JumpForward}
-use Rattle.tso_machine.specs.Machine.{Mode, put}
+use Rattle.tso_machine.specs.Machine.{Mode}
 use Rattle.candidate_executions.specs.declared.access.Access.{Access}
 use Rattle.candidate_executions.specs.declared.event.Event.{Event}
 use Rattle.candidate_executions.specs.declared.event.Event.TheVariants.{Initial, Access as At}
 use Rattle.candidate_executions.specs.Values.{IsValueOf}
 use Rattle.candidate_executions.specs.Traces.{Trace, trace, trace_by, fenced_gaps}
 use Rattle.candidate_executions.specs.Candidates.{Candidate, access, access_by, Writes, IsCandidate}
-use Rattle.candidate_executions.specs.Sketches.{Sketch, IsPrefixOf, Completes, IsSketch, IsSourceOf, IsPair, with_value, with_source, with_pair, read_by, next_read, IsWhole}
+use Rattle.candidate_executions.specs.Sketches.{Sketch, given_to, IsPrefixOf, Completes, IsSketch, IsSourceOf, IsPair, with_value, with_source, with_pair, read_by, next_read, IsWhole}
 use Rattle.candidate_executions.specs.Laws.{EmptyIsASketch, AValueKeepsASketch, ASourceKeepsASketch, APairKeepsASketch, EachCompletionHasAValue, EachCompletionHasTheValues, EachCompletionHasASource, EachCompletionHasAnOrder}
-use Rattle.candidate_executions.proofs.Orders.Lists.{put_same, put_other}
+use Rattle.candidate_executions.proofs.Sketches.GivenValues.{none_given, given_same, given_other, longer, reads_there}
 use Rattle.candidate_executions.proofs.FromRuns.StepsSuffice.{advance}
 use Rattle.candidate_executions.proofs.Sketches.MoreValues.{spare, Takes, trace_more, no_values, at_end, end_or_read, at_read, used_up}
 
@@ -39,34 +40,34 @@ keeps_writes p mode given more h e l v w = (w.0, keeps p mode given more h e w.0
 
 pub empty_is_a_sketch : EmptyIsASketch
 empty_is_a_sketch p mode = record {
-  used = λ t. no_values (action p.threads t) (fenced_gaps mode t) (length (code_of p.threads t)) 0 (start_of p.threads t);
+  each_thread = length-map p.threads (λ thread. []);
+  used = λ t. rw (none_given p t) (no_values (action p.threads t) (fenced_gaps mode t) (length (code_of p.threads t)) 0 (start_of p.threads t));
   sources = λ e s h. absurd (let z = h.1 in omega arith);
   pairs = λ d e h. absurd (let z = h.1 in omega arith);
 }
 
--- the values with one more for thread t
-longer : (k : Sketch) (t v u : ℕ) → IsPrefixOf (k.given u) ((with_value k t v).given u)
-longer k t v u = elim (cases_eq u t) [
-  | inl q ↦ (v ∷ [], subst (λ z. k.given z ++ v ∷ [] ≡ put k.given t (k.given t ++ v ∷ []) z) (sym q) (sym (put_same k.given t (k.given t ++ v ∷ []))))
-  | inr q ↦ ([], append-nil (k.given u) ∙ sym (put_other k.given t (k.given t ++ v ∷ []) u q))
-]
+-- a thread with a next read has its given values
+there_by : (p : Listing) (mode : Mode) (k : Sketch) → IsSketch p mode k → (t l : ℕ) → next_read p mode k t ≡ Some l → t < length k.given
+there_by p mode k fits t l next = let h = reads_there p mode k t l next in let many = fits.each_thread in omega arith
 
 pub a_value_keeps_a_sketch : AValueKeepsASketch
-a_value_keeps_a_sketch p mode k t l v forward fits next = record {
+a_value_keeps_a_sketch p mode k t l v forward fits next = let there = there_by p mode k fits t l next in record {
+  each_thread = length-set k.given t (given_to k t ++ v ∷ []) ∙ fits.each_thread;
   used = λ u. elim (cases_eq u t) [
-    | inl q ↦ subst (λ z. (trace_by p mode (with_value k t v).given z).unused ≡ []) (sym q) (rw (put_same k.given t (k.given t ++ v ∷ []))
+    | inl q ↦ subst (λ z. (trace_by p mode (given_to (with_value k t v)) z).unused ≡ []) (sym q) (rw (given_same k t v there)
         (used_up (action p.threads t) (fenced_gaps mode t) (length (code_of p.threads t)) (λ s. advance p forward t s) (length (code_of p.threads t)) 0
-        (start_of p.threads t) (k.given t) v l (omega arith) next (fits.used t)))
-    | inr q ↦ rw (put_other k.given t (k.given t ++ v ∷ []) u q) (fits.used u)
+        (start_of p.threads t) (given_to k t) v l (omega arith) next (fits.used t)))
+    | inr q ↦ rw (given_other k t v u q) (fits.used u)
   ];
   sources = λ e s h. let (x, w, a, r, n, f) = fits.sources e s h in
-      (x, w, keeps p mode k.given (with_value k t v).given (longer k t v) e x a, r, n, keeps_writes p mode k.given (with_value k t v).given (longer k t v) s x.location w f);
+      (x, w, keeps p mode (given_to k) (given_to (with_value k t v)) (longer k t v there) e x a, r, n, keeps_writes p mode (given_to k) (given_to (with_value k t v)) (longer k t v there) s x.location w f);
   pairs = λ d e h. let (n, (m, w, x, f, g, nd, ne)) = fits.pairs d e h in
-      (n, (m, w, x, keeps_writes p mode k.given (with_value k t v).given (longer k t v) d m w f, keeps_writes p mode k.given (with_value k t v).given (longer k t v) e m x g, nd, ne));
+      (n, (m, w, x, keeps_writes p mode (given_to k) (given_to (with_value k t v)) (longer k t v there) d m w f, keeps_writes p mode (given_to k) (given_to (with_value k t v)) (longer k t v there) e m x g, nd, ne));
 }
 
 pub a_source_keeps_a_sketch : ASourceKeepsASketch
 a_source_keeps_a_sketch p mode k e s fits is = record {
+  each_thread = fits.each_thread;
   used = fits.used;
   sources = λ f z h. elim (Contains-append_cases k.sources ((e, s) ∷ []) (f, z) h) [
     | inl old ↦ fits.sources f z old
@@ -78,6 +79,7 @@ a_source_keeps_a_sketch p mode k e s fits is = record {
 
 pub a_pair_keeps_a_sketch : APairKeepsASketch
 a_pair_keeps_a_sketch p mode k d e fits is = record {
+  each_thread = fits.each_thread;
   used = fits.used;
   sources = fits.sources;
   pairs = λ f z h. elim (Contains-append_cases k.pairs ((d, e) ∷ []) (f, z) h) [
@@ -111,12 +113,12 @@ module _ (p : Listing) (mode : Mode) (k : Sketch) (c : Candidate) (fits : IsSket
   }
 
   -- one value more
-  more_values : (t v : ℕ) (rest : List ℕ) → k.given t ++ v ∷ rest ≡ c.given t → Completes (with_value k t v) c
-  more_values t v rest q = record {
+  more_values : (t v : ℕ) (rest : List ℕ) → t < length k.given → given_to k t ++ v ∷ rest ≡ c.given t → Completes (with_value k t v) c
+  more_values t v rest there q = record {
     given = λ u. elim (cases_eq u t) [
-      | inl e ↦ subst (λ z. IsPrefixOf ((with_value k t v).given z) (c.given z)) (sym e)
-          (rest, rw (put_same k.given t (k.given t ++ v ∷ [])) (append_assoc (k.given t) (v ∷ []) rest ∙ q))
-      | inr n ↦ rw (put_other k.given t (k.given t ++ v ∷ []) u n) (completes.given u)
+      | inl e ↦ subst (λ z. IsPrefixOf (given_to (with_value k t v) z) (c.given z)) (sym e)
+          (rest, rw (given_same k t v there) (append_assoc (given_to k t) (v ∷ []) rest ∙ q))
+      | inr n ↦ rw (given_other k t v u n) (completes.given u)
     ];
     sources = completes.sources;
     pairs = completes.pairs;
@@ -124,7 +126,7 @@ module _ (p : Listing) (mode : Mode) (k : Sketch) (c : Candidate) (fits : IsSket
 
   order : (d e : Event) → IsPair p mode k d e → Completes (with_pair k d e) c ⊎ Completes (with_pair k e d) c
   order d e (n, (l, v, w, f, g, nd, ne)) = elim (cases_order (c.rank d) (c.rank e)) [
-    | inl q ↦ absurd (n (is.ranks d e l v w (keeps_writes p mode k.given c.given completes.given d l v f) (keeps_writes p mode k.given c.given completes.given e l w g) q))
+    | inl q ↦ absurd (n (is.ranks d e l v w (keeps_writes p mode (given_to k) c.given completes.given d l v f) (keeps_writes p mode (given_to k) c.given completes.given e l w g) q))
     | inr (inl q) ↦ inl (more_pairs d e q)
     | inr (inr q) ↦ inr (more_pairs e d q)
   ]
@@ -136,40 +138,40 @@ module _ (p : Listing) (mode : Mode) (k : Sketch) (c : Candidate) (fits : IsSket
     value : (t l : ℕ) → next_read p mode k t ≡ Some l → (v : ℕ) × IsValueOf p l v × Completes (with_value k t v) c
     value t l next = let (rest, q) = completes.given t in go rest q
       where
-        go : (rest : List ℕ) → k.given t ++ rest ≡ c.given t → (v : ℕ) × IsValueOf p l v × Completes (with_value k t v) c
+        go : (rest : List ℕ) → given_to k t ++ rest ≡ c.given t → (v : ℕ) × IsValueOf p l v × Completes (with_value k t v) c
         go [] q = absurd (
-            let same : k.given t ≡ c.given t = sym (append-nil (k.given t)) ∙ q in
+            let same : given_to k t ≡ c.given t = sym (append-nil (given_to k t)) ∙ q in
             let reads : read_by (action p.threads t (plays t (c.given t)).last) ≡ Some l = subst (λ g. read_by (action p.threads t (plays t g).last) ≡ Some l) same next in
             let ends : read_by (action p.threads t (plays t (c.given t)).last) ≡ None = ap read_by (is.whole t).0 in
             let z : None ≡ Some l = sym ends ∙ reads in cc)
         go (v ∷ rest) q =
-            let takes : Takes (plays t (k.given t ++ v ∷ rest)) (length (plays t (k.given t)).accesses) l v =
+            let takes : Takes (plays t (given_to k t ++ v ∷ rest)) (length (plays t (given_to k t)).accesses) l v =
             at_read (action p.threads t) (fenced_gaps mode t) (length (code_of p.threads t)) (λ s. advance p forward t s) (length (code_of p.threads t)) 0
-            (start_of p.threads t) (k.given t) rest v l (omega arith) next (fits.used t) in
-            let there : access p mode c (At t (length (plays t (k.given t)).accesses)) ≡ Some takes.access =
-            subst (λ g. slice_get (plays t g).accesses (length (plays t (k.given t)).accesses) ≡ Some takes.access) q takes.there in (
+            (start_of p.threads t) (given_to k t) rest v l (omega arith) next (fits.used t) in
+            let there : access p mode c (At t (length (plays t (given_to k t)).accesses)) ≡ Some takes.access =
+            subst (λ g. slice_get (plays t g).accesses (length (plays t (given_to k t)).accesses) ≡ Some takes.access) q takes.there in (
               v,
-              subst (λ z. IsValueOf p z v) takes.location (is.values (At t (length (plays t (k.given t)).accesses)) takes.access v there takes.value),
-              more_values t v rest q,
+              subst (λ z. IsValueOf p z v) takes.location (is.values (At t (length (plays t (given_to k t)).accesses)) takes.access v there takes.value),
+              more_values t v rest (there_by p mode k fits t l next) q,
             )
 
     module _ (whole : IsWhole p mode k) where
-      pub same_given : (t : ℕ) → c.given t ≡ k.given t
+      pub same_given : (t : ℕ) → c.given t ≡ given_to k t
       same_given t =
           let (rest, q) = completes.given t in
-          let ends : action p.threads t (plays t (k.given t)).last ≡ Stop =
+          let ends : action p.threads t (plays t (given_to k t)).last ≡ Stop =
           end_or_read (action p.threads t) (fenced_gaps mode t) (length (code_of p.threads t)) (λ s. advance p forward t s) (length (code_of p.threads t)) 0
-          (start_of p.threads t) (k.given t) (omega arith) (whole t) in
-          let all : plays t (k.given t ++ rest) ≡ spare (plays t (k.given t)) rest =
-          at_end (action p.threads t) (fenced_gaps mode t) (length (code_of p.threads t)) 0 (start_of p.threads t) (k.given t) rest ends in
-          let left : (plays t (c.given t)).unused ≡ (plays t (k.given t)).unused ++ rest = subst (λ g. (plays t g).unused ≡ (plays t (k.given t)).unused ++ rest) q (ap (λ (z : Trace). z.unused) all) in
+          (start_of p.threads t) (given_to k t) (omega arith) (whole t) in
+          let all : plays t (given_to k t ++ rest) ≡ spare (plays t (given_to k t)) rest =
+          at_end (action p.threads t) (fenced_gaps mode t) (length (code_of p.threads t)) 0 (start_of p.threads t) (given_to k t) rest ends in
+          let left : (plays t (c.given t)).unused ≡ (plays t (given_to k t)).unused ++ rest = subst (λ g. (plays t g).unused ≡ (plays t (given_to k t)).unused ++ rest) q (ap (λ (z : Trace). z.unused) all) in
           let none : rest ≡ [] = sym (ap (λ z. z ++ rest) (fits.used t)) ∙ (sym left ∙ (is.whole t).1) in
-          sym q ∙ (ap (λ z. k.given t ++ z) none ∙ append-nil (k.given t))
+          sym q ∙ (ap (λ z. given_to k t ++ z) none ∙ append-nil (given_to k t))
 
-      pub all_given : c.given ≡ k.given
+      pub all_given : c.given ≡ given_to k
       all_given = fun_ext same_given
 
-      source : (e : Event) (x : Access) (v : ℕ) → access_by p mode k.given e ≡ Some x → x.read ≡ Some v →
+      source : (e : Event) (x : Access) (v : ℕ) → access_by p mode (given_to k) e ≡ Some x → x.read ≡ Some v →
           IsSourceOf p mode k (c.source e) e × Completes (with_source k e (c.source e)) c
       source e x v a r =
           let b : access p mode c e ≡ Some x = subst (λ g. access_by p mode g e ≡ Some x) (sym all_given) a in

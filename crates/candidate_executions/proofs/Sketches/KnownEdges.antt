@@ -1,5 +1,5 @@
 -- What is known of a sketch holds of each completion.
-use Rattle.std.proofs.Common.{◌≡◌, ◌≢◌, ℕ, ◌<◌, List, Some, IsSome, Contains, slice_get, refl, sym, ap, ◌∙◌, subst, inl, inr, arith, length, slice_index}
+use Rattle.std.proofs.Common.{◌≡◌, ◌≢◌, ℕ, ◌<◌, List, ◌++◌, Some, IsSome, Contains, slice_get, refl, sym, ap, ◌∙◌, subst, inl, inr, arith, length, slice_index}
 use Rattle.std.proofs.lemmas.Option.{same_Some}
 use Rattle.tso_program.specs.declared.listing.Listing.{Listing}
 use Rattle.tso_program.specs.Listings.{action, start_of, code_of}
@@ -12,18 +12,19 @@ use Rattle.candidate_executions.specs.declared.event.Kind.TheVariants as union
 use Rattle.candidate_executions.specs.Candidates.{Candidate, access, access_by, Writes, IsCandidate}
 use Rattle.candidate_executions.specs.Traces.{trace, fenced_gaps}
 use Rattle.candidate_executions.specs.Consistency.{Relates, Edge, IsCycle, WriteOrder, FromReads}
-use Rattle.candidate_executions.specs.Sketches.{Sketch, Completes, IsSketch, IsBefore, KnownRelates, KnownEdge, KnownFromReads}
+use Rattle.candidate_executions.specs.Sketches.{Sketch, given_to, Completes, IsSketch, IsBefore, KnownRelates, KnownEdge, KnownFromReads}
 use Rattle.candidate_executions.specs.Laws.{EveryCandidateCompletesEmpty, AKnownEdgeIsAnEdge, AKnownCycleIsACycle}
 use Rattle.candidate_executions.proofs.Orders.WiderRelations.{cycle_wider}
 use Rattle.candidate_executions.proofs.Candidates.WrittenValues.{stored_as, some_written}
 use Rattle.candidate_executions.proofs.Sketches.MoreValues.{trace_more}
+use Rattle.candidate_executions.proofs.Sketches.GivenValues.{none_given}
 
 module _ (p : Listing) (mode : Mode) (k : Sketch) (fits : IsSketch p mode k) (c : Candidate) (is : IsCandidate p mode c) (completes : Completes k c) where
-  grows : (e : Event) (x : Access) → access_by p mode k.given e ≡ Some x → access p mode c e ≡ Some x
+  grows : (e : Event) (x : Access) → access_by p mode (given_to k) e ≡ Some x → access p mode c e ≡ Some x
   grows (Initial l) x a = a
   grows (At t i) x a = let (rest, q) = completes.given t in
       subst (λ g. slice_get (trace (action p.threads t) (fenced_gaps mode t) (length (code_of p.threads t)) 0 (start_of p.threads t) g).accesses i ≡ Some x) q
-      (trace_more (action p.threads t) (fenced_gaps mode t) (length (code_of p.threads t)) 0 (start_of p.threads t) (k.given t) rest i x a)
+      (trace_more (action p.threads t) (fenced_gaps mode t) (length (code_of p.threads t)) 0 (start_of p.threads t) (given_to k t) rest i x a)
 
   before : (d e : Event) (y : Access) → access p mode c e ≡ Some y → IsBefore k d e y → (c.rank d < c.rank e) × IsSome y.written × ((v : ℕ) × Writes (access p mode c) d y.location v)
   before d e y b (inl q) =
@@ -85,8 +86,8 @@ module _ (p : Listing) (mode : Mode) (k : Sketch) (fits : IsSketch p mode k) (c 
 
 -- each candidate completes the empty sketch
 pub completes_empty : EveryCandidateCompletesEmpty
-completes_empty c = record {
-  given = λ t. (c.given t, refl);
+completes_empty p c = record {
+  given = λ t. (c.given t, ap (λ xs. xs ++ c.given t) (none_given p t));
   sources = λ e s h. absurd (let z = h.1 in omega arith);
   pairs = λ d e h. absurd (let z = h.1 in omega arith);
 }

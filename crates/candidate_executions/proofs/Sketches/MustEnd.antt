@@ -14,7 +14,7 @@ use Rattle.candidate_executions.specs.declared.event.Event.{Event}
 use Rattle.candidate_executions.specs.declared.event.Event.TheVariants.{Initial}
 use Rattle.candidate_executions.specs.Traces.{trace_by}
 use Rattle.candidate_executions.specs.Candidates.{Candidate, access, access_by, Writes, IsCandidate, EndsWith, HasOutcome, HasShownOutcome}
-use Rattle.candidate_executions.specs.Sketches.{Sketch, Completes, IsSketch, MayBeLast, MustEndAs}
+use Rattle.candidate_executions.specs.Sketches.{Sketch, given_to, Completes, IsSketch, MayBeLast, MustEndAs}
 use Rattle.candidate_executions.specs.Laws.{EachCompletionEndsSo}
 use Rattle.candidate_executions.proofs.Sketches.Choices.{all_given, keeps_writes}
 use Rattle.candidate_executions.proofs.Candidates.LastWrites.{ends_with}
@@ -25,7 +25,7 @@ module _ (q : Question) (mode : Mode) (k : Sketch) (c : Candidate) (o : Outcome)
   abbrev p : Listing
   p = q.program
 
-  same : c.given ≡ k.given
+  same : c.given ≡ given_to k
   same = all_given p mode k c fits is completes forward must.whole
 
   -- the last write of a location may be its last by what is chosen
@@ -34,14 +34,14 @@ module _ (q : Question) (mode : Mode) (k : Sketch) (c : Candidate) (o : Outcome)
     no_later = λ d h.
         let rank = completes.pairs e d h in
         let (n, (m, w, x, f, g, nd, ne)) = fits.pairs e d h in
-        let there : Writes (access p mode c) d m x = keeps_writes p mode k.given c.given completes.given d m x g in
-        let here : Writes (access p mode c) e m w = keeps_writes p mode k.given c.given completes.given e m w f in
+        let there : Writes (access p mode c) d m x = keeps_writes p mode (given_to k) c.given completes.given d m x g in
+        let here : Writes (access p mode c) e m w = keeps_writes p mode (given_to k) c.given completes.given e m w f in
         let at : m ≡ l = sym here.2 ∙ (ap (λ (z : Access). z.location) (same_Some here.0 a.0 (sym here.1 ∙ a.1)) ∙ a.2) in
         let le = last d x (subst (λ z. Writes (access p mode c) d z x) at there) in omega arith;
     only_initial = λ at d w h. elim (same_event d (Initial l)) [
       | inl s ↦ s
       | inr n ↦ absurd (
-          let there : Writes (access p mode c) d l w = keeps_writes p mode k.given c.given completes.given d l w h in
+          let there : Writes (access p mode c) d l w = keeps_writes p mode (given_to k) c.given completes.given d l w h in
           let first : Writes (access p mode c) (Initial l) l v = subst (λ z. Writes (access p mode c) z l v) at a in
           let le = last d w there in
           let ge = is.initial d l w there in

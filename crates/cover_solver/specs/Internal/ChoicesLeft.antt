@@ -1,8 +1,8 @@
 -- What it says of a sketch that nothing is left to be chosen.
 use Rattle.std.specs.Prelude.{◌≡◌, List, [], Contains}
 use Rattle.std.specs.List.{AllPairs}
-use Rattle.exec_axioms.specs.Parts.{Parts}
-use Rattle.run_maker.specs.Complete.{HasItsSource, IsOrderedWith}
+use Rattle.exec_axioms.specs.ProgramSketches.{ProgramSketch}
+use Rattle.exec_axioms.specs.Complete.{HasItsSource, IsOrderedWith}
 use Rattle.cert_forest.specs.declared.tree.AccessId.{AccessId}
 use Rattle.tree_laws.specs.CoverTrees.{event_of}
 use Rattle.cover_solver.specs.declared.choices_left.OpenChoice.{OpenChoice}
@@ -13,17 +13,17 @@ pub record LeavesNone (old new : List OpenChoice) (P : Type 0) : Type 0 where
   pub since : new ≡ [] → P
 
 -- each of the accesses has its source, if it reads
-abbrev pub HasEachSource : Parts → List AccessId → Type 0
+abbrev pub HasEachSource : ProgramSketch → List AccessId → Type 0
 HasEachSource s accesses = (a : AccessId) → Contains accesses a → HasItsSource s (event_of a)
 
 -- the two are in order, if both write to one location
-abbrev pub AreWritesInOrder : Parts → AccessId → AccessId → Type 0
+abbrev pub AreWritesInOrder : ProgramSketch → AccessId → AccessId → Type 0
 AreWritesInOrder s a b = IsOrderedWith s (event_of a) (event_of b)
 
 -- the access is in order with each of the others
-abbrev pub IsInOrderWithEach : Parts → AccessId → List AccessId → Type 0
+abbrev pub IsInOrderWithEach : ProgramSketch → AccessId → List AccessId → Type 0
 IsInOrderWithEach s a others = (b : AccessId) → Contains others b → AreWritesInOrder s a b
 
 -- each of the accesses is so with each later one
-abbrev pub IsEachInOrder : Parts → List AccessId → Type 0
+abbrev pub IsEachInOrder : ProgramSketch → List AccessId → Type 0
 IsEachInOrder s accesses = AllPairs (AreWritesInOrder s) accesses

@@ -1,7 +1,9 @@
 use Rattle.std.proofs.Common.{◌↔◌, ◌≡◌, Some, Contains, sym, ap, ◌∙◌, map, subst}
 use Rattle.candidate_executions.specs.declared.event.Event.{Event}
 use Rattle.candidate_executions.proofs.Orders.Lists.{some_value}
-use Rattle.exec_axioms.specs.Choices.{IsSourceOf, IsWhole, IsRead}
+use Rattle.candidate_executions.specs.Sketches.{IsSourceOf, IsWhole}
+use Rattle.exec_axioms.specs.Choices.{IsRead}
+use Rattle.exec_axioms.specs.ProgramSketches.{mode_in}
 use Rattle.tree_laws.specs.CoverTrees.{event_of}
 use Rattle.cover_judge.specs.declared.choice.Choice.TheVariants as choice
 use Rattle.cover_judge.proofs.ChoicesJudged.{sources_are, sources_may, no_source}
@@ -10,17 +12,17 @@ use Rattle.cover_judge.proofs.choice.source_choices.Goals as goal
 pub returns-then-is_some-clause-sources : goal.returns-then-is_some-clause-sources
 returns-then-is_some-clause-sources c open_read =
     let (source, e) = some_value c.source.result (sym c.is_some.ensures ∙ c.if-is_some.true) in
-    open_read.free (source, subst (λ (d : Event). Contains c.args.sketch.now.sources (d, source)) c.event_of.ensures ((c.source.ensures source).0 e))
+    open_read.free (source, subst (λ (d : Event). Contains c.args.sketch.now.chosen.sources (d, source)) c.event_of.ensures ((c.source.ensures source).0 e))
 
 pub returns-in_ok-each_source-in-Ok-clause-sources : goal.returns-in_ok-each_source-in-Ok-clause-sources
 returns-in_ok-each_source-in-Ok-clause-sources c =
     let s = c.args.sketch.now in
     let read = event_of c.args.read in
     let sources = c.in-Ok.sources.items in
-    let found = subst (λ (d : Event). (source : Event) → (c.source.result ≡ Some source) ↔ Contains s.sources (d, source)) c.event_of.ensures c.source.ensures in
+    let found = subst (λ (d : Event). (source : Event) → (c.source.result ≡ Some source) ↔ Contains s.chosen.sources (d, source)) c.event_of.ensures c.source.ensures in
     let free = no_source s read c.source.result (sym c.is_some.ensures ∙ c.if-is_some.false) found in
-    let allowed = subst (λ (d : Event). IsWhole s × IsRead s d) c.event_of-2.ensures c.in-Ok.ensures.allowed in
-    let exact = subst (λ (d : Event). (source : Event) → Contains sources source ↔ IsSourceOf s source d) c.event_of-2.ensures c.in-Ok.ensures.exact in
+    let allowed = subst (λ (d : Event). IsWhole s.program (mode_in s) s.chosen × IsRead s d) c.event_of-2.ensures c.in-Ok.ensures.allowed in
+    let exact = subst (λ (d : Event). (source : Event) → Contains sources source ↔ IsSourceOf s.program (mode_in s) s.chosen source d) c.event_of-2.ensures c.in-Ok.ensures.exact in
     record {
       sources = sources;
       next = sources_are s read sources allowed free c.in-Ok.ensures.ordered exact;

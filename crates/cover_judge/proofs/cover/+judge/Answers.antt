@@ -7,7 +7,7 @@ use Rattle.cert_forest.specs.declared.tree.CoverTree.TheFolds.{fold-roll-CoverTr
 use Rattle.cert_forest.specs.Views.{cover, cover_node}
 use Rattle.cert_forest.specs.Trees.{Cover, Value, Source, Order, covers_of}
 use Rattle.tso_program.specs.Shown.{asked}
-use Rattle.exec_axioms.specs.Parts.{mode_in, sketch_of}
+use Rattle.exec_axioms.specs.ProgramSketches.{mode_in}
 use Rattle.tree_laws.specs.CoverTrees.{event_of, IsValidCover, HasNoOrder}
 use Rattle.exec_axioms.proofs.Lookups.{same_default}
 use Rattle.cover_judge.specs.declared.choice.Choice.TheVariants as choice
@@ -25,8 +25,8 @@ pub judge_values-returns-in_err-choices-clause-wrong : goal.judge_values-returns
 judge_values-returns-in_err-choices-clause-wrong t c =
     let kids = map cover c.args.children.now in
     let s = c.args.sketch.now in
-    let None : ℕ → Type 0 = HasNoValues s.program (mode_in s) (sketch_of s) c.args.thread in
-    let At = IsWrongAt c.args.shown.now c.args.outcomes.now s (Value c.args.thread (covers_of kids)) (sketch_of s) in
+    let None : ℕ → Type 0 = HasNoValues s.program (mode_in s) s.chosen c.args.thread in
+    let At = IsWrongAt c.args.shown.now c.args.outcomes.now s (Value c.args.thread (covers_of kids)) s.chosen in
     let count = length c.args.children.now in
     let len : count ≡ length kids = sym (length-map c.args.children.now cover) in
     let fault = c.in_err-choices.field-0.0 in
@@ -43,7 +43,7 @@ judge_values-returns-clause-valid t c =
     let outs = c.args.outcomes.now in
     let choices = c.in_ok-choices.choices.items in
     let are = found_so_many (length c.args.children.now) c.in_ok-found.found c.in_ok-choices.choices (IsValueOpen s c.args.thread → ⊥) (AreValueChoices s c.args.thread) c.in_ok-choices.ensures.many c.in_ok-found.ensures.values in
-    on_ok c.judge_children.result (AreValidAfter c.args.shown.now outs s kids choices) (IsValidAfter c.args.shown.now outs s (Value c.args.thread (covers_of kids)) (sketch_of s)) (value_valid c.args.shown.now outs s kids c.args.thread choices are)
+    on_ok c.judge_children.result (AreValidAfter c.args.shown.now outs s kids choices) (IsValidAfter c.args.shown.now outs s (Value c.args.thread (covers_of kids)) s.chosen) (value_valid c.args.shown.now outs s kids c.args.thread choices are)
     (rw c.deref.ensures.value at c.judge_children.ensures.valid)
 
 pub judge_values-returns-clause-wrong : goal.judge_values-returns-clause-wrong
@@ -55,7 +55,7 @@ judge_values-returns-clause-wrong t c =
     let are = found_so_many (length c.args.children.now) c.in_ok-found.found c.in_ok-choices.choices (IsValueOpen s c.args.thread → ⊥) (AreValueChoices s c.args.thread) c.in_ok-choices.ensures.many c.in_ok-found.ensures.values in
     let many = length-map c.args.children.now cover ∙ c.in_ok-choices.ensures.many.many in
     let P = IsBelow (IsWrongChild c.args.shown.now outs s kids choices) in
-    let At = IsWrongAt c.args.shown.now outs s (Value c.args.thread (covers_of kids)) (sketch_of s) in
+    let At = IsWrongAt c.args.shown.now outs s (Value c.args.thread (covers_of kids)) s.chosen in
     if_err c.judge_children.result (IfWrong P) (IfWrong At) (λ fault. if_wrong P At fault (value_below c.args.shown.now outs s kids c.args.thread choices are many))
     (rw c.deref.ensures.value at c.judge_children.ensures.wrong)
 
@@ -63,20 +63,20 @@ pub judge-returns-in-Value-clause-valid : goal.judge-returns-in-Value-clause-val
 judge-returns-in-Value-clause-valid t c =
     let s = c.args.sketch.now in
     let is : cover c.args.tree.now ≡ Value c.in-Value.thread (covers_of (map cover c.in-Value.children.items)) = search (rules, the_lemmas, fold-roll-CoverTree Cover cover_node, fold_out-CoverTree Cover cover_node) in
-    subst (λ tree. OnOk c.judge_values.result (IsValidAfter c.args.shown.now c.args.outcomes.now s tree (sketch_of s))) (sym is) (rw c.deref.ensures.value at c.judge_values.ensures.valid)
+    subst (λ tree. OnOk c.judge_values.result (IsValidAfter c.args.shown.now c.args.outcomes.now s tree s.chosen)) (sym is) (rw c.deref.ensures.value at c.judge_values.ensures.valid)
 
 pub judge-returns-in-Value-clause-wrong : goal.judge-returns-in-Value-clause-wrong
 judge-returns-in-Value-clause-wrong t c =
     let s = c.args.sketch.now in
     let is : cover c.args.tree.now ≡ Value c.in-Value.thread (covers_of (map cover c.in-Value.children.items)) = search (rules, the_lemmas, fold-roll-CoverTree Cover cover_node, fold_out-CoverTree Cover cover_node) in
-    subst (λ tree. IfErr c.judge_values.result (IfWrong (IsWrongAt c.args.shown.now c.args.outcomes.now s tree (sketch_of s)))) (sym is) (rw c.deref.ensures.value at c.judge_values.ensures.wrong)
+    subst (λ tree. IfErr c.judge_values.result (IfWrong (IsWrongAt c.args.shown.now c.args.outcomes.now s tree s.chosen))) (sym is) (rw c.deref.ensures.value at c.judge_values.ensures.wrong)
 
 pub judge_sources-returns-in_err-choices-clause-wrong : goal.judge_sources-returns-in_err-choices-clause-wrong
 judge_sources-returns-in_err-choices-clause-wrong t c =
     let kids = map cover c.args.children.now in
     let s = c.args.sketch.now in
-    let None : ℕ → Type 0 = HasNoSources s.program (mode_in s) (sketch_of s) (event_of c.args.read) in
-    let At = IsWrongAt c.args.shown.now c.args.outcomes.now s (Source c.args.read (covers_of kids)) (sketch_of s) in
+    let None : ℕ → Type 0 = HasNoSources s.program (mode_in s) s.chosen (event_of c.args.read) in
+    let At = IsWrongAt c.args.shown.now c.args.outcomes.now s (Source c.args.read (covers_of kids)) s.chosen in
     let count = length c.args.children.now in
     let len : count ≡ length kids = sym (length-map c.args.children.now cover) in
     let fault = c.in_err-choices.field-0.0 in
@@ -93,7 +93,7 @@ judge_sources-returns-clause-valid t c =
     let outs = c.args.outcomes.now in
     let choices = c.in_ok-choices.choices.items in
     let are = found_so_many (length c.args.children.now) c.in_ok-found.found c.in_ok-choices.choices (IsSourceOpen s c.args.read → ⊥) (AreSourceChoices s c.args.read) c.in_ok-choices.ensures.many c.in_ok-found.ensures.sources in
-    on_ok c.judge_children.result (AreValidAfter c.args.shown.now outs s kids choices) (IsValidAfter c.args.shown.now outs s (Source c.args.read (covers_of kids)) (sketch_of s)) (source_valid c.args.shown.now outs s kids c.args.read choices are)
+    on_ok c.judge_children.result (AreValidAfter c.args.shown.now outs s kids choices) (IsValidAfter c.args.shown.now outs s (Source c.args.read (covers_of kids)) s.chosen) (source_valid c.args.shown.now outs s kids c.args.read choices are)
     (rw c.deref.ensures.value at c.judge_children.ensures.valid)
 
 pub judge_sources-returns-clause-wrong : goal.judge_sources-returns-clause-wrong
@@ -105,7 +105,7 @@ judge_sources-returns-clause-wrong t c =
     let are = found_so_many (length c.args.children.now) c.in_ok-found.found c.in_ok-choices.choices (IsSourceOpen s c.args.read → ⊥) (AreSourceChoices s c.args.read) c.in_ok-choices.ensures.many c.in_ok-found.ensures.sources in
     let many = length-map c.args.children.now cover ∙ c.in_ok-choices.ensures.many.many in
     let P = IsBelow (IsWrongChild c.args.shown.now outs s kids choices) in
-    let At = IsWrongAt c.args.shown.now outs s (Source c.args.read (covers_of kids)) (sketch_of s) in
+    let At = IsWrongAt c.args.shown.now outs s (Source c.args.read (covers_of kids)) s.chosen in
     if_err c.judge_children.result (IfWrong P) (IfWrong At) (λ fault. if_wrong P At fault (source_below c.args.shown.now outs s kids c.args.read choices are many))
     (rw c.deref.ensures.value at c.judge_children.ensures.wrong)
 
@@ -113,13 +113,13 @@ pub judge-returns-in-Source-clause-valid : goal.judge-returns-in-Source-clause-v
 judge-returns-in-Source-clause-valid t c =
     let s = c.args.sketch.now in
     let is : cover c.args.tree.now ≡ Source c.in-Source.read (covers_of (map cover c.in-Source.children.items)) = search (rules, the_lemmas, fold-roll-CoverTree Cover cover_node, fold_out-CoverTree Cover cover_node) in
-    subst (λ tree. OnOk c.judge_sources.result (IsValidAfter c.args.shown.now c.args.outcomes.now s tree (sketch_of s))) (sym is) (rw c.deref-in-Source.ensures.value at c.judge_sources.ensures.valid)
+    subst (λ tree. OnOk c.judge_sources.result (IsValidAfter c.args.shown.now c.args.outcomes.now s tree s.chosen)) (sym is) (rw c.deref-in-Source.ensures.value at c.judge_sources.ensures.valid)
 
 pub judge-returns-in-Source-clause-wrong : goal.judge-returns-in-Source-clause-wrong
 judge-returns-in-Source-clause-wrong t c =
     let s = c.args.sketch.now in
     let is : cover c.args.tree.now ≡ Source c.in-Source.read (covers_of (map cover c.in-Source.children.items)) = search (rules, the_lemmas, fold-roll-CoverTree Cover cover_node, fold_out-CoverTree Cover cover_node) in
-    subst (λ tree. IfErr c.judge_sources.result (IfWrong (IsWrongAt c.args.shown.now c.args.outcomes.now s tree (sketch_of s)))) (sym is) (rw c.deref-in-Source.ensures.value at c.judge_sources.ensures.wrong)
+    subst (λ tree. IfErr c.judge_sources.result (IfWrong (IsWrongAt c.args.shown.now c.args.outcomes.now s tree s.chosen))) (sym is) (rw c.deref-in-Source.ensures.value at c.judge_sources.ensures.wrong)
 
 pub judge-returns-in_err-judge_order-in-Order-clause-wrong : goal.judge-returns-in_err-judge_order-in-Order-clause-wrong
 judge-returns-in_err-judge_order-in-Order-clause-wrong t c =
@@ -130,11 +130,11 @@ judge-returns-in_err-judge_order-in-Order-clause-wrong t c =
     let one = cover (box_value c.in-Order.first_before) in
     let other = cover (box_value c.in-Order.second_before) in
     let is : cover c.args.tree.now ≡ Order first second one other = search (rules, the_lemmas, fold-roll-CoverTree Cover cover_node, fold_out-CoverTree Cover cover_node) in
-    let P = IsWrongAt c.args.shown.now outs s (Order first second one other) (sketch_of s) in
+    let P = IsWrongAt c.args.shown.now outs s (Order first second one other) s.chosen in
     let fault = c.in_err-judge_order-in-Order.field-0.0 in
-    err_up c.from_residual.result fault (IfWrong (IsWrongAt c.args.shown.now outs s (cover c.args.tree.now) (sketch_of s))) c.from_residual.ensures.1
-    (subst (λ tree. IfWrong (IsWrongAt c.args.shown.now outs s tree (sketch_of s)) fault) (sym is)
-    (if_wrong (IsAtRoot (HasNoOrder s.program (mode_in s) (sketch_of s) (event_of first) (event_of second) → ⊥)) P fault (order_here c.args.shown.now outs s first second one other) c.in_err-judge_order-in-Order.ensures.wrong))
+    err_up c.from_residual.result fault (IfWrong (IsWrongAt c.args.shown.now outs s (cover c.args.tree.now) s.chosen)) c.from_residual.ensures.1
+    (subst (λ tree. IfWrong (IsWrongAt c.args.shown.now outs s tree s.chosen) fault) (sym is)
+    (if_wrong (IsAtRoot (HasNoOrder s.program (mode_in s) s.chosen (event_of first) (event_of second) → ⊥)) P fault (order_here c.args.shown.now outs s first second one other) c.in_err-judge_order-in-Order.ensures.wrong))
 
 pub judge-returns-in_err-judge_child-in-Order-clause-wrong : goal.judge-returns-in_err-judge_child-in-Order-clause-wrong
 judge-returns-in_err-judge_child-in-Order-clause-wrong t c =
@@ -145,13 +145,13 @@ judge-returns-in_err-judge_child-in-Order-clause-wrong t c =
     let one = cover (box_value c.in-Order.first_before) in
     let other = cover (box_value c.in-Order.second_before) in
     let is : cover c.args.tree.now ≡ Order first second one other = search (rules, the_lemmas, fold-roll-CoverTree Cover cover_node, fold_out-CoverTree Cover cover_node) in
-    let P = IsWrongAt c.args.shown.now outs s (Order first second one other) (sketch_of s) in
+    let P = IsWrongAt c.args.shown.now outs s (Order first second one other) s.chosen in
     let fault = c.in_err-judge_child-in-Order.field-0.0 in
     let may = c.in_ok-judge_order-in-Order.ensures.may.0 in
-    let Q = IsBelow (λ n rest. (n ≡ 0) × IsWrongAt c.args.shown.now outs s one (sketch_with (sketch_of s) (choice.Order first second)) rest) in
+    let Q = IsBelow (λ n rest. (n ≡ 0) × IsWrongAt c.args.shown.now outs s one (sketch_with s.chosen (choice.Order first second)) rest) in
     let wrong : IfWrong Q fault = rw c.deref-in-Order.ensures at c.in_err-judge_child-in-Order.ensures.wrong in
-    err_up c.from_residual-in_err-judge_child-in-Order.result fault (IfWrong (IsWrongAt c.args.shown.now outs s (cover c.args.tree.now) (sketch_of s))) c.from_residual-in_err-judge_child-in-Order.ensures.1
-    (subst (λ tree. IfWrong (IsWrongAt c.args.shown.now outs s tree (sketch_of s)) fault) (sym is) (if_wrong Q P fault (order_first c.args.shown.now outs s first second one other may) wrong))
+    err_up c.from_residual-in_err-judge_child-in-Order.result fault (IfWrong (IsWrongAt c.args.shown.now outs s (cover c.args.tree.now) s.chosen)) c.from_residual-in_err-judge_child-in-Order.ensures.1
+    (subst (λ tree. IfWrong (IsWrongAt c.args.shown.now outs s tree s.chosen) fault) (sym is) (if_wrong Q P fault (order_first c.args.shown.now outs s first second one other may) wrong))
 
 pub judge-returns-in_ok-judge_child-in-Order-clause-valid : goal.judge-returns-in_ok-judge_child-in-Order-clause-valid
 judge-returns-in_ok-judge_child-in-Order-clause-valid t c =
@@ -162,11 +162,11 @@ judge-returns-in_ok-judge_child-in-Order-clause-valid t c =
     let one = cover (box_value c.in-Order.first_before) in
     let other = cover (box_value c.in-Order.second_before) in
     let is : cover c.args.tree.now ≡ Order first second one other = search (rules, the_lemmas, fold-roll-CoverTree Cover cover_node, fold_out-CoverTree Cover cover_node) in
-    let P = IsWrongAt c.args.shown.now outs s (Order first second one other) (sketch_of s) in
+    let P = IsWrongAt c.args.shown.now outs s (Order first second one other) s.chosen in
     let may = c.in_ok-judge_order-in-Order.ensures.may.0 in
-    let before : IsValidAfter c.args.shown.now outs s one (sketch_with (sketch_of s) (choice.Order first second)) = rw c.deref-in-Order.ensures at c.in_ok-judge_child-in-Order.ensures.valid in
-    subst (λ tree. OnOk c.judge_child-in-Order.result (IsValidAfter c.args.shown.now outs s tree (sketch_of s))) (sym is)
-    (on_ok c.judge_child-in-Order.result (IsValidAfter c.args.shown.now outs s other (sketch_with (sketch_of s) (choice.Order second first))) (IsValidAfter c.args.shown.now outs s (Order first second one other) (sketch_of s))
+    let before : IsValidAfter c.args.shown.now outs s one (sketch_with s.chosen (choice.Order first second)) = rw c.deref-in-Order.ensures at c.in_ok-judge_child-in-Order.ensures.valid in
+    subst (λ tree. OnOk c.judge_child-in-Order.result (IsValidAfter c.args.shown.now outs s tree s.chosen)) (sym is)
+    (on_ok c.judge_child-in-Order.result (IsValidAfter c.args.shown.now outs s other (sketch_with s.chosen (choice.Order second first))) (IsValidAfter c.args.shown.now outs s (Order first second one other) s.chosen)
     (order_valid c.args.shown.now outs s first second one other may before) (rw c.deref-in-Order-2.ensures at c.judge_child-in-Order.ensures.valid))
 
 pub judge-returns-in_ok-judge_child-in-Order-clause-wrong : goal.judge-returns-in_ok-judge_child-in-Order-clause-wrong
@@ -178,18 +178,18 @@ judge-returns-in_ok-judge_child-in-Order-clause-wrong t c =
     let one = cover (box_value c.in-Order.first_before) in
     let other = cover (box_value c.in-Order.second_before) in
     let is : cover c.args.tree.now ≡ Order first second one other = search (rules, the_lemmas, fold-roll-CoverTree Cover cover_node, fold_out-CoverTree Cover cover_node) in
-    let P = IsWrongAt c.args.shown.now outs s (Order first second one other) (sketch_of s) in
+    let P = IsWrongAt c.args.shown.now outs s (Order first second one other) s.chosen in
     let may = c.in_ok-judge_order-in-Order.ensures.may.0 in
-    let before : IsValidAfter c.args.shown.now outs s one (sketch_with (sketch_of s) (choice.Order first second)) = rw c.deref-in-Order.ensures at c.in_ok-judge_child-in-Order.ensures.valid in
-    let Q = IsBelow (λ n rest. (n ≡ 1) × IsWrongAt c.args.shown.now outs s other (sketch_with (sketch_of s) (choice.Order second first)) rest) in
-    subst (λ tree. IfErr c.judge_child-in-Order.result (IfWrong (IsWrongAt c.args.shown.now outs s tree (sketch_of s)))) (sym is)
+    let before : IsValidAfter c.args.shown.now outs s one (sketch_with s.chosen (choice.Order first second)) = rw c.deref-in-Order.ensures at c.in_ok-judge_child-in-Order.ensures.valid in
+    let Q = IsBelow (λ n rest. (n ≡ 1) × IsWrongAt c.args.shown.now outs s other (sketch_with s.chosen (choice.Order second first)) rest) in
+    subst (λ tree. IfErr c.judge_child-in-Order.result (IfWrong (IsWrongAt c.args.shown.now outs s tree s.chosen))) (sym is)
     (if_err c.judge_child-in-Order.result (IfWrong Q) (IfWrong P) (λ fault. if_wrong Q P fault (order_second c.args.shown.now outs s first second one other may before))
     (rw c.deref-in-Order-2.ensures at c.judge_child-in-Order.ensures.wrong))
 
 pub judge_child-returns-in-Ok-clause-valid : goal.judge_child-returns-in-Ok-clause-valid
 judge_child-returns-in-Ok-clause-valid t c =
     let tree = cover c.args.tree.now in
-    moved (λ p mode k. IsValidCover (asked p c.args.shown.now) mode c.args.outcomes.now tree k) c.args.sketch.now c.in_ok-next.next c.args.choice c.in_ok-next.ensures.parts c.in_ok-next.ensures.sketch_with
+    moved (λ p mode k. IsValidCover (asked p c.args.shown.now) mode c.args.outcomes.now tree k) c.args.sketch.now c.in_ok-next.next c.args.choice c.in_ok-next.ensures
     c.in-Ok.ensures.valid
 
 pub judge_child-returns-clause-wrong : goal.judge_child-returns-clause-wrong
@@ -197,9 +197,9 @@ judge_child-returns-clause-wrong t c =
     let s = c.args.sketch.now in
     let outs = c.args.outcomes.now in
     let tree = cover c.args.tree.now in
-    let wrong = moved (λ p mode k. IfWrong (FirstWrongCover (asked p c.args.shown.now) mode outs tree k) c.in-Err.fault) s c.in_ok-next.next c.args.choice c.in_ok-next.ensures.parts c.in_ok-next.ensures.sketch_with
+    let wrong = moved (λ p mode k. IfWrong (FirstWrongCover (asked p c.args.shown.now) mode outs tree k) c.in-Err.fault) s c.in_ok-next.next c.args.choice c.in_ok-next.ensures
     c.in-Err.ensures.wrong in
-    from_child (IsWrongAt c.args.shown.now outs s tree (sketch_with (sketch_of s) c.args.choice)) c.args.number c.in-Err.fault c.from_parent.result c.from_parent.ensures wrong
+    from_child (IsWrongAt c.args.shown.now outs s tree (sketch_with s.chosen c.args.choice)) c.args.number c.in-Err.fault c.from_parent.result c.from_parent.ensures wrong
 
 pub judge_children-returns-in_err-judge_child-clause-wrong : goal.judge_children-returns-in_err-judge_child-clause-wrong
 judge_children-returns-in_err-judge_child-clause-wrong t c =
@@ -210,7 +210,7 @@ judge_children-returns-in_err-judge_child-clause-wrong t c =
     let y = get_or c.args.choices.now number (choice.Value 0 0) in
     let below = IsBelow (IsWrongChild c.args.shown.now outs s (map cover c.args.trees.now) c.args.choices.now) in
     err_up c.from_residual.result c.in_err-judge_child.field-0.0 (IfWrong below) c.from_residual.ensures.1
-    (if_wrong (IsBelow (λ m others. (m ≡ number) × IsWrongAt c.args.shown.now outs s (cover x) (sketch_with (sketch_of s) y) others)) below c.in_err-judge_child.field-0.0
+    (if_wrong (IsBelow (λ m others. (m ≡ number) × IsWrongAt c.args.shown.now outs s (cover x) (sketch_with s.chosen y) others)) below c.in_err-judge_child.field-0.0
     (stop_here c.args.shown.now outs s c.args.trees.now c.args.choices.now number x y c.loop-number-test.true c.index-trees-number.is (same_default c.args.choices.now number (choice.Value 0 0) y (let h = c.loop-number-test.true in let many = c.requires.as_many in omega arith)) c.requires.as_many c.loop-number.invariant) c.in_err-judge_child.ensures.wrong)
 
 pub judge_children-loop-number-preserved : goal.judge_children-loop-number-preserved

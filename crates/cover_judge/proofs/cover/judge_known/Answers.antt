@@ -1,6 +1,6 @@
 use Rattle.std.proofs.Common.{◌≡◌, true, false, sym, ◌∙◌}
 use Rattle.tso_program.specs.Shown.{asked}
-use Rattle.exec_axioms.specs.Parts.{mode_in, sketch_of}
+use Rattle.exec_axioms.specs.ProgramSketches.{mode_in}
 use Rattle.tree_laws.specs.CoverTrees as trees
 use Rattle.cover_judge.proofs.ChoicesJudged.{here, not_known, not_so}
 use Rattle.cover_judge.proofs.cover.judge_known.Goals as goal
@@ -8,12 +8,12 @@ use Rattle.cover_judge.proofs.cover.judge_known.Goals as goal
 pub returns-else-must_end_as-clause-wrong : goal.returns-else-must_end_as-clause-wrong
 returns-else-must_end_as-clause-wrong c =
     let s = c.args.sketch.now in
-    here (trees.MustEndAsNumber (asked s.program c.args.shown.now) (mode_in s) c.args.outcomes.now (sketch_of s) c.args.number → ⊥) c.at_root.result c.at_root.ensures
+    here (trees.MustEndAsNumber (asked s.program c.args.shown.now) (mode_in s) c.args.outcomes.now s.chosen c.args.number → ⊥) c.at_root.result c.at_root.ensures
     (not_so s c.args.shown.now c.args.outcomes.now c.args.number c.in-Some.outcome.now (sym c.in-Some.ensures)
     (λ must. (let yes = c.must_end_as.ensures.ends.1 must in let no : true ≡ false = sym yes ∙ c.if-must_end_as.false in cc)))
 
 pub returns-in-None-clause-wrong : goal.returns-in-None-clause-wrong
 returns-in-None-clause-wrong c =
     let s = c.args.sketch.now in
-    here (trees.MustEndAsNumber (asked s.program c.args.shown.now) (mode_in s) c.args.outcomes.now (sketch_of s) c.args.number → ⊥) c.at_root-in-None.result c.at_root-in-None.ensures
+    here (trees.MustEndAsNumber (asked s.program c.args.shown.now) (mode_in s) c.args.outcomes.now s.chosen c.args.number → ⊥) c.at_root-in-None.result c.at_root-in-None.ensures
     (not_known s c.args.shown.now c.args.outcomes.now c.args.number (sym c.in-None.ensures))

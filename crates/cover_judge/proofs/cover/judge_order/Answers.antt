@@ -1,5 +1,5 @@
 use Rattle.std.proofs.Common.{◌≡◌, true, false, sym, ◌∙◌}
-use Rattle.exec_axioms.specs.Parts.{mode_in, sketch_of}
+use Rattle.exec_axioms.specs.ProgramSketches.{mode_in}
 use Rattle.tree_laws.specs.CoverTrees as trees
 use Rattle.cover_judge.proofs.ChoicesJudged.{here, may_order}
 use Rattle.cover_judge.proofs.cover.judge_order.Goals as goal
@@ -9,5 +9,5 @@ returns-else-is_order_open-clause-wrong c =
     let s = c.args.sketch.now in
     let first = trees.event_of c.args.first in
     let second = trees.event_of c.args.second in
-    here (trees.HasNoOrder s.program (mode_in s) (sketch_of s) first second → ⊥) c.at_root.result c.at_root.ensures
+    here (trees.HasNoOrder s.program (mode_in s) s.chosen first second → ⊥) c.at_root.result c.at_root.ensures
     (λ has. (let yes = c.is_order_open.ensures.order.1 (may_order s first second has) in let no : true ≡ false = sym yes ∙ c.if-is_order_open.false in cc))

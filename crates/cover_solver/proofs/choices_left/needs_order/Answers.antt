@@ -1,6 +1,6 @@
 use Rattle.std.proofs.Common.{subst}
 use Rattle.tree_laws.specs.CoverTrees.{event_of}
-use Rattle.run_maker.specs.Complete.{IsOrderedWith}
+use Rattle.exec_axioms.specs.Complete.{IsOrderedWith}
 use Rattle.cover_solver.proofs.choices_left.needs_order.Goals as goal
 
 pub returns-clause-has : goal.returns-clause-has

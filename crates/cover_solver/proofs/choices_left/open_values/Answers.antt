@@ -4,7 +4,7 @@ use Rattle.std.proofs.lemmas.List.Elements.{All-push}
 use Rattle.std.specs.Prelude.{IsSome}
 use Rattle.std.specs.Global.{Vec}
 use Rattle.candidate_executions.specs.Sketches as sketches
-use Rattle.exec_axioms.specs.Parts.{mode_in, sketch_of}
+use Rattle.exec_axioms.specs.ProgramSketches.{mode_in}
 use Rattle.exec_axioms.proofs.Lookups.{each_index}
 use Rattle.cover_solver.specs.declared.choices_left.OpenChoice.{OpenChoice}
 use Rattle.cover_solver.specs.declared.choices_left.OpenChoice.TheVariants.{Value}
@@ -27,7 +27,7 @@ loop-t-preserved c =
           let same = ap (λ (v : Vec OpenChoice). v.items) w.left-is in
           record {
             each = subst (All (IsOpen s)) (sym same) c.loop-t.invariant.each;
-            none = λ none. each_index (λ k. sketches.next_read s.program (mode_in s) (sketch_of s) k ≡ None) c.loop-t.t (c.loop-t.invariant.none (sym same ∙ none))
+            none = λ none. each_index (λ k. sketches.next_read s.program (mode_in s) s.chosen k ≡ None) c.loop-t.t (c.loop-t.invariant.none (sym same ∙ none))
                 (sym c.next_read.ensures.value ∙ none_of c.next_read.result (sym c.is_some.ensures ∙ w.if-is_some.false));
           })
     ]

@@ -3,7 +3,7 @@ use Rattle.std.proofs.lemmas.List.Elements.{All-push}
 use Rattle.std.specs.Global.{Vec}
 use Rattle.tree_laws.specs.CoverTrees.{event_of}
 use Rattle.exec_axioms.proofs.Lookups.{each_more}
-use Rattle.run_maker.specs.Complete.{HasItsSource}
+use Rattle.exec_axioms.specs.Complete.{HasItsSource}
 use Rattle.cover_solver.specs.declared.choices_left.OpenChoice.{OpenChoice}
 use Rattle.cover_solver.specs.Choices.{IsOpen}
 use Rattle.cover_solver.proofs.NothingLeft.{leaves_one, leaves_same}

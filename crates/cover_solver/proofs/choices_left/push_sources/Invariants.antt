@@ -1,7 +1,7 @@
 use Rattle.std.proofs.Common.{◌≡◌, ℕ, ◌<◌, All, get_or}
 use Rattle.cert_forest.specs.declared.tree.AccessId.{AccessId}
 use Rattle.tree_laws.specs.CoverTrees.{event_of}
-use Rattle.run_maker.specs.Complete.{HasItsSource}
+use Rattle.exec_axioms.specs.Complete.{HasItsSource}
 use Rattle.cover_solver.specs.Choices.{IsOpen}
 use Rattle.cover_solver.specs.Internal.ChoicesLeft.{LeavesNone}
 use Rattle.cover_solver.proofs.choices_left.push_sources.Given as goal

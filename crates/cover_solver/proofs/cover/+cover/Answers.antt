@@ -2,7 +2,7 @@ use Rattle.std.proofs.Common.{List, [], ◌∷◌, get_or, map, sym, ap, ◌∙�
 use Rattle.std.specs.Option.{MatchOption}
 use Rattle.std.proofs.lemmas.List.{map-append, length-map}
 use Rattle.cert_forest.specs.Views.{cover}
-use Rattle.run_maker.specs.Complete.{IsComplete}
+use Rattle.exec_axioms.specs.Complete.{IsComplete}
 use Rattle.cover_judge.specs.declared.choice.Choice.{Choice}
 use Rattle.cover_judge.specs.declared.choice.Choice.TheVariants as choice
 use Rattle.cover_solver.specs.Choices.{IsOpen}
@@ -17,7 +17,7 @@ cover_each-cover_from-requires t c =
     let i = c.loop-choice.choice-index in
     let d = choice.Value 0 0 in
     let ch = get_or c.args.choices.now i d in
-    (omega (arith, fewer_rounds s c.in_ok-next.next ch c.program.ensures.lawful c.program.ensures.few (c.requires.may.each i d c.loop-choice-test.true) c.in_ok-next.ensures.parts), c.requires.ascend)
+    (omega (arith, fewer_rounds s c.in_ok-next.next ch c.program.ensures.lawful c.program.ensures.few (c.requires.may.each i d c.loop-choice-test.true) c.in_ok-next.ensures), c.requires.ascend)
 
 pub cover_each-returns-then-branch-clause-children : goal.cover_each-returns-then-branch-clause-children
 cover_each-returns-then-branch-clause-children t c =
@@ -26,7 +26,7 @@ cover_each-returns-then-branch-clause-children t c =
     let d = choice.Value 0 0 in
     let ch = get_or c.args.choices.now i d in
     cover_without s c.args.shown.now c.args.outcomes.now c.program.ensures.lawful c.in_ok-next.next ch (cover c.in_ok-tree.tree) (c.requires.may.each i d c.loop-choice-test.true)
-    c.in_ok-next.ensures.parts c.in_ok-next.ensures.sketch_with c.in_ok-tree.ensures.tree (c.in_ok-is_valid.ensures c.if-branch.true)
+    c.in_ok-next.ensures c.in_ok-tree.ensures.tree (c.in_ok-is_valid.ensures c.if-branch.true)
 
 pub cover_each-loop-choice-preserved : goal.cover_each-loop-choice-preserved
 cover_each-loop-choice-preserved t c =
@@ -40,7 +40,7 @@ cover_each-loop-choice-preserved t c =
     let tree = c.in_ok-tree.tree in
     covers_more s shown outcomes lawful c.args.choices.now (map cover c.loop-choice.trees.items) (map cover c.push.new.self.items) i d (cover tree) c.loop-choice-test.true
     (ap (map cover) c.in_ok-push.ensures.items ∙ map-append cover c.loop-choice.trees.items (tree ∷ [])) c.loop-choice.invariant
-    (cover_next s shown outcomes lawful c.in_ok-next.next ch (cover tree) (c.requires.may.each i d c.loop-choice-test.true) c.in_ok-next.ensures.parts c.in_ok-next.ensures.sketch_with c.in_ok-tree.ensures.tree)
+    (cover_next s shown outcomes lawful c.in_ok-next.next ch (cover tree) (c.requires.may.each i d c.loop-choice-test.true) c.in_ok-next.ensures c.in_ok-tree.ensures.tree)
 
 pub cover_from-node_over-requires : goal.cover_from-node_over-requires
 cover_from-node_over-requires t c =

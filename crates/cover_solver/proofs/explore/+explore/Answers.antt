@@ -3,8 +3,7 @@ use Rattle.std.specs.Option.{MatchOption}
 use Rattle.std.specs.Prelude.{OnOk}
 use Rattle.std.proofs.lemmas.List.{take_more, take_all}
 use Rattle.std.proofs.lemmas.List.Elements.{All-push, All-weaker}
-use Rattle.exec_axioms.specs.Parts.{sketch_of}
-use Rattle.run_maker.specs.Complete.{IsComplete}
+use Rattle.exec_axioms.specs.Complete.{IsComplete}
 use Rattle.cover_judge.specs.declared.choice.Choice.{Choice}
 use Rattle.cover_judge.specs.declared.choice.Choice.TheVariants as choice
 use Rattle.cover_judge.specs.Choices.{sketch_with}
@@ -32,7 +31,7 @@ explore_each-explore-requires t c =
     let i = c.loop-choice.choice-index in
     let d = choice.Value 0 0 in
     let ch = get_or c.args.choices.now i d in
-    (omega (arith, fewer_rounds s c.in_ok-next.next ch c.program.ensures.lawful c.program.ensures.few (c.requires.may.each i d c.loop-choice-test.true) c.in_ok-next.ensures.parts), c.loop-choice.invariant.grows.in_order)
+    (omega (arith, fewer_rounds s c.in_ok-next.next ch c.program.ensures.lawful c.program.ensures.few (c.requires.may.each i d c.loop-choice-test.true) c.in_ok-next.ensures), c.loop-choice.invariant.grows.in_order)
 
 pub explore_each-loop-choice-preserved : goal.explore_each-loop-choice-preserved
 explore_each-loop-choice-preserved t c =
@@ -44,14 +43,14 @@ explore_each-loop-choice-preserved t c =
     let next = c.in_ok-next.next in
     let old = c.loop-choice.found in
     let new = c.explore.new.found in
-    let grows = grows_after s next shown ch old new c.in_ok-next.ensures.parts c.in_ok-next.ensures.sketch_with c.in_ok-explore.ensures in
-    let P = λ (x : Choice). IsListed s shown new.outcomes.items (sketch_with (sketch_of s) x) in
+    let grows = grows_after s next shown ch old new c.in_ok-next.ensures c.in_ok-explore.ensures in
+    let P = λ (x : Choice). IsListed s shown new.outcomes.items (sketch_with s.chosen x) in
     record {
       grows = grows_twice s shown c.args.found.now old new c.loop-choice.invariant.grows grows;
       each = subst (All P) (sym (take_more c.args.choices.now i d c.loop-choice-test.true)) (All-push P (take i c.args.choices.now) ch
-          (All-weaker (λ (x : Choice). IsListed s shown old.outcomes.items (sketch_with (sketch_of s) x)) P (λ x listed. listed_still s shown old.outcomes.items new.outcomes.items (sketch_with (sketch_of s) x) grows.keeps listed)
+          (All-weaker (λ (x : Choice). IsListed s shown old.outcomes.items (sketch_with s.chosen x)) P (λ x listed. listed_still s shown old.outcomes.items new.outcomes.items (sketch_with s.chosen x) grows.keeps listed)
           (take i c.args.choices.now) c.loop-choice.invariant.each)
-          (listed_after s next shown ch old new c.in_ok-next.ensures.parts c.in_ok-next.ensures.sketch_with c.in_ok-explore.ensures));
+          (listed_after s next shown ch old new c.in_ok-next.ensures c.in_ok-explore.ensures));
     }
 
 pub explore_each-returns : goal.explore_each-returns
@@ -61,5 +60,5 @@ explore_each-returns t c =
     let new = c.loop-choice.found in
     record {
       grows = c.loop-choice.invariant.grows;
-      each = subst (All (λ (x : Choice). IsListed s shown new.outcomes.items (sketch_with (sketch_of s) x))) (take_all c.loop-choice.choice-index c.args.choices.now (omega (arith, c.loop-choice-test.false))) c.loop-choice.invariant.each;
+      each = subst (All (λ (x : Choice). IsListed s shown new.outcomes.items (sketch_with s.chosen x))) (take_all c.loop-choice.choice-index c.args.choices.now (omega (arith, c.loop-choice-test.false))) c.loop-choice.invariant.each;
     }

@@ -1,5 +1,4 @@
 use Rattle.std.proofs.Common.{◌+◌, All, take}
-use Rattle.exec_axioms.specs.Parts.{sketch_of}
 use Rattle.cover_judge.specs.Choices.{sketch_with}
 use Rattle.cover_solver.specs.Explored.{Grows, IsListed}
 use Rattle.cover_solver.proofs.Exploring.{rounds}
@@ -15,5 +14,5 @@ decreases-explore_each l = rounds l.sketch.now
 abbrev pub invariant-explore_each-loop-choice : goal.invariant-explore_each-loop-choice
 invariant-explore_each-loop-choice l = record {
   grows : Grows l.sketch l.shown l.fn.found l.found;
-  each : All (λ choice. IsListed l.sketch l.shown l.found.outcomes.items (sketch_with (sketch_of l.sketch) choice)) (take l.choice-index l.choices);
+  each : All (λ choice. IsListed l.sketch l.shown l.found.outcomes.items (sketch_with l.sketch.chosen choice)) (take l.choice-index l.choices);
 }

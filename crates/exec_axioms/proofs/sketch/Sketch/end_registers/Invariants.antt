@@ -1,5 +1,5 @@
 use Rattle.std.proofs.Common.{◌≡◌, ℕ, ◌<◌, [], get_or, length}
-use Rattle.exec_axioms.specs.Parts.{trace_in}
+use Rattle.exec_axioms.specs.ProgramSketches.{trace_in}
 use Rattle.exec_axioms.proofs.sketch.Sketch.end_registers.Given as goal
 
 -- the registers of the threads so far

@@ -1,26 +1,26 @@
 use Rattle.std.proofs.Common.{◌∙◌, sym, ap, subst}
 use Rattle.std.proofs.lemmas.Option.{MatchOption-at_none}
 use Rattle.std.proofs.lemmas.Result.{IfOk-weaker}
-use Rattle.exec_axioms.specs.Parts.{Parts}
+use Rattle.exec_axioms.specs.ProgramSketches.{ProgramSketch, mode_in}
 use Rattle.exec_axioms.specs.Kept.{IsLawful}
-use Rattle.exec_axioms.specs.Choices.{IsWhole}
 use Rattle.exec_axioms.proofs.KnownParts.{not_by}
 use Rattle.exec_axioms.proofs.Unchosen.{no_cycle_yet}
 use Rattle.exec_axioms.proofs.Lookups.{none_by}
 use Rattle.exec_axioms.proofs.Found.{none_sequential, none_fenced}
 use Rattle.exec_axioms.proofs.sketch.Sketch.first_cycle.Goals as goal
+use Rattle.candidate_executions.specs.Sketches.{IsWhole}
 
 pub returns-then-not-is_whole : goal.returns-then-not-is_whole
-returns-then-not-is_whole c = no_cycle_yet c.args.self.now (subst (λ (s : Parts). IsLawful s) c.self.view_is c.self.invariant.kept.lawful)
-    (not_by _ (IsWhole c.args.self.now) c.is_whole.ensures c.if-not-is_whole.true)
+returns-then-not-is_whole c = no_cycle_yet c.args.self.now (subst (λ (s : ProgramSketch). IsLawful s) c.self.view_is c.self.invariant.kept.lawful)
+    (not_by _ (IsWhole c.args.self.now.program (mode_in c.args.self.now) c.args.self.now.chosen) c.is_whole.ensures c.if-not-is_whole.true)
 
 pub returns-in-Sequential : goal.returns-in-Sequential
 returns-in-Sequential c =
-    let mode = sym (ap (λ (s : Parts). s.mode) c.self.view_is) ∙ c.in-Sequential.is in
+    let mode = sym (ap (λ (s : ProgramSketch). s.mode) c.self.view_is) ∙ c.in-Sequential.is in
     IfOk-weaker c.find_cycle_of.result _ _ (λ found. none_by found _ _ _ (none_sequential c.args.self.now mode)) c.find_cycle_of.ensures
 
 pub returns-in-None : goal.returns-in-None
 returns-in-None c =
-    let mode = sym (ap (λ (s : Parts). s.mode) c.self.view_is) ∙ c.in-Fenced.is in
+    let mode = sym (ap (λ (s : ProgramSketch). s.mode) c.self.view_is) ∙ c.in-Fenced.is in
     let location = MatchOption-at_none _ _ c.in-None.is c.in_ok-found-in-Fenced.ensures in
     IfOk-weaker c.find_cycle_of-in-None.result _ _ (λ found. none_by found _ _ _ (none_fenced c.args.self.now c.in-Fenced.field-0 mode location)) c.find_cycle_of-in-None.ensures

@@ -1,5 +1,5 @@
 use Rattle.std.proofs.Common.{subst}
-use Rattle.exec_axioms.specs.Parts.{Parts}
+use Rattle.exec_axioms.specs.ProgramSketches.{ProgramSketch}
 use Rattle.exec_axioms.specs.Kept.{IsLawful}
 use Rattle.exec_axioms.proofs.KnownParts.{not_by}
 use Rattle.exec_axioms.proofs.Ends.{ends_only}
@@ -13,9 +13,9 @@ returns-then-not-ends_as-clause-end c =
 
 pub returns-clause-end : goal.returns-clause-end
 returns-clause-end c =
-    must_end_so c.args.self.now c.args.shown.now c.in_ok-end.end c.show.new.self (subst (λ (s : Parts). IsLawful s) c.self.view_is c.self.invariant.kept.lawful) c.show.ensures
+    must_end_so c.args.self.now c.args.shown.now c.in_ok-end.end c.show.new.self (subst (λ (s : ProgramSketch). IsLawful s) c.self.view_is c.self.invariant.kept.lawful) c.show.ensures
     (c.ends_as.ensures.0 c.if-not-ends_as.false)
 
 pub returns-clause-completions : goal.returns-clause-completions
 returns-clause-completions c =
-    ends_only c.args.self.now c.args.shown.now c.show.new.self (subst (λ (s : Parts). IsLawful s) c.self.view_is c.self.invariant.kept.lawful) (c.ends_as.ensures.0 c.if-not-ends_as.false)
+    ends_only c.args.self.now c.args.shown.now c.show.new.self (subst (λ (s : ProgramSketch). IsLawful s) c.self.view_is c.self.invariant.kept.lawful) (c.ends_as.ensures.0 c.if-not-ends_as.false)

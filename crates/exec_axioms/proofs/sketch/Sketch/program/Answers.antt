@@ -1,6 +1,6 @@
 use Rattle.std.proofs.Common.{subst}
 use Rattle.std.specs.Arc.{arc_value}
-use Rattle.exec_axioms.specs.Parts.{Parts}
+use Rattle.exec_axioms.specs.ProgramSketches.{ProgramSketch}
 use Rattle.exec_axioms.specs.Kept.{IsLawful}
 use Rattle.exec_axioms.specs.Sizes.{HaveAllRegisters}
 use Rattle.exec_axioms.proofs.TracesKept.{six_registers}
@@ -8,8 +8,8 @@ use Rattle.exec_axioms.proofs.ChoicesCounted.{choices_few}
 use Rattle.exec_axioms.proofs.sketch.Sketch.program.Goals as goal
 
 pub returns-clause-few : goal.returns-clause-few
-returns-clause-few c = choices_few c.args.self.now (subst (λ (s : Parts). IsLawful s) c.self.view_is c.self.invariant.kept.lawful)
+returns-clause-few c = choices_few c.args.self.now (subst (λ (s : ProgramSketch). IsLawful s) c.self.view_is c.self.invariant.kept.lawful)
 
 pub returns-clause-registers : goal.returns-clause-registers
-returns-clause-registers c = subst (λ (s : Parts). HaveAllRegisters s.program.threads) c.self.view_is
+returns-clause-registers c = subst (λ (s : ProgramSketch). HaveAllRegisters s.program.threads) c.self.view_is
     (six_registers c.self.inside.program c.self.inside.mode (arc_value c.self.inside.traces).thread_traces.items c.self.inside.sources.items c.self.inside.pairs.items c.self.invariant.kept)
