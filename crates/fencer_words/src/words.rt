@@ -30,7 +30,7 @@ Example: fencer place examples/SB.litmus";
 static MODELS: [&str; 2] = ["buffered", "sequential"];
 
 /// The names of the models.
-fn model_names() -> &'static [&'static str]
+fn model_names<'a>() -> &'a [&'a str]
     ensures { AreModels result }
 {
     MODELS.as_slice()
