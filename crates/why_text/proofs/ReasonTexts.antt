@@ -50,7 +50,7 @@ AreHeld gaps [] = Unit {0}
 AreHeld gaps (gap ∷ more) = ((set.contains gaps gap ≡ true) × (gap < MAX_GAPS)) × AreHeld gaps more
 
 held_next : (gaps : SetOfGaps) → IsGapSet gaps → (gap : ℕ) (more : List ℕ) → AreHeld gaps (filter (set.contains gaps) more) → (b : Bool) → set.contains gaps gap ≡ b → AreHeld gaps (filter (set.contains gaps) (gap ∷ more))
-held_next gaps small gap more rest true e = rw e ((refl, small gap e), rest)
+held_next gaps small gap more rest true e = rw e ((e, small gap e), rest)
 held_next gaps small gap more rest false e = rw e rest
 
 held_of : (gaps : SetOfGaps) → IsGapSet gaps → (numbers : List ℕ) → AreHeld gaps (filter (set.contains gaps) numbers)

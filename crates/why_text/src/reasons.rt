@@ -22,20 +22,20 @@ use tso_program::{Program, Shown};
 pub(crate) fn run_without(
     solver: &Solver,
     costs: &Costs,
-    set: &GapSet,
+    gaps: &GapSet,
     gap: u8,
 ) -> Result<ForeignRun, AllocError>
-    requires answer { IsTheAnswer solver.now.question costs.now set.now }
+    requires answer { IsTheAnswer solver.now.question costs.now gaps.now }
     requires one_each { length costs.now ≡ gap_count solver.now.question.program.threads }
     requires gap { gap < MAX_GAPS }
-    requires held { set.contains set.now gap ≡ true }
+    requires held { set.contains gaps.now gap ≡ true }
     ensures question { IfOk result (λ run. run.question ≡ solver.now.question) }
     ensures foreign { IfOk result facts.IsForeignValue }
-    ensures avoids { IfOk result (PassesNoneOf (set.remove set.now gap)) }
+    ensures avoids { IfOk result (PassesNoneOf (set.remove gaps.now gap)) }
 {
     // For the proof alone: no gap is free, and a set has gap numbers.
-    let _ = (costs.len(), set.len());
-    match solver.ask(&set.without(gap)) {
+    let _ = (costs.len(), gaps.len());
+    match solver.ask(&gaps.without(gap)) {
         Ok(Verdict::Foreign(run)) => Ok(run),
         Ok(Verdict::Serves(_)) => unreachable!(),
         Err(_) => Err(AllocError),
@@ -94,16 +94,16 @@ pub(crate) fn reason_lines(
     alloc: Global,
     litmus: &Litmus<Program>,
     shown: &Shown,
-    set: &GapSet,
+    gaps: &GapSet,
     gap: u8,
     run: &ForeignRun,
 ) -> Result<Vec<u8>, AllocError>
     requires question { run.now.question ≡ asked litmus.now.program shown.now }
     requires foreign { facts.IsForeignValue run.now }
-    requires avoids { PassesNoneOf (set.remove set.now gap) run.now }
+    requires avoids { PassesNoneOf (set.remove gaps.now gap) run.now }
     requires gap { gap < MAX_GAPS }
-    ensures { IfOk result (λ lines. IsReason litmus.now shown.now set.now gap lines.items) }
+    ensures { IfOk result (λ lines. IsReason litmus.now shown.now gaps.now gap lines.items) }
 {
-    let table = table_of(alloc, litmus, &set.without(gap), run)?;
+    let table = table_of(alloc, litmus, &gaps.without(gap), run)?;
     lines_with(alloc, litmus, shown, gap, run, &table)
 }

@@ -16,9 +16,9 @@ serves_of q gaps v b e h =
     subst (λ (r : Question). Serves r gaps) is.0 (subst (Serves b.question) is.1 is.2.serves)
 
 pub ask-requires : goal.ask-requires
-ask-requires c = rw c.without.ensures (λ other held. c.requires.answer.of_program other (kept c.args.set.now c.args.gap other held))
+ask-requires c = rw c.without.ensures (λ other held. c.requires.answer.of_program other (kept c.args.gaps.now c.args.gap other held))
 
 pub unreachable-requires : goal.unreachable-requires
 unreachable-requires c =
-    each_is_needed c.args.solver.now.question c.args.costs.now c.args.set.now c.args.gap c.len.ensures.limits c.requires.one_each c.len-2.ensures.gaps c.requires.answer c.requires.held
-    (serves_of c.args.solver.now.question (set.remove c.args.set.now c.args.gap) c.in-Ok-Serves.field-0 _ c.in-Ok-Serves.field-0-is (rw c.without.ensures at c.in-Ok-Serves.ensures.verdict))
+    each_is_needed c.args.solver.now.question c.args.costs.now c.args.gaps.now c.args.gap c.len.ensures.limits c.requires.one_each c.len-2.ensures.gaps c.requires.answer c.requires.held
+    (serves_of c.args.solver.now.question (set.remove c.args.gaps.now c.args.gap) c.in-Ok-Serves.field-0 _ c.in-Ok-Serves.field-0-is (rw c.without.ensures at c.in-Ok-Serves.ensures.verdict))
