@@ -11,5 +11,6 @@ mod rows;
 mod words;
 mod writer;
 
+pub use code::push_code;
 pub use laws::{canonical_text_is_read, printed_parts_are_read, store_buffering_is_written};
 pub use writer::write_litmus;

@@ -8,20 +8,24 @@ use Rattle.program_streams.specs.Streams.{IsReadFault, TakesLine, TakesOfLine}
 use Rattle.program_streams.specs.Words.{words_of}
 use Rattle.program_streams.specs.FileLines.{file_line}
 use Rattle.fencer_words.specs.declared.job.Job.{Job}
-use Rattle.fencer_words.specs.declared.job.Job.TheVariants.{Replay, Outcomes, Place}
+use Rattle.fencer_words.specs.declared.job.Job.TheVariants.{Replay, Trace, Outcomes, Place, Why}
 use Rattle.fencer_words.specs.CommandLines.{AsksFor, IsNoCommand}
 use Rattle.fencer.specs.Lines.{EndsLine}
 use Rattle.fencer.specs.Outcomes.{AreOutcomes}
 use Rattle.fencer.specs.Placements.{name_of, IsPlaced}
 use Rattle.fencer.specs.Replays.{IsReplay, label_words_text}
+use Rattle.fencer.specs.Traces.{IsTrace}
+use Rattle.fencer.specs.Whys.{IsExplained}
 
 -- ---- what is printed
 
 -- the answer to a job
 abbrev pub IsAnswer : Job → Option (List ℕ) → (List ℕ → Option (List ℕ)) → (List ℕ → Option (List ℕ)) → ℕ → List ℕ → Type 0
-IsAnswer (Replay model litmus labels) input files left = IsReplay model (label_words_text labels.items) (string_bytes litmus) input files
+IsAnswer (Replay asked) input files left = IsReplay asked.model (label_words_text asked.labels.items) (string_bytes asked.litmus) input files
+IsAnswer (Trace asked) input files left = IsTrace asked.model (label_words_text asked.labels.items) (string_bytes asked.litmus) input files
 IsAnswer (Outcomes model observed litmus) input files left = AreOutcomes model observed (string_bytes litmus) input files
 IsAnswer (Place asked) input files left = IsPlaced asked input files left
+IsAnswer (Why asked) input files left = IsExplained asked input files
 
 -- the first line of the input has more bytes than the limit
 abbrev pub HasTooLongLine : Option (List ℕ) → Type 0
@@ -46,9 +50,11 @@ IsOutput (word ∷ words) input files left = IsReply (word ∷ words) input file
 
 -- the file to which a job writes a certificate
 abbrev pub certificate_of : Job → Option (List ℕ)
-certificate_of (Replay model litmus labels) = None
+certificate_of (Replay asked) = None
+certificate_of (Trace asked) = None
 certificate_of (Outcomes model observed litmus) = None
 certificate_of (Place asked) = name_of asked.certificate
+certificate_of (Why asked) = None
 
 -- the words ask for a certificate in the file of this name
 pub record AsksToWrite (words : List Text) (name : List ℕ) : Type 0 where

@@ -2,6 +2,8 @@ pub mod Lines
 pub mod Refusals
 pub mod TextAnswers
 pub mod Replays
+pub mod Traces
 pub mod Outcomes
 pub mod Placements
+pub mod Whys
 pub mod Answers

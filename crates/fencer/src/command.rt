@@ -9,6 +9,8 @@ ghost use Rattle.fencer.specs.Answers.{certificate_of, IsAnswer, IsReply, IsOutp
 use crate::outcomes::run_outcomes;
 use crate::place::run_place;
 use crate::replays::run_replay;
+use crate::traces::run_trace;
+use crate::whys::run_why;
 use clap::Error;
 use clap::error::ErrorKind;
 use fencer_words::{Job, read_words};
@@ -45,19 +47,8 @@ fn run_job<T: Threads + Sync, U: Wait + Sync, S: WritableFileStore, R: Read, W: 
     ensures others { KeepFiles (certificate_of job.now) (S.held files.old) (S.held files.new) }
 {
     match job {
-        Job::Replay {
-            model,
-            litmus,
-            labels,
-        } => run_replay(
-            alloc,
-            &*files,
-            *model,
-            litmus.as_str(),
-            labels.as_slice(),
-            input,
-            output,
-        ),
+        Job::Replay(asked) => run_replay(alloc, &*files, asked, input, output),
+        Job::Trace(asked) => run_trace(alloc, &*files, asked, input, output),
         Job::Outcomes {
             model,
             observed,
@@ -72,6 +63,7 @@ fn run_job<T: Threads + Sync, U: Wait + Sync, S: WritableFileStore, R: Read, W: 
             output,
         ),
         Job::Place(asked) => run_place(rt, wait, alloc, files, asked, input, output),
+        Job::Why(asked) => run_why(rt, wait, alloc, &*files, asked, input, output),
     }
 }
 

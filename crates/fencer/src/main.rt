@@ -6,6 +6,8 @@ mod outcomes;
 mod place;
 mod refusals;
 mod replays;
+mod traces;
+mod whys;
 
 use program_streams::{SystemFiles, given_words};
 use std::process::ExitCode;

@@ -20,9 +20,9 @@ use std::thread::Threads;
 
 /// What the files hold that are read.
 #[derive(Debug, Drop)]
-struct Texts {
-    litmus: Vec<u8>,
-    costs: Option<Vec<u8>>,
+pub(crate) struct Texts {
+    pub(crate) litmus: Vec<u8>,
+    pub(crate) costs: Option<Vec<u8>>,
 }
 
 /// What is printed for what is placed, and its certificate.
@@ -46,7 +46,7 @@ fn place_line(alloc: Global, fault: PlaceFault) -> Result<Vec<u8>, AllocError>
 }
 
 /// Why nothing is placed in the program of a text.
-fn text_fault_line(alloc: Global, fault: TextFault) -> Result<Vec<u8>, AllocError>
+pub(crate) fn text_fault_line(alloc: Global, fault: TextFault) -> Result<Vec<u8>, AllocError>
     ensures { IfOk result (λ line. line.items ≡ text_fault_line fault) }
 {
     match fault {
@@ -58,7 +58,7 @@ fn text_fault_line(alloc: Global, fault: TextFault) -> Result<Vec<u8>, AllocErro
 }
 
 /// The texts of a litmus file, which is read first, and of a cost file, where one is named.
-fn read_texts<S: FileStore, R: Read>(
+pub(crate) fn read_texts<S: FileStore, R: Read>(
     alloc: Global,
     files: &S,
     asked: &Placement,

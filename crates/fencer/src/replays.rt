@@ -1,12 +1,13 @@
 //! Replays: the lines of a run, or why there is no run.
 
-ghost use Rattle.std.specs.Prelude.{◌≡◌, ◌++◌, IfOk, IfErr};
+ghost use Rattle.std.specs.Prelude.{◌≡◌, ◌++◌, IfOk, IfErr, string_bytes};
 ghost use Rattle.tso_machine.specs.RunTexts.{IsRunText, RunFaultIs};
 ghost use Rattle.report.specs.Answers.{outcome_line, passed_line};
 ghost use Rattle.program_streams.specs.Streams.{Prints};
 ghost use Rattle.fencer.specs.Replays.{label_words_text, PrintsRun, HasNoRun, IsReplay};
 
 use crate::refusals::{Refusal, print_answer};
+use fencer_words::Run;
 use gap_sets::GapSet;
 use litmus_text::{Litmus, read_litmus};
 use program_streams::{FileStore, TEXT_LIMIT, file_line, named_bytes, print};
@@ -29,7 +30,7 @@ fn run_text(alloc: Global, words: &[String]) -> Result<Vec<u8>, AllocError>
 }
 
 /// The steps that label words spell.
-fn steps_of(alloc: Global, words: &[String]) -> Result<Vec<Label>, RunFault>
+pub(crate) fn steps_of(alloc: Global, words: &[String]) -> Result<Vec<Label>, RunFault>
     ensures found { IfOk result (λ steps. IsRunText (label_words_text words.now) steps.items) }
     ensures err { IfErr result (RunFaultIs (label_words_text words.now)) }
 {
@@ -40,7 +41,7 @@ fn steps_of(alloc: Global, words: &[String]) -> Result<Vec<Label>, RunFault>
 }
 
 /// The outcome line and the passed line.
-fn ended_lines(
+pub(crate) fn ended_lines(
     alloc: Global,
     litmus: &Litmus<Program>,
     ended: &Ended,
@@ -77,16 +78,18 @@ fn replay_lines(
 pub fn run_replay<S: FileStore, R: Read, W: Write>(
     alloc: Global,
     files: &S,
-    model: Model,
-    litmus: &str,
-    labels: &[String],
+    asked: &Run,
     input: &mut R,
     output: &mut W,
 ) -> u8
-    ensures { Prints (IsReplay model (label_words_text labels.now) litmus.now (R.remaining input.old) (S.held files.now)) (W.contents output.old) (W.contents output.new) result }
+    ensures { Prints (IsReplay asked.now.model (label_words_text asked.now.labels.items) (string_bytes asked.now.litmus) (R.remaining input.old) (S.held files.now)) (W.contents output.old) (W.contents output.new) result }
 {
-    match named_bytes(alloc, files, litmus, input, TEXT_LIMIT) {
-        Ok(bytes) => print_answer(alloc, replay_lines(alloc, &bytes, model, labels), output),
+    match named_bytes(alloc, files, asked.litmus.as_str(), input, TEXT_LIMIT) {
+        Ok(bytes) => print_answer(
+            alloc,
+            replay_lines(alloc, &bytes, asked.model, asked.labels.as_slice()),
+            output,
+        ),
         Err(fault) => print(output, file_line(alloc, fault), 1),
     }
 }

@@ -1,6 +1,6 @@
 -- What command lines ask for. `clap` reads them: its `subcommand_of` gives the subcommand that words name, with the rows
 -- of its values.
-use Rattle.std.specs.Prelude.{◌≡◌, ◌≢◌, ℕ, ◌≤◌, Bool, true, false, List, [], ◌∷◌, Some, Contains, codes, map, option_map, string_bytes, unwrap_or, if◌then◌else◌}
+use Rattle.std.specs.Prelude.{◌≡◌, ◌≢◌, ℕ, ◌≤◌, Bool, true, false, List, [], ◌∷◌, Some, None, Contains, codes, map, option_map, string_bytes, unwrap_or, if◌then◌else◌}
 use Rattle.std.specs.Option.{option_map_or}
 use Rattle.std.specs.Str.{IsUtf8, bytes_eq}
 use Rattle.std.specs.Str.Parse.{digits_value, without_leading_plus}
@@ -13,7 +13,8 @@ use Rattle.clap.specs.declared.builder.value_parser.ValueParser.TheVariants as p
 use Rattle.tso_machine.specs.declared.label.Model.{Model}
 use Rattle.tso_machine.specs.declared.label.Model.TheVariants.{Buffered, Sequential}
 use Rattle.fencer_words.specs.declared.job.Job.{Job}
-use Rattle.fencer_words.specs.declared.job.Job.TheVariants.{Replay, Outcomes, Place}
+use Rattle.fencer_words.specs.declared.job.Run.{Run}
+use Rattle.fencer_words.specs.declared.job.Job.TheVariants.{Replay, Trace, Outcomes, Place, Why}
 use Rattle.tso_program.specs.declared.limits.TheConstants.{MAX_WORKERS}
 
 -- ---- arguments
@@ -82,17 +83,25 @@ outcomes_app models = with_rule (with_rule (with_rule (new_app (codes "outcomes"
 abbrev pub place_app : App
 place_app = with_rule (with_rule (with_rule (with_rule (with_rule (new_app (codes "place")) (file_rule (codes "costs"))) workers_rule) (file_rule (codes "certificate"))) observed_rule) litmus_rule
 
+-- `trace [--model MODEL] LITMUS [LABEL..]`
+abbrev pub trace_app : ModelNames → App
+trace_app models = with_rule (with_rule (with_rule (new_app (codes "trace")) (model_rule models)) litmus_rule) label_rule
+
+-- `why [--costs FILE] [--workers N] [--observed] LITMUS`
+abbrev pub why_app : App
+why_app = with_rule (with_rule (with_rule (with_rule (new_app (codes "why")) (file_rule (codes "costs"))) workers_rule) observed_rule) litmus_rule
+
 -- a command line is one of these commands, and nothing before it
 abbrev pub commands_app : App
 commands_app = on_top (λ s. record s { no_binary_name = true; subcommand_required = true; disable_help_subcommand = true }) (new_app (codes "fencer"))
 
 -- the program's whole command line, after its name
 abbrev pub fencer_app : ModelNames → App
-fencer_app models = with_subcommand (with_subcommand (with_subcommand commands_app (replay_app models).top) (outcomes_app models).top) place_app.top
+fencer_app models = with_subcommand (with_subcommand (with_subcommand (with_subcommand (with_subcommand commands_app (replay_app models).top) (outcomes_app models).top) place_app.top) (trace_app models).top) why_app.top
 
 -- the names of the commands
 abbrev pub command_names : List Text
-command_names = codes "replay" ∷ codes "outcomes" ∷ codes "place" ∷ []
+command_names = codes "replay" ∷ codes "outcomes" ∷ codes "place" ∷ codes "trace" ∷ codes "why" ∷ []
 
 -- ---- values
 
@@ -124,13 +133,16 @@ pub record AreWorkers (text : Text) (workers : ℕ) : Type 0 where
 
 -- ---- jobs
 
+-- the run that is asked about
+pub record IsRunOf (rows : List Row) (asked : Run) : Type 0 where
+  pub model : asked.model ≡ model_in rows
+  pub litmus : string_bytes asked.litmus ≡ text_in (codes "litmus") rows
+  pub labels : map string_bytes asked.labels.items ≡ texts_in (codes "label") rows
+
 -- the job that the command of this name asks for, by the rows of its values
 abbrev pub IsJobOf : Text → List Row → Job → Type 0
-IsJobOf name rows (Replay model litmus labels) =
-    (name ≡ codes "replay")
-    × (model ≡ model_in rows)
-    × (string_bytes litmus ≡ text_in (codes "litmus") rows)
-    × (map string_bytes labels.items ≡ texts_in (codes "label") rows)
+IsJobOf name rows (Replay asked) = (name ≡ codes "replay") × IsRunOf rows asked
+IsJobOf name rows (Trace asked) = (name ≡ codes "trace") × IsRunOf rows asked
 IsJobOf name rows (Outcomes model observed litmus) =
     (name ≡ codes "outcomes")
     × (model ≡ model_in rows)
@@ -141,6 +153,13 @@ IsJobOf name rows (Place asked) =
     × (option_map string_bytes asked.costs ≡ first_of (codes "costs") rows)
     × AreWorkers (text_in (codes "workers") rows) asked.workers
     × (option_map string_bytes asked.certificate ≡ first_of (codes "certificate") rows)
+    × (asked.observed ≡ is_flagged (codes "observed") rows)
+    × (string_bytes asked.litmus ≡ text_in (codes "litmus") rows)
+IsJobOf name rows (Why asked) =
+    (name ≡ codes "why")
+    × (option_map string_bytes asked.costs ≡ first_of (codes "costs") rows)
+    × AreWorkers (text_in (codes "workers") rows) asked.workers
+    × (asked.certificate ≡ None)
     × (asked.observed ≡ is_flagged (codes "observed") rows)
     × (string_bytes asked.litmus ≡ text_in (codes "litmus") rows)
 

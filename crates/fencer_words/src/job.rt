@@ -3,6 +3,14 @@
 use std::alloc::Global;
 use tso_machine::Model;
 
+/// A run that is asked about. The file is given by its name.
+#[derive(Debug, Drop)]
+pub struct Run {
+    pub model: Model,
+    pub litmus: String,
+    pub labels: Vec<String>,
+}
+
 /// A placement of fences that is asked for. Files are given by their names.
 #[derive(Debug, Drop)]
 pub struct Placement {
@@ -21,11 +29,9 @@ pub struct Placement {
 #[derive(Debug, Drop)]
 pub enum Job {
     /// Replay labels on the program of a litmus file.
-    Replay {
-        model: Model,
-        litmus: String,
-        labels: Vec<String>,
-    },
+    Replay(Run),
+    /// Show the steps of labels on the program of a litmus file as a table.
+    Trace(Run),
     /// List the outcomes of the program of a litmus file.
     Outcomes {
         model: Model,
@@ -35,4 +41,6 @@ pub enum Job {
     },
     /// Place fences in the program of a litmus file.
     Place(Placement),
+    /// Show for each fence of a placement, which writes no certificate, why it is needed.
+    Why(Placement),
 }

@@ -6,7 +6,9 @@ mod job;
 mod outcomes;
 mod place;
 mod replay;
+mod trace;
+mod why;
 mod words;
 
-pub use job::{Job, Placement};
+pub use job::{Job, Placement, Run};
 pub use words::read_words;

@@ -26,12 +26,13 @@ docs/formats.md.
 
 Example: fencer place --certificate SB.cert examples/SB.litmus";
 
-const COSTS_HELP: &str = "Read what gaps cost, in lines like `0:1 5`; without a line a gap costs 1";
+pub const COSTS_HELP: &str =
+    "Read what gaps cost, in lines like `0:1 5`; without a line a gap costs 1";
 
 const CERTIFICATE_HELP: &str = "Write the certificate there, for fencecheck";
 
 /// `--NAME FILE`
-fn file_arg<'a>(alloc: Global, name: &'a str, help: &'a str) -> Arg<'a>
+pub fn file_arg<'a>(alloc: Global, name: &'a str, help: &'a str) -> Arg<'a>
     ensures rule { rule_of result ≡ file_rule name.entry.now }
     ensures own { result.global ≡ false }
 {
@@ -39,7 +40,7 @@ fn file_arg<'a>(alloc: Global, name: &'a str, help: &'a str) -> Arg<'a>
 }
 
 /// `--workers N`
-fn workers_arg<'a>(alloc: Global) -> Arg<'a>
+pub fn workers_arg<'a>(alloc: Global) -> Arg<'a>
     ensures rule { rule_of result ≡ workers_rule }
     ensures own { result.global ≡ false }
 {
@@ -61,7 +62,7 @@ pub fn place_command<'a>(alloc: Global) -> Result<Command<'a>, AllocError>
 }
 
 /// The number that a text names, among those of workers.
-fn workers_of(text: &str) -> u8
+pub fn workers_of(text: &str) -> u8
     ensures { AreWorkers text.now result }
 {
     match text.parse::<u8>() {

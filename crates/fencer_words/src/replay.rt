@@ -2,13 +2,13 @@
 
 ghost use Rattle.std.specs.Prelude.{◌≡◌, false, IfOk, codes, map, string_bytes};
 ghost use Rattle.clap.specs.Words.{found_of, rows_of, rule_of};
-ghost use Rattle.fencer_words.specs.CommandLines.{label_rule, replay_app, texts_in, IsJobOf};
+ghost use Rattle.fencer_words.specs.CommandLines.{label_rule, replay_app, texts_in, IsJobOf, IsRunOf};
 ghost use Rattle.fencer_words.specs.Commands.{IsBuiltAs};
 
 use crate::arguments::{
     described_command, litmus_arg, model_arg, model_in, named_arg, text_in, values_of,
 };
-use crate::job::Job;
+use crate::job::{Job, Run};
 use clap::{Arg, ArgAction, ArgMatches, Command};
 use std::alloc::{AllocError, Global};
 
@@ -21,7 +21,7 @@ with the command line, or this help, with status 2. Refusals are explained in do
 Example: fencer replay examples/SB.litmus e0 e1 e0 e1 f0 f1";
 
 /// `[LABEL..]`
-fn label_arg<'a>(alloc: Global) -> Arg<'a>
+pub fn label_arg<'a>(alloc: Global) -> Arg<'a>
     ensures rule { rule_of result ≡ label_rule }
     ensures own { result.global ≡ false }
 {
@@ -63,12 +63,19 @@ fn labels_in(alloc: Global, matches: &ArgMatches<'_>) -> Result<Vec<String>, All
     }
 }
 
-pub fn replay_job(alloc: Global, matches: &ArgMatches<'_>) -> Result<Job, AllocError>
-    ensures { IfOk result (IsJobOf (codes "replay") (rows_of (found_of matches.now))) }
+/// The run that is asked about.
+pub fn run_in(alloc: Global, matches: &ArgMatches<'_>) -> Result<Run, AllocError>
+    ensures { IfOk result (IsRunOf (rows_of (found_of matches.now))) }
 {
-    Ok(Job::Replay {
+    Ok(Run {
         model: model_in(matches),
         litmus: text_in(alloc, matches, "litmus")?,
         labels: labels_in(alloc, matches)?,
     })
+}
+
+pub fn replay_job(alloc: Global, matches: &ArgMatches<'_>) -> Result<Job, AllocError>
+    ensures { IfOk result (IsJobOf (codes "replay") (rows_of (found_of matches.now))) }
+{
+    Ok(Job::Replay(run_in(alloc, matches)?))
 }

@@ -2,7 +2,7 @@
 
 ghost use Rattle.std.specs.Prelude.{◌≡◌, ◌⊎◌, Contains, IfErr, IfOk, IfNone, IfSome, map, string_bytes};
 ghost use Rattle.clap.specs.Words.{found_of, kind_of, rows_of};
-ghost use Rattle.fencer_words.specs.CommandLines.{command_names, AsksFor, IsJobOf, IsNoCommand};
+ghost use Rattle.fencer_words.specs.CommandLines.{command_names, AreModels, AsksFor, IsJobOf, IsNoCommand};
 ghost use Rattle.fencer_words.specs.Commands.{IsFencerCommand, IsJobMet, MeetsNoCommand};
 
 use crate::arguments::described_command;
@@ -10,13 +10,15 @@ use crate::job::Job;
 use crate::outcomes::{outcomes_command, outcomes_job};
 use crate::place::{place_command, place_job};
 use crate::replay::{replay_command, replay_job};
+use crate::trace::{trace_command, trace_job};
+use crate::why::{why_command, why_job};
 use clap::error::ErrorKind;
 use clap::{ArgMatches, Command, Error};
 use std::alloc::{AllocError, Global};
 
 const FIRST: &str = "\
 Finds the cheapest places for MFENCE with which a small x86 program behaves as on a sequentially
-consistent machine, replays its runs and lists its outcomes";
+consistent machine, shows why each is needed, replays the program's runs and lists its outcomes";
 
 const LAST: &str = "\
 With no words they are the first line of standard input; where LITMUS there is -, the litmus text
@@ -27,11 +29,18 @@ Example: fencer place examples/SB.litmus";
 
 static MODELS: [&str; 2] = ["buffered", "sequential"];
 
+/// The names of the models.
+fn model_names<'a>() -> &'a [&'a str]
+    ensures { AreModels result }
+{
+    MODELS.as_slice()
+}
+
 /// The command line.
 fn command<'a>(alloc: Global) -> Result<Command<'a>, AllocError>
     ensures { IfOk result IsFencerCommand }
 {
-    let models = MODELS.as_slice();
+    let models = model_names();
     described_command(alloc, "fencer", FIRST, LAST)
         .no_binary_name(true)
         .subcommand_required(true)
@@ -39,7 +48,9 @@ fn command<'a>(alloc: Global) -> Result<Command<'a>, AllocError>
         .bin_name("fencer")?
         .subcommand(replay_command(alloc, models)?)?
         .subcommand(outcomes_command(alloc, models)?)?
-        .subcommand(place_command(alloc)?)
+        .subcommand(place_command(alloc)?)?
+        .subcommand(trace_command(alloc, models)?)?
+        .subcommand(why_command(alloc)?)
 }
 
 /// The job of the command of this name, where there is such a command.
@@ -51,6 +62,8 @@ fn job_of(alloc: Global, name: &str, matches: &ArgMatches<'_>) -> Result<Option<
         "replay" => Ok(Some(replay_job(alloc, matches)?)),
         "outcomes" => Ok(Some(outcomes_job(alloc, matches)?)),
         "place" => Ok(Some(place_job(alloc, matches)?)),
+        "trace" => Ok(Some(trace_job(alloc, matches)?)),
+        "why" => Ok(Some(why_job(alloc, matches)?)),
         _ => Ok(None),
     }
 }

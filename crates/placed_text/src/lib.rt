@@ -7,5 +7,6 @@ mod reading;
 mod writing;
 
 pub use fault::TextFault;
-pub use placing::place_text;
+pub use placing::{Found, place_gaps, place_text};
+pub use reading::{read_gap_costs, read_program};
 pub use writing::PlacedText;

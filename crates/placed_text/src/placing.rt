@@ -18,8 +18,15 @@ use std::sync::Wait;
 use std::thread::Threads;
 use tso_program::{Program, Shown};
 
+/// What is placed in a program, and the solver that was asked.
+#[derive(Drop)]
+pub struct Found {
+    pub placed: Placed,
+    pub solver: Solver,
+}
+
 /// Finds the best set of a program's gaps that serves, by a solver of its own.
-fn place_gaps<R: Threads + Sync, W: Wait + Sync>(
+pub fn place_gaps<R: Threads + Sync, W: Wait + Sync>(
     rt: &R,
     wait: &W,
     alloc: Global,
@@ -27,9 +34,10 @@ fn place_gaps<R: Threads + Sync, W: Wait + Sync>(
     shown: &Shown,
     costs: &Costs,
     workers: u8,
-) -> Result<Placed, TextFault>
+) -> Result<Found, TextFault>
     requires { length costs.now ≡ gap_count program.now.threads }
-    ensures placed { IfOk result (IsPlacement (asked program.now shown.now) costs.now) }
+    ensures placed { IfOk result (λ found. IsPlacement (asked program.now shown.now) costs.now found.placed) }
+    ensures solver { IfOk result (λ found. found.solver.question ≡ asked program.now shown.now) }
     ensures workers { OnOk result (¬ AreTooFewOrMany workers) }
     ensures fault { IfErr result (HasNoPlacement workers) }
 {
@@ -42,7 +50,7 @@ fn place_gaps<R: Threads + Sync, W: Wait + Sync>(
         return Err(TextFault::OutOfMemory);
     };
     match place(rt, wait, alloc, &solver, &table, costs, workers) {
-        Ok(placed) => Ok(placed),
+        Ok(placed) => Ok(Found { placed, solver }),
         Err(PlaceFault::OutOfMemory) => Err(TextFault::OutOfMemory),
         Err(fault) => Err(TextFault::Place(fault)),
     }
@@ -70,8 +78,8 @@ pub fn place_text<R: Threads + Sync, W: Wait + Sync>(
     let source = read_program(alloc, litmus)?;
     let costs = read_gap_costs(alloc, costs, &source.program)?;
     let shown = source.shown_as(observed);
-    let placed = place_gaps(rt, wait, alloc, &source.program, &shown, &costs, workers)?;
-    match write_placed(alloc, &source, &shown, &placed) {
+    let found = place_gaps(rt, wait, alloc, &source.program, &shown, &costs, workers)?;
+    match write_placed(alloc, &source, &shown, &found.placed) {
         Ok(texts) => Ok(texts),
         Err(_) => Err(TextFault::OutOfMemory),
     }

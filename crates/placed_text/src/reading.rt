@@ -11,7 +11,7 @@ use std::alloc::Global;
 use tso_program::Program;
 
 /// What a litmus text stands for.
-pub(crate) fn read_program(alloc: Global, text: &[u8]) -> Result<Litmus<Program>, TextFault>
+pub fn read_program(alloc: Global, text: &[u8]) -> Result<Litmus<Program>, TextFault>
     ensures found { IfOk result (IsLitmus text.now) }
     ensures refused { IfErr result (HasNoProgram text.now) }
 {
@@ -23,7 +23,7 @@ pub(crate) fn read_program(alloc: Global, text: &[u8]) -> Result<Litmus<Program>
 }
 
 /// The costs that a text gives a program's gaps; 1 each without a text.
-pub(crate) fn read_gap_costs(
+pub fn read_gap_costs(
     alloc: Global,
     text: Option<&[u8]>,
     program: &Program,

@@ -8,7 +8,7 @@ use Rattle.tso_program.specs.declared.shown.Shown.{Shown}
 use Rattle.tso_program.specs.declared.shown.Shown.TheVariants.{All, Only}
 use Rattle.litmus_reader.specs.Names.{Names}
 use Rattle.litmus_reader.specs.Outcomes.{outcome_text}
-use Rattle.report.specs.Places.{gaps_text}
+use Rattle.report.specs.Places.{gap_text, gaps_text}
 
 -- a text after a space, or nothing where there is no text
 abbrev pub after_space : List ℕ → List ℕ
@@ -21,6 +21,10 @@ outcome_line names shown outcome = codes "outcome:" ++ after_space (outcome_text
 -- the gaps by their places, ascending
 abbrev pub passed_line : Listing → SetOfGaps → List ℕ
 passed_line p gaps = codes "passed" ++ gaps_text p.threads gaps ++ 10 ∷ []
+
+-- the gap by its place
+abbrev pub without_line : Listing → ℕ → List ℕ
+without_line p gap = codes "without" ++ gap_text p.threads gap ++ 10 ∷ []
 
 -- what says that not all is shown
 abbrev pub observed : Shown → List ℕ

@@ -1,9 +1,9 @@
 //! The lines of runs and of answers.
 
 ghost use Rattle.std.specs.Prelude.{◌≡◌, IfOk, codes};
-ghost use Rattle.report.specs.Answers.{outcome_line, passed_line, observed, set_line, answer_line};
+ghost use Rattle.report.specs.Answers.{outcome_line, passed_line, without_line, observed, set_line, answer_line};
 
-use crate::places::push_gaps;
+use crate::places::{push_gap, push_gaps};
 use gap_sets::GapSet;
 use litmus_reader::{NameTable, write_outcome};
 use std::alloc::{AllocError, Global};
@@ -35,6 +35,16 @@ pub fn passed_line(alloc: Global, program: &Program, passed: &GapSet) -> Result<
 {
     let mut line = String::from_str(alloc, "passed")?;
     push_gaps(&mut line, program, passed)?;
+    line.push('\n')?;
+    Ok(line.into_bytes())
+}
+
+/// The gap that is left out of the answer.
+pub fn without_line(alloc: Global, program: &Program, gap: u8) -> Result<Vec<u8>, AllocError>
+    ensures { IfOk result (λ line. line.items ≡ without_line program.now gap) }
+{
+    let mut line = String::from_str(alloc, "without")?;
+    push_gap(&mut line, program, gap)?;
     line.push('\n')?;
     Ok(line.into_bytes())
 }

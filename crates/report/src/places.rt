@@ -18,7 +18,7 @@ pub fn push_gaps(line: &mut String, program: &Program, gaps: &GapSet) -> Result<
 }
 
 /// Puts a gap's place at the end of a line, if the program has the gap.
-fn push_gap(line: &mut String, program: &Program, gap: u8) -> Result<(), AllocError>
+pub fn push_gap(line: &mut String, program: &Program, gap: u8) -> Result<(), AllocError>
     ensures { OnOk result (string_bytes line.new ≡ string_bytes line.old ++ gap_text program.now.threads gap) }
 {
     if let Some((thread, k)) = program.gap_place(gap) {

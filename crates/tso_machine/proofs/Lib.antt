@@ -1,6 +1,7 @@
 pub mod Link
 pub mod Effects
 pub mod Runs
+pub mod Stepped
 pub mod Refused
 pub mod OneFault
 pub mod Avoided

@@ -4,5 +4,6 @@ pub mod Outcomes
 pub mod Faults
 pub mod Laws
 pub mod RunTexts
+pub mod Steps
 pub mod Examples
 pub mod Internal

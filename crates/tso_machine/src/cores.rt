@@ -1,16 +1,16 @@
 //! One thread of the machine.
-ghost use Rattle.std.specs.Prelude.{◌≡◌, ◌<◌, ℕ, length, OnOk, false, [], ◌++◌, ◌∷◌, option_to_list, ◌+◌, IfErr, IfNone, Some, slice_index};
+ghost use Rattle.std.specs.Prelude.{◌≡◌, ◌<◌, ℕ, length, OnOk, false, [], ◌++◌, ◌∷◌, option_to_list, ◌+◌, IfErr, IfNone, IfOk, Some, slice_index};
 ghost use Rattle.tso_program.specs.Actions.{IsLocated};
 ghost use Rattle.tso_program.specs.declared.action.Action.TheVariants.{Stop};
 ghost use Rattle.tso_machine.specs.Machine as machine;
 ghost use Rattle.tso_machine.specs.Internal.Cores.{after_buffered, after_direct, after_action, ExecFaultIs};
 ghost use Rattle.tso_machine.specs.Faults.{waits as does_wait};
 
-use crate::Pending;
 use crate::label::{Cause, Model, StepFault};
+use crate::{Pending, ThreadState};
 use std::alloc::{AllocError, Global};
 use std::marker;
-use tso_program::{Action, Local};
+use tso_program::{Action, Items, Local};
 
 /// A thread, and its stores that wait.
 #[derive(Drop)]
@@ -41,6 +41,17 @@ impl Core {
             local,
             buffer: Vec::new(alloc),
         }
+    }
+
+    /// An equal thread, as it is shown.
+    pub(crate) fn thread(&self, alloc: Global) -> Result<ThreadState, AllocError>
+        ensures { IfOk result (λ thread. thread ≡ record { local = self.now.local; waiting = self.now.buffer }) }
+    {
+        let waiting = Vec::from_slice(alloc, self.buffer.as_slice())?;
+        Ok(ThreadState {
+            local: self.local,
+            waiting: Items::of(waiting),
+        })
     }
 
     pub(crate) fn local(&self) -> Local

@@ -1,4 +1,6 @@
 //! The steps of a run, and the two machines.
+ghost use Rattle.std.specs.Prelude.{◌≡◌};
+ghost use Rattle.tso_machine.specs.Faults.{thread_of};
 
 /// One step of a run.
 #[derive(Clone, Copy, PartialEq, Eq, Debug)]
@@ -7,6 +9,17 @@ pub enum Label {
     Exec(u8),
     /// The oldest waiting store of a thread goes to memory.
     Flush(u8),
+}
+
+impl Label {
+    /// The thread of the step.
+    pub fn thread(self) -> u8
+        ensures { result ≡ thread_of self }
+    {
+        match self {
+            Label::Exec(t) | Label::Flush(t) => t,
+        }
+    }
 }
 
 /// Which machine runs a program.

@@ -8,6 +8,7 @@ mod mode;
 mod replaying;
 mod run_text;
 mod state;
+mod stepping;
 
 pub use label::{Cause, Label, Model, Pending};
 pub use laws::{
@@ -17,3 +18,4 @@ pub use laws::{
 pub use mode::Mode;
 pub use replaying::{Ended, ReplayFault, replay};
 pub use run_text::{RunFault, label_of, read_run, write_run};
+pub use stepping::{Step, ThreadState, steps};

@@ -86,7 +86,7 @@ pub fn replay(
 }
 
 /// The fault of step n.
-fn fault_at(fault: StepFault, n: usize) -> ReplayFault
+pub(crate) fn fault_at(fault: StepFault, n: usize) -> ReplayFault
     ensures { result ≡ fault_of fault n }
 {
     match fault {

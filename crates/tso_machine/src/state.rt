@@ -8,12 +8,13 @@ ghost use Rattle.tso_machine.specs.Machine as machine;
 ghost use Rattle.tso_machine.specs.Machine.{Mode, HasEnded, outcome_at};
 ghost use Rattle.tso_machine.specs.Modes.{mode_of};
 ghost use Rattle.tso_machine.specs.Internal.Cores.{state_of, first_cores, Fits, passed_gap, gap_passed_by, core_at, Finished};
-ghost use Rattle.tso_machine.specs.Faults.{StepFaultIs, IsUnfinished};
+ghost use Rattle.tso_machine.specs.Faults.{thread_of, StepFaultIs, IsUnfinished};
+ghost use Rattle.tso_machine.specs.Steps.{thread_at};
 ghost use Rattle.gap_sets.specs.declared.gap_set.TheConstants.{MAX_GAPS};
 
 use crate::cores::Core;
 use crate::label::StepFault;
-use crate::{Cause, Label, Model};
+use crate::{Cause, Label, Model, ThreadState};
 use gap_sets::GapSet;
 use std::alloc::{AllocError, Global};
 use std::marker;
@@ -47,6 +48,26 @@ impl State {
             cores,
             memory: Vec::from_slice(alloc, program.memory())?,
         })
+    }
+
+    /// The thread of a step, where there is one.
+    pub(crate) fn thread(
+        &self,
+        alloc: Global,
+        program: &Program,
+        label: Label,
+    ) -> Result<ThreadState, StepFault>
+        requires { Fits program.now self.now }
+        ensures found { IfOk result (λ thread. thread ≡ thread_at (state_of self.now) (thread_of label)) }
+        ensures err { (mode : Mode) (s : machine.State) → IfErr result (StepFaultIs program.now mode s label) }
+    {
+        match self.cores.as_slice().get(label.thread() as usize) {
+            Some(core) => match core.thread(alloc) {
+                Ok(thread) => Ok(thread),
+                Err(_) => Err(StepFault::OutOfMemory),
+            },
+            None => Err(StepFault::Refused(Cause::NoSuchThread)),
+        }
     }
 
     /// The gap that a step passes, if it passes one.

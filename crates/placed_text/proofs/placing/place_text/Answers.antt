@@ -17,7 +17,7 @@ place_gaps-requires-after_bounds g c =
     search rules
 
 pub write_placed-requires : goal.write_placed-requires
-write_placed-requires g c = none_missing c.in_ok-source.source.program c.in_ok-placed.placed.set c.in_ok-placed.ensures.placed.headline.of_program
+write_placed-requires g c = none_missing c.in_ok-source.source.program c.in_ok-found.found.placed.set c.in_ok-found.ensures.placed.headline.of_program
 
 pub returns-in_err-source-clause-fault : goal.returns-in_err-source-clause-fault
 returns-in_err-source-clause-fault g c =
@@ -31,16 +31,16 @@ returns-in_err-costs-clause-fault g c =
     err_up c.from_residual-in_err-costs.result c.in_err-costs.field-0.0 (HasNoPlacedText c.args.litmus.now costs c.args.workers) c.from_residual-in_err-costs.ensures.1
     (no_costs c.args.litmus.now costs c.args.workers c.in_ok-source.source c.in_err-costs.field-0.0 c.in_ok-source.ensures.found c.in_err-costs.ensures.refused)
 
-pub returns-in_err-placed-clause-fault : goal.returns-in_err-placed-clause-fault
-returns-in_err-placed-clause-fault g c =
+pub returns-in_err-found-clause-fault : goal.returns-in_err-found-clause-fault
+returns-in_err-found-clause-fault g c =
     let costs = option_map (λ text. text.now) c.args.costs in
-    err_up c.from_residual-in_err-placed.result c.in_err-placed.field-0.0 (HasNoPlacedText c.args.litmus.now costs c.args.workers) c.from_residual-in_err-placed.ensures.1
-    (no_placement c.args.litmus.now costs c.args.workers c.in_ok-source.source c.in_ok-costs.costs c.in_err-placed.field-0.0 c.in_ok-source.ensures.found c.in_ok-costs.ensures.given c.in_err-placed.ensures.fault)
+    err_up c.from_residual-in_err-found.result c.in_err-found.field-0.0 (HasNoPlacedText c.args.litmus.now costs c.args.workers) c.from_residual-in_err-found.ensures.1
+    (no_placement c.args.litmus.now costs c.args.workers c.in_ok-source.source c.in_ok-costs.costs c.in_err-found.field-0.0 c.in_ok-source.ensures.found c.in_ok-costs.ensures.given c.in_err-found.ensures.fault)
 
 pub returns-in-Ok-clause-placed : goal.returns-in-Ok-clause-placed
 returns-in-Ok-clause-placed g c =
     let source = c.in_ok-source.source in
-    let placed = c.in_ok-placed.placed in
+    let placed = c.in_ok-found.found.placed in
     placed_text c.args.litmus.now (option_map (λ text. text.now) c.args.costs) c.args.observed c.in-Ok.texts source c.in_ok-costs.costs placed c.in_ok-source.ensures.found c.in_ok-costs.ensures.given
-    (subst (λ (shown : Shown). IsPlacement (asked source.program shown) c.in_ok-costs.costs placed) c.shown_as-shown.ensures c.in_ok-placed.ensures.placed)
+    (subst (λ (shown : Shown). IsPlacement (asked source.program shown) c.in_ok-costs.costs placed) c.shown_as-shown.ensures c.in_ok-found.ensures.placed)
     (subst (λ (shown : Shown). AreWrittenTexts source shown placed c.in-Ok.texts) c.shown_as-shown.ensures c.in-Ok.ensures)

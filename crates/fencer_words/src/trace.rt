@@ -1,0 +1,37 @@
+//! `trace [--model MODEL] LITMUS [LABEL..]`
+
+ghost use Rattle.std.specs.Prelude.{IfOk, codes};
+ghost use Rattle.clap.specs.Words.{found_of, rows_of};
+ghost use Rattle.fencer_words.specs.CommandLines.{trace_app, IsJobOf};
+ghost use Rattle.fencer_words.specs.Commands.{IsBuiltAs};
+
+use crate::arguments::{described_command, litmus_arg, model_arg};
+use crate::job::Job;
+use crate::replay::{label_arg, run_in};
+use clap::{ArgMatches, Command};
+use std::alloc::{AllocError, Global};
+
+const FIRST: &str = "Shows a run of a program as a table, a line a step";
+
+const LAST: &str = "\
+Prints for each step its thread, its instruction, what it reads and from where, what it stores,
+which stores then wait in the thread's buffer and what reaches memory; then the two lines of
+`fencer replay`, with status 0; a refusal with status 1; what is wrong with the command line, or
+this help, with status 2. Refusals are explained in docs/formats.md.
+
+Example: fencer trace examples/SB.litmus e0 e1 e0 e1 f0 f1";
+
+pub fn trace_command<'a>(alloc: Global, models: &'a [&'a str]) -> Result<Command<'a>, AllocError>
+    ensures { IfOk result (IsBuiltAs (trace_app models.entry)) }
+{
+    described_command(alloc, "trace", FIRST, LAST)
+        .arg(model_arg(alloc, models))?
+        .arg(litmus_arg(alloc))?
+        .arg(label_arg(alloc))
+}
+
+pub fn trace_job(alloc: Global, matches: &ArgMatches<'_>) -> Result<Job, AllocError>
+    ensures { IfOk result (IsJobOf (codes "trace") (rows_of (found_of matches.now))) }
+{
+    Ok(Job::Trace(run_in(alloc, matches)?))
+}

@@ -1,0 +1,47 @@
+//! `why [--costs FILE] [--workers N] [--observed] LITMUS`
+
+ghost use Rattle.std.specs.Prelude.{IfOk, codes};
+ghost use Rattle.clap.specs.Words.{found_of, rows_of};
+ghost use Rattle.fencer_words.specs.CommandLines.{why_app, IsJobOf};
+ghost use Rattle.fencer_words.specs.Commands.{IsBuiltAs};
+
+use crate::arguments::{
+    described_command, is_flagged, litmus_arg, observed_arg, text_given, text_in, value_in,
+};
+use crate::job::{Job, Placement};
+use crate::place::{COSTS_HELP, file_arg, workers_arg, workers_of};
+use clap::{ArgMatches, Command};
+use std::alloc::{AllocError, Global};
+
+const FIRST: &str = "Shows for each fence of the answer a run that it prevents";
+
+const LAST: &str = "\
+Prints the answer line of `fencer place`, and for each of its gaps a run with the other gaps
+fenced: `without T:K`, `run LABEL ..`, the run as a table, `outcome: ..`, `passed T:K ..`, and that
+no sequential run has this outcome. Without a gap it prints that every store buffer outcome is
+sequential. The status is 0; 1 for a refusal; 2 for a bad command line or this help. Refusals are
+explained in docs/formats.md.
+
+Example: fencer why examples/SB.litmus";
+
+pub fn why_command<'a>(alloc: Global) -> Result<Command<'a>, AllocError>
+    ensures { IfOk result (IsBuiltAs why_app) }
+{
+    described_command(alloc, "why", FIRST, LAST)
+        .arg(file_arg(alloc, "costs", COSTS_HELP))?
+        .arg(workers_arg(alloc))?
+        .arg(observed_arg(alloc))?
+        .arg(litmus_arg(alloc))
+}
+
+pub fn why_job(alloc: Global, matches: &ArgMatches<'_>) -> Result<Job, AllocError>
+    ensures { IfOk result (IsJobOf (codes "why") (rows_of (found_of matches.now))) }
+{
+    Ok(Job::Why(Placement {
+        costs: text_given(alloc, matches, "costs")?,
+        workers: workers_of(value_in(matches, "workers")),
+        certificate: None,
+        observed: is_flagged(matches, "observed"),
+        litmus: text_in(alloc, matches, "litmus")?,
+    }))
+}

@@ -1,0 +1,36 @@
+use Rattle.std.proofs.Common.{◌∙◌, take, Some, sym, ap, subst, arith}
+use Rattle.tso_machine.specs.declared.label.Label.TheVariants.{Exec}
+use Rattle.tso_program.specs.declared.listing.Listing.{Listing}
+use Rattle.tso_machine.specs.Machine.{Mode, start}
+use Rattle.tso_machine.specs.Modes.{mode_of}
+use Rattle.tso_machine.specs.Internal.Cores.{Cores, state_of, Fits}
+use Rattle.tso_machine.proofs.Link.{state_of_first, first_fits}
+use Rattle.tso_machine.proofs.Runs.{run_on, faulted, no_stores_by}
+use Rattle.tso_machine.proofs.Stepped.{steps_on}
+use Rattle.tso_machine.proofs.stepping.steps.Goals as goal
+
+pub loop-n-init : goal.loop-n-init
+loop-n-init c = record {
+  reached = ap Some (sym (state_of_first c.args.program.now) ∙ ap state_of (sym c.in-Ok.ensures));
+  made = rw c.new-steps.ensures.items tt;
+  fits = subst (λ (s : Cores). Fits c.args.program.now s) (sym c.in-Ok.ensures) (first_fits c.args.program.now);
+}
+
+pub make_step-requires-clause-direct : goal.make_step-requires-clause-direct
+make_step-requires-clause-direct c =
+    no_stores_by c.args.program.now c.args.fenced.now c.args.model (take c.loop-n.n c.args.labels.now) (state_of c.loop-n.state) c.loop-n.invariant.reached
+
+pub returns-in-Err-clause-fault : goal.returns-in-Err-clause-fault
+returns-in-Err-clause-fault c =
+    rw c.fault_at.ensures (faulted c.args.program.now (mode_of c.args.program.now c.args.fenced.now c.args.model) c.args.labels.now c.loop-n.n (Exec 0) (state_of c.loop-n.state) c.in-Err.fault (omega arith) c.loop-n.invariant.reached c.in-Err.ensures.err)
+
+pub loop-n-preserved : goal.loop-n-preserved
+loop-n-preserved c =
+    let p : Listing = c.args.program.now in
+    let mode : Mode = mode_of p c.args.fenced.now c.args.model in
+    record {
+      reached = run_on p mode (start p) c.args.labels.now c.loop-n.n (Exec 0) (state_of c.loop-n.state) (state_of c.make_step.new.state) (omega arith) c.loop-n.invariant.reached c.in-Ok-make_step.ensures.made;
+      made = rw c.in-Ok-push.ensures.items (steps_on p mode (start p) c.args.labels.now c.loop-n.n (Exec 0) c.loop-n.steps.items (state_of c.loop-n.state) (state_of c.make_step.new.state) c.in-Ok-make_step.step (omega arith)
+          c.loop-n.invariant.made c.loop-n.invariant.reached c.in-Ok-make_step.ensures.made c.in-Ok-make_step.ensures.step);
+      fits = c.in-Ok-make_step.ensures.fits;
+    }

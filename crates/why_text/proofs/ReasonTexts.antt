@@ -1,0 +1,97 @@
+-- Reasons one after the other.
+use Rattle.std.proofs.Common.{◌≡◌, ◌∙◌, ◌==◌, ◌<◌, ℕ, suc, Bool, List, [], ◌∷◌, ◌++◌, true, false, arith, length, ap, refl, sym, subst}
+use Rattle.std.specs.List.{concat, filter, range_with_len}
+use Rattle.std.proofs.lemmas.Bool.Decides.{nat_tests}
+use Rattle.std.proofs.lemmas.List.{append-nil}
+use Rattle.std.proofs.lemmas.List.Folds.{concat-append}
+use Rattle.std.specs.FinSet as set
+use Rattle.gap_sets.specs.Gaps.{SetOfGaps, IsGapSet, numbers_of_set}
+use Rattle.gap_sets.specs.declared.gap_set.TheConstants.{MAX_GAPS}
+use Rattle.tso_program.specs.declared.listing.Listing.{Listing}
+use Rattle.tso_program.specs.declared.outcome.Outcome.{Outcome}
+use Rattle.tso_program.specs.declared.shown.Shown.{Shown}
+use Rattle.tso_program.specs.Fences.{gaps_in}
+use Rattle.tso_program.specs.Shown.{asked, Question}
+use Rattle.tso_machine.specs.declared.label.Label.{Label}
+use Rattle.tso_machine.specs.Machine.{Fenced, no_gaps}
+use Rattle.tso_machine.specs.Modes.{ArePassed}
+use Rattle.tso_machine.specs.Outcomes.{IsForeignRun, IsShownRun}
+use Rattle.litmus_reader.specs.declared.litmus.Litmus.{Litmus}
+use Rattle.fence_laws.proofs.GapsAvoided.{passed_gaps_tell}
+use Rattle.cover_solver.specs.Facts as facts
+use Rattle.cover_solver.specs.Verdicts.{PassesNoneOf}
+use Rattle.why_text.specs.WhyTexts.{IsReason, AreReasons, TellsReasons, TellsWhy, all_sequential, reason_text, reasons_or_none}
+
+-- a foreign run that passes none of some gaps is a run with these gaps fenced
+pub runs_fenced : (run : facts.Foreign) (gaps : SetOfGaps) → facts.IsForeignValue run → PassesNoneOf gaps run → IsShownRun run.question (Fenced (gaps_in run.question.program gaps)) run.labels run.outcome
+runs_fenced run gaps is none =
+    let (whole, is_run, shows) = is.foreign.is_run in
+    (whole, (passed_gaps_tell run.question.program gaps run.passed run.labels whole is_run is.passed).1 none, shows)
+
+-- so its lines are a reason
+pub reason_of : (source : Litmus Listing) (shown : Shown) (gaps : SetOfGaps) (gap : ℕ) (run : facts.Foreign) (table text : List ℕ) → run.question ≡ asked source.program shown → facts.IsForeignValue run
+    → PassesNoneOf (set.remove gaps gap) run → text ≡ reason_text source shown gap run.labels table run.outcome run.passed → IsReason source shown gaps gap text
+reason_of source shown gaps gap run table text of_question is none printed =
+    let fenced = runs_fenced run (set.remove gaps gap) is none in
+    record {
+      labels = run.labels;
+      outcome = run.outcome;
+      foreign = subst (λ (q : Question). IsForeignRun q run.labels run.outcome) of_question is.foreign;
+      fenced = subst (λ (q : Question). IsShownRun q (Fenced (gaps_in q.program (set.remove gaps gap))) run.labels run.outcome) of_question fenced;
+      passed = run.passed;
+      passes = subst (λ (q : Question). ArePassed q.program (Fenced no_gaps) run.labels run.passed) of_question is.passed;
+      table = table;
+      printed = printed;
+    }
+
+-- the gaps are in the set, and gap numbers
+abbrev pub AreHeld : SetOfGaps → List ℕ → Type 0
+AreHeld gaps [] = Unit {0}
+AreHeld gaps (gap ∷ more) = ((set.contains gaps gap ≡ true) × (gap < MAX_GAPS)) × AreHeld gaps more
+
+held_next : (gaps : SetOfGaps) → IsGapSet gaps → (gap : ℕ) (more : List ℕ) → AreHeld gaps (filter (set.contains gaps) more) → (b : Bool) → set.contains gaps gap ≡ b → AreHeld gaps (filter (set.contains gaps) (gap ∷ more))
+held_next gaps small gap more rest true e = rw e ((e, small gap e), rest)
+held_next gaps small gap more rest false e = rw e rest
+
+held_of : (gaps : SetOfGaps) → IsGapSet gaps → (numbers : List ℕ) → AreHeld gaps (filter (set.contains gaps) numbers)
+held_of gaps small [] = tt
+held_of gaps small (gap ∷ more) = held_next gaps small gap more (held_of gaps small more) (set.contains gaps gap) refl
+
+-- as those of the set are
+pub numbers_are_held : (gaps : SetOfGaps) → IsGapSet gaps → AreHeld gaps (numbers_of_set gaps)
+unfolding numbers_of_set
+numbers_are_held gaps small = held_of gaps small (range_with_len 0 MAX_GAPS)
+
+-- the first is, and those after it are
+pub first_held : (gaps : SetOfGaps) (left : List ℕ) (gap : ℕ) (more : List ℕ) → left ≡ gap ∷ more → AreHeld gaps left → ((set.contains gaps gap ≡ true) × (gap < MAX_GAPS)) × AreHeld gaps more
+first_held gaps left gap more is held = subst (AreHeld gaps) is held
+
+-- the line of the answer and what follows it
+pub says_why : (source : Litmus Listing) (shown : Shown) (gaps : SetOfGaps) (line all text : List ℕ) → TellsReasons source shown gaps (numbers_of_set gaps) all → text ≡ line ++ reasons_or_none all → TellsWhy source shown gaps line text
+says_why source shown gaps line all text (reasons, each, is) printed = record { reasons = reasons; each = each; printed = printed ∙ ap (λ (t : List ℕ). line ++ reasons_or_none t) is }
+
+not_zero : (n : ℕ) → (suc n == 0) ≡ true → ⊥
+not_zero n e = grind (arith, nat_tests)
+
+-- of a text without a byte, and of one with some
+pub none_said : (text : List ℕ) → (length text == 0) ≡ true → all_sequential ≡ reasons_or_none text
+none_said [] none = refl
+none_said (byte ∷ bytes) none = absurd (not_zero (length bytes) none)
+
+pub some_said : (text : List ℕ) → (length text == 0) ≡ false → text ≡ reasons_or_none text
+some_said [] some = absurd cc
+some_said (byte ∷ bytes) some = refl
+
+-- one more
+pub one_more_reason : (source : Litmus Listing) (shown : Shown) (gaps : SetOfGaps) (so_far : List ℕ) (texts : List (List ℕ)) (gap : ℕ) (text : List ℕ) → AreReasons source shown gaps so_far texts
+    → IsReason source shown gaps gap text → AreReasons source shown gaps (so_far ++ gap ∷ []) (texts ++ text ∷ [])
+one_more_reason source shown gaps [] [] gap text are is = (is, tt)
+one_more_reason source shown gaps [] (t ∷ texts) gap text are is = absurd are
+one_more_reason source shown gaps (g ∷ so_far) [] gap text are is = absurd are
+one_more_reason source shown gaps (g ∷ so_far) (t ∷ texts) gap text are is = (are.0, one_more_reason source shown gaps so_far texts gap text are.1 is)
+
+-- the texts with one more
+pub tells_more : (source : Litmus Listing) (shown : Shown) (gaps : SetOfGaps) (so_far : List ℕ) (all : List ℕ) (gap : ℕ) (text : List ℕ) → TellsReasons source shown gaps so_far all
+    → IsReason source shown gaps gap text → TellsReasons source shown gaps (so_far ++ gap ∷ []) (all ++ text)
+tells_more source shown gaps so_far all gap text (texts, are, is) reason =
+    (texts ++ text ∷ [], one_more_reason source shown gaps so_far texts gap text are reason, ap (λ (t : List ℕ). t ++ text) is ∙ sym (concat-append texts (text ∷ []) ∙ ap (λ (t : List ℕ). concat texts ++ t) (append-nil text)))

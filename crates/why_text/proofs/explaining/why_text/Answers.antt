@@ -1,0 +1,52 @@
+use Rattle.std.proofs.Common.{ℕ, subst}
+use Rattle.std.specs.Prelude.{option_map}
+use Rattle.tso_program.specs.declared.shown.Shown.{Shown}
+use Rattle.tso_program.specs.Shown.{asked}
+use Rattle.litmus_reader.specs.Shown.{shown_as, question_of}
+use Rattle.report.specs.Answers.{answer_line}
+use Rattle.fence_place.specs.Placements.{IsPlacement}
+use Rattle.placed_text.specs.TextFaults.{HasNoPlacedText}
+use Rattle.placed_text.proofs.Judged.{one_each, no_program, no_costs, no_placement}
+use Rattle.cover_judge.proofs.Answered.{err_up}
+use Rattle.why_text.specs.WhyTexts.{TellsWhy}
+use Rattle.why_text.proofs.explaining.why_text.Goals as goal
+
+pub place_gaps-requires-after_bounds : goal.place_gaps-requires-after_bounds
+place_gaps-requires-after_bounds g c κs within =
+    one_each c.in_ok-source.source.program (option_map (λ text. text.now) c.args.costs) c.in_ok-costs.costs c.in_ok-costs.ensures.given
+
+pub returns-in-Ok-clause-told : goal.returns-in-Ok-clause-told
+returns-in-Ok-clause-told g c =
+    let source = c.in_ok-source.source in
+    let shown = shown_as source c.args.observed in
+    let placed = c.in_ok-found.found.placed in
+    let text = c.in-Ok.text.items in
+    let is : IsPlacement (question_of source c.args.observed) c.in_ok-costs.costs placed = subst (λ (s : Shown). IsPlacement (asked source.program s) c.in_ok-costs.costs placed) c.shown_as-shown.ensures c.in_ok-found.ensures.placed in
+    record {
+      source = source;
+      of_text = c.in_ok-source.ensures.found;
+      gap_costs = c.in_ok-costs.costs;
+      given = c.in_ok-costs.ensures.given;
+      gaps = placed.set;
+      answer = is.answer;
+      told = subst (λ (cost : ℕ). TellsWhy source shown placed.set (answer_line source.program shown placed.set cost) text) is.cost
+          (subst (λ (s : Shown). TellsWhy source s placed.set (answer_line source.program s placed.set placed.cost) text) c.shown_as-shown.ensures c.in-Ok.ensures);
+    }
+
+pub returns-in_err-source-clause-fault : goal.returns-in_err-source-clause-fault
+returns-in_err-source-clause-fault g c =
+    let costs = option_map (λ text. text.now) c.args.costs in
+    err_up c.from_residual.result c.in_err-source.field-0.0 (HasNoPlacedText c.args.litmus.now costs c.args.workers) c.from_residual.ensures.1
+    (no_program c.args.litmus.now costs c.args.workers c.in_err-source.field-0.0 c.in_err-source.ensures.refused)
+
+pub returns-in_err-costs-clause-fault : goal.returns-in_err-costs-clause-fault
+returns-in_err-costs-clause-fault g c =
+    let costs = option_map (λ text. text.now) c.args.costs in
+    err_up c.from_residual-in_err-costs.result c.in_err-costs.field-0.0 (HasNoPlacedText c.args.litmus.now costs c.args.workers) c.from_residual-in_err-costs.ensures.1
+    (no_costs c.args.litmus.now costs c.args.workers c.in_ok-source.source c.in_err-costs.field-0.0 c.in_ok-source.ensures.found c.in_err-costs.ensures.refused)
+
+pub returns-in_err-found-clause-fault : goal.returns-in_err-found-clause-fault
+returns-in_err-found-clause-fault g c =
+    let costs = option_map (λ text. text.now) c.args.costs in
+    err_up c.from_residual-in_err-found.result c.in_err-found.field-0.0 (HasNoPlacedText c.args.litmus.now costs c.args.workers) c.from_residual-in_err-found.ensures.1
+    (no_placement c.args.litmus.now costs c.args.workers c.in_ok-source.source c.in_ok-costs.costs c.in_err-found.field-0.0 c.in_ok-source.ensures.found c.in_ok-costs.ensures.given c.in_err-found.ensures.fault)

@@ -1,0 +1,102 @@
+//! Why the fences of a placement in the program of a text are needed.
+ghost use Rattle.std.specs.Prelude.{◌≡◌, IfErr, IfOk, length, option_map};
+ghost use Rattle.gap_sets.specs.Gaps.{numbers_of_set};
+ghost use Rattle.tso_program.specs.Listings.{gap_count};
+ghost use Rattle.tso_program.specs.Shown.{asked};
+ghost use Rattle.tso_machine.specs.Outcomes.{IsTheAnswer};
+ghost use Rattle.report.specs.Answers.{answer_line};
+ghost use Rattle.placed_text.specs.TextFaults.{HasNoPlacedText};
+ghost use Rattle.why_text.specs.WhyTexts.{reasons_or_none, IsWhyText, TellsReasons, TellsWhy};
+
+use crate::reasons::{reason_lines, run_without};
+use cover_solver::Solver;
+use gap_sets::{Costs, GapSet};
+use litmus_text::Litmus;
+use placed_text::{Found, TextFault, place_gaps, read_gap_costs, read_program};
+use report::answer_line;
+use std::alloc::{AllocError, Global};
+use std::sync::Wait;
+use std::thread::Threads;
+use tso_program::{Program, Shown};
+
+/// Why each gap of the answer is needed.
+fn reasons(
+    alloc: Global,
+    litmus: &Litmus<Program>,
+    shown: &Shown,
+    costs: &Costs,
+    solver: &Solver,
+    set: &GapSet,
+) -> Result<Vec<u8>, AllocError>
+    requires question { solver.now.question ≡ asked litmus.now.program shown.now }
+    requires answer { IsTheAnswer solver.now.question costs.now set.now }
+    requires one_each { length costs.now ≡ gap_count solver.now.question.program.threads }
+    ensures { IfOk result (λ lines. TellsReasons litmus.now shown.now set.now (numbers_of_set set.now) lines.items) }
+{
+    // For the proof alone: a set has gap numbers.
+    let _ = set.len();
+    let mut lines = Vec::new(alloc);
+    for gap in set.iter() {
+        let run = run_without(solver, costs, set, gap)?;
+        let reason = reason_lines(alloc, litmus, shown, set, gap, &run)?;
+        lines.extend_from_slice(&reason)?;
+    }
+    Ok(lines)
+}
+
+/// The reasons, or a line that no gap is needed.
+fn reasons_or_none(alloc: Global, reasons: Vec<u8>) -> Result<Vec<u8>, AllocError>
+    ensures { IfOk result (λ said. said.items ≡ reasons_or_none reasons.items) }
+{
+    if reasons.is_empty() {
+        Vec::from_slice(alloc, b"Every store buffer outcome is sequential.\n")
+    } else {
+        Ok(reasons)
+    }
+}
+
+/// The answer line, and why each gap of the answer is needed.
+fn explained(
+    alloc: Global,
+    litmus: &Litmus<Program>,
+    shown: &Shown,
+    costs: &Costs,
+    found: &Found,
+) -> Result<Vec<u8>, AllocError>
+    requires question { found.now.solver.question ≡ asked litmus.now.program shown.now }
+    requires answer { IsTheAnswer found.now.solver.question costs.now found.now.placed.set }
+    requires one_each { length costs.now ≡ gap_count found.now.solver.question.program.threads }
+    ensures { IfOk result (λ text. TellsWhy litmus.now shown.now found.now.placed.set (answer_line litmus.now.program shown.now found.now.placed.set found.now.placed.cost) text.items) }
+{
+    let set = found.placed.set;
+    let reasons = reasons(alloc, litmus, shown, costs, &found.solver, &set)?;
+    let said = reasons_or_none(alloc, reasons)?;
+    let mut lines = answer_line(alloc, &litmus.program, shown, set, found.placed.cost)?;
+    lines.extend_from_slice(&said)?;
+    Ok(lines)
+}
+
+/// Places fences in the program of a litmus text as [`placed_text::place_text`] does, and says why each of them is
+/// needed: after the answer line, for each gap of the answer a run with the other gaps fenced, whose outcome no
+/// sequential run has.
+pub fn why_text<R: Threads + Sync, W: Wait + Sync>(
+    rt: &R,
+    wait: &W,
+    alloc: Global,
+    litmus: &[u8],
+    costs: Option<&[u8]>,
+    observed: bool,
+    workers: u8,
+) -> Result<Vec<u8>, TextFault>
+    ensures told { IfOk result (λ text. IsWhyText litmus.now (option_map (λ text. text.now) costs.entry) observed text.items) }
+    ensures fault { IfErr result (HasNoPlacedText litmus.now (option_map (λ text. text.now) costs.entry) workers) }
+{
+    let source = read_program(alloc, litmus)?;
+    let costs = read_gap_costs(alloc, costs, &source.program)?;
+    let shown = source.shown_as(observed);
+    let found = place_gaps(rt, wait, alloc, &source.program, &shown, &costs, workers)?;
+    match explained(alloc, &source, &shown, &costs, &found) {
+        Ok(text) => Ok(text),
+        Err(_) => Err(TextFault::OutOfMemory),
+    }
+}

@@ -1,0 +1,7 @@
+//! Why the fences of a placement are needed: for each of them a run that it prevents.
+#![tactic(auto)]
+
+mod explaining;
+mod reasons;
+
+pub use explaining::why_text;

@@ -1,0 +1,109 @@
+//! Why a gap of the answer is needed.
+ghost use Rattle.std.specs.Prelude.{◌≡◌, ◌<◌, true, IfOk, length};
+ghost use Rattle.std.specs.FinSet as set;
+ghost use Rattle.gap_sets.specs.declared.gap_set.TheConstants.{MAX_GAPS};
+ghost use Rattle.tso_program.specs.Shown.{asked};
+ghost use Rattle.tso_machine.specs.Outcomes.{IsTheAnswer};
+ghost use Rattle.cover_solver.specs.Facts as facts;
+ghost use Rattle.cover_solver.specs.Verdicts.{PassesNoneOf};
+ghost use Rattle.tso_program.specs.Listings.{gap_count};
+ghost use Rattle.why_text.specs.WhyTexts.{run_line, reason_text, IsReason};
+
+use cover_solver::{ForeignRun, Oracle, Solver, Verdict};
+use gap_sets::{Costs, GapSet};
+use litmus_text::Litmus;
+use report::{outcome_line, passed_line, without_line};
+use run_table::run_table;
+use std::alloc::{AllocError, Global};
+use tso_machine::{Label, Model, steps, write_run};
+use tso_program::{Program, Shown};
+
+/// The other gaps of the answer don't serve: a run that passes none of them.
+pub(crate) fn run_without(
+    solver: &Solver,
+    costs: &Costs,
+    gaps: &GapSet,
+    gap: u8,
+) -> Result<ForeignRun, AllocError>
+    requires answer { IsTheAnswer solver.now.question costs.now gaps.now }
+    requires one_each { length costs.now ≡ gap_count solver.now.question.program.threads }
+    requires gap { gap < MAX_GAPS }
+    requires held { set.contains gaps.now gap ≡ true }
+    ensures question { IfOk result (λ run. run.question ≡ solver.now.question) }
+    ensures foreign { IfOk result facts.IsForeignValue }
+    ensures avoids { IfOk result (PassesNoneOf (set.remove gaps.now gap)) }
+{
+    // For the proof alone: no gap is free, and a set has gap numbers.
+    let _ = (costs.len(), gaps.len());
+    match solver.ask(&gaps.without(gap)) {
+        Ok(Verdict::Foreign(run)) => Ok(run),
+        Ok(Verdict::Serves(_)) => unreachable!(),
+        Err(_) => Err(AllocError),
+    }
+}
+
+/// `run e0 f0` and the like
+fn run_line(alloc: Global, labels: &[Label]) -> Result<Vec<u8>, AllocError>
+    ensures { IfOk result (λ line. line.items ≡ run_line labels.now) }
+{
+    let mut line = Vec::from_slice(alloc, b"run ")?;
+    line.extend_from_slice(&write_run(alloc, labels)?)?;
+    line.push(b'\n')?;
+    Ok(line)
+}
+
+/// The table of a run where the other gaps of the answer are fenced.
+fn table_of(
+    alloc: Global,
+    litmus: &Litmus<Program>,
+    others: &GapSet,
+    run: &ForeignRun,
+) -> Result<Vec<u8>, AllocError> {
+    match steps(alloc, run.program(), others, Model::Buffered, run.labels()) {
+        Ok(steps) => run_table(alloc, litmus, &steps),
+        Err(_) => Err(AllocError),
+    }
+}
+
+/// A gap, and a run: its labels, its table, what it leaves, the gaps that it passes, and that no sequential run leaves
+/// this.
+fn lines_with(
+    alloc: Global,
+    litmus: &Litmus<Program>,
+    shown: &Shown,
+    gap: u8,
+    run: &ForeignRun,
+    table: &[u8],
+) -> Result<Vec<u8>, AllocError>
+    ensures { IfOk result (λ lines. lines.items ≡ reason_text litmus.now shown.now gap run.now.labels table.now run.now.outcome run.now.passed) }
+{
+    let labels = run_line(alloc, run.labels())?;
+    let outcome = outcome_line(alloc, &litmus.names, shown, run.outcome())?;
+    let passed = passed_line(alloc, &litmus.program, &run.passed())?;
+    let mut lines = without_line(alloc, &litmus.program, gap)?;
+    lines.extend_from_slice(&labels)?;
+    lines.extend_from_slice(table)?;
+    lines.extend_from_slice(&outcome)?;
+    lines.extend_from_slice(&passed)?;
+    lines.extend_from_slice(b"No sequential run has this outcome.\n")?;
+    Ok(lines)
+}
+
+/// Why a gap of the answer is needed, by a run that passes none of the others.
+pub(crate) fn reason_lines(
+    alloc: Global,
+    litmus: &Litmus<Program>,
+    shown: &Shown,
+    gaps: &GapSet,
+    gap: u8,
+    run: &ForeignRun,
+) -> Result<Vec<u8>, AllocError>
+    requires question { run.now.question ≡ asked litmus.now.program shown.now }
+    requires foreign { facts.IsForeignValue run.now }
+    requires avoids { PassesNoneOf (set.remove gaps.now gap) run.now }
+    requires gap { gap < MAX_GAPS }
+    ensures { IfOk result (λ lines. IsReason litmus.now shown.now gaps.now gap lines.items) }
+{
+    let table = table_of(alloc, litmus, &gaps.without(gap), run)?;
+    lines_with(alloc, litmus, shown, gap, run, &table)
+}
