@@ -1,60 +1,37 @@
 -- Runs that are replayed in turn, and the first that is not a run.
 use Rattle.std.proofs.Common.{◌≡◌, ◌≢◌, ℕ, zero, suc, ◌<◌, List, [], ◌∷◌, ◌++◌, Some, length, All, refl, sym, ap, ◌∙◌, subst, arith}
 use Rattle.std.specs.List.{AllZip, slice_get}
-use Rattle.std.specs.FinSet as set
 use Rattle.std.proofs.Math.Seq.{take-append_seam}
 use Rattle.std.proofs.lemmas.List.{append_assoc, append-nil}
 use Rattle.std.proofs.lemmas.Slice.Zip.{AllZip-long}
 use Rattle.tso_program.specs.declared.listing.Listing.{Listing}
 use Rattle.tso_program.specs.declared.outcome.Outcome.{Outcome}
-use Rattle.tso_program.specs.declared.shown.Shown.{Shown}
-use Rattle.tso_program.specs.Shown.{Question, show, asked}
+use Rattle.tso_program.specs.Shown.{Question}
 use Rattle.tso_machine.specs.declared.label.Label.{Label}
 use Rattle.tso_machine.specs.declared.label.Model.{Model}
-use Rattle.tso_machine.specs.declared.label.Model.TheVariants as models
 use Rattle.tso_machine.specs.declared.replaying.Ended.{Ended}
 use Rattle.tso_machine.specs.declared.replaying.ReplayFault.{ReplayFault}
 use Rattle.tso_machine.specs.declared.replaying.ReplayFault.TheVariants as replays
 use Rattle.gap_sets.specs.Gaps.{SetOfGaps}
 use Rattle.cert_check.specs.declared.fault.RunsFault.{RunsFault}
 use Rattle.cert_check.specs.declared.fault.RunsFault.TheVariants as runs
-use Rattle.tso_machine.specs.Machine.{Mode, Fenced, IsRun}
-use Rattle.tso_machine.specs.Modes.{mode_of, unfenced, ArePassed}
-use Rattle.tso_machine.specs.Outcomes.{IsShownRun}
+use Rattle.tso_machine.specs.Machine.{Mode}
+use Rattle.tso_machine.specs.Modes.{unfenced, ArePassed}
+use Rattle.tso_machine.specs.Outcomes.{IsShownRun, IsReplayOf}
 use Rattle.tso_machine.specs.Faults.{ReplayFaultIs}
 use Rattle.tso_machine.proofs.Refused.{no_fault}
-use Rattle.fence_laws.proofs.GapsAvoided.{empty_fences_nothing}
 use Rattle.cert_check.specs.Faults.{IsRunOf, IsFirstWithout}
-use Rattle.cert_check.specs.Internal.Replays.{IsReplayOf, AreReplaysOf, IsNoRunAt, IsFaultFrom, RunsFaultIs}
-
--- with the empty set fenced a model's machine is the one with no gap fenced
-pub machine_is : (p : Listing) (model : Model) → mode_of p set.empty model ≡ unfenced model
-machine_is p models.Sequential = refl
-machine_is p models.Buffered = ap Fenced (empty_fences_nothing p)
+use Rattle.cert_check.specs.Internal.Replays.{AreReplaysOf, IsNoRunAt, IsFaultFrom, RunsFaultIs}
 
 -- a fault of a replay says that the labels are no run
-pub no_run : (p : Listing) (mode machine : Mode) (labels : List Label) (why : ReplayFault) → mode ≡ machine → ReplayFaultIs p mode labels why → why ≢ replays.OutOfMemory →
-    IsRunOf p machine labels → ⊥
-no_run p mode machine labels why same fault no_memory run =
-    let (o, is_run) = subst (λ m. IsRunOf p m labels) (sym same) run in no_memory (no_fault p mode labels o why is_run fault)
+pub no_run : (p : Listing) (machine : Mode) (labels : List Label) (why : ReplayFault) → ReplayFaultIs p machine labels why → why ≢ replays.OutOfMemory → IsRunOf p machine labels → ⊥
+no_run p machine labels why fault no_memory (o, is_run) = no_memory (no_fault p machine labels o why is_run fault)
 
-module _ (p : Listing) (model : Model) (labels : List Label) (empty : SetOfGaps) (is_empty : empty ≡ set.empty) where
-  same_machine : mode_of p empty model ≡ unfenced model
-  same_machine = ap (λ s. mode_of p s model) is_empty ∙ machine_is p model
-
-  -- what a replay says of a run, where its outcome is as it is shown
-  pub replayed_is : (shown : Shown) (end kept : Ended) → IsRun p (mode_of p empty model) labels end.outcome → ArePassed p (mode_of p empty model) labels end.passed →
-      kept ≡ record end { outcome = show shown end.outcome } → IsReplayOf (asked p shown) model labels kept
-  replayed_is shown end kept run passed is = subst (IsReplayOf (asked p shown) model labels) (sym is) (record {
-    is_run = (end.outcome, subst (λ m. IsRun p m labels end.outcome) same_machine run, refl);
-    passed = subst (λ m. ArePassed p m labels end.passed) same_machine passed;
-  })
-
-  -- and what it says where the labels are not a run
-  pub fault_is : (why : ReplayFault) (number : ℕ) (fault : RunsFault) → ReplayFaultIs p (mode_of p empty model) labels why → IsFaultFrom why number fault →
-      IsNoRunAt p (unfenced model) labels number fault
-  fault_is why number (runs.NoRun n) h (at, no_memory) = (at, no_run p (mode_of p empty model) (unfenced model) labels why same_machine h no_memory)
-  fault_is why number runs.OutOfMemory h none = tt
+-- what a replay says where the labels are not a run
+pub fault_is : (p : Listing) (machine : Mode) (labels : List Label) (why : ReplayFault) (number : ℕ) (fault : RunsFault) → ReplayFaultIs p machine labels why → IsFaultFrom why number fault →
+    IsNoRunAt p machine labels number fault
+fault_is p machine labels why number (runs.NoRun n) h (at, no_memory) = (at, no_run p machine labels why h no_memory)
+fault_is p machine labels why number runs.OutOfMemory h none = tt
 
 -- lists in step, and one value more
 zip_more : {A B : Type 0} (R : A → B → Type 0) (xs : List A) (ys : List B) (x : A) (y : B) → AllZip R xs ys → R x y → AllZip R (xs ++ x ∷ []) (ys ++ y ∷ [])

@@ -3,17 +3,18 @@ ghost use Rattle.std.specs.Prelude.{◌≡◌, ◌↔◌, IsTrue, IfOk, IfErr, M
 ghost use Rattle.std.specs.BTreeSet.{contains};
 ghost use Rattle.std.specs.Borrow.{Bor};
 ghost use Rattle.tso_program.specs.declared.outcome.Outcome.{Outcome};
-ghost use Rattle.tso_program.specs.Shown.{show, asked};
+ghost use Rattle.tso_program.specs.Shown.{asked};
 ghost use Rattle.tso_machine.specs.Modes.{unfenced};
+ghost use Rattle.tso_machine.specs.Outcomes.{IsReplayOf};
 ghost use Rattle.cert_check.specs.Faults.{IsFirstWithout};
-ghost use Rattle.cert_check.specs.Internal.Replays.{IsReplayOf, AreReplaysOf, borrowed_cmp, IsOutside, IsNoRunAt, IsFaultFrom, RunsFaultIs};
+ghost use Rattle.cert_check.specs.Internal.Replays.{AreReplaysOf, borrowed_cmp, IsOutside, IsNoRunAt, IsFaultFrom, RunsFaultIs};
 
 use crate::fault::RunsFault;
 use cert_forest::Runs;
 use gap_sets::GapSet;
 use std::alloc::{AllocError, Global};
 use std::collections::BTreeSet;
-use tso_machine::{Ended, Label, Model, ReplayFault, replay};
+use tso_machine::{Ended, Label, Model, ReplayFault, replay_shown};
 use tso_program::{Outcome, Program, Shown};
 
 /// What the replays of runs leave, by the numbers of the runs.
@@ -58,19 +59,10 @@ fn replay_one(
     ensures replay { IfOk result (IsReplayOf (asked program.now shown.now) model labels.now) }
     ensures fault { IfErr result (IsNoRunAt program.now (unfenced model) labels.now number) }
 {
-    match replay(alloc, program, &GapSet::empty(), model, labels) {
-        Ok(end) => Ok(as_shown(end, shown)),
+    match replay_shown(alloc, program, shown, model, labels) {
+        Ok(end) => Ok(end),
         Err(fault) => Err(runs_fault(fault, number)),
     }
-}
-
-/// The replay, with what is shown of its outcome.
-fn as_shown(ended: Ended, shown: &Shown) -> Ended
-    ensures { result ≡ record ended { outcome = show shown.now ended.outcome } }
-{
-    let mut ended = ended;
-    ended.outcome.show(shown);
-    ended
 }
 
 /// The fault of the replay of this number: the labels are no run, if memory isn't wanting.

@@ -20,9 +20,9 @@ use Rattle.tree_laws.proofs.Lists.{found_is_here}
 use Rattle.cover_solver.specs.declared.fault.ForeignFault.TheVariants as foreign
 use Rattle.cover_solver.specs.ForeignFaults.{ForeignFaultIs, of_replay}
 use Rattle.tso_machine.specs.Machine.{Mode, Sequential, Fenced, no_gaps, outcome_at, IsRun}
-use Rattle.tso_machine.specs.Modes.{mode_of, ArePassed}
+use Rattle.tso_machine.specs.Modes.{ArePassed}
 use Rattle.tso_machine.specs.Outcomes.{IsShownRun, IsForeignRun}
-use Rattle.fence_laws.proofs.GapsAvoided.{empty_fences_nothing, fenced_runs_avoid}
+use Rattle.fence_laws.proofs.GapsAvoided.{fenced_runs_avoid}
 use Rattle.cert_forest.specs.Trees.{Cover}
 use Rattle.tree_laws.proofs.ListedOutcomes.{fenced_tree_serves}
 use Rattle.cover_solver.specs.Covers.{IsWholeCover}
@@ -60,10 +60,6 @@ serving_is q gaps outcomes tree forward list is = record {
   serves = fenced_tree_serves q gaps outcomes tree forward list.exact is.valid;
   tree = λ others are. subst (λ os. IsWholeCover q (Fenced (gaps_in q.program gaps)) os tree) (one_list_of_outcomes q outcomes others list are) is;
 }
-
--- with the empty set fenced the machine is the one with no gap fenced
-pub no_gap : (p : Listing) (empty : SetOfGaps) → empty ≡ set.empty → mode_of p empty models.Buffered ≡ Fenced no_gaps
-no_gap p empty same = ap (λ gaps. Fenced (gaps_in p gaps)) same ∙ ap Fenced (empty_fences_nothing p)
 
 -- a run has one outcome
 pub one_end : (p : Listing) (mode : Mode) (labels : List Label) (a b : Outcome) → IsRun p mode labels a → IsRun p mode labels b → a ≡ b

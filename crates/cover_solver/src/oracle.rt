@@ -10,7 +10,7 @@ ghost use Rattle.cover_solver.specs.Verdicts.{IsVerdictOf};
 
 use crate::cover::cover_all;
 use crate::fault::{SolveFault, Stop};
-use crate::foreign::{ForeignRun, replay_unfenced};
+use crate::foreign::ForeignRun;
 use crate::ordered::copies;
 use crate::served::Served;
 use crate::table::SeqTable;
@@ -20,7 +20,7 @@ use gap_sets::GapSet;
 use run_maker::MadeRun;
 use std::alloc::{AllocError, Global};
 use std::marker::Model;
-use tso_machine::ReplayFault;
+use tso_machine::{Model, ReplayFault, replay_shown};
 use tso_program::{Outcome, Program, Shown};
 
 /// What is said of a set of gaps.
@@ -128,7 +128,7 @@ impl Solver {
         requires new { Contains self.now.outcomes run.outcome → ⊥ }
         ensures { IfOk result (IsVerdictOf self.now.question set.now) }
     {
-        match replay_unfenced(self.alloc, &self.program, &self.shown, &run.labels) {
+        match replay_shown(self.alloc, &self.program, &self.shown, Model::Buffered, &run.labels) {
             Ok(ended) => {
                 let program = self.program.copy()?;
                 Ok(Verdict::Foreign(ForeignRun::of(program, self.shown, run.labels, ended)))

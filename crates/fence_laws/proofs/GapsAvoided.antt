@@ -50,11 +50,3 @@ passed_gaps_tell p gaps passed labels o is_run are_passed = (
   (λ fenced gap there in_set. ((fenced_runs_avoid p gaps labels o).0 fenced).1 gap in_set ((are_passed gap).0 there)),
   (λ none. (fenced_runs_avoid p gaps labels o).1 (is_run, (λ gap in_set passes. none gap ((are_passed gap).1 passes) in_set))),
 )
-
--- the empty set has no gap
-pub empty_fences_nothing : TheEmptySetFencesNothing
-empty_fences_nothing p = fun_ext (λ t. fun_ext (λ k. none (gap_number p.threads t k)))
-  where
-    none : (o : Option ℕ) → option_map_or (set.contains (set.empty {R = nat_cmp})) o false ≡ false
-    none None = refl
-    none (Some gap) = set.contains-empty nat_cmp gap

@@ -5,6 +5,7 @@ pub mod Stepped
 pub mod Refused
 pub mod OneFault
 pub mod Avoided
+pub mod Unfenced
 pub mod RunLabels
 pub mod RunsRead
 pub mod ExamplesTold

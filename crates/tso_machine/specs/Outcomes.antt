@@ -9,11 +9,19 @@ use Rattle.tso_program.specs.Shown.{Question, show}
 use Rattle.tso_program.specs.Listings.{gap_count}
 use Rattle.tso_program.specs.Fences.{Gaps, gaps_in, fence}
 use Rattle.tso_machine.specs.declared.label.Label.{Label}
+use Rattle.tso_machine.specs.declared.label.Model.{Model}
+use Rattle.tso_machine.specs.declared.replaying.Ended.{Ended}
 use Rattle.tso_machine.specs.Machine.{Mode, Sequential, Fenced, no_gaps, IsRun}
+use Rattle.tso_machine.specs.Modes.{unfenced, ArePassed}
 
 -- the labels are a run of the mode's machine, and this is shown of its outcome
 abbrev pub IsShownRun : Question → Mode → List Label → Outcome → Type 0
 IsShownRun q mode labels o = (whole : Outcome) × IsRun q.program mode labels whole × (o ≡ show q.shown whole)
+
+-- the labels are a run with no gap fenced, of which this outcome is shown, and which passes these gaps
+pub record IsReplayOf (q : Question) (model : Model) (labels : List Label) (ended : Ended) : Type 0 where
+  pub is_run : IsShownRun q (unfenced model) labels ended.outcome
+  pub passed : ArePassed q.program (unfenced model) labels ended.passed
 
 -- some run of the mode's machine shows the outcome
 abbrev pub AllowsShown : Question → Mode → Outcome → Type 0

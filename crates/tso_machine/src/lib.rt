@@ -16,6 +16,6 @@ pub use laws::{
     the_first_fault_is_unique,
 };
 pub use mode::Mode;
-pub use replaying::{Ended, ReplayFault, replay};
+pub use replaying::{Ended, ReplayFault, replay, replay_shown};
 pub use run_text::{RunFault, label_of, read_run, write_run};
 pub use stepping::{Step, ThreadState, steps};

@@ -3,10 +3,12 @@ ghost use Rattle.std.specs.Prelude.{◌≡◌, ℕ, IfOk, IfErr, IfSome, MatchRe
 ghost use Rattle.std.specs.Option.{option_map_or};
 ghost use Rattle.std.specs.FinSet as set;
 ghost use Rattle.tso_program.specs.declared.outcome.Outcome.{Outcome};
+ghost use Rattle.tso_program.specs.Shown.{asked};
 ghost use Rattle.tso_machine.specs.declared.label.Model.TheVariants as models;
 ghost use Rattle.tso_machine.specs.declared.replaying.ReplayFault.TheVariants.{OutOfMemory};
 ghost use Rattle.tso_machine.specs.Machine.{IsRun};
-ghost use Rattle.tso_machine.specs.Modes.{mode_of, ArePassed};
+ghost use Rattle.tso_machine.specs.Modes.{mode_of, unfenced, ArePassed};
+ghost use Rattle.tso_machine.specs.Outcomes.{IsReplayOf};
 ghost use Rattle.tso_machine.specs.Faults.{ReplayFaultIs, fault_of};
 ghost use Rattle.gap_sets.specs.declared.gap_set.TheConstants.{MAX_GAPS};
 
@@ -16,7 +18,7 @@ use crate::{Cause, Label, Model};
 use gap_sets::GapSet;
 use std::alloc::Global;
 use thiserror::Error;
-use tso_program::{Outcome, Program};
+use tso_program::{Outcome, Program, Shown};
 
 /// What a run leaves, and the gaps that it passes.
 #[derive(Drop)]
@@ -82,6 +84,27 @@ pub fn replay(
     match state.outcome(alloc) {
         Ok(outcome) => Ok(Ended { outcome, passed }),
         Err(_) => Err(ReplayFault::OutOfMemory),
+    }
+}
+
+/// Replays labels with no gap fenced, and keeps of the outcome what is shown. A run is refused for nothing
+/// but memory.
+pub fn replay_shown(
+    alloc: Global,
+    program: &Program,
+    shown: &Shown,
+    model: Model,
+    labels: &[Label],
+) -> Result<Ended, ReplayFault>
+    ensures replay { IfOk result (IsReplayOf (asked program.now shown.now) model labels.now) }
+    ensures fault { IfErr result (ReplayFaultIs program.now (unfenced model) labels.now) }
+{
+    match replay(alloc, program, &GapSet::empty(), model, labels) {
+        Ok(mut ended) => {
+            ended.outcome.show(shown);
+            Ok(ended)
+        }
+        Err(fault) => Err(fault),
     }
 }
 

@@ -10,7 +10,6 @@ use Rattle.tso_program.specs.Shown.{Question}
 use Rattle.tso_program.specs.Ordered.{outcome_cmp}
 use Rattle.tso_machine.specs.declared.label.Label.{Label}
 use Rattle.tso_machine.specs.declared.label.Model.{Model}
-use Rattle.tso_machine.specs.declared.replaying.Ended.{Ended}
 use Rattle.tso_machine.specs.declared.replaying.ReplayFault.{ReplayFault}
 use Rattle.tso_machine.specs.declared.replaying.ReplayFault.TheVariants as replays
 use Rattle.tso_machine.specs.Machine.{Mode, Fenced, no_gaps}
@@ -19,11 +18,6 @@ use Rattle.tso_machine.specs.Outcomes.{IsShownRun}
 use Rattle.cert_check.specs.declared.fault.RunsFault.{RunsFault}
 use Rattle.cert_check.specs.declared.fault.RunsFault.TheVariants as why
 use Rattle.cert_check.specs.Faults.{IsRunOf, IsFirstWithout}
-
--- the labels are a run of which this outcome is shown, and which passes these gaps
-pub record IsReplayOf (q : Question) (model : Model) (labels : List Label) (ended : Ended) : Type 0 where
-  pub is_run : IsShownRun q (unfenced model) labels ended.outcome
-  pub passed : ArePassed q.program (unfenced model) labels ended.passed
 
 -- each of the runs leaves the outcome of its number, as far as it is shown, and passes the gaps of its number
 pub record AreReplaysOf (q : Question) (model : Model) (runs : List (List Label)) (outcomes : List Outcome) (passed : List SetOfGaps) : Type 0 where

@@ -1,4 +1,5 @@
-use Rattle.fence_laws.proofs.GapsAvoided.{fenced_runs_avoid, passed_gaps_tell, empty_fences_nothing}
+use Rattle.tso_machine.proofs.Unfenced.{empty_fences_nothing}
+use Rattle.fence_laws.proofs.GapsAvoided.{fenced_runs_avoid, passed_gaps_tell}
 use Rattle.fence_laws.proofs.laws.fenced_runs_pass_no_gap_of_the_set.Goals as goal
 
 pub returns : goal.returns

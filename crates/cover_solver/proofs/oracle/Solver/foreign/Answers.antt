@@ -18,7 +18,7 @@ of-requires-clause-foreign c =
     let question = ap (λ (a : Asked). a.question) c.self.view_is in
     let list = subst (λ (a : Asked). IsListOf a.question a.outcomes) c.self.view_is c.self.invariant in
     let again = subst (λ (q : Question). IsShownRun q (Fenced no_gaps) labels found) question
-    (subst (λ ls. IsShownRun (asked c.self.inside.program shown) (Fenced no_gaps) ls found) c.deref.ensures.value c.in-Ok.ensures.run) in
+    (subst (λ ls. IsShownRun (asked c.self.inside.program shown) (Fenced no_gaps) ls found) c.deref.ensures.value c.in-Ok.ensures.replay.is_run) in
     subst (λ (q : Question). IsForeignRun q labels found) (sym (ap (λ p. asked p shown) c.in_ok-program-in-Ok.ensures ∙ question))
     (foreign_again s.question c.args.set.now s.outcomes labels c.args.run.outcome found c.in-Ok.ended.passed list c.requires.is_run c.requires.new again)
 
@@ -26,7 +26,7 @@ pub of-requires-clause-passed : goal.of-requires-clause-passed
 of-requires-clause-passed c =
     let labels = c.args.run.labels.items in
     subst (λ p. ArePassed p (Fenced no_gaps) labels c.in-Ok.ended.passed) (sym c.in_ok-program-in-Ok.ensures)
-    (subst (λ ls. ArePassed c.self.inside.program (Fenced no_gaps) ls c.in-Ok.ended.passed) c.deref.ensures.value c.in-Ok.ensures.passed)
+    (subst (λ ls. ArePassed c.self.inside.program (Fenced no_gaps) ls c.in-Ok.ended.passed) c.deref.ensures.value c.in-Ok.ensures.replay.passed)
 
 pub returns-in_ok-program-in-Ok : goal.returns-in_ok-program-in-Ok
 returns-in_ok-program-in-Ok c =
@@ -38,9 +38,9 @@ returns-in_ok-program-in-Ok c =
     let question = ap (λ (a : Asked). a.question) c.self.view_is in
     let list = subst (λ (a : Asked). IsListOf a.question a.outcomes) c.self.view_is c.self.invariant in
     let again = subst (λ (q : Question). IsShownRun q (Fenced no_gaps) labels found) question
-    (subst (λ ls. IsShownRun (asked c.self.inside.program shown) (Fenced no_gaps) ls found) c.deref.ensures.value c.in-Ok.ensures.run) in
+    (subst (λ ls. IsShownRun (asked c.self.inside.program shown) (Fenced no_gaps) ls found) c.deref.ensures.value c.in-Ok.ensures.replay.is_run) in
     let are = subst (λ (q : Question). ArePassed q.program (Fenced no_gaps) labels passed) question
-    (subst (λ ls. ArePassed c.self.inside.program (Fenced no_gaps) ls passed) c.deref.ensures.value c.in-Ok.ensures.passed) in (
+    (subst (λ ls. ArePassed c.self.inside.program (Fenced no_gaps) ls passed) c.deref.ensures.value c.in-Ok.ensures.replay.passed) in (
       c.of.ensures.question ∙ ap (λ p. asked p shown) c.in_ok-program-in-Ok.ensures ∙ question,
       c.of.ensures.foreign,
       (λ gap passes. passes_none s.question c.args.set.now s.outcomes labels c.args.run.outcome found passed list c.requires.is_run c.requires.new again are gap
