@@ -10,7 +10,7 @@ use crate::labels::label_name;
 use crate::words::{name_at, push_number, push_register};
 use gap_sets::GapSet;
 use litmus_reader::{Litmus, NameTable};
-use std::alloc::{AllocError, Global};
+use std::alloc::AllocError;
 use tso_program::{Instr, Program, Reg};
 
 /// `[x]`
@@ -24,11 +24,11 @@ fn push_memory(out: &mut Vec<u8>, names: &NameTable, location: u8) -> Result<(),
 }
 
 /// `$n`
-fn push_immediate(alloc: Global, out: &mut Vec<u8>, value: u32) -> Result<(), AllocError>
+fn push_immediate(out: &mut Vec<u8>, value: u32) -> Result<(), AllocError>
     ensures { OnOk result (out.new.items ≡ out.old.items ++ text_of (immediate_pieces value)) }
 {
     out.push(b'$')?;
-    push_number(alloc, out, value)
+    push_number(out, value)
 }
 
 /// `MOV REG,` and the like
@@ -77,7 +77,6 @@ fn push_jump(
 
 /// An instruction of thread t of the fenced program.
 pub fn push_code(
-    alloc: Global,
     out: &mut Vec<u8>,
     litmus: &Litmus<Program>,
     gaps: &GapSet,
@@ -89,7 +88,7 @@ pub fn push_code(
     match code {
         Instr::LoadImm(register, value) => {
             push_to_register(out, b"MOV", register)?;
-            push_immediate(alloc, out, value)
+            push_immediate(out, value)
         }
         Instr::Copy(register, from) => {
             push_to_register(out, b"MOV", register)?;
@@ -101,7 +100,7 @@ pub fn push_code(
         }
         Instr::StoreImm(location, value) => {
             push_to_memory(out, b"MOV", &litmus.names, location)?;
-            push_immediate(alloc, out, value)
+            push_immediate(out, value)
         }
         Instr::Store(location, register) => {
             push_to_memory(out, b"MOV", &litmus.names, location)?;
@@ -114,7 +113,7 @@ pub fn push_code(
         Instr::Fence => out.extend_from_slice(b"MFENCE"),
         Instr::CmpImm(register, value) => {
             push_to_register(out, b"CMP", register)?;
-            push_immediate(alloc, out, value)
+            push_immediate(out, value)
         }
         Instr::CmpReg(register, other) => {
             push_to_register(out, b"CMP", register)?;

@@ -7,12 +7,11 @@ ghost use Rattle.canonical_text.specs.Canonical.{location_entry, location_entrie
 
 use crate::words::{name_at, push_location_value, push_register_value};
 use litmus_reader::NameTable;
-use std::alloc::{AllocError, Global};
+use std::alloc::AllocError;
 use tso_program::{REGISTERS, Reg, Thread};
 
 /// ` x=n;`
 fn push_location(
-    alloc: Global,
     out: &mut Vec<u8>,
     names: &NameTable,
     memory: &[u32],
@@ -22,28 +21,22 @@ fn push_location(
     ensures { OnOk result (out.new.items ≡ out.old.items ++ text_of (entry_pieces (location_entry names.now.locations memory.now location))) }
 {
     out.push(b' ')?;
-    push_location_value(alloc, out, name_at(names, location), memory[location])?;
+    push_location_value(out, name_at(names, location), memory[location])?;
     out.push(b';')?;
     Ok(())
 }
 
-fn push_locations(
-    alloc: Global,
-    out: &mut Vec<u8>,
-    names: &NameTable,
-    memory: &[u32],
-) -> Result<(), AllocError>
+fn push_locations(out: &mut Vec<u8>, names: &NameTable, memory: &[u32]) -> Result<(), AllocError>
     ensures { OnOk result (out.new.items ≡ out.old.items ++ text_of (flat_map entry_pieces (location_entries names.now.locations memory.now))) }
 {
     for location in 0..memory.len() {
-        push_location(alloc, out, names, memory, location)?;
+        push_location(out, names, memory, location)?;
     }
     Ok(())
 }
 
 /// ` t:REG=n;`, if the register is named.
 fn push_named(
-    alloc: Global,
     out: &mut Vec<u8>,
     names: &NameTable,
     thread: usize,
@@ -56,7 +49,7 @@ fn push_named(
     if names.is_named(thread, register) {
         let value = values[register.index()];
         out.push(b' ')?;
-        push_register_value(alloc, out, thread as u32, register, value)?;
+        push_register_value(out, thread as u32, register, value)?;
         out.push(b';')?;
     }
     Ok(())
@@ -64,7 +57,6 @@ fn push_named(
 
 /// The named registers of a thread.
 fn push_thread(
-    alloc: Global,
     out: &mut Vec<u8>,
     names: &NameTable,
     thread: usize,
@@ -74,13 +66,12 @@ fn push_thread(
     ensures { OnOk result (out.new.items ≡ out.old.items ++ text_of (flat_map entry_pieces (thread_entries names.now thread values))) }
 {
     for register in Reg::ALL {
-        push_named(alloc, out, names, thread, values, register)?;
+        push_named(out, names, thread, values, register)?;
     }
     Ok(())
 }
 
 fn push_registers(
-    alloc: Global,
     out: &mut Vec<u8>,
     names: &NameTable,
     threads: &[Thread],
@@ -89,14 +80,13 @@ fn push_registers(
     ensures { OnOk result (out.new.items ≡ out.old.items ++ text_of (flat_map entry_pieces (register_entries names.now 0 threads.now))) }
 {
     for (t, thread) in threads.iter().enumerate() {
-        push_thread(alloc, out, names, t, thread.registers)?;
+        push_thread(out, names, t, thread.registers)?;
     }
     Ok(())
 }
 
 /// The initial values of all locations, and of the registers that the text names.
 pub fn push_initial(
-    alloc: Global,
     out: &mut Vec<u8>,
     names: &NameTable,
     threads: &[Thread],
@@ -106,8 +96,8 @@ pub fn push_initial(
     ensures { OnOk result (out.new.items ≡ out.old.items ++ text_of (initial_pieces (entries_of names.now (record { threads = threads.now; memory = memory.now })))) }
 {
     out.push(b'{')?;
-    push_locations(alloc, out, names, memory)?;
-    push_registers(alloc, out, names, threads)?;
+    push_locations(out, names, memory)?;
+    push_registers(out, names, threads)?;
     out.extend_from_slice(b" }\n")?;
     Ok(())
 }

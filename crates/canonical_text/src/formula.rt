@@ -11,12 +11,7 @@ use conditions::{Atom, Condition, Quantifier, Token};
 use litmus_reader::NameTable;
 use std::alloc::{AllocError, Global};
 
-fn push_atom(
-    alloc: Global,
-    out: &mut Vec<u8>,
-    names: &NameTable,
-    atom: Atom,
-) -> Result<(), AllocError>
+fn push_atom(out: &mut Vec<u8>, names: &NameTable, atom: Atom) -> Result<(), AllocError>
     ensures { OnOk result (out.new.items ≡ out.old.items ++ text_of (sign_pieces (atom_named names.now.locations atom))) }
 {
     match atom {
@@ -24,24 +19,19 @@ fn push_atom(
             thread,
             register,
             value,
-        } => push_register_value(alloc, out, thread, register, value),
+        } => push_register_value(out, thread, register, value),
         Atom::Location { location, value } => {
-            push_location_value(alloc, out, name_at(names, location as usize), value)
+            push_location_value(out, name_at(names, location as usize), value)
         }
     }
 }
 
 /// A sign.
-fn push_sign(
-    alloc: Global,
-    out: &mut Vec<u8>,
-    names: &NameTable,
-    sign: Token,
-) -> Result<(), AllocError>
+fn push_sign(out: &mut Vec<u8>, names: &NameTable, sign: Token) -> Result<(), AllocError>
     ensures { OnOk result (out.new.items ≡ out.old.items ++ text_of (sign_pieces (sign_named names.now.locations (sign_of_token sign)))) }
 {
     match sign {
-        Token::Atom(atom) => push_atom(alloc, out, names, atom),
+        Token::Atom(atom) => push_atom(out, names, atom),
         Token::Const(true) => out.extend_from_slice(b"true"),
         Token::Const(false) => out.extend_from_slice(b"false"),
         Token::Not => out.extend_from_slice(b"not "),
@@ -52,16 +42,11 @@ fn push_sign(
     }
 }
 
-fn push_signs(
-    alloc: Global,
-    out: &mut Vec<u8>,
-    names: &NameTable,
-    signs: &[Token],
-) -> Result<(), AllocError>
+fn push_signs(out: &mut Vec<u8>, names: &NameTable, signs: &[Token]) -> Result<(), AllocError>
     ensures { OnOk result (out.new.items ≡ out.old.items ++ text_of (flat_map sign_pieces (map (sign_named names.now.locations) (map sign_of_token signs.now)))) }
 {
     for sign in signs {
-        push_sign(alloc, out, names, *sign)?;
+        push_sign(out, names, *sign)?;
     }
     Ok(())
 }
@@ -89,7 +74,7 @@ pub fn push_condition(
     let signs = condition.formula.enclosed_tokens(alloc)?;
     push_quantifier(out, condition.quantifier)?;
     out.push(b' ')?;
-    push_signs(alloc, out, names, signs.as_slice())?;
+    push_signs(out, names, signs.as_slice())?;
     out.push(b'\n')?;
     Ok(())
 }

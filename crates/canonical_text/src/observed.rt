@@ -6,15 +6,10 @@ ghost use Rattle.canonical_text.specs.Canonical.{place_named};
 
 use crate::words::{name_at, push_gap, push_number, push_register};
 use litmus_reader::{NameTable, Observed};
-use std::alloc::{AllocError, Global};
+use std::alloc::AllocError;
 
 /// `x;` or `t:REG;`
-fn push_place(
-    alloc: Global,
-    out: &mut Vec<u8>,
-    names: &NameTable,
-    place: Observed,
-) -> Result<(), AllocError>
+fn push_place(out: &mut Vec<u8>, names: &NameTable, place: Observed) -> Result<(), AllocError>
     ensures { OnOk result (out.new.items ≡ out.old.items ++ text_of (observed_place_pieces (place_named names.now.locations place))) }
 {
     match place {
@@ -22,7 +17,7 @@ fn push_place(
             out.extend_from_slice(name_at(names, location as usize))?;
         }
         Observed::Register(thread, register) => {
-            push_number(alloc, out, thread)?;
+            push_number(out, thread)?;
             out.push(b':')?;
             push_register(out, register)?;
         }
@@ -33,7 +28,6 @@ fn push_place(
 
 /// `locations [x; t:REG; ..]`, where something is observed.
 pub fn push_observed(
-    alloc: Global,
     out: &mut Vec<u8>,
     names: &NameTable,
     observed: &[Observed],
@@ -46,7 +40,7 @@ pub fn push_observed(
     out.extend_from_slice(b"locations [")?;
     for (i, place) in observed.iter().enumerate() {
         push_gap(out, i)?;
-        push_place(alloc, out, names, *place)?;
+        push_place(out, names, *place)?;
     }
     out.extend_from_slice(b"]\n")?;
     Ok(())

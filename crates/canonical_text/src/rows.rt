@@ -13,7 +13,7 @@ use crate::labels::{has_label, push_labels};
 use crate::words::{push_gap, push_number};
 use gap_sets::GapSet;
 use litmus_reader::Litmus;
-use std::alloc::{AllocError, Global};
+use std::alloc::AllocError;
 use tso_program::{FencedProgram, Instr, Program, Thread};
 
 /// ` | `, if a column stands before this one.
@@ -27,21 +27,21 @@ fn push_bar(out: &mut Vec<u8>, column: usize) -> Result<(), AllocError>
 }
 
 /// `Pt`
-fn push_column(alloc: Global, out: &mut Vec<u8>, t: u32) -> Result<(), AllocError>
+fn push_column(out: &mut Vec<u8>, t: u32) -> Result<(), AllocError>
     ensures { OnOk result (out.new.items ≡ out.old.items ++ text_of (column_pieces t)) }
 {
     out.push(b'P')?;
-    push_number(alloc, out, t)
+    push_number(out, t)
 }
 
 /// `P0 | P1 | .. ;`
-pub fn push_header(alloc: Global, out: &mut Vec<u8>, threads: usize) -> Result<(), AllocError>
+pub fn push_header(out: &mut Vec<u8>, threads: usize) -> Result<(), AllocError>
     requires { threads ≤ 255 }
     ensures { OnOk result (out.new.items ≡ out.old.items ++ text_of (header_pieces threads)) }
 {
     for t in 0..threads {
         push_bar(out, t)?;
-        push_column(alloc, out, t as u32)?;
+        push_column(out, t as u32)?;
     }
     out.extend_from_slice(b" ;\n")?;
     Ok(())
@@ -59,7 +59,6 @@ fn instr_at(threads: &[Thread], t: usize, k: usize) -> Option<Instr>
 
 /// The cell of thread t in row k: the labels at its place, and its instruction.
 fn push_cell(
-    alloc: Global,
     out: &mut Vec<u8>,
     litmus: &Litmus<Program>,
     gaps: &GapSet,
@@ -77,14 +76,13 @@ fn push_cell(
     match instr_at(threads, t, k) {
         Some(code) => {
             push_gap(out, labels)?;
-            push_code(alloc, out, litmus, gaps, t as u8, code)
+            push_code(out, litmus, gaps, t as u8, code)
         }
         None => Ok(()),
     }
 }
 
 fn push_row(
-    alloc: Global,
     out: &mut Vec<u8>,
     litmus: &Litmus<Program>,
     gaps: &GapSet,
@@ -98,7 +96,7 @@ fn push_row(
 {
     for t in 0..threads.len() {
         push_bar(out, t)?;
-        push_cell(alloc, out, litmus, gaps, threads, k, t)?;
+        push_cell(out, litmus, gaps, threads, k, t)?;
     }
     out.extend_from_slice(b" ;\n")?;
     Ok(())
@@ -131,7 +129,6 @@ fn most_cells(litmus: &Litmus<Program>, gaps: &GapSet, fenced: &FencedProgram) -
 }
 
 pub fn push_rows(
-    alloc: Global,
     out: &mut Vec<u8>,
     litmus: &Litmus<Program>,
     gaps: &GapSet,
@@ -142,7 +139,7 @@ pub fn push_rows(
 {
     let threads = fenced.threads();
     for k in 0..most_cells(litmus, gaps, fenced) {
-        push_row(alloc, out, litmus, gaps, threads, k)?;
+        push_row(out, litmus, gaps, threads, k)?;
     }
     Ok(())
 }

@@ -7,8 +7,9 @@ ghost use Rattle.canonical_text.specs.Spelling.{register_pieces, valued_pieces, 
 ghost use Rattle.canonical_text.specs.Canonical.{location_name_at};
 ghost use Rattle.std.specs.Fmt.{decimal};
 
+use itoa::Buffer;
 use litmus_reader::NameTable;
-use std::alloc::{AllocError, Global};
+use std::alloc::AllocError;
 use tso_program::Reg;
 
 /// The register's name, in capitals.
@@ -35,11 +36,11 @@ pub fn name_at(names: &NameTable, number: usize) -> &[u8]
     }
 }
 
-pub fn push_number(alloc: Global, out: &mut Vec<u8>, number: u32) -> Result<(), AllocError>
+pub fn push_number(out: &mut Vec<u8>, number: u32) -> Result<(), AllocError>
     ensures { OnOk result (out.new.items ≡ out.old.items ++ decimal number) }
 {
-    let text = format!(in alloc; "{number}")?;
-    out.extend_from_slice(text.as_bytes())
+    let mut digits = Buffer::new();
+    out.extend_from_slice(digits.format(number).as_bytes())
 }
 
 pub fn push_register(out: &mut Vec<u8>, register: Reg) -> Result<(), AllocError>
@@ -59,22 +60,16 @@ pub fn push_gap(out: &mut Vec<u8>, parts: usize) -> Result<(), AllocError>
 }
 
 /// `x=n`
-pub fn push_location_value(
-    alloc: Global,
-    out: &mut Vec<u8>,
-    name: &[u8],
-    value: u32,
-) -> Result<(), AllocError>
+pub fn push_location_value(out: &mut Vec<u8>, name: &[u8], value: u32) -> Result<(), AllocError>
     ensures { OnOk result (out.new.items ≡ out.old.items ++ text_of (valued_pieces (Location name.now) value)) }
 {
     out.extend_from_slice(name)?;
     out.push(b'=')?;
-    push_number(alloc, out, value)
+    push_number(out, value)
 }
 
 /// `t:REG=n`
 pub fn push_register_value(
-    alloc: Global,
     out: &mut Vec<u8>,
     thread: u32,
     register: Reg,
@@ -82,9 +77,9 @@ pub fn push_register_value(
 ) -> Result<(), AllocError>
     ensures { OnOk result (out.new.items ≡ out.old.items ++ text_of (valued_pieces (Register thread register) value)) }
 {
-    push_number(alloc, out, thread)?;
+    push_number(out, thread)?;
     out.push(b':')?;
     push_register(out, register)?;
     out.push(b'=')?;
-    push_number(alloc, out, value)
+    push_number(out, value)
 }

@@ -28,7 +28,6 @@ fn push_heading(out: &mut Vec<u8>, name: &[u8]) -> Result<(), AllocError>
 
 /// Initial values, header row and rows.
 fn push_body(
-    alloc: Global,
     out: &mut Vec<u8>,
     litmus: &Litmus<Program>,
     gaps: &GapSet,
@@ -38,9 +37,9 @@ fn push_body(
         (body_of litmus.now.names (moved_labels (gaps_in litmus.now.program gaps.now) 0 litmus.now.labels) fenced.now))) }
 {
     let threads = fenced.threads();
-    push_initial(alloc, out, &litmus.names, threads, fenced.memory())?;
-    push_header(alloc, out, threads.len())?;
-    push_rows(alloc, out, litmus, gaps, fenced)?;
+    push_initial(out, &litmus.names, threads, fenced.memory())?;
+    push_header(out, threads.len())?;
+    push_rows(out, litmus, gaps, fenced)?;
     Ok(())
 }
 
@@ -50,7 +49,7 @@ fn push_ending(alloc: Global, out: &mut Vec<u8>, litmus: &Litmus<Program>) -> Re
         (ending_of litmus.now.names.locations litmus.now.observed litmus.now.condition))) }
 {
     let names = &litmus.names;
-    push_observed(alloc, out, names, litmus.observed.as_slice())?;
+    push_observed(out, names, litmus.observed.as_slice())?;
     push_condition(alloc, out, names, &litmus.condition)?;
     Ok(())
 }
@@ -68,7 +67,7 @@ fn write_parts(
 {
     let mut out = Vec::new(alloc);
     push_heading(&mut out, litmus.name.as_slice())?;
-    push_body(alloc, &mut out, litmus, gaps, fenced)?;
+    push_body(&mut out, litmus, gaps, fenced)?;
     push_ending(alloc, &mut out, litmus)?;
     Ok(out)
 }
