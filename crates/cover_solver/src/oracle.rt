@@ -19,7 +19,7 @@ use exec_axioms::Mode;
 use gap_sets::GapSet;
 use run_maker::MadeRun;
 use std::alloc::{AllocError, Global};
-use std::marker::Model;
+use std::marker;
 use tso_machine::{Model, ReplayFault, replay_shown};
 use tso_program::{Outcome, Program, Shown};
 
@@ -55,7 +55,7 @@ pub struct Solver {
     outcomes: Vec<Outcome>,
 }
 
-impl Model for Solver {
+impl marker::Model for Solver {
     ghost use Rattle.cover_solver.specs.Facts.{Asked, IsListOf};
 
     ghost Value = { Asked };
