@@ -83,13 +83,13 @@ outcomes_app models = with_rule (with_rule (with_rule (new_app (codes "outcomes"
 abbrev pub place_app : App
 place_app = with_rule (with_rule (with_rule (with_rule (with_rule (new_app (codes "place")) (file_rule (codes "costs"))) workers_rule) (file_rule (codes "certificate"))) observed_rule) litmus_rule
 
--- `trace [--model MODEL] LITMUS [LABEL..]`
+-- `trace [--model MODEL] [--dot FILE] LITMUS [LABEL..]`
 abbrev pub trace_app : ModelNames → App
-trace_app models = with_rule (with_rule (with_rule (new_app (codes "trace")) (model_rule models)) litmus_rule) label_rule
+trace_app models = with_rule (with_rule (with_rule (with_rule (new_app (codes "trace")) (model_rule models)) (file_rule (codes "dot"))) litmus_rule) label_rule
 
--- `why [--costs FILE] [--workers N] [--observed] LITMUS`
+-- `why [--costs FILE] [--workers N] [--dot FILE] [--observed] LITMUS`
 abbrev pub why_app : App
-why_app = with_rule (with_rule (with_rule (with_rule (new_app (codes "why")) (file_rule (codes "costs"))) workers_rule) observed_rule) litmus_rule
+why_app = with_rule (with_rule (with_rule (with_rule (with_rule (new_app (codes "why")) (file_rule (codes "costs"))) workers_rule) (file_rule (codes "dot"))) observed_rule) litmus_rule
 
 -- a command line is one of these commands, and nothing before it
 abbrev pub commands_app : App
@@ -142,7 +142,7 @@ pub record IsRunOf (rows : List Row) (asked : Run) : Type 0 where
 -- the job that the command of this name asks for, by the rows of its values
 abbrev pub IsJobOf : Text → List Row → Job → Type 0
 IsJobOf name rows (Replay asked) = (name ≡ codes "replay") × IsRunOf rows asked
-IsJobOf name rows (Trace asked) = (name ≡ codes "trace") × IsRunOf rows asked
+IsJobOf name rows (Trace run graph) = (name ≡ codes "trace") × IsRunOf rows run × (option_map string_bytes graph ≡ first_of (codes "dot") rows)
 IsJobOf name rows (Outcomes model observed litmus) =
     (name ≡ codes "outcomes")
     × (model ≡ model_in rows)
@@ -155,13 +155,14 @@ IsJobOf name rows (Place asked) =
     × (option_map string_bytes asked.certificate ≡ first_of (codes "certificate") rows)
     × (asked.observed ≡ is_flagged (codes "observed") rows)
     × (string_bytes asked.litmus ≡ text_in (codes "litmus") rows)
-IsJobOf name rows (Why asked) =
+IsJobOf name rows (Why asked graphs) =
     (name ≡ codes "why")
     × (option_map string_bytes asked.costs ≡ first_of (codes "costs") rows)
     × AreWorkers (text_in (codes "workers") rows) asked.workers
     × (asked.certificate ≡ None)
     × (asked.observed ≡ is_flagged (codes "observed") rows)
     × (string_bytes asked.litmus ≡ text_in (codes "litmus") rows)
+    × (option_map string_bytes graphs ≡ first_of (codes "dot") rows)
 
 -- the words after the program's name ask for the job: `clap` finds no fault in them
 pub record AsksFor (words : List Text) (job : Job) : Type 0 where

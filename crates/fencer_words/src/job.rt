@@ -31,7 +31,11 @@ pub enum Job {
     /// Replay labels on the program of a litmus file.
     Replay(Run),
     /// Show the steps of labels on the program of a litmus file as a table.
-    Trace(Run),
+    Trace {
+        run: Run,
+        /// The file to which the run's graph is written.
+        graph: Option<String>,
+    },
     /// List the outcomes of the program of a litmus file.
     Outcomes {
         model: Model,
@@ -42,5 +46,9 @@ pub enum Job {
     /// Place fences in the program of a litmus file.
     Place(Placement),
     /// Show for each fence of a placement, which writes no certificate, why it is needed.
-    Why(Placement),
+    Why {
+        placement: Placement,
+        /// The file to which the graphs of the runs are written.
+        graphs: Option<String>,
+    },
 }

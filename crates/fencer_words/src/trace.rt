@@ -1,12 +1,13 @@
-//! `trace [--model MODEL] LITMUS [LABEL..]`
+//! `trace [--model MODEL] [--dot FILE] LITMUS [LABEL..]`
 
 ghost use Rattle.std.specs.Prelude.{IfOk, codes};
 ghost use Rattle.clap.specs.Words.{found_of, rows_of};
 ghost use Rattle.fencer_words.specs.CommandLines.{trace_app, IsJobOf};
 ghost use Rattle.fencer_words.specs.Commands.{IsBuiltAs};
 
-use crate::arguments::{described_command, litmus_arg, model_arg};
+use crate::arguments::{described_command, litmus_arg, model_arg, text_given};
 use crate::job::Job;
+use crate::place::file_arg;
 use crate::replay::{label_arg, run_in};
 use clap::{ArgMatches, Command};
 use std::alloc::{AllocError, Global};
@@ -21,11 +22,14 @@ this help, with status 2. Refusals are explained in docs/formats.md.
 
 Example: fencer trace examples/SB.litmus e0 e1 e0 e1 f0 f1";
 
+const DOT_HELP: &str = "Write the run's candidate execution there, as a graph for Graphviz";
+
 pub fn trace_command<'a>(alloc: Global, models: &'a [&'a str]) -> Result<Command<'a>, AllocError>
     ensures { IfOk result (IsBuiltAs (trace_app models.entry)) }
 {
     described_command(alloc, "trace", FIRST, LAST)
         .arg(model_arg(alloc, models))?
+        .arg(file_arg(alloc, "dot", DOT_HELP))?
         .arg(litmus_arg(alloc))?
         .arg(label_arg(alloc))
 }
@@ -33,5 +37,8 @@ pub fn trace_command<'a>(alloc: Global, models: &'a [&'a str]) -> Result<Command
 pub fn trace_job(alloc: Global, matches: &ArgMatches<'_>) -> Result<Job, AllocError>
     ensures { IfOk result (IsJobOf (codes "trace") (rows_of (found_of matches.now))) }
 {
-    Ok(Job::Trace(run_in(alloc, matches)?))
+    Ok(Job::Trace {
+        run: run_in(alloc, matches)?,
+        graph: text_given(alloc, matches, "dot")?,
+    })
 }

@@ -1,4 +1,4 @@
-//! `why [--costs FILE] [--workers N] [--observed] LITMUS`
+//! `why [--costs FILE] [--workers N] [--dot FILE] [--observed] LITMUS`
 
 ghost use Rattle.std.specs.Prelude.{IfOk, codes};
 ghost use Rattle.clap.specs.Words.{found_of, rows_of};
@@ -24,12 +24,16 @@ explained in docs/formats.md.
 
 Example: fencer why examples/SB.litmus";
 
+const DOT_HELP: &str =
+    "Write the candidate execution of each run there, as graphs for Graphviz";
+
 pub fn why_command<'a>(alloc: Global) -> Result<Command<'a>, AllocError>
     ensures { IfOk result (IsBuiltAs why_app) }
 {
     described_command(alloc, "why", FIRST, LAST)
         .arg(file_arg(alloc, "costs", COSTS_HELP))?
         .arg(workers_arg(alloc))?
+        .arg(file_arg(alloc, "dot", DOT_HELP))?
         .arg(observed_arg(alloc))?
         .arg(litmus_arg(alloc))
 }
@@ -37,11 +41,15 @@ pub fn why_command<'a>(alloc: Global) -> Result<Command<'a>, AllocError>
 pub fn why_job(alloc: Global, matches: &ArgMatches<'_>) -> Result<Job, AllocError>
     ensures { IfOk result (IsJobOf (codes "why") (rows_of (found_of matches.now))) }
 {
-    Ok(Job::Why(Placement {
+    let placement = Placement {
         costs: text_given(alloc, matches, "costs")?,
         workers: workers_of(value_in(matches, "workers")),
         certificate: None,
         observed: is_flagged(matches, "observed"),
         litmus: text_in(alloc, matches, "litmus")?,
-    }))
+    };
+    Ok(Job::Why {
+        placement,
+        graphs: text_given(alloc, matches, "dot")?,
+    })
 }

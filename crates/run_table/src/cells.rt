@@ -7,14 +7,14 @@ use tso_machine::{Label, Pending, Step, write_run};
 use tso_program::{Action, Instr, Program};
 
 /// `x=1`
-fn push_value(
+pub fn push_value(
     alloc: Global,
     out: &mut Vec<u8>,
     names: &NameTable,
-    location: u8,
+    location: usize,
     value: u32,
 ) -> Result<(), AllocError> {
-    if let Some(name) = names.location(location as usize) {
+    if let Some(name) = names.location(location) {
         out.extend_from_slice(name)?;
     }
     let text = format!(in alloc; "={value}")?;
@@ -41,7 +41,7 @@ fn instr_at(program: &Program, t: u8, k: u8) -> Option<Instr> {
 }
 
 /// The instruction that a step executes, as it is written.
-pub(crate) fn instruction_cell(
+pub fn instruction_cell(
     alloc: Global,
     litmus: &Litmus<Program>,
     step: &Step,
@@ -65,8 +65,8 @@ fn waits(stores: &[Pending], location: u8) -> bool {
     false
 }
 
-/// What a step asks of memory, where it executes an instruction.
-fn action_of(program: &Program, step: &Step) -> Action {
+/// What a step asks of memory, where it executes an instruction; a flush executes none.
+pub fn action_of(program: &Program, step: &Step) -> Action {
     match step.label {
         Label::Exec(t) => program.action(t, step.before.local),
         Label::Flush(_) => Action::Stop,
@@ -85,7 +85,7 @@ pub(crate) fn effect_cell(
     match action_of(&litmus.program, step) {
         Action::Read(location, to, _) => {
             out.extend_from_slice(b"reads ")?;
-            push_value(alloc, &mut out, names, location, found[to.index()])?;
+            push_value(alloc, &mut out, names, location as usize, found[to.index()])?;
             if waits(step.before.waiting.as_slice(), location) {
                 out.extend_from_slice(b" from its buffer")?;
             } else {
@@ -94,13 +94,13 @@ pub(crate) fn effect_cell(
         }
         Action::Write(location, value, _) => {
             out.extend_from_slice(b"stores ")?;
-            push_value(alloc, &mut out, names, location, value)?;
+            push_value(alloc, &mut out, names, location as usize, value)?;
         }
         Action::Swap(location, value, to, _) => {
             out.extend_from_slice(b"reads ")?;
-            push_value(alloc, &mut out, names, location, found[to.index()])?;
+            push_value(alloc, &mut out, names, location as usize, found[to.index()])?;
             out.extend_from_slice(b" from memory, stores ")?;
-            push_value(alloc, &mut out, names, location, value)?;
+            push_value(alloc, &mut out, names, location as usize, value)?;
         }
         Action::Stop | Action::Go(_) | Action::Wait(_) => {}
     }
@@ -118,14 +118,14 @@ pub(crate) fn waiting_cell(
         if !out.is_empty() {
             out.push(b' ')?;
         }
-        push_value(alloc, &mut out, names, store.location, store.value)?;
+        push_value(alloc, &mut out, names, store.location as usize, store.value)?;
     }
     Ok(out)
 }
 
 /// The store that reaches memory in a step, if one does: the oldest one that waited, or that of an instruction after
 /// which it doesn't wait.
-fn written(program: &Program, step: &Step) -> Option<Pending> {
+pub fn written(program: &Program, step: &Step) -> Option<Pending> {
     match action_of(program, step) {
         Action::Stop => step.before.waiting.as_slice().first().copied(),
         Action::Write(location, value, _) if step.after.waiting.is_empty() => {
@@ -144,7 +144,7 @@ pub(crate) fn memory_cell(
 ) -> Result<Vec<u8>, AllocError> {
     let mut out = Vec::new(alloc);
     if let Some(store) = written(&litmus.program, step) {
-        push_value(alloc, &mut out, &litmus.names, store.location, store.value)?;
+        push_value(alloc, &mut out, &litmus.names, store.location as usize, store.value)?;
     }
     Ok(out)
 }

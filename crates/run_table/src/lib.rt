@@ -1,7 +1,8 @@
-//! The table of a run, for people: a line a step.
+//! The table of a run, for people: a line a step; and what a step does to memory.
 #![tactic(auto)]
 
 mod cells;
 mod table;
 
+pub use cells::{action_of, instruction_cell, push_value, written};
 pub use table::run_table;

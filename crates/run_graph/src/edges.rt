@@ -1,0 +1,126 @@
+//! The edges of a candidate execution.
+
+use crate::events::{Access, Event, Execution, write_before};
+use std::alloc::{AllocError, Global};
+
+/// The relation of which an edge is.
+#[derive(Clone, Copy, PartialEq, Eq, Debug)]
+pub(crate) enum Relation {
+    ProgramOrder,
+    ReadsFrom,
+    /// The order in which the writes of a location reach memory.
+    Coherence,
+    /// A read comes before the write after the one that it reads from.
+    FromReads,
+}
+
+impl Relation {
+    /// The short name that the graph has for it.
+    pub(crate) fn name(self) -> &'static str {
+        match self {
+            Relation::ProgramOrder => "po",
+            Relation::ReadsFrom => "rf",
+            Relation::Coherence => "co",
+            Relation::FromReads => "fr",
+        }
+    }
+}
+
+#[derive(Clone, Copy, PartialEq, Eq, Debug)]
+pub(crate) struct Edge {
+    pub(crate) from: Event,
+    pub(crate) to: Event,
+    pub(crate) relation: Relation,
+}
+
+/// The last access of the same thread before an access.
+fn access_before(accesses: &[Access], access: &Access) -> Option<Event> {
+    let mut last = None;
+    for other in accesses {
+        if other.thread == access.thread && other.step < access.step {
+            last = Some(Event::Access(other.step));
+        }
+    }
+    last
+}
+
+fn push_program_order(edges: &mut Vec<Edge>, accesses: &[Access]) -> Result<(), AllocError> {
+    for access in accesses {
+        if let Some(from) = access_before(accesses, access) {
+            edges.push(Edge {
+                from,
+                to: Event::Access(access.step),
+                relation: Relation::ProgramOrder,
+            })?;
+        }
+    }
+    Ok(())
+}
+
+fn push_reads_from(edges: &mut Vec<Edge>, accesses: &[Access]) -> Result<(), AllocError> {
+    for access in accesses {
+        if let Some(from) = access.source {
+            edges.push(Edge {
+                from,
+                to: Event::Access(access.step),
+                relation: Relation::ReadsFrom,
+            })?;
+        }
+    }
+    Ok(())
+}
+
+fn push_coherence(edges: &mut Vec<Edge>, execution: &Execution) -> Result<(), AllocError> {
+    for store in &execution.in_memory {
+        edges.push(Edge {
+            from: write_before(&execution.in_memory, *store),
+            to: Event::Access(store.step),
+            relation: Relation::Coherence,
+        })?;
+    }
+    Ok(())
+}
+
+/// The write that reaches memory next after a write of the same location.
+fn next_write(edges: &[Edge], write: Event) -> Option<Event> {
+    for edge in edges {
+        if edge.relation == Relation::Coherence && edge.from == write {
+            return Some(edge.to);
+        }
+    }
+    None
+}
+
+/// The edge from a read to the write after the one that it reads from, which an XCHG is itself.
+fn from_read(edges: &[Edge], access: &Access) -> Option<Edge> {
+    let from = Event::Access(access.step);
+    let to = next_write(edges, access.source?)?;
+    if to == from {
+        return None;
+    }
+    Some(Edge {
+        from,
+        to,
+        relation: Relation::FromReads,
+    })
+}
+
+/// Adds the edges from reads to edges among which those of coherence are.
+fn push_from_reads(edges: &mut Vec<Edge>, accesses: &[Access]) -> Result<(), AllocError> {
+    for access in accesses {
+        if let Some(edge) = from_read(edges, access) {
+            edges.push(edge)?;
+        }
+    }
+    Ok(())
+}
+
+/// The edges of a run's candidate execution, each relation by its nearest pairs.
+pub(crate) fn edges_of(alloc: Global, execution: &Execution) -> Result<Vec<Edge>, AllocError> {
+    let mut edges = Vec::new(alloc);
+    push_program_order(&mut edges, &execution.accesses)?;
+    push_reads_from(&mut edges, &execution.accesses)?;
+    push_coherence(&mut edges, execution)?;
+    push_from_reads(&mut edges, &execution.accesses)?;
+    Ok(edges)
+}
