@@ -18,7 +18,8 @@ fn push_quoted(out: &mut Vec<u8>, text: &[u8]) -> Result<(), AllocError> {
         }
         out.push(*byte)?;
     }
-    out.push(b'"')
+    out.push(b'"')?;
+    Ok(())
 }
 
 /// The name of a node: `run0_init_x` of an initial write, `run0_step1` of an access.
@@ -105,7 +106,9 @@ fn push_threads(
     accesses: &[Access],
 ) -> Result<(), AllocError> {
     for thread in 0..litmus.program.threads().len() {
-        let text = format!(in alloc; "    subgraph cluster_run{run}_P{thread} {{\n      label=\"P{thread}\";\n")?;
+        let text = format!(in alloc;
+            "    subgraph cluster_run{run}_P{thread} {{\n      label=\"P{thread}\";\n"
+        )?;
         out.extend_from_slice(text.as_bytes())?;
         push_accesses(alloc, out, &litmus.names, run, accesses, thread)?;
         out.extend_from_slice(b"    }\n")?;
@@ -182,14 +185,7 @@ impl RunGraph {
         let run = self.runs;
         push_initial_writes(alloc, &mut self.text, litmus, run, &edges)?;
         push_threads(alloc, &mut self.text, litmus, run, &execution.accesses)?;
-        push_edges(
-            alloc,
-            &mut self.text,
-            &litmus.names,
-            run,
-            &edges,
-            &cycle,
-        )
+        push_edges(alloc, &mut self.text, &litmus.names, run, &edges, &cycle)
     }
 
     /// Adds the candidate execution of a run of a litmus text's program, under a title: an event for each access of a

@@ -144,7 +144,13 @@ pub(crate) fn memory_cell(
 ) -> Result<Vec<u8>, AllocError> {
     let mut out = Vec::new(alloc);
     if let Some(store) = written(&litmus.program, step) {
-        push_value(alloc, &mut out, &litmus.names, store.location as usize, store.value)?;
+        push_value(
+            alloc,
+            &mut out,
+            &litmus.names,
+            store.location as usize,
+            store.value,
+        )?;
     }
     Ok(out)
 }

@@ -14,10 +14,20 @@ use gap_sets::{Costs, GapSet};
 use litmus_text::Litmus;
 use placed_text::{Found, TextFault, place_gaps, read_gap_costs, read_program};
 use report::answer_line;
+use run_graph::RunGraph;
 use std::alloc::{AllocError, Global};
 use std::sync::Wait;
 use std::thread::Threads;
 use tso_program::{Program, Shown};
+
+/// Why the gaps of an answer are needed.
+#[derive(Debug, Drop)]
+pub struct Reasons {
+    /// What is printed.
+    pub lines: Vec<u8>,
+    /// The candidate executions of the runs, as a graph in Graphviz's language.
+    pub graph: Vec<u8>,
+}
 
 /// Why each gap of the answer is needed.
 fn reasons(
@@ -27,24 +37,26 @@ fn reasons(
     costs: &Costs,
     solver: &Solver,
     set: &GapSet,
-) -> Result<Vec<u8>, AllocError>
+) -> Result<Reasons, AllocError>
     requires question { solver.now.question ≡ asked litmus.now.program shown.now }
     requires answer { IsTheAnswer solver.now.question costs.now set.now }
     requires one_each { length costs.now ≡ gap_count solver.now.question.program.threads }
-    ensures { IfOk result (λ lines. TellsReasons litmus.now shown.now set.now (numbers_of_set set.now) lines.items) }
+    ensures { IfOk result (λ reasons. TellsReasons litmus.now shown.now set.now (numbers_of_set set.now) reasons.lines.items) }
 {
     // For the proof alone: a set has gap numbers.
     let _ = set.len();
     let mut lines = Vec::new(alloc);
+    let mut graph = RunGraph::new(alloc)?;
     for gap in set.iter() {
         let run = run_without(solver, costs, set, gap)?;
-        let reason = reason_lines(alloc, litmus, shown, set, gap, &run)?;
+        let reason = reason_lines(alloc, &mut graph, litmus, shown, set, gap, &run)?;
         lines.extend_from_slice(&reason)?;
     }
-    Ok(lines)
+    let graph = graph.into_text()?;
+    Ok(Reasons { lines, graph })
 }
 
-/// The reasons, or a line that no gap is needed.
+/// The lines of reasons, or a line that no gap is needed.
 fn reasons_or_none(alloc: Global, reasons: Vec<u8>) -> Result<Vec<u8>, AllocError>
     ensures { IfOk result (λ said. said.items ≡ reasons_or_none reasons.items) }
 {
@@ -62,23 +74,24 @@ fn explained(
     shown: &Shown,
     costs: &Costs,
     found: &Found,
-) -> Result<Vec<u8>, AllocError>
+) -> Result<Reasons, AllocError>
     requires question { found.now.solver.question ≡ asked litmus.now.program shown.now }
     requires answer { IsTheAnswer found.now.solver.question costs.now found.now.placed.set }
     requires one_each { length costs.now ≡ gap_count found.now.solver.question.program.threads }
-    ensures { IfOk result (λ text. TellsWhy litmus.now shown.now found.now.placed.set (answer_line litmus.now.program shown.now found.now.placed.set found.now.placed.cost) text.items) }
+    ensures { IfOk result (λ told. TellsWhy litmus.now shown.now found.now.placed.set (answer_line litmus.now.program shown.now found.now.placed.set found.now.placed.cost) told.lines.items) }
 {
     let set = found.placed.set;
     let reasons = reasons(alloc, litmus, shown, costs, &found.solver, &set)?;
-    let said = reasons_or_none(alloc, reasons)?;
+    let Reasons { lines: each, graph } = reasons;
+    let said = reasons_or_none(alloc, each)?;
     let mut lines = answer_line(alloc, &litmus.program, shown, set, found.placed.cost)?;
     lines.extend_from_slice(&said)?;
-    Ok(lines)
+    Ok(Reasons { lines, graph })
 }
 
 /// Places fences in the program of a litmus text as [`placed_text::place_text`] does, and says why each of them is
 /// needed: after the answer line, for each gap of the answer a run with the other gaps fenced, whose outcome no
-/// sequential run has.
+/// sequential run has. The graph has these runs.
 pub fn why_text<R: Threads + Sync, W: Wait + Sync>(
     rt: &R,
     wait: &W,
@@ -87,8 +100,8 @@ pub fn why_text<R: Threads + Sync, W: Wait + Sync>(
     costs: Option<&[u8]>,
     observed: bool,
     workers: u8,
-) -> Result<Vec<u8>, TextFault>
-    ensures told { IfOk result (λ text. IsWhyText litmus.now (option_map (λ text. text.now) costs.entry) observed text.items) }
+) -> Result<Reasons, TextFault>
+    ensures told { IfOk result (λ reasons. IsWhyText litmus.now (option_map (λ text. text.now) costs.entry) observed reasons.lines.items) }
     ensures fault { IfErr result (HasNoPlacedText litmus.now (option_map (λ text. text.now) costs.entry) workers) }
 {
     let source = read_program(alloc, litmus)?;
@@ -96,7 +109,7 @@ pub fn why_text<R: Threads + Sync, W: Wait + Sync>(
     let shown = source.shown_as(observed);
     let found = place_gaps(rt, wait, alloc, &source.program, &shown, &costs, workers)?;
     match explained(alloc, &source, &shown, &costs, &found) {
-        Ok(text) => Ok(text),
+        Ok(reasons) => Ok(reasons),
         Err(_) => Err(TextFault::OutOfMemory),
     }
 }

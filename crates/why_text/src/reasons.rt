@@ -12,10 +12,11 @@ ghost use Rattle.why_text.specs.WhyTexts.{run_line, reason_text, IsReason};
 use cover_solver::{ForeignRun, Oracle, Solver, Verdict};
 use gap_sets::{Costs, GapSet};
 use litmus_text::Litmus;
-use report::{outcome_line, passed_line, without_line};
+use report::{outcome_line, passed_line, push_gap, without_line};
+use run_graph::RunGraph;
 use run_table::run_table;
 use std::alloc::{AllocError, Global};
-use tso_machine::{Label, Model, steps, write_run};
+use tso_machine::{Label, Model, Step, steps, write_run};
 use tso_program::{Program, Shown};
 
 /// The other gaps of the answer don't serve: a run that passes none of them.
@@ -52,17 +53,37 @@ fn run_line(alloc: Global, labels: &[Label]) -> Result<Vec<u8>, AllocError>
     Ok(line)
 }
 
-/// The table of a run where the other gaps of the answer are fenced.
+/// Adds a run to a graph, under the gap that it needs.
+fn push_graph(
+    alloc: Global,
+    graph: &mut RunGraph,
+    litmus: &Litmus<Program>,
+    gap: u8,
+    steps: &[Step],
+) -> Result<(), AllocError> {
+    let mut title = String::from_str(alloc, "without")?;
+    push_gap(&mut title, &litmus.program, gap)?;
+    graph.push_run(alloc, litmus, title.as_bytes(), steps)
+}
+
+/// The table of a run where the other gaps of the answer are fenced, which is added to a graph.
 fn table_of(
     alloc: Global,
+    graph: &mut RunGraph,
     litmus: &Litmus<Program>,
-    others: &GapSet,
+    gaps: &GapSet,
+    gap: u8,
     run: &ForeignRun,
-) -> Result<Vec<u8>, AllocError> {
-    match steps(alloc, run.program(), others, Model::Buffered, run.labels()) {
-        Ok(steps) => run_table(alloc, litmus, &steps),
-        Err(_) => Err(AllocError),
-    }
+) -> Result<Vec<u8>, AllocError>
+    requires gap { gap < MAX_GAPS }
+{
+    let others = gaps.without(gap);
+    let steps = match steps(alloc, run.program(), &others, Model::Buffered, run.labels()) {
+        Ok(steps) => steps,
+        Err(_) => return Err(AllocError),
+    };
+    push_graph(alloc, graph, litmus, gap, &steps)?;
+    run_table(alloc, litmus, &steps)
 }
 
 /// A gap, and a run: its labels, its table, what it leaves, the gaps that it passes, and that no sequential run leaves
@@ -89,9 +110,10 @@ fn lines_with(
     Ok(lines)
 }
 
-/// Why a gap of the answer is needed, by a run that passes none of the others.
+/// Why a gap of the answer is needed, by a run that passes none of the others, and that is added to a graph.
 pub(crate) fn reason_lines(
     alloc: Global,
+    graph: &mut RunGraph,
     litmus: &Litmus<Program>,
     shown: &Shown,
     gaps: &GapSet,
@@ -104,6 +126,6 @@ pub(crate) fn reason_lines(
     requires gap { gap < MAX_GAPS }
     ensures { IfOk result (λ lines. IsReason litmus.now shown.now gaps.now gap lines.items) }
 {
-    let table = table_of(alloc, litmus, &gaps.without(gap), run)?;
+    let table = table_of(alloc, graph, litmus, gaps, gap, run)?;
     lines_with(alloc, litmus, shown, gap, run, &table)
 }

@@ -20,7 +20,7 @@ returns-in-Ok-clause-told g c =
     let source = c.in_ok-source.source in
     let shown = shown_as source c.args.observed in
     let placed = c.in_ok-found.found.placed in
-    let text = c.in-Ok.text.items in
+    let text = c.in-Ok.reasons.lines.items in
     let is : IsPlacement (question_of source c.args.observed) c.in_ok-costs.costs placed = subst (λ (s : Shown). IsPlacement (asked source.program s) c.in_ok-costs.costs placed) c.shown_as-shown.ensures c.in_ok-found.ensures.placed in
     record {
       source = source;
