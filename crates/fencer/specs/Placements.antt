@@ -55,10 +55,10 @@ KeepFiles named files left = (name : List ℕ) → (named ≡ Some name → ⊥)
 abbrev pub KeepAllFiles : (List ℕ → Option (List ℕ)) → (List ℕ → Option (List ℕ)) → Type 0
 KeepAllFiles files left = (name : List ℕ) → left name ≡ files name
 
--- the certificate file, where one is named, holds this text
-abbrev pub HoldsCertificate : Option (List ℕ) → (List ℕ → Option (List ℕ)) → List ℕ → Type 0
-HoldsCertificate None left certificate = ⊤
-HoldsCertificate (Some name) left certificate = HoldsBytes (left name) certificate
+-- the file that is written, where one is named, holds this text
+abbrev pub HoldsFile : Option (List ℕ) → (List ℕ → Option (List ℕ)) → List ℕ → Type 0
+HoldsFile None left written = ⊤
+HoldsFile (Some name) left written = HoldsBytes (left name) written
 
 -- what the files hold that are read; `-` as the litmus file is the input
 pub record AreTexts (q : Placement) (input : Option (List ℕ)) (files : List ℕ → Option (List ℕ)) (litmus : List ℕ) (costs : Option (List ℕ)) : Type 0 where
@@ -72,10 +72,10 @@ pub data HasNoTexts (q : Placement) (input : Option (List ℕ)) (files : List �
 
 -- ---- answers, each with its status
 
--- the lines where the certificate file holds the certificate; or that this file can't be written
-pub data IsDelivered (named : Option (List ℕ)) (left : List ℕ → Option (List ℕ)) (lines certificate : List ℕ) : ℕ → List ℕ → Type 0 where
-  kept : HoldsCertificate named left certificate → IsDelivered named left lines certificate 0 lines
-  not_kept : IsSome named → IsDelivered named left lines certificate 1 (file_line file.Write)
+-- the lines where the file that is named holds what is written to it; or that this file can't be written
+pub data IsDelivered (named : Option (List ℕ)) (left : List ℕ → Option (List ℕ)) (lines written : List ℕ) : ℕ → List ℕ → Type 0 where
+  kept : HoldsFile named left written → IsDelivered named left lines written 0 lines
+  not_kept : IsSome named → IsDelivered named left lines written 1 (file_line file.Write)
 
 -- the answer to texts; or why there is no answer, and then no file is changed
 pub data IsJudged (q : Placement) (litmus : List ℕ) (costs : Option (List ℕ)) (files left : List ℕ → Option (List ℕ)) : ℕ → List ℕ → Type 0 where

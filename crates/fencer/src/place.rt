@@ -3,7 +3,7 @@
 ghost use Rattle.std.specs.Prelude.{◌≡◌, ◌++◌, IfErr, IfOk, IsOkUnless, IsSome, OnErr, OnOk, option_map};
 ghost use Rattle.program_streams.specs.Streams.{Prints};
 ghost use Rattle.placed_text.specs.TextFaults.{HasNoPlacedText};
-ghost use Rattle.fencer.specs.Placements.{name_of, place_line, text_fault_line, PrintsPlacement, HoldsCertificate, KeepFiles, IsDelivered, IsJudged, AreTexts, HasNoTexts, IsPlaced};
+ghost use Rattle.fencer.specs.Placements.{name_of, place_line, text_fault_line, PrintsPlacement, HoldsFile, KeepFiles, IsDelivered, IsJudged, AreTexts, HasNoTexts, IsPlaced};
 
 use fence_place::PlaceFault;
 use fencer_words::Placement;
@@ -25,11 +25,11 @@ pub(crate) struct Texts {
     pub(crate) costs: Option<Vec<u8>>,
 }
 
-/// What is printed for what is placed, and its certificate.
+/// What is printed, and what is written to the file that is named, if one is.
 #[derive(Debug, Drop)]
-struct Answer {
-    lines: Vec<u8>,
-    certificate: Vec<u8>,
+pub(crate) struct Answer {
+    pub(crate) lines: Vec<u8>,
+    pub(crate) written: Vec<u8>,
 }
 
 /// Why nothing is placed.
@@ -75,7 +75,7 @@ pub(crate) fn read_texts<S: FileStore, R: Read>(
 /// The answer line, followed by the program's text.
 fn joined(texts: PlacedText) -> Result<Answer, TextFault>
     ensures lines { IfOk result (λ answer. answer.lines.items ≡ texts.answer.items ++ texts.program.items) }
-    ensures certificate { IfOk result (λ answer. answer.certificate.items ≡ texts.certificate.items) }
+    ensures certificate { IfOk result (λ answer. answer.written.items ≡ texts.certificate.items) }
     ensures err { IsOkUnless result TextFault.OutOfMemory }
 {
     let PlacedText {
@@ -85,7 +85,10 @@ fn joined(texts: PlacedText) -> Result<Answer, TextFault>
     } = texts;
     let mut lines = answer;
     match lines.extend_from_slice(&program) {
-        Ok(()) => Ok(Answer { lines, certificate }),
+        Ok(()) => Ok(Answer {
+            lines,
+            written: certificate,
+        }),
         Err(_) => Err(TextFault::OutOfMemory),
     }
 }
@@ -98,7 +101,7 @@ fn answer_of<T: Threads + Sync, U: Wait + Sync>(
     asked: &Placement,
     texts: &Texts,
 ) -> Result<Answer, TextFault>
-    ensures placed { IfOk result (λ answer. PrintsPlacement texts.now.litmus.items (option_map (λ text. text.items) texts.now.costs) asked.now.observed answer.lines.items answer.certificate.items) }
+    ensures placed { IfOk result (λ answer. PrintsPlacement texts.now.litmus.items (option_map (λ text. text.items) texts.now.costs) asked.now.observed answer.lines.items answer.written.items) }
     ensures fault { IfErr result (HasNoPlacedText texts.now.litmus.items (option_map (λ text. text.items) texts.now.costs) asked.now.workers) }
 {
     let costs = texts.costs.as_deref();
@@ -114,36 +117,36 @@ fn answer_of<T: Threads + Sync, U: Wait + Sync>(
     joined(placed)
 }
 
-/// Writes a certificate to its file, where one is named.
-fn keep_certificate<S: WritableFileStore>(
+/// Writes a text to its file, where one is named.
+fn keep_file<S: WritableFileStore>(
     files: &mut S,
     name: Option<&str>,
-    certificate: &[u8],
+    text: &[u8],
 ) -> Result<(), FileFault>
-    ensures kept { OnOk result (HoldsCertificate (option_map (λ name. name.now) name.entry) (S.held files.new) certificate.now) }
+    ensures kept { OnOk result (HoldsFile (option_map (λ name. name.now) name.entry) (S.held files.new) text.now) }
     ensures others { KeepFiles (option_map (λ name. name.now) name.entry) (S.held files.old) (S.held files.new) }
     ensures named { OnErr result (IsSome (option_map (λ name. name.now) name.entry)) }
     ensures fault { IfErr result (λ fault. fault ≡ FileFault.Write) }
 {
     match name {
-        Some(name) => files.write_file(name, certificate),
+        Some(name) => files.write_file(name, text),
         None => Ok(()),
     }
 }
 
-/// Writes the certificate, then prints the answer, and returns the status.
-fn deliver<S: WritableFileStore, W: Write>(
+/// Writes what is written to a file, then prints the lines, and returns the status.
+pub(crate) fn deliver<S: WritableFileStore, W: Write>(
     alloc: Global,
     files: &mut S,
     name: Option<&str>,
     answer: Answer,
     output: &mut W,
 ) -> u8
-    ensures told { Prints (IsDelivered (option_map (λ name. name.now) name.entry) (S.held files.new) answer.lines.items answer.certificate.items) (W.contents output.old) (W.contents output.new) result }
+    ensures told { Prints (IsDelivered (option_map (λ name. name.now) name.entry) (S.held files.new) answer.lines.items answer.written.items) (W.contents output.old) (W.contents output.new) result }
     ensures others { KeepFiles (option_map (λ name. name.now) name.entry) (S.held files.old) (S.held files.new) }
 {
-    let Answer { lines, certificate } = answer;
-    match keep_certificate(files, name, &certificate) {
+    let Answer { lines, written } = answer;
+    match keep_file(files, name, &written) {
         Ok(()) => print(output, Ok(lines), 0),
         Err(fault) => print(output, file_line(alloc, fault), 1),
     }

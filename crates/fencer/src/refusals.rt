@@ -69,7 +69,7 @@ fn solve_line(alloc: Global, fault: SolveFault) -> Result<Vec<u8>, AllocError>
 }
 
 /// The line of a refusal.
-fn refusal_line(alloc: Global, why: Refusal) -> Result<Vec<u8>, AllocError>
+pub(crate) fn refusal_line(alloc: Global, why: Refusal) -> Result<Vec<u8>, AllocError>
     ensures { IfOk result (λ line. line.items ≡ refusal_line why) }
 {
     match why {

@@ -1,42 +1,65 @@
 //! Traces: the table of a run with its lines, or why there is no run.
 
-ghost use Rattle.std.specs.Prelude.{◌≡◌, ◌++◌, IfOk, IfErr, string_bytes};
+ghost use Rattle.std.specs.Prelude.{◌≡◌, ◌++◌, IfOk, IfErr, option_map};
 ghost use Rattle.tso_program.specs.declared.shown.Shown.TheVariants.{All};
 ghost use Rattle.std.specs.FinSet as set;
 ghost use Rattle.tso_machine.specs.Faults.{ReplayFaultIs};
 ghost use Rattle.tso_machine.specs.Modes.{mode_of};
 ghost use Rattle.report.specs.Answers.{outcome_line, passed_line};
 ghost use Rattle.program_streams.specs.Streams.{Prints};
+ghost use Rattle.fencer.specs.Placements.{KeepFiles};
 ghost use Rattle.fencer.specs.Replays.{label_words_text, HasNoRun};
-ghost use Rattle.fencer.specs.Traces.{PrintsTrace, IsTrace};
+ghost use Rattle.fencer.specs.Traces.{PrintsTrace, IsTrace, IsTraceOf};
 
-use crate::refusals::{Refusal, print_answer};
+use crate::place::{Answer, deliver};
+use crate::refusals::{Refusal, refusal_line};
 use crate::replays::{ended_lines, steps_of};
 use fencer_words::Run;
 use gap_sets::GapSet;
 use litmus_text::{Litmus, read_litmus};
-use program_streams::{FileStore, TEXT_LIMIT, file_line, named_bytes, print};
+use program_streams::{TEXT_LIMIT, WritableFileStore, file_line, named_bytes, print};
+use run_graph::RunGraph;
 use run_table::run_table;
 use std::alloc::{AllocError, Global};
 use std::io::{Read, Write};
-use tso_machine::{Ended, Label, Model, ReplayFault, replay, steps};
+use tso_machine::{Ended, Label, Model, ReplayFault, Step, replay, steps};
 use tso_program::Program;
 
-/// The table of the steps that labels make.
-fn table_of(
+/// What is drawn of a run.
+#[derive(Debug, Drop)]
+struct Drawings {
+    table: Vec<u8>,
+    graph: Vec<u8>,
+}
+
+/// The table and the graph of steps.
+fn drawn(
+    alloc: Global,
+    litmus: &Litmus<Program>,
+    steps: &[Step],
+) -> Result<Drawings, AllocError> {
+    let table = run_table(alloc, litmus, steps)?;
+    let mut graph = RunGraph::new(alloc)?;
+    graph.push_run(alloc, litmus, litmus.name.as_slice(), steps)?;
+    let graph = graph.into_text()?;
+    Ok(Drawings { table, graph })
+}
+
+/// The table and the graph of the steps that labels make.
+fn drawings_of(
     alloc: Global,
     litmus: &Litmus<Program>,
     model: Model,
     labels: &[Label],
-) -> Result<Vec<u8>, ReplayFault>
+) -> Result<Drawings, ReplayFault>
     ensures { IfErr result (ReplayFaultIs litmus.now.program (mode_of litmus.now.program set.empty model) labels.now) }
 {
     let steps = match steps(alloc, &litmus.program, &GapSet::empty(), model, labels) {
         Ok(steps) => steps,
         Err(fault) => return Err(fault),
     };
-    match run_table(alloc, litmus, &steps) {
-        Ok(table) => Ok(table),
+    match drawn(alloc, litmus, &steps) {
+        Ok(drawings) => Ok(drawings),
         Err(_) => Err(ReplayFault::OutOfMemory),
     }
 }
@@ -56,44 +79,64 @@ fn traced_lines(
     Ok(lines)
 }
 
-/// The lines of the run that label words spell in the program that a text spells. The text is judged
+/// The lines of the run that label words spell in the program that a text spells, and its graph. The text is judged
 /// before the labels, and these before the replay.
-fn trace_lines(
+fn trace_answer(
     alloc: Global,
     bytes: &[u8],
     model: Model,
     labels: &[String],
-) -> Result<Vec<u8>, Refusal>
-    ensures run { IfOk result (λ lines. PrintsTrace model (label_words_text labels.now) bytes.now lines.items) }
+) -> Result<Answer, Refusal>
+    ensures run { IfOk result (λ answer. PrintsTrace model (label_words_text labels.now) bytes.now answer.lines.items) }
     ensures refused { IfErr result (HasNoRun model (label_words_text labels.now) bytes.now) }
 {
     let litmus = read_litmus(alloc, bytes)?;
     let labels = steps_of(alloc, labels)?;
     let ended = replay(alloc, &litmus.program, &GapSet::empty(), model, &labels)?;
-    let table = table_of(alloc, &litmus, model, &labels)?;
+    let drawings = drawings_of(alloc, &litmus, model, &labels)?;
+    let Drawings { table, graph } = drawings;
     match traced_lines(alloc, table, &litmus, &ended) {
-        Ok(lines) => Ok(lines),
+        Ok(lines) => Ok(Answer {
+            lines,
+            written: graph,
+        }),
         Err(_) => Err(Refusal::Replay(ReplayFault::OutOfMemory)),
     }
 }
 
-/// Shows the steps of label words on the program of a litmus file as a table, prints the answer, and returns the
-/// status.
-pub fn run_trace<S: FileStore, R: Read, W: Write>(
+/// Judges a text, writes the graph, prints the lines, and returns the status.
+fn trace_text<S: WritableFileStore, W: Write>(
     alloc: Global,
-    files: &S,
+    files: &mut S,
     asked: &Run,
+    graph: Option<&str>,
+    bytes: &[u8],
+    output: &mut W,
+) -> u8
+    ensures told { Prints (IsTraceOf asked.now (option_map (λ name. name.now) graph.entry) bytes.now (S.held files.old) (S.held files.new)) (W.contents output.old) (W.contents output.new) result }
+    ensures others { KeepFiles (option_map (λ name. name.now) graph.entry) (S.held files.old) (S.held files.new) }
+{
+    match trace_answer(alloc, bytes, asked.model, asked.labels.as_slice()) {
+        Ok(answer) => deliver(alloc, files, graph, answer, output),
+        Err(why) => print(output, refusal_line(alloc, why), 1),
+    }
+}
+
+/// Shows the steps of label words on the program of a litmus file as a table, writes their graph to a file if one is
+/// named, prints the answer, and returns the status.
+pub fn run_trace<S: WritableFileStore, R: Read, W: Write>(
+    alloc: Global,
+    files: &mut S,
+    asked: &Run,
+    graph: Option<&str>,
     input: &mut R,
     output: &mut W,
 ) -> u8
-    ensures { Prints (IsTrace asked.now.model (label_words_text asked.now.labels.items) (string_bytes asked.now.litmus) (R.remaining input.old) (S.held files.now)) (W.contents output.old) (W.contents output.new) result }
+    ensures told { Prints (IsTrace asked.now (option_map (λ name. name.now) graph.entry) (R.remaining input.old) (S.held files.old) (S.held files.new)) (W.contents output.old) (W.contents output.new) result }
+    ensures others { KeepFiles (option_map (λ name. name.now) graph.entry) (S.held files.old) (S.held files.new) }
 {
-    match named_bytes(alloc, files, asked.litmus.as_str(), input, TEXT_LIMIT) {
-        Ok(bytes) => print_answer(
-            alloc,
-            trace_lines(alloc, &bytes, asked.model, asked.labels.as_slice()),
-            output,
-        ),
+    match named_bytes(alloc, &*files, asked.litmus.as_str(), input, TEXT_LIMIT) {
+        Ok(bytes) => trace_text(alloc, files, asked, graph, &bytes, output),
         Err(fault) => print(output, file_line(alloc, fault), 1),
     }
 }
