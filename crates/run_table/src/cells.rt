@@ -49,7 +49,7 @@ pub(crate) fn instruction_cell(
     let mut out = Vec::new(alloc);
     if let Label::Exec(t) = step.label {
         if let Some(code) = instr_at(&litmus.program, t, step.before.local.place) {
-            push_code(alloc, &mut out, litmus, &GapSet::empty(), t, code)?;
+            push_code(&mut out, litmus, &GapSet::empty(), t, code)?;
         }
     }
     Ok(out)
