@@ -11,7 +11,6 @@ use Rattle.tso_program.specs.Shown.{Question, show, asked}
 use Rattle.tso_program.specs.Limits.{JumpForward}
 use Rattle.tso_program.specs.Fences.{gaps_in}
 use Rattle.tso_machine.specs.declared.label.Label.{Label}
-use Rattle.tso_machine.specs.declared.label.Model.TheVariants as models
 use Rattle.tso_machine.specs.declared.replaying.ReplayFault.{ReplayFault}
 use Rattle.tso_machine.specs.declared.replaying.ReplayFault.TheVariants as replays
 use Rattle.tso_machine.specs.Faults.{ReplayFaultIs}

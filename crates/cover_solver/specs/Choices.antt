@@ -7,7 +7,8 @@ use Rattle.exec_axioms.specs.Choices.{IsRead, HasSource, IsOrdered, MayFollow}
 use Rattle.tree_laws.specs.CoverTrees.{event_of}
 use Rattle.cover_judge.specs.declared.choice.Choice.{Choice}
 use Rattle.cover_judge.specs.declared.choice.Choice.TheVariants as choice
-use Rattle.cover_judge.specs.Choices.{IsValueOpen, IsSourceOpen, AreValueChoices, AreSourceChoices}
+use Rattle.cover_judge.specs.Choices.{IsValueOpen, IsSourceOpen, AreValueChoices, AreSourceChoices, MayChooseEach}
+use Rattle.cover_solver.specs.declared.branch.Branch.{Branch}
 use Rattle.cover_solver.specs.declared.choices_left.OpenChoice.{OpenChoice}
 use Rattle.cover_solver.specs.declared.choices_left.OpenChoice.TheVariants.{Value, Source, Order}
 
@@ -32,3 +33,9 @@ abbrev pub AreChoicesOf : ProgramSketch → OpenChoice → List Choice → Type 
 AreChoicesOf s (Value t) choices = AreValueChoices s t choices
 AreChoicesOf s (Source read) choices = AreSourceChoices s read choices
 AreChoicesOf s (Order first second) choices = choices ≡ choice.Order first second ∷ choice.Order second first ∷ []
+
+-- it is left to be chosen, these are its choices, and each of them may be made
+pub record IsBranch (s : ProgramSketch) (branch : Branch) : Type 0 where
+  pub is_open : IsOpen s branch.next
+  pub choices : AreChoicesOf s branch.next branch.choices.items
+  pub may : MayChooseEach s branch.choices.items

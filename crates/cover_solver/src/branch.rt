@@ -1,38 +1,77 @@
 //! Branches: what is chosen next, and its choices.
-ghost use Rattle.std.specs.Prelude.{◌≡◌, IfOk, MatchOption, [], ◌∷◌};
+ghost use Rattle.std.specs.Prelude.{◌≡◌, IfOk, MatchOption, All, [], ◌∷◌};
 ghost use Rattle.exec_axioms.specs.Complete.{IsComplete};
 ghost use Rattle.cover_judge.specs.Choices.{MayChooseEach};
-ghost use Rattle.cover_solver.specs.Choices.{IsOpen, AreChoicesOf};
+ghost use Rattle.cover_solver.specs.Choices.{IsOpen, IsBranch, AreChoicesOf};
 ghost use Rattle.cover_solver.specs.Ordered.{Ascend};
 
 use crate::choices_left::{OpenChoice, open_choices};
 use crate::preference::preferred;
-use crate::unsourced::first_unsourced;
 use cert_forest::AccessId;
 use cover_judge::{Choice, source_choices, value_choices};
 use exec_axioms::Sketch;
 use std::alloc::{AllocError, Global};
 use tso_program::{Outcome, Shown};
 
+/// Something that is left to be chosen, and its choices.
+#[derive(Drop)]
+pub(crate) struct Branch {
+    pub(crate) next: OpenChoice,
+    pub(crate) choices: Vec<Choice>,
+}
+
 /// What is chosen next. `None` if the sketch is complete.
-pub(crate) fn next_choice(
+pub(crate) fn next_branch(
     alloc: Global,
     sketch: &Sketch,
     shown: &Shown,
     outcomes: &[Outcome],
-) -> Result<Option<OpenChoice>, AllocError>
+) -> Result<Option<Branch>, AllocError>
     requires { Ascend outcomes.now }
-    ensures { IfOk result (λ next. MatchOption next (IsComplete sketch.now) (IsOpen sketch.now)) }
+    ensures { IfOk result (λ branch. MatchOption branch (IsComplete sketch.now) (IsBranch sketch.now)) }
 {
-    let left = open_choices(alloc, sketch)?;
-    if left.is_empty() {
+    let mut branches = branches_of(alloc, sketch)?;
+    if branches.is_empty() {
         return Ok(None);
     }
-    let number = match first_unsourced(alloc, sketch, &left)? {
-        Some(number) => number,
-        None => preferred(alloc, sketch, shown, outcomes, &left)?,
-    };
-    Ok(Some(left[number]))
+    let number = preferred(sketch, shown, outcomes, &branches)?;
+    Ok(Some(branches.remove(number)))
+}
+
+/// All that is left to be chosen, with its choices. Where one has none, it closes the sketch, and no
+/// other needs a look: then it alone.
+fn branches_of(alloc: Global, sketch: &Sketch) -> Result<Vec<Branch>, AllocError>
+    ensures each { IfOk result (λ branches. All (IsBranch sketch.now) branches.items) }
+    ensures complete { IfOk result (λ branches. branches.items ≡ [] → IsComplete sketch.now) }
+{
+    let left = open_choices(alloc, sketch)?;
+    let mut branches = Vec::new(alloc);
+    for next in &left {
+        let branch = branch_of(alloc, sketch, *next)?;
+        if branch.choices.is_empty() {
+            return only(alloc, branch);
+        }
+        branches.push(branch)?;
+    }
+    Ok(branches)
+}
+
+/// One branch alone.
+fn only(alloc: Global, branch: Branch) -> Result<Vec<Branch>, AllocError>
+    ensures { IfOk result (λ branches. branches.items ≡ branch ∷ []) }
+{
+    let mut branches = Vec::new(alloc);
+    branches.push(branch)?;
+    Ok(branches)
+}
+
+/// What is left to be chosen, with its choices.
+fn branch_of(alloc: Global, sketch: &Sketch, next: OpenChoice) -> Result<Branch, AllocError>
+    requires { IsOpen sketch.now next }
+    ensures { IfOk result (IsBranch sketch.now) }
+{
+    let choices = choices_of(alloc, sketch, next)?;
+    Ok(Branch { next, choices })
 }
 
 /// The choices that there are.

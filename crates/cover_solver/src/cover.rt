@@ -8,7 +8,7 @@ ghost use Rattle.cover_judge.specs.Choices.{MayChooseEach};
 ghost use Rattle.cover_solver.specs.Ordered.{Ascend};
 ghost use Rattle.cover_solver.specs.Covers.{IsCoverAt, IsValidAt, AreChildren, IsWholeCover, tree_over, IsArity, StopIs};
 
-use crate::branch::{choices_of, next_choice};
+use crate::branch::next_branch;
 use crate::choices_left::OpenChoice;
 use crate::fault::Stop;
 use crate::leaf::leaf;
@@ -60,14 +60,11 @@ fn cover_from(
     if let Some(tree) = leaf(alloc, sketch, shown, outcomes)? {
         return Ok(tree);
     }
-    match next_choice(alloc, sketch, shown, outcomes)? {
-        Some(next) => {
-            let choices = choices_of(alloc, sketch, next)?;
-            match cover_each(alloc, sketch, shown, &choices, outcomes)? {
-                Children::Each(trees) => Ok(node_over(alloc, next, trees)?),
-                Children::One(tree) => Ok(tree),
-            }
-        }
+    match next_branch(alloc, sketch, shown, outcomes)? {
+        Some(branch) => match cover_each(alloc, sketch, shown, &branch.choices, outcomes)? {
+            Children::Each(trees) => Ok(node_over(alloc, branch.next, trees)?),
+            Children::One(tree) => Ok(tree),
+        },
         None => Err(Stop::New(shown_run(alloc, sketch, shown)?)),
     }
 }

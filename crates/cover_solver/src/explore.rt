@@ -10,7 +10,7 @@ ghost use Rattle.cover_judge.specs.Choices.{MayChooseEach};
 ghost use Rattle.cover_solver.specs.Found.{AscendWithRuns, HasRunOfEach};
 ghost use Rattle.cover_solver.specs.Explored.{Explores, ExploresEach};
 
-use crate::branch::{choices_of, next_choice};
+use crate::branch::next_branch;
 use crate::found::Found;
 use crate::leaf::leaf;
 use crate::run::shown_run;
@@ -54,11 +54,8 @@ fn explore(
     if is_closed(alloc, sketch, shown, found)? {
         return Ok(());
     }
-    match next_choice(alloc, sketch, shown, &found.outcomes)? {
-        Some(next) => {
-            let choices = choices_of(alloc, sketch, next)?;
-            explore_each(alloc, sketch, shown, &choices, found)
-        }
+    match next_branch(alloc, sketch, shown, &found.outcomes)? {
+        Some(branch) => explore_each(alloc, sketch, shown, &branch.choices, found),
         None => add_end(alloc, sketch, shown, found),
     }
 }

@@ -21,7 +21,6 @@ mod preference;
 mod run;
 mod served;
 mod table;
-mod unsourced;
 
 pub use fault::{ForeignFault, SolveFault};
 pub use foreign::ForeignRun;

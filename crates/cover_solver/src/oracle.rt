@@ -128,7 +128,13 @@ impl Solver {
         requires new { Contains self.now.outcomes run.outcome → ⊥ }
         ensures { IfOk result (IsVerdictOf self.now.question set.now) }
     {
-        match replay_shown(self.alloc, &self.program, &self.shown, Model::Buffered, &run.labels) {
+        match replay_shown(
+            self.alloc,
+            &self.program,
+            &self.shown,
+            Model::Buffered,
+            &run.labels,
+        ) {
             Ok(ended) => {
                 let program = self.program.copy()?;
                 Ok(Verdict::Foreign(ForeignRun::of(program, self.shown, run.labels, ended)))

@@ -1,16 +1,16 @@
-//! Which choice is made first. The size of a tree depends on it, and nothing that is proved of the tree
+//! Which branch is taken first. The size of a tree depends on it, and nothing that is proved of the tree
 //! does.
 ghost use Rattle.std.specs.Prelude.{◌<◌, IfOk, All, length};
 ghost use Rattle.cover_judge.specs.Choices.{MayChoose, MayChooseEach};
-ghost use Rattle.cover_solver.specs.Choices.{IsOpen};
+ghost use Rattle.cover_solver.specs.Choices.{IsBranch};
 ghost use Rattle.cover_solver.specs.Ordered.{Ascend};
 
-use crate::branch::choices_of;
+use crate::branch::Branch;
 use crate::choices_left::OpenChoice;
 use crate::leaf::known;
 use cover_judge::{Choice, event_of, sketch_with};
 use exec_axioms::Sketch;
-use std::alloc::{AllocError, Global};
+use std::alloc::AllocError;
 use tso_program::{Outcome, Shown};
 
 /// How many children stay open after a choice, how many there are, and whether it is an order: the
@@ -22,27 +22,26 @@ struct Merit {
     is_order: bool,
 }
 
-/// The number of the choice that is made first. Where a choice leaves no child open, it is made, and no
+/// The number of the branch that is taken first. Where a branch leaves no child open, it is taken, and no
 /// other is looked at.
 pub(crate) fn preferred(
-    alloc: Global,
     sketch: &Sketch,
     shown: &Shown,
     outcomes: &[Outcome],
-    left: &[OpenChoice],
+    branches: &[Branch],
 ) -> Result<usize, AllocError>
     requires ascend { Ascend outcomes.now }
-    requires each { All (IsOpen sketch.now) left.now }
-    requires some { 0 < length left.now }
-    ensures { IfOk result (λ number. number < length left.now) }
+    requires each { All (IsBranch sketch.now) branches.now }
+    requires some { 0 < length branches.now }
+    ensures { IfOk result (λ number. number < length branches.now) }
 {
     let mut best: usize = 0;
-    let mut merit = merit_of(alloc, sketch, shown, outcomes, left[0])?;
-    for (number, next) in left.iter().enumerate() {
+    let mut merit = merit_of(sketch, shown, outcomes, &branches[0])?;
+    for (number, branch) in branches.iter().enumerate() {
         if merit.open == 0 {
             return Ok(best);
         }
-        let other = merit_of(alloc, sketch, shown, outcomes, *next)?;
+        let other = merit_of(sketch, shown, outcomes, branch)?;
         if other < merit {
             best = number;
             merit = other;
@@ -52,24 +51,22 @@ pub(crate) fn preferred(
 }
 
 fn merit_of(
-    alloc: Global,
     sketch: &Sketch,
     shown: &Shown,
     outcomes: &[Outcome],
-    next: OpenChoice,
+    branch: &Branch,
 ) -> Result<Merit, AllocError>
     requires ascend { Ascend outcomes.now }
-    requires is_open { IsOpen sketch.now next }
+    requires branch { IsBranch sketch.now branch.now }
 {
-    let choices = choices_of(alloc, sketch, next)?;
-    let open = match next {
-        OpenChoice::Value(_) => choices.len(),
-        _ => count_open(sketch, shown, outcomes, &choices)?,
+    let open = match branch.next {
+        OpenChoice::Value(_) => branch.choices.len(),
+        _ => count_open(sketch, shown, outcomes, &branch.choices)?,
     };
     Ok(Merit {
         open,
-        children: choices.len(),
-        is_order: matches!(next, OpenChoice::Order(..)),
+        children: branch.choices.len(),
+        is_order: matches!(branch.next, OpenChoice::Order(..)),
     })
 }
 

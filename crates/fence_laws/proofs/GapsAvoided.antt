@@ -1,8 +1,6 @@
 -- A run is a run with a set of gaps fenced exactly where it passes none of them.
 use Rattle.std.proofs.Common.{◌≡◌, ℕ, Bool, true, false, List, Option, Some, None, refl, sym, ap, ◌∙◌}
-use mathlib.Core.Path.{fun_ext}
 use Rattle.std.specs.Option.{option_map_or}
-use Rattle.std.specs.Ordering.{nat_cmp}
 use Rattle.std.specs.FinSet as set
 use Rattle.gap_sets.specs.Gaps.{SetOfGaps}
 use Rattle.tso_program.specs.declared.listing.Listing.{Listing}
@@ -11,7 +9,7 @@ use Rattle.tso_program.specs.Fences.{gaps_in}
 use Rattle.tso_machine.specs.declared.label.Label.{Label}
 use Rattle.tso_machine.specs.Machine.{Fenced, no_gaps, State, start, run, passes}
 use Rattle.tso_machine.proofs.Avoided.{run_fenced, run_avoids}
-use Rattle.fence_laws.specs.Laws.{PassesNoGapOf, FencedRunsPassNoGapOfTheSet, PassedGapsTellTheFencedRuns, TheEmptySetFencesNothing}
+use Rattle.fence_laws.specs.Laws.{PassesNoGapOf, FencedRunsPassNoGapOfTheSet, PassedGapsTellTheFencedRuns}
 use Rattle.fence_laws.proofs.Unfenced.{unfenced}
 
 -- a gap is fenced by its number

@@ -1,5 +1,5 @@
 -- The children of a node decide more gaps, and all their sets together are fewer.
-use Rattle.std.proofs.Common.{◌≡◌, ◌≢◌, ℕ, zero, suc, ◌+◌, ◌*◌, ◌^◌, ◌<◌, ◌≤◌, Bool, true, false, ◌&&◌, ◌||◌, not, List, [], ◌∷◌, ◌++◌, Some, Contains, sum_by, map, refl, sym, ap, ◌∙◌, if◌then◌else◌, subst, inl, inr, arith, length, get_or, set as set_at}
+use Rattle.std.proofs.Common.{◌≡◌, ◌≢◌, ℕ, zero, suc, ◌+◌, ◌*◌, ◌^◌, ◌<◌, ◌≤◌, Bool, true, false, ◌&&◌, ◌||◌, not, List, [], ◌∷◌, ◌++◌, Some, Contains, sum_by, refl, sym, ap, ◌∙◌, if◌then◌else◌, subst, inl, inr, arith, length, get_or, set as set_at}
 use Rattle.std.specs.Prelude.{slice_get}
 use Rattle.std.specs.List.{filter, range_with_len}
 use Rattle.std.specs.FinSet as set

@@ -21,8 +21,8 @@ use Rattle.cost_text.specs.GivenCosts.{AreGiven}
 use Rattle.report.specs.Answers.{answer_line, outcome_line, passed_line, without_line}
 
 -- the labels of a run
-abbrev pub run_line : List Label → List ℕ
-run_line labels = codes "run " ++ run_text labels ++ 10 ∷ []
+abbrev pub labels_line : List Label → List ℕ
+labels_line labels = codes "run " ++ run_text labels ++ 10 ∷ []
 
 -- what is said of an outcome that no sequential run has, and of an answer without a gap
 abbrev pub is_foreign : List ℕ
@@ -34,7 +34,7 @@ all_sequential = codes "Every store buffer outcome is sequential." ++ 10 ∷ []
 -- the gap, and a run with its table, what it leaves and the gaps that it passes
 abbrev pub reason_text : Litmus Listing → Shown → ℕ → List Label → List ℕ → Outcome → SetOfGaps → List ℕ
 reason_text source shown gap labels table outcome passed =
-    without_line source.program gap ++ run_line labels ++ table ++ outcome_line source.names shown outcome ++ passed_line source.program passed ++ is_foreign
+    without_line source.program gap ++ labels_line labels ++ table ++ outcome_line source.names shown outcome ++ passed_line source.program passed ++ is_foreign
 
 -- Why a gap of a set is needed: the text has the labels of a run that is one with no gap fenced and with the set's other gaps
 -- fenced, what is shown of its outcome, which no sequential run has, and the gaps that it passes.

@@ -7,7 +7,7 @@ ghost use Rattle.tso_machine.specs.Outcomes.{IsTheAnswer};
 ghost use Rattle.cover_solver.specs.Facts as facts;
 ghost use Rattle.cover_solver.specs.Verdicts.{PassesNoneOf};
 ghost use Rattle.tso_program.specs.Listings.{gap_count};
-ghost use Rattle.why_text.specs.WhyTexts.{run_line, reason_text, IsReason};
+ghost use Rattle.why_text.specs.WhyTexts.{labels_line, reason_text, IsReason};
 
 use cover_solver::{ForeignRun, Oracle, Solver, Verdict};
 use gap_sets::{Costs, GapSet};
@@ -44,8 +44,8 @@ pub(crate) fn run_without(
 }
 
 /// `run e0 f0` and the like
-fn run_line(alloc: Global, labels: &[Label]) -> Result<Vec<u8>, AllocError>
-    ensures { IfOk result (λ line. line.items ≡ run_line labels.now) }
+fn labels_line(alloc: Global, labels: &[Label]) -> Result<Vec<u8>, AllocError>
+    ensures { IfOk result (λ line. line.items ≡ labels_line labels.now) }
 {
     let mut line = Vec::from_slice(alloc, b"run ")?;
     line.extend_from_slice(&write_run(alloc, labels)?)?;
@@ -98,7 +98,7 @@ fn lines_with(
 ) -> Result<Vec<u8>, AllocError>
     ensures { IfOk result (λ lines. lines.items ≡ reason_text litmus.now shown.now gap run.now.labels table.now run.now.outcome run.now.passed) }
 {
-    let labels = run_line(alloc, run.labels())?;
+    let labels = labels_line(alloc, run.labels())?;
     let outcome = outcome_line(alloc, &litmus.names, shown, run.outcome())?;
     let passed = passed_line(alloc, &litmus.program, &run.passed())?;
     let mut lines = without_line(alloc, &litmus.program, gap)?;

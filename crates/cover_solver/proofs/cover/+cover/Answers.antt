@@ -5,7 +5,7 @@ use Rattle.cert_forest.specs.Views.{cover}
 use Rattle.exec_axioms.specs.Complete.{IsComplete}
 use Rattle.cover_judge.specs.declared.choice.Choice.{Choice}
 use Rattle.cover_judge.specs.declared.choice.Choice.TheVariants as choice
-use Rattle.cover_solver.specs.Choices.{IsOpen}
+use Rattle.cover_solver.specs.Choices.{IsBranch}
 use Rattle.cover_solver.specs.Covers.{IsCoverAt, AreCoversAfter, AreChildren, IsArity}
 use Rattle.cover_solver.proofs.Exploring.{fewer_rounds}
 use Rattle.cover_solver.proofs.Nodes.{cover_next, cover_without, covers_more, node_cover, node_arity}
@@ -48,11 +48,12 @@ cover_from-node_over-requires t c =
     let shown = c.args.shown.now in
     let outcomes = c.args.outcomes.now in
     let trees = map cover c.in-Each.trees.items in
-    let choices = c.in_ok-choices-in-Some-2.choices.items in
+    let choices = c.in-Some-2.branch.choices.items in
+    let is_branch = subst (λ branch. MatchOption branch (IsComplete s) (IsBranch s)) c.in-Some-2.is c.in_ok-branch.ensures in
     let are = subst (λ (cs : List Choice). AreCoversAfter s shown outcomes cs trees) c.deref.ensures.value
     (subst (AreChildren s shown outcomes c.deref.result.now) c.in-Each.is c.in_ok-trees-in-Some-2.ensures.children) in
-    subst (IsArity c.in-Some-2.next) (length-map c.in-Each.trees.items cover)
-    (node_arity s shown outcomes c.program.ensures.lawful c.in-Some-2.next choices trees c.in_ok-choices-in-Some-2.ensures.choices are)
+    subst (IsArity c.in-Some-2.branch.next) (length-map c.in-Each.trees.items cover)
+    (node_arity s shown outcomes c.program.ensures.lawful c.in-Some-2.branch.next choices trees is_branch.choices are)
 
 pub cover_from-returns-in-Each-clause-tree : goal.cover_from-returns-in-Each-clause-tree
 cover_from-returns-in-Each-clause-tree t c =
@@ -60,10 +61,10 @@ cover_from-returns-in-Each-clause-tree t c =
     let shown = c.args.shown.now in
     let outcomes = c.args.outcomes.now in
     let trees = map cover c.in-Each.trees.items in
-    let choices = c.in_ok-choices-in-Some-2.choices.items in
+    let choices = c.in-Some-2.branch.choices.items in
     let are = subst (λ (cs : List Choice). AreCoversAfter s shown outcomes cs trees) c.deref.ensures.value
     (subst (AreChildren s shown outcomes c.deref.result.now) c.in-Each.is c.in_ok-trees-in-Some-2.ensures.children) in
-    let is_open = subst (λ next. MatchOption next (IsComplete s) (IsOpen s)) c.in-Some-2.is c.in_ok-next.ensures in
+    let is_branch = subst (λ branch. MatchOption branch (IsComplete s) (IsBranch s)) c.in-Some-2.is c.in_ok-branch.ensures in
     subst (IsCoverAt s shown outcomes) (sym c.in_ok-node_over-in-Each.ensures)
-    (node_cover s shown outcomes c.program.ensures.lawful c.in-Some-2.next choices trees
-    c.program.ensures.registers is_open c.in_ok-choices-in-Some-2.ensures.choices are)
+    (node_cover s shown outcomes c.program.ensures.lawful c.in-Some-2.branch.next choices trees
+    c.program.ensures.registers is_branch.is_open is_branch.choices are)

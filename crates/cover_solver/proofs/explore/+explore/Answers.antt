@@ -7,22 +7,22 @@ use Rattle.exec_axioms.specs.Complete.{IsComplete}
 use Rattle.cover_judge.specs.declared.choice.Choice.{Choice}
 use Rattle.cover_judge.specs.declared.choice.Choice.TheVariants as choice
 use Rattle.cover_judge.specs.Choices.{sketch_with}
-use Rattle.cover_solver.specs.Choices.{IsOpen}
+use Rattle.cover_solver.specs.Choices.{IsBranch}
 use Rattle.cover_solver.specs.Explored.{IsListed, Explores, ExploresEach}
 use Rattle.cover_judge.proofs.Answered.{on_ok}
 use Rattle.cover_solver.proofs.Exploring.{grows_twice, grows_after, listed_after, listed_still, listed_by_choices, fewer_rounds}
 use Rattle.cover_solver.proofs.explore.+explore.Goals as goal
 
-pub explore-returns-in_ok-choices-in-Some : goal.explore-returns-in_ok-choices-in-Some
-explore-returns-in_ok-choices-in-Some t c =
+pub explore-returns-in-Some : goal.explore-returns-in-Some
+explore-returns-in-Some t c =
     let s = c.args.sketch.now in
     let shown = c.args.shown.now in
     let old = c.args.found.now in
     let new = c.explore_each.new.found in
-    let choices = c.in_ok-choices-in-Some.choices.items in
-    let is_open = subst (λ next. MatchOption next (IsComplete s) (IsOpen s)) c.in-Some.is c.in_ok-next.ensures in
+    let choices = c.in-Some.branch.choices.items in
+    let is_branch = subst (λ branch. MatchOption branch (IsComplete s) (IsBranch s)) c.in-Some.is c.in_ok-branch.ensures in
     on_ok c.explore_each.result (ExploresEach s shown choices old new) (Explores s shown old new)
-    (λ each. record { grows = each.grows; listed = listed_by_choices s shown new.outcomes.items c.in-Some.next choices c.program.ensures.lawful is_open c.in_ok-choices-in-Some.ensures.choices each.each })
+    (λ each. record { grows = each.grows; listed = listed_by_choices s shown new.outcomes.items c.in-Some.branch.next choices c.program.ensures.lawful is_branch.is_open is_branch.choices each.each })
     (subst (λ (cs : List Choice). OnOk c.explore_each.result (ExploresEach s shown cs old new)) c.deref-in-Some.ensures.value c.explore_each.ensures)
 
 pub explore_each-explore-requires : goal.explore_each-explore-requires
