@@ -22,10 +22,10 @@ use Rattle.fencer.specs.Whys.{IsExplained}
 -- the answer to a job
 abbrev pub IsAnswer : Job → Option (List ℕ) → (List ℕ → Option (List ℕ)) → (List ℕ → Option (List ℕ)) → ℕ → List ℕ → Type 0
 IsAnswer (Replay asked) input files left = IsReplay asked.model (label_words_text asked.labels.items) (string_bytes asked.litmus) input files
-IsAnswer (Trace asked) input files left = IsTrace asked.model (label_words_text asked.labels.items) (string_bytes asked.litmus) input files
+IsAnswer (Trace run graph) input files left = IsTrace run (name_of graph) input files left
 IsAnswer (Outcomes model observed litmus) input files left = AreOutcomes model observed (string_bytes litmus) input files
 IsAnswer (Place asked) input files left = IsPlaced asked input files left
-IsAnswer (Why asked) input files left = IsExplained asked input files
+IsAnswer (Why asked graphs) input files left = IsExplained asked (name_of graphs) input files left
 
 -- the first line of the input has more bytes than the limit
 abbrev pub HasTooLongLine : Option (List ℕ) → Type 0
@@ -48,25 +48,25 @@ IsOutput (word ∷ words) input files left = IsReply (word ∷ words) input file
 
 -- ---- what is written
 
--- the file to which a job writes a certificate
-abbrev pub certificate_of : Job → Option (List ℕ)
-certificate_of (Replay asked) = None
-certificate_of (Trace asked) = None
-certificate_of (Outcomes model observed litmus) = None
-certificate_of (Place asked) = name_of asked.certificate
-certificate_of (Why asked) = None
+-- the file to which a job writes a certificate or graphs
+abbrev pub written_by : Job → Option (List ℕ)
+written_by (Replay asked) = None
+written_by (Trace run graph) = name_of graph
+written_by (Outcomes model observed litmus) = None
+written_by (Place asked) = name_of asked.certificate
+written_by (Why asked graphs) = name_of graphs
 
--- the words ask for a certificate in the file of this name
+-- the words ask for a certificate or for graphs in the file of this name
 pub record AsksToWrite (words : List Text) (name : List ℕ) : Type 0 where
   pub job : Job
   pub asked : AsksFor words job
-  pub named : certificate_of job ≡ Some name
+  pub named : written_by job ≡ Some name
 
--- each file in which the words ask for no certificate holds what it held
+-- each file in which the words ask for nothing holds what it held
 abbrev pub KeepFilesOf : List Text → (List ℕ → Option (List ℕ)) → (List ℕ → Option (List ℕ)) → Type 0
 KeepFilesOf words files left = (name : List ℕ) → (AsksToWrite words name → ⊥) → left name ≡ files name
 
--- the words of the input's first line ask for a certificate in the file of this name
+-- the words of the input's first line ask for a certificate or for graphs in the file of this name
 pub record LineAsksToWrite (input : Option (List ℕ)) (name : List ℕ) : Type 0 where
   pub line : List ℕ
   pub rest : Option (List ℕ)

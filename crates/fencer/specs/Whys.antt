@@ -6,15 +6,17 @@ use Rattle.fencer_words.specs.declared.job.Placement.{Placement}
 use Rattle.placed_text.specs.declared.fault.TextFault.{TextFault}
 use Rattle.placed_text.specs.TextFaults.{HasNoPlacedText}
 use Rattle.why_text.specs.WhyTexts.{IsWhyText}
-use Rattle.fencer.specs.Placements.{text_fault_line, AreTexts, HasNoTexts}
+use Rattle.fencer.specs.Placements.{text_fault_line, AreTexts, HasNoTexts, IsDelivered, KeepAllFiles}
 
--- the answer to texts, with its status: a run for each gap of the answer; or why there is no answer
-pub data IsExplainedText (q : Placement) (litmus : List ℕ) (costs : Option (List ℕ)) : ℕ → List ℕ → Type 0 where
-  explained : (text : List ℕ) → IsWhyText litmus costs q.observed text → IsExplainedText q litmus costs 0 text
-  refused_for : (why : TextFault) → HasNoPlacedText litmus costs q.workers why → IsExplainedText q litmus costs 1 (text_fault_line why)
+-- The answer to texts, with its status: a run for each gap of the answer, where the file that is named for the graphs, if one is,
+-- holds a text, of which nothing is said; or that this file can't be written. Or why there is no answer, and then no file is changed.
+pub data IsExplainedText (q : Placement) (named : Option (List ℕ)) (litmus : List ℕ) (costs : Option (List ℕ)) (files left : List ℕ → Option (List ℕ)) : ℕ → List ℕ → Type 0 where
+  explained : (lines graph : List ℕ) (status : ℕ) (text : List ℕ) → IsWhyText litmus costs q.observed lines
+      → IsDelivered named left lines graph status text → IsExplainedText q named litmus costs files left status text
+  refused_for : (why : TextFault) → HasNoPlacedText litmus costs q.workers why → KeepAllFiles files left → IsExplainedText q named litmus costs files left 1 (text_fault_line why)
 
--- the answer to what is asked; or why a file isn't read
-pub data IsExplained (q : Placement) (input : Option (List ℕ)) (files : List ℕ → Option (List ℕ)) : ℕ → List ℕ → Type 0 where
+-- the answer to what is asked; or why a file isn't read, and then no file is changed
+pub data IsExplained (q : Placement) (named : Option (List ℕ)) (input : Option (List ℕ)) (files left : List ℕ → Option (List ℕ)) : ℕ → List ℕ → Type 0 where
   of_texts : (litmus : List ℕ) (costs : Option (List ℕ)) (status : ℕ) (text : List ℕ) → AreTexts q input files litmus costs
-      → IsExplainedText q litmus costs status text → IsExplained q input files status text
-  no_texts : (why : FileFault) → HasNoTexts q input files why → IsExplained q input files 1 (file_line why)
+      → IsExplainedText q named litmus costs files left status text → IsExplained q named input files left status text
+  no_texts : (why : FileFault) → HasNoTexts q input files why → KeepAllFiles files left → IsExplained q named input files left 1 (file_line why)

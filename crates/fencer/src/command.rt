@@ -4,7 +4,7 @@ ghost use Rattle.std.specs.Prelude.{IfOk, map, string_bytes};
 ghost use Rattle.program_streams.specs.Streams.{Prints};
 ghost use Rattle.fencer.specs.Lines.{EndsLine};
 ghost use Rattle.fencer.specs.Placements.{KeepFiles};
-ghost use Rattle.fencer.specs.Answers.{certificate_of, IsAnswer, IsReply, IsOutput, KeepFilesOf, KeepOtherFiles};
+ghost use Rattle.fencer.specs.Answers.{written_by, IsAnswer, IsReply, IsOutput, KeepFilesOf, KeepOtherFiles};
 
 use crate::outcomes::run_outcomes;
 use crate::place::run_place;
@@ -44,11 +44,11 @@ fn run_job<T: Threads + Sync, U: Wait + Sync, S: WritableFileStore, R: Read, W: 
     output: &mut W,
 ) -> u8
     ensures told { Prints (IsAnswer job.now (R.remaining input.old) (S.held files.old) (S.held files.new)) (W.contents output.old) (W.contents output.new) result }
-    ensures others { KeepFiles (certificate_of job.now) (S.held files.old) (S.held files.new) }
+    ensures others { KeepFiles (written_by job.now) (S.held files.old) (S.held files.new) }
 {
     match job {
         Job::Replay(asked) => run_replay(alloc, &*files, asked, input, output),
-        Job::Trace(asked) => run_trace(alloc, &*files, asked, input, output),
+        Job::Trace { run, graph } => run_trace(alloc, files, run, graph.as_deref(), input, output),
         Job::Outcomes {
             model,
             observed,
@@ -63,7 +63,16 @@ fn run_job<T: Threads + Sync, U: Wait + Sync, S: WritableFileStore, R: Read, W: 
             output,
         ),
         Job::Place(asked) => run_place(rt, wait, alloc, files, asked, input, output),
-        Job::Why(asked) => run_why(rt, wait, alloc, &*files, asked, input, output),
+        Job::Why { placement, graphs } => run_why(
+            rt,
+            wait,
+            alloc,
+            files,
+            placement,
+            graphs.as_deref(),
+            input,
+            output,
+        ),
     }
 }
 
@@ -92,8 +101,8 @@ fn run_words<T: Threads + Sync, U: Wait + Sync, S: WritableFileStore, R: Read, W
 /// The program: it does what the words after its name ask for, and answers its status. With no words
 /// they are those of the input's first line, separated by spaces, and the rest of the input is `-`.
 ///
-/// Wherever any of a placement's answer is printed, the file that the words name holds its certificate; no
-/// other file is changed. `rt` and `wait` are handed to a placement, which uses neither yet.
+/// Wherever any of a placement's answer is printed, the file that the words name holds its certificate; no file is
+/// changed but that one, and the one that they name for a graph. `rt` and `wait` are handed to a placement, which uses neither yet.
 ///
 /// Status 0 means that the whole answer is written. Status 1 is a refusal, reported by one line, a writer
 /// that fails or takes no byte, and out of memory for the words or for that line, with nothing

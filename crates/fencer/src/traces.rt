@@ -33,11 +33,7 @@ struct Drawings {
 }
 
 /// The table and the graph of steps.
-fn drawn(
-    alloc: Global,
-    litmus: &Litmus<Program>,
-    steps: &[Step],
-) -> Result<Drawings, AllocError> {
+fn drawn(alloc: Global, litmus: &Litmus<Program>, steps: &[Step]) -> Result<Drawings, AllocError> {
     let table = run_table(alloc, litmus, steps)?;
     let mut graph = RunGraph::new(alloc)?;
     graph.push_run(alloc, litmus, litmus.name.as_slice(), steps)?;

@@ -3,27 +3,31 @@
 ghost use Rattle.std.specs.Prelude.{IfErr, IfOk, option_map};
 ghost use Rattle.program_streams.specs.Streams.{Prints};
 ghost use Rattle.placed_text.specs.TextFaults.{HasNoPlacedText};
+ghost use Rattle.fencer.specs.Placements.{KeepFiles};
 ghost use Rattle.fencer.specs.Whys.{IsExplained, IsExplainedText};
 
-use crate::place::{Texts, read_texts, text_fault_line};
+use crate::place::{Answer, Texts, deliver, read_texts, text_fault_line};
 use fencer_words::Placement;
-use program_streams::{FileStore, file_line, print};
+use program_streams::{WritableFileStore, file_line, print};
 use std::alloc::Global;
 use std::io::{Read, Write};
 use std::sync::Wait;
 use std::thread::Threads;
-use why_text::why_text;
+use why_text::{Reasons, why_text};
 
-/// Judges texts, prints why each fence of the answer is needed, and returns the status.
-fn explain_texts<T: Threads + Sync, U: Wait + Sync, W: Write>(
+/// Judges texts, writes the graphs, prints why each fence of the answer is needed, and returns the status.
+fn explain_texts<T: Threads + Sync, U: Wait + Sync, S: WritableFileStore, W: Write>(
     rt: &T,
     wait: &U,
     alloc: Global,
+    files: &mut S,
     asked: &Placement,
+    graphs: Option<&str>,
     texts: &Texts,
     output: &mut W,
 ) -> u8
-    ensures { Prints (IsExplainedText asked.now texts.now.litmus.items (option_map (λ text. text.items) texts.now.costs)) (W.contents output.old) (W.contents output.new) result }
+    ensures told { Prints (IsExplainedText asked.now (option_map (λ name. name.now) graphs.entry) texts.now.litmus.items (option_map (λ text. text.items) texts.now.costs) (S.held files.old) (S.held files.new)) (W.contents output.old) (W.contents output.new) result }
+    ensures others { KeepFiles (option_map (λ name. name.now) graphs.entry) (S.held files.old) (S.held files.new) }
 {
     let costs = texts.costs.as_deref();
     match why_text(
@@ -35,26 +39,35 @@ fn explain_texts<T: Threads + Sync, U: Wait + Sync, W: Write>(
         asked.observed,
         asked.workers,
     ) {
-        Ok(text) => print(output, Ok(text), 0),
+        Ok(reasons) => {
+            let Reasons { lines, graph } = reasons;
+            let answer = Answer {
+                lines,
+                written: graph,
+            };
+            deliver(alloc, files, graphs, answer, output)
+        }
         Err(fault) => print(output, text_fault_line(alloc, fault), 1),
     }
 }
 
-/// Shows for each fence of a placement in the program of a litmus file why it is needed, prints the answer, and returns
-/// the status.
-pub fn run_why<T: Threads + Sync, U: Wait + Sync, S: FileStore, R: Read, W: Write>(
+/// Shows for each fence of a placement in the program of a litmus file why it is needed, writes the graphs to a file if
+/// one is named, prints the answer, and returns the status.
+pub fn run_why<T: Threads + Sync, U: Wait + Sync, S: WritableFileStore, R: Read, W: Write>(
     rt: &T,
     wait: &U,
     alloc: Global,
-    files: &S,
+    files: &mut S,
     asked: &Placement,
+    graphs: Option<&str>,
     input: &mut R,
     output: &mut W,
 ) -> u8
-    ensures { Prints (IsExplained asked.now (R.remaining input.old) (S.held files.now)) (W.contents output.old) (W.contents output.new) result }
+    ensures told { Prints (IsExplained asked.now (option_map (λ name. name.now) graphs.entry) (R.remaining input.old) (S.held files.old) (S.held files.new)) (W.contents output.old) (W.contents output.new) result }
+    ensures others { KeepFiles (option_map (λ name. name.now) graphs.entry) (S.held files.old) (S.held files.new) }
 {
-    match read_texts(alloc, files, asked, input) {
-        Ok(texts) => explain_texts(rt, wait, alloc, asked, &texts, output),
+    match read_texts(alloc, &*files, asked, input) {
+        Ok(texts) => explain_texts(rt, wait, alloc, files, asked, graphs, &texts, output),
         Err(fault) => print(output, file_line(alloc, fault), 1),
     }
 }

@@ -24,8 +24,7 @@ explained in docs/formats.md.
 
 Example: fencer why examples/SB.litmus";
 
-const DOT_HELP: &str =
-    "Write the candidate execution of each run there, as graphs for Graphviz";
+const DOT_HELP: &str = "Write the candidate execution of each run there, as graphs for Graphviz";
 
 pub fn why_command<'a>(alloc: Global) -> Result<Command<'a>, AllocError>
     ensures { IfOk result (IsBuiltAs why_app) }

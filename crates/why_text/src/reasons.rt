@@ -12,7 +12,7 @@ ghost use Rattle.why_text.specs.WhyTexts.{labels_line, reason_text, IsReason};
 use cover_solver::{ForeignRun, Oracle, Solver, Verdict};
 use gap_sets::{Costs, GapSet};
 use litmus_text::Litmus;
-use report::{outcome_line, passed_line, push_gap, without_line};
+use report::{outcome_line, passed_line, without_line};
 use run_graph::RunGraph;
 use run_table::run_table;
 use std::alloc::{AllocError, Global};
@@ -61,9 +61,8 @@ fn push_graph(
     gap: u8,
     steps: &[Step],
 ) -> Result<(), AllocError> {
-    let mut title = String::from_str(alloc, "without")?;
-    push_gap(&mut title, &litmus.program, gap)?;
-    graph.push_run(alloc, litmus, title.as_bytes(), steps)
+    let line = without_line(alloc, &litmus.program, gap)?;
+    graph.push_run(alloc, litmus, line.trim_ascii_end(), steps)
 }
 
 /// The table of a run where the other gaps of the answer are fenced, which is added to a graph.

@@ -4,7 +4,10 @@ pub returns-in-Replay-clause-told : goal.returns-in-Replay-clause-told
 returns-in-Replay-clause-told g c = rw c.in-Replay.is c.run_replay.ensures
 
 pub returns-in-Trace-clause-told : goal.returns-in-Trace-clause-told
-returns-in-Trace-clause-told g c = rw c.in-Trace.is c.run_trace.ensures
+returns-in-Trace-clause-told g c = rw c.in-Trace.is (rw c.as_deref.ensures.value at c.run_trace.ensures.told)
+
+pub returns-in-Trace-clause-others : goal.returns-in-Trace-clause-others
+returns-in-Trace-clause-others g c = rw c.in-Trace.is (rw c.as_deref.ensures.value at c.run_trace.ensures.others)
 
 pub returns-in-Outcomes-clause-told : goal.returns-in-Outcomes-clause-told
 returns-in-Outcomes-clause-told g c = rw c.in-Outcomes.is (rw c.as_str.ensures.value at c.run_outcomes.ensures)
@@ -16,4 +19,7 @@ pub returns-in-Place-clause-others : goal.returns-in-Place-clause-others
 returns-in-Place-clause-others g c = rw c.in-Place.is c.run_place.ensures.others
 
 pub returns-in-Why-clause-told : goal.returns-in-Why-clause-told
-returns-in-Why-clause-told g c = rw c.in-Why.is c.run_why.ensures
+returns-in-Why-clause-told g c = rw c.in-Why.is (rw c.as_deref-in-Why.ensures.value at c.run_why.ensures.told)
+
+pub returns-in-Why-clause-others : goal.returns-in-Why-clause-others
+returns-in-Why-clause-others g c = rw c.in-Why.is (rw c.as_deref-in-Why.ensures.value at c.run_why.ensures.others)

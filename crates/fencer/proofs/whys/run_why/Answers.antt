@@ -1,13 +1,14 @@
+use Rattle.std.proofs.Common.{refl}
 use Rattle.std.specs.Prelude.{option_map}
 use Rattle.program_streams.proofs.Printed.{prints_line, prints_more}
 use Rattle.program_streams.specs.FileLines.{file_line}
 use Rattle.fencer.specs.Whys.{of_texts, no_texts}
 use Rattle.fencer.proofs.whys.run_why.Goals as goal
 
-pub returns-in-Ok : goal.returns-in-Ok
-returns-in-Ok g c =
-    prints_more _ _ _ _ c.explain_texts.result (λ status text is. of_texts c.in-Ok.texts.litmus.items (option_map (λ text. text.items) c.in-Ok.texts.costs) status text c.in-Ok.ensures.texts is) c.explain_texts.ensures
+pub returns-in-Ok-clause-told : goal.returns-in-Ok-clause-told
+returns-in-Ok-clause-told g c =
+    prints_more _ _ _ _ c.explain_texts.result (λ status text is. of_texts c.in-Ok.texts.litmus.items (option_map (λ text. text.items) c.in-Ok.texts.costs) status text c.in-Ok.ensures.texts is) c.explain_texts.ensures.told
 
-pub returns-in-Err : goal.returns-in-Err
-returns-in-Err g c =
-    prints_line c.file_line.result 1 (file_line c.in-Err.fault) _ _ _ c.print.result (no_texts c.in-Err.fault c.in-Err.ensures.err) c.file_line.ensures c.print.ensures
+pub returns-in-Err-clause-told : goal.returns-in-Err-clause-told
+returns-in-Err-clause-told g c =
+    prints_line c.file_line.result 1 (file_line c.in-Err.fault) _ _ _ c.print.result (no_texts c.in-Err.fault c.in-Err.ensures.err (λ name. refl)) c.file_line.ensures c.print.ensures

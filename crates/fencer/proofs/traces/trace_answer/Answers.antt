@@ -1,7 +1,7 @@
 use Rattle.std.proofs.Common.{◌++◌, refl}
 use Rattle.tso_program.specs.declared.shown.Shown.TheVariants.{All}
 use Rattle.report.specs.Answers.{outcome_line, passed_line}
-use Rattle.fencer.proofs.traces.trace_lines.Goals as goal
+use Rattle.fencer.proofs.traces.trace_answer.Goals as goal
 
 pub returns-in-Ok-clause-run : goal.returns-in-Ok-clause-run
 returns-in-Ok-clause-run c = record {
@@ -17,5 +17,5 @@ returns-in-Ok-clause-run c = record {
     passes = rw (c.empty.ensures, c.deref.ensures.value) at c.in_ok-ended.ensures.passed;
     printed = refl;
   };
-  printed = (c.in_ok-table.table.items, c.in-Ok.ensures);
+  printed = (c.in_ok-drawings.drawings.table.items, c.in-Ok.ensures);
 }
