@@ -13,7 +13,7 @@ use std::alloc::Global;
 use std::io::{Read, Write};
 use std::sync::Wait;
 use std::thread::Threads;
-use why_text::{Reasons, why_text};
+use why_text::{WhyText, why_text};
 
 /// Judges texts, writes the graphs, prints why each fence of the answer is needed, and returns the status.
 fn explain_texts<T: Threads + Sync, U: Wait + Sync, S: WritableFileStore, W: Write>(
@@ -40,7 +40,7 @@ fn explain_texts<T: Threads + Sync, U: Wait + Sync, S: WritableFileStore, W: Wri
         asked.workers,
     ) {
         Ok(reasons) => {
-            let Reasons { lines, graph } = reasons;
+            let WhyText { lines, graph } = reasons;
             let answer = Answer {
                 lines,
                 written: graph,

@@ -22,7 +22,7 @@ use tso_program::{Program, Shown};
 
 /// Why the gaps of an answer are needed.
 #[derive(Debug, Drop)]
-pub struct Reasons {
+pub struct WhyText {
     /// What is printed.
     pub lines: Vec<u8>,
     /// The candidate executions of the runs, as a graph in Graphviz's language.
@@ -37,7 +37,7 @@ fn reasons(
     costs: &Costs,
     solver: &Solver,
     set: &GapSet,
-) -> Result<Reasons, AllocError>
+) -> Result<WhyText, AllocError>
     requires question { solver.now.question ≡ asked litmus.now.program shown.now }
     requires answer { IsTheAnswer solver.now.question costs.now set.now }
     requires one_each { length costs.now ≡ gap_count solver.now.question.program.threads }
@@ -53,7 +53,7 @@ fn reasons(
         lines.extend_from_slice(&reason)?;
     }
     let graph = graph.into_text()?;
-    Ok(Reasons { lines, graph })
+    Ok(WhyText { lines, graph })
 }
 
 /// The lines of reasons, or a line that no gap is needed.
@@ -74,7 +74,7 @@ fn explained(
     shown: &Shown,
     costs: &Costs,
     found: &Found,
-) -> Result<Reasons, AllocError>
+) -> Result<WhyText, AllocError>
     requires question { found.now.solver.question ≡ asked litmus.now.program shown.now }
     requires answer { IsTheAnswer found.now.solver.question costs.now found.now.placed.set }
     requires one_each { length costs.now ≡ gap_count found.now.solver.question.program.threads }
@@ -82,11 +82,11 @@ fn explained(
 {
     let set = found.placed.set;
     let reasons = reasons(alloc, litmus, shown, costs, &found.solver, &set)?;
-    let Reasons { lines: each, graph } = reasons;
+    let WhyText { lines: each, graph } = reasons;
     let said = reasons_or_none(alloc, each)?;
     let mut lines = answer_line(alloc, &litmus.program, shown, set, found.placed.cost)?;
     lines.extend_from_slice(&said)?;
-    Ok(Reasons { lines, graph })
+    Ok(WhyText { lines, graph })
 }
 
 /// Places fences in the program of a litmus text as [`placed_text::place_text`] does, and says why each of them is
@@ -100,7 +100,7 @@ pub fn why_text<R: Threads + Sync, W: Wait + Sync>(
     costs: Option<&[u8]>,
     observed: bool,
     workers: u8,
-) -> Result<Reasons, TextFault>
+) -> Result<WhyText, TextFault>
     ensures told { IfOk result (λ reasons. IsWhyText litmus.now (option_map (λ text. text.now) costs.entry) observed reasons.lines.items) }
     ensures fault { IfErr result (HasNoPlacedText litmus.now (option_map (λ text. text.now) costs.entry) workers) }
 {

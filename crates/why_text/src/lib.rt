@@ -4,4 +4,4 @@
 mod explaining;
 mod reasons;
 
-pub use explaining::{Reasons, why_text};
+pub use explaining::{WhyText, why_text};
