@@ -97,3 +97,19 @@ def outcomes(test, model, gaps):
         if all(place == len(code) and not waiting for (place, _, _, waiting), code in zip(state[0], test.code)):
             found.add((tuple(registers for _, _, registers, _ in state[0]), state[1]))
     return sorted(found)
+
+
+def run_in_turn(test, model):
+    """The labels of a run in which the threads execute all their instructions one thread after another, and each store waits as long as it can."""
+    threads, memory, labels = [(0, False, registers, ()) for registers in test.registers], test.memory, []
+    for t, code in enumerate(test.code):
+        while threads[t][0] < len(code):
+            after = executed(code[threads[t][0]], threads[t], memory, model == "buffered")
+            if after:
+                threads[t], memory = after
+                labels.append(f"e{t}")
+            else:
+                (location, value), *left = threads[t][3]
+                threads[t], memory = (*threads[t][:3], tuple(left)), put(memory, location, value)
+                labels.append(f"f{t}")
+    return labels + [f"f{t}" for t, thread in enumerate(threads) for _ in thread[3]]
