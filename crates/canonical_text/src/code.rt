@@ -7,9 +7,9 @@ ghost use Rattle.canonical_text.specs.Spelling.{memory_pieces, immediate_pieces,
 ghost use Rattle.canonical_text.specs.Canonical.{location_name_at, label_name_at, own_labels, moved_labels, code_named};
 
 use crate::labels::label_name;
-use crate::words::{name_at, push_number, push_register};
+use crate::words::{push_number, push_register};
 use gap_sets::GapSet;
-use litmus_reader::{Litmus, NameTable};
+use litmus_reader::{Litmus, NameTable, location_name};
 use std::alloc::AllocError;
 use tso_program::{Instr, Program, Reg};
 
@@ -18,7 +18,7 @@ fn push_memory(out: &mut Vec<u8>, names: &NameTable, location: u8) -> Result<(),
     ensures { OnOk result (out.new.items ≡ out.old.items ++ text_of (memory_pieces (location_name_at names.now.locations location))) }
 {
     out.push(b'[')?;
-    out.extend_from_slice(name_at(names, location as usize))?;
+    out.extend_from_slice(location_name(names, location as usize))?;
     out.push(b']')?;
     Ok(())
 }

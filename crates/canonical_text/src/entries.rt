@@ -5,8 +5,8 @@ ghost use Rattle.text_tokens.specs.Pieces.{text_of};
 ghost use Rattle.canonical_text.specs.Spelling.{entry_pieces, initial_pieces};
 ghost use Rattle.canonical_text.specs.Canonical.{location_entry, location_entries, named_entry, thread_entries, register_entries, entries_of};
 
-use crate::words::{name_at, push_location_value, push_register_value};
-use litmus_reader::NameTable;
+use crate::words::{push_location_value, push_register_value};
+use litmus_reader::{NameTable, location_name};
 use std::alloc::AllocError;
 use tso_program::{REGISTERS, Reg, Thread};
 
@@ -21,7 +21,7 @@ fn push_location(
     ensures { OnOk result (out.new.items ≡ out.old.items ++ text_of (entry_pieces (location_entry names.now.locations memory.now location))) }
 {
     out.push(b' ')?;
-    push_location_value(out, name_at(names, location), memory[location])?;
+    push_location_value(out, location_name(names, location), memory[location])?;
     out.push(b';')?;
     Ok(())
 }

@@ -6,9 +6,9 @@ ghost use Rattle.conditions.specs.Tokens.{sign_of_token};
 ghost use Rattle.canonical_text.specs.Spelling.{sign_pieces, quantifier_pieces, condition_pieces};
 ghost use Rattle.canonical_text.specs.Canonical.{atom_named, sign_named, signs_named};
 
-use crate::words::{name_at, push_location_value, push_register_value};
+use crate::words::{push_location_value, push_register_value};
 use conditions::{Atom, Condition, Quantifier, Token};
-use litmus_reader::NameTable;
+use litmus_reader::{NameTable, location_name};
 use std::alloc::{AllocError, Global};
 
 fn push_atom(out: &mut Vec<u8>, names: &NameTable, atom: Atom) -> Result<(), AllocError>
@@ -21,7 +21,7 @@ fn push_atom(out: &mut Vec<u8>, names: &NameTable, atom: Atom) -> Result<(), All
             value,
         } => push_register_value(out, thread, register, value),
         Atom::Location { location, value } => {
-            push_location_value(out, name_at(names, location as usize), value)
+            push_location_value(out, location_name(names, location as usize), value)
         }
     }
 }

@@ -4,8 +4,8 @@ ghost use Rattle.text_tokens.specs.Pieces.{text_of};
 ghost use Rattle.canonical_text.specs.Spelling.{observed_place_pieces, observed_pieces};
 ghost use Rattle.canonical_text.specs.Canonical.{place_named};
 
-use crate::words::{name_at, push_gap, push_number, push_register};
-use litmus_reader::{NameTable, Observed};
+use crate::words::{push_gap, push_number, push_register};
+use litmus_reader::{NameTable, Observed, location_name};
 use std::alloc::AllocError;
 
 /// `x;` or `t:REG;`
@@ -14,7 +14,7 @@ fn push_place(out: &mut Vec<u8>, names: &NameTable, place: Observed) -> Result<(
 {
     match place {
         Observed::Location(location) => {
-            out.extend_from_slice(name_at(names, location as usize))?;
+            out.extend_from_slice(location_name(names, location as usize))?;
         }
         Observed::Register(thread, register) => {
             push_number(out, thread)?;

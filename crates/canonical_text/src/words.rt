@@ -1,40 +1,14 @@
 //! Words and numbers at the end of a text.
-ghost use Rattle.std.specs.Prelude.{◌≡◌, ◌++◌, [], OnOk, nat_lt, slice_index_or, if◌then◌else◌};
+ghost use Rattle.std.specs.Prelude.{◌≡◌, ◌++◌, [], OnOk, nat_lt, if◌then◌else◌};
 ghost use Rattle.text_tokens.specs.Pieces.{text_of};
-ghost use Rattle.litmus_reader.specs.Outcomes.{register_name};
 ghost use Rattle.litmus_syntax.specs.Views.{Location, Register};
 ghost use Rattle.canonical_text.specs.Spelling.{register_pieces, valued_pieces, gap};
-ghost use Rattle.canonical_text.specs.Canonical.{location_name_at};
 ghost use Rattle.std.specs.Fmt.{decimal};
 
 use itoa::Buffer;
-use litmus_reader::NameTable;
+use litmus_reader::register_name;
 use std::alloc::AllocError;
 use tso_program::Reg;
-
-/// The register's name, in capitals.
-fn register_name(register: Reg) -> &'static [u8]
-    ensures { result.now ≡ register_name register }
-{
-    match register {
-        Reg::Eax => b"EAX",
-        Reg::Ebx => b"EBX",
-        Reg::Ecx => b"ECX",
-        Reg::Edx => b"EDX",
-        Reg::Esi => b"ESI",
-        Reg::Edi => b"EDI",
-    }
-}
-
-/// The name of the location with this number; none where the text has no such location.
-pub fn name_at(names: &NameTable, number: usize) -> &[u8]
-    ensures { result.now ≡ location_name_at names.now.locations number }
-{
-    match names.location(number) {
-        Some(name) => name,
-        None => b"",
-    }
-}
 
 pub fn push_number(out: &mut Vec<u8>, number: u32) -> Result<(), AllocError>
     ensures { OnOk result (out.new.items ≡ out.old.items ++ decimal number) }
@@ -46,7 +20,7 @@ pub fn push_number(out: &mut Vec<u8>, number: u32) -> Result<(), AllocError>
 pub fn push_register(out: &mut Vec<u8>, register: Reg) -> Result<(), AllocError>
     ensures { OnOk result (out.new.items ≡ out.old.items ++ text_of (register_pieces register)) }
 {
-    out.extend_from_slice(register_name(register))
+    out.extend_from_slice(register_name(register).as_bytes())
 }
 
 /// A space, if parts stand before this one.

@@ -22,5 +22,5 @@ pub use laws::{store_buffering_is_read, texts_name_few_locations};
 pub use litmus::Litmus;
 pub use names::NameTable;
 pub use observed::Observed;
-pub use outcome::write_outcome;
+pub use outcome::{location_name, register_name, write_outcome};
 pub use reader::{read_fenced, read_litmus};

@@ -9,7 +9,7 @@ use std::alloc::{AllocError, Global};
 use tso_program::{Outcome, Reg, Shown};
 
 /// The register's name, in capitals.
-fn register_name(register: Reg) -> &'static str
+pub fn register_name(register: Reg) -> &'static str
     ensures { result.now ≡ register_name register }
 {
     match register {
@@ -36,8 +36,8 @@ fn register_item(
     Ok(text.into_bytes())
 }
 
-/// The name of the location with this number; none where the text has no such location.
-fn name_at(names: &NameTable, number: usize) -> &[u8]
+/// The name of the location with this number; no bytes where the text has no such location.
+pub fn location_name(names: &NameTable, number: usize) -> &[u8]
     ensures { result.now ≡ slice_index_or names.now.locations number [] }
 {
     match names.location(number) {
@@ -119,7 +119,7 @@ fn push_location(
     ensures { OnOk result (texts items.new.items ≡ texts items.old.items ++ shown_item names.now shown.now location value) }
 {
     if shown.shows_location(location) {
-        items.push(location_item(alloc, name_at(names, location), value)?)?;
+        items.push(location_item(alloc, location_name(names, location), value)?)?;
     }
     Ok(())
 }

@@ -12,8 +12,8 @@ pub use conditions::{Atom, Condition, Formula, Quantifier, holds};
 pub use cost_text::{CostTextFault, given_costs, read_costs};
 pub use gap_sets::{CostFault, Costs, GapSet};
 pub use litmus_reader::{
-    Label, Litmus, NameTable, Observed, ReadFault, read_fenced, read_litmus,
-    store_buffering_is_read, texts_name_few_locations, write_outcome,
+    Label, Litmus, NameTable, Observed, ReadFault, location_name, read_fenced, read_litmus,
+    register_name, store_buffering_is_read, texts_name_few_locations, write_outcome,
 };
 pub use tso_program::{
     FenceFault, FencedProgram, Items, Names, Outcome, Program, ProgramFault, Reg, Shown,

@@ -3,7 +3,7 @@
 use crate::cycle::shortest_cycle;
 use crate::edges::{Edge, Relation, edges_of};
 use crate::events::{Access, Event, Execution, execution_of};
-use litmus_text::{Litmus, NameTable};
+use litmus_text::{Litmus, NameTable, location_name};
 use run_table::push_value;
 use std::alloc::{AllocError, Global};
 use tso_machine::Step;
@@ -34,9 +34,7 @@ fn push_event(
         Event::Initial(location) => {
             let text = format!(in alloc; "run{run}_init_")?;
             out.extend_from_slice(text.as_bytes())?;
-            if let Some(name) = names.location(location) {
-                out.extend_from_slice(name)?;
-            }
+            out.extend_from_slice(location_name(names, location))?;
         }
         Event::Access(step) => {
             let text = format!(in alloc; "run{run}_step{step}")?;

@@ -1,7 +1,7 @@
 //! What stands in the columns of a step's line.
 
 use gap_sets::GapSet;
-use litmus_text::{Litmus, NameTable, push_code};
+use litmus_text::{Litmus, NameTable, location_name, push_code};
 use std::alloc::{AllocError, Global};
 use tso_machine::{Label, Pending, Step, write_run};
 use tso_program::{Action, Instr, Program};
@@ -14,9 +14,7 @@ pub fn push_value(
     location: usize,
     value: u32,
 ) -> Result<(), AllocError> {
-    if let Some(name) = names.location(location) {
-        out.extend_from_slice(name)?;
-    }
+    out.extend_from_slice(location_name(names, location))?;
     let text = format!(in alloc; "={value}")?;
     out.extend_from_slice(text.as_bytes())
 }
