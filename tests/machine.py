@@ -113,3 +113,25 @@ def run_in_turn(test, model):
                 threads[t], memory = (*threads[t][:3], tuple(left)), put(memory, location, value)
                 labels.append(f"f{t}")
     return labels + [f"f{t}" for t, thread in enumerate(threads) for _ in thread[3]]
+
+
+def end_of(test, labels, gaps):
+    """The outcome of a run in the model `buffered` with the gaps with these numbers fenced; nothing where a step isn't possible there or the run hasn't ended."""
+    fenced = {place for gap, place in enumerate(test.gaps()) if gap in gaps}
+    threads, memory = tuple((0, False, registers, ()) for registers in test.registers), test.memory
+    for label in labels:
+        t = int(label[1:])
+        place, flag, registers, waiting = threads[t]
+        if label[0] == "f":
+            if not waiting:
+                return None
+            threads, memory = put(threads, t, (place, flag, registers, waiting[1:])), put(memory, *waiting[0])
+        else:
+            if place == len(test.code[t]) or waiting and (t, place) in fenced:
+                return None
+            after = executed(test.code[t][place], threads[t], memory, True)
+            if after is None:
+                return None
+            threads, memory = put(threads, t, after[0]), after[1]
+    ended = all(thread[0] == len(code) and not thread[3] for thread, code in zip(threads, test.code))
+    return (tuple(thread[2] for thread in threads), memory) if ended else None
