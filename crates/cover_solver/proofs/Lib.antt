@@ -6,5 +6,10 @@ pub mod AccessesNamed
 pub mod Leaves
 pub mod Listing
 pub mod Nodes
+pub mod Tallied
+pub mod TraceTrees
+pub mod CombinedSketches
+pub mod CombinedCovers
+pub mod Planned
 pub mod Neat
 pub mod Tables

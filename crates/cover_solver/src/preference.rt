@@ -36,12 +36,12 @@ pub(crate) fn preferred(
     ensures { IfOk result (λ number. number < length branches.now) }
 {
     let mut best: usize = 0;
-    let mut merit = merit_of(sketch, shown, outcomes, &branches[0])?;
+    let mut merit = merit_of(sketch, shown, outcomes, &branches[0], usize::MAX)?;
     for (number, branch) in branches.iter().enumerate() {
         if merit.open == 0 {
             return Ok(best);
         }
-        let other = merit_of(sketch, shown, outcomes, branch)?;
+        let other = merit_of(sketch, shown, outcomes, branch, merit.open)?;
         if other < merit {
             best = number;
             merit = other;
@@ -50,18 +50,20 @@ pub(crate) fn preferred(
     Ok(best)
 }
 
+/// The merit of a branch. Children that stay open are counted up to one more than `most`.
 fn merit_of(
     sketch: &Sketch,
     shown: &Shown,
     outcomes: &[Outcome],
     branch: &Branch,
+    most: usize,
 ) -> Result<Merit, AllocError>
     requires ascend { Ascend outcomes.now }
     requires branch { IsBranch sketch.now branch.now }
 {
     let open = match branch.next {
         OpenChoice::Value(_) => branch.choices.len(),
-        _ => count_open(sketch, shown, outcomes, &branch.choices)?,
+        _ => count_open(sketch, shown, outcomes, &branch.choices, most)?,
     };
     Ok(Merit {
         open,
@@ -70,18 +72,22 @@ fn merit_of(
     })
 }
 
-/// After how many of the choices the sketch stays open.
+/// After how many of the choices the sketch stays open, up to one more than `most`.
 fn count_open(
     sketch: &Sketch,
     shown: &Shown,
     outcomes: &[Outcome],
     choices: &[Choice],
+    most: usize,
 ) -> Result<usize, AllocError>
     requires ascend { Ascend outcomes.now }
     requires may { MayChooseEach sketch.now choices.now }
 {
     let mut count: usize = 0;
     for choice in choices {
+        if count > most {
+            return Ok(count);
+        }
         if stays_open(sketch, shown, outcomes, *choice)? {
             count = count.saturating_add(1);
         }
