@@ -1,12 +1,11 @@
 -- Cover trees over the values of one thread after those of the others.
-use Rattle.std.proofs.Common.{◌≡◌, ◌≢◌, ℕ, zero, suc, ◌<◌, List, [], ◌∷◌, ◌++◌, All, get_or, slice_get, unwrap_or, set, length, refl, sym, ap, ◌∙◌, subst, arith}
+use Rattle.std.proofs.Common.{◌≡◌, ◌≢◌, ℕ, zero, suc, ◌<◌, List, [], ◌∷◌, ◌++◌, get_or, slice_get, unwrap_or, set, length, sym, ap, ◌∙◌, subst, arith}
 use Rattle.std.proofs.lemmas.List.{length-map}
-use Rattle.tso_program.specs.declared.listing.Thread.{Thread}
 use Rattle.tso_program.specs.declared.listing.Listing.{Listing}
 use Rattle.tso_program.specs.declared.outcome.Outcome.{Outcome}
 use Rattle.tso_program.specs.declared.shown.Shown.{Shown}
 use Rattle.tso_machine.specs.declared.mode.Mode.{Mode}
-use Rattle.candidate_executions.specs.Sketches.{Sketch, given_to}
+use Rattle.candidate_executions.specs.Sketches.{given_to}
 use Rattle.candidate_executions.proofs.Sketches.GivenValues.{none_given}
 use Rattle.exec_axioms.specs.ProgramSketches.{ProgramSketch, nothing_chosen, with_chosen}
 use Rattle.exec_axioms.specs.Kept.{IsLawful}
@@ -15,7 +14,7 @@ use Rattle.exec_axioms.proofs.ThreadValues.{values_elsewhere}
 use Rattle.cert_forest.specs.Trees.{Cover}
 use Rattle.cover_judge.specs.declared.choice.Choice.{Choice}
 use Rattle.cover_judge.specs.declared.choice.Choice.TheVariants as choice
-use Rattle.cover_judge.specs.Choices.{AreValueChoices, MayChoose, sketch_with}
+use Rattle.cover_judge.specs.Choices.{AreValueChoices, sketch_with}
 use Rattle.cover_judge.proofs.ChoicesJudged.{values_may}
 use Rattle.cover_solver.specs.declared.plan.LastThread.{LastThread}
 use Rattle.cover_solver.specs.declared.tally.Tally.{Tally}

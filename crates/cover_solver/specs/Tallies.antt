@@ -3,7 +3,6 @@ use Rattle.std.specs.Prelude.{◌≡◌, ◌≢◌, ◌⊎◌, ℕ, ◌%◌, Lis
 use Rattle.bit_rows.specs.Rows.{Relates}
 use Rattle.bit_rows.specs.declared.row.TheConstants.{ROW_BITS}
 use Rattle.candidate_executions.specs.declared.access.Access.{Access}
-use Rattle.candidate_executions.specs.declared.event.Event.{Event}
 use Rattle.candidate_executions.specs.declared.event.Event.TheVariants.{Access as At}
 use Rattle.candidate_executions.specs.Candidates.{Writes}
 use Rattle.exec_axioms.specs.ProgramSketches.{ProgramSketch, access_in}

@@ -1,5 +1,5 @@
 -- What one thread does under the values that its reads may take.
-use Rattle.std.specs.Prelude.{◌≡◌, ℕ, List, [], ◌∷◌, All}
+use Rattle.std.specs.Prelude.{◌≡◌, ℕ, List, [], ◌∷◌}
 use Rattle.exec_axioms.specs.ProgramSketches.{ProgramSketch, with_chosen}
 use Rattle.cover_judge.specs.declared.choice.Choice.{Choice}
 use Rattle.cover_judge.specs.Choices.{IsValueOpen, AreValueChoices, MayChooseEach, sketch_with}

@@ -23,6 +23,7 @@ mod plan;
 mod preference;
 mod run;
 mod served;
+mod settled;
 mod table;
 mod tally;
 mod traces;

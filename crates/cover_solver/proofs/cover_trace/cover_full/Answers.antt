@@ -1,10 +1,10 @@
-use Rattle.std.proofs.Common.{◌≡◌, ◌∙◌, List, [], map, ap, sym, subst, rules}
+use Rattle.std.proofs.Common.{◌≡◌, ◌∙◌, List, map, ap, sym, subst, rules}
 use Rattle.cert_forest.specs.declared.tree.CoverTree.{CoverTree}
 use Rattle.cert_forest.specs.declared.tree.CoverTree.TheVariants as memory
 use Rattle.cert_forest.specs.declared.tree.CoverTree.TheViews.{the_lemmas}
 use Rattle.cert_forest.specs.declared.tree.CoverTree.TheFolds.{fold-roll-CoverTree, fold_out-CoverTree}
 use Rattle.cert_forest.specs.Views.{cover, cover_node}
-use Rattle.cert_forest.specs.Trees.{Cover, Source, NoCover, covers_of}
+use Rattle.cert_forest.specs.Trees.{Cover, Source, covers_of}
 use Rattle.cover_solver.specs.Combined.{with_trace}
 use Rattle.cover_solver.specs.Covers.{IsCoverAt}
 use Rattle.cover_solver.proofs.CombinedSketches.{whole_merged, unsourced_cover}

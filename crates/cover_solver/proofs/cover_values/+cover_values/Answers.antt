@@ -1,5 +1,4 @@
 use Rattle.std.proofs.Common.{List, [], ◌∷◌, ◌∙◌, get_or, map, sym, ap, subst, arith}
-use Rattle.std.specs.Option.{MatchOption}
 use Rattle.std.proofs.lemmas.List.{map-append}
 use Rattle.cert_forest.specs.Views.{cover}
 use Rattle.cover_judge.specs.declared.choice.Choice.{Choice}

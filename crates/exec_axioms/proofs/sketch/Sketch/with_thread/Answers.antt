@@ -1,4 +1,4 @@
-use Rattle.std.proofs.Common.{◌≡◌, ◌∙◌, ◌<◌, ap, sym, subst, length, List, [], Some, get_or, set, refl, ℕ, arith}
+use Rattle.std.proofs.Common.{◌≡◌, ◌∙◌, ◌<◌, ap, sym, subst, length, List, Some, get_or, set, refl, arith}
 use Rattle.std.specs.Arc.{arc_value}
 use Rattle.std.proofs.lemmas.Option.{slice_get_read}
 use Rattle.bit_rows.proofs.Written.{zeros, zeros_are_empty}
