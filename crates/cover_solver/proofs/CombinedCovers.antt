@@ -48,7 +48,7 @@ module _ (s u : ProgramSketch) (t : ℕ) (lawful : IsLawful s) (alone : HasValue
   is_value : get_or choices i d ≡ choice.Value t v
   is_value = value_at u t choices are i d h
 
-  child_parts : with_root t s x ≡ with_chosen merged (sketch_with merged.chosen (get_or choices i d))
+  pub child_parts : with_root t s x ≡ with_chosen merged (sketch_with merged.chosen (get_or choices i d))
   child_parts =
       ap (λ (r : ProgramSketch). with_chosen s (with_values s.chosen t (given_to r.chosen t))) (at ∙ ap (λ (c : Choice). with_chosen u (sketch_with u.chosen c)) is_value)
       ∙ one_more_value s u t lawful alone there own alike v ∙ sym (ap (λ (c : Choice). with_chosen merged (sketch_with merged.chosen c)) is_value)

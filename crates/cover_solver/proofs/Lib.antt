@@ -10,6 +10,7 @@ pub mod Tallied
 pub mod TraceTrees
 pub mod CombinedSketches
 pub mod CombinedCovers
+pub mod TraceNodes
 pub mod Planned
 pub mod Neat
 pub mod Tables

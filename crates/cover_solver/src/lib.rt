@@ -12,6 +12,8 @@ mod cover;
 mod cover_trace;
 mod cover_values;
 mod explore;
+mod explore_trace;
+mod explore_values;
 mod fault;
 mod foreign;
 mod found;

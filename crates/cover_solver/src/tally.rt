@@ -2,10 +2,10 @@
 //!
 //! Each location with a value has a bit in rows of bits. Two may share one: then a read may seem to have a
 //! source that it has not, and a sketch decides. No read seems to lack a source that it has.
-ghost use Rattle.std.specs.Prelude.{◌≡◌, ◌≢◌, ◌<◌, ◌↔◌, ◌⊎◌, ◌%◌, ℕ, [], Some, None, IsTrue, IfOk, OnOk, IfSome, MatchOption, slice_index, length};
+ghost use Rattle.std.specs.Prelude.{◌≡◌, ◌≢◌, ◌<◌, ◌↔◌, ◌⊎◌, ◌%◌, ℕ, [], Some, None, IsTrue, IfOk, OnOk, IfSome, slice_index, length};
 ghost use Rattle.bit_rows.specs.Rows.{Relates};
 ghost use Rattle.bit_rows.specs.declared.row.TheConstants.{ROW_BITS};
-ghost use Rattle.cover_solver.specs.Tallies.{IsMarked, KeepsBits, IsTallyOf, IsOwn, IsOther, TakesAccess, TakesThread, LacksWrite, LacksWriteOfBoth};
+ghost use Rattle.cover_solver.specs.Tallies.{IsMarked, IsTallyOf, IsOwn, IsOther, TakesAccess, TakesThread, LacksWrite, LacksWriteOfBoth};
 
 use bit_rows::{ROW_BITS, has, put_rows, with};
 use cert_forest::AccessId;

@@ -11,7 +11,8 @@ use std::alloc::{AllocError, Global};
 /// What a thread does from some given values on. The sketches have values for this thread alone.
 #[derive(Drop)]
 pub(crate) enum TraceTree {
-    /// The thread has a next read: these choices give it its values, and these trees follow them.
+    /// The thread has a next read: these choices give it its values, and these trees follow them. The
+    /// sketch is kept for the proof alone.
     Read {
         sketch: Sketch,
         choices: Vec<Choice>,
