@@ -7,6 +7,7 @@ import re
 
 EVENT = re.compile(r"Initial\((\d+)\)|Access\((\d+), (\d+)\)")
 ACCESS = re.compile(r"Some\(Access \{ section: \d+, location: (\d+), read: (\w+)(?:\(\d+\))?, written: (\w+)(?:\(\d+\))? \}\)")
+UNIONS = {"s": "Sequential", "l": "Location", "g": "Global"}
 RUN = re.compile(r"registers \[(.*)\]; memory \[(.*)\]")
 
 
@@ -56,13 +57,38 @@ def to_choose(events, told):
             yield [f"order:{first}:{second}", f"order:{second}:{first}"]
 
 
-def without_cycle(call, level):
-    """The scripts, each with what is left to choose after it, whose sketches have no cycle."""
-    found = answers(call, [script for script, _ in level], [["find-cycle"]] * len(level))
-    return [it for it, (cycle,) in zip(level, found) if cycle == "none"]
+def has_cycle(edges):
+    """Whether a way along edges comes back to where it began: events that no edge leads to are left out until none is left, or none can be."""
+    left = set(itertools.chain.from_iterable(edges))
+    while left:
+        first = left - {to for begin, to in edges if begin in left}
+        if not first:
+            return True
+        left -= first
+    return False
 
 
-def complete(call, code, locations):
+def searched_cycles(call, scripts, events, unions):
+    """Of each sketch, the unions in which a plain search of its known edges comes back to where it began."""
+    pairs = list(itertools.permutations(events, 2))
+    asked = [f"is-edge:{union}:{begin}:{to}" for union in unions for begin, to in pairs]
+    for told in answers(call, scripts, [asked] * len(scripts)):
+        rest = iter(told)
+        yield [union for union in unions if has_cycle([pair for pair in pairs if next(rest) == "true"])]
+
+
+def without_cycle(call, level, events, unions):
+    """The scripts, each with what is left to choose after it, whose sketches have no cycle. What the sketches find is compared with a plain search where there are unions to search."""
+    scripts = [script for script, _ in level]
+    found = [cycle for (cycle,) in answers(call, scripts, [["find-cycle"]] * len(level))]
+    if unions:
+        for script, cycle, searched in zip(scripts, found, searched_cycles(call, scripts, events, unions)):
+            if cycle not in ([f"{UNIONS[union]} true" for union in searched] or ["none"]):
+                raise Refused(script, cycle, searched)
+    return [it for it, cycle in zip(level, found) if cycle == "none"]
+
+
+def complete(call, code, locations, unions=""):
     """The scripts that choose everything, without a cycle."""
     whole = given(call, len(code), locations)
     events = [f"{t}.{k}" for t, instructions in enumerate(code) for k in range(len(instructions))]
@@ -70,15 +96,15 @@ def complete(call, code, locations):
     level = [(script, list(to_choose(events, told))) for script, told in zip(whole, answers(call, whole, [asked] * len(whole)))]
     found = []
     while level:
-        level = without_cycle(call, level)
+        level = without_cycle(call, level, events, unions)
         found += [script for script, left in level if not left]
         level = [((*script, choice), left[1:]) for script, left in level if left for choice in left[0]]
     return found
 
 
-def outcomes(call, code, locations):
-    """The outcomes that the runs of all candidate executions are replayed to, one for each of these; `call` makes the calls of a sketch in one mode."""
-    scripts = complete(call, code, locations)
+def outcomes(call, code, locations, unions=""):
+    """The outcomes that the runs of all candidate executions are replayed to, one for each of these; `call` makes the calls of a sketch in one mode. Cycles are searched for in these unions of the mode."""
+    scripts = complete(call, code, locations, unions)
     for (told,) in answers(call, scripts, [["run"]] * len(scripts)):
         run = RUN.fullmatch(told)
         if not run:

@@ -1,6 +1,6 @@
 //! Relations, and what they lead to.
-ghost use Rattle.std.specs.Prelude.{◌≡◌, ◌↔◌, ◌⊎◌, ◌<◌, ◌≤◌, ℕ, IsTrue, MatchOption, length};
-ghost use Rattle.bit_rows.specs.Rows.{IsIn, Relates, Reaches, LeadsInto, Meets};
+ghost use Rattle.std.specs.Prelude.{◌≡◌, ◌↔◌, ◌⊎◌, ◌<◌, ◌≤◌, ℕ, List, IsTrue, MatchOption, length};
+ghost use Rattle.bit_rows.specs.Rows.{IsIn, Relates, Reaches, LeadsInto, Meets, AreConnected, HasRound};
 ghost use Rattle.bit_rows.specs.declared.row.TheConstants.{ROW_BITS};
 
 use crate::row::{ROW_BITS, has, has_any, joined, meets, with};
@@ -11,18 +11,19 @@ use std::marker::Model;
 pub struct Relation {
     next: [u32; ROW_BITS],
     reach: [u32; ROW_BITS],
+    round: bool,
 }
 
 impl Model for Relation {
-    ghost use Rattle.std.specs.Prelude.{List, ℕ};
+    ghost use Rattle.std.specs.Prelude.{◌↔◌, List, ℕ, IsTrue};
 
     ghost Value = { List ℕ };
 
-    ghost use Rattle.bit_rows.specs.Rows.{IsReach};
+    ghost use Rattle.bit_rows.specs.Rows.{IsReach, HasRound};
 
     ghost view = { λ r. r.next };
 
-    ghost invariant = { λ r. IsReach r.next r.reach };
+    ghost invariant = { λ r. IsReach r.next r.reach × (IsTrue r.round ↔ HasRound r.next) };
 }
 
 impl Relation {
@@ -33,6 +34,7 @@ impl Relation {
         Relation {
             next: [0; ROW_BITS],
             reach: [0; ROW_BITS],
+            round: false,
         }
     }
 
@@ -43,6 +45,7 @@ impl Relation {
         Relation {
             next: self.next,
             reach: self.reach,
+            round: self.round,
         }
     }
 
@@ -73,7 +76,7 @@ impl Relation {
 
     /// Relates each number of the first row to each of the second.
     pub fn connect(&mut self, from: u32, to: u32)
-        ensures { (d e : ℕ) → Relates self.new d e ↔ (Relates self.old d e ⊎ (IsIn from d × IsIn to e)) }
+        ensures { AreConnected self.old from to self.new }
     {
         if !has_any(from) || !has_any(to) {
             return;
@@ -81,6 +84,34 @@ impl Relation {
         let beyond = reached(&self.reach, to);
         put_rows(&mut self.next, from, to);
         put_reach(&mut self.reach, from, beyond);
+        self.round = either(self.round, meets(beyond, from));
+    }
+
+    /// Whether a path leads back to where it began.
+    pub fn has_round(&self) -> bool
+        ensures { IsTrue result ↔ HasRound self.now }
+    {
+        self.round
+    }
+
+    /// Whether a path would lead back to where it began if each number of the first row were related to
+    /// each of the second. The relation stays as it is.
+    pub fn closes(&self, from: u32, to: u32) -> bool
+        ensures { (rows : List ℕ) × AreConnected self.now from to rows × (IsTrue result ↔ HasRound rows) }
+    {
+        either(self.round, meets(reached(&self.reach, to), from))
+    }
+
+    /// The same if two rows were connected so, and then two others.
+    pub fn closes_twice(&self, from: u32, to: u32, then_from: u32, then_to: u32) -> bool
+        ensures { (rows more : List ℕ) × AreConnected self.now from to rows × AreConnected rows then_from then_to more × (IsTrue result ↔ HasRound more) }
+    {
+        let beyond = reached(&self.reach, to);
+        let then_beyond = reached(&self.reach, then_to);
+        let first = either(self.round, meets(beyond, from));
+        let second = meets(then_beyond, then_from);
+        let crossed = both(meets(beyond, then_from), meets(then_beyond, from));
+        either(either(first, second), crossed)
     }
 
     /// The numbers that a path leads back to.
@@ -114,7 +145,7 @@ fn reached(reach: &[u32], row: u32) -> u32
 /// Puts the numbers of one row into the rows of the other's numbers.
 pub fn put_rows(next: &mut [u32], from: u32, to: u32)
     requires { length next.old ≡ ROW_BITS }
-    ensures { (d e : ℕ) → Relates next.new d e ↔ (Relates next.old d e ⊎ (IsIn from d × IsIn to e)) }
+    ensures { AreConnected next.old from to next.new }
 {
     for d in 0..ROW_BITS as u8 {
         if has(from, d) {
@@ -136,4 +167,18 @@ fn put_reach(reach: &mut [u32], from: u32, beyond: u32)
             reach[d as usize] = joined(row, beyond);
         }
     }
+}
+
+/// Whether one of the two holds.
+fn either(a: bool, b: bool) -> bool
+    ensures { IsTrue result ↔ (IsTrue a ⊎ IsTrue b) }
+{
+    a || b
+}
+
+/// Whether the two hold.
+fn both(a: bool, b: bool) -> bool
+    ensures { IsTrue result ↔ (IsTrue a × IsTrue b) }
+{
+    a && b
 }

@@ -1,6 +1,8 @@
 -- What a search for outcomes has listed, choice by choice.
-use Rattle.std.proofs.Common.{◌≡◌, ℕ, suc, ◌+◌, ◌-◌, ◌*◌, ◌<◌, ◌≤◌, List, [], ◌∷◌, Contains, All, map, ap, ◌∙◌, subst, inl, inr, arith}
+use Rattle.std.proofs.Common.{◌≡◌, ℕ, suc, ◌+◌, ◌-◌, ◌*◌, ◌<◌, ◌≤◌, List, [], ◌∷◌, Contains, All, get_or, length, map, take, sym, ap, ◌∙◌, subst, inl, inr, arith}
 use Rattle.std.specs.Prelude.{Result, Ok, Err, OnOk}
+use Rattle.std.proofs.lemmas.List.{take_more, take_all}
+use Rattle.std.proofs.lemmas.List.Elements.{All-push, All-weaker}
 use Rattle.tso_program.specs.declared.outcome.Outcome.{Outcome}
 use Rattle.tso_program.specs.declared.shown.Shown.{Shown}
 use Rattle.tso_program.specs.declared.listing.Listing.{Listing}
@@ -29,7 +31,7 @@ use Rattle.cover_solver.specs.declared.choices_left.OpenChoice.TheVariants.{Valu
 use Rattle.cover_solver.specs.declared.found.Found.{Found}
 use Rattle.cover_solver.specs.Choices.{IsOpen, AreChoicesOf}
 use Rattle.cover_solver.specs.Found.{AscendWithRuns, HasRunOfEach, Keeps}
-use Rattle.cover_solver.specs.Explored.{Grows, IsListed, Explores}
+use Rattle.cover_solver.specs.Explored.{Grows, IsListed, Explores, ExploresEach}
 use Rattle.cover_solver.specs.Covers.{IsLeafAt}
 use Rattle.cover_solver.specs.Internal.Runs.{IsShownRunOf}
 use Rattle.run_maker.specs.declared.run.MadeRun.{MadeRun}
@@ -120,6 +122,34 @@ module _ (s next : ProgramSketch) (shown : Shown) (c : Choice) (old new : Found)
 
   pub listed_after : IsListed s shown new.outcomes.items (sketch_with s.chosen c)
   listed_after = moved (λ p mode k. IsCovered (asked p shown) mode new.outcomes.items k) s next c same explores.listed
+
+module _ (s : ProgramSketch) (shown : Shown) where
+  -- with no choice yet
+  pub explores_none : (found : Found) → AscendWithRuns found → ExploresEach s shown [] found found
+  explores_none found in_order = record { grows = grows_none s shown found in_order; each = λ k d h. absurd (omega arith) }
+
+  -- with one choice more
+  pub explores_more : (next : ProgramSketch) (choices : List Choice) (i : ℕ) (d : Choice) (old mid new : Found) → i < length choices → next ≡ with_chosen s (sketch_with s.chosen (get_or choices i d)) →
+      ExploresEach s shown (take i choices) old mid → Explores next shown mid new → ExploresEach s shown (take (i + 1) choices) old new
+  explores_more next choices i d old mid new h same before explores =
+      let c = get_or choices i d in
+      let grows = grows_after s next shown c mid new same explores in
+      let P = λ (x : Choice). IsListed s shown new.outcomes.items (sketch_with s.chosen x) in
+      record {
+        grows = grows_twice s shown old mid new before.grows grows;
+        each = subst (All P) (sym (take_more choices i d h)) (All-push P (take i choices) c
+            (All-weaker (λ (x : Choice). IsListed s shown mid.outcomes.items (sketch_with s.chosen x)) P (λ x listed. listed_still s shown mid.outcomes.items new.outcomes.items (sketch_with s.chosen x) grows.keeps listed)
+            (take i choices) before.each)
+            (listed_after s next shown c mid new same explores));
+      }
+
+  -- with all of them
+  pub explores_each : (choices : List Choice) (i : ℕ) (old new : Found) → length choices ≤ i → ExploresEach s shown (take i choices) old new → ExploresEach s shown choices old new
+  explores_each choices i old new h each = subst (λ (cs : List Choice). ExploresEach s shown cs old new) (take_all i choices h) each
+
+  -- so of all completions
+  pub explores_all : (next : OpenChoice) (choices : List Choice) (old new : Found) → IsLawful s → IsOpen s next → AreChoicesOf s next choices → ExploresEach s shown choices old new → Explores s shown old new
+  explores_all next choices old new lawful is_open are each = record { grows = each.grows; listed = listed_by_choices s shown new.outcomes.items next choices lawful is_open are each.each }
 
 -- an outcome is put to those found, with its run
 pub added : {E : Type 0} (s : ProgramSketch) (shown : Shown) (old new : Found) (run : MadeRun) (r : Result (Unit {0}) E) → IsLawful s → IsShownRunOf s shown run → OnOk r (AscendWithRuns new) →

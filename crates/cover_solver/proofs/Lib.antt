@@ -6,5 +6,11 @@ pub mod AccessesNamed
 pub mod Leaves
 pub mod Listing
 pub mod Nodes
+pub mod Tallied
+pub mod TraceTrees
+pub mod CombinedSketches
+pub mod CombinedCovers
+pub mod TraceNodes
+pub mod Planned
 pub mod Neat
 pub mod Tables

@@ -13,12 +13,12 @@ use Rattle.tso_machine.specs.Outcomes.{IsShownRun, AllowsShown}
 use Rattle.candidate_executions.specs.Sketches.{empty_sketch}
 use Rattle.tso_machine.specs.declared.mode.Mode as own
 use Rattle.tso_machine.specs.Modes.{machine_mode}
-use Rattle.exec_axioms.specs.ProgramSketches.{ProgramSketch, mode_in, nothing_chosen}
+use Rattle.exec_axioms.specs.ProgramSketches.{nothing_chosen}
 use Rattle.tree_laws.specs.CoverTrees.{IsCovered}
 use Rattle.tree_laws.proofs.ListedOutcomes.{listed, allowed_is_shown}
 use Rattle.cover_solver.specs.declared.found.Found.{Found}
 use Rattle.cover_solver.specs.Found.{AreRunsOf, HasRunOfEach}
-use Rattle.cover_solver.specs.Explored.{Grows, IsListed}
+use Rattle.cover_solver.specs.Explored.{Grows}
 
 -- what stands beside a value of the second list
 zip_at_right : {A B : Type 0} (R : A → B → Type 0) (xs : List A) (ys : List B) (n : ℕ) (y : B) → AllZip R xs ys → slice_get ys n ≡ Some y → (x : A) × (slice_get xs n ≡ Some x) × R x y
@@ -41,16 +41,8 @@ exactly_allowed q mode runs outcomes forward are covered o = (
     allowed : (x : Outcome) → Contains outcomes x → AllowsShown q mode x
     allowed x has = (let (n, at) = there outcomes x has in let (labels, found, is_run) = zip_at_right (IsShownRun q mode) runs outcomes n x are at in (labels, is_run))
 
--- what is listed at the sketch with no choice
-pub covered_first : (p : Listing) (mode : own.Mode) (s : ProgramSketch) (shown : Shown) (outcomes : List Outcome) → s ≡ nothing_chosen p mode → IsListed s shown outcomes s.chosen →
-    IsCovered (asked p shown) (machine_mode p mode) outcomes (empty_sketch p)
-covered_first p mode s shown outcomes same listed =
-    subst (λ (n : ProgramSketch). IsCovered (asked n.program shown) (mode_in n) outcomes n.chosen) same listed
-
--- what has grown from nothing has a run of each outcome
-pub runs_first : (p : Listing) (mode : own.Mode) (s : ProgramSketch) (shown : Shown) (old new : Found) → s ≡ nothing_chosen p mode → old.outcomes.items ≡ [] → old.runs ≡ [] → Grows s shown old new →
-    HasRunOfEach (asked p shown) (machine_mode p mode) new
-runs_first p mode s shown old new same no_outcomes no_runs grows =
-    subst (λ (n : ProgramSketch). HasRunOfEach (asked n.program shown) (mode_in n) new) same
-    (grows.runs (subst (λ os. AreRunsOf (asked s.program shown) (mode_in s) old.runs os) (sym no_outcomes)
-    (subst (λ rs. AreRunsOf (asked s.program shown) (mode_in s) rs []) (sym no_runs) tt)))
+-- what has grown from nothing at the sketch with no choice has a run of each outcome
+pub runs_first : (p : Listing) (mode : own.Mode) (shown : Shown) (old new : Found) → old.outcomes.items ≡ [] → old.runs ≡ [] → Grows (nothing_chosen p mode) shown old new → HasRunOfEach (asked p shown) (machine_mode p mode) new
+runs_first p mode shown old new no_outcomes no_runs grows =
+    grows.runs (subst (λ os. AreRunsOf (asked p shown) (machine_mode p mode) old.runs os) (sym no_outcomes)
+    (subst (λ rs. AreRunsOf (asked p shown) (machine_mode p mode) rs []) (sym no_runs) tt))

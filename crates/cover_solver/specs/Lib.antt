@@ -7,3 +7,7 @@ pub mod Facts
 pub mod ForeignFaults
 pub mod Verdicts
 pub mod Internal
+pub mod Tallies
+pub mod Traces
+pub mod Combined
+pub mod Plans

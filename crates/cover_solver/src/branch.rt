@@ -1,5 +1,5 @@
 //! Branches: what is chosen next, and its choices.
-ghost use Rattle.std.specs.Prelude.{◌≡◌, IfOk, MatchOption, All, [], ◌∷◌};
+ghost use Rattle.std.specs.Prelude.{◌≡◌, IfOk, MatchOption, [], ◌∷◌};
 ghost use Rattle.exec_axioms.specs.Complete.{IsComplete};
 ghost use Rattle.cover_judge.specs.Choices.{MayChooseEach};
 ghost use Rattle.cover_solver.specs.Choices.{IsOpen, IsBranch, AreChoicesOf};
@@ -30,39 +30,12 @@ pub(crate) fn next_branch(
     requires { Ascend outcomes.now }
     ensures { IfOk result (λ branch. MatchOption branch (IsComplete sketch.now) (IsBranch sketch.now)) }
 {
-    let mut branches = branches_of(alloc, sketch)?;
-    if branches.is_empty() {
+    let left = open_choices(alloc, sketch)?;
+    if left.is_empty() {
         return Ok(None);
     }
-    let number = preferred(sketch, shown, outcomes, &branches)?;
-    Ok(Some(branches.remove(number)))
-}
-
-/// All that is left to be chosen, with its choices. Where one has none, it closes the sketch, and no
-/// other needs a look: then it alone.
-fn branches_of(alloc: Global, sketch: &Sketch) -> Result<Vec<Branch>, AllocError>
-    ensures each { IfOk result (λ branches. All (IsBranch sketch.now) branches.items) }
-    ensures complete { IfOk result (λ branches. branches.items ≡ [] → IsComplete sketch.now) }
-{
-    let left = open_choices(alloc, sketch)?;
-    let mut branches = Vec::new(alloc);
-    for next in &left {
-        let branch = branch_of(alloc, sketch, *next)?;
-        if branch.choices.is_empty() {
-            return only(alloc, branch);
-        }
-        branches.push(branch)?;
-    }
-    Ok(branches)
-}
-
-/// One branch alone.
-fn only(alloc: Global, branch: Branch) -> Result<Vec<Branch>, AllocError>
-    ensures { IfOk result (λ branches. branches.items ≡ branch ∷ []) }
-{
-    let mut branches = Vec::new(alloc);
-    branches.push(branch)?;
-    Ok(branches)
+    let number = preferred(alloc, sketch, shown, outcomes, &left)?;
+    Ok(Some(branch_of(alloc, sketch, left[number])?))
 }
 
 /// What is left to be chosen, with its choices.

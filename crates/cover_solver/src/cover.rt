@@ -10,8 +10,10 @@ ghost use Rattle.cover_solver.specs.Covers.{IsCoverAt, IsValidAt, AreChildren, I
 
 use crate::branch::next_branch;
 use crate::choices_left::OpenChoice;
+use crate::cover_values::cover_values;
 use crate::fault::Stop;
 use crate::leaf::leaf;
+use crate::plan::plan_for;
 use crate::run::shown_run;
 use cert_forest::CoverTree;
 use cover_judge::{Choice, TreeFault, judge_cover, sketch_with};
@@ -40,12 +42,15 @@ pub(crate) fn cover_all(
     ensures stop { IfErr result (StopIs (asked program.now shown.now) (machine_mode program.now mode) outcomes.now) }
 {
     let sketch = Sketch::new(alloc, program, mode)?;
-    cover_from(alloc, &sketch, shown, outcomes)
+    match plan_for(alloc, &sketch)? {
+        Some(plan) => cover_values(alloc, &sketch, &plan, shown, outcomes),
+        None => cover_from(alloc, &sketch, shown, outcomes),
+    }
 }
 
 /// A tree for a sketch.
 #[cycle(cover)]
-fn cover_from(
+pub(crate) fn cover_from(
     alloc: Global,
     sketch: &Sketch,
     shown: &Shown,
@@ -119,7 +124,7 @@ fn is_valid(
 }
 
 /// The node over a tree for each choice.
-fn node_over(
+pub(crate) fn node_over(
     alloc: Global,
     next: OpenChoice,
     children: Vec<CoverTree>,

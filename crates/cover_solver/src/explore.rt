@@ -3,6 +3,7 @@ ghost use Rattle.std.specs.Prelude.{◌≡◌, ◌↔◌, IfOk, OnOk, IsTrue, fa
 ghost use Rattle.tso_program.specs.declared.outcome.Outcome.{Outcome};
 ghost use Rattle.tso_program.specs.Shown.{asked};
 ghost use Rattle.tso_machine.specs.Outcomes.{AllowsShown};
+ghost use Rattle.exec_axioms.specs.ProgramSketches.{nothing_chosen};
 ghost use Rattle.exec_axioms.specs.Known.{HasNoCycle};
 ghost use Rattle.tso_machine.specs.Modes.{machine_mode};
 ghost use Rattle.exec_axioms.specs.Complete.{IsComplete};
@@ -11,8 +12,10 @@ ghost use Rattle.cover_solver.specs.Found.{AscendWithRuns, HasRunOfEach};
 ghost use Rattle.cover_solver.specs.Explored.{Explores, ExploresEach};
 
 use crate::branch::next_branch;
+use crate::explore_values::explore_values;
 use crate::found::Found;
 use crate::leaf::leaf;
+use crate::plan::plan_for;
 use crate::run::shown_run;
 use cover_judge::{Choice, sketch_with};
 use exec_axioms::{Mode, Sketch};
@@ -33,14 +36,31 @@ pub(crate) fn explore_all(
     // For the proof alone: what holds of every program is known where its threads are read.
     let _ = program.threads();
     let mut found = Found::none(alloc);
-    let sketch = Sketch::new(alloc, program, mode)?;
-    explore(alloc, &sketch, shown, &mut found)?;
+    explore_mode(alloc, program, shown, mode, &mut found)?;
     Ok(found)
+}
+
+/// Puts the outcome of each consistent candidate of a mode to those found.
+fn explore_mode(
+    alloc: Global,
+    program: &Program,
+    shown: &Shown,
+    mode: Mode,
+    found: &mut Found,
+) -> Result<(), AllocError>
+    requires { AscendWithRuns found.old }
+    ensures { OnOk result (Explores (nothing_chosen program.now mode) shown.now found.old found.new) }
+{
+    let sketch = Sketch::new(alloc, program, mode)?;
+    match plan_for(alloc, &sketch)? {
+        Some(plan) => explore_values(alloc, &sketch, &plan, shown, found),
+        None => explore(alloc, &sketch, shown, found),
+    }
 }
 
 /// Puts the outcome of each consistent completion of the sketch to those found.
 #[cycle(explore)]
-fn explore(
+pub(crate) fn explore(
     alloc: Global,
     sketch: &Sketch,
     shown: &Shown,

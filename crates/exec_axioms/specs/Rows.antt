@@ -1,8 +1,8 @@
 -- Accesses by number, and what is kept of them in rows.
-use Rattle.std.specs.Prelude.{◌≡◌, ◌≢◌, ◌↔◌, ◌<◌, ◌≤◌, ℕ, List, [], Option, Some, None, IsSome, slice_get, length, Contains}
+use Rattle.std.specs.Prelude.{◌≡◌, ◌≢◌, ◌↔◌, ◌⊎◌, ◌<◌, ◌≤◌, ℕ, Bool, IsTrue, List, [], Option, Some, None, IsSome, slice_get, length, Contains}
 use Rattle.std.specs.List.{AllPairs}
 use Rattle.std.specs.Option.{option_map_or}
-use Rattle.bit_rows.specs.Rows.{IsIn, Relates}
+use Rattle.bit_rows.specs.Rows.{IsIn, Relates, HasRound}
 use Rattle.tso_program.specs.declared.listing.Listing.{Listing}
 use Rattle.candidate_executions.specs.declared.access.Access.{Access}
 use Rattle.candidate_executions.specs.declared.event.Event.{Event}
@@ -10,9 +10,12 @@ use Rattle.candidate_executions.specs.declared.event.Event.TheVariants.{Initial,
 use Rattle.candidate_executions.specs.declared.event.Kind.{Kind}
 use Rattle.candidate_executions.specs.declared.event.Kind.TheVariants as union
 use Rattle.candidate_executions.specs.Events.{ComesBefore}
+use Rattle.candidate_executions.specs.Consistency.{SameThread}
 use Rattle.tso_machine.specs.declared.mode.Mode.{Mode}
 use Rattle.tso_machine.specs.declared.mode.Mode.TheVariants.{Sequential, Fenced}
 use Rattle.exec_axioms.specs.declared.thread_trace.ThreadTrace.{ThreadTrace}
+use Rattle.exec_axioms.specs.declared.connect.SourceRows.{SourceRows}
+use Rattle.exec_axioms.specs.declared.connect.OrderRows.{OrderRows}
 use Rattle.exec_axioms.specs.ProgramSketches.{ProgramSketch, mode_in}
 use Rattle.exec_axioms.specs.Known.{OrderPart}
 use Rattle.exec_axioms.specs.Kept.{view_of, KeepsTraces}
@@ -123,3 +126,29 @@ pub record HasRows (s : ProgramSketch) (thread_traces : List ThreadTrace) (event
 pub record IsRepresented (p : Listing) (mode : Mode) (thread_traces : List ThreadTrace) (events : List Event) (sources pairs : List (Event × Event)) (later main global : List ℕ) : Type 0 where
   pub kept : KeepsTraces p mode thread_traces sources pairs
   pub rows : HasRows (view_of p mode thread_traces sources pairs) thread_traces events later main global
+
+-- the rows of a read's source: those of the read and of the source, this one where it is of another thread, both outside sequential mode, and the writes after the source
+pub record AreSourceRows (mode : Mode) (thread_traces : List ThreadTrace) (events : List Event) (later : List ℕ) (read source : Event) (rows : SourceRows) : Type 0 where
+  pub reader : IsRowOf events (λ e. e ≡ read) rows.reader
+  pub written : IsRowOf events (λ e. e ≡ source) rows.written
+  pub far : (k : ℕ) → IsIn rows.far k ↔ ((SameThread source read → ⊥) × IsIn rows.written k)
+  pub outside : (k : ℕ) → IsIn rows.outside k ↔ ((mode ≡ Sequential → ⊥) × IsIn rows.far k)
+  pub from_read : (k : ℕ) → IsIn rows.from_read k ↔ ((mode ≡ Sequential → ⊥) × IsIn rows.reader k)
+  pub initial : (l : ℕ) → source ≡ Initial l → IsRowOf events (WritesBut thread_traces l read) rows.after
+  pub after : (t i : ℕ) → source ≡ At t i → (d : ℕ) → IsIn rows.after d ↔ IsAfterBut events later source read d
+
+-- the rows of an order: those of the two writes, of the reads that have the first as their source, of these and the first, and the same outside sequential mode
+pub record AreOrderRows (mode : Mode) (events : List Event) (sources : List (Event × Event)) (first second : Event) (rows : OrderRows) : Type 0 where
+  pub before : IsRowOf events (λ e. e ≡ first) rows.before
+  pub after : IsRowOf events (λ e. e ≡ second) rows.after
+  pub readers : IsRowOf events (ReadsBut sources first second) rows.readers
+  pub earlier : (k : ℕ) → IsIn rows.earlier k ↔ (IsIn rows.before k ⊎ IsIn rows.readers k)
+  pub fenced : (k : ℕ) → IsIn rows.fenced k ↔ ((mode ≡ Sequential → ⊥) × IsIn rows.earlier k)
+
+-- rows represent what is chosen, and the test says whether they have a round
+pub record ClosesAs (p : Listing) (mode : Mode) (thread_traces : List ThreadTrace) (events : List Event) (sources pairs : List (Event × Event)) (closes : Bool) : Type 0 where
+  pub later : List ℕ
+  pub main : List ℕ
+  pub global : List ℕ
+  pub represented : IsRepresented p mode thread_traces events sources pairs later main global
+  pub test : IsTrue closes ↔ (HasRound main ⊎ HasRound global)

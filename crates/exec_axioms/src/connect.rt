@@ -1,17 +1,16 @@
 //! The known edges in rows, and what a choice adds to them.
-ghost use Rattle.std.specs.Prelude.{◌≡◌, ◌≤◌, ◌⊎◌, ◌↔◌, ℕ, [], ◌∷◌, ◌++◌, List, IsTrue, length};
-ghost use Rattle.bit_rows.specs.Rows.{Reaches};
+ghost use Rattle.std.specs.Prelude.{◌≡◌, ◌≤◌, [], ◌∷◌, ◌++◌, List, length};
 ghost use Rattle.bit_rows.specs.declared.row.TheConstants.{ROW_BITS};
 ghost use Rattle.tso_program.specs.declared.listing.Listing.{Listing};
 ghost use Rattle.candidate_executions.specs.declared.event.Event.{Event};
 ghost use Rattle.exec_axioms.specs.Kept.{view_of};
 ghost use Rattle.exec_axioms.specs.Choices.{MayRead, MayFollow};
-ghost use Rattle.exec_axioms.specs.Rows.{rows_of, IsAlike, IsRepresented};
+ghost use Rattle.exec_axioms.specs.Rows.{rows_of, IsAlike, AreSourceRows, AreOrderRows, IsRepresented, ClosesAs};
 
 use crate::Mode;
 use crate::rows::{if_far, if_fenced, overwriting, readers_of, row_of};
 use crate::traces::Traces;
-use bit_rows::{ROW_BITS, Relation, has_any, joined, put_rows};
+use bit_rows::{ROW_BITS, Relation, joined, put_rows};
 use candidate_executions::{Event, Kind};
 
 /// Between accesses by their numbers: the chosen orders, and the known edges of the mode's unions. The
@@ -21,6 +20,29 @@ pub(crate) struct EdgeRows {
     pub(crate) later: [u32; ROW_BITS],
     pub(crate) main: Relation,
     pub(crate) global: Relation,
+}
+
+/// The rows between which a read's source makes edges: the read's, the source's, and that of the writes
+/// after the source. The source counts in the global union only where it is of another thread.
+#[derive(Drop)]
+pub(crate) struct SourceRows {
+    reader: u32,
+    written: u32,
+    far: u32,
+    outside: u32,
+    from_read: u32,
+    after: u32,
+}
+
+/// The rows between which an order of two writes makes edges: the first's, the second's, and that of
+/// the reads that have the first as their source.
+#[derive(Drop)]
+pub(crate) struct OrderRows {
+    before: u32,
+    after: u32,
+    readers: u32,
+    earlier: u32,
+    fenced: u32,
 }
 
 impl EdgeRows {
@@ -45,6 +67,26 @@ impl EdgeRows {
         }
     }
 
+    /// The rows between which a read's source makes edges.
+    fn rows_of_source(&self, mode: &Mode, traces: &Traces, read: Event, source: Event) -> SourceRows
+        requires few { length traces.now.events.items ≤ ROW_BITS }
+        requires alike { IsAlike traces.now.events.items self.now.later }
+        ensures { AreSourceRows mode.now traces.now.thread_traces.items traces.now.events.items self.now.later read source result }
+    {
+        let events = traces.events.as_slice();
+        let reader = row_of(events, read);
+        let written = row_of(events, source);
+        let far = if_far(source, read, written);
+        SourceRows {
+            reader,
+            written,
+            far,
+            outside: if_fenced(*mode, far),
+            from_read: if_fenced(*mode, reader),
+            after: overwriting(traces, &self.later, source, read),
+        }
+    }
+
     /// The edges of a read's source: from it to the read, and from the read to the writes after it.
     pub(crate) fn connect_source(
         &mut self,
@@ -59,17 +101,35 @@ impl EdgeRows {
             → MayRead (view_of p mode.now traces.now.thread_traces.items sources pairs) read source
             → IsRepresented p mode.now traces.now.thread_traces.items traces.now.events.items (sources ++ (read, source) ∷ []) pairs self.new.later self.new.main self.new.global }
     {
-        let events = traces.events.as_slice();
-        let reader = row_of(events, read);
-        let written = row_of(events, source);
-        let after = overwriting(traces, &self.later, source, read);
-        let far = if_far(source, read, written);
-        let outside = if_fenced(*mode, far);
-        let from_read = if_fenced(*mode, reader);
-        self.main.connect(written, reader);
-        self.main.connect(reader, after);
-        self.global.connect(outside, reader);
-        self.global.connect(from_read, after);
+        let rows = self.rows_of_source(mode, traces, read, source);
+        self.main.connect(rows.written, rows.reader);
+        self.main.connect(rows.reader, rows.after);
+        self.global.connect(rows.outside, rows.reader);
+        self.global.connect(rows.from_read, rows.after);
+    }
+
+    /// Whether a path of known edges would lead back to where it began if these edges were made.
+    pub(crate) fn closes_source(
+        &self,
+        mode: &Mode,
+        traces: &Traces,
+        read: Event,
+        source: Event,
+    ) -> bool
+        requires few { length traces.now.events.items ≤ ROW_BITS }
+        requires alike { IsAlike traces.now.events.items self.now.later }
+        ensures { (p : Listing) (sources pairs : List (Event × Event)) → IsRepresented p mode.now traces.now.thread_traces.items traces.now.events.items sources pairs self.now.later self.now.main self.now.global
+            → MayRead (view_of p mode.now traces.now.thread_traces.items sources pairs) read source
+            → ClosesAs p mode.now traces.now.thread_traces.items traces.now.events.items (sources ++ (read, source) ∷ []) pairs result }
+    {
+        let rows = self.rows_of_source(mode, traces, read, source);
+        let main = self
+            .main
+            .closes_twice(rows.written, rows.reader, rows.reader, rows.after);
+        let global = self
+            .global
+            .closes_twice(rows.outside, rows.reader, rows.from_read, rows.after);
+        main || global
     }
 
     /// The edges of an order of two writes: from the first, and from the reads that have it as their
@@ -87,21 +147,53 @@ impl EdgeRows {
             → MayFollow (view_of p mode.now traces.now.thread_traces.items sources.now pairs) first second
             → IsRepresented p mode.now traces.now.thread_traces.items traces.now.events.items sources.now (pairs ++ (first, second) ∷ []) self.new.later self.new.main self.new.global }
     {
-        let events = traces.events.as_slice();
-        let before = row_of(events, first);
-        let after = row_of(events, second);
-        let readers = readers_of(sources, events, first, second);
-        let earlier = joined(before, readers);
-        let fenced = if_fenced(*mode, earlier);
-        put_rows(&mut self.later, before, after);
-        self.main.connect(earlier, after);
-        self.global.connect(fenced, after);
+        let rows = rows_of_order(mode, traces, sources, first, second);
+        put_rows(&mut self.later, rows.before, rows.after);
+        self.main.connect(rows.earlier, rows.after);
+        self.global.connect(rows.fenced, rows.after);
     }
 
-    /// Whether a path of known edges leads back to where it began.
-    pub(crate) fn have_round(&self) -> bool
-        ensures { IsTrue result ↔ ((d : ℕ) × (Reaches self.now.main d d ⊎ Reaches self.now.global d d)) }
+    /// Whether a path of known edges would lead back to where it began if these edges were made.
+    pub(crate) fn closes_order(
+        &self,
+        mode: &Mode,
+        traces: &Traces,
+        sources: &[(Event, Event)],
+        first: Event,
+        second: Event,
+    ) -> bool
+        requires { length traces.now.events.items ≤ ROW_BITS }
+        ensures { (p : Listing) (pairs : List (Event × Event)) → IsRepresented p mode.now traces.now.thread_traces.items traces.now.events.items sources.now pairs self.now.later self.now.main self.now.global
+            → MayFollow (view_of p mode.now traces.now.thread_traces.items sources.now pairs) first second
+            → ClosesAs p mode.now traces.now.thread_traces.items traces.now.events.items sources.now (pairs ++ (first, second) ∷ []) result }
     {
-        has_any(joined(self.main.on_cycles(), self.global.on_cycles()))
+        let rows = rows_of_order(mode, traces, sources, first, second);
+        let main = self.main.closes(rows.earlier, rows.after);
+        let global = self.global.closes(rows.fenced, rows.after);
+        main || global
+    }
+}
+
+/// The rows between which an order of two writes makes edges.
+fn rows_of_order(
+    mode: &Mode,
+    traces: &Traces,
+    sources: &[(Event, Event)],
+    first: Event,
+    second: Event,
+) -> OrderRows
+    requires { length traces.now.events.items ≤ ROW_BITS }
+    ensures { AreOrderRows mode.now traces.now.events.items sources.now first second result }
+{
+    let events = traces.events.as_slice();
+    let before = row_of(events, first);
+    let readers = readers_of(sources, events, first, second);
+    let earlier = joined(before, readers);
+    OrderRows {
+        before,
+        after: row_of(events, second),
+        readers,
+        earlier,
+        fenced: if_fenced(*mode, earlier),
     }
 }

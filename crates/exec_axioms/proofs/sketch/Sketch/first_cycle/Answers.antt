@@ -10,17 +10,17 @@ use Rattle.exec_axioms.proofs.Found.{none_sequential, none_fenced}
 use Rattle.exec_axioms.proofs.sketch.Sketch.first_cycle.Goals as goal
 use Rattle.candidate_executions.specs.Sketches.{IsWhole}
 
-pub returns-then-not-is_whole : goal.returns-then-not-is_whole
-returns-then-not-is_whole c = no_cycle_yet c.args.self.now (subst (λ (s : ProgramSketch). IsLawful s) c.self.view_is c.self.invariant.kept.lawful)
+pub returns-then-not-is_whole-clause-cycle : goal.returns-then-not-is_whole-clause-cycle
+returns-then-not-is_whole-clause-cycle c = no_cycle_yet c.args.self.now (subst (λ (s : ProgramSketch). IsLawful s) c.self.view_is c.self.invariant.kept.lawful)
     (not_by _ (IsWhole c.args.self.now.program (mode_in c.args.self.now) c.args.self.now.chosen) c.is_whole.ensures c.if-not-is_whole.true)
 
-pub returns-in-Sequential : goal.returns-in-Sequential
-returns-in-Sequential c =
+pub returns-in-Sequential-clause-cycle : goal.returns-in-Sequential-clause-cycle
+returns-in-Sequential-clause-cycle c =
     let mode = sym (ap (λ (s : ProgramSketch). s.mode) c.self.view_is) ∙ c.in-Sequential.is in
-    IfOk-weaker c.find_cycle_of.result _ _ (λ found. none_by found _ _ _ (none_sequential c.args.self.now mode)) c.find_cycle_of.ensures
+    IfOk-weaker c.find_cycle_of.result _ _ (λ found. none_by found _ _ _ (none_sequential c.args.self.now mode)) c.find_cycle_of.ensures.cycle
 
-pub returns-in-None : goal.returns-in-None
-returns-in-None c =
+pub returns-in-None-clause-cycle : goal.returns-in-None-clause-cycle
+returns-in-None-clause-cycle c =
     let mode = sym (ap (λ (s : ProgramSketch). s.mode) c.self.view_is) ∙ c.in-Fenced.is in
-    let location = MatchOption-at_none _ _ c.in-None.is c.in_ok-found-in-Fenced.ensures in
-    IfOk-weaker c.find_cycle_of-in-None.result _ _ (λ found. none_by found _ _ _ (none_fenced c.args.self.now c.in-Fenced.field-0 mode location)) c.find_cycle_of-in-None.ensures
+    let location = MatchOption-at_none _ _ c.in-None.is c.in_ok-found-in-Fenced.ensures.cycle in
+    IfOk-weaker c.find_cycle_of-in-None.result _ _ (λ found. none_by found _ _ _ (none_fenced c.args.self.now c.in-Fenced.field-0 mode location)) c.find_cycle_of-in-None.ensures.cycle

@@ -1,0 +1,25 @@
+use Rattle.std.proofs.Common.{◌≡◌, ◌∙◌, List, map, ap, sym, subst, rules}
+use Rattle.cert_forest.specs.declared.tree.CoverTree.{CoverTree}
+use Rattle.cert_forest.specs.declared.tree.CoverTree.TheVariants as memory
+use Rattle.cert_forest.specs.declared.tree.CoverTree.TheViews.{the_lemmas}
+use Rattle.cert_forest.specs.declared.tree.CoverTree.TheFolds.{fold_out-CoverTree}
+use Rattle.cert_forest.specs.Views.{cover, cover_node}
+use Rattle.cert_forest.specs.Trees.{Cover, Source, covers_of}
+use Rattle.cover_solver.specs.Combined.{with_trace}
+use Rattle.cover_solver.specs.Covers.{IsCoverAt}
+use Rattle.cover_solver.proofs.CombinedSketches.{whole_merged, unsourced_cover}
+use Rattle.cover_solver.proofs.cover_trace.cover_full.Goals as goal
+
+pub returns-in-Some-clause-cover : goal.returns-in-Some-clause-cover
+returns-in-Some-clause-cover c =
+    let s = c.args.sketch.now in
+    let u = c.args.trace.now.sketch in
+    let base = c.requires.base in
+    let lawful = c.program.ensures.lawful in
+    let own = c.program-2.ensures.lawful in
+    let whole = whole_merged s u c.args.t lawful base.alone base.there own c.requires.alike c.requires.trace.full base.full in
+    let made : cover (memory.Source c.in-Some.read c.new.result) ≡ Source c.in-Some.read (covers_of (map cover c.new.result.items)) = search (rules, the_lemmas, fold_out-CoverTree Cover cover_node) in
+    let none = ap (λ (trees : List CoverTree). Source c.in-Some.read (covers_of (map cover trees))) c.new.ensures.items in
+    subst (IsCoverAt (with_trace c.args.t s c.args.trace.now) c.args.shown.now c.args.outcomes.now) (sym (made ∙ none))
+    (unsourced_cover s u c.args.t lawful base.alone base.there own c.requires.alike c.args.trace.now.tally c.args.others.now c.requires.trace.tally base.tally
+    c.args.shown.now c.args.outcomes.now c.program.ensures.registers whole c.in-Some.read c.in-Some.ensures)

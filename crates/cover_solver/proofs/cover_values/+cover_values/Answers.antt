@@ -1,0 +1,65 @@
+use Rattle.std.proofs.Common.{List, [], ◌∷◌, ◌∙◌, get_or, map, sym, ap, subst, arith}
+use Rattle.std.proofs.lemmas.List.{map-append}
+use Rattle.cert_forest.specs.Views.{cover}
+use Rattle.cover_judge.specs.declared.choice.Choice.{Choice}
+use Rattle.cover_judge.specs.declared.choice.Choice.TheVariants as choice
+use Rattle.cover_judge.specs.Choices.{MayChooseEach}
+use Rattle.cover_solver.specs.declared.choices_left.OpenChoice.TheVariants as left
+use Rattle.cover_solver.specs.Covers.{IsCoverAt, AreCoversAfter}
+use Rattle.cover_solver.specs.Plans.{AreOfOthers}
+use Rattle.cover_solver.proofs.CombinedCovers.{before_next, of_others}
+use Rattle.cover_solver.proofs.Exploring.{fewer_rounds}
+use Rattle.cover_solver.proofs.Nodes.{cover_next, covers_more, node_cover}
+use Rattle.cover_solver.proofs.cover_values.+cover_values.Goals as goal
+
+pub cover_each_value-cover_values-requires : goal.cover_each_value-cover_values-requires
+cover_each_value-cover_values-requires t c =
+    let s = c.args.sketch.now in
+    let i = c.loop-choice.choice-index in
+    let d = choice.Value 0 0 in
+    let ch = get_or c.args.choices.now i d in
+    let next = c.in_ok-next.next in (
+      omega (arith, fewer_rounds s next ch c.program.ensures.lawful c.program.ensures.few (c.requires.may.each i d c.loop-choice-test.true) c.in_ok-next.ensures),
+      (c.requires.ascend, before_next s next c.args.plan.now.last ch (c.requires.others i d c.loop-choice-test.true) c.in_ok-next.ensures c.requires.before),
+    )
+
+pub cover_each_value-loop-choice-preserved : goal.cover_each_value-loop-choice-preserved
+cover_each_value-loop-choice-preserved t c =
+    let s = c.args.sketch.now in
+    let shown = c.args.shown.now in
+    let outcomes = c.args.outcomes.now in
+    let lawful = c.program.ensures.lawful in
+    let i = c.loop-choice.choice-index in
+    let d = choice.Value 0 0 in
+    let ch = get_or c.args.choices.now i d in
+    let tree = c.in_ok-cover_values.field-0 in
+    covers_more s shown outcomes lawful c.args.choices.now (map cover c.loop-choice.trees.items) (map cover c.push.new.self.items) i d (cover tree) c.loop-choice-test.true
+    (ap (map cover) c.in_ok-push.ensures.items ∙ map-append cover c.loop-choice.trees.items (tree ∷ [])) c.loop-choice.invariant
+    (cover_next s shown outcomes lawful c.in_ok-next.next ch (cover tree) (c.requires.may.each i d c.loop-choice-test.true) c.in_ok-next.ensures c.in_ok-cover_values.ensures.tree)
+
+pub cover_values-cover_each_value-requires : goal.cover_values-cover_each_value-requires
+cover_values-cover_each_value-requires t c =
+    let s = c.args.sketch.now in
+    let last = c.args.plan.now.last.thread in
+    let choices = c.in_ok-choices-in-Some.choices.items in
+    let others = of_others s c.in-Some.t last choices c.in_ok-choices-in-Some.ensures.choices c.in-Some.ensures.0 in (
+      omega arith,
+      (
+        c.requires.ascend,
+        (
+          c.requires.before,
+          (subst (MayChooseEach s) (sym c.deref.ensures.value) c.in_ok-choices-in-Some.ensures.may, subst (AreOfOthers last) (sym c.deref.ensures.value) others),
+        ),
+      ),
+    )
+
+pub cover_values-returns-in_ok-node_over-in-Some-clause-tree : goal.cover_values-returns-in_ok-node_over-in-Some-clause-tree
+cover_values-returns-in_ok-node_over-in-Some-clause-tree t c =
+    let s = c.args.sketch.now in
+    let shown = c.args.shown.now in
+    let outcomes = c.args.outcomes.now in
+    let trees = map cover c.in_ok-trees-in-Some.trees.items in
+    let choices = c.in_ok-choices-in-Some.choices.items in
+    let are = subst (λ (cs : List Choice). AreCoversAfter s shown outcomes cs trees) c.deref.ensures.value c.in_ok-trees-in-Some.ensures.trees in
+    subst (IsCoverAt s shown outcomes) (sym c.in_ok-node_over-in-Some.ensures)
+    (node_cover s shown outcomes c.program.ensures.lawful (left.Value c.in-Some.t) choices trees c.program.ensures.registers c.in-Some.ensures.1 c.in_ok-choices-in-Some.ensures.choices are)

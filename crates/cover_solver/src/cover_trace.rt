@@ -1,0 +1,94 @@
+//! Cover trees over the values of the thread whose values are chosen last.
+ghost use Rattle.std.specs.Prelude.{IfOk, IfErr};
+ghost use Rattle.tso_program.specs.Shown.{asked};
+ghost use Rattle.exec_axioms.specs.ProgramSketches.{mode_in};
+ghost use Rattle.cert_forest.specs.Views.{cover};
+ghost use Rattle.cover_solver.specs.Ordered.{Ascend};
+ghost use Rattle.cover_solver.specs.Covers.{IsCoverAt, StopIs};
+ghost use Rattle.cover_solver.specs.Traces.{traces, root, IsTraceTree, IsFullTrace};
+ghost use Rattle.cover_solver.specs.Combined.{AreAlike, IsBase, with_root, with_trace};
+
+use crate::cover::cover_from;
+use crate::fault::Stop;
+use crate::tally::Tally;
+use crate::traces::{FullTrace, TraceTree};
+use cert_forest::CoverTree;
+use exec_axioms::Sketch;
+use std::alloc::Global;
+use tso_program::{Outcome, Shown};
+
+/// A tree for the sketch with the values of thread t at the first node. All other threads have their
+/// values in the sketch, and read and write what the tally of them says.
+#[cycle(cover_trace)]
+pub(crate) fn cover_trace(
+    alloc: Global,
+    sketch: &Sketch,
+    others: &Tally,
+    t: u8,
+    tree: &TraceTree,
+    shown: &Shown,
+    outcomes: &[Outcome],
+) -> Result<CoverTree, Stop>
+    requires ascend { Ascend outcomes.now }
+    requires base { IsBase t sketch.now others.now }
+    requires tree { IsTraceTree t (traces tree.now) }
+    requires alike { AreAlike (root (traces tree.now)) sketch.now }
+    ensures cover { IfOk result (λ made. IsCoverAt (with_root t sketch.now (traces tree.now)) shown.now outcomes.now (cover made)) }
+    ensures stop { IfErr result (StopIs (asked sketch.now.program shown.now) (mode_in sketch.now) outcomes.now) }
+{
+    // For the proof alone: what holds of every sketch is known where its program is read.
+    let _ = sketch.program();
+    match tree {
+        TraceTree::Read {
+            sketch: own,
+            choices,
+            after,
+        } => {
+            // For the proof alone, as above.
+            let _ = own.program();
+            let mut children = Vec::with_capacity(alloc, choices.len())?;
+            for next in after {
+                let child = cover_trace(alloc, sketch, others, t, next, shown, outcomes)?;
+                children.push(child)?;
+            }
+            Ok(CoverTree::Value {
+                thread: t,
+                children,
+            })
+        }
+        TraceTree::Full(trace) => cover_full(alloc, sketch, others, t, trace, shown, outcomes),
+    }
+}
+
+/// A tree for the sketch with the values of thread t in the trace: a read without a source closes it at
+/// once.
+fn cover_full(
+    alloc: Global,
+    sketch: &Sketch,
+    others: &Tally,
+    t: u8,
+    trace: &FullTrace,
+    shown: &Shown,
+    outcomes: &[Outcome],
+) -> Result<CoverTree, Stop>
+    requires ascend { Ascend outcomes.now }
+    requires base { IsBase t sketch.now others.now }
+    requires trace { IsFullTrace t trace.now }
+    requires alike { AreAlike trace.now.sketch sketch.now }
+    ensures cover { IfOk result (λ made. IsCoverAt (with_trace t sketch.now trace.now) shown.now outcomes.now (cover made)) }
+    ensures stop { IfErr result (StopIs (asked sketch.now.program shown.now) (mode_in sketch.now) outcomes.now) }
+{
+    // For the proof alone: what holds of every sketch is known where its program is read.
+    let _ = sketch.program();
+    let _ = trace.sketch.program();
+    match trace.tally.lacking(others) {
+        Some(read) => Ok(CoverTree::Source {
+            read,
+            children: Vec::new(alloc),
+        }),
+        None => {
+            let whole = sketch.with_thread(t, &trace.sketch)?;
+            cover_from(alloc, &whole, shown, outcomes)
+        }
+    }
+}
