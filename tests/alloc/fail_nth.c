@@ -6,7 +6,7 @@ extern void *__libc_realloc(void *, size);
 extern char *getenv(const char *);
 extern long write(int, const void *, size);
 
-static long calls;
+static long calls; /* of all threads */
 static long nth = -1;
 
 static long number(const char *text) {
@@ -18,7 +18,7 @@ static long number(const char *text) {
 
 static int refused(void) {
     if (nth < 0) nth = number(getenv("FAIL_NTH"));
-    if (!nth || ++calls != nth) return 0;
+    if (!nth || __atomic_add_fetch(&calls, 1, __ATOMIC_SEQ_CST) != nth) return 0;
     write((int)number(getenv("FAIL_MARK")), "x", 1);
     return 1;
 }

@@ -7,3 +7,4 @@ pub mod ShortRuns
 pub mod CertificateMade
 pub mod Splitting
 pub mod Settling
+pub mod Workers

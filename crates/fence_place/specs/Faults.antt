@@ -1,4 +1,4 @@
--- Why nothing is placed.
+-- Why nothing is found or placed.
 use Rattle.std.specs.Prelude.{◌≡◌, ◌≢◌, ◌⊎◌, ℕ, ◌<◌, Bool, true, List, length}
 use Rattle.tso_program.specs.declared.listing.Listing.{Listing}
 use Rattle.tso_program.specs.Listings.{gap_count}
@@ -13,6 +13,14 @@ AreTooFewOrMany workers = (workers ≡ 0) ⊎ (32 < workers)
 abbrev pub HasOtherLength : Listing → List ℕ → Type 0
 HasOtherLength p costs = length costs ≢ gap_count p.threads
 
+-- it is about the arguments: the number of workers first
+abbrev pub ArgumentFaultIs : Listing → List ℕ → ℕ → PlaceFault → Type 0
+ArgumentFaultIs p costs workers fault.Workers = AreTooFewOrMany workers
+ArgumentFaultIs p costs workers fault.Costs = (¬ AreTooFewOrMany workers) × HasOtherLength p costs
+ArgumentFaultIs p costs workers fault.NotCertified = ⊥
+ArgumentFaultIs p costs workers fault.Board = ⊥
+ArgumentFaultIs p costs workers fault.OutOfMemory = ⊥
+
 -- the oracle lacks a run, where it may, or out of memory
 abbrev pub MaySearchFail : Bool → PlaceFault → Type 0
 MaySearchFail may_lack_runs fault.Workers = ⊥
@@ -21,10 +29,26 @@ MaySearchFail may_lack_runs fault.NotCertified = may_lack_runs ≡ true
 MaySearchFail may_lack_runs fault.Board = ⊥
 MaySearchFail may_lack_runs fault.OutOfMemory = Unit {0}
 
--- the first two are about the arguments; a certificate is never refused, and the record always closes
-abbrev pub PlaceFaultIs : Listing → List ℕ → ℕ → Bool → PlaceFault → Type 0
-PlaceFaultIs p costs workers may_lack_runs fault.Workers = AreTooFewOrMany workers
-PlaceFaultIs p costs workers may_lack_runs fault.Costs = (¬ AreTooFewOrMany workers) × HasOtherLength p costs
-PlaceFaultIs p costs workers may_lack_runs fault.NotCertified = may_lack_runs ≡ true
-PlaceFaultIs p costs workers may_lack_runs fault.Board = ⊥
-PlaceFaultIs p costs workers may_lack_runs fault.OutOfMemory = Unit {0}
+-- so it is, or the record doesn't close
+abbrev pub MayHuntFail : Bool → PlaceFault → Type 0
+MayHuntFail may_lack_runs fault.Workers = ⊥
+MayHuntFail may_lack_runs fault.Costs = ⊥
+MayHuntFail may_lack_runs fault.NotCertified = may_lack_runs ≡ true
+MayHuntFail may_lack_runs fault.Board = Unit {0}
+MayHuntFail may_lack_runs fault.OutOfMemory = Unit {0}
+
+-- of a hunt: it is about the arguments, or the hunt fails
+abbrev pub HuntFaultIs : Listing → List ℕ → ℕ → Bool → PlaceFault → Type 0
+HuntFaultIs p costs workers may_lack_runs fault.Workers = AreTooFewOrMany workers
+HuntFaultIs p costs workers may_lack_runs fault.Costs = (¬ AreTooFewOrMany workers) × HasOtherLength p costs
+HuntFaultIs p costs workers may_lack_runs fault.NotCertified = may_lack_runs ≡ true
+HuntFaultIs p costs workers may_lack_runs fault.Board = Unit {0}
+HuntFaultIs p costs workers may_lack_runs fault.OutOfMemory = Unit {0}
+
+-- of a placement: it is about the arguments, or memory runs out
+abbrev pub PlaceFaultIs : Listing → List ℕ → ℕ → PlaceFault → Type 0
+PlaceFaultIs p costs workers fault.Workers = AreTooFewOrMany workers
+PlaceFaultIs p costs workers fault.Costs = (¬ AreTooFewOrMany workers) × HasOtherLength p costs
+PlaceFaultIs p costs workers fault.NotCertified = ⊥
+PlaceFaultIs p costs workers fault.Board = ⊥
+PlaceFaultIs p costs workers fault.OutOfMemory = Unit {0}

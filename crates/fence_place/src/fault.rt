@@ -5,7 +5,7 @@ ghost use Rattle.fence_place.specs.declared.fault.PlaceFault.TheVariants.{OutOfM
 use std::alloc::{AllocError, AllocFailed};
 use thiserror::Error;
 
-/// Why nothing is placed.
+/// Why nothing is placed, or a hunt finds nothing. [`crate::place`] answers neither `NotCertified` nor `Board`.
 #[derive(Clone, Copy, Debug, PartialEq, Eq, Error)]
 pub enum PlaceFault {
     /// There are no workers, or more than `MAX_WORKERS`.
@@ -17,7 +17,7 @@ pub enum PlaceFault {
     /// The oracle lacks a run, as it says that it may.
     #[error("the oracle lacks a run")]
     NotCertified,
-    /// The record of the search doesn't close. No call of this crate answers this.
+    /// The record of the hunt doesn't close.
     #[error("the record of the search does not close")]
     Board,
     #[error("out of memory")]

@@ -4,12 +4,18 @@
 //! certificate's gap tree is read from that record.
 #![tactic(auto)]
 
+mod arguments;
 mod certificates;
 mod fault;
 mod gaps;
+mod hunting;
+mod known;
 mod placing;
 mod searching;
+mod turns;
+mod worker;
 
 pub use certificates::certify;
 pub use fault::PlaceFault;
+pub use hunting::hunt_with;
 pub use placing::{Placed, place};

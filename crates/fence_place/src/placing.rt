@@ -1,20 +1,23 @@
 //! Placing fences.
-ghost use Rattle.std.specs.Prelude.{◌≡◌, IfOk, IfErr, Err, length};
+ghost use Rattle.std.specs.Prelude.{◌≡◌, IfOk, IfErr, Err, false, length};
 ghost use Rattle.tso_program.specs.Listings.{gap_count};
+ghost use Rattle.search_core.specs.States.{IsSeatCount};
 ghost use Rattle.fence_place.specs.Placements.{IsPlacement};
 ghost use Rattle.fence_place.specs.Faults.{AreTooFewOrMany, HasOtherLength, PlaceFaultIs, MaySearchFail};
 
 use crate::PlaceFault;
+use crate::arguments::judge_arguments;
 use crate::certificates::certify;
+use crate::hunting::hunt;
 use crate::searching::search;
 use cert_check::{CheckFault, check};
 use cert_forest::Certificate;
-use cover_solver::{Oracle, SeqTable};
+use cover_solver::{Oracle, SeqTable, Solver};
 use gap_sets::{Costs, GapSet};
+use search_core::Finished;
 use std::alloc::Global;
 use std::sync::Wait;
 use std::thread::Threads;
-use tso_program::MAX_WORKERS;
 
 /// The answer: the best set of gaps that serves, its cost, and a certificate of both.
 #[derive(Debug, Drop)]
@@ -27,11 +30,11 @@ pub struct Placed {
 /// Finds the best set of gaps that serves, by asking an oracle, with a certificate that the checker
 /// accepts.
 ///
-/// All is done on the caller's thread, whatever the number of workers, and nothing waits: no thread is
-/// started with `rt`, and `wait` is not used.
+/// It hunts as [`crate::hunt_with`] does. Where the oracle lacks a run, or the record of the hunt doesn't close, it
+/// searches again on the caller's thread, by a solver of its own.
 pub fn place<R: Threads + Sync, W: Wait + Sync, O: Oracle>(
-    _rt: &R,
-    _wait: &W,
+    rt: &R,
+    wait: &W,
     alloc: Global,
     oracle: &O,
     table: &SeqTable,
@@ -42,30 +45,29 @@ pub fn place<R: Threads + Sync, W: Wait + Sync, O: Oracle>(
     ensures placed { IfOk result (IsPlacement table.now.question costs.now) }
     ensures workers { AreTooFewOrMany workers → result ≡ Err PlaceFault.Workers }
     ensures costs { ¬ AreTooFewOrMany workers → HasOtherLength table.now.question.program costs.now → result ≡ Err PlaceFault.Costs }
-    ensures fault { IfErr result (PlaceFaultIs table.now.question.program costs.now workers (O.may_lack_runs oracle.now)) }
+    ensures fault { IfErr result (PlaceFaultIs table.now.question.program costs.now workers) }
 {
-    if workers == 0 || workers > MAX_WORKERS {
-        return Err(PlaceFault::Workers);
-    }
-    if costs.len() != table.program().gaps() as usize {
-        return Err(PlaceFault::Costs);
-    }
-    find_placement(alloc, oracle, table, costs)
+    judge_arguments(table, costs, workers)?;
+    find_placement(rt, wait, alloc, oracle, table, costs, workers)
 }
 
-/// Finds the best set and its certificate, where there is one cost for each gap.
-fn find_placement<O: Oracle>(
+/// Finds the best set and its certificate, where the number of workers can be and there is one cost for each gap.
+fn find_placement<R: Threads + Sync, W: Wait + Sync, O: Oracle>(
+    rt: &R,
+    wait: &W,
     alloc: Global,
     oracle: &O,
     table: &SeqTable,
     costs: &Costs,
+    workers: u8,
 ) -> Result<Placed, PlaceFault>
     requires of_question { O.question oracle.now ≡ table.now.question }
     requires one_each { length costs.now ≡ gap_count table.now.question.program.threads }
+    requires workers { IsSeatCount workers }
     ensures placed { IfOk result (IsPlacement table.now.question costs.now) }
-    ensures fault { IfErr result (MaySearchFail (O.may_lack_runs oracle.now)) }
+    ensures fault { IfErr result (λ fault. fault ≡ PlaceFault.OutOfMemory) }
 {
-    let finished = search(alloc, oracle, table, costs)?;
+    let finished = found(rt, wait, alloc, oracle, table, costs, workers)?;
     let certificate = certify(alloc, table, &finished)?;
     match check(alloc, table.program(), table.shown(), costs, &certificate) {
         Ok(accepted) => Ok(Placed {
@@ -76,4 +78,50 @@ fn find_placement<O: Oracle>(
         Err(CheckFault::OutOfMemory) => Err(PlaceFault::OutOfMemory),
         Err(_) => unreachable!(),
     }
+}
+
+/// The hunt, or where it fails for another cause than memory the search that is made again.
+fn found<R: Threads + Sync, W: Wait + Sync, O: Oracle>(
+    rt: &R,
+    wait: &W,
+    alloc: Global,
+    oracle: &O,
+    table: &SeqTable,
+    costs: &Costs,
+    workers: u8,
+) -> Result<Finished, PlaceFault>
+    requires of_question { O.question oracle.now ≡ table.now.question }
+    requires one_each { length costs.now ≡ gap_count table.now.question.program.threads }
+    requires workers { IsSeatCount workers }
+    ensures question { IfOk result (λ finished. finished.question ≡ table.now.question) }
+    ensures costs { IfOk result (λ finished. finished.costs ≡ costs.now) }
+    ensures fault { IfErr result (λ fault. fault ≡ PlaceFault.OutOfMemory) }
+{
+    match hunt(rt, wait, alloc, oracle, table, costs, workers) {
+        Ok(finished) => Ok(finished),
+        Err(PlaceFault::OutOfMemory) => Err(PlaceFault::OutOfMemory),
+        Err(_) => search_again(alloc, table, costs),
+    }
+}
+
+/// The search by one seat on the caller's thread, by a solver of its own.
+fn search_again(alloc: Global, table: &SeqTable, costs: &Costs) -> Result<Finished, PlaceFault>
+    requires { length costs.now ≡ gap_count table.now.question.program.threads }
+    ensures question { IfOk result (λ finished. finished.question ≡ table.now.question) }
+    ensures costs { IfOk result (λ finished. finished.costs ≡ costs.now) }
+    ensures fault { IfErr result (λ fault. fault ≡ PlaceFault.OutOfMemory) }
+{
+    let solver = Solver::new(alloc, table.program(), table)?;
+    match search(alloc, &solver, table, costs) {
+        Ok(finished) => Ok(finished),
+        Err(fault) => Err(of_search(fault)),
+    }
+}
+
+/// The fault of a search by a solver, which lacks no run.
+fn of_search(_fault: PlaceFault) -> PlaceFault
+    requires { MaySearchFail false _fault }
+    ensures { result ≡ PlaceFault.OutOfMemory }
+{
+    PlaceFault::OutOfMemory
 }

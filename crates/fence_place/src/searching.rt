@@ -4,10 +4,9 @@
 //! asks, the search looks for one among the runs that it knows: a node costs an ask only where each of
 //! these passes a gap of `must`. The tree prefers the node with the best `must`, so the first set that
 //! serves is the answer, and no further ask finds one: how often it asks is tested, and no clause says it.
-ghost use Rattle.std.specs.Prelude.{◌≡◌, ◌<◌, true, false, IfSome, IfOk, IfErr, OnOk, IsTrue, Some, slice_get, length};
+ghost use Rattle.std.specs.Prelude.{◌≡◌, ◌<◌, true, false, IfOk, IfErr, OnOk, length};
 ghost use Rattle.tso_program.specs.Listings.{gap_count};
 ghost use Rattle.tso_machine.specs.Outcomes.{AreGapsOf};
-ghost use Rattle.cover_solver.specs.Facts.{Foreign};
 ghost use Rattle.cover_solver.specs.Verdicts.{PassesNoneOf};
 ghost use Rattle.search_core.specs.Events.{IsSettling};
 ghost use Rattle.search_core.specs.States.{IsDone, HoldsOnly, IsSameSearch};
@@ -16,7 +15,7 @@ ghost use Rattle.fence_place.specs.Faults.{MaySearchFail};
 ghost use Rattle.fence_place.specs.Internal.Searches.{AreOf, NothingIsHeld};
 
 use crate::PlaceFault;
-use crate::gaps::count_open;
+use crate::known::known_run;
 use cover_solver::{ForeignRun, Oracle, SeqTable, SolveFault, Verdict};
 use gap_sets::{Costs, Region};
 use search_core::{Finished, Reason, SearchTree, TreeFault, settling_lessens_the_work};
@@ -181,28 +180,4 @@ fn of_split(_fault: TreeFault) -> PlaceFault
     ensures { result ≡ PlaceFault.OutOfMemory }
 {
     PlaceFault::OutOfMemory
-}
-
-/// Of the known runs that pass no gap which the node's sets must have, the place of one that opens the
-/// fewest nodes.
-fn known_run(known: &[ForeignRun], node: &Region) -> Option<usize>
-    ensures { IfSome result (λ place. (run : Foreign) × (slice_get known.now place ≡ Some run) × PassesNoneOf node.now.must run) }
-{
-    let mut best = None;
-    let mut fewest = usize::MAX;
-    for (place, run) in known.iter().enumerate() {
-        let count = count_open(run.passed(), node.never);
-        if count < fewest && may_split(run, node) {
-            best = Some(place);
-            fewest = count;
-        }
-    }
-    best
-}
-
-/// Whether the run passes no gap which the node's sets must have.
-fn may_split(run: &ForeignRun, node: &Region) -> bool
-    ensures { IsTrue result → PassesNoneOf node.now.must run.now }
-{
-    !run.passed().meets(&node.must)
 }

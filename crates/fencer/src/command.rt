@@ -102,7 +102,8 @@ fn run_words<T: Threads + Sync, U: Wait + Sync, S: WritableFileStore, R: Read, W
 /// they are those of the input's first line, separated by spaces, and the rest of the input is `-`.
 ///
 /// Wherever any of a placement's answer is printed, the file that the words name holds its certificate; no file is
-/// changed but that one, and the one that they name for a graph. `rt` and `wait` are handed to a placement, which uses neither yet.
+/// changed but that one, and the one that they name for a graph. With `rt` the workers of a placement start threads, and with `wait`
+/// they wait for one another; nothing else does either.
 ///
 /// Status 0 means that the whole answer is written. Status 1 is a refusal, reported by one line, a writer
 /// that fails or takes no byte, and out of memory for the words or for that line, with nothing

@@ -60,8 +60,8 @@ pub fn place_gaps<R: Threads + Sync, W: Wait + Sync>(
 /// each without one: the best set of gaps after which the program has its sequential outcomes and no
 /// others. If `observed`, only what the condition and `locations` name tells outcomes apart.
 ///
-/// The litmus text is judged first, then the costs, then the number of workers. `rt` and `wait` are handed to
-/// [`fence_place::place`], which uses neither yet.
+/// The litmus text is judged first, then the costs, then the number of workers. With `rt` workers start threads, and
+/// with `wait` they wait for one another ([`fence_place::place`]).
 pub fn place_text<R: Threads + Sync, W: Wait + Sync>(
     rt: &R,
     wait: &W,

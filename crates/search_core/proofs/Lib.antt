@@ -1,6 +1,7 @@
 pub mod Places
 pub mod Sets
 pub mod OfProgram
+pub mod Bounds
 pub mod Changes
 pub mod NoneLost
 pub mod Kept

@@ -1,14 +1,17 @@
 -- What holds of every search.
-use Rattle.std.specs.Prelude.{◌≡◌, ◌⊎◌, ℕ, ◌<◌, true, List, Some, IfSome, slice_get}
+use Rattle.std.specs.Prelude.{◌≡◌, ◌⊎◌, ℕ, ◌<◌, ◌≤◌, ◌↔◌, true, List, Some, IfSome, slice_get}
 use Rattle.gap_sets.specs.Gaps.{SetOfGaps}
 use Rattle.gap_sets.specs.Order.{total, Better}
 use Rattle.gap_sets.specs.Regions.{IsInRegion}
 use Rattle.gap_sets.specs.declared.region.Region.{Region}
 use Rattle.tso_program.specs.Shown.{Question}
+use Rattle.tso_program.specs.Limits.{JumpForward}
 use Rattle.tso_machine.specs.Outcomes.{Serves, LeavesOutcome, AreGapsOf, IsTheAnswer}
+use Rattle.the_answer.specs.Answers.{least_cost}
 use Rattle.cover_solver.specs.Facts.{Serving}
 use Rattle.search_core.specs.declared.entry.Entry.{Entry}
 use Rattle.search_core.specs.Entries.{is_live}
+use Rattle.search_core.specs.Ceilings.{IsCeiling}
 use Rattle.search_core.specs.States.{SearchState, IsHeldAt, IsDone}
 use Rattle.search_core.specs.Events.{TakesNode, GivesBack, IsSettling}
 use Rattle.search_core.specs.Histories.{IsReached}
@@ -64,3 +67,7 @@ TakingLeavesTheWork = (s after : SearchState) (seat : ℕ) (n : Region) → Take
 
 abbrev pub GivingBackLeavesTheWork : Type 0
 GivingBackLeavesTheWork = (s after : SearchState) (seat : ℕ) → GivesBack s after seat → work_left after.entries ≡ work_left s.entries
+
+-- a cost is a ceiling exactly where it is no less than that of the answer
+abbrev pub TheLeastCostIsTheLeastCeiling : Type 0
+TheLeastCostIsTheLeastCeiling = (q : Question) (costs : List ℕ) (cost : ℕ) → JumpForward q.program.threads → IsCeiling q costs cost ↔ (least_cost q costs ≤ cost)

@@ -2,12 +2,13 @@
 ghost use Rattle.std.specs.Prelude.{◌≡◌, ◌<◌, Some, None, IfSome, MatchOption, length};
 ghost use Rattle.gap_sets.specs.Order.{total};
 ghost use Rattle.tso_program.specs.Listings.{gap_count};
-ghost use Rattle.search_core.specs.Ceilings.{IsBound};
+ghost use Rattle.tso_program.specs.Shown.{asked};
+ghost use Rattle.search_core.specs.Ceilings.{IsBound, IsCeiling};
 
+use crate::Subject;
 use cover_solver::Served;
 use gap_sets::Costs;
 use std::marker::Model;
-use std::snapshot::Snapshot;
 use tso_program::{Program, Shown};
 
 /// None, or a cost that some serving set of a program doesn't pass. It takes no memory.
@@ -16,13 +17,11 @@ pub struct Ceiling {
     limit: Option<Limit>,
 }
 
-/// A cost, for a program, what is shown of its outcomes, and the costs of its gaps.
+/// A cost, and what it is of.
 #[derive(Drop)]
 struct Limit {
     cost: u64,
-    program: Snapshot<Program>,
-    shown: Shown,
-    costs: Snapshot<Costs>,
+    subject: Subject,
 }
 
 impl Model for Ceiling {
@@ -56,13 +55,23 @@ impl Ceiling {
         requires { length costs.now ≡ gap_count served.now.question.program.threads }
         ensures { result ≡ Some (record { question = served.now.question; costs = costs.now; cost = total costs.now served.now.gaps }) }
     {
-        Ceiling {
-            limit: Some(Limit {
-                cost: costs.total(&served.set()),
-                program: Snapshot::of(served.program()),
-                shown: *served.shown(),
-                costs: Snapshot::of(costs),
-            }),
+        let cost = costs.total(&served.set());
+        Ceiling::at(served.program(), served.shown(), costs, Some(cost))
+    }
+
+    /// None, or a cost that some serving set doesn't pass.
+    pub fn at(program: &Program, shown: &Shown, costs: &Costs, cost: Option<u64>) -> Ceiling
+        requires { IfSome cost (IsCeiling (asked program.now shown.now) costs.now) }
+        ensures { MatchOption cost (result ≡ None) (λ c. result ≡ Some (record { question = asked program.now shown.now; costs = costs.now; cost = c })) }
+    {
+        match cost {
+            Some(cost) => Ceiling {
+                limit: Some(Limit {
+                    cost,
+                    subject: Subject::of(program, shown, costs),
+                }),
+            },
+            None => Ceiling::none(),
         }
     }
 

@@ -4,7 +4,7 @@ ghost use Rattle.gap_sets.specs.Order.{Better};
 ghost use Rattle.gap_sets.specs.declared.region.Region.{Region};
 ghost use Rattle.search_core.specs.declared.entry.Entry.{Entry};
 ghost use Rattle.search_core.specs.Children.{children};
-ghost use Rattle.search_core.specs.Entries.{entry, is_live};
+ghost use Rattle.search_core.specs.Entries.{entry, is_live, is_open};
 ghost use Rattle.search_core.specs.States.{IsOpenAt, IsHeldAt};
 ghost use Rattle.search_core.specs.Events.{open_entries};
 
@@ -81,6 +81,18 @@ pub(crate) fn open_children(
         }
     }
     Ok(found)
+}
+
+/// Whether no node is open.
+pub(crate) fn none_open(entries: &[Entry]) -> bool
+    ensures { IsTrue result ↔ ((place : ℕ) (e : Entry) → slice_get entries.now place ≡ Some e → is_open e ≡ false) }
+{
+    for entry in entries {
+        if entry.is_open() {
+            return false;
+        }
+    }
+    true
 }
 
 /// Whether no node is open or held.

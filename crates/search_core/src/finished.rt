@@ -1,5 +1,5 @@
 //! A search that is done.
-ghost use Rattle.std.specs.Prelude.{◌≡◌, ℕ, Some, None, IfSome, IfNone, MatchOption, slice_get};
+ghost use Rattle.std.specs.Prelude.{◌≡◌, ℕ, Some, None, IfSome, IfNone, MatchOption, slice_get, length};
 ghost use Rattle.tso_machine.specs.Outcomes.{IsTheAnswer};
 ghost use Rattle.search_core.specs.Records.{IsOutcome, IsSettledAs, IsFirstChild};
 
@@ -89,6 +89,13 @@ impl Finished {
         ensures outcome { IsOutcome self.now }
     {
         &self.costs
+    }
+
+    /// How many nodes the record has.
+    pub fn nodes(&self) -> usize
+        ensures { result ≡ length self.now.entries }
+    {
+        self.entries.len()
     }
 
     /// What the record says of the node of this number; the node of all sets is number 0.

@@ -1,5 +1,5 @@
 //! The laws: each function's contract is a theorem, and calling it does nothing.
-ghost use Rattle.search_core.specs.Laws.{TheAnswerIsNeverLost, NoBetterSetIsLost, ADoneStateHasTheAnswer, ASeatHoldsOneNode, SettlingLessensTheWork, TakingLeavesTheWork, GivingBackLeavesTheWork};
+ghost use Rattle.search_core.specs.Laws.{TheAnswerIsNeverLost, NoBetterSetIsLost, ADoneStateHasTheAnswer, ASeatHoldsOneNode, SettlingLessensTheWork, TakingLeavesTheWork, GivingBackLeavesTheWork, TheLeastCostIsTheLeastCeiling};
 
 /// In each state that a history reaches the answer is the best set, or it lies in the region of a node
 /// that is open or held.
@@ -24,4 +24,9 @@ pub fn settling_lessens_the_work()
     ensures settled { SettlingLessensTheWork }
     ensures taken { TakingLeavesTheWork }
     ensures given_back { GivingBackLeavesTheWork }
+{}
+
+/// The ceilings are the costs that aren't less than that of the answer.
+pub fn the_least_cost_is_the_least_ceiling()
+    ensures { TheLeastCostIsTheLeastCeiling }
 {}

@@ -9,6 +9,7 @@ mod entry;
 mod fault;
 mod finished;
 mod laws;
+mod subject;
 mod tree;
 
 pub use ceiling::{Ceiling, Reason};
@@ -16,6 +17,7 @@ pub use fault::TreeFault;
 pub use finished::{Event, Finished, Settled};
 pub use laws::{
     a_done_state_has_the_answer, a_seat_holds_one_node, settling_lessens_the_work,
-    the_answer_is_never_lost,
+    the_answer_is_never_lost, the_least_cost_is_the_least_ceiling,
 };
+pub use subject::Subject;
 pub use tree::{MAX_SEATS, SearchTree};

@@ -3,14 +3,14 @@ ghost use Rattle.std.specs.Prelude.{◌≡◌, ◌↔◌, ◌<◌, ℕ, Some, If
 ghost use Rattle.gap_sets.specs.declared.region.Region.{Region};
 ghost use Rattle.tso_program.specs.Listings.{gap_count};
 ghost use Rattle.tso_machine.specs.Outcomes.{AreGapsOf, IsTheAnswer};
-ghost use Rattle.search_core.specs.States.{HoldsNothing, HoldsOnly, HoldsNode, IsDone, IsSameSearch, IsSeatCount, IsStart};
+ghost use Rattle.search_core.specs.States.{HoldsNothing, HoldsOnly, HoldsNode, HasNoOpen, IsDone, IsSameSearch, IsSeatCount, IsStart};
 ghost use Rattle.search_core.specs.Events.{TakesNode, GivesBack, Splits, Cuts, Confirms};
 ghost use Rattle.search_core.specs.Faults.{IsReasonOf, IsCutBy, TakeFaultIs, SplitFaultIs, CutFaultIs, IsWithoutNode};
 ghost use Rattle.search_core.specs.Histories.{IsReached};
 ghost use Rattle.search_core.specs.Records.{finished_state};
 
 use crate::best::{cuts, is_better};
-use crate::entries::{all_settled, best_open, find_held, mark, open_children};
+use crate::entries::{all_settled, best_open, find_held, mark, none_open, open_children};
 use crate::entry::{Entry, Status};
 use crate::{Finished, Reason, TreeFault};
 use cover_solver::{ForeignRun, SeqTable, Served};
@@ -112,6 +112,21 @@ impl SearchTree {
         ensures reached { IsReached self.now }
     {
         &self.costs
+    }
+
+    /// How many seats there are.
+    pub fn seats(&self) -> u8
+        ensures value { result ≡ self.now.seats }
+        ensures reached { IsReached self.now }
+    {
+        self.seats
+    }
+
+    /// Whether no node is open.
+    pub fn has_no_open(&self) -> bool
+        ensures { IsTrue result ↔ HasNoOpen self.now }
+    {
+        none_open(&self.entries)
     }
 
     /// The node that the seat holds.

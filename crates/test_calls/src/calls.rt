@@ -1,5 +1,7 @@
 //! The names of the calls.
 
+use crate::placing::PlacerCall;
+
 /// A call, by its name.
 #[derive(Clone, Copy)]
 pub enum Call {
@@ -41,10 +43,13 @@ pub enum SolverCall {
     Ask,
     Foreign,
     Search,
+    Hunt,
     Place,
+    Gated(PlacerCall),
+    Lacking(PlacerCall),
 }
 
-pub const CALLS: [(&[u8], Call); 27] = [
+pub const CALLS: [(&[u8], Call); 32] = [
     (b"tokens", Call::Tokens),
     (b"plain-number", Call::PlainNumber),
     (b"body", Call::Body),
@@ -77,5 +82,22 @@ pub const CALLS: [(&[u8], Call); 27] = [
         Call::Test(TestCall::Solver(SolverCall::Foreign)),
     ),
     (b"search", Call::Test(TestCall::Solver(SolverCall::Search))),
+    (b"hunt", Call::Test(TestCall::Solver(SolverCall::Hunt))),
     (b"place", Call::Test(TestCall::Solver(SolverCall::Place))),
+    (
+        b"place-gated",
+        Call::Test(TestCall::Solver(SolverCall::Gated(PlacerCall::Place))),
+    ),
+    (
+        b"hunt-gated",
+        Call::Test(TestCall::Solver(SolverCall::Gated(PlacerCall::Hunt))),
+    ),
+    (
+        b"place-lacking",
+        Call::Test(TestCall::Solver(SolverCall::Lacking(PlacerCall::Place))),
+    ),
+    (
+        b"hunt-lacking",
+        Call::Test(TestCall::Solver(SolverCall::Lacking(PlacerCall::Hunt))),
+    ),
 ];

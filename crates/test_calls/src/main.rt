@@ -1,8 +1,8 @@
-//! A program of the tests: it makes one public call of the libraries, or a script of calls of one sketch or of one search, and prints
+//! A program of the tests: it makes one public call of the libraries, or a script of calls of one sketch, one search or one hunt, and prints
 //! what they answer.
 //!
 //! The first line of its input names the call and gives its arguments, and the rest is the text that the call takes. After the names
-//! `sequential`, `ask`, `foreign`, `search` and `place` the word `--observed` may stand, for what the litmus text names; of their
+//! `sequential`, `ask`, `foreign`, `search`, `hunt`, `place` and the like the word `--observed` may stand, for what the litmus text names; of their
 //! answers, what a search may choose comes last. `tests/calls.tsv` and `tests/solver.tsv` have one input in each line.
 #![tactic(auto)]
 
@@ -11,7 +11,10 @@ mod calls;
 mod certificates;
 mod fences;
 mod formulas;
+mod gates;
+mod hunts;
 mod input;
+mod lacking;
 mod lines;
 mod machines;
 mod observations;

@@ -6,7 +6,7 @@ use crate::input::{byte_at, number_of};
 use crate::lines::push_gaps_after;
 use crate::refusal::Refusal;
 use cover_solver::{Oracle, SeqTable, SolveFault, Solver, Verdict};
-use fence_place::{Placed, place};
+use fence_place::{Placed, hunt_with, place};
 use gap_sets::{Costs, GapSet};
 use std::alloc::{AllocError, Global};
 use std::sync::Wait;
@@ -45,6 +45,38 @@ pub fn equal_costs(alloc: Global, table: &SeqTable) -> Result<Costs, Refusal>
         list.push(1)?;
     }
     Ok(Costs::new(alloc, &list)?)
+}
+
+/// Which call finds the set.
+#[derive(Clone, Copy)]
+pub enum PlacerCall {
+    Place,
+    Hunt,
+}
+
+/// The best set of gaps, each of which costs 1, as a number of workers find it.
+pub fn set_by<R: Threads + Sync, W: Wait + Sync, O: Oracle>(
+    rt: &R,
+    wait: &W,
+    alloc: Global,
+    call: PlacerCall,
+    table: &SeqTable,
+    oracle: &O,
+    workers: u8,
+) -> Result<GapSet, Refusal>
+    requires { O.question oracle.now ≡ table.now.question }
+{
+    let costs = equal_costs(alloc, table)?;
+    match call {
+        PlacerCall::Place => {
+            let placed = place(rt, wait, alloc, oracle, table, &costs, workers)?;
+            Ok(placed.set)
+        }
+        PlacerCall::Hunt => {
+            let finished = hunt_with(rt, wait, alloc, oracle, table, &costs, workers)?;
+            Ok(finished.served().set())
+        }
+    }
 }
 
 /// The costs that the words after the first spell, or 1 for each gap where no word comes after it.

@@ -6,6 +6,7 @@ use cover_solver::{ForeignFault, SolveFault};
 use exec_axioms::SketchFault;
 use fence_place::PlaceFault;
 use gap_sets::CostFault;
+use hunt_board::CloseFault;
 use litmus_syntax::SyntaxFault;
 use litmus_text::ReadFault;
 use run_maker::MakeFault;
@@ -52,6 +53,8 @@ pub enum Refusal {
     Foreign(#[from] ForeignFault),
     #[error("tree {0:?}")]
     Tree(#[from] TreeFault),
+    #[error("close {0:?}")]
+    Close(#[from] CloseFault),
     #[error("place {0:?}")]
     Place(#[from] PlaceFault),
 }

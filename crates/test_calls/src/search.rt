@@ -34,7 +34,7 @@ const EVENTS: [(&[u8], Event); 5] = [
     (b"give", Event::GiveBack),
 ];
 
-fn push_region(region: &Region, printed: &mut String) -> Result<(), AllocError> {
+pub fn push_region(region: &Region, printed: &mut String) -> Result<(), AllocError> {
     push_gaps_after("must", &region.must, printed)?;
     push_gaps_after(" never", &region.never, printed)?;
     printed.push('\n')
@@ -50,7 +50,7 @@ fn take(tree: &mut SearchTree, seat: u8, printed: &mut String) -> Result<(), Ref
 }
 
 /// The labels of a word, with a comma between each two of them.
-fn labels_of(alloc: Global, word: &[u8]) -> Result<Vec<Label>, Refusal> {
+pub fn labels_of(alloc: Global, word: &[u8]) -> Result<Vec<Label>, Refusal> {
     let words = parts_of(alloc, word, b',')?;
     labels_from(alloc, words.as_slice(), 0)
 }

@@ -4,6 +4,9 @@ ghost use Rattle.tso_machine.specs.Outcomes.{AreGapsOf};
 
 use crate::calls::SolverCall;
 use crate::fences::gaps_of;
+use crate::gates::push_gated;
+use crate::hunts::push_hunted;
+use crate::lacking::push_lacking;
 use crate::lines::{push_foreign_run, push_serving, push_table};
 use crate::machines::labels_from;
 use crate::placing::push_placed;
@@ -92,7 +95,10 @@ fn push_of_table<R: Threads + Sync, W: Wait + Sync>(
         SolverCall::Ask => push_asked(alloc, names, table, words, printed),
         SolverCall::Foreign => push_foreign(alloc, names, table, words, printed),
         SolverCall::Search => push_searched(alloc, table, words, printed),
+        SolverCall::Hunt => push_hunted(wait, alloc, table, words, printed),
         SolverCall::Place => push_placed(rt, wait, alloc, table, words, printed),
+        SolverCall::Gated(call) => push_gated(rt, wait, alloc, call, table, words, printed),
+        SolverCall::Lacking(call) => push_lacking(rt, wait, alloc, call, table, words, printed),
     }
 }
 

@@ -5,6 +5,7 @@ use Rattle.std.specs.FinSet as set
 use Rattle.std.proofs.lemmas.Bool.{cases_lt, ltb-true, lt-ltb}
 use Rattle.gap_sets.specs.Gaps.{SetOfGaps}
 use Rattle.gap_sets.specs.Order.{total}
+use Rattle.gap_sets.proofs.Totals.{total-limit}
 use Rattle.tso_program.specs.Shown.{Question}
 use Rattle.tso_program.specs.Listings.{gap_count}
 use Rattle.tso_program.specs.Limits.{JumpForward}
@@ -14,7 +15,7 @@ use Rattle.fence_laws.proofs.AllGapsFenced.{all_serve}
 use Rattle.fence_laws.proofs.OneAnswer.{one_answer}
 use Rattle.fence_laws.proofs.HeadlineIsTheAnswer.{headline_is_the_answer}
 use Rattle.the_answer.specs.Answers.{does_serve, best_of, the_answer}
-use Rattle.the_answer.specs.Laws.{NonePasses, IsBest, TheAnswerExists, TheAnswerIsThatSet, TheHeadlineIsOfThatSet, NoServingSetCostsLess, TheHeadlineTellsTheAnswer}
+use Rattle.the_answer.specs.Laws.{NonePasses, IsBest, TheAnswerExists, TheAnswerIsThatSet, TheHeadlineIsOfThatSet, NoServingSetCostsLess, TheLeastCostIsLimited, TheHeadlineTellsTheAnswer}
 use Rattle.the_answer.proofs.Served.{test_tells}
 use Rattle.the_answer.proofs.Best.{best_is_found}
 
@@ -78,6 +79,10 @@ none_costs_less q costs gaps forward of_program serves = elim (cases_lt (total c
   | inl less ↦ (let left = (answer_exists q costs forward).least gaps of_program (inl less) in absurd (left.foreign ((serves left.outcome).0 left.left)))
   | inr not_less ↦ not_less
 ]
+
+-- it costs no more than so many gaps may cost
+pub least_is_limited : TheLeastCostIsLimited
+least_is_limited q costs list = total-limit costs (the_answer q costs) list
 
 -- what the headline tells, with the cost
 pub headline_tells : TheHeadlineTellsTheAnswer

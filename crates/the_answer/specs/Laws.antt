@@ -1,8 +1,11 @@
 -- What holds of the listed outcomes, and of the answer.
-use Rattle.std.specs.Prelude.{◌≡◌, ◌↔◌, ◌⊎◌, ℕ, ◌<◌, ◌≤◌, Bool, true, false, List, length, Some, Contains, MatchOption}
+use Rattle.std.specs.Prelude.{◌≡◌, ◌↔◌, ◌⊎◌, ℕ, ◌*◌, ◌<◌, ◌≤◌, Bool, true, false, List, length, Some, Contains, MatchOption}
 use Rattle.std.specs.FinSet as set
 use Rattle.gap_sets.specs.Gaps.{SetOfGaps}
 use Rattle.gap_sets.specs.Order.{total, Better}
+use Rattle.gap_sets.specs.CostLists.{IsCostList}
+use Rattle.gap_sets.specs.declared.gap_set.TheConstants.{MAX_GAPS}
+use Rattle.gap_sets.specs.declared.costs.TheConstants.{MAX_COST}
 use Rattle.tso_program.specs.declared.listing.Listing.{Listing}
 use Rattle.tso_program.specs.declared.outcome.Outcome.{Outcome}
 use Rattle.tso_program.specs.Shown.{Question}
@@ -75,6 +78,10 @@ TheHeadlineIsOfThatSet = (q : Question) (costs : List ℕ) (gaps : SetOfGaps) �
 abbrev pub NoServingSetCostsLess : Type 0
 NoServingSetCostsLess = (q : Question) (costs : List ℕ) (gaps : SetOfGaps) → JumpForward q.program.threads → AreGapsOf q.program gaps → Serves q gaps →
     least_cost q costs ≤ total costs gaps
+
+-- the least cost is at most that of so many gaps of the greatest cost
+abbrev pub TheLeastCostIsLimited : Type 0
+TheLeastCostIsLimited = (q : Question) (costs : List ℕ) → IsCostList costs → least_cost q costs ≤ MAX_GAPS * MAX_COST
 
 -- a set of which the headline holds, with its cost, is the answer with the least cost
 abbrev pub TheHeadlineTellsTheAnswer : Type 0

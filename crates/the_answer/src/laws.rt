@@ -1,5 +1,5 @@
 //! The laws: each function's contract is a theorem, and calling it does nothing.
-ghost use Rattle.the_answer.specs.Laws.{RunsAreBounded, OutcomesAreListed, EachOutcomeIsAllowedOrNot, TheTestTellsWhatServes, EachSetServesOrLeavesAnOutcome, TheBestSetIsFound, TheAnswerExists, TheAnswerIsThatSet, TheHeadlineIsOfThatSet, NoServingSetCostsLess, TheHeadlineTellsTheAnswer};
+ghost use Rattle.the_answer.specs.Laws.{RunsAreBounded, OutcomesAreListed, EachOutcomeIsAllowedOrNot, TheTestTellsWhatServes, EachSetServesOrLeavesAnOutcome, TheBestSetIsFound, TheAnswerExists, TheAnswerIsThatSet, TheHeadlineIsOfThatSet, NoServingSetCostsLess, TheLeastCostIsLimited, TheHeadlineTellsTheAnswer};
 ghost use Rattle.the_answer.specs.Examples.{StoreBufferingIsAnswered, RIsAnswered, N6IsAnswered, ObservedN6IsAnswered, LockedExchangeIsAnswered};
 
 /// The list of what a machine shows has exactly what its runs show, and these are bounded.
@@ -21,12 +21,13 @@ pub fn the_best_set_is_found()
 {}
 
 /// There is an answer: the best of the sets that serve. No other set is the answer, and none that
-/// serves is cheaper.
+/// serves is cheaper. It costs no more than so many gaps may cost.
 pub fn the_answer_exists()
     ensures exists { TheAnswerExists }
     ensures only { TheAnswerIsThatSet }
     ensures headline { TheHeadlineIsOfThatSet }
     ensures cost { NoServingSetCostsLess }
+    ensures limit { TheLeastCostIsLimited }
 {}
 
 /// A set of which the headline holds is the answer, and its cost is the least one.

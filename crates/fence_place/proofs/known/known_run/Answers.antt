@@ -3,8 +3,8 @@ use Rattle.std.specs.Prelude.{slice_get, IfSome}
 use Rattle.std.proofs.lemmas.Option.{slice_get_read}
 use Rattle.cover_solver.specs.Facts.{Foreign}
 use Rattle.cover_solver.specs.Verdicts.{PassesNoneOf}
-use Rattle.fence_place.proofs.searching.known_run.Goals as goal
-use Rattle.fence_place.proofs.searching.known_run.Goals.{then-count-fewest+then-may_split, else-count-fewest}
+use Rattle.fence_place.proofs.known.known_run.Goals as goal
+use Rattle.fence_place.proofs.known.known_run.Goals.{then-count-fewest+then-may_split, else-count-fewest}
 
 pub loop-place-preserved : goal.loop-place-preserved
 loop-place-preserved c = elim c.if-count-fewest.branch [

@@ -2,7 +2,7 @@ use Rattle.std.proofs.Common.{◌≡◌, Some}
 use Rattle.std.specs.Prelude.{slice_get, IfSome}
 use Rattle.cover_solver.specs.Facts.{Foreign}
 use Rattle.cover_solver.specs.Verdicts.{PassesNoneOf}
-use Rattle.fence_place.proofs.searching.known_run.Given as goal
+use Rattle.fence_place.proofs.known.known_run.Given as goal
 
 -- the best so far is one of them, and passes none of these gaps
 abbrev pub invariant-loop-place : goal.invariant-loop-place

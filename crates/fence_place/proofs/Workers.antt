@@ -1,0 +1,46 @@
+-- Workers of a hunt: what they know, and why they end.
+use Rattle.std.proofs.Common.{◌≡◌, Bool, true, false, ℕ, List, Option, Some, None, refl, sym, subst}
+use Rattle.std.specs.Prelude.{All, IfSome, MatchOption, slice_get}
+use Rattle.std.proofs.lemmas.List.Elements.{All-get_or}
+use Rattle.std.proofs.lemmas.Option.{slice_get_within, get_or_from_slice_get, same_Some, none-some}
+use Rattle.gap_sets.specs.Gaps.{SetOfGaps}
+use Rattle.gap_sets.specs.Order.{Better}
+use Rattle.cover_solver.specs.Facts.{Serving, IsServing}
+use Rattle.search_core.specs.Events.{IsBeatenBy}
+use Rattle.hunt_board.specs.Seats.{HuntView}
+use Rattle.fence_place.specs.declared.worker.Stop.{Stop}
+use Rattle.fence_place.specs.declared.worker.Stop.TheVariants.{Later, Beaten, NoRun, OutOfMemory}
+use Rattle.fence_place.specs.declared.worker.Worker.{Worker}
+use Rattle.fence_place.specs.Internal.Workers.{HasEnded, MayStop, NoneLacksRun, FaultIsAfter, lacks_run_for}
+use Rattle.fence_place.specs.Faults.{MayHuntFail}
+use Rattle.fence_place.specs.declared.fault.PlaceFault.{PlaceFault}
+use Rattle.fence_place.specs.declared.fault.PlaceFault.TheVariants as fault
+
+-- what holds of each element holds of the one at a place
+pub element : {X : Type 0} (P : X → Type 0) (xs : List X) (place : ℕ) (x : X) → slice_get xs place ≡ Some x → All P xs → P x
+element P xs place x at all = subst P (get_or_from_slice_get xs place x x at) (All-get_or P xs place x (slice_get_within xs place x at) all)
+
+none_lacked : (stop : Option Stop) → IfSome stop (MayStop false) → lacks_run_for stop ≡ false
+none_lacked None may = refl
+none_lacked (Some Later) may = refl
+none_lacked (Some Beaten) may = refl
+none_lacked (Some NoRun) may = sym may
+none_lacked (Some OutOfMemory) may = refl
+
+-- where a worker lacked a run the oracle may lack runs
+pub may_lack : (h : HuntView) (may : Bool) (workers : List Worker) → All (HasEnded h may) workers → ¬ NoneLacksRun workers → may ≡ true
+may_lack h true workers ended lacked = refl
+may_lack h false workers ended lacked = absurd (lacked (λ place w at. none_lacked w.stop ((element (HasEnded h false) workers place w at ended).1)))
+
+-- a set that isn't better than the best one
+pub beaten : (costs : List ℕ) (own : Option Serving) (best set : SetOfGaps) → MatchOption own (Some best ≡ None) (λ b. (Some best ≡ Some b.gaps) × IsServing b) → ¬ Better costs set best → IsBeatenBy costs own set
+beaten costs None best set is worse = absurd (none-some best (sym is))
+beaten costs (Some b) best set is worse = (b, refl, subst (λ (gaps : SetOfGaps). ¬ Better costs set gaps) (same_Some best b.gaps is.0) worse)
+
+-- the fault of a hunt, where its workers have ended as they may
+pub hunt_fails : (h : HuntView) (may : Bool) (workers : List Worker) (why : PlaceFault) → All (HasEnded h may) workers → FaultIsAfter workers why → MayHuntFail may why
+hunt_fails h may workers fault.Workers ended is = is
+hunt_fails h may workers fault.Costs ended is = is
+hunt_fails h may workers fault.NotCertified ended is = may_lack h may workers ended is
+hunt_fails h may workers fault.Board ended is = tt
+hunt_fails h may workers fault.OutOfMemory ended is = tt

@@ -1,0 +1,12 @@
+use Rattle.std.proofs.Common.{◌≡◌, vec_len}
+use Rattle.std.specs.Prelude.{All}
+use Rattle.hunt_board.specs.Seats.{IsOf}
+use Rattle.fence_place.specs.declared.worker.Worker.{Worker}
+use Rattle.fence_place.proofs.hunting.left_by.Given as goal
+
+-- all seats are of the hunt
+abbrev pub invariant-loop-worker : goal.invariant-loop-worker
+invariant-loop-worker l = All (λ (worker : Worker). IsOf l.hunt worker.seat) l.workers.items × All (IsOf l.hunt) l.seats.items
+
+abbrev pub decreases-loop-worker : goal.decreases-loop-worker
+decreases-loop-worker l = vec_len l.workers

@@ -1,0 +1,9 @@
+use Rattle.std.proofs.Common.{◌≡◌, ℕ, ◌<◌, Some, false}
+use Rattle.std.specs.Prelude.{slice_get}
+use Rattle.fence_place.specs.declared.worker.Worker.{Worker}
+use Rattle.fence_place.specs.Internal.Workers.{lacks_run}
+use Rattle.fence_place.proofs.hunting.none_lacks_run.Given as goal
+
+-- none has lacked a run so far
+abbrev pub invariant-loop-worker : goal.invariant-loop-worker
+invariant-loop-worker l = (j : ℕ) (w : Worker) → j < l.worker-index → slice_get l.workers j ≡ Some w → lacks_run w ≡ false

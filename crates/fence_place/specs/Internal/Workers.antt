@@ -1,0 +1,61 @@
+-- Workers of a hunt.
+use Rattle.std.specs.Prelude.{◌≡◌, Bool, true, false, ℕ, List, Option, Some, None, IfSome, slice_get}
+use Rattle.gap_sets.specs.declared.region.Region.{Region}
+use Rattle.hunt_board.specs.Seats.{HuntView, IsOf}
+use Rattle.fence_place.specs.declared.fault.PlaceFault.{PlaceFault}
+use Rattle.fence_place.specs.declared.fault.PlaceFault.TheVariants as fault
+use Rattle.fence_place.specs.declared.worker.Stop.{Stop}
+use Rattle.fence_place.specs.declared.worker.Stop.TheVariants.{Later, Beaten, NoRun, OutOfMemory}
+use Rattle.fence_place.specs.declared.worker.Worker.{Worker}
+use Rattle.fence_place.specs.Internal.Searches.{AreOf}
+
+-- the worker's seat is of the hunt and holds this node or none, and the runs that it knows are of the hunt's question
+pub record IsAt (h : HuntView) (w : Worker) (node : Option Region) : Type 0 where
+  pub of : IsOf h w.seat
+  pub holds : w.seat.node ≡ node
+  pub known : AreOf h.question w.known.items
+
+-- it holds nothing and has not ended
+abbrev pub IsReady : HuntView → Worker → Type 0
+IsReady h w = IsAt h w None × (w.stop ≡ None)
+
+-- the oracle lacks a run only where it may
+abbrev pub MayStop : Bool → Stop → Type 0
+MayStop may_lack_runs Later = Unit {0}
+MayStop may_lack_runs Beaten = Unit {0}
+MayStop may_lack_runs NoRun = may_lack_runs ≡ true
+MayStop may_lack_runs OutOfMemory = Unit {0}
+
+-- it holds nothing, and where it ended early it had cause
+abbrev pub HasEnded : HuntView → Bool → Worker → Type 0
+HasEnded h may_lack_runs w = IsAt h w None × IfSome w.stop (MayStop may_lack_runs)
+
+-- whether it ended since the oracle lacked a run
+abbrev pub lacks_run_for : Option Stop → Bool
+lacks_run_for None = false
+lacks_run_for (Some Later) = false
+lacks_run_for (Some Beaten) = false
+lacks_run_for (Some NoRun) = true
+lacks_run_for (Some OutOfMemory) = false
+
+abbrev pub lacks_run : Worker → Bool
+lacks_run w = lacks_run_for w.stop
+
+abbrev pub NoneLacksRun : List Worker → Type 0
+NoneLacksRun workers = (place : ℕ) (w : Worker) → slice_get workers place ≡ Some w → lacks_run w ≡ false
+
+-- the fault is that of a worker: of one that ended without memory, or where the oracle lacked a run
+abbrev pub FaultIsOf : List Worker → PlaceFault → Type 0
+FaultIsOf workers fault.Workers = ⊥
+FaultIsOf workers fault.Costs = ⊥
+FaultIsOf workers fault.NotCertified = ¬ NoneLacksRun workers
+FaultIsOf workers fault.Board = ⊥
+FaultIsOf workers fault.OutOfMemory = Unit {0}
+
+-- so it is, or the record doesn't close
+abbrev pub FaultIsAfter : List Worker → PlaceFault → Type 0
+FaultIsAfter workers fault.Workers = ⊥
+FaultIsAfter workers fault.Costs = ⊥
+FaultIsAfter workers fault.NotCertified = ¬ NoneLacksRun workers
+FaultIsAfter workers fault.Board = Unit {0}
+FaultIsAfter workers fault.OutOfMemory = Unit {0}

@@ -1,0 +1,197 @@
+//! The hunt: workers round one search.
+ghost use Rattle.std.specs.Prelude.{◌≡◌, ◌↔◌, All, Err, IfErr, IfOk, IfSome, IsTrue, length};
+ghost use Rattle.tso_program.specs.Listings.{gap_count};
+ghost use Rattle.tso_machine.specs.Outcomes.{IsTheAnswer};
+ghost use Rattle.search_core.specs.States.{IsSeatCount};
+ghost use Rattle.hunt_board.specs.Seats.{IsOf, IsFresh};
+ghost use Rattle.fence_place.specs.Faults.{AreTooFewOrMany, HasOtherLength, HuntFaultIs, MayHuntFail};
+ghost use Rattle.fence_place.specs.Internal.Workers.{IsReady, HasEnded, NoneLacksRun, FaultIsOf, FaultIsAfter};
+
+use crate::PlaceFault;
+use crate::arguments::judge_arguments;
+use crate::turns::Turns;
+use crate::worker::{Worker, work};
+use cover_solver::{Oracle, SeqTable};
+use gap_sets::Costs;
+use hunt_board::{CloseFault, Hunt, HuntSeat, Receipt};
+use search_core::{Finished, SearchTree};
+use std::alloc::{AllocError, Global};
+use std::sync::Wait;
+use std::thread::{self, Threads};
+
+/// Searches for the best set of gaps that serves, by asking an oracle, in as many threads as there are workers. The
+/// caller's thread is one of them, and where no more threads can be started there are fewer.
+///
+/// A worker for whose question or answer there is no memory ends, and so does one whose question the oracle has no
+/// run for. Nothing is found then.
+pub fn hunt_with<R: Threads + Sync, W: Wait + Sync, O: Oracle>(
+    rt: &R,
+    wait: &W,
+    alloc: Global,
+    oracle: &O,
+    table: &SeqTable,
+    costs: &Costs,
+    workers: u8,
+) -> Result<Finished, PlaceFault>
+    requires { O.question oracle.now ≡ table.now.question }
+    ensures question { IfOk result (λ finished. finished.question ≡ table.now.question) }
+    ensures costs { IfOk result (λ finished. finished.costs ≡ costs.now) }
+    ensures answer { IfOk result (λ finished. IsTheAnswer table.now.question costs.now finished.served.gaps) }
+    ensures workers { AreTooFewOrMany workers → result ≡ Err PlaceFault.Workers }
+    ensures lengths { ¬ AreTooFewOrMany workers → HasOtherLength table.now.question.program costs.now → result ≡ Err PlaceFault.Costs }
+    ensures fault { IfErr result (HuntFaultIs table.now.question.program costs.now workers (O.may_lack_runs oracle.now)) }
+{
+    judge_arguments(table, costs, workers)?;
+    let finished = hunt(rt, wait, alloc, oracle, table, costs, workers)?;
+    // For the proof alone: what holds of every search that is done is known where its answer is read.
+    let _ = finished.served();
+    Ok(finished)
+}
+
+/// The same, where the number of workers can be and there is one cost for each gap.
+pub(crate) fn hunt<R: Threads + Sync, W: Wait + Sync, O: Oracle>(
+    rt: &R,
+    wait: &W,
+    alloc: Global,
+    oracle: &O,
+    table: &SeqTable,
+    costs: &Costs,
+    workers: u8,
+) -> Result<Finished, PlaceFault>
+    requires of_question { O.question oracle.now ≡ table.now.question }
+    requires one_each { length costs.now ≡ gap_count table.now.question.program.threads }
+    requires workers { IsSeatCount workers }
+    ensures question { IfOk result (λ finished. finished.question ≡ table.now.question) }
+    ensures costs { IfOk result (λ finished. finished.costs ≡ costs.now) }
+    ensures fault { IfErr result (MayHuntFail (O.may_lack_runs oracle.now)) }
+{
+    let Ok(tree) = SearchTree::new(alloc, table, costs, workers) else {
+        return Err(PlaceFault::OutOfMemory);
+    };
+    let (hunt, seats) = Hunt::new(alloc, tree, workers)?;
+    let turns = Turns::new(alloc, costs, workers)?;
+    let row = workers_at(alloc, &hunt, seats)?;
+    let row = work_all(rt, wait, alloc, &hunt, &turns, oracle, row);
+    close(alloc, hunt, row)
+}
+
+/// All workers work, each in a thread where one can be started.
+fn work_all<R: Threads + Sync, W: Wait + Sync, O: Oracle>(
+    rt: &R,
+    wait: &W,
+    alloc: Global,
+    hunt: &Hunt,
+    turns: &Turns,
+    oracle: &O,
+    mut row: Vec<Worker>,
+) -> Vec<Worker>
+    requires ready { All (IsReady hunt.now) row.items }
+    requires oracle { O.question oracle.now ≡ hunt.now.question }
+    requires costs { turns.now.costs ≡ hunt.now.costs }
+    ensures { All (HasEnded hunt.now (O.may_lack_runs oracle.now)) result.items }
+{
+    let threads = row.len().max(1);
+    thread::for_each_mut(
+        rt,
+        row.as_mut_slice(),
+        threads,
+        &|_, worker|
+            requires { IsReady hunt.now worker.now × (O.question oracle.now ≡ hunt.now.question) × (turns.now.costs ≡ hunt.now.costs) }
+            ensures { HasEnded hunt.entry.now (O.may_lack_runs oracle.entry.now) worker.exit.now }
+        { work(wait, alloc, hunt, turns, oracle, worker) },
+    );
+    row
+}
+
+/// A worker for each seat.
+fn workers_at(
+    alloc: Global,
+    hunt: &Hunt,
+    mut seats: Vec<HuntSeat>,
+) -> Result<Vec<Worker>, AllocError>
+    requires { All (IsFresh hunt.now) seats.items }
+    ensures { IfOk result (λ row. All (IsReady hunt.now) row.items) }
+{
+    let mut row = Vec::with_capacity(alloc, seats.len())?;
+    while let Some(seat) = seats.pop() {
+        row.push(Worker::new(alloc, seat))?;
+    }
+    Ok(row)
+}
+
+/// Whether the oracle lacked no run.
+fn none_lacks_run(workers: &[Worker]) -> bool
+    ensures { IsTrue result ↔ NoneLacksRun workers.now }
+{
+    for worker in workers {
+        if worker.lacks_run() {
+            return false;
+        }
+    }
+    true
+}
+
+/// Whether there was no memory for some worker.
+fn one_lacks_memory(workers: &[Worker]) -> bool {
+    for worker in workers {
+        if worker.lacks_memory() {
+            return true;
+        }
+    }
+    false
+}
+
+/// Why nothing is found, where a worker met a fault: memory comes first.
+fn fault_of(workers: &[Worker]) -> Option<PlaceFault>
+    ensures { IfSome result (FaultIsOf workers.now) }
+{
+    if one_lacks_memory(workers) {
+        return Some(PlaceFault::OutOfMemory);
+    }
+    if none_lacks_run(workers) {
+        return None;
+    }
+    Some(PlaceFault::NotCertified)
+}
+
+/// The seats and the receipts of all workers.
+fn left_by(
+    alloc: Global,
+    hunt: &Hunt,
+    mut workers: Vec<Worker>,
+) -> Result<(Vec<HuntSeat>, Vec<Receipt>), AllocError>
+    requires { All (λ worker. IsOf hunt.now worker.seat) workers.items }
+    ensures { IfOk result (λ left. All (IsOf hunt.now) left.0.items) }
+{
+    let mut seats = Vec::new(alloc);
+    let mut receipts = Vec::new(alloc);
+    while let Some(worker) = workers.pop() {
+        let Worker {
+            seat,
+            known: _,
+            receipts: mut more,
+            stop: _,
+        } = worker;
+        seats.push(seat)?;
+        receipts.append(&mut more)?;
+    }
+    Ok((seats, receipts))
+}
+
+/// What the hunt leaves, where no worker met a fault and the record closes.
+fn close(alloc: Global, hunt: Hunt, workers: Vec<Worker>) -> Result<Finished, PlaceFault>
+    requires { All (λ worker. IsOf hunt worker.seat) workers.items }
+    ensures question { IfOk result (λ finished. finished.question ≡ hunt.question) }
+    ensures costs { IfOk result (λ finished. finished.costs ≡ hunt.costs) }
+    ensures fault { IfErr result (FaultIsAfter workers.items) }
+{
+    if let Some(fault) = fault_of(&workers) {
+        return Err(fault);
+    }
+    let (seats, receipts) = left_by(alloc, &hunt, workers)?;
+    match hunt.close(seats, receipts) {
+        Ok(finished) => Ok(finished),
+        Err(CloseFault::OutOfMemory) => Err(PlaceFault::OutOfMemory),
+        Err(_) => Err(PlaceFault::Board),
+    }
+}

@@ -1,0 +1,279 @@
+//! One worker of a hunt.
+ghost use Rattle.std.specs.Prelude.{◌≡◌, ◌⊎◌, ◌++◌, ◌∷◌, [], Some, None, ℕ, IfErr, IfOk, IfSome, IsTrue, OnErr, OnOk, slice_get};
+ghost use Rattle.gap_sets.specs.Gaps.{SetOfGaps};
+ghost use Rattle.tso_program.specs.Shown.{Question};
+ghost use Rattle.tso_machine.specs.Outcomes.{AreGapsOf};
+ghost use Rattle.cover_solver.specs.Facts.{IsForeignValue};
+ghost use Rattle.cover_solver.specs.Verdicts.{IsVerdictOf, PassesNoneOf};
+ghost use Rattle.search_core.specs.Events.{IsBeatenBy};
+ghost use Rattle.hunt_board.specs.Seats.{IsOf};
+ghost use Rattle.hunt_board.specs.Settlings.{IsLawful, MaySettle};
+ghost use Rattle.fence_place.specs.Internal.Searches.{AreOf};
+ghost use Rattle.fence_place.specs.Internal.Workers.{IsAt, IsReady, HasEnded, MayStop, lacks_run};
+
+use crate::known::known_run;
+use crate::turns::{Turn, Turns};
+use cover_solver::{ForeignRun, Oracle, SolveFault, Verdict};
+use gap_sets::{Costs, GapSet, Region};
+use hunt_board::{Hunt, HuntSeat, Next, Receipt, Settling};
+use std::alloc::Global;
+use std::sync::Wait;
+
+/// Why a worker gives its node back. But for `Later` it ends then.
+#[derive(Clone, Copy, Debug, PartialEq, Eq)]
+pub(crate) enum Stop {
+    /// A cheaper set was asked about, so a better node may be open now.
+    Later,
+    /// Another worker has confirmed a set that no open node betters, and settles what is left.
+    Beaten,
+    /// The oracle lacks a run.
+    NoRun,
+    OutOfMemory,
+}
+
+/// A worker's seat, the runs that it knows, its receipts, and why it ended if nodes were left.
+#[derive(Drop)]
+pub(crate) struct Worker {
+    pub(crate) seat: HuntSeat,
+    pub(crate) known: Vec<ForeignRun>,
+    pub(crate) receipts: Vec<Receipt>,
+    pub(crate) stop: Option<Stop>,
+}
+
+impl Worker {
+    /// A worker that knows nothing yet.
+    pub(crate) fn new(alloc: Global, seat: HuntSeat) -> Worker
+        ensures seat { result.seat ≡ seat }
+        ensures known { result.known.items ≡ [] }
+        ensures stop { result.stop ≡ None }
+    {
+        Worker {
+            seat,
+            known: Vec::new(alloc),
+            receipts: Vec::new(alloc),
+            stop: None,
+        }
+    }
+
+    /// Whether the oracle lacked a run.
+    pub(crate) fn lacks_run(&self) -> bool
+        ensures { result ≡ lacks_run self.now }
+    {
+        match self.stop {
+            Some(Stop::NoRun) => true,
+            _ => false,
+        }
+    }
+
+    /// Whether there was no memory.
+    pub(crate) fn lacks_memory(&self) -> bool {
+        match self.stop {
+            Some(Stop::OutOfMemory) => true,
+            _ => false,
+        }
+    }
+}
+
+/// Settles nodes until all are settled, or the worker stops: its node is open again then.
+pub(crate) fn work<W: Wait, O: Oracle>(
+    wait: &W,
+    alloc: Global,
+    hunt: &Hunt,
+    turns: &Turns,
+    oracle: &O,
+    worker: &mut Worker,
+)
+    requires ready { IsReady hunt.now worker.old }
+    requires oracle { O.question oracle.now ≡ hunt.now.question }
+    requires costs { turns.now.costs ≡ hunt.now.costs }
+    ensures { HasEnded hunt.now (O.may_lack_runs oracle.now) worker.new }
+{
+    for _ in wait.forever() {
+        let Next::Work(node) = hunt.next(wait, &mut worker.seat) else {
+            break;
+        };
+        if let Err(stop) = settle(wait, alloc, hunt, turns, oracle, worker, &node) {
+            hunt.give_back(wait, &mut worker.seat);
+            if stop != Stop::Later {
+                worker.stop = Some(stop);
+                break;
+            }
+        }
+    }
+}
+
+/// Settles the worker's node, without a question where that can be.
+fn settle<W: Wait, O: Oracle>(
+    wait: &W,
+    alloc: Global,
+    hunt: &Hunt,
+    turns: &Turns,
+    oracle: &O,
+    worker: &mut Worker,
+    node: &Region,
+) -> Result<(), Stop>
+    requires at { IsAt hunt.now worker.old (Some node.now) }
+    requires gaps { AreGapsOf hunt.now.question.program node.now.must }
+    requires oracle { O.question oracle.now ≡ hunt.now.question }
+    requires costs { turns.now.costs ≡ hunt.now.costs }
+    ensures settled { OnOk result (IsAt hunt.now worker.new None) }
+    ensures held { OnErr result (IsAt hunt.now worker.new (Some node.now)) }
+    ensures fault { IfErr result (MayStop (O.may_lack_runs oracle.now)) }
+    ensures stop { worker.new.stop ≡ worker.old.stop }
+{
+    match known_settling(alloc, hunt, turns.costs(), worker, node) {
+        Some(settling) => keep_receipt(wait, hunt, worker, settling),
+        None => settle_in_turn(wait, alloc, hunt, turns, oracle, worker, node),
+    }
+}
+
+/// How the worker's node can be settled without a question: by the best set that the worker has confirmed, or by a
+/// run that it knows.
+fn known_settling(
+    alloc: Global,
+    hunt: &Hunt,
+    costs: &Costs,
+    worker: &Worker,
+    node: &Region,
+) -> Option<Settling>
+    requires at { IsAt hunt.now worker.now (Some node.now) }
+    requires costs { costs.now ≡ hunt.now.costs }
+    ensures { IfSome result (IsLawful hunt.now worker.now.seat.best node.now) }
+{
+    if is_beaten(costs, &worker.seat, &node.must) {
+        return Some(Settling::Best);
+    }
+    let run = copy_of_known(alloc, &worker.known, node)?;
+    Some(Settling::Asked(Verdict::Foreign(run)))
+}
+
+/// Whether the seat has confirmed a set that this one isn't better than.
+fn is_beaten(costs: &Costs, seat: &HuntSeat, set: &GapSet) -> bool
+    ensures { IsTrue result → IsBeatenBy costs.now seat.now.best set.now }
+{
+    match seat.best() {
+        Some(best) => !costs.better(set, &best),
+        None => false,
+    }
+}
+
+/// A copy of a known run that splits the node, where there is one, and memory for it.
+fn copy_of_known(alloc: Global, known: &[ForeignRun], node: &Region) -> Option<ForeignRun>
+    ensures known { IfSome result (λ run. (place : ℕ) × (slice_get known.now place ≡ Some run)) }
+    ensures foreign { IfSome result IsForeignValue }
+    ensures passes_none { IfSome result (PassesNoneOf node.now.must) }
+{
+    let place = known_run(known, node)?;
+    let run = known.get(place)?;
+    // For the proof alone: what holds of every run is known where its program is read.
+    let _ = run.program();
+    run.copy(alloc).ok()
+}
+
+/// Settles the worker's node, and keeps the receipt.
+fn keep_receipt<W: Wait>(
+    wait: &W,
+    hunt: &Hunt,
+    worker: &mut Worker,
+    settling: Settling,
+) -> Result<(), Stop>
+    requires of { IsOf hunt.now worker.old.seat }
+    requires lawful { MaySettle hunt.now worker.old.seat settling }
+    ensures of { IsOf hunt.now worker.new.seat }
+    ensures settled { OnOk result (worker.new.seat.node ≡ None) }
+    ensures held { OnErr result (worker.new.seat ≡ worker.old.seat) }
+    ensures fault { IfErr result (λ stop. stop ≡ Stop.OutOfMemory) }
+    ensures same { (worker.new.known ≡ worker.old.known) × (worker.new.stop ≡ worker.old.stop) }
+{
+    if worker.receipts.reserve(1).is_err() {
+        return Err(Stop::OutOfMemory);
+    }
+    let Ok(receipt) = hunt.settle(wait, &mut worker.seat, settling) else {
+        return Err(Stop::OutOfMemory);
+    };
+    worker.receipts.push_reserved(receipt);
+    Ok(())
+}
+
+/// Settles the worker's node by a question, once it is the worker's turn to ask.
+fn settle_in_turn<W: Wait, O: Oracle>(
+    wait: &W,
+    alloc: Global,
+    hunt: &Hunt,
+    turns: &Turns,
+    oracle: &O,
+    worker: &mut Worker,
+    node: &Region,
+) -> Result<(), Stop>
+    requires at { IsAt hunt.now worker.old (Some node.now) }
+    requires gaps { AreGapsOf hunt.now.question.program node.now.must }
+    requires oracle { O.question oracle.now ≡ hunt.now.question }
+    ensures settled { OnOk result (IsAt hunt.now worker.new None) }
+    ensures held { OnErr result (IsAt hunt.now worker.new (Some node.now)) }
+    ensures fault { IfErr result (MayStop (O.may_lack_runs oracle.now)) }
+    ensures stop { worker.new.stop ≡ worker.old.stop }
+{
+    let seat = worker.seat.number();
+    match turns.begin(wait, seat, &node.must) {
+        Turn::Now => {}
+        Turn::Later => return Err(Stop::Later),
+        Turn::Never => return Err(Stop::Beaten),
+    }
+    let settled = settle_by_oracle(wait, alloc, hunt, oracle, worker, node);
+    turns.end(wait, seat, worker.seat.best());
+    settled
+}
+
+/// Settles the worker's node by what the oracle says of its set. A copy of a run that it gives is kept, where there is
+/// memory for it.
+fn settle_by_oracle<W: Wait, O: Oracle>(
+    wait: &W,
+    alloc: Global,
+    hunt: &Hunt,
+    oracle: &O,
+    worker: &mut Worker,
+    node: &Region,
+) -> Result<(), Stop>
+    requires at { IsAt hunt.now worker.old (Some node.now) }
+    requires gaps { AreGapsOf hunt.now.question.program node.now.must }
+    requires oracle { O.question oracle.now ≡ hunt.now.question }
+    ensures settled { OnOk result (IsAt hunt.now worker.new None) }
+    ensures held { OnErr result (IsAt hunt.now worker.new (Some node.now)) }
+    ensures fault { IfErr result (MayStop (O.may_lack_runs oracle.now)) }
+    ensures stop { worker.new.stop ≡ worker.old.stop }
+{
+    let verdict = ask(oracle, &node.must)?;
+    keep_copy(alloc, &mut worker.known, &verdict);
+    keep_receipt(wait, hunt, worker, Settling::Asked(verdict))
+}
+
+/// Adds a copy of a run that the oracle gives, where there is memory for it.
+fn keep_copy(alloc: Global, known: &mut Vec<ForeignRun>, verdict: &Verdict)
+    ensures { (q : Question) (gaps : SetOfGaps) → IsVerdictOf q gaps verdict.now → AreOf q known.old.items → AreOf q known.new.items }
+{
+    if let Verdict::Foreign(run) = verdict {
+        push_copy(alloc, known, run);
+    }
+}
+
+/// Adds a copy of the run, where there is memory for it.
+fn push_copy(alloc: Global, known: &mut Vec<ForeignRun>, run: &ForeignRun)
+    ensures { (known.new.items ≡ known.old.items) ⊎ (known.new.items ≡ known.old.items ++ run.now ∷ []) }
+{
+    if let Ok(copy) = run.copy(alloc) {
+        let _ = known.push(copy);
+    }
+}
+
+/// What the oracle says of a set, or why the worker stops.
+fn ask<O: Oracle>(oracle: &O, set: &GapSet) -> Result<Verdict, Stop>
+    requires { AreGapsOf (O.question oracle.now).program set.now }
+    ensures verdict { IfOk result (IsVerdictOf (O.question oracle.now) set.now) }
+    ensures fault { IfErr result (MayStop (O.may_lack_runs oracle.now)) }
+{
+    match oracle.ask(set) {
+        Ok(verdict) => Ok(verdict),
+        Err(SolveFault::NoRun) => Err(Stop::NoRun),
+        Err(SolveFault::OutOfMemory) => Err(Stop::OutOfMemory),
+    }
+}

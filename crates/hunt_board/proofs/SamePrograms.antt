@@ -1,0 +1,211 @@
+-- What the equality of threads decides.
+use Rattle.std.proofs.Common.{◌≡◌, ◌==◌, ◌&&◌, Bool, true, false, true≢false, ap, refl, sym, subst, Decides, rules}
+use Rattle.std.proofs.lemmas.Bool.{and_parts, and_from}
+use Rattle.std.proofs.lemmas.Bool.Decides.{Decides-like, Decides-and, Decides-eqb}
+use Rattle.std.proofs.lemmas.Slice.Eq.{slice_eq-Decides}
+use Rattle.std.specs.Cmp.Lexicographic.{pointwise}
+use Rattle.std.specs.Prelude.{nat_eq}
+use Rattle.tso_program.specs.declared.instruction.Reg.{Reg}
+use Rattle.tso_program.specs.declared.instruction.Reg.TheVariants.{Eax, Ebx, Ecx, Edx, Esi, Edi}
+use Rattle.tso_program.specs.declared.instruction.Instr.{Instr}
+use Rattle.tso_program.specs.declared.instruction.Instr.TheVariants.{LoadImm, Copy, Load, StoreImm, Store, Xchg, Fence, CmpImm, CmpReg, Je, Jne, Jmp}
+use Rattle.tso_program.specs.declared.listing.Thread.{Thread}
+use Rattle.tso_program.specs.contracts.instruction.RegPartialEq.TheImpl as reg
+use Rattle.tso_program.specs.contracts.instruction.InstrPartialEq.TheImpl as instr
+use Rattle.tso_program.specs.contracts.listing.ThreadPartialEq.TheImpl as thread
+
+reg_decides : (r s : Reg) → Decides (reg.ghosts.eq r s) (r ≡ s)
+reg_decides Eax s = search rules
+reg_decides Ebx s = search rules
+reg_decides Ecx s = search rules
+reg_decides Edx s = search rules
+reg_decides Esi s = search rules
+reg_decides Edi s = search rules
+
+-- two fields of which each is equal
+module _ {X Y : Type 0} (C : X → Y → Instr) where
+  two : {a c : X} {b d : Y} (x y : Bool) → Decides x (a ≡ c) → Decides y (b ≡ d) → (x && y) ≡ true → C a b ≡ C c d
+  two x y p q h = let t = and_parts x y h in λ i. C (p.0 t.0 i) (q.0 t.1 i)
+
+none : {x y : Instr} → false ≡ true → x ≡ y
+none h = absurd (true≢false (sym h))
+
+both : {X Y : Type 0} {a : X} {b : Y} (x y : Bool) → Decides x (a ≡ a) → Decides y (b ≡ b) → (x && y) ≡ true
+both x y p q = and_from x y (p.1 refl) (q.1 refl)
+
+-- instructions of one kind, with equal fields
+instr_same : (x y : Instr) → instr.ghosts.eq x y ≡ true → x ≡ y
+instr_same (LoadImm a b) (LoadImm c d) h = two LoadImm (reg.ghosts.eq a c) (b == d) (reg_decides a c) (Decides-eqb b d) h
+instr_same (LoadImm a b) (Copy c d) h = none h
+instr_same (LoadImm a b) (Load c d) h = none h
+instr_same (LoadImm a b) (StoreImm c d) h = none h
+instr_same (LoadImm a b) (Store c d) h = none h
+instr_same (LoadImm a b) (Xchg c d) h = none h
+instr_same (LoadImm a b) Fence h = none h
+instr_same (LoadImm a b) (CmpImm c d) h = none h
+instr_same (LoadImm a b) (CmpReg c d) h = none h
+instr_same (LoadImm a b) (Je c) h = none h
+instr_same (LoadImm a b) (Jne c) h = none h
+instr_same (LoadImm a b) (Jmp c) h = none h
+instr_same (Copy a b) (LoadImm c d) h = none h
+instr_same (Copy a b) (Copy c d) h = two Copy (reg.ghosts.eq a c) (reg.ghosts.eq b d) (reg_decides a c) (reg_decides b d) h
+instr_same (Copy a b) (Load c d) h = none h
+instr_same (Copy a b) (StoreImm c d) h = none h
+instr_same (Copy a b) (Store c d) h = none h
+instr_same (Copy a b) (Xchg c d) h = none h
+instr_same (Copy a b) Fence h = none h
+instr_same (Copy a b) (CmpImm c d) h = none h
+instr_same (Copy a b) (CmpReg c d) h = none h
+instr_same (Copy a b) (Je c) h = none h
+instr_same (Copy a b) (Jne c) h = none h
+instr_same (Copy a b) (Jmp c) h = none h
+instr_same (Load a b) (LoadImm c d) h = none h
+instr_same (Load a b) (Copy c d) h = none h
+instr_same (Load a b) (Load c d) h = two Load (reg.ghosts.eq a c) (b == d) (reg_decides a c) (Decides-eqb b d) h
+instr_same (Load a b) (StoreImm c d) h = none h
+instr_same (Load a b) (Store c d) h = none h
+instr_same (Load a b) (Xchg c d) h = none h
+instr_same (Load a b) Fence h = none h
+instr_same (Load a b) (CmpImm c d) h = none h
+instr_same (Load a b) (CmpReg c d) h = none h
+instr_same (Load a b) (Je c) h = none h
+instr_same (Load a b) (Jne c) h = none h
+instr_same (Load a b) (Jmp c) h = none h
+instr_same (StoreImm a b) (LoadImm c d) h = none h
+instr_same (StoreImm a b) (Copy c d) h = none h
+instr_same (StoreImm a b) (Load c d) h = none h
+instr_same (StoreImm a b) (StoreImm c d) h = two StoreImm (a == c) (b == d) (Decides-eqb a c) (Decides-eqb b d) h
+instr_same (StoreImm a b) (Store c d) h = none h
+instr_same (StoreImm a b) (Xchg c d) h = none h
+instr_same (StoreImm a b) Fence h = none h
+instr_same (StoreImm a b) (CmpImm c d) h = none h
+instr_same (StoreImm a b) (CmpReg c d) h = none h
+instr_same (StoreImm a b) (Je c) h = none h
+instr_same (StoreImm a b) (Jne c) h = none h
+instr_same (StoreImm a b) (Jmp c) h = none h
+instr_same (Store a b) (LoadImm c d) h = none h
+instr_same (Store a b) (Copy c d) h = none h
+instr_same (Store a b) (Load c d) h = none h
+instr_same (Store a b) (StoreImm c d) h = none h
+instr_same (Store a b) (Store c d) h = two Store (a == c) (reg.ghosts.eq b d) (Decides-eqb a c) (reg_decides b d) h
+instr_same (Store a b) (Xchg c d) h = none h
+instr_same (Store a b) Fence h = none h
+instr_same (Store a b) (CmpImm c d) h = none h
+instr_same (Store a b) (CmpReg c d) h = none h
+instr_same (Store a b) (Je c) h = none h
+instr_same (Store a b) (Jne c) h = none h
+instr_same (Store a b) (Jmp c) h = none h
+instr_same (Xchg a b) (LoadImm c d) h = none h
+instr_same (Xchg a b) (Copy c d) h = none h
+instr_same (Xchg a b) (Load c d) h = none h
+instr_same (Xchg a b) (StoreImm c d) h = none h
+instr_same (Xchg a b) (Store c d) h = none h
+instr_same (Xchg a b) (Xchg c d) h = two Xchg (a == c) (reg.ghosts.eq b d) (Decides-eqb a c) (reg_decides b d) h
+instr_same (Xchg a b) Fence h = none h
+instr_same (Xchg a b) (CmpImm c d) h = none h
+instr_same (Xchg a b) (CmpReg c d) h = none h
+instr_same (Xchg a b) (Je c) h = none h
+instr_same (Xchg a b) (Jne c) h = none h
+instr_same (Xchg a b) (Jmp c) h = none h
+instr_same Fence (LoadImm c d) h = none h
+instr_same Fence (Copy c d) h = none h
+instr_same Fence (Load c d) h = none h
+instr_same Fence (StoreImm c d) h = none h
+instr_same Fence (Store c d) h = none h
+instr_same Fence (Xchg c d) h = none h
+instr_same Fence Fence h = refl
+instr_same Fence (CmpImm c d) h = none h
+instr_same Fence (CmpReg c d) h = none h
+instr_same Fence (Je c) h = none h
+instr_same Fence (Jne c) h = none h
+instr_same Fence (Jmp c) h = none h
+instr_same (CmpImm a b) (LoadImm c d) h = none h
+instr_same (CmpImm a b) (Copy c d) h = none h
+instr_same (CmpImm a b) (Load c d) h = none h
+instr_same (CmpImm a b) (StoreImm c d) h = none h
+instr_same (CmpImm a b) (Store c d) h = none h
+instr_same (CmpImm a b) (Xchg c d) h = none h
+instr_same (CmpImm a b) Fence h = none h
+instr_same (CmpImm a b) (CmpImm c d) h = two CmpImm (reg.ghosts.eq a c) (b == d) (reg_decides a c) (Decides-eqb b d) h
+instr_same (CmpImm a b) (CmpReg c d) h = none h
+instr_same (CmpImm a b) (Je c) h = none h
+instr_same (CmpImm a b) (Jne c) h = none h
+instr_same (CmpImm a b) (Jmp c) h = none h
+instr_same (CmpReg a b) (LoadImm c d) h = none h
+instr_same (CmpReg a b) (Copy c d) h = none h
+instr_same (CmpReg a b) (Load c d) h = none h
+instr_same (CmpReg a b) (StoreImm c d) h = none h
+instr_same (CmpReg a b) (Store c d) h = none h
+instr_same (CmpReg a b) (Xchg c d) h = none h
+instr_same (CmpReg a b) Fence h = none h
+instr_same (CmpReg a b) (CmpImm c d) h = none h
+instr_same (CmpReg a b) (CmpReg c d) h = two CmpReg (reg.ghosts.eq a c) (reg.ghosts.eq b d) (reg_decides a c) (reg_decides b d) h
+instr_same (CmpReg a b) (Je c) h = none h
+instr_same (CmpReg a b) (Jne c) h = none h
+instr_same (CmpReg a b) (Jmp c) h = none h
+instr_same (Je a) (LoadImm c d) h = none h
+instr_same (Je a) (Copy c d) h = none h
+instr_same (Je a) (Load c d) h = none h
+instr_same (Je a) (StoreImm c d) h = none h
+instr_same (Je a) (Store c d) h = none h
+instr_same (Je a) (Xchg c d) h = none h
+instr_same (Je a) Fence h = none h
+instr_same (Je a) (CmpImm c d) h = none h
+instr_same (Je a) (CmpReg c d) h = none h
+instr_same (Je a) (Je c) h = ap Je ((Decides-eqb a c).0 h)
+instr_same (Je a) (Jne c) h = none h
+instr_same (Je a) (Jmp c) h = none h
+instr_same (Jne a) (LoadImm c d) h = none h
+instr_same (Jne a) (Copy c d) h = none h
+instr_same (Jne a) (Load c d) h = none h
+instr_same (Jne a) (StoreImm c d) h = none h
+instr_same (Jne a) (Store c d) h = none h
+instr_same (Jne a) (Xchg c d) h = none h
+instr_same (Jne a) Fence h = none h
+instr_same (Jne a) (CmpImm c d) h = none h
+instr_same (Jne a) (CmpReg c d) h = none h
+instr_same (Jne a) (Je c) h = none h
+instr_same (Jne a) (Jne c) h = ap Jne ((Decides-eqb a c).0 h)
+instr_same (Jne a) (Jmp c) h = none h
+instr_same (Jmp a) (LoadImm c d) h = none h
+instr_same (Jmp a) (Copy c d) h = none h
+instr_same (Jmp a) (Load c d) h = none h
+instr_same (Jmp a) (StoreImm c d) h = none h
+instr_same (Jmp a) (Store c d) h = none h
+instr_same (Jmp a) (Xchg c d) h = none h
+instr_same (Jmp a) Fence h = none h
+instr_same (Jmp a) (CmpImm c d) h = none h
+instr_same (Jmp a) (CmpReg c d) h = none h
+instr_same (Jmp a) (Je c) h = none h
+instr_same (Jmp a) (Jne c) h = none h
+instr_same (Jmp a) (Jmp c) h = ap Jmp ((Decides-eqb a c).0 h)
+
+instr_itself : (x : Instr) → instr.ghosts.eq x x ≡ true
+instr_itself (LoadImm a b) = both (reg.ghosts.eq a a) (b == b) (reg_decides a a) (Decides-eqb b b)
+instr_itself (Copy a b) = both (reg.ghosts.eq a a) (reg.ghosts.eq b b) (reg_decides a a) (reg_decides b b)
+instr_itself (Load a b) = both (reg.ghosts.eq a a) (b == b) (reg_decides a a) (Decides-eqb b b)
+instr_itself (StoreImm a b) = both (a == a) (b == b) (Decides-eqb a a) (Decides-eqb b b)
+instr_itself (Store a b) = both (a == a) (reg.ghosts.eq b b) (Decides-eqb a a) (reg_decides b b)
+instr_itself (Xchg a b) = both (a == a) (reg.ghosts.eq b b) (Decides-eqb a a) (reg_decides b b)
+instr_itself Fence = refl
+instr_itself (CmpImm a b) = both (reg.ghosts.eq a a) (b == b) (reg_decides a a) (Decides-eqb b b)
+instr_itself (CmpReg a b) = both (reg.ghosts.eq a a) (reg.ghosts.eq b b) (reg_decides a a) (reg_decides b b)
+instr_itself (Je a) = (Decides-eqb a a).1 refl
+instr_itself (Jne a) = (Decides-eqb a a).1 refl
+instr_itself (Jmp a) = (Decides-eqb a a).1 refl
+
+instr_decides : (x y : Instr) → Decides (instr.ghosts.eq x y) (x ≡ y)
+instr_decides x y = (instr_same x y, λ e. subst (λ z. instr.ghosts.eq x z ≡ true) e (instr_itself x))
+
+parts_decide : (a b : Thread) → Decides (thread.ghosts.eq a b) ((a.code ≡ b.code) × (a.registers ≡ b.registers))
+parts_decide a b =
+    Decides-and (pointwise instr.ghosts.eq a.code b.code) (pointwise nat_eq a.registers b.registers)
+    (slice_eq-Decides instr_decides a.code b.code (pointwise instr.ghosts.eq a.code b.code) refl)
+    (slice_eq-Decides Decides-eqb a.registers b.registers (pointwise nat_eq a.registers b.registers) refl)
+
+pub thread_decides : (a b : Thread) → Decides (thread.ghosts.eq a b) (a ≡ b)
+thread_decides a b =
+    Decides-like (thread.ghosts.eq a b)
+    (λ (t : (a.code ≡ b.code) × (a.registers ≡ b.registers)) i. record { code = t.0 i; registers = t.1 i })
+    (λ (e : a ≡ b). (ap (λ (s : Thread). s.code) e, ap (λ (s : Thread). s.registers) e))
+    (parts_decide a b)

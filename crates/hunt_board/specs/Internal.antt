@@ -1,0 +1,5 @@
+-- What contracts of private functions and proofs cite; no public contract does.
+pub mod Confirmed
+pub mod Events
+pub mod Places
+pub mod Settled

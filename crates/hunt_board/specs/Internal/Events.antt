@@ -1,0 +1,32 @@
+-- What a call does to the tree under the lock.
+use Rattle.std.specs.Prelude.{◌≡◌, ◌⊎◌, ◌<◌, ℕ, List, MatchOption}
+use Rattle.gap_sets.specs.Order.{total}
+use Rattle.gap_sets.specs.declared.region.Region.{Region}
+use Rattle.tso_program.specs.Shown.{Question}
+use Rattle.cover_solver.specs.Verdicts.{IsVerdictOf}
+use Rattle.cover_solver.specs.declared.oracle.Verdict.TheVariants.{Foreign, Serves}
+use Rattle.search_core.specs.Ceilings.{IsCeilingOf}
+use Rattle.search_core.specs.States.{SearchState}
+use Rattle.search_core.specs.Events.{Splits, Cuts, Confirms, IsBeaten}
+use Rattle.hunt_board.specs.declared.settling.Settling.{Settling}
+use Rattle.hunt_board.specs.declared.settling.Settling.TheVariants.{Asked, Cut, Best}
+use Rattle.hunt_board.specs.Seats.{HuntView}
+
+-- the tree is of the hunt's question and costs, and has the seat
+pub record IsFor (h : HuntView) (s : SearchState) (seat : ℕ) : Type 0 where
+  pub question : s.question ≡ h.question
+  pub costs : s.costs ≡ h.costs
+  pub has_seat : seat < s.seats
+
+-- the settling is lawful for the node; of the best set the tree decides
+abbrev pub IsLawfulThere : Question → List ℕ → Region → Settling → Type 0
+IsLawfulThere q costs n (Asked said) = IsVerdictOf q n.must said
+IsLawfulThere q costs n (Cut ceiling) = IsCeilingOf q costs ceiling × MatchOption ceiling ⊥ (λ bound. bound.cost < total costs n.must)
+IsLawfulThere q costs n Best = Unit {0}
+
+-- the settling of the seat's node is this event; where the tree's best set does not cut the node, that of the seat does nothing
+abbrev pub IsEventOfSettling : SearchState → SearchState → ℕ → Region → Settling → Type 0
+IsEventOfSettling s after seat n (Asked (Foreign run)) = Splits s after seat run
+IsEventOfSettling s after seat n (Asked (Serves served)) = Confirms s after seat served
+IsEventOfSettling s after seat n (Cut ceiling) = Cuts s after seat
+IsEventOfSettling s after seat n Best = Cuts s after seat ⊎ ((¬ IsBeaten s n) × (after ≡ s))

@@ -1,0 +1,4 @@
+pub mod Seats
+pub mod Settlings
+pub mod Receipts
+pub mod Internal

@@ -1,0 +1,253 @@
+//! The hunt: a search that several workers share.
+ghost use Rattle.std.specs.Prelude.{◌≡◌, ◌↔◌, ℕ, None, All, IfOk, IfErr, IfSome, IfNone, OnOk, OnErr, IsSome, IsTrue};
+ghost use Rattle.tso_program.specs.Shown.{asked};
+ghost use Rattle.tso_machine.specs.Outcomes.{AreGapsOf, IsTheAnswer};
+ghost use Rattle.search_core.specs.States.{IsStart, HoldsOnly};
+ghost use Rattle.search_core.specs.Events.{TakesNode};
+ghost use Rattle.search_core.specs.Records.{IsOutcome};
+ghost use Rattle.hunt_board.specs.Seats.{HuntView, IsOf, AreFresh, with_node};
+ghost use Rattle.hunt_board.specs.Settlings.{MaySettle, IsByRun, IsSettled, IsReceiptFor, node_of};
+ghost use Rattle.hunt_board.specs.Receipts.{NameAll, CloseFaultIs};
+ghost use Rattle.hunt_board.specs.Internal.Events.{IsFor, IsLawfulThere};
+
+use crate::events::{is_waiting, settle_node};
+use crate::record::check_receipts;
+use crate::same::{is_search_of, same_region};
+use crate::{CloseFault, HuntSeat, Next, Receipt, Settling};
+use gap_sets::{Costs, Region};
+use search_core::{Finished, SearchTree};
+use std::alloc::{AllocError, Global};
+use std::marker::Model;
+use std::sync::{Condvar, Mutex, Wait};
+use tso_program::{Program, Shown};
+
+/// A search that several workers share, each from a seat of its own. The tree stands under one lock, and
+/// its type keeps that some history of events reached it.
+///
+/// A contract can't read the tree through the lock. So each call finds out there whether the tree is of
+/// the hunt and the seat holds what it should, and does nothing to it otherwise.
+#[derive(Drop)]
+pub struct Hunt {
+    alloc: Global,
+    program: Program,
+    shown: Shown,
+    costs: Costs,
+    tree: Mutex<SearchTree>,
+    opened: Condvar,
+}
+
+impl Model for Hunt {
+    ghost use Rattle.tso_program.specs.Shown.{asked};
+    ghost use Rattle.hunt_board.specs.Seats.{HuntView};
+
+    ghost Value = { HuntView };
+
+    ghost use Rattle.gap_sets.specs.contracts.gap_set.GapSet as gap_set;
+    ghost use Rattle.std.specs.Coded.{codes};
+
+    ghost coded = { Prim.hlevel (codes, gap_set.the_row.coded) };
+
+    ghost view = { λ h. record { question = asked h.program h.shown; costs = h.costs } };
+}
+
+impl Hunt {
+    /// A hunt through the tree, as it is made for so many seats, and the seats.
+    pub fn new(
+        alloc: Global,
+        tree: SearchTree,
+        seats: u8,
+    ) -> Result<(Hunt, Vec<HuntSeat>), AllocError>
+        requires start { IsStart tree }
+        requires seats { tree.seats ≡ seats }
+        ensures hunt { IfOk result (λ made. (made.0.question ≡ tree.question) × (made.0.costs ≡ tree.costs)) }
+        ensures seats { IfOk result (λ made. AreFresh made.0 seats made.1.items) }
+    {
+        let row = seats_of(alloc, seats)?;
+        let hunt = Hunt {
+            alloc,
+            program: tree.program().copy()?,
+            shown: *tree.shown(),
+            costs: tree.costs().copy()?,
+            tree: Mutex::new(tree),
+            opened: Condvar::new(),
+        };
+        Ok((hunt, row))
+    }
+
+    /// The seat takes an open node. Where none is open it waits until one is, or no node is left. Takes no
+    /// memory.
+    pub fn next<R: Wait>(&self, rt: &R, seat: &mut HuntSeat) -> Next
+        requires of { IsOf self.now seat.old }
+        requires free { seat.old.node ≡ None }
+        ensures seat { seat.new ≡ with_node seat.old (node_of result) }
+        ensures gaps { IfSome (node_of result) (λ n. AreGapsOf self.now.question.program n.must) }
+    {
+        let taken = self.take_when_open(rt, seat.number);
+        let next = match &taken {
+            Some(node) => Next::Work(*node),
+            None => Next::Done,
+        };
+        seat.node = taken;
+        next
+    }
+
+    /// The seat's node is settled, and the seat holds nothing. Out of memory, the seat still holds its
+    /// node and the settling is dropped; only a split by a foreign run takes memory.
+    pub fn settle<R: Wait>(
+        &self,
+        rt: &R,
+        seat: &mut HuntSeat,
+        how: Settling,
+    ) -> Result<Receipt, AllocError>
+        requires of { IsOf self.now seat.old }
+        requires lawful { MaySettle self.now seat.old how }
+        ensures receipt { IfOk result (IsReceiptFor seat.old how) }
+        ensures seat { OnOk result (IsSettled self.now how seat.old seat.new) }
+        ensures of { IsOf self.now seat.new }
+        ensures unchanged { OnErr result (seat.new ≡ seat.old) }
+        ensures memory { OnErr result (IsByRun how) }
+    {
+        let Some(node) = seat.node else {
+            unreachable!()
+        };
+        let event = how.event();
+        let best = seat.new_best(&self.costs, &how);
+        self.settle_held(rt, seat.number, &node, how)?;
+        self.opened.notify_all();
+        seat.let_go(best);
+        Ok(Receipt {
+            seat: seat.number,
+            node,
+            event,
+        })
+    }
+
+    /// The seat's node is open again, and the seat holds nothing. Takes no memory.
+    pub fn give_back<R: Wait>(&self, rt: &R, seat: &mut HuntSeat)
+        requires of { IsOf self.now seat.old }
+        requires holds { IsSome seat.old.node }
+        ensures { seat.new ≡ with_node seat.old None }
+    {
+        self.reopen(rt, seat.number);
+        self.opened.notify_all();
+        seat.node = None;
+    }
+
+    /// Ends the hunt with the answer, where no node is left and the receipts name the whole record.
+    pub fn close(self, seats: Vec<HuntSeat>, receipts: Vec<Receipt>) -> Result<Finished, CloseFault>
+        requires seats { All (IsOf self) seats.items }
+        ensures hunt { IfOk result (λ finished. (finished.question ≡ self.question) × (finished.costs ≡ self.costs)) }
+        ensures answer { IfOk result (λ finished. IsTheAnswer self.question self.costs finished.served.gaps) }
+        ensures done { IfOk result IsOutcome }
+        ensures receipts { IfOk result (λ finished. NameAll finished.entries receipts.items) }
+        ensures fault { IfErr result (CloseFaultIs receipts.items) }
+    {
+        let Hunt {
+            alloc,
+            program,
+            shown,
+            costs,
+            tree,
+            opened: _,
+        } = self;
+        let tree = tree.into_inner();
+        if !is_search_of(&tree, &program, &shown, &costs) {
+            return Err(CloseFault::NotDone);
+        }
+        let Ok(finished) = tree.finish() else {
+            return Err(CloseFault::NotDone);
+        };
+        // For the proof alone: that the set is the answer is known where it is read.
+        let _ = finished.served();
+        check_receipts(alloc, &finished, &receipts)?;
+        Ok(finished)
+    }
+
+    /// One event under the lock: once a node is open, the seat takes one. If no node is left, nothing happens.
+    fn take_when_open<R: Wait>(&self, rt: &R, seat: u8) -> Option<Region>
+        ensures { IfSome result (λ n. AreGapsOf self.now.question.program n.must) }
+    {
+        let mut guard = self
+            .opened
+            .wait_while(rt, self.tree.lock(rt), |tree| is_waiting(tree));
+        let tree = &mut *guard;
+        self.take(tree, seat)
+    }
+
+    /// The seat takes an open node of the tree. Where the tree isn't the hunt's or has no such seat, nothing
+    /// happens.
+    fn take(&self, tree: &mut SearchTree, seat: u8) -> Option<Region>
+        ensures taken { IfSome result (TakesNode tree.old tree.new seat) }
+        ensures gaps { IfSome result (λ n. AreGapsOf self.now.question.program n.must) }
+        ensures none { IfNone result (tree.new ≡ tree.old) }
+    {
+        if !self.is_for(tree, seat) {
+            return None;
+        }
+        match tree.take(seat) {
+            Ok(node) => Some(node),
+            Err(_) => None,
+        }
+    }
+
+    /// One event under the lock: the seat's node is settled. Where the seat doesn't hold the node there,
+    /// nothing happens.
+    fn settle_held<R: Wait>(
+        &self,
+        rt: &R,
+        seat: u8,
+        node: &Region,
+        how: Settling,
+    ) -> Result<(), AllocError>
+        requires { IsLawfulThere self.now.question self.now.costs node.now how }
+        ensures { OnErr result (IsByRun how) }
+    {
+        let mut guard = self.tree.lock(rt);
+        let tree = &mut *guard;
+        if !self.is_held(tree, seat, node) {
+            return Ok(());
+        }
+        settle_node(tree, seat, node, how)
+    }
+
+    /// One event under the lock: the seat's node is open again. Where the seat holds none there, nothing
+    /// happens.
+    fn reopen<R: Wait>(&self, rt: &R, seat: u8) {
+        let mut guard = self.tree.lock(rt);
+        let tree = &mut *guard;
+        if self.is_for(tree, seat) {
+            let _ = tree.give_back(seat);
+        }
+    }
+
+    /// Whether the tree is of the hunt's question and costs and has the seat.
+    fn is_for(&self, tree: &SearchTree, seat: u8) -> bool
+        ensures { IsTrue result ↔ IsFor self.now tree.now seat }
+    {
+        seat < tree.seats() && is_search_of(tree, &self.program, &self.shown, &self.costs)
+    }
+
+    /// Whether it is, and the seat holds this node.
+    fn is_held(&self, tree: &SearchTree, seat: u8, node: &Region) -> bool
+        ensures { IsTrue result → IsFor self.now tree.now seat × HoldsOnly tree.now seat node.now }
+    {
+        if !self.is_for(tree, seat) {
+            return false;
+        }
+        match tree.held(seat) {
+            Some(held) => same_region(&held, node),
+            None => false,
+        }
+    }
+}
+
+/// The seats of a hunt, by number.
+fn seats_of(alloc: Global, seats: u8) -> Result<Vec<HuntSeat>, AllocError>
+    ensures { IfOk result (λ row. (h : HuntView) → AreFresh h seats row.items) }
+{
+    let mut row = Vec::with_capacity(alloc, usize::from(seats))?;
+    for number in 0..seats {
+        row.push(HuntSeat::new(number))?;
+    }
+    Ok(row)
+}

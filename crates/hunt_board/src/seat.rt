@@ -1,0 +1,135 @@
+//! What one worker has in hand.
+ghost use Rattle.std.specs.Prelude.{◌≡◌, false, Some, None, IfSome, IsTrue, MatchOption};
+ghost use Rattle.gap_sets.specs.Order.{Better};
+ghost use Rattle.gap_sets.specs.declared.region.Region.{Region};
+ghost use Rattle.cover_solver.specs.Facts.{Serving, IsServing};
+ghost use Rattle.search_core.specs.Events.{IsBestAfter};
+ghost use Rattle.hunt_board.specs.Seats.{SeatView, with_node, with_best};
+ghost use Rattle.hunt_board.specs.Settlings.{IsOwnBestAfter};
+ghost use Rattle.hunt_board.specs.Internal.Confirmed.{serving_of, newer, IsKept};
+
+use crate::settling::Settling;
+use cover_solver::{Served, Verdict};
+use gap_sets::{Costs, GapSet, Region};
+use std::marker::Model;
+use std::snapshot::Snapshot;
+
+/// A place at a hunt for one worker: its number, the node that it holds, and the best set that it has
+/// itself confirmed.
+#[derive(Drop)]
+pub struct HuntSeat {
+    pub(crate) number: u8,
+    pub(crate) node: Option<Region>,
+    pub(crate) best: Option<Confirmed>,
+}
+
+/// A set that was confirmed. That it serves is for proofs alone.
+#[derive(Drop)]
+pub(crate) struct Confirmed {
+    pub(crate) set: GapSet,
+    pub(crate) served: Snapshot<Served>,
+}
+
+impl Model for HuntSeat {
+    ghost use Rattle.std.specs.Prelude.{◌≡◌, IfSome};
+    ghost use Rattle.hunt_board.specs.Seats.{SeatView};
+    ghost use Rattle.hunt_board.specs.Internal.Confirmed.{serving_of, IsKept};
+
+    ghost Value = { SeatView };
+
+    ghost use Rattle.gap_sets.specs.contracts.gap_set.GapSet as gap_set;
+    ghost use Rattle.std.specs.Coded.{codes};
+    ghost use Rattle.cert_forest.specs.CoverCodes.{coded_cover};
+
+    ghost coded = { Prim.hlevel (codes, gap_set.the_row.coded, coded_cover) };
+
+    ghost view = { λ s. record { number = s.number; node = s.node; best = serving_of s.best } };
+
+    ghost invariant = { λ s. IfSome s.best IsKept };
+}
+
+impl HuntSeat {
+    /// The seat's number.
+    pub fn number(&self) -> u8
+        ensures { result ≡ self.now.number }
+    {
+        self.number
+    }
+
+    /// The node that the seat holds.
+    pub fn node(&self) -> Option<Region>
+        ensures { result ≡ self.now.node }
+    {
+        self.node
+    }
+
+    /// The best set that the seat has itself confirmed.
+    pub fn best(&self) -> Option<GapSet>
+        ensures { MatchOption self.now.best (result ≡ None) (λ best. (result ≡ Some best.gaps) × IsServing best) }
+    {
+        match &self.best {
+            Some(best) => Some(best.set),
+            None => None,
+        }
+    }
+
+    /// A seat that holds nothing and has confirmed nothing.
+    pub(crate) fn new(number: u8) -> HuntSeat
+        ensures { result ≡ record { number = number; node = None; best = None } }
+    {
+        HuntSeat {
+            number,
+            node: None,
+            best: None,
+        }
+    }
+
+    /// The set that a settling confirms, where the seat has confirmed none that is as good.
+    pub(crate) fn new_best(&self, costs: &Costs, how: &Settling) -> Option<Confirmed>
+        ensures best { IsOwnBestAfter costs.now how.now self.now.best (newer self.now.best (serving_of result)) }
+        ensures kept { IfSome result IsKept }
+    {
+        let Settling::Asked(Verdict::Serves(served)) = how else {
+            return None;
+        };
+        self.newer_best(costs, served)
+    }
+
+    /// The set, where the seat has confirmed none that is as good.
+    fn newer_best(&self, costs: &Costs, served: &Served) -> Option<Confirmed>
+        ensures best { IsBestAfter costs.now served.now self.now.best (newer self.now.best (serving_of result)) }
+        ensures kept { IfSome result IsKept }
+    {
+        // For the proof alone: what holds of every set that serves is known where its program is read.
+        let _ = served.program();
+        if !self.is_newer(costs, served) {
+            return None;
+        }
+        Some(Confirmed {
+            set: served.set(),
+            served: Snapshot::of(served),
+        })
+    }
+
+    /// Whether the seat has confirmed no set, or this one is better than its best.
+    fn is_newer(&self, costs: &Costs, served: &Served) -> bool
+        ensures yes { IsTrue result → IfSome self.now.best (λ old. Better costs.now served.now.gaps old.gaps) }
+        ensures no { result ≡ false → (old : Serving) × (self.now.best ≡ Some old) × (¬ Better costs.now served.now.gaps old.gaps) }
+    {
+        match &self.best {
+            Some(best) => costs.better(&served.set(), &best.set),
+            None => true,
+        }
+    }
+
+    /// The seat holds nothing more, and the set, if there is one, is its best.
+    pub(crate) fn let_go(&mut self, best: Option<Confirmed>)
+        requires { IfSome best IsKept }
+        ensures { self.new ≡ with_best (with_node self.old None) (newer self.old.best (serving_of best)) }
+    {
+        self.node = None;
+        if best.is_some() {
+            self.best = best;
+        }
+    }
+}

@@ -1,0 +1,9 @@
+use Rattle.std.proofs.Common.{◌≡◌, ℕ, ◌<◌, Some, false}
+use Rattle.std.specs.Prelude.{slice_get}
+use Rattle.search_core.specs.declared.entry.Entry.{Entry}
+use Rattle.search_core.specs.Entries.{is_open}
+use Rattle.search_core.proofs.entries.none_open.Given as goal
+
+-- none is open so far
+abbrev pub invariant-loop-entry : goal.invariant-loop-entry
+invariant-loop-entry l = (j : ℕ) (e : Entry) → j < l.entry-index → slice_get l.entries j ≡ Some e → is_open e ≡ false

@@ -1,0 +1,7 @@
+use Rattle.std.proofs.Common.{◌≡◌}
+use Rattle.test_calls.specs.Hunts.{IsSound}
+use Rattle.test_calls.proofs.hunts.push_script.Given as goal
+
+-- the seat stays of the hunt
+abbrev pub invariant-loop-word : goal.invariant-loop-word
+invariant-loop-word g l = IsSound l.fn.hunt l.seat

@@ -1,0 +1,294 @@
+//! A hunt of one seat by its calls, one for each word of a script, at whose end the hunt is closed.
+ghost use Rattle.std.specs.Prelude.{◌≡◌, IfOk, IsTrue, Some};
+ghost use Rattle.tso_machine.specs.Outcomes.{AreGapsOf};
+ghost use Rattle.cover_solver.specs.Verdicts.{IsVerdictOf, PassesNoneOf};
+ghost use Rattle.search_core.specs.Events.{IsBeatenBy};
+ghost use Rattle.hunt_board.specs.Seats.{IsOf};
+ghost use Rattle.hunt_board.specs.Settlings.{IsLawful};
+ghost use Rattle.test_calls.specs.Hunts.{IsSound};
+
+use crate::input::{byte_of, split_at_byte};
+use crate::lines::push_gaps_after;
+use crate::placing::equal_costs;
+use crate::refusal::Refusal;
+use crate::search::{labels_of, push_region};
+use cover_solver::{ForeignRun, Oracle, SeqTable, Solver, Verdict};
+use gap_sets::{Costs, MAX_GAPS, Region};
+use hunt_board::{Event, Hunt, HuntSeat, Next, Receipt, Settling};
+use search_core::SearchTree;
+use std::alloc::{AllocError, Global};
+use std::sync::Wait;
+
+/// The node that the seat holds.
+fn held(seat: &HuntSeat) -> Result<Region, Refusal>
+    ensures { IfOk result (λ node. seat.now.node ≡ Some node) }
+{
+    match seat.node() {
+        Some(node) => Ok(node),
+        None => Err(Refusal::Call),
+    }
+}
+
+/// The run of these labels, where it splits the node.
+fn by_run(alloc: Global, table: &SeqTable, node: &Region, labels: &[u8]) -> Result<Verdict, Refusal>
+    ensures { IfOk result (IsVerdictOf table.now.question node.now.must) }
+{
+    let labels = labels_of(alloc, labels)?;
+    let run = ForeignRun::new(alloc, table, labels.as_slice())?;
+    // For the proof alone: what holds of every run is known where its program is read.
+    let _ = run.program();
+    if !may_split(&run, node) {
+        return Err(Refusal::Call);
+    }
+    Ok(Verdict::Foreign(run))
+}
+
+/// Whether the run passes no gap which the node's sets must have.
+fn may_split(run: &ForeignRun, node: &Region) -> bool
+    ensures { IsTrue result → PassesNoneOf node.now.must run.now }
+{
+    !run.passed().meets(&node.must)
+}
+
+/// What the solver says of the node.
+fn by_solver(alloc: Global, table: &SeqTable, node: &Region) -> Result<Verdict, Refusal>
+    requires { AreGapsOf table.now.question.program node.now.must }
+    ensures { IfOk result (IsVerdictOf table.now.question node.now.must) }
+{
+    let solver = Solver::new(alloc, table.program(), table)?;
+    Ok(solver.ask(&node.must)?)
+}
+
+/// Whether the seat has confirmed a set that the node doesn't better.
+fn is_beaten(costs: &Costs, seat: &HuntSeat, node: &Region) -> bool
+    ensures { IsTrue result → IsBeatenBy costs.now seat.now.best node.now.must }
+{
+    match seat.best() {
+        Some(best) => !costs.better(&node.must, &best),
+        None => false,
+    }
+}
+
+/// How a word settles the node: by the run of the labels, by what the solver says, or by the best set that the seat has confirmed.
+fn settling_of(
+    alloc: Global,
+    table: &SeqTable,
+    hunt: &Hunt,
+    costs: &Costs,
+    seat: &HuntSeat,
+    node: &Region,
+    word: &[u8],
+) -> Result<Settling, Refusal>
+    requires of_table { hunt.now.question ≡ table.now.question }
+    requires costs { hunt.now.costs ≡ costs.now }
+    requires gaps { AreGapsOf hunt.now.question.program node.now.must }
+    ensures { IfOk result (IsLawful hunt.now seat.now.best node.now) }
+{
+    let (name, labels) = split_at_byte(word, b':');
+    if name == b"split".as_slice() {
+        return Ok(Settling::Asked(by_run(alloc, table, node, labels)?));
+    }
+    if name == b"ask".as_slice() {
+        return Ok(Settling::Asked(by_solver(alloc, table, node)?));
+    }
+    if name == b"best".as_slice() && is_beaten(costs, seat, node) {
+        return Ok(Settling::Best);
+    }
+    Err(Refusal::Call)
+}
+
+fn push_receipt(receipt: &Receipt, printed: &mut String) -> Result<(), AllocError> {
+    write!(printed, "seat {} ", receipt.seat)?;
+    match receipt.event {
+        Event::Split(passed) => push_gaps_after("split passed", &passed, printed)?,
+        Event::Cut => printed.push_str("cut")?,
+        Event::Confirmed => printed.push_str("confirmed")?,
+    }
+    printed.push('\n')
+}
+
+/// The seat takes a node, whose region is printed, where one is left.
+fn push_next<W: Wait>(
+    wait: &W,
+    hunt: &Hunt,
+    seat: &mut HuntSeat,
+    printed: &mut String,
+) -> Result<(), Refusal>
+    requires { IsSound hunt.now seat.old }
+    ensures { IsSound hunt.now seat.new }
+{
+    if seat.node().is_some() {
+        return Err(Refusal::Call);
+    }
+    match hunt.next(wait, seat) {
+        Next::Work(node) => Ok(push_region(&node, printed)?),
+        Next::Done => Ok(printed.push_str("done\n")?),
+    }
+}
+
+/// The seat's node is open again.
+fn give_back<W: Wait>(
+    wait: &W,
+    hunt: &Hunt,
+    seat: &mut HuntSeat,
+    printed: &mut String,
+) -> Result<(), Refusal>
+    requires { IsSound hunt.now seat.old }
+    ensures { IsSound hunt.now seat.new }
+{
+    let _ = held(seat)?;
+    hunt.give_back(wait, seat);
+    Ok(printed.push_str("given back\n")?)
+}
+
+/// Settles the seat's node, and keeps the receipt.
+fn settle<W: Wait>(
+    wait: &W,
+    alloc: Global,
+    table: &SeqTable,
+    hunt: &Hunt,
+    costs: &Costs,
+    seat: &mut HuntSeat,
+    receipts: &mut Vec<Receipt>,
+    word: &[u8],
+    printed: &mut String,
+) -> Result<(), Refusal>
+    requires of_table { hunt.now.question ≡ table.now.question }
+    requires costs { hunt.now.costs ≡ costs.now }
+    requires sound { IsSound hunt.now seat.old }
+    ensures { IsSound hunt.now seat.new }
+{
+    let node = held(seat)?;
+    let settling = settling_of(alloc, table, hunt, costs, seat, &node, word)?;
+    let receipt = hunt.settle(wait, seat, settling)?;
+    receipts.push(receipt)?;
+    Ok(push_receipt(&receipt, printed)?)
+}
+
+/// A receipt of another hunt: seat 0 confirmed the node whose sets must have this gap.
+fn other_receipt(gap: &[u8]) -> Result<Receipt, Refusal> {
+    let gap = byte_of(gap)?;
+    if gap >= MAX_GAPS {
+        return Err(Refusal::Call);
+    }
+    Ok(Receipt {
+        seat: 0,
+        node: Region::all().with(gap),
+        event: Event::Confirmed,
+    })
+}
+
+/// Does what a word names: takes a node, gives it back, settles it, or puts another receipt in the last one's place.
+fn push_step<W: Wait>(
+    wait: &W,
+    alloc: Global,
+    table: &SeqTable,
+    hunt: &Hunt,
+    costs: &Costs,
+    seat: &mut HuntSeat,
+    receipts: &mut Vec<Receipt>,
+    word: &[u8],
+    printed: &mut String,
+) -> Result<(), Refusal>
+    requires of_table { hunt.now.question ≡ table.now.question }
+    requires costs { hunt.now.costs ≡ costs.now }
+    requires sound { IsSound hunt.now seat.old }
+    ensures { IsSound hunt.now seat.new }
+{
+    if word == b"next".as_slice() {
+        return push_next(wait, hunt, seat, printed);
+    }
+    if word == b"give".as_slice() {
+        return give_back(wait, hunt, seat, printed);
+    }
+    if word == b"drop".as_slice() {
+        let _ = receipts.pop();
+        return Ok(());
+    }
+    let (name, gap) = split_at_byte(word, b':');
+    if name == b"other".as_slice() {
+        let _ = receipts.pop();
+        receipts.push(other_receipt(gap)?)?;
+        return Ok(());
+    }
+    settle(
+        wait, alloc, table, hunt, costs, seat, receipts, word, printed,
+    )
+}
+
+/// The lines of a script: what each word did, or why it did nothing.
+fn push_script<W: Wait>(
+    wait: &W,
+    alloc: Global,
+    table: &SeqTable,
+    hunt: &Hunt,
+    costs: &Costs,
+    seat: &mut HuntSeat,
+    receipts: &mut Vec<Receipt>,
+    script: &[&[u8]],
+    printed: &mut String,
+) -> Result<(), AllocError>
+    requires of_table { hunt.now.question ≡ table.now.question }
+    requires costs { hunt.now.costs ≡ costs.now }
+    requires sound { IsSound hunt.now seat.old }
+    ensures { IsSound hunt.now seat.new }
+{
+    for word in script {
+        match push_step(
+            wait, alloc, table, hunt, costs, seat, receipts, word, printed,
+        ) {
+            Ok(()) => {}
+            Err(refusal) => write!(printed, "refused {refusal}\n")?,
+        }
+    }
+    Ok(())
+}
+
+/// The set that the hunt ends with.
+fn push_closed(
+    alloc: Global,
+    hunt: Hunt,
+    seat: HuntSeat,
+    receipts: Vec<Receipt>,
+    printed: &mut String,
+) -> Result<(), Refusal>
+    requires { IsOf hunt seat }
+{
+    let mut seats = Vec::new(alloc);
+    seats.push(seat)?;
+    let finished = hunt.close(seats, receipts)?;
+    push_gaps_after("set", &finished.served().set(), printed)?;
+    Ok(printed.push('\n')?)
+}
+
+/// The lines of a script over a hunt for the best set of gaps, each of which costs 1, by one seat; and what the hunt ends with.
+pub fn push_hunted<W: Wait>(
+    wait: &W,
+    alloc: Global,
+    table: &SeqTable,
+    script: &[&[u8]],
+    printed: &mut String,
+) -> Result<(), Refusal> {
+    let costs = equal_costs(alloc, table)?;
+    let tree = SearchTree::new(alloc, table, &costs, 1)?;
+    let (hunt, mut seats) = Hunt::new(alloc, tree, 1)?;
+    let Some(mut seat) = seats.pop() else {
+        return Err(Refusal::Call);
+    };
+    let mut receipts = Vec::new(alloc);
+    push_script(
+        wait,
+        alloc,
+        table,
+        &hunt,
+        &costs,
+        &mut seat,
+        &mut receipts,
+        script,
+        printed,
+    )?;
+    match push_closed(alloc, hunt, seat, receipts, printed) {
+        Ok(()) => Ok(()),
+        Err(refusal) => Ok(write!(printed, "refused {refusal}\n")?),
+    }
+}
