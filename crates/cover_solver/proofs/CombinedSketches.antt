@@ -30,7 +30,7 @@ use Rattle.cover_judge.specs.Choices.{IsValueOpen, AreValueChoices, AreSourceCho
 use Rattle.cover_judge.proofs.ChoicesJudged.{source_is_open}
 use Rattle.cover_solver.specs.declared.choices_left.OpenChoice.TheVariants as left
 use Rattle.cover_solver.specs.declared.found.Found.{Found}
-use Rattle.cover_solver.specs.declared.tally.TalliedRead.{TalliedRead}
+use Rattle.cover_solver.specs.declared.reads_writes.ReadValue.{ReadValue}
 use Rattle.cover_solver.specs.declared.tally.Tally.{Tally}
 use Rattle.cover_solver.specs.Combined.{AreAlike}
 use Rattle.cover_solver.specs.Covers.{IsCoverAt}
@@ -112,7 +112,7 @@ module _ (s u : ProgramSketch) (t : ℕ) (lawful : IsLawful s) (alone : HasValue
 
   module _ (mine others : Tally) (own_tally : IsTallyOf u (IsOwn t) mine) (other_tally : IsTallyOf s (IsOther t) others) where
     -- the reads of both are reads of the sketch
-    tallied_here : (r : TalliedRead) → Contains mine.reads.items r → IsTalliedRead merged r
+    tallied_here : (r : ReadValue) → Contains mine.reads.items r → IsTalliedRead merged r
     tallied_here r here =
         let (of_thread, is) = own_tally.reads r here in
         record {
@@ -123,7 +123,7 @@ module _ (s u : ProgramSketch) (t : ℕ) (lawful : IsLawful s) (alone : HasValue
           later = subst (λ (p : Listing). r.value ≢ slice_index p.memory is.access.location) alike.program is.later;
         }
 
-    tallied_elsewhere : (r : TalliedRead) → Contains others.reads.items r → IsTalliedRead merged r
+    tallied_elsewhere : (r : ReadValue) → Contains others.reads.items r → IsTalliedRead merged r
     tallied_elsewhere r here =
         let (of_thread, is) = other_tally.reads r here in
         record {
@@ -141,7 +141,7 @@ module _ (s u : ProgramSketch) (t : ℕ) (lawful : IsLawful s) (alone : HasValue
       | inr other ↦ inr (other_tally.written v i l w other (x, sym (access_elsewhere v i other) ∙ at, loc, is))
     ]
 
-    module _ (r : TalliedRead) (is : IsTalliedRead merged r) (not_mine : IsMarked mine.written r.location r.value → ⊥) (not_others : IsMarked others.written r.location r.value → ⊥) where
+    module _ (r : ReadValue) (is : IsTalliedRead merged r) (not_mine : IsMarked mine.written r.location r.value → ⊥) (not_others : IsMarked others.written r.location r.value → ⊥) where
       unmarked : (rows : List ℕ) (l w : ℕ) → (IsMarked rows r.location r.value → ⊥) → r.location ≡ l → r.value ≡ w → IsMarked rows l w → ⊥
       unmarked rows l w none at same h = none (subst (λ (m : ℕ). IsMarked rows m r.value) (sym at) (subst (λ (n : ℕ). IsMarked rows l n) (sym same) h))
 

@@ -3,7 +3,9 @@ use Rattle.std.proofs.Common.{◌≡◌, ℕ, zero, suc, ◌+◌, ◌-◌, ◌<�
 use Rattle.std.specs.Option.{is_some}
 use Rattle.std.proofs.lemmas.Bool.{cases_lt}
 use Rattle.std.proofs.lemmas.List.{get_or-drop, length-drop, take_all}
+use Rattle.std.proofs.lemmas.Option.{same_Some}
 use Rattle.tso_program.specs.declared.listing.Thread.{Thread}
+use Rattle.candidate_executions.specs.declared.access.Access.{Access}
 use Rattle.candidate_executions.specs.declared.event.Event.{Event}
 use Rattle.candidate_executions.specs.Sketches as sketches
 use Rattle.candidate_executions.specs.Sketches.{IsPair, IsWhole}
@@ -15,12 +17,13 @@ use Rattle.cover_judge.specs.Choices.{MayChoose, MayChooseEach}
 use Rattle.cover_judge.proofs.ChoicesJudged.{other_way, turned}
 use Rattle.exec_axioms.proofs.TracesKept.{no_action}
 use Rattle.exec_axioms.proofs.Lookups.{same_default}
-use Rattle.exec_axioms.specs.Complete.{IsComplete, HasItsSource}
+use Rattle.exec_axioms.specs.Complete.{IsComplete, HasItsSource, IsOrderedWith}
 use Rattle.exec_axioms.proofs.Completeness.{read_there, first_there, second_there}
 use Rattle.cover_solver.specs.declared.choices_left.OpenChoice.{OpenChoice}
 use Rattle.cert_forest.specs.declared.tree.AccessId.{AccessId}
 use Rattle.tree_laws.specs.CoverTrees.{event_of}
-use Rattle.cover_solver.specs.Internal.Accesses.{HasAccesses}
+use Rattle.cover_solver.specs.declared.reads_writes.WrittenValue.{WrittenValue}
+use Rattle.cover_solver.specs.Internal.Accesses.{HasAccesses, IsWrittenValue, NamesWrite, AreWrites}
 use Rattle.cover_solver.specs.Internal.ChoicesLeft.{LeavesNone, HasEachSource, AreWritesInOrder, IsInOrderWithEach, IsEachInOrder}
 
 -- a list with one more at its end is not empty
@@ -51,18 +54,18 @@ leaves_start xs P p = record { before = λ e. e; since = λ e. p }
 pub of_each : {A : Type 0} (P : A → Type 0) (xs : List A) (n : ℕ) → length xs ≤ n → ((k : ℕ) (x : A) → k < n → get_or xs k x ≡ x → P x) → (x : A) → Contains xs x → P x
 of_each P xs n long each x (k, h, e) = each k x (omega arith) e
 
--- an event of a list is one of those after an earlier one
-later_found : (xs : List AccessId) (i j : ℕ) (d : AccessId) → i < j → j < length xs → Contains (drop (i + 1) xs) (get_or xs j d)
+-- a write of a list is one of those after an earlier one
+later_found : (xs : List WrittenValue) (i j : ℕ) (d : WrittenValue) → i < j → j < length xs → Contains (drop (i + 1) xs) (get_or xs j d)
 later_found xs i j d h l = (
   j - (i + 1),
   subst (λ n. j - (i + 1) < n) (sym (length-drop (i + 1) xs)) (omega arith),
   get_or-drop (i + 1) xs (j - (i + 1)) (get_or xs j d) ∙ ap (λ n. get_or xs n (get_or xs j d)) (let same : i + 1 + (j - (i + 1)) ≡ j = omega arith in same) ∙ same_default xs j (get_or xs j d) d l,
 )
 
--- the events so far are in order with all later ones, and so is the next one
-pub each_later : (s : ProgramSketch) (xs : List AccessId) (i : ℕ) (first : AccessId) → i < length xs → ((d : AccessId) → get_or xs i d ≡ first) →
-    ((a b : ℕ) (d : AccessId) → a < i → a < b → b < length xs → AreWritesInOrder s (get_or xs a d) (get_or xs b d)) → IsInOrderWithEach s first (drop (i + 1) xs) →
-    (a b : ℕ) (d : AccessId) → a < i + 1 → a < b → b < length xs → AreWritesInOrder s (get_or xs a d) (get_or xs b d)
+-- the writes so far are in order with all later ones, and so is the next one
+pub each_later : (s : ProgramSketch) (xs : List WrittenValue) (i : ℕ) (first : WrittenValue) → i < length xs → ((d : WrittenValue) → get_or xs i d ≡ first) →
+    ((a b : ℕ) (d : WrittenValue) → a < i → a < b → b < length xs → AreWritesInOrder s (get_or xs a d) (get_or xs b d)) → IsInOrderWithEach s first (drop (i + 1) xs) →
+    (a b : ℕ) (d : WrittenValue) → a < i + 1 → a < b → b < length xs → AreWritesInOrder s (get_or xs a d) (get_or xs b d)
 each_later s xs i first h is below here a b d l m n = elim (cases_lt a i) [
   | inl less ↦ below a b d less m n
   | inr more ↦ (
@@ -75,30 +78,48 @@ each_later s xs i first h is below here a b d l m n = elim (cases_lt a i) [
 other_order : (s : ProgramSketch) (d e : Event) → IsOrdered s d e → IsOrdered s e d
 other_order s d e h = elim h [ inl a ↦ inr a | inr a ↦ inl a ]
 
+-- a write that is found stands for its access
+named_at : (writes : List WrittenValue) (a : AccessId) (w d : WrittenValue) (i : ℕ) → i < length writes → get_or writes i w ≡ w → w.write ≡ a → (get_or writes i d).write ≡ a
+named_at writes a w d i h p is = ap (λ (z : WrittenValue). z.write) (same_default writes i d w h ∙ p) ∙ is
+
+-- of writes in order any two to one location are
+module _ (s : ProgramSketch) (writes : List WrittenValue) (orders : IsEachInOrder s writes) (a b : AccessId) where
+  earlier_first : (v w : WrittenValue) (i j : ℕ) → i < j → i < length writes → j < length writes → get_or writes i v ≡ v → get_or writes j w ≡ w → v.write ≡ a → w.write ≡ b →
+      IsOrderedWith s (event_of a) (event_of b)
+  earlier_first v w i j less h l p q v_is w_is = subst (λ x. IsOrderedWith s (event_of x) (event_of b)) (named_at writes a v v i h p v_is)
+      (subst (λ y. IsOrderedWith s (event_of (get_or writes i v).write) (event_of y)) (named_at writes b w v j l q w_is) (orders i j v less l))
+
+named_in_order : (s : ProgramSketch) (writes : List WrittenValue) → IsEachInOrder s writes → (a b : AccessId) → NamesWrite writes a → NamesWrite writes b → IsOrderedWith s (event_of a) (event_of b)
+named_in_order s writes orders a b (v, (i, h, p), v_is) (w, (j, l, q), w_is) pair = elim (cases_lt i j) [
+  | inl less ↦ earlier_first s writes orders a b v w i j less h l p q v_is w_is pair
+  | inr more ↦ elim (cases_lt j i) [
+    | inl less ↦ other_order s (event_of b) (event_of a) (earlier_first s writes orders b a w v j i less l h q p w_is v_is (turned s.program (mode_in s) s.chosen (event_of a) (event_of b) pair))
+    | inr none ↦ (let same : i ≡ j = omega arith in
+        absurd (pair.0 (ap event_of (sym (named_at writes a v v i h p v_is) ∙ ap (λ n. (get_or writes n v).write) same ∙ named_at writes b w v j l q w_is))))
+  ]
+]
+
 -- a sketch with each value, source and order is complete
-pub complete_of : (s : ProgramSketch) (accesses : List AccessId) → HasAccesses s accesses → IsWhole s.program (mode_in s) s.chosen → HasEachSource s accesses → IsEachInOrder s accesses → IsComplete s
-complete_of s accesses has whole sources orders = record {
+pub complete_of : (s : ProgramSketch) (accesses : List AccessId) (writes : List WrittenValue) → HasAccesses s accesses → AreWrites s writes → IsWhole s.program (mode_in s) s.chosen →
+    HasEachSource s accesses → IsEachInOrder s writes → IsComplete s
+complete_of s accesses writes has are whole sources orders = record {
   whole = whole;
   sources = λ e reads. (let (a, here, is) = has e (read_there s e reads) in subst (HasItsSource s) is (sources a here) reads);
   pairs = λ d e pair. (
       let (a, here, is) = has d (first_there s d e pair) in
       let (b, there, same) = has e (second_there s d e pair) in
-      subst (λ x. IsOrdered s x e) is (subst (IsOrdered s (event_of a)) same
-      (in_order a b here there (subst (λ x. IsPair s.program (mode_in s) s.chosen x (event_of b)) (sym is) (subst (IsPair s.program (mode_in s) s.chosen d) (sym same) pair)))));
+      subst (λ x. IsOrderedWith s x e) is (subst (IsOrderedWith s (event_of a)) same (named_pair a b)) pair);
 }
   where
-    in_order : (a b : AccessId) → Contains accesses a → Contains accesses b → IsPair s.program (mode_in s) s.chosen (event_of a) (event_of b) → IsOrdered s (event_of a) (event_of b)
-    in_order a b (i, h, p) (j, l, q) pair = elim (cases_lt i j) [
-      | inl less ↦ subst (λ x. IsOrdered s (event_of x) (event_of b)) p (subst (λ y. IsOrdered s (event_of (get_or accesses i a)) (event_of y)) (same_default accesses j a b l ∙ q)
-          (orders i j a less l (subst (λ x. IsPair s.program (mode_in s) s.chosen (event_of x) (event_of (get_or accesses j a))) (sym p) (subst (λ y. IsPair s.program (mode_in s) s.chosen (event_of a) (event_of y)) (sym (same_default accesses j a b l ∙ q)) pair))))
-      | inr more ↦ elim (cases_lt j i) [
-        | inl less ↦ other_order s (event_of b) (event_of a)
-            (subst (λ x. IsOrdered s (event_of x) (event_of a)) q (subst (λ y. IsOrdered s (event_of (get_or accesses j b)) (event_of y)) (same_default accesses i b a h ∙ p)
-            (orders j i b less h (subst (λ x. IsPair s.program (mode_in s) s.chosen (event_of x) (event_of (get_or accesses i b))) (sym q)
-            (subst (λ y. IsPair s.program (mode_in s) s.chosen (event_of b) (event_of y)) (sym (same_default accesses i b a h ∙ p)) (turned s.program (mode_in s) s.chosen (event_of a) (event_of b) pair))))))
-        | inr none ↦ (let same : i ≡ j = omega arith in absurd (pair.0 (ap event_of (sym p ∙ ap (λ n. get_or accesses n a) same ∙ same_default accesses j a b l ∙ q))))
-      ]
-    ]
+    named_pair : (a b : AccessId) → IsOrderedWith s (event_of a) (event_of b)
+    named_pair a b pair = (let (l, v, w, of_a, of_b, not_a, not_b) = pair.1 in named_in_order s writes orders a b (are.all a l v of_a) (are.all b l w of_b) pair)
+
+-- two writes to different locations are no pair
+pub elsewhere : (s : ProgramSketch) (a b : WrittenValue) → IsWrittenValue s a → IsWrittenValue s b → (a.location ≡ b.location → ⊥) → AreWritesInOrder s a b
+elsewhere s a b of_a of_b differ pair =
+    let (l, v, w, first, second, not_first, not_second) = pair.1 in
+    absurd (differ (sym of_a.2 ∙ ap (λ (x : Access). x.location) (same_Some _ _ (sym of_a.1 ∙ first.1)) ∙ first.2
+    ∙ sym second.2 ∙ ap (λ (x : Access). x.location) (same_Some _ _ (sym second.1 ∙ of_b.1)) ∙ of_b.2))
 
 -- a thread that is not there has no next read
 pub no_read : (s : ProgramSketch) (threads : List Thread) (t : ℕ) → threads ≡ s.program.threads → length threads ≤ t → sketches.next_read s.program (mode_in s) s.chosen t ≡ None

@@ -5,20 +5,20 @@ use Rattle.candidate_executions.specs.declared.event.Event.TheVariants.{Access a
 use Rattle.candidate_executions.specs.Candidates.{Writes}
 use Rattle.exec_axioms.specs.ProgramSketches.{ProgramSketch, access_in}
 use Rattle.exec_axioms.proofs.Lawful.{none_in}
-use Rattle.cover_solver.specs.declared.tally.TalliedRead.{TalliedRead}
+use Rattle.cover_solver.specs.declared.reads_writes.ReadValue.{ReadValue}
 use Rattle.cover_solver.specs.declared.tally.Tally.{Tally}
 use Rattle.cover_solver.specs.Tallies.{IsTallyOf, IsTalliedRead, TakesThread, IsOldOrOf}
 
 -- of no thread
 pub tally_none : (s : ProgramSketch) (T : ℕ → Type 0) (tally : Tally) → tally.reads.items ≡ [] → ((t : ℕ) → T t → ⊥) → IsTallyOf s T tally
 tally_none s T tally none empty = record {
-  reads = λ r here. absurd (none_in r (subst (λ (xs : List TalliedRead). Contains xs r) none here));
+  reads = λ r here. absurd (none_in r (subst (λ (xs : List ReadValue). Contains xs r) none here));
   written = λ t i l v of_thread writes. absurd (empty t of_thread);
 }
 
 -- of one thread more
 module _ (s : ProgramSketch) (T U : ℕ → Type 0) (t : ℕ) (old new : Tally) (is : IsTallyOf s T old) (takes : TakesThread s t old new) (wider : (u : ℕ) → T u → U u) (own : U t) (either : (u : ℕ) → U u → T u ⊎ (u ≡ t)) where
-  reads_more : (r : TalliedRead) → IsOldOrOf s t old r → U r.read.thread × IsTalliedRead s r
+  reads_more : (r : ReadValue) → IsOldOrOf s t old r → U r.read.thread × IsTalliedRead s r
   reads_more r here = elim here [
     | inl was ↦ (let (of_thread, tallied) = is.reads r was in (wider r.read.thread of_thread, tallied))
     | inr now ↦ (subst U (sym now.0) own, now.1)

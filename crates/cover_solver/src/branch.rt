@@ -5,8 +5,10 @@ ghost use Rattle.cover_judge.specs.Choices.{MayChooseEach};
 ghost use Rattle.cover_solver.specs.Choices.{IsOpen, IsBranch, AreChoicesOf};
 ghost use Rattle.cover_solver.specs.Ordered.{Ascend};
 
+use crate::accesses::all_accesses;
 use crate::choices_left::{OpenChoice, open_choices};
 use crate::preference::preferred;
+use crate::reads_writes::written_values;
 use cert_forest::AccessId;
 use cover_judge::{Choice, source_choices, value_choices};
 use exec_axioms::Sketch;
@@ -30,11 +32,13 @@ pub(crate) fn next_branch(
     requires { Ascend outcomes.now }
     ensures { IfOk result (λ branch. MatchOption branch (IsComplete sketch.now) (IsBranch sketch.now)) }
 {
-    let left = open_choices(alloc, sketch)?;
+    let accesses = all_accesses(alloc, sketch)?;
+    let writes = written_values(alloc, sketch, &accesses)?;
+    let left = open_choices(alloc, sketch, &accesses, &writes)?;
     if left.is_empty() {
         return Ok(None);
     }
-    let number = preferred(alloc, sketch, shown, outcomes, &left)?;
+    let number = preferred(alloc, sketch, shown, outcomes, &writes, &left)?;
     Ok(Some(branch_of(alloc, sketch, left[number])?))
 }
 

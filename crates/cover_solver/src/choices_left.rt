@@ -5,9 +5,10 @@ ghost use Rattle.exec_axioms.specs.ProgramSketches.{mode_in};
 ghost use Rattle.tree_laws.specs.CoverTrees as trees;
 ghost use Rattle.exec_axioms.specs.Complete.{IsComplete, HasItsSource, IsOrderedWith};
 ghost use Rattle.cover_solver.specs.Choices.{IsOpen, NeedsSource, NeedsOrder};
-ghost use Rattle.cover_solver.specs.Internal.ChoicesLeft.{LeavesNone, HasEachSource, IsEachInOrder, IsInOrderWithEach};
+ghost use Rattle.cover_solver.specs.Internal.Accesses.{HasAccesses, IsWrittenValue, AreWrites};
+ghost use Rattle.cover_solver.specs.Internal.ChoicesLeft.{LeavesNone, HasEachSource, AreWritesInOrder, IsEachInOrder, IsInOrderWithEach};
 
-use crate::accesses::all_accesses;
+use crate::reads_writes::WrittenValue;
 use cert_forest::AccessId;
 use cover_judge::event_of;
 use exec_axioms::{Event, Sketch};
@@ -25,13 +26,20 @@ pub(crate) enum OpenChoice {
 }
 
 /// All that is left to be chosen: values as long as a read has none, then sources and orders. Where
-/// nothing is left, the sketch is complete.
-pub(crate) fn open_choices(alloc: Global, sketch: &Sketch) -> Result<Vec<OpenChoice>, AllocError>
+/// nothing is left, the sketch is complete. The accesses are all, and the writes are those that write.
+pub(crate) fn open_choices(
+    alloc: Global,
+    sketch: &Sketch,
+    accesses: &[AccessId],
+    writes: &[WrittenValue],
+) -> Result<Vec<OpenChoice>, AllocError>
+    requires accesses { HasAccesses sketch.now accesses.now }
+    requires writes { AreWrites sketch.now writes.now }
     ensures each { IfOk result (λ left. All (IsOpen sketch.now) left.items) }
     ensures complete { IfOk result (λ left. left.items ≡ [] → IsComplete sketch.now) }
 {
     if sketch.is_whole() {
-        open_in_whole(alloc, sketch)
+        open_in_whole(alloc, sketch, accesses, writes)
     } else {
         open_values(alloc, sketch)
     }
@@ -52,15 +60,21 @@ fn open_values(alloc: Global, sketch: &Sketch) -> Result<Vec<OpenChoice>, AllocE
 }
 
 /// The sources and orders that are left, where each read has its value.
-fn open_in_whole(alloc: Global, sketch: &Sketch) -> Result<Vec<OpenChoice>, AllocError>
-    requires { IsWhole sketch.now.program (mode_in sketch.now) sketch.now.chosen }
+fn open_in_whole(
+    alloc: Global,
+    sketch: &Sketch,
+    accesses: &[AccessId],
+    writes: &[WrittenValue],
+) -> Result<Vec<OpenChoice>, AllocError>
+    requires whole { IsWhole sketch.now.program (mode_in sketch.now) sketch.now.chosen }
+    requires accesses { HasAccesses sketch.now accesses.now }
+    requires writes { AreWrites sketch.now writes.now }
     ensures each { IfOk result (λ left. All (IsOpen sketch.now) left.items) }
     ensures complete { IfOk result (λ left. left.items ≡ [] → IsComplete sketch.now) }
 {
-    let accesses = all_accesses(alloc, sketch)?;
     let mut left = Vec::new(alloc);
-    push_sources(sketch, &accesses, &mut left)?;
-    push_orders(sketch, &accesses, &mut left)?;
+    push_sources(sketch, accesses, &mut left)?;
+    push_orders(sketch, writes, &mut left)?;
     Ok(left)
 }
 
@@ -101,20 +115,21 @@ fn lacks_source(sketch: &Sketch, event: Event) -> bool
     }
 }
 
-/// Puts the pairs of writes that are in no order after what is open. Of two accesses the first is the
+/// Puts the pairs of writes that are in no order after what is open. Of two writes the first is the
 /// earlier one in the list.
 fn push_orders(
     sketch: &Sketch,
-    accesses: &[AccessId],
+    writes: &[WrittenValue],
     left: &mut Vec<OpenChoice>,
 ) -> Result<(), AllocError>
     requires whole { IsWhole sketch.now.program (mode_in sketch.now) sketch.now.chosen }
+    requires writes { All (IsWrittenValue sketch.now) writes.now }
     requires each { All (IsOpen sketch.now) left.old.items }
     ensures each { OnOk result (All (IsOpen sketch.now) left.new.items) }
-    ensures none { OnOk result (LeavesNone left.old.items left.new.items (IsEachInOrder sketch.now accesses.now)) }
+    ensures none { OnOk result (LeavesNone left.old.items left.new.items (IsEachInOrder sketch.now writes.now)) }
 {
-    for (place, first) in accesses.iter().enumerate() {
-        push_orders_of(sketch, *first, &accesses[place + 1..], left)?;
+    for (place, first) in writes.iter().enumerate() {
+        push_orders_of(sketch, *first, &writes[place + 1..], left)?;
     }
     Ok(())
 }
@@ -122,29 +137,36 @@ fn push_orders(
 /// The same of the pairs with this first write.
 fn push_orders_of(
     sketch: &Sketch,
-    first: AccessId,
-    others: &[AccessId],
+    first: WrittenValue,
+    others: &[WrittenValue],
     left: &mut Vec<OpenChoice>,
 ) -> Result<(), AllocError>
     requires whole { IsWhole sketch.now.program (mode_in sketch.now) sketch.now.chosen }
+    requires first { IsWrittenValue sketch.now first }
+    requires others { All (IsWrittenValue sketch.now) others.now }
     requires each { All (IsOpen sketch.now) left.old.items }
     ensures each { OnOk result (All (IsOpen sketch.now) left.new.items) }
     ensures none { OnOk result (LeavesNone left.old.items left.new.items (IsInOrderWithEach sketch.now first others.now)) }
 {
     for second in others {
         if needs_order(sketch, first, *second) {
-            left.push(OpenChoice::Order(first, *second))?;
+            left.push(OpenChoice::Order(first.write, second.write))?;
         }
     }
     Ok(())
 }
 
-/// Whether two accesses are writes to one location that are in no order.
-fn needs_order(sketch: &Sketch, first: AccessId, second: AccessId) -> bool
-    ensures needs { IsTrue result → NeedsOrder sketch.now (trees.event_of first) (trees.event_of second) }
-    ensures has { result ≡ false → IsOrderedWith sketch.now (trees.event_of first) (trees.event_of second) }
+/// Whether two writes are to one location and in no order.
+fn needs_order(sketch: &Sketch, first: WrittenValue, second: WrittenValue) -> bool
+    requires first { IsWrittenValue sketch.now first }
+    requires second { IsWrittenValue sketch.now second }
+    ensures needs { IsTrue result → NeedsOrder sketch.now (trees.event_of first.write) (trees.event_of second.write) }
+    ensures has { result ≡ false → AreWritesInOrder sketch.now first second }
 {
-    lacks_order(sketch, event_of(first), event_of(second))
+    if first.location != second.location {
+        return false;
+    }
+    lacks_order(sketch, event_of(first.write), event_of(second.write))
 }
 
 fn lacks_order(sketch: &Sketch, first: Event, second: Event) -> bool

@@ -23,6 +23,7 @@ mod oracle;
 mod ordered;
 mod plan;
 mod preference;
+mod reads_writes;
 mod run;
 mod served;
 mod settled;

@@ -7,6 +7,7 @@ ghost use Rattle.cover_solver.specs.Ordered.{Ascend};
 
 use crate::choices_left::OpenChoice;
 use crate::leaf::known;
+use crate::reads_writes::{ReadValue, WrittenValue, gives, read_value};
 use crate::settled::{LastWrite, ends_differ, last_writes};
 use cert_forest::AccessId;
 use cover_judge::{Choice, event_of, sketch_with};
@@ -23,20 +24,21 @@ struct Merit {
     is_order: bool,
 }
 
-/// What merits are counted with: all events, and the writes that may be the last of their locations.
-#[derive(Drop)]
-struct Seen {
-    events: Vec<Event>,
-    last: Vec<LastWrite>,
+/// What merits are counted with: all writes, and those that may be the last of their locations.
+#[derive(Clone, Copy)]
+struct Seen<'a> {
+    writes: &'a [WrittenValue],
+    last: &'a [LastWrite],
 }
 
-/// The number of what is chosen first. A read without a source is, and what leaves no child open, and
-/// then no other is looked at.
+/// The number of what is chosen first, where these are all writes. A read without a source is, and what
+/// leaves no child open, and then no other is looked at.
 pub(crate) fn preferred(
     alloc: Global,
     sketch: &Sketch,
     shown: &Shown,
     outcomes: &[Outcome],
+    writes: &[WrittenValue],
     left: &[OpenChoice],
 ) -> Result<usize, AllocError>
     requires ascend { Ascend outcomes.now }
@@ -44,10 +46,14 @@ pub(crate) fn preferred(
     requires some { 0 < length left.now }
     ensures { IfOk result (λ number. number < length left.now) }
 {
-    let seen = seen_in(alloc, sketch, shown)?;
-    if let Some(number) = first_unsourced(sketch, &seen.events, left) {
+    if let Some(number) = first_unsourced(sketch, writes, left) {
         return Ok(number);
     }
+    let last = last_writes(alloc, sketch, shown, writes)?;
+    let seen = Seen {
+        writes,
+        last: &last,
+    };
     let mut best: usize = 0;
     let mut merit = merit_of(sketch, shown, outcomes, &seen, left[0], usize::MAX)?;
     for number in 1..left.len() {
@@ -63,50 +69,36 @@ pub(crate) fn preferred(
     Ok(best)
 }
 
-/// What is seen in a sketch.
-fn seen_in(alloc: Global, sketch: &Sketch, shown: &Shown) -> Result<Seen, AllocError> {
-    let events = all_events(alloc, sketch)?;
-    let last = last_writes(alloc, sketch, shown, &events)?;
-    Ok(Seen { events, last })
-}
-
-/// All events, the initial writes first.
-fn all_events(alloc: Global, sketch: &Sketch) -> Result<Vec<Event>, AllocError> {
-    let mut events = Vec::new(alloc);
-    for location in 0..sketch.program().memory().len() as u8 {
-        events.push(Event::Initial(location))?;
-    }
-    events.extend_from_slice(&sketch.events()?)?;
-    Ok(events)
-}
-
-/// The number of the first read that has no source among the events.
-fn first_unsourced(sketch: &Sketch, events: &[Event], left: &[OpenChoice]) -> Option<usize>
+/// The number of the first read that has no source.
+fn first_unsourced(sketch: &Sketch, writes: &[WrittenValue], left: &[OpenChoice]) -> Option<usize>
     ensures { IfSome result (λ number. number < length left.now) }
 {
     for (number, next) in left.iter().enumerate() {
-        if is_unsourced(sketch, events, *next) {
+        if is_unsourced(sketch, writes, *next) {
             return Some(number);
         }
     }
     None
 }
 
-fn is_unsourced(sketch: &Sketch, events: &[Event], next: OpenChoice) -> bool {
+fn is_unsourced(sketch: &Sketch, writes: &[WrittenValue], next: OpenChoice) -> bool {
     match next {
-        OpenChoice::Source(read) => !has_source(sketch, events, event_of(read)),
+        OpenChoice::Source(read) => match read_value(sketch, read) {
+            Some(read) => !has_source(sketch, writes, read),
+            None => true,
+        },
         _ => false,
     }
 }
 
-/// Whether one of the events is a source of the read.
-fn has_source(sketch: &Sketch, events: &[Event], read: Event) -> bool {
-    for source in events {
-        if sketch.is_source(*source, read) {
+/// Whether the initial write or one of the writes is a source of the read.
+fn has_source(sketch: &Sketch, writes: &[WrittenValue], read: ReadValue) -> bool {
+    for write in writes {
+        if gives(*write, read) {
             return true;
         }
     }
-    false
+    sketch.is_source(Event::Initial(read.location), event_of(read.read))
 }
 
 /// The merit of a choice. Children that stay open are counted up to one more than `most`.
@@ -123,9 +115,9 @@ fn merit_of(
 {
     match next {
         OpenChoice::Value(thread) => merit_of_values(sketch, thread),
-        OpenChoice::Source(read) => Ok(merit_of_sources(sketch, &seen.events, read, most)),
+        OpenChoice::Source(read) => Ok(merit_of_sources(sketch, seen.writes, read, most)),
         OpenChoice::Order(first, second) => {
-            merit_of_orders(sketch, shown, outcomes, &seen.last, first, second)
+            merit_of_orders(sketch, shown, outcomes, seen.last, first, second)
         }
     }
 }
@@ -144,24 +136,41 @@ fn merit_of_values(sketch: &Sketch, thread: u8) -> Result<Merit, AllocError> {
 }
 
 /// A source closes the sketch by a cycle alone: it changes no outcome.
-fn merit_of_sources(sketch: &Sketch, events: &[Event], read: AccessId, most: usize) -> Merit
+fn merit_of_sources(sketch: &Sketch, writes: &[WrittenValue], read: AccessId, most: usize) -> Merit
     requires { IsSourceOpen sketch.now read }
 {
-    let read = event_of(read);
-    let mut merit = Merit {
+    let none = Merit {
         open: 0,
         children: 0,
         is_order: false,
     };
-    for source in events {
-        if sketch.is_source(*source, read) {
-            merit.children = merit.children.saturating_add(1);
-            if merit.open <= most && !sketch.closes_source(read, *source) {
-                merit.open = merit.open.saturating_add(1);
-            }
+    let Some(value) = read_value(sketch, read) else {
+        return none;
+    };
+    let initial = Event::Initial(value.location);
+    let mut merit = with_source(sketch, none, read, initial, most);
+    for write in writes {
+        if gives(*write, value) {
+            merit = with_source(sketch, merit, read, event_of(write.write), most);
         }
     }
     merit
+}
+
+/// The merit with one more child where the event is a source of the read.
+fn with_source(sketch: &Sketch, merit: Merit, read: AccessId, source: Event, most: usize) -> Merit
+    requires { IsSourceOpen sketch.now read }
+{
+    let read = event_of(read);
+    if !sketch.is_source(source, read) {
+        return merit;
+    }
+    let stays_open = merit.open <= most && !sketch.closes_source(read, source);
+    Merit {
+        open: merit.open.saturating_add(usize::from(stays_open)),
+        children: merit.children.saturating_add(1),
+        is_order: false,
+    }
 }
 
 /// Either write may be the first.
@@ -206,7 +215,7 @@ fn stays_open(
     if sketch.closes_order(event_of(first), event_of(second)) {
         return Ok(false);
     }
-    if ends_differ(last, event_of(first)) {
+    if ends_differ(last, first) {
         return Ok(true);
     }
     let after = sketch_with(sketch, Choice::Order(first, second))?;

@@ -1,69 +1,68 @@
 //! Whether the ends of a sketch are settled: for each location the same is shown of the values of all
 //! writes that may be its last. Only which choice is taken first depends on it.
 
-use exec_axioms::{Event, Sketch};
+use crate::reads_writes::WrittenValue;
+use cert_forest::AccessId;
+use cover_judge::event_of;
+use exec_axioms::Sketch;
 use std::alloc::{AllocError, Global};
-use tso_program::Shown;
+use tso_program::{MAX_LOCATIONS, Shown};
 
 /// A write that may be the last of its location, with what is shown of its value.
 #[derive(Clone, Copy, Debug)]
 pub(crate) struct LastWrite {
-    write: Event,
+    write: AccessId,
     location: u8,
     value: u32,
 }
 
-/// The writes among the events that may be the last of their locations.
+/// Those of the writes that may be the last of their locations. An initial write may be only where its
+/// location has no other, and then there is nothing that its value could differ from.
 pub(crate) fn last_writes(
     alloc: Global,
     sketch: &Sketch,
     shown: &Shown,
-    events: &[Event],
+    writes: &[WrittenValue],
 ) -> Result<Vec<LastWrite>, AllocError> {
-    let mut last = Vec::new(alloc);
-    for event in events {
-        if let Some(write) = last_write(sketch, shown, *event) {
-            last.push(write)?;
+    let mut last = Vec::with_capacity(alloc, writes.len())?;
+    for write in writes {
+        if sketch.may_be_last(write.location, event_of(write.write)) {
+            last.push(last_write(shown, *write))?;
         }
     }
     Ok(last)
 }
 
-fn last_write(sketch: &Sketch, shown: &Shown, write: Event) -> Option<LastWrite> {
-    let access = sketch.access(write)?;
-    let written = access.written?;
-    if !sketch.may_be_last(access.location, write) {
-        return None;
+fn last_write(shown: &Shown, write: WrittenValue) -> LastWrite {
+    LastWrite {
+        write: write.write,
+        location: write.location,
+        value: shown.value(write.location as usize, write.value),
     }
-    Some(LastWrite {
-        write,
-        location: access.location,
-        value: shown.value(access.location as usize, written),
-    })
 }
 
 /// Whether the values of two writes to one location differ, apart from one write.
-pub(crate) fn ends_differ(last: &[LastWrite], except: Event) -> bool {
-    for one in last {
-        if differs_from_some(last, *one, except) {
+pub(crate) fn ends_differ(last: &[LastWrite], except: AccessId) -> bool {
+    let mut ends = [None; MAX_LOCATIONS];
+    for write in last {
+        if write.write != except && differs_from_end(&mut ends, *write) {
             return true;
         }
     }
     false
 }
 
-fn differs_from_some(last: &[LastWrite], one: LastWrite, except: Event) -> bool {
-    for other in last {
-        if differ(one, *other, except) {
-            return true;
+/// Whether another value than the write's is kept for its location. The write's is, where none was.
+fn differs_from_end(ends: &mut [Option<u32>], write: LastWrite) -> bool {
+    let place = write.location as usize;
+    if place >= ends.len() {
+        return false;
+    }
+    match ends[place] {
+        Some(value) => value != write.value,
+        None => {
+            ends[place] = Some(write.value);
+            false
         }
     }
-    false
-}
-
-fn differ(one: LastWrite, other: LastWrite, except: Event) -> bool {
-    one.location == other.location
-        && one.value != other.value
-        && one.write != except
-        && other.write != except
 }

@@ -7,25 +7,18 @@ ghost use Rattle.bit_rows.specs.Rows.{Relates};
 ghost use Rattle.bit_rows.specs.declared.row.TheConstants.{ROW_BITS};
 ghost use Rattle.cover_solver.specs.Tallies.{IsMarked, IsTallyOf, IsOwn, IsOther, TakesAccess, TakesThread, LacksWrite, LacksWriteOfBoth};
 
+use crate::reads_writes::ReadValue;
 use bit_rows::{ROW_BITS, has, put_rows, with};
 use cert_forest::AccessId;
 use cover_judge::event_of;
 use exec_axioms::{Access, Event, Sketch};
 use std::alloc::{AllocError, Global};
 
-/// A read, with its location and its value.
-#[derive(Clone, Copy, Debug)]
-pub(crate) struct TalliedRead {
-    pub(crate) read: AccessId,
-    pub(crate) location: u8,
-    pub(crate) value: u32,
-}
-
 /// What some threads read and write.
 #[derive(Drop)]
 pub(crate) struct Tally {
     /// The reads whose value is not the initial one of their location.
-    pub(crate) reads: Vec<TalliedRead>,
+    pub(crate) reads: Vec<ReadValue>,
     /// A bit for each location with a value that is written there.
     pub(crate) written: [u32; ROW_BITS],
 }
@@ -85,7 +78,7 @@ impl Tally {
             mark(&mut self.written, access.location, value);
         }
         if let Some(value) = later_value(sketch, access) {
-            self.reads.push(TalliedRead {
+            self.reads.push(ReadValue {
                 read: id,
                 location: access.location,
                 value,
@@ -136,7 +129,7 @@ fn is_marked(rows: &[u32], location: u8, value: u32) -> bool
 }
 
 /// The first of the reads that lacks its write in both.
-fn lacking_of(reads: &[TalliedRead], one: &[u32], other: &[u32]) -> Option<AccessId>
+fn lacking_of(reads: &[ReadValue], one: &[u32], other: &[u32]) -> Option<AccessId>
     requires one { length one.now ≡ ROW_BITS }
     requires other { length other.now ≡ ROW_BITS }
     ensures { IfSome result (LacksWrite reads.now one.now other.now) }
@@ -149,7 +142,7 @@ fn lacking_of(reads: &[TalliedRead], one: &[u32], other: &[u32]) -> Option<Acces
     None
 }
 
-fn lacks_write(tallied: &TalliedRead, one: &[u32], other: &[u32]) -> bool
+fn lacks_write(tallied: &ReadValue, one: &[u32], other: &[u32]) -> bool
     requires one { length one.now ≡ ROW_BITS }
     requires other { length other.now ≡ ROW_BITS }
     ensures one { IsTrue result → IsMarked one.now tallied.now.location tallied.now.value → ⊥ }

@@ -105,6 +105,7 @@ AreOfSketch p thread_traces = (mode : Mode) × (sources : List (Event × Event))
 pub record AreNumbered (p : Listing) (thread_traces : List ThreadTrace) (events : List Event) : Type 0 where
   pub all : EachEnds p thread_traces → AreAccesses thread_traces events
   pub of_threads : (e : Event) → Contains events e → IsOfThreads thread_traces e
+  pub ordered : AllPairs ComesBefore events
   pub few : length events ≤ ROW_BITS
 
 -- the rows have the program order of the mode's unions between the accesses that have numbers

@@ -1,8 +1,10 @@
 //! What is known before anything but values is chosen.
 ghost use Rattle.std.specs.Prelude.{◌≡◌, ◌≤◌, IfOk, length};
 ghost use Rattle.std.specs.Arc.{arc_value};
+ghost use Rattle.std.specs.List.{AllPairs};
 ghost use Rattle.bit_rows.specs.declared.row.TheConstants.{ROW_BITS};
 ghost use Rattle.candidate_executions.specs.declared.event.Kind.TheVariants as union;
+ghost use Rattle.candidate_executions.specs.Events.{ComesBefore};
 ghost use Rattle.tso_machine.specs.declared.mode.Mode.TheVariants.{Sequential};
 ghost use Rattle.exec_axioms.specs.Rows.{main_kind, AreOfSketch, AreRowsOf, InOrder, HasOrder};
 
@@ -67,7 +69,8 @@ fn main_union(mode: Mode) -> Kind
 
 /// The program order of the global union, which sequential mode has not.
 fn global_rows(mode: Mode, thread_traces: &[ThreadTrace], events: &[Event]) -> Relation
-    requires { length events.now ≤ ROW_BITS }
+    requires few { length events.now ≤ ROW_BITS }
+    requires ordered { AllPairs ComesBefore events.now }
     ensures { AreRowsOf events.now (λ d e. (mode ≡ Sequential → ⊥) × InOrder thread_traces.now union.Global d e) result }
 {
     match mode {

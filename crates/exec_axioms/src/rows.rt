@@ -1,9 +1,11 @@
 //! Rows of accesses by their numbers, their places among all accesses.
 ghost use Rattle.std.specs.Prelude.{◌≡◌, ◌≤◌, ◌<◌, ◌↔◌, IsTrue, ℕ, Some, IfOk, MatchOption, Contains, length, slice_get};
+ghost use Rattle.std.specs.List.{AllPairs};
 ghost use Rattle.candidate_executions.specs.declared.event.Event.{Event};
+ghost use Rattle.candidate_executions.specs.Events.{ComesBefore};
 ghost use Rattle.bit_rows.specs.Rows.{IsIn};
 ghost use Rattle.bit_rows.specs.declared.row.TheConstants.{ROW_BITS};
-ghost use Rattle.exec_axioms.specs.Rows.{IsRowOf, AreRowsOf, InOrder, WritesBut, ReadsBut, IsAlike, IsAfterBut, IsEventIn};
+ghost use Rattle.exec_axioms.specs.Rows.{access_of, IsRowOf, AreRowsOf, InOrder, WritesBut, ReadsBut, IsAlike, IsAfterBut, IsEventIn};
 ghost use Rattle.tso_machine.specs.declared.mode.Mode.TheVariants.{Sequential};
 ghost use Rattle.candidate_executions.specs.Consistency.{SameThread};
 
@@ -13,7 +15,7 @@ use crate::events::{is_one_thread, is_same, precedes};
 use crate::thread_trace::ThreadTrace;
 use crate::traces::{Traces, access_at};
 use bit_rows::{Relation, has, joined, minus, with};
-use candidate_executions::{Event, Kind};
+use candidate_executions::{Access, Event, Kind};
 use std::alloc::{AllocError, Global};
 
 /// The row of one event.
@@ -30,43 +32,82 @@ pub(crate) fn row_of(events: &[Event], event: Event) -> u32
     row
 }
 
-/// The accesses to which the union has program order from one of them.
-fn later_in_order(kind: Kind, thread_traces: &[ThreadTrace], events: &[Event], from: Event) -> u32
-    requires { length events.now ≤ ROW_BITS }
+/// The accesses to which the union has program order from the one at this place.
+fn later_in_order(
+    kind: Kind,
+    thread_traces: &[ThreadTrace],
+    events: &[Event],
+    place: usize,
+    from: Event,
+) -> u32
+    requires few { length events.now ≤ ROW_BITS }
+    requires ordered { AllPairs ComesBefore events.now }
+    requires here { slice_get events.now place ≡ Some from }
+    ensures { IsRowOf events.now (InOrder thread_traces.now kind from) result }
+{
+    match access_at(thread_traces, from) {
+        Some(access) => later_than(kind, thread_traces, events, place, from, access),
+        None => 0,
+    }
+}
+
+/// The same of what reads and writes so. The accesses of its thread that come after it are those at the
+/// next places, up to the first of another thread.
+fn later_than(
+    kind: Kind,
+    thread_traces: &[ThreadTrace],
+    events: &[Event],
+    place: usize,
+    from: Event,
+    access: Access,
+) -> u32
+    requires few { length events.now ≤ ROW_BITS }
+    requires ordered { AllPairs ComesBefore events.now }
+    requires here { slice_get events.now place ≡ Some from }
+    requires access { access_of thread_traces.now from ≡ Some access }
     ensures { IsRowOf events.now (InOrder thread_traces.now kind from) result }
 {
     let mut row = 0;
-    for (d, to) in events.iter().enumerate() {
-        if is_in_order(kind, thread_traces, from, *to) {
+    for d in place + 1..events.len() {
+        let to = events[d];
+        if !precedes(from, to) {
+            return row;
+        }
+        if is_in_order(kind, thread_traces, from, access, to) {
             row = with(row, d as u8);
         }
     }
     row
 }
 
-/// Whether the union has program order between two accesses.
-fn is_in_order(kind: Kind, thread_traces: &[ThreadTrace], from: Event, to: Event) -> bool
+/// Whether the union has program order between two accesses, of which the first reads and writes so.
+fn is_in_order(
+    kind: Kind,
+    thread_traces: &[ThreadTrace],
+    from: Event,
+    access: Access,
+    to: Event,
+) -> bool
+    requires { access_of thread_traces.now from ≡ Some access }
     ensures { IsTrue result ↔ InOrder thread_traces.now kind from to }
 {
-    if !precedes(from, to) {
-        return false;
-    }
-    match (access_at(thread_traces, from), access_at(thread_traces, to)) {
-        (Some(x), Some(y)) => keeps_order(kind, from, x, to, y),
-        _ => false,
+    match access_at(thread_traces, to) {
+        Some(other) => keeps_order(kind, from, access, to, other),
+        None => false,
     }
 }
 
 /// The program order of the union.
 pub(crate) fn order_rows(kind: Kind, thread_traces: &[ThreadTrace], events: &[Event]) -> Relation
-    requires { length events.now ≤ ROW_BITS }
+    requires few { length events.now ≤ ROW_BITS }
+    requires ordered { AllPairs ComesBefore events.now }
     ensures { AreRowsOf events.now (InOrder thread_traces.now kind) result }
 {
     let mut rows = Relation::empty();
     for (d, from) in events.iter().enumerate() {
         rows.connect(
             with(0, d as u8),
-            later_in_order(kind, thread_traces, events, *from),
+            later_in_order(kind, thread_traces, events, d, *from),
         );
     }
     rows

@@ -8,3 +8,4 @@ pub mod CertificateMade
 pub mod Splitting
 pub mod Settling
 pub mod Workers
+pub mod Captures

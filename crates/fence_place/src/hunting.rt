@@ -69,7 +69,7 @@ pub(crate) fn hunt<R: Threads + Sync, W: Wait + Sync, O: Oracle>(
         return Err(PlaceFault::OutOfMemory);
     };
     let (hunt, seats) = Hunt::new(alloc, tree, workers)?;
-    let turns = Turns::new(alloc, costs, workers)?;
+    let turns = Turns::new(alloc, workers)?;
     let row = workers_at(alloc, &hunt, seats)?;
     let row = work_all(rt, wait, alloc, &hunt, &turns, oracle, row);
     close(alloc, hunt, row)
@@ -87,7 +87,6 @@ fn work_all<R: Threads + Sync, W: Wait + Sync, O: Oracle>(
 ) -> Vec<Worker>
     requires ready { All (IsReady hunt.now) row.items }
     requires oracle { O.question oracle.now ≡ hunt.now.question }
-    requires costs { turns.now.costs ≡ hunt.now.costs }
     ensures { All (HasEnded hunt.now (O.may_lack_runs oracle.now)) result.items }
 {
     let threads = row.len().max(1);
@@ -96,7 +95,7 @@ fn work_all<R: Threads + Sync, W: Wait + Sync, O: Oracle>(
         row.as_mut_slice(),
         threads,
         &|_, worker|
-            requires { IsReady hunt.now worker.now × (O.question oracle.now ≡ hunt.now.question) × (turns.now.costs ≡ hunt.now.costs) }
+            requires { IsReady hunt.now worker.now × (O.question oracle.now ≡ hunt.now.question) }
             ensures { HasEnded hunt.entry.now (O.may_lack_runs oracle.entry.now) worker.exit.now }
         { work(wait, alloc, hunt, turns, oracle, worker) },
     );

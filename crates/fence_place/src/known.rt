@@ -28,7 +28,7 @@ pub(crate) fn known_run(known: &[ForeignRun], node: &Region) -> Option<usize>
 }
 
 /// Whether the run passes no gap which the node's sets must have.
-fn may_split(run: &ForeignRun, node: &Region) -> bool
+pub(crate) fn may_split(run: &ForeignRun, node: &Region) -> bool
     ensures { IsTrue result → PassesNoneOf node.now.must run.now }
 {
     !run.passed().meets(&node.must)

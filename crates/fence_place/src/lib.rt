@@ -11,7 +11,9 @@ mod gaps;
 mod hunting;
 mod known;
 mod placing;
+mod retracing;
 mod searching;
+mod sharing;
 mod turns;
 mod worker;
 

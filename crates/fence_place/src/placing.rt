@@ -9,6 +9,7 @@ use crate::PlaceFault;
 use crate::arguments::judge_arguments;
 use crate::certificates::certify;
 use crate::hunting::hunt;
+use crate::retracing::retraced;
 use crate::searching::search;
 use cert_check::{CheckFault, check};
 use cert_forest::Certificate;
@@ -80,7 +81,7 @@ fn find_placement<R: Threads + Sync, W: Wait + Sync, O: Oracle>(
     }
 }
 
-/// The hunt, or where it fails for another cause than memory the search that is made again.
+/// The hunt, retraced; or where it fails for another cause than memory the search that is made again.
 fn found<R: Threads + Sync, W: Wait + Sync, O: Oracle>(
     rt: &R,
     wait: &W,
@@ -98,7 +99,7 @@ fn found<R: Threads + Sync, W: Wait + Sync, O: Oracle>(
     ensures fault { IfErr result (λ fault. fault ≡ PlaceFault.OutOfMemory) }
 {
     match hunt(rt, wait, alloc, oracle, table, costs, workers) {
-        Ok(finished) => Ok(finished),
+        Ok(finished) => Ok(retraced(alloc, table, costs, finished)),
         Err(PlaceFault::OutOfMemory) => Err(PlaceFault::OutOfMemory),
         Err(_) => search_again(alloc, table, costs),
     }
@@ -112,7 +113,7 @@ fn search_again(alloc: Global, table: &SeqTable, costs: &Costs) -> Result<Finish
     ensures fault { IfErr result (λ fault. fault ≡ PlaceFault.OutOfMemory) }
 {
     let solver = Solver::new(alloc, table.program(), table)?;
-    match search(alloc, &solver, table, costs) {
+    match search(alloc, &solver, table, costs, Vec::new(alloc)) {
         Ok(finished) => Ok(finished),
         Err(fault) => Err(of_search(fault)),
     }

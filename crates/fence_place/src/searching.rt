@@ -21,15 +21,17 @@ use gap_sets::{Costs, Region};
 use search_core::{Finished, Reason, SearchTree, TreeFault, settling_lessens_the_work};
 use std::alloc::Global;
 
-/// Searches until no node is left.
+/// Searches until no node is left, by these runs and what the oracle says.
 pub(crate) fn search<O: Oracle>(
     alloc: Global,
     oracle: &O,
     table: &SeqTable,
     costs: &Costs,
+    mut known: Vec<ForeignRun>,
 ) -> Result<Finished, PlaceFault>
     requires of_question { O.question oracle.now ≡ table.now.question }
     requires one_each { length costs.now ≡ gap_count table.now.question.program.threads }
+    requires known { AreOf table.now.question known.items }
     ensures question { IfOk result (λ finished. finished.question ≡ table.now.question) }
     ensures costs { IfOk result (λ finished. finished.costs ≡ costs.now) }
     ensures fault { IfErr result (MaySearchFail (O.may_lack_runs oracle.now)) }
@@ -38,7 +40,6 @@ pub(crate) fn search<O: Oracle>(
         Ok(tree) => tree,
         Err(_) => return Err(PlaceFault::OutOfMemory),
     };
-    let mut known = Vec::new(alloc);
     loop {
         let more = go_on(&mut tree, &mut known, oracle)?;
         if !more {

@@ -3,8 +3,6 @@
 //! Best first needs no question about a set for which a better one is the answer. So a worker begins no question
 //! while another asks about a cheaper set, which may be the answer, and none once another has confirmed a set that
 //! is no worse. Which questions are asked is a preference, and no clause rests on it.
-ghost use Rattle.std.specs.Prelude.{◌≡◌, IfOk};
-
 use gap_sets::{Costs, GapSet};
 use std::alloc::{AllocError, Global};
 use std::sync::{Condvar, Mutex, MutexGuard, Wait};
@@ -62,25 +60,21 @@ pub(crate) enum Turn {
     Never,
 }
 
-/// The questions of all workers, who know what each gap costs.
+/// The questions of all workers.
 #[derive(Drop)]
 pub(crate) struct Turns {
-    costs: Costs,
     asking: Mutex<Asking>,
     ended: Condvar,
 }
 
 impl Turns {
     /// No question is asked yet.
-    pub(crate) fn new(alloc: Global, costs: &Costs, seats: u8) -> Result<Turns, AllocError>
-        ensures { IfOk result (λ turns. turns.costs ≡ costs.now) }
-    {
+    pub(crate) fn new(alloc: Global, seats: u8) -> Result<Turns, AllocError> {
         let mut none = Vec::new(alloc);
         for _ in 0..seats {
             none.push(None)?;
         }
         Ok(Turns {
-            costs: costs.copy()?,
             asking: Mutex::new(Asking {
                 costs: none,
                 confirmed: None,
@@ -89,22 +83,15 @@ impl Turns {
         })
     }
 
-    /// What each gap costs.
-    pub(crate) fn costs(&self) -> &Costs
-        ensures { result.now ≡ self.now.costs }
-    {
-        &self.costs
-    }
-
     /// When the seat may ask about a set. It waits where another worker asks about a cheaper one.
-    pub(crate) fn begin<W: Wait>(&self, wait: &W, seat: u8, set: &GapSet) -> Turn {
-        let cost = self.costs.total(set);
+    pub(crate) fn begin<W: Wait>(&self, wait: &W, costs: &Costs, seat: u8, set: &GapSet) -> Turn {
+        let cost = costs.total(set);
         let mut asking = self.asking.lock(wait);
-        if asking.beats(&self.costs, set) {
+        if asking.beats(costs, set) {
             return Turn::Never;
         }
         if asking.has_cheaper(cost) {
-            self.wait_for_cheaper(wait, cost, set, asking);
+            self.wait_for_cheaper(wait, costs, set, asking);
             return Turn::Later;
         }
         asking.note(seat, Some(cost));
@@ -115,21 +102,22 @@ impl Turns {
     fn wait_for_cheaper<W: Wait>(
         &self,
         wait: &W,
-        cost: u64,
+        costs: &Costs,
         set: &GapSet,
         asking: MutexGuard<'_, Asking>,
     ) {
+        let cost = costs.total(set);
         let _ = self.ended.wait_while(wait, asking, |asking| {
-            asking.has_cheaper(cost) && !asking.beats(&self.costs, set)
+            asking.has_cheaper(cost) && !asking.beats(costs, set)
         });
     }
 
     /// The seat's node is settled by its question, or given back; this is the best set that its worker has confirmed.
-    pub(crate) fn end<W: Wait>(&self, wait: &W, seat: u8, best: Option<GapSet>) {
+    pub(crate) fn end<W: Wait>(&self, wait: &W, costs: &Costs, seat: u8, best: Option<GapSet>) {
         let mut asking = self.asking.lock(wait);
         asking.note(seat, None);
         if let Some(best) = best {
-            asking.confirm(&self.costs, best);
+            asking.confirm(costs, best);
         }
         self.ended.notify_all();
     }

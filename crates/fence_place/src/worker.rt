@@ -1,7 +1,5 @@
 //! One worker of a hunt.
 ghost use Rattle.std.specs.Prelude.{◌≡◌, ◌⊎◌, ◌++◌, ◌∷◌, [], Some, None, ℕ, IfErr, IfOk, IfSome, IsTrue, OnErr, OnOk, slice_get};
-ghost use Rattle.gap_sets.specs.Gaps.{SetOfGaps};
-ghost use Rattle.tso_program.specs.Shown.{Question};
 ghost use Rattle.tso_machine.specs.Outcomes.{AreGapsOf};
 ghost use Rattle.cover_solver.specs.Facts.{IsForeignValue};
 ghost use Rattle.cover_solver.specs.Verdicts.{IsVerdictOf, PassesNoneOf};
@@ -12,6 +10,7 @@ ghost use Rattle.fence_place.specs.Internal.Searches.{AreOf};
 ghost use Rattle.fence_place.specs.Internal.Workers.{IsAt, IsReady, HasEnded, MayStop, lacks_run};
 
 use crate::known::known_run;
+use crate::sharing::{ceiling_below, copy_of_posted, share};
 use crate::turns::{Turn, Turns};
 use cover_solver::{ForeignRun, Oracle, SolveFault, Verdict};
 use gap_sets::{Costs, GapSet, Region};
@@ -31,7 +30,7 @@ pub(crate) enum Stop {
     OutOfMemory,
 }
 
-/// A worker's seat, the runs that it knows, its receipts, and why it ended if nodes were left.
+/// A worker's seat, the runs that only it knows, its receipts, and why it ended if nodes were left.
 #[derive(Drop)]
 pub(crate) struct Worker {
     pub(crate) seat: HuntSeat,
@@ -85,7 +84,6 @@ pub(crate) fn work<W: Wait, O: Oracle>(
 )
     requires ready { IsReady hunt.now worker.old }
     requires oracle { O.question oracle.now ≡ hunt.now.question }
-    requires costs { turns.now.costs ≡ hunt.now.costs }
     ensures { HasEnded hunt.now (O.may_lack_runs oracle.now) worker.new }
 {
     for _ in wait.forever() {
@@ -115,36 +113,56 @@ fn settle<W: Wait, O: Oracle>(
     requires at { IsAt hunt.now worker.old (Some node.now) }
     requires gaps { AreGapsOf hunt.now.question.program node.now.must }
     requires oracle { O.question oracle.now ≡ hunt.now.question }
-    requires costs { turns.now.costs ≡ hunt.now.costs }
     ensures settled { OnOk result (IsAt hunt.now worker.new None) }
     ensures held { OnErr result (IsAt hunt.now worker.new (Some node.now)) }
     ensures fault { IfErr result (MayStop (O.may_lack_runs oracle.now)) }
     ensures stop { worker.new.stop ≡ worker.old.stop }
 {
-    match known_settling(alloc, hunt, turns.costs(), worker, node) {
+    match known_settling(alloc, hunt, worker, node) {
         Some(settling) => keep_receipt(wait, hunt, worker, settling),
         None => settle_in_turn(wait, alloc, hunt, turns, oracle, worker, node),
     }
 }
 
-/// How the worker's node can be settled without a question: by the best set that the worker has confirmed, or by a
-/// run that it knows.
+/// How the worker's node can be settled without a question: by the best set that the worker has confirmed, by the
+/// hunt's ceiling, or by a run that is at hand.
 fn known_settling(
     alloc: Global,
     hunt: &Hunt,
-    costs: &Costs,
-    worker: &Worker,
+    worker: &mut Worker,
     node: &Region,
 ) -> Option<Settling>
-    requires at { IsAt hunt.now worker.now (Some node.now) }
-    requires costs { costs.now ≡ hunt.now.costs }
-    ensures { IfSome result (IsLawful hunt.now worker.now.seat.best node.now) }
+    requires { IsAt hunt.now worker.old (Some node.now) }
+    ensures lawful { IfSome result (IsLawful hunt.now worker.new.seat.best node.now) }
+    ensures at { IsAt hunt.now worker.new (Some node.now) }
+    ensures stop { worker.new.stop ≡ worker.old.stop }
 {
-    if is_beaten(costs, &worker.seat, &node.must) {
+    if is_beaten(hunt.costs(), &worker.seat, &node.must) {
         return Some(Settling::Best);
     }
-    let run = copy_of_known(alloc, &worker.known, node)?;
+    if let Some(ceiling) = ceiling_below(hunt, &mut worker.seat, &node.must) {
+        return Some(Settling::Cut(ceiling));
+    }
+    let run = run_at_hand(alloc, hunt, &worker.known, node)?;
     Some(Settling::Asked(Verdict::Foreign(run)))
+}
+
+/// A copy of a run that splits the node: of one that only this worker knows, or else of a posted one.
+fn run_at_hand(
+    alloc: Global,
+    hunt: &Hunt,
+    known: &[ForeignRun],
+    node: &Region,
+) -> Option<ForeignRun>
+    requires { AreOf hunt.now.question known.now }
+    ensures of { IfSome result (λ run. run.question ≡ hunt.now.question) }
+    ensures foreign { IfSome result IsForeignValue }
+    ensures passes_none { IfSome result (PassesNoneOf node.now.must) }
+{
+    match copy_of_known(alloc, known, node) {
+        Some(run) => Some(run),
+        None => copy_of_posted(alloc, hunt, node),
+    }
 }
 
 /// Whether the seat has confirmed a set that this one isn't better than.
@@ -214,18 +232,17 @@ fn settle_in_turn<W: Wait, O: Oracle>(
     ensures stop { worker.new.stop ≡ worker.old.stop }
 {
     let seat = worker.seat.number();
-    match turns.begin(wait, seat, &node.must) {
+    match turns.begin(wait, hunt.costs(), seat, &node.must) {
         Turn::Now => {}
         Turn::Later => return Err(Stop::Later),
         Turn::Never => return Err(Stop::Beaten),
     }
     let settled = settle_by_oracle(wait, alloc, hunt, oracle, worker, node);
-    turns.end(wait, seat, worker.seat.best());
+    turns.end(wait, hunt.costs(), seat, worker.seat.best());
     settled
 }
 
-/// Settles the worker's node by what the oracle says of its set. A copy of a run that it gives is kept, where there is
-/// memory for it.
+/// Settles the worker's node by what the oracle says of its set, which the other workers learn before.
 fn settle_by_oracle<W: Wait, O: Oracle>(
     wait: &W,
     alloc: Global,
@@ -243,26 +260,27 @@ fn settle_by_oracle<W: Wait, O: Oracle>(
     ensures stop { worker.new.stop ≡ worker.old.stop }
 {
     let verdict = ask(oracle, &node.must)?;
-    keep_copy(alloc, &mut worker.known, &verdict);
+    pass_on(alloc, hunt, worker, node, &verdict);
     keep_receipt(wait, hunt, worker, Settling::Asked(verdict))
 }
 
-/// Adds a copy of a run that the oracle gives, where there is memory for it.
-fn keep_copy(alloc: Global, known: &mut Vec<ForeignRun>, verdict: &Verdict)
-    ensures { (q : Question) (gaps : SetOfGaps) → IsVerdictOf q gaps verdict.now → AreOf q known.old.items → AreOf q known.new.items }
+/// The other workers learn what the oracle said. A copy of a run that can't be posted is known to this worker alone.
+fn pass_on(alloc: Global, hunt: &Hunt, worker: &mut Worker, node: &Region, verdict: &Verdict)
+    requires at { IsAt hunt.now worker.old (Some node.now) }
+    requires verdict { IsVerdictOf hunt.now.question node.now.must verdict.now }
+    ensures at { IsAt hunt.now worker.new (Some node.now) }
+    ensures stop { worker.new.stop ≡ worker.old.stop }
 {
-    if let Verdict::Foreign(run) = verdict {
-        push_copy(alloc, known, run);
+    if let Some(run) = share(alloc, hunt, &mut worker.seat, verdict) {
+        keep(&mut worker.known, run);
     }
 }
 
-/// Adds a copy of the run, where there is memory for it.
-fn push_copy(alloc: Global, known: &mut Vec<ForeignRun>, run: &ForeignRun)
-    ensures { (known.new.items ≡ known.old.items) ⊎ (known.new.items ≡ known.old.items ++ run.now ∷ []) }
+/// Adds the run, where there is memory for it.
+fn keep(known: &mut Vec<ForeignRun>, run: ForeignRun)
+    ensures { (known.new.items ≡ known.old.items) ⊎ (known.new.items ≡ known.old.items ++ run ∷ []) }
 {
-    if let Ok(copy) = run.copy(alloc) {
-        let _ = known.push(copy);
-    }
+    let _ = known.push(run);
 }
 
 /// What the oracle says of a set, or why the worker stops.

@@ -1,16 +1,18 @@
 -- The seats of a hunt as they are made.
-use Rattle.std.proofs.Common.{arith, ◌≡◌, ℕ, ◌+◌, List, [], ◌∷◌, ◌++◌, None, map, refl, sym, ap, ◌∙◌}
+use Rattle.std.proofs.Common.{arith, ◌≡◌, ℕ, ◌+◌, List, [], ◌∷◌, ◌++◌, None, map, refl, sym, ap, ◌∙◌, subst}
 use Rattle.std.specs.List.{range_with_len}
 use Rattle.std.proofs.lemmas.List.Elements.{All-push}
 use Rattle.std.proofs.lemmas.List.FromFn.{map-range_with_len_more}
-use Rattle.hunt_board.specs.Seats.{HuntView, SeatView, IsFresh, AreFresh}
+use Rattle.hunt_board.specs.Seats.{HuntView, SeatView, IsFresh, AreFresh, word_of}
+use Rattle.search_core.specs.Ceilings.{problem}
+use Rattle.hunt_board.specs.Word.{Word, Known, IsSeatOf, no_ceiling}
 
-abbrev pub seat_of : ℕ → SeatView
-seat_of number = record { number = number; node = None; best = None }
+abbrev pub seat_of : ℕ → Known → SeatView
+seat_of number known = record { number = number; node = None; best = None; known = known; posted = 0 }
 
-number_last : (seats : List SeatView) (n : ℕ) → map (λ (s : SeatView). s.number) (seats ++ seat_of n ∷ []) ≡ map (λ (s : SeatView). s.number) seats ++ n ∷ []
-number_last [] n = refl
-number_last (s ∷ seats) n = ap (λ l. s.number ∷ l) (number_last seats n)
+number_last : (seats : List SeatView) (n : ℕ) (known : Known) → map (λ (s : SeatView). s.number) (seats ++ seat_of n known ∷ []) ≡ map (λ (s : SeatView). s.number) seats ++ n ∷ []
+number_last [] n known = refl
+number_last (s ∷ seats) n known = ap (λ l. s.number ∷ l) (number_last seats n known)
 
 same_list : (l : List ℕ) → map (λ (n : ℕ). n) l ≡ l
 same_list [] = refl
@@ -20,8 +22,16 @@ same_list (x ∷ xs) = ap (λ l. x ∷ l) (same_list xs)
 numbers_more : (n : ℕ) → range_with_len 0 (n + 1) ≡ range_with_len 0 n ++ n ∷ []
 numbers_more n = sym (same_list (range_with_len 0 (n + 1))) ∙ map-range_with_len_more (λ (k : ℕ). k) 0 n n (omega arith) ∙ ap (λ l. l ++ n ∷ []) (same_list (range_with_len 0 n))
 
-pub one_more_fresh : (h : HuntView) (n : ℕ) (seats : List SeatView) → AreFresh h n seats → AreFresh h (n + 1) (seats ++ seat_of n ∷ [])
-one_more_fresh h n seats fresh = record {
-  each = All-push (IsFresh h) seats (seat_of n) fresh.each (tt, refl, refl);
-  numbers = number_last seats n ∙ ap (λ l. l ++ n ∷ []) fresh.numbers ∙ sym (numbers_more n);
-}
+module _ (h : HuntView) (n : ℕ) (seats : List SeatView) (w : Word) (first known : Known) where
+  -- one more seat, which knows what the first one knows
+  pub one_more_fresh : word_of h ≡ w → known ≡ first → IsSeatOf w first → first.least ≡ no_ceiling → AreFresh h n seats → AreFresh h (n + 1) (seats ++ seat_of n known ∷ [])
+  one_more_fresh word same of least fresh =
+      let here : IsSeatOf (word_of h) known = subst (λ (v : Word). IsSeatOf v known) (sym word) (subst (IsSeatOf w) (sym same) of) in
+      let none : known.least ≡ no_ceiling = ap (λ (k : Known). k.least) same ∙ least in record {
+        each = All-push (IsFresh h) seats (seat_of n known) fresh.each ((here, tt), refl, refl, none, refl);
+        numbers = number_last seats n known ∙ ap (λ l. l ++ n ∷ []) fresh.numbers ∙ sym (numbers_more n);
+      }
+
+-- a hunt's word by its parts
+pub word_by_parts : (h : HuntView) (w : Word) → w.problem ≡ problem h.question h.costs → w.table ≡ h.table → word_of h ≡ w
+word_by_parts h w same_problem same_table = λ i. record { problem = sym same_problem i; table = sym same_table i }

@@ -1,3 +1,5 @@
+pub mod Word
+pub mod Cells
 pub mod Seats
 pub mod Settlings
 pub mod Receipts

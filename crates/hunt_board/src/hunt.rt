@@ -1,21 +1,30 @@
 //! The hunt: a search that several workers share.
-ghost use Rattle.std.specs.Prelude.{◌≡◌, ◌↔◌, ℕ, None, All, IfOk, IfErr, IfSome, IfNone, OnOk, OnErr, IsSome, IsTrue};
+ghost use Rattle.std.specs.Prelude.{◌≡◌, ◌↔◌, ◌≤◌, ◌+◌, ℕ, Some, None, Err, All, IfOk, IfErr, IfSome, IfNone, OnOk, OnErr, IsSome, IsTrue};
+ghost use Rattle.gap_sets.specs.Order.{total};
 ghost use Rattle.tso_program.specs.Shown.{asked};
 ghost use Rattle.tso_machine.specs.Outcomes.{AreGapsOf, IsTheAnswer};
+ghost use Rattle.cover_solver.specs.Facts.{IsForeignValue};
+ghost use Rattle.search_core.specs.Ceilings.{IsCeilingOf};
 ghost use Rattle.search_core.specs.States.{IsStart, HoldsOnly};
 ghost use Rattle.search_core.specs.Events.{TakesNode};
 ghost use Rattle.search_core.specs.Records.{IsOutcome};
-ghost use Rattle.hunt_board.specs.Seats.{HuntView, IsOf, AreFresh, with_node};
+ghost use Rattle.hunt_board.specs.Cells.{IsIn, IsThere, place_of, run_in};
+ghost use Rattle.hunt_board.specs.declared.cells.TheConstants.{ROW_CELLS};
+ghost use Rattle.hunt_board.specs.Seats.{HuntView, IsOf, AreFresh, word_of, with_node, with_known, with_posted};
 ghost use Rattle.hunt_board.specs.Settlings.{MaySettle, IsByRun, IsSettled, IsReceiptFor, node_of};
 ghost use Rattle.hunt_board.specs.Receipts.{NameAll, CloseFaultIs};
+ghost use Rattle.hunt_board.specs.Word.{IsSeatOf, no_ceiling, number_in, with_least, word_with};
 ghost use Rattle.hunt_board.specs.Internal.Events.{IsFor, IsLawfulThere};
 
+use crate::cells::{PostFault, Posted, RunCells};
 use crate::events::{is_waiting, settle_node};
 use crate::record::check_receipts;
 use crate::same::{is_search_of, same_region};
+use crate::word::{CeilingWord, WordSeat};
 use crate::{CloseFault, HuntSeat, Next, Receipt, Settling};
+use cover_solver::{ForeignRun, Served};
 use gap_sets::{Costs, Region};
-use search_core::{Finished, SearchTree};
+use search_core::{Ceiling, Finished, SearchTree};
 use std::alloc::{AllocError, Global};
 use std::marker::Model;
 use std::sync::{Condvar, Mutex, Wait};
@@ -26,12 +35,17 @@ use tso_program::{Program, Shown};
 ///
 /// A contract can't read the tree through the lock. So each call finds out there whether the tree is of
 /// the hunt and the seat holds what it should, and does nothing to it otherwise.
+///
+/// The ceiling word and the rows of cells for runs stand beside the lock. What is read there stays true,
+/// so a node may be settled by it later, under the lock.
 #[derive(Drop)]
 pub struct Hunt {
     alloc: Global,
     program: Program,
     shown: Shown,
     costs: Costs,
+    word: CeilingWord,
+    rows: RunCells,
     tree: Mutex<SearchTree>,
     opened: Condvar,
 }
@@ -47,7 +61,13 @@ impl Model for Hunt {
 
     ghost coded = { Prim.hlevel (codes, gap_set.the_row.coded) };
 
-    ghost view = { λ h. record { question = asked h.program h.shown; costs = h.costs } };
+    ghost use Rattle.std.specs.Prelude.{◌≡◌, map};
+    ghost use Rattle.once_cell.specs.Once.{cell_name};
+    ghost use Rattle.search_core.specs.Ceilings.{problem};
+
+    ghost view = { λ h. record { question = asked h.program h.shown; costs = h.costs; table = h.word.table.shared.table_id; cells = map cell_name h.rows.cells.items } };
+
+    ghost invariant = { λ h. h.word.table.shared.key ≡ problem (asked h.program h.shown) h.costs };
 }
 
 impl Hunt {
@@ -62,16 +82,29 @@ impl Hunt {
         ensures hunt { IfOk result (λ made. (made.0.question ≡ tree.question) × (made.0.costs ≡ tree.costs)) }
         ensures seats { IfOk result (λ made. AreFresh made.0 seats made.1.items) }
     {
-        let row = seats_of(alloc, seats)?;
+        let program = tree.program().copy()?;
+        let shown = *tree.shown();
+        let costs = tree.costs().copy()?;
+        let (word, mut first) = CeilingWord::new(alloc, &program, &shown, &costs)?;
+        let row = seats_of(alloc, &word, &mut first, seats)?;
         let hunt = Hunt {
             alloc,
-            program: tree.program().copy()?,
-            shown: *tree.shown(),
-            costs: tree.costs().copy()?,
+            program,
+            shown,
+            costs,
+            word,
+            rows: RunCells::new(alloc, seats)?,
             tree: Mutex::new(tree),
             opened: Condvar::new(),
         };
         Ok((hunt, row))
+    }
+
+    /// What each gap costs.
+    pub fn costs(&self) -> &Costs
+        ensures { result.now ≡ self.now.costs }
+    {
+        &self.costs
     }
 
     /// The seat takes an open node. Where none is open it waits until one is, or no node is left. Takes no
@@ -133,6 +166,63 @@ impl Hunt {
         seat.node = None;
     }
 
+    /// The least cost that is known of a serving set, if one is. Takes no memory and never waits.
+    pub fn ceiling(&self, seat: &mut HuntSeat) -> Ceiling
+        requires { IsOf self.now seat.old }
+        ensures of { IsCeilingOf self.now.question self.now.costs result }
+        ensures least { number_in result ≤ seat.old.known.least }
+        ensures seat { seat.new ≡ with_known seat.old (with_least seat.old.known (number_in result)) }
+    {
+        self.word
+            .ceiling(&mut seat.word, &self.program, &self.shown, &self.costs)
+    }
+
+    /// The ceiling is no higher than what the serving set costs from now on. Takes no memory and never waits.
+    pub fn lower(&self, seat: &mut HuntSeat, served: &Served)
+        requires of { IsOf self.now seat.old }
+        requires question { served.now.question ≡ self.now.question }
+        ensures lowered { seat.new.known.least ≤ total self.now.costs served.now.gaps }
+        ensures least { seat.new.known.least ≤ seat.old.known.least }
+        ensures seat { seat.new ≡ with_known seat.old (with_least seat.old.known seat.new.known.least) }
+    {
+        self.word.lower(&mut seat.word, served, &self.costs);
+    }
+
+    /// Posts a run for all seats, in the next cell of the seat's row. Never waits.
+    pub fn post(&self, seat: &mut HuntSeat, run: ForeignRun) -> Result<Posted, PostFault>
+        requires of { IsOf self.now seat.old }
+        requires question { run.question ≡ self.now.question }
+        ensures posted { IfOk result (λ posted. IsIn self.now.cells posted × (posted.run ≡ Some run)) }
+        ensures place { IfOk result (λ posted. Some posted.place ≡ place_of seat.old.number seat.old.posted) }
+        ensures seat { OnOk result (seat.new ≡ with_posted seat.old (seat.old.posted + 1)) }
+        ensures unchanged { OnErr result (seat.new ≡ seat.old) }
+        ensures back { IfErr result (λ fault. run_in fault ≡ run) }
+        ensures full { ROW_CELLS ≤ seat.old.posted → result ≡ Err (PostFault.RowFull run) }
+    {
+        let posted = self.rows.post(seat.number, seat.posted, run)?;
+        seat.posted += 1;
+        Ok(posted)
+    }
+
+    /// The very run that was posted. Takes no memory and never waits.
+    pub fn posted(&self, posted: &mut Posted) -> &ForeignRun
+        requires { IsIn self.now.cells posted.old }
+        ensures run { posted.old.run ≡ Some result.now }
+        ensures same { posted.new ≡ posted.old }
+    {
+        self.rows.posted(posted)
+    }
+
+    /// The run of this index, from 0, that the seat of this number has posted, where there is one. Takes no
+    /// memory and never waits.
+    pub fn look(&self, seat: u8, index: usize) -> Option<&ForeignRun>
+        ensures of { IfSome result (λ run. run.now.question ≡ self.now.question) }
+        ensures foreign { IfSome result (λ run. IsForeignValue run.now) }
+        ensures there { IfSome result (λ _. IsThere self.now.cells seat index) }
+    {
+        self.rows.look(seat, index, &self.program, &self.shown)
+    }
+
     /// Ends the hunt with the answer, where no node is left and the receipts name the whole record.
     pub fn close(self, seats: Vec<HuntSeat>, receipts: Vec<Receipt>) -> Result<Finished, CloseFault>
         requires seats { All (IsOf self) seats.items }
@@ -147,9 +237,12 @@ impl Hunt {
             program,
             shown,
             costs,
+            word,
+            rows: _,
             tree,
             opened: _,
         } = self;
+        join_all(&word, seats);
         let tree = tree.into_inner();
         if !is_search_of(&tree, &program, &shown, &costs) {
             return Err(CloseFault::NotDone);
@@ -241,13 +334,32 @@ impl Hunt {
     }
 }
 
-/// The seats of a hunt, by number.
-fn seats_of(alloc: Global, seats: u8) -> Result<Vec<HuntSeat>, AllocError>
-    ensures { IfOk result (λ row. (h : HuntView) → AreFresh h seats row.items) }
+/// The seats of a hunt, by number. Each knows of the ceiling word what the first seat there knows.
+fn seats_of(
+    alloc: Global,
+    word: &CeilingWord,
+    first: &mut WordSeat,
+    seats: u8,
+) -> Result<Vec<HuntSeat>, AllocError>
+    requires of { IsSeatOf (word_with word.now.table.shared.key word.now.table.shared.table_id) first.old }
+    requires least { first.old.least ≡ no_ceiling }
+    ensures { IfOk result (λ row. (h : HuntView) → word_of h ≡ word_with word.now.table.shared.key word.now.table.shared.table_id → AreFresh h seats row.items) }
 {
     let mut row = Vec::with_capacity(alloc, usize::from(seats))?;
     for number in 0..seats {
-        row.push(HuntSeat::new(number))?;
+        row.push(HuntSeat::new(number, word.split(first)))?;
     }
     Ok(row)
+}
+
+/// All seats are taken in, and with the last one what they know of the word is gone.
+fn join_all(word: &CeilingWord, mut seats: Vec<HuntSeat>)
+    requires { All (λ seat. IsSeatOf (word_with word.now.table.shared.key word.now.table.shared.table_id) seat.known) seats.items }
+{
+    let Some(mut last) = seats.pop() else {
+        return;
+    };
+    while let Some(seat) = seats.pop() {
+        last.take_in(word, seat);
+    }
 }

@@ -1,26 +1,30 @@
 //! What one worker has in hand.
-ghost use Rattle.std.specs.Prelude.{◌≡◌, false, Some, None, IfSome, IsTrue, MatchOption};
+ghost use Rattle.std.specs.Prelude.{◌≡◌, false, min, Some, None, IfSome, IsTrue, MatchOption};
 ghost use Rattle.gap_sets.specs.Order.{Better};
 ghost use Rattle.gap_sets.specs.declared.region.Region.{Region};
 ghost use Rattle.cover_solver.specs.Facts.{Serving, IsServing};
 ghost use Rattle.search_core.specs.Events.{IsBestAfter};
-ghost use Rattle.hunt_board.specs.Seats.{SeatView, with_node, with_best};
+ghost use Rattle.hunt_board.specs.Seats.{SeatView, with_node, with_best, with_known};
 ghost use Rattle.hunt_board.specs.Settlings.{IsOwnBestAfter};
+ghost use Rattle.hunt_board.specs.Word.{IsSeatOf, with_least, word_with};
 ghost use Rattle.hunt_board.specs.Internal.Confirmed.{serving_of, newer, IsKept};
 
 use crate::settling::Settling;
+use crate::word::{CeilingWord, WordSeat};
 use cover_solver::{Served, Verdict};
 use gap_sets::{Costs, GapSet, Region};
 use std::marker::Model;
 use std::snapshot::Snapshot;
 
-/// A place at a hunt for one worker: its number, the node that it holds, and the best set that it has
-/// itself confirmed.
+/// A place at a hunt for one worker: its number, the node that it holds, the best set that it has itself
+/// confirmed, its seat at the ceiling word, and how many runs it has posted.
 #[derive(Drop)]
 pub struct HuntSeat {
     pub(crate) number: u8,
     pub(crate) node: Option<Region>,
     pub(crate) best: Option<Confirmed>,
+    pub(crate) word: WordSeat,
+    pub(crate) posted: usize,
 }
 
 /// A set that was confirmed. That it serves is for proofs alone.
@@ -43,7 +47,7 @@ impl Model for HuntSeat {
 
     ghost coded = { Prim.hlevel (codes, gap_set.the_row.coded, coded_cover) };
 
-    ghost view = { λ s. record { number = s.number; node = s.node; best = serving_of s.best } };
+    ghost view = { λ s. record { number = s.number; node = s.node; best = serving_of s.best; known = s.word; posted = s.posted } };
 
     ghost invariant = { λ s. IfSome s.best IsKept };
 }
@@ -73,14 +77,16 @@ impl HuntSeat {
         }
     }
 
-    /// A seat that holds nothing and has confirmed nothing.
-    pub(crate) fn new(number: u8) -> HuntSeat
-        ensures { result ≡ record { number = number; node = None; best = None } }
+    /// A seat that holds nothing, has confirmed nothing and has posted nothing.
+    pub(crate) fn new(number: u8, word: WordSeat) -> HuntSeat
+        ensures { result ≡ record { number = number; node = None; best = None; known = word; posted = 0 } }
     {
         HuntSeat {
             number,
             node: None,
             best: None,
+            word,
+            posted: 0,
         }
     }
 
@@ -131,5 +137,21 @@ impl HuntSeat {
         if best.is_some() {
             self.best = best;
         }
+    }
+
+    /// What another seat knows of the ceiling word, this one knows too; the other is spent.
+    pub(crate) fn take_in(&mut self, word: &CeilingWord, other: HuntSeat)
+        requires of { IsSeatOf (word_with word.now.table.shared.key word.now.table.shared.table_id) self.old.known }
+        requires other { IsSeatOf (word_with word.now.table.shared.key word.now.table.shared.table_id) other.known }
+        ensures { self.new ≡ with_known self.old (with_least self.old.known (min self.old.known.least other.known.least)) }
+    {
+        let HuntSeat {
+            number: _,
+            node: _,
+            best: _,
+            word: other,
+            posted: _,
+        } = other;
+        word.join(&mut self.word, other);
     }
 }

@@ -46,10 +46,11 @@ pub enum SolverCall {
     Hunt,
     Place,
     Gated(PlacerCall),
+    Shared(PlacerCall),
     Lacking(PlacerCall),
 }
 
-pub const CALLS: [(&[u8], Call); 32] = [
+pub const CALLS: [(&[u8], Call); 34] = [
     (b"tokens", Call::Tokens),
     (b"plain-number", Call::PlainNumber),
     (b"body", Call::Body),
@@ -91,6 +92,14 @@ pub const CALLS: [(&[u8], Call); 32] = [
     (
         b"hunt-gated",
         Call::Test(TestCall::Solver(SolverCall::Gated(PlacerCall::Hunt))),
+    ),
+    (
+        b"place-shared",
+        Call::Test(TestCall::Solver(SolverCall::Shared(PlacerCall::Place))),
+    ),
+    (
+        b"hunt-shared",
+        Call::Test(TestCall::Solver(SolverCall::Shared(PlacerCall::Hunt))),
     ),
     (
         b"place-lacking",

@@ -1,4 +1,6 @@
 //! Calls of `canonical_text`.
+ghost use Rattle.std.specs.Prelude.{IfOk};
+ghost use Rattle.tso_machine.specs.Outcomes.{AreGapsOf};
 
 use crate::input::{byte_of, push_bytes, split_at_byte};
 use crate::refusal::Refusal;
@@ -28,6 +30,17 @@ pub fn gaps_of(program: &Program, words: &[&[u8]]) -> GapSet {
         }
     }
     gaps
+}
+
+/// The set, if each of its gaps is one of the program's.
+pub fn set_in(program: &Program, set: GapSet) -> Result<GapSet, Refusal>
+    ensures { IfOk result (AreGapsOf program.now) }
+{
+    if program.all_gaps().holds_all(&set) {
+        Ok(set)
+    } else {
+        Err(Refusal::Gap)
+    }
 }
 
 /// The canonical text of a test with fences in the gaps that are given.

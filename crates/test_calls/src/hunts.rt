@@ -7,17 +7,54 @@ ghost use Rattle.hunt_board.specs.Seats.{IsOf};
 ghost use Rattle.hunt_board.specs.Settlings.{IsLawful};
 ghost use Rattle.test_calls.specs.Hunts.{IsSound};
 
-use crate::input::{byte_of, split_at_byte};
+use crate::beside::{fill, lower, post, push_ceiling, push_look, push_posted};
+use crate::input::{byte_of, named, split_at_byte};
 use crate::lines::push_gaps_after;
 use crate::placing::equal_costs;
 use crate::refusal::Refusal;
 use crate::search::{labels_of, push_region};
 use cover_solver::{ForeignRun, Oracle, SeqTable, Solver, Verdict};
-use gap_sets::{Costs, MAX_GAPS, Region};
-use hunt_board::{Event, Hunt, HuntSeat, Next, Receipt, Settling};
+use gap_sets::{Costs, GapSet, MAX_GAPS, Region};
+use hunt_board::{Event, Hunt, HuntSeat, Next, Posted, Receipt, Settling};
 use search_core::SearchTree;
 use std::alloc::{AllocError, Global};
 use std::sync::Wait;
+
+/// What the script has in hand: its seat, the receipts of what it settled, and what shows that it posted its last run.
+#[derive(Drop)]
+pub struct Hand {
+    pub seat: HuntSeat,
+    pub receipts: Vec<Receipt>,
+    pub posted: Option<Posted>,
+}
+
+/// What a word names beside the ways to settle a node.
+#[derive(Clone, Copy)]
+enum Step {
+    Next,
+    GiveBack,
+    Drop,
+    Other,
+    Ceiling,
+    Lower,
+    Post,
+    Fill,
+    Posted,
+    Look,
+}
+
+const STEPS: [(&[u8], Step); 10] = [
+    (b"next", Step::Next),
+    (b"give", Step::GiveBack),
+    (b"drop", Step::Drop),
+    (b"other", Step::Other),
+    (b"ceiling", Step::Ceiling),
+    (b"lower", Step::Lower),
+    (b"post", Step::Post),
+    (b"fill", Step::Fill),
+    (b"posted", Step::Posted),
+    (b"look", Step::Look),
+];
 
 /// The node that the seat holds.
 fn held(seat: &HuntSeat) -> Result<Region, Refusal>
@@ -37,17 +74,17 @@ fn by_run(alloc: Global, table: &SeqTable, node: &Region, labels: &[u8]) -> Resu
     let run = ForeignRun::new(alloc, table, labels.as_slice())?;
     // For the proof alone: what holds of every run is known where its program is read.
     let _ = run.program();
-    if !may_split(&run, node) {
+    if !passes_none(&run, &node.must) {
         return Err(Refusal::Call);
     }
     Ok(Verdict::Foreign(run))
 }
 
-/// Whether the run passes no gap which the node's sets must have.
-fn may_split(run: &ForeignRun, node: &Region) -> bool
-    ensures { IsTrue result → PassesNoneOf node.now.must run.now }
+/// Whether the run passes no gap of the set.
+pub fn passes_none(run: &ForeignRun, set: &GapSet) -> bool
+    ensures { IsTrue result → PassesNoneOf set.now run.now }
 {
-    !run.passed().meets(&node.must)
+    !run.passed().meets(set)
 }
 
 /// What the solver says of the node.
@@ -74,13 +111,11 @@ fn settling_of(
     alloc: Global,
     table: &SeqTable,
     hunt: &Hunt,
-    costs: &Costs,
     seat: &HuntSeat,
     node: &Region,
     word: &[u8],
 ) -> Result<Settling, Refusal>
     requires of_table { hunt.now.question ≡ table.now.question }
-    requires costs { hunt.now.costs ≡ costs.now }
     requires gaps { AreGapsOf hunt.now.question.program node.now.must }
     ensures { IfOk result (IsLawful hunt.now seat.now.best node.now) }
 {
@@ -91,7 +126,7 @@ fn settling_of(
     if name == b"ask".as_slice() {
         return Ok(Settling::Asked(by_solver(alloc, table, node)?));
     }
-    if name == b"best".as_slice() && is_beaten(costs, seat, node) {
+    if name == b"best".as_slice() && is_beaten(hunt.costs(), seat, node) {
         return Ok(Settling::Best);
     }
     Err(Refusal::Call)
@@ -111,16 +146,16 @@ fn push_receipt(receipt: &Receipt, printed: &mut String) -> Result<(), AllocErro
 fn push_next<W: Wait>(
     wait: &W,
     hunt: &Hunt,
-    seat: &mut HuntSeat,
+    hand: &mut Hand,
     printed: &mut String,
 ) -> Result<(), Refusal>
-    requires { IsSound hunt.now seat.old }
-    ensures { IsSound hunt.now seat.new }
+    requires { IsSound hunt.now hand.old }
+    ensures { IsSound hunt.now hand.new }
 {
-    if seat.node().is_some() {
+    if hand.seat.node().is_some() {
         return Err(Refusal::Call);
     }
-    match hunt.next(wait, seat) {
+    match hunt.next(wait, &mut hand.seat) {
         Next::Work(node) => Ok(push_region(&node, printed)?),
         Next::Done => Ok(printed.push_str("done\n")?),
     }
@@ -130,14 +165,14 @@ fn push_next<W: Wait>(
 fn give_back<W: Wait>(
     wait: &W,
     hunt: &Hunt,
-    seat: &mut HuntSeat,
+    hand: &mut Hand,
     printed: &mut String,
 ) -> Result<(), Refusal>
-    requires { IsSound hunt.now seat.old }
-    ensures { IsSound hunt.now seat.new }
+    requires { IsSound hunt.now hand.old }
+    ensures { IsSound hunt.now hand.new }
 {
-    let _ = held(seat)?;
-    hunt.give_back(wait, seat);
+    let _ = held(&hand.seat)?;
+    hunt.give_back(wait, &mut hand.seat);
     Ok(printed.push_str("given back\n")?)
 }
 
@@ -147,21 +182,18 @@ fn settle<W: Wait>(
     alloc: Global,
     table: &SeqTable,
     hunt: &Hunt,
-    costs: &Costs,
-    seat: &mut HuntSeat,
-    receipts: &mut Vec<Receipt>,
+    hand: &mut Hand,
     word: &[u8],
     printed: &mut String,
 ) -> Result<(), Refusal>
     requires of_table { hunt.now.question ≡ table.now.question }
-    requires costs { hunt.now.costs ≡ costs.now }
-    requires sound { IsSound hunt.now seat.old }
-    ensures { IsSound hunt.now seat.new }
+    requires sound { IsSound hunt.now hand.old }
+    ensures { IsSound hunt.now hand.new }
 {
-    let node = held(seat)?;
-    let settling = settling_of(alloc, table, hunt, costs, seat, &node, word)?;
-    let receipt = hunt.settle(wait, seat, settling)?;
-    receipts.push(receipt)?;
+    let node = held(&hand.seat)?;
+    let settling = settling_of(alloc, table, hunt, &hand.seat, &node, word)?;
+    let receipt = hunt.settle(wait, &mut hand.seat, settling)?;
+    hand.receipts.push(receipt)?;
     Ok(push_receipt(&receipt, printed)?)
 }
 
@@ -178,42 +210,42 @@ fn other_receipt(gap: &[u8]) -> Result<Receipt, Refusal> {
     })
 }
 
-/// Does what a word names: takes a node, gives it back, settles it, or puts another receipt in the last one's place.
+/// Does what a word names.
 fn push_step<W: Wait>(
     wait: &W,
     alloc: Global,
     table: &SeqTable,
     hunt: &Hunt,
-    costs: &Costs,
-    seat: &mut HuntSeat,
-    receipts: &mut Vec<Receipt>,
+    hand: &mut Hand,
     word: &[u8],
     printed: &mut String,
 ) -> Result<(), Refusal>
     requires of_table { hunt.now.question ≡ table.now.question }
-    requires costs { hunt.now.costs ≡ costs.now }
-    requires sound { IsSound hunt.now seat.old }
-    ensures { IsSound hunt.now seat.new }
+    requires sound { IsSound hunt.now hand.old }
+    ensures { IsSound hunt.now hand.new }
 {
-    if word == b"next".as_slice() {
-        return push_next(wait, hunt, seat, printed);
+    let (name, rest) = split_at_byte(word, b':');
+    let Ok(step) = named(&STEPS, name) else {
+        return settle(wait, alloc, table, hunt, hand, word, printed);
+    };
+    match step {
+        Step::Next => push_next(wait, hunt, hand, printed),
+        Step::GiveBack => give_back(wait, hunt, hand, printed),
+        Step::Drop => {
+            let _ = hand.receipts.pop();
+            Ok(())
+        }
+        Step::Other => {
+            let _ = hand.receipts.pop();
+            Ok(hand.receipts.push(other_receipt(rest)?)?)
+        }
+        Step::Ceiling => Ok(push_ceiling(hunt, hand, printed)?),
+        Step::Lower => lower(alloc, table, hunt, hand, rest),
+        Step::Post => post(alloc, table, hunt, hand, rest, printed),
+        Step::Fill => fill(alloc, table, hunt, hand, rest),
+        Step::Posted => push_posted(alloc, hunt, hand, printed),
+        Step::Look => push_look(alloc, hunt, rest, printed),
     }
-    if word == b"give".as_slice() {
-        return give_back(wait, hunt, seat, printed);
-    }
-    if word == b"drop".as_slice() {
-        let _ = receipts.pop();
-        return Ok(());
-    }
-    let (name, gap) = split_at_byte(word, b':');
-    if name == b"other".as_slice() {
-        let _ = receipts.pop();
-        receipts.push(other_receipt(gap)?)?;
-        return Ok(());
-    }
-    settle(
-        wait, alloc, table, hunt, costs, seat, receipts, word, printed,
-    )
 }
 
 /// The lines of a script: what each word did, or why it did nothing.
@@ -222,21 +254,16 @@ fn push_script<W: Wait>(
     alloc: Global,
     table: &SeqTable,
     hunt: &Hunt,
-    costs: &Costs,
-    seat: &mut HuntSeat,
-    receipts: &mut Vec<Receipt>,
+    hand: &mut Hand,
     script: &[&[u8]],
     printed: &mut String,
 ) -> Result<(), AllocError>
     requires of_table { hunt.now.question ≡ table.now.question }
-    requires costs { hunt.now.costs ≡ costs.now }
-    requires sound { IsSound hunt.now seat.old }
-    ensures { IsSound hunt.now seat.new }
+    requires sound { IsSound hunt.now hand.old }
+    ensures { IsSound hunt.now hand.new }
 {
     for word in script {
-        match push_step(
-            wait, alloc, table, hunt, costs, seat, receipts, word, printed,
-        ) {
+        match push_step(wait, alloc, table, hunt, hand, word, printed) {
             Ok(()) => {}
             Err(refusal) => write!(printed, "refused {refusal}\n")?,
         }
@@ -272,21 +299,20 @@ pub fn push_hunted<W: Wait>(
     let costs = equal_costs(alloc, table)?;
     let tree = SearchTree::new(alloc, table, &costs, 1)?;
     let (hunt, mut seats) = Hunt::new(alloc, tree, 1)?;
-    let Some(mut seat) = seats.pop() else {
+    let Some(seat) = seats.pop() else {
         return Err(Refusal::Call);
     };
-    let mut receipts = Vec::new(alloc);
-    push_script(
-        wait,
-        alloc,
-        table,
-        &hunt,
-        &costs,
-        &mut seat,
-        &mut receipts,
-        script,
-        printed,
-    )?;
+    let mut hand = Hand {
+        seat,
+        receipts: Vec::new(alloc),
+        posted: None,
+    };
+    push_script(wait, alloc, table, &hunt, &mut hand, script, printed)?;
+    let Hand {
+        seat,
+        receipts,
+        posted: _,
+    } = hand;
     match push_closed(alloc, hunt, seat, receipts, printed) {
         Ok(()) => Ok(()),
         Err(refusal) => Ok(write!(printed, "refused {refusal}\n")?),

@@ -14,7 +14,7 @@ fn push_tree(tree: &CoverTree, printed: &mut String) -> Result<(), AllocError> {
     write!(printed, "tree {tree:?}\n")
 }
 
-fn push_run(alloc: Global, labels: &[Label], printed: &mut String) -> Result<(), AllocError> {
+pub fn push_run(alloc: Global, labels: &[Label], printed: &mut String) -> Result<(), AllocError> {
     printed.push_str("run ")?;
     push_bytes(printed, &write_run(alloc, labels)?)?;
     printed.push('\n')

@@ -7,6 +7,7 @@
 #![tactic(auto)]
 
 mod answer;
+mod beside;
 mod calls;
 mod certificates;
 mod fences;
@@ -23,6 +24,7 @@ mod programs;
 mod refusal;
 mod search;
 mod sets;
+mod sharing;
 mod sketches;
 mod solver;
 mod syntax;

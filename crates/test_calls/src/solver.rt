@@ -1,9 +1,6 @@
 //! Calls of `cover_solver`.
-ghost use Rattle.std.specs.Prelude.{IfOk};
-ghost use Rattle.tso_machine.specs.Outcomes.{AreGapsOf};
-
 use crate::calls::SolverCall;
-use crate::fences::gaps_of;
+use crate::fences::{gaps_of, set_in};
 use crate::gates::push_gated;
 use crate::hunts::push_hunted;
 use crate::lacking::push_lacking;
@@ -12,24 +9,13 @@ use crate::machines::labels_from;
 use crate::placing::push_placed;
 use crate::refusal::Refusal;
 use crate::search::push_searched;
+use crate::sharing::push_shared;
 use cover_solver::{ForeignRun, Oracle, SeqTable, Solver, Verdict, sequential};
-use gap_sets::GapSet;
 use litmus_text::{Litmus, NameTable};
 use std::alloc::{AllocError, Global};
 use std::sync::Wait;
 use std::thread::Threads;
 use tso_program::{Program, Shown};
-
-/// The set, if each of its gaps is one of the program's.
-fn set_in(program: &Program, set: GapSet) -> Result<GapSet, Refusal>
-    ensures { IfOk result (AreGapsOf program.now) }
-{
-    if program.all_gaps().holds_all(&set) {
-        Ok(set)
-    } else {
-        Err(Refusal::Gap)
-    }
-}
 
 /// What the solver says of the gaps that words name.
 fn verdict(alloc: Global, table: &SeqTable, words: &[&[u8]]) -> Result<Verdict, Refusal> {
@@ -98,6 +84,7 @@ fn push_of_table<R: Threads + Sync, W: Wait + Sync>(
         SolverCall::Hunt => push_hunted(wait, alloc, table, words, printed),
         SolverCall::Place => push_placed(rt, wait, alloc, table, words, printed),
         SolverCall::Gated(call) => push_gated(rt, wait, alloc, call, table, words, printed),
+        SolverCall::Shared(call) => push_shared(rt, wait, alloc, call, table, words, printed),
         SolverCall::Lacking(call) => push_lacking(rt, wait, alloc, call, table, words, printed),
     }
 }

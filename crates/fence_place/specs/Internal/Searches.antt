@@ -4,6 +4,8 @@ use Rattle.tso_program.specs.Shown.{Question}
 use Rattle.search_core.specs.declared.entry.Entry.{Entry}
 use Rattle.search_core.specs.Entries.{is_held_status}
 use Rattle.search_core.specs.States.{SearchState}
+use Rattle.search_core.specs.declared.finished.Event.{Event}
+use Rattle.search_core.specs.declared.finished.Event.TheVariants as event
 use Rattle.cover_solver.specs.Facts.{Foreign}
 
 -- the runs are of the question
@@ -13,3 +15,9 @@ AreOf q runs = All (λ run. run.question ≡ q) runs
 -- no seat holds a node
 abbrev pub NothingIsHeld : SearchState → Type 0
 NothingIsHeld s = (place : ℕ) (e : Entry) → slice_get s.entries place ≡ Some e → is_held_status e.status ≡ false
+
+-- the run of a split is of the question
+abbrev pub IsOfQuestion : Question → Event → Type 0
+IsOfQuestion q (event.Split run) = run.now.question ≡ q
+IsOfQuestion q event.Cut = Unit {0}
+IsOfQuestion q event.Confirmed = Unit {0}

@@ -12,7 +12,7 @@ use Rattle.cover_solver.proofs.choices_left.push_orders_of.Goals.{then-needs_ord
 pub loop-second-preserved : goal.loop-second-preserved
 loop-second-preserved c =
     let s = c.args.sketch.now in
-    let seen = each_more (AreWritesInOrder s c.args.first) c.args.others.now c.loop-second.second-index (record { thread = 0; access = 0 }) c.loop-second-test.true in
+    let seen = each_more (AreWritesInOrder s c.args.first) c.args.others.now c.loop-second.second-index (record { write = record { thread = 0; access = 0 }; location = 0; value = 0 }) c.loop-second-test.true in
     elim c.if-needs_order.branch [
       | then-needs_order+in_ok-push w ↦ (
           let pushed = ap (λ (v : Vec OpenChoice). v.items) w.left-is ∙ w.in_ok-push.ensures.items in

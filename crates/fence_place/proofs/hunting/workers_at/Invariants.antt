@@ -1,4 +1,4 @@
-use Rattle.std.proofs.Common.{◌≡◌, vec_len}
+use Rattle.std.proofs.Common.{vec_len}
 use Rattle.std.specs.Prelude.{All}
 use Rattle.hunt_board.specs.Seats.{IsFresh}
 use Rattle.fence_place.specs.Internal.Workers.{IsReady}

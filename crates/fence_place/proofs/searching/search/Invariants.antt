@@ -4,8 +4,8 @@ use Rattle.fence_place.specs.Internal.Searches.{AreOf, NothingIsHeld}
 use Rattle.fence_place.proofs.searching.search.Given as goal
 
 -- no seat holds a node between two of them
-abbrev pub invariant-loop-known : goal.invariant-loop-known
-invariant-loop-known g l = record {
+abbrev pub invariant-loop-tree : goal.invariant-loop-tree
+invariant-loop-tree g l = record {
   question : l.tree.question ≡ l.table.question;
   costs : l.tree.costs ≡ l.costs;
   seats : 0 < l.tree.seats;
@@ -13,5 +13,5 @@ invariant-loop-known g l = record {
   unheld : NothingIsHeld l.tree;
 }
 
-abbrev pub decreases-loop-known : goal.decreases-loop-known
-decreases-loop-known g l = work_left l.tree.entries
+abbrev pub decreases-loop-tree : goal.decreases-loop-tree
+decreases-loop-tree g l = work_left l.tree.entries

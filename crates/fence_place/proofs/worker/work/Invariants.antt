@@ -1,4 +1,3 @@
-use Rattle.std.proofs.Common.{◌≡◌, None}
 use Rattle.fence_place.specs.Internal.Workers.{IsReady}
 use Rattle.fence_place.proofs.worker.work.Given as goal
 

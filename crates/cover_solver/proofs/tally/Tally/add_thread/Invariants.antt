@@ -2,14 +2,14 @@ use Rattle.std.proofs.Common.{ℕ, ◌<◌, Contains}
 use Rattle.candidate_executions.specs.declared.event.Event.TheVariants.{Access as At}
 use Rattle.candidate_executions.specs.Candidates.{Writes}
 use Rattle.exec_axioms.specs.ProgramSketches.{access_in}
-use Rattle.cover_solver.specs.declared.tally.TalliedRead.{TalliedRead}
+use Rattle.cover_solver.specs.declared.reads_writes.ReadValue.{ReadValue}
 use Rattle.cover_solver.specs.Tallies.{IsMarked, IsOldOrOf, KeepsBits}
 use Rattle.cover_solver.proofs.tally.Tally.add_thread.Given as goal
 
 -- the thread's first accesses are taken in
 abbrev pub invariant-loop-access : goal.invariant-loop-access
 invariant-loop-access l = record {
-  reads : (r : TalliedRead) → Contains l.self.reads.items r → IsOldOrOf l.sketch l.t l.fn.self r;
+  reads : (r : ReadValue) → Contains l.self.reads.items r → IsOldOrOf l.sketch l.t l.fn.self r;
   kept : KeepsBits l.fn.self.written l.self.written;
   written : (i m v : ℕ) → i < l.access → Writes (access_in l.sketch) (At l.t i) m v → IsMarked l.self.written m v;
 }

@@ -2,7 +2,7 @@ use Rattle.std.proofs.Common.{◌≡◌, ℕ, ◌<◌, true, nat_lt, sym, ◌∙
 use Rattle.std.specs.Cmp.{nat_cmp_total}
 use Rattle.std.specs.FinSet as set
 use Rattle.std.proofs.lemmas.Bool.Decides.{nat_tests}
-use Rattle.test_calls.proofs.solver.set_in.Goals as goal
+use Rattle.test_calls.proofs.fences.set_in.Goals as goal
 
 below : (gap n : ℕ) → nat_lt gap n ≡ true → gap < n
 below gap n e = grind (arith, nat_tests)

@@ -1,0 +1,119 @@
+//! A search made again, once all of its runs are known.
+//!
+//! A hunt learns its runs one by one, so it splits nodes by runs that it would not choose if it knew all of
+//! them. A search that knows them from the beginning mostly has far fewer nodes, and so has the gap tree of
+//! its certificate. It asks whether the answer serves, and nothing else. How many nodes it has no clause says.
+ghost use Rattle.std.specs.Prelude.{◌≡◌, true, IfOk, OnOk, length};
+ghost use Rattle.tso_program.specs.Shown.{Question};
+ghost use Rattle.tso_program.specs.Listings.{gap_count};
+ghost use Rattle.fence_place.specs.Internal.Searches.{AreOf, IsOfQuestion};
+
+use crate::PlaceFault;
+use crate::searching::search;
+use cover_solver::{ForeignRun, Oracle, SeqTable, Served, SolveFault, Verdict};
+use gap_sets::{Costs, GapSet};
+use search_core::{Event, Finished};
+use std::alloc::{AllocError, Global};
+
+/// Of one set it knows that it serves, and it has no run.
+#[derive(Drop)]
+struct Answered<'a> {
+    alloc: Global,
+    served: &'a Served,
+}
+
+impl Oracle for Answered<'_> {
+    ghost question = { λ answered. answered.served.now.question };
+
+    ghost may_lack_runs = { λ answered. true };
+
+    fn ask(&self, set: &GapSet) -> Result<Verdict, SolveFault> {
+        if !self.served.set().same(set) {
+            return Err(SolveFault::NoRun);
+        }
+        Ok(Verdict::Serves(self.served.copy(self.alloc)?))
+    }
+}
+
+/// The search with fewer nodes: the one that is given, or one that knows its runs from the beginning. Where
+/// there is no memory for another, it is the one that is given.
+pub(crate) fn retraced(
+    alloc: Global,
+    table: &SeqTable,
+    costs: &Costs,
+    finished: Finished,
+) -> Finished
+    requires of_question { finished.question ≡ table.now.question }
+    requires of_costs { finished.costs ≡ costs.now }
+    requires one_each { length costs.now ≡ gap_count table.now.question.program.threads }
+    ensures question { result.question ≡ table.now.question }
+    ensures costs { result.costs ≡ costs.now }
+{
+    let Ok(other) = search_by_its_runs(alloc, table, costs, &finished) else {
+        return finished;
+    };
+    if other.nodes() < finished.nodes() {
+        other
+    } else {
+        finished
+    }
+}
+
+/// A search that knows the runs of another one from the beginning, and its answer.
+fn search_by_its_runs(
+    alloc: Global,
+    table: &SeqTable,
+    costs: &Costs,
+    finished: &Finished,
+) -> Result<Finished, PlaceFault>
+    requires of_question { finished.now.question ≡ table.now.question }
+    requires one_each { length costs.now ≡ gap_count table.now.question.program.threads }
+    ensures question { IfOk result (λ other. other.question ≡ table.now.question) }
+    ensures costs { IfOk result (λ other. other.costs ≡ costs.now) }
+{
+    let runs = runs_of(alloc, finished)?;
+    let answered = Answered {
+        alloc,
+        served: finished.served(),
+    };
+    search(alloc, &answered, table, costs, runs)
+}
+
+/// Copies of the runs that split nodes; of those that pass the same gaps, one.
+fn runs_of(alloc: Global, finished: &Finished) -> Result<Vec<ForeignRun>, AllocError>
+    ensures { IfOk result (λ runs. AreOf finished.now.question runs.items) }
+{
+    // For the proof alone: what holds of every search that is done is known where its program is read.
+    let _ = finished.program();
+    let mut runs = Vec::new(alloc);
+    for number in 0..finished.nodes() {
+        if let Some(settled) = finished.settled(number) {
+            add_run(alloc, &mut runs, settled.event)?;
+        }
+    }
+    Ok(runs)
+}
+
+/// Adds a copy of the run of a split, where none of the runs passes the same gaps.
+fn add_run(alloc: Global, runs: &mut Vec<ForeignRun>, event: Event<'_>) -> Result<(), AllocError>
+    ensures { OnOk result ((q : Question) → IsOfQuestion q event.entry → AreOf q runs.old.items → AreOf q runs.new.items) }
+{
+    let Event::Split(run) = event else {
+        return Ok(());
+    };
+    if is_one_like(runs, run) {
+        return Ok(());
+    }
+    runs.push(run.copy(alloc)?)?;
+    Ok(())
+}
+
+/// Whether one of the runs passes the same gaps.
+fn is_one_like(runs: &[ForeignRun], run: &ForeignRun) -> bool {
+    for other in runs {
+        if other.passed().same(&run.passed()) {
+            return true;
+        }
+    }
+    false
+}

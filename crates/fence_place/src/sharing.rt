@@ -1,0 +1,118 @@
+//! What workers share without waiting for one another: a ceiling, and the runs that they were given.
+ghost use Rattle.std.specs.Prelude.{◌≡◌, ◌<◌, IfSome, MatchOption};
+ghost use Rattle.gap_sets.specs.Gaps.{SetOfGaps};
+ghost use Rattle.gap_sets.specs.Order.{total};
+ghost use Rattle.cover_solver.specs.Facts.{IsForeignValue};
+ghost use Rattle.cover_solver.specs.Verdicts.{IsVerdictOf, PassesNoneOf};
+ghost use Rattle.search_core.specs.Ceilings.{IsCeilingOf};
+ghost use Rattle.hunt_board.specs.Seats.{IsOf};
+ghost use Rattle.fence_place.specs.Internal.Sharing.{HasShared};
+
+use crate::gaps::count_open;
+use crate::known::may_split;
+use cover_solver::{ForeignRun, Served, Verdict};
+use gap_sets::{GapSet, Region};
+use hunt_board::{Hunt, HuntSeat, PostFault, ROW_CELLS};
+use search_core::Ceiling;
+use std::alloc::Global;
+use tso_program::MAX_WORKERS;
+
+/// The hunt's ceiling, where the set costs more.
+pub(crate) fn ceiling_below(hunt: &Hunt, seat: &mut HuntSeat, set: &GapSet) -> Option<Ceiling>
+    requires { IsOf hunt.now seat.old }
+    ensures ceiling { IfSome result (IsCeilingOf hunt.now.question hunt.now.costs) }
+    ensures below { IfSome result (λ c. MatchOption c ⊥ (λ bound. bound.cost < total hunt.now.costs set.now)) }
+    ensures shared { HasShared hunt.now seat.old seat.new }
+{
+    let ceiling = hunt.ceiling(seat);
+    match ceiling.cost() {
+        Some(cost) if cost < hunt.costs().total(set) => Some(ceiling),
+        _ => None,
+    }
+}
+
+/// Where a run is posted, and how many nodes it opens.
+#[derive(Clone, Copy, Debug)]
+struct Place {
+    seat: u8,
+    index: usize,
+    opens: usize,
+}
+
+/// A copy of a posted run that splits the node, where there is one, and memory for it.
+pub(crate) fn copy_of_posted(alloc: Global, hunt: &Hunt, node: &Region) -> Option<ForeignRun>
+    ensures of { IfSome result (λ run. run.question ≡ hunt.now.question) }
+    ensures foreign { IfSome result IsForeignValue }
+    ensures passes_none { IfSome result (PassesNoneOf node.now.must) }
+{
+    let place = posted_run(hunt, node)?;
+    let run = hunt.look(place.seat, place.index)?;
+    if !may_split(run, node) {
+        return None;
+    }
+    run.copy(alloc).ok()
+}
+
+/// Of the posted runs that pass no gap which the node's sets must have, one that opens the fewest nodes.
+fn posted_run(hunt: &Hunt, node: &Region) -> Option<Place> {
+    let mut best = None;
+    for seat in 0..MAX_WORKERS {
+        best = better_in_row(hunt, seat, node, best);
+    }
+    best
+}
+
+/// The same, of those in a seat's row and one found before.
+fn better_in_row(hunt: &Hunt, seat: u8, node: &Region, found: Option<Place>) -> Option<Place> {
+    let mut best = found;
+    for index in 0..ROW_CELLS {
+        let Some(run) = hunt.look(seat, index) else {
+            break;
+        };
+        let opens = count_open(run.passed(), node.never);
+        if best.is_none_or(|best| opens < best.opens) && may_split(run, node) {
+            best = Some(Place { seat, index, opens });
+        }
+    }
+    best
+}
+
+/// The others learn what the oracle said. A copy of a run that isn't posted is handed back.
+pub(crate) fn share(
+    alloc: Global,
+    hunt: &Hunt,
+    seat: &mut HuntSeat,
+    verdict: &Verdict,
+) -> Option<ForeignRun>
+    requires of { IsOf hunt.now seat.old }
+    requires verdict { (gaps : SetOfGaps) × IsVerdictOf hunt.now.question gaps verdict.now }
+    ensures of { IfSome result (λ run. run.question ≡ hunt.now.question) }
+    ensures shared { HasShared hunt.now seat.old seat.new }
+{
+    match verdict {
+        Verdict::Foreign(run) => post_copy(alloc, hunt, seat, run),
+        Verdict::Serves(served) => {
+            hunt.lower(seat, served);
+            None
+        }
+    }
+}
+
+/// Posts a copy of the run, where there is memory for it.
+fn post_copy(
+    alloc: Global,
+    hunt: &Hunt,
+    seat: &mut HuntSeat,
+    run: &ForeignRun,
+) -> Option<ForeignRun>
+    requires of { IsOf hunt.now seat.old }
+    requires question { run.now.question ≡ hunt.now.question }
+    ensures of { IfSome result (λ run. run.question ≡ hunt.now.question) }
+    ensures shared { HasShared hunt.now seat.old seat.new }
+{
+    let copy = run.copy(alloc).ok()?;
+    match hunt.post(seat, copy) {
+        Ok(_) => None,
+        Err(PostFault::RowFull(copy) | PostFault::Refused(copy)) => Some(copy),
+    }
+}

@@ -1,0 +1,12 @@
+use Rattle.std.proofs.Common.{vec_len}
+use Rattle.std.specs.Prelude.{All}
+use Rattle.hunt_board.specs.Seats.{SeatView}
+use Rattle.hunt_board.specs.Word.{IsSeatOf, word_with}
+use Rattle.hunt_board.proofs.hunt.join_all.Given as goal
+
+-- all seats are of the word
+abbrev pub invariant-loop-seat : goal.invariant-loop-seat
+invariant-loop-seat l = IsSeatOf (word_with l.word.table.shared.key l.word.table.shared.table_id) l.last.known × All (λ (s : SeatView). IsSeatOf (word_with l.word.table.shared.key l.word.table.shared.table_id) s.known) l.seats.items
+
+abbrev pub decreases-loop-seat : goal.decreases-loop-seat
+decreases-loop-seat l = vec_len l.seats

@@ -1,0 +1,18 @@
+use Rattle.std.proofs.Common.{◌≤◌, ℕ, List, Option, Some, None, IfSome, subst}
+use Rattle.tso_program.specs.Shown.{Question, asked}
+use Rattle.tso_program.specs.Limits.{JumpForward}
+use Rattle.search_core.specs.Ceilings.{IsCeiling, problem}
+use Rattle.search_core.proofs.Bounds.{least_ceiling}
+use Rattle.hunt_board.specs.Word.{goal_of}
+use Rattle.hunt_board.proofs.word.CeilingWord.ceiling.Goals as goal
+
+-- what isn't below the answer's cost is a ceiling
+as_ceiling : (q : Question) (costs : List ℕ) (o : Option ℕ) → JumpForward q.program.threads → IfSome o (λ cost. goal_of (problem q costs) ≤ cost) → IfSome o (IsCeiling q costs)
+as_ceiling q costs None forward above = above
+as_ceiling q costs (Some cost) forward above = (least_ceiling q costs cost forward).1 above
+
+pub at-requires : goal.at-requires
+at-requires c =
+    let q = asked c.args.program.now c.args.shown.now in
+    as_ceiling q c.args.costs.now c.load.result c.threads.ensures.within.shared.forward_jumps
+    (subst (λ p. IfSome c.load.result (λ cost. goal_of p ≤ cost)) c.requires.problem c.load.ensures.goal)

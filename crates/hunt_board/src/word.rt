@@ -1,0 +1,133 @@
+//! The ceiling word: a number beside the lock, which workers read and lower without waiting.
+ghost use Rattle.std.specs.Prelude.{◌≡◌, ◌≤◌, IfOk, IfSome, min};
+ghost use Rattle.gap_sets.specs.Order.{total};
+ghost use Rattle.tso_program.specs.Shown.{asked};
+ghost use Rattle.search_core.specs.Ceilings.{IsCeilingOf, problem};
+ghost use Rattle.hunt_board.specs.Word.{IsSeatOf, goal_of, no_ceiling, number_in, number_of, with_least, word_with};
+
+use crate::rule::{View, WordRule};
+use crate::steps;
+use crate::steps::TableSeat;
+use atomic_table::Table;
+use cover_solver::Served;
+use gap_sets::Costs;
+use search_core::{Ceiling, Subject};
+use std::alloc::{AllocError, Global};
+use std::marker::Model;
+use tso_program::{Program, Shown};
+
+/// The word: none, or a cost that some serving set doesn't pass. No call but `new` takes memory, and none waits.
+#[derive(Drop)]
+pub struct CeilingWord {
+    table: Table<u8, View, Subject, WordRule, Global>,
+}
+
+/// What one worker has of the word. It takes no bytes.
+#[derive(Drop)]
+pub struct WordSeat {
+    seat: TableSeat,
+}
+
+impl Model for WordSeat {
+    ghost use Rattle.std.specs.Prelude.{◌≡◌};
+    ghost use Rattle.hunt_board.specs.Word.{Known, IsLive};
+
+    ghost Value = { Known };
+
+    ghost view = { λ s. record { table = s.seat.table_id; goal = s.seat.me.0.goal; least = s.seat.me.0.least } };
+
+    ghost invariant = { λ s. IsLive s.seat.me.0.goal s.seat.me × (s.seat.table_id.words ≡ 1) };
+}
+
+impl CeilingWord {
+    /// A word that holds no ceiling yet, with its first seat.
+    pub fn new(
+        alloc: Global,
+        program: &Program,
+        shown: &Shown,
+        costs: &Costs,
+    ) -> Result<(CeilingWord, WordSeat), AllocError>
+        ensures word { IfOk result (λ r. r.0.table.shared.key ≡ problem (asked program.now shown.now) costs.now) }
+        ensures seat { IfOk result (λ r. IsSeatOf (word_with r.0.table.shared.key r.0.table.shared.table_id) r.1 × (r.1.least ≡ no_ceiling)) }
+    {
+        let subject = Subject::of(program, shown, costs);
+        let (table, seat) = Table::of_words(alloc, &[u64::MAX], &subject)?;
+        Ok((CeilingWord { table }, WordSeat { seat }))
+    }
+
+    /// A second seat, which knows as much.
+    pub fn split(&self, seat: &mut WordSeat) -> WordSeat
+        requires { IsSeatOf (word_with self.now.table.shared.key self.now.table.shared.table_id) seat.old }
+        ensures same { seat.new ≡ seat.old }
+        ensures made { result ≡ seat.old }
+    {
+        WordSeat {
+            seat: steps::split(&self.table.shared, &mut seat.seat),
+        }
+    }
+
+    /// Takes another seat in, which is spent.
+    pub fn join(&self, seat: &mut WordSeat, other: WordSeat)
+        requires seat { IsSeatOf (word_with self.now.table.shared.key self.now.table.shared.table_id) seat.old }
+        requires other { IsSeatOf (word_with self.now.table.shared.key self.now.table.shared.table_id) other }
+        ensures { seat.new ≡ with_least seat.old (min seat.old.least other.least) }
+    {
+        steps::join(&self.table.shared, &mut seat.seat, other.seat);
+    }
+
+    /// What the word holds: none, or a cost that isn't below the answer's.
+    fn load(&self, seat: &mut WordSeat) -> Option<u64>
+        requires { IsSeatOf (word_with self.now.table.shared.key self.now.table.shared.table_id) seat.old }
+        ensures least { number_of result ≤ seat.old.least }
+        ensures goal { IfSome result (λ cost. goal_of self.now.table.shared.key ≤ cost) }
+        ensures seat { seat.new ≡ with_least seat.old (number_of result) }
+    {
+        let found = steps::load(&self.table.shared, &mut seat.seat);
+        if found == u64::MAX { None } else { Some(found) }
+    }
+
+    /// Lowers the word, where it is higher.
+    fn lower_to(&self, seat: &mut WordSeat, to: u64)
+        requires seat { IsSeatOf (word_with self.now.table.shared.key self.now.table.shared.table_id) seat.old }
+        requires goal { goal_of self.now.table.shared.key ≤ to }
+        ensures lowered { seat.new.least ≤ to }
+        ensures least { seat.new.least ≤ seat.old.least }
+        ensures seat { seat.new ≡ with_least seat.old seat.new.least }
+    {
+        steps::lower(&self.table.shared, &mut seat.seat, to);
+    }
+
+    /// What the word holds, as a ceiling of the program, what is shown and the costs.
+    pub fn ceiling(
+        &self,
+        seat: &mut WordSeat,
+        program: &Program,
+        shown: &Shown,
+        costs: &Costs,
+    ) -> Ceiling
+        requires seat { IsSeatOf (word_with self.now.table.shared.key self.now.table.shared.table_id) seat.old }
+        requires problem { self.now.table.shared.key ≡ problem (asked program.now shown.now) costs.now }
+        ensures of { IsCeilingOf (asked program.now shown.now) costs.now result }
+        ensures least { number_in result ≤ seat.old.least }
+        ensures seat { seat.new ≡ with_least seat.old (number_in result) }
+    {
+        // For the proof alone: that jumps lead forward is known where the threads are read.
+        let _ = program.threads();
+        Ceiling::at(program, shown, costs, self.load(seat))
+    }
+
+    /// Lowers the word to what a serving set costs, where it is higher.
+    pub fn lower(&self, seat: &mut WordSeat, served: &Served, costs: &Costs)
+        requires seat { IsSeatOf (word_with self.now.table.shared.key self.now.table.shared.table_id) seat.old }
+        requires problem { self.now.table.shared.key ≡ problem served.now.question costs.now }
+        ensures lowered { seat.new.least ≤ total costs.now served.now.gaps }
+        ensures least { seat.new.least ≤ seat.old.least }
+        ensures seat { seat.new ≡ with_least seat.old seat.new.least }
+    {
+        // For the proof alone: that the set serves, and that jumps lead forward, is known where these are read.
+        let program = served.program();
+        let _ = program.threads();
+        let to = costs.total(&served.set());
+        self.lower_to(seat, to);
+    }
+}
