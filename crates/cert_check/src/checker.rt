@@ -80,8 +80,8 @@ pub fn check(
 }
 
 /// A valid certificate for a program and the costs of its gaps proves the headline, which states the
-/// answer. Calling it does nothing.
-fn certificate_proves_answer(program: &Program, shown: &Shown, costs: &Costs)
+/// answer. Calling it does nothing: its contract is for who makes a certificate that is proved to be valid.
+pub fn certificate_proves_answer(program: &Program, shown: &Shown, costs: &Costs)
     ensures valid { (c : specs.Certificate) → IsValidCertificate (asked program.now shown.now) costs.now c → IsProved (asked program.now shown.now) costs.now c }
     ensures told { (gaps : SetOfGaps) (cost : ℕ) → Headline (asked program.now shown.now) costs.now gaps → cost ≡ total costs.now gaps
         → (gaps ≡ the_answer (asked program.now shown.now) costs.now) × (cost ≡ least_cost (asked program.now shown.now) costs.now) }

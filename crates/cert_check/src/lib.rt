@@ -9,7 +9,7 @@ mod gap;
 mod laws;
 mod runs;
 
-pub use checker::{Accepted, check};
+pub use checker::{Accepted, certificate_proves_answer, check};
 pub use cover_judge::Path;
 pub use fault::CheckFault;
 pub use laws::{the_first_fault_is_unique, valid_certificates_have_no_fault};
