@@ -15,6 +15,7 @@ use crate::shown::{MAX_REGISTERS, THREAD_REGISTERS};
 use crate::tree::{AccessId, CoverTree, GapTree};
 use candidate_executions::Kind;
 use gap_sets::GapSet;
+use itoa::Buffer;
 use std::alloc::{AllocError, Global};
 use tso_machine::Label;
 use tso_program::{Names, Shown};
@@ -22,9 +23,9 @@ use tso_program::{Names, Shown};
 fn push_access(out: &mut String, event: AccessId) -> Result<(), AllocError>
     ensures { OnOk result (string_bytes out.new ≡ string_bytes out.old ++ spaced (access_word event)) }
 {
-    let thread = event.thread;
-    let access = event.access;
-    write!(out, " {thread}.{access}")
+    push_number(out, u64::from(event.thread))?;
+    out.push('.')?;
+    push_digits(out, u64::from(event.access))
 }
 
 fn push_accesses(out: &mut String, events: &[AccessId]) -> Result<(), AllocError>
@@ -36,16 +37,25 @@ fn push_accesses(out: &mut String, events: &[AccessId]) -> Result<(), AllocError
     Ok(())
 }
 
+fn push_digits(out: &mut String, number: u64) -> Result<(), AllocError>
+    ensures { OnOk result (string_bytes out.new ≡ string_bytes out.old ++ decimal number) }
+{
+    let mut digits = Buffer::new();
+    out.push_str(digits.format(number))
+}
+
+/// A space, and a number.
 fn push_number(out: &mut String, number: u64) -> Result<(), AllocError>
     ensures { OnOk result (string_bytes out.new ≡ string_bytes out.old ++ spaced (decimal number)) }
 {
-    write!(out, " {number}")
+    out.push(' ')?;
+    push_digits(out, number)
 }
 
 fn push_len(out: &mut String, number: usize) -> Result<(), AllocError>
     ensures { OnOk result (string_bytes out.new ≡ string_bytes out.old ++ spaced (decimal number)) }
 {
-    write!(out, " {number}")
+    push_number(out, number as u64)
 }
 
 /// A space, and a word.
