@@ -20,13 +20,13 @@ order_precedes union.Sequential d x e y h = h
 order_precedes union.Location d x e y h = h.0
 order_precedes union.Global d x e y h = h.0
 
-precedes_then : (d e f : Event) → Precedes d e → Precedes e f → Precedes d f
+pub precedes_then : (d e f : Event) → Precedes d e → Precedes e f → Precedes d f
 precedes_then (Initial l) e f h k = absurd h
 precedes_then (At t i) (Initial l) f h k = absurd h
 precedes_then (At t i) (At u j) (Initial l) h k = absurd k
 precedes_then (At t i) (At u j) (At v n) h k = (h.0 ∙ k.0, (let a = h.1 in let b = k.1 in omega arith))
 
-not_itself : (e : Event) → Precedes e e → ⊥
+pub not_itself : (e : Event) → Precedes e e → ⊥
 not_itself (Initial l) h = h
 not_itself (At t i) h = let n = h.1 in omega arith
 

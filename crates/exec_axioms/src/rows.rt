@@ -14,7 +14,7 @@ use crate::edges::keeps_order;
 use crate::events::{is_one_thread, is_same, precedes};
 use crate::thread_trace::ThreadTrace;
 use crate::traces::{Traces, access_at};
-use bit_rows::{Relation, has, joined, minus, with};
+use bit_rows::{ROW_BITS, Relation, has, joined, minus, with};
 use candidate_executions::{Access, Event, Kind};
 use std::alloc::{AllocError, Global};
 
@@ -97,20 +97,18 @@ fn is_in_order(
     }
 }
 
-/// The program order of the union.
+/// The program order of the union, which joins its steps.
 pub(crate) fn order_rows(kind: Kind, thread_traces: &[ThreadTrace], events: &[Event]) -> Relation
     requires few { length events.now ≤ ROW_BITS }
     requires ordered { AllPairs ComesBefore events.now }
+    requires joins { (d e f : Event) → InOrder thread_traces.now kind d e → InOrder thread_traces.now kind e f → InOrder thread_traces.now kind d f }
     ensures { AreRowsOf events.now (InOrder thread_traces.now kind) result }
 {
-    let mut rows = Relation::empty();
+    let mut rows = [0; ROW_BITS];
     for (d, from) in events.iter().enumerate() {
-        rows.connect(
-            with(0, d as u8),
-            later_in_order(kind, thread_traces, events, d, *from),
-        );
+        rows[d] = later_in_order(kind, thread_traces, events, d, *from);
     }
-    rows
+    Relation::of_order(rows)
 }
 
 /// The accesses that write a location, but for one event.
