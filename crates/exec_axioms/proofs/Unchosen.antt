@@ -26,7 +26,7 @@ precedes_then (At t i) (Initial l) f h k = absurd h
 precedes_then (At t i) (At u j) (Initial l) h k = absurd k
 precedes_then (At t i) (At u j) (At v n) h k = (h.0 ∙ k.0, (let a = h.1 in let b = k.1 in omega arith))
 
-pub not_itself : (e : Event) → Precedes e e → ⊥
+not_itself : (e : Event) → Precedes e e → ⊥
 not_itself (Initial l) h = h
 not_itself (At t i) h = let n = h.1 in omega arith
 
