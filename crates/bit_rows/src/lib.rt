@@ -9,4 +9,4 @@ mod relation;
 mod row;
 
 pub use relation::{Relation, put_rows};
-pub use row::{ROW_BITS, has, has_any, joined, meets, minus, with};
+pub use row::{ROW_BITS, common, has, has_any, joined, lowest, meets, minus, with, without};

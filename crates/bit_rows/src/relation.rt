@@ -1,9 +1,9 @@
 //! Relations, and what they lead to.
 ghost use Rattle.std.specs.Prelude.{◌≡◌, ◌↔◌, ◌⊎◌, ◌<◌, ◌≤◌, ℕ, List, IsTrue, MatchOption, length};
-ghost use Rattle.bit_rows.specs.Rows.{IsIn, Relates, Reaches, LeadsInto, Meets, AreConnected, HasRound};
+ghost use Rattle.bit_rows.specs.Rows.{IsIn, Relates, Reaches, LeadsInto, Meets, AreConnected, HasRound, IsTransitive};
 ghost use Rattle.bit_rows.specs.declared.row.TheConstants.{ROW_BITS};
 
-use crate::row::{ROW_BITS, has, has_any, joined, meets, with};
+use crate::row::{ROW_BITS, common, has, has_any, joined, lowest, meets, with, without};
 use std::marker::Model;
 
 /// A relation between the numbers below 32. No call of it takes memory.
@@ -34,6 +34,19 @@ impl Relation {
         Relation {
             next: [0; ROW_BITS],
             reach: [0; ROW_BITS],
+            round: false,
+        }
+    }
+
+    /// The order with these rows: what a number leads to is what it is related to.
+    pub fn of_order(rows: [u32; ROW_BITS]) -> Relation
+        requires transitive { IsTransitive rows }
+        requires irreflexive { (d : ℕ) → Relates rows d d → ⊥ }
+        ensures { result ≡ rows }
+    {
+        Relation {
+            next: rows,
+            reach: rows,
             round: false,
         }
     }
@@ -120,9 +133,8 @@ impl Relation {
     {
         let mut found = 0;
         for d in 0..ROW_BITS as u8 {
-            if has(self.reach[d as usize], d) {
-                found = with(found, d);
-            }
+            let itself = common(self.reach[d as usize], with(0, d));
+            found = joined(found, itself);
         }
         found
     }
@@ -134,10 +146,10 @@ fn reached(reach: &[u32], row: u32) -> u32
     ensures { (e : ℕ) → IsIn result e ↔ (IsIn row e ⊎ LeadsInto reach.now row e) }
 {
     let mut all = row;
-    for d in 0..ROW_BITS as u8 {
-        if has(row, d) {
-            all = joined(all, reach[d as usize]);
-        }
+    let mut left = row;
+    while let Some(d) = lowest(left) {
+        all = joined(all, reach[d as usize]);
+        left = without(left, d);
     }
     all
 }
@@ -147,10 +159,10 @@ pub fn put_rows(next: &mut [u32], from: u32, to: u32)
     requires { length next.old ≡ ROW_BITS }
     ensures { AreConnected next.old from to next.new }
 {
-    for d in 0..ROW_BITS as u8 {
-        if has(from, d) {
-            next[d as usize] = joined(next[d as usize], to);
-        }
+    let mut left = from;
+    while let Some(d) = lowest(left) {
+        next[d as usize] = joined(next[d as usize], to);
+        left = without(left, d);
     }
 }
 
@@ -163,10 +175,16 @@ fn put_reach(reach: &mut [u32], from: u32, beyond: u32)
 {
     for d in 0..ROW_BITS as u8 {
         let row = reach[d as usize];
-        if has(from, d) || meets(row, from) {
-            reach[d as usize] = joined(row, beyond);
-        }
+        let more = row_if(meets(with(row, d), from), beyond);
+        reach[d as usize] = joined(row, more);
     }
+}
+
+/// The row where the test holds, and else one without numbers.
+fn row_if(test: bool, row: u32) -> u32
+    ensures { (k : ℕ) → IsIn result k ↔ (IsTrue test × IsIn row k) }
+{
+    if test { row } else { 0 }
 }
 
 /// Whether one of the two holds.

@@ -1,5 +1,5 @@
 //! Numbers below 32 as the bits of a word.
-ghost use Rattle.std.specs.Prelude.{◌≡◌, ◌↔◌, ◌⊎◌, ◌<◌, ℕ, IsTrue};
+ghost use Rattle.std.specs.Prelude.{◌≡◌, ◌≢◌, ◌↔◌, ◌⊎◌, ◌<◌, ℕ, IsTrue, MatchOption};
 ghost use Rattle.bit_rows.specs.Rows.{IsIn};
 ghost use Rattle.bit_rows.specs.declared.row.TheConstants.{ROW_BITS};
 
@@ -29,11 +29,37 @@ pub fn with(row: u32, number: u8) -> u32
     row | 1 << number
 }
 
-/// The numbers of both rows.
+/// The row without this number.
+pub fn without(row: u32, number: u8) -> u32
+    requires { number < ROW_BITS }
+    ensures numbers { (k : ℕ) → IsIn result k ↔ (IsIn row k × (k ≢ number)) }
+    ensures less { IsIn row number → result < row }
+{
+    row & !(1 << number)
+}
+
+/// The lowest number of the row.
+pub fn lowest(row: u32) -> Option<u8>
+    ensures { MatchOption result ((k : ℕ) → IsIn row k → ⊥) (λ d. (d < ROW_BITS) × IsIn row d) }
+{
+    if row == 0 {
+        return None;
+    }
+    Some(row.trailing_zeros() as u8)
+}
+
+/// The numbers of either row.
 pub fn joined(a: u32, b: u32) -> u32
     ensures { (k : ℕ) → IsIn result k ↔ (IsIn a k ⊎ IsIn b k) }
 {
     a | b
+}
+
+/// The numbers that are in both rows.
+pub fn common(a: u32, b: u32) -> u32
+    ensures { (k : ℕ) → IsIn result k ↔ (IsIn a k × IsIn b k) }
+{
+    a & b
 }
 
 /// The numbers of the first row that are not in the second.

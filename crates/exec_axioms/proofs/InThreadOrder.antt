@@ -3,7 +3,7 @@ use Rattle.std.proofs.Common.{◌≡◌, ◌↔◌, ℕ, ◌+◌, ◌<◌, ◌�
 use Rattle.std.specs.List.{AllPairs}
 use Rattle.std.proofs.lemmas.Bool.{cases_lt}
 use Rattle.std.proofs.lemmas.Option.{slice_get_within, get_or_from_slice_get, same_Some}
-use Rattle.bit_rows.specs.Rows.{IsIn}
+use Rattle.bit_rows.specs.Rows.{IsIn, Relates}
 use Rattle.bit_rows.proofs.Bits.{none_in_zero}
 use Rattle.candidate_executions.specs.declared.access.Access.{Access}
 use Rattle.candidate_executions.specs.declared.event.Event.{Event}
@@ -12,7 +12,7 @@ use Rattle.candidate_executions.specs.declared.event.Kind.{Kind}
 use Rattle.candidate_executions.specs.Consistency.{Precedes}
 use Rattle.candidate_executions.specs.Events.{ComesBefore}
 use Rattle.exec_axioms.specs.declared.thread_trace.ThreadTrace.{ThreadTrace}
-use Rattle.exec_axioms.specs.Rows.{access_of, InOrder, IsRowOf}
+use Rattle.exec_axioms.specs.Rows.{access_of, InOrder, IsRowOf, AreRowsOf}
 use Rattle.exec_axioms.proofs.Connected.{order_precedes}
 use Rattle.exec_axioms.proofs.Masks.{IsRowBelow}
 
@@ -88,3 +88,9 @@ none_follows thread_traces kind events from none d = (
   λ h. absurd (none_in_zero d h),
   λ (y, at, (x, z, of_x, of_z, o)). (let no : None ≡ Some x = sym none ∙ of_x in absurd cc),
 )
+
+-- no access comes after itself
+pub order_never_round : (thread_traces : List ThreadTrace) (kind : Kind) (events : List Event) (rows : List ℕ) → AreRowsOf events (InOrder thread_traces kind) rows → (d : ℕ) → Relates rows d d → ⊥
+order_never_round thread_traces kind events rows are d h =
+    let (x, y, at_x, at_y, (a, b, of_x, of_y, o)) = (are d d).0 h in
+    not_itself x (subst (Precedes x) (same_Some y x (sym at_y ∙ at_x)) (order_precedes kind x a y b o))

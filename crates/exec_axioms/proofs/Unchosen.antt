@@ -20,7 +20,7 @@ order_precedes union.Sequential d x e y h = h
 order_precedes union.Location d x e y h = h.0
 order_precedes union.Global d x e y h = h.0
 
-precedes_then : (d e f : Event) → Precedes d e → Precedes e f → Precedes d f
+pub precedes_then : (d e f : Event) → Precedes d e → Precedes e f → Precedes d f
 precedes_then (Initial l) e f h k = absurd h
 precedes_then (At t i) (Initial l) f h k = absurd h
 precedes_then (At t i) (At u j) (Initial l) h k = absurd k

@@ -83,10 +83,6 @@ abbrev pub main_kind : Mode → Kind
 main_kind Sequential = union.Sequential
 main_kind (Fenced gaps) = union.Location
 
--- an event of the row
-abbrev pub IsEventIn : List Event → ℕ → Event → Type 0
-IsEventIn events row e = (d : ℕ) × (slice_get events d ≡ Some e) × IsIn row d
-
 -- the rows of a union
 abbrev pub rows_of : Kind → List ℕ → List ℕ → List ℕ
 rows_of union.Sequential main global = main

@@ -3,6 +3,7 @@ ghost use Rattle.std.specs.Prelude.{◌≡◌, ◌≤◌, IfOk, length};
 ghost use Rattle.std.specs.Arc.{arc_value};
 ghost use Rattle.std.specs.List.{AllPairs};
 ghost use Rattle.bit_rows.specs.declared.row.TheConstants.{ROW_BITS};
+ghost use Rattle.candidate_executions.specs.declared.event.Event.{Event};
 ghost use Rattle.candidate_executions.specs.declared.event.Kind.TheVariants as union;
 ghost use Rattle.candidate_executions.specs.Events.{ComesBefore};
 ghost use Rattle.tso_machine.specs.declared.mode.Mode.TheVariants.{Sequential};
@@ -71,6 +72,7 @@ fn main_union(mode: Mode) -> Kind
 fn global_rows(mode: Mode, thread_traces: &[ThreadTrace], events: &[Event]) -> Relation
     requires few { length events.now ≤ ROW_BITS }
     requires ordered { AllPairs ComesBefore events.now }
+    requires joins { (d e f : Event) → InOrder thread_traces.now union.Global d e → InOrder thread_traces.now union.Global e f → InOrder thread_traces.now union.Global d f }
     ensures { AreRowsOf events.now (λ d e. (mode ≡ Sequential → ⊥) × InOrder thread_traces.now union.Global d e) result }
 {
     match mode {

@@ -1,11 +1,11 @@
 //! Rows of accesses by their numbers, their places among all accesses.
-ghost use Rattle.std.specs.Prelude.{◌≡◌, ◌≤◌, ◌<◌, ◌↔◌, IsTrue, ℕ, Some, IfOk, MatchOption, Contains, length, slice_get};
+ghost use Rattle.std.specs.Prelude.{◌≡◌, ◌≤◌, ◌<◌, ◌↔◌, IsTrue, ℕ, Some, MatchOption, Contains, length, slice_get};
 ghost use Rattle.std.specs.List.{AllPairs};
 ghost use Rattle.candidate_executions.specs.declared.event.Event.{Event};
 ghost use Rattle.candidate_executions.specs.Events.{ComesBefore};
 ghost use Rattle.bit_rows.specs.Rows.{IsIn};
 ghost use Rattle.bit_rows.specs.declared.row.TheConstants.{ROW_BITS};
-ghost use Rattle.exec_axioms.specs.Rows.{access_of, IsRowOf, AreRowsOf, InOrder, WritesBut, ReadsBut, IsAlike, IsAfterBut, IsEventIn};
+ghost use Rattle.exec_axioms.specs.Rows.{access_of, IsRowOf, AreRowsOf, InOrder, WritesBut, ReadsBut, IsAlike, IsAfterBut};
 ghost use Rattle.tso_machine.specs.declared.mode.Mode.TheVariants.{Sequential};
 ghost use Rattle.candidate_executions.specs.Consistency.{SameThread};
 
@@ -14,9 +14,8 @@ use crate::edges::keeps_order;
 use crate::events::{is_one_thread, is_same, precedes};
 use crate::thread_trace::ThreadTrace;
 use crate::traces::{Traces, access_at};
-use bit_rows::{Relation, has, joined, minus, with};
+use bit_rows::{ROW_BITS, Relation, joined, minus, with};
 use candidate_executions::{Access, Event, Kind};
-use std::alloc::{AllocError, Global};
 
 /// The row of one event.
 pub(crate) fn row_of(events: &[Event], event: Event) -> u32
@@ -97,20 +96,18 @@ fn is_in_order(
     }
 }
 
-/// The program order of the union.
+/// The program order of the union, which joins its steps.
 pub(crate) fn order_rows(kind: Kind, thread_traces: &[ThreadTrace], events: &[Event]) -> Relation
     requires few { length events.now ≤ ROW_BITS }
     requires ordered { AllPairs ComesBefore events.now }
+    requires joins { (d e f : Event) → InOrder thread_traces.now kind d e → InOrder thread_traces.now kind e f → InOrder thread_traces.now kind d f }
     ensures { AreRowsOf events.now (InOrder thread_traces.now kind) result }
 {
-    let mut rows = Relation::empty();
+    let mut rows = [0; ROW_BITS];
     for (d, from) in events.iter().enumerate() {
-        rows.connect(
-            with(0, d as u8),
-            later_in_order(kind, thread_traces, events, d, *from),
-        );
+        rows[d] = later_in_order(kind, thread_traces, events, d, *from);
     }
-    rows
+    Relation::of_order(rows)
 }
 
 /// The accesses that write a location, but for one event.
@@ -193,20 +190,6 @@ pub(crate) fn overwriting(traces: &Traces, later: &[u32], source: Event, read: E
         ),
         Event::Access(_, _) => writes_after(events, later, source, read),
     }
-}
-
-/// The events of a row.
-pub(crate) fn events_in(alloc: Global, events: &[Event], row: u32) -> Result<Vec<Event>, AllocError>
-    requires { length events.now ≤ ROW_BITS }
-    ensures { IfOk result (λ nodes. (e : Event) → Contains nodes.items e ↔ IsEventIn events.now row e) }
-{
-    let mut nodes = Vec::new(alloc);
-    for (d, event) in events.iter().enumerate() {
-        if has(row, d as u8) {
-            nodes.push(*event)?;
-        }
-    }
-    Ok(nodes)
 }
 
 /// The first place of an event.

@@ -1,18 +1,10 @@
-use Rattle.std.proofs.Common.{◌∙◌, sym, ap, subst}
+use Rattle.std.proofs.Common.{◌∙◌, sym, ap}
 use Rattle.std.proofs.lemmas.Option.{MatchOption-at_none}
 use Rattle.std.proofs.lemmas.Result.{IfOk-weaker}
-use Rattle.exec_axioms.specs.ProgramSketches.{ProgramSketch, mode_in}
-use Rattle.exec_axioms.specs.Kept.{IsLawful}
-use Rattle.exec_axioms.proofs.KnownParts.{not_by}
-use Rattle.exec_axioms.proofs.Unchosen.{no_cycle_yet}
+use Rattle.exec_axioms.specs.ProgramSketches.{ProgramSketch}
 use Rattle.exec_axioms.proofs.Lookups.{none_by}
 use Rattle.exec_axioms.proofs.Found.{none_sequential, none_fenced}
 use Rattle.exec_axioms.proofs.sketch.Sketch.first_cycle.Goals as goal
-use Rattle.candidate_executions.specs.Sketches.{IsWhole}
-
-pub returns-then-not-is_whole-clause-cycle : goal.returns-then-not-is_whole-clause-cycle
-returns-then-not-is_whole-clause-cycle c = no_cycle_yet c.args.self.now (subst (λ (s : ProgramSketch). IsLawful s) c.self.view_is c.self.invariant.kept.lawful)
-    (not_by _ (IsWhole c.args.self.now.program (mode_in c.args.self.now) c.args.self.now.chosen) c.is_whole.ensures c.if-not-is_whole.true)
 
 pub returns-in-Sequential-clause-cycle : goal.returns-in-Sequential-clause-cycle
 returns-in-Sequential-clause-cycle c =
