@@ -38,13 +38,6 @@ own_apart : (s : ProgramSketch) (e : Event) (l : ℕ) → IsOwn s e → e ≡ In
 own_apart s (Initial m) l own q = own
 own_apart s (At t i) l own q = cc
 
--- an access after which no pair puts a write may be the last write
-pub last_access : (s : ProgramSketch) (e : Event) (x : Access) (v : ℕ) → (IsInitialWrite e → ⊥) → (HasLater s e → ⊥) → access_in s e ≡ Some x → x.written ≡ Some v → IsLastWith s x.location v e
-last_access s e x v access last at written = (
-  (x, at, refl, written),
-  record { no_later = λ d h. last (d, h); only_initial = λ q d w z. absurd (access (subst IsInitialWrite (sym q) tt)) },
-)
-
 -- what is shown of a value that is shown
 twice : (b : Bool) (v : ℕ) → value_if b (value_if b v) ≡ value_if b v
 twice true v = refl
@@ -65,6 +58,7 @@ module _ (s : ProgramSketch) (shown : Shown) (l : ℕ) where
         | inl h ↦ (e, h, last)
         | inr q ↦ absurd (other v (subst (IsLastWith s l v) (sym q) last))
       ]
+
       by : (o : Option ℕ) → IsLastValue s shown (Contains es) l o → IsLastValue s shown (Contains (es ++ x ∷ [])) l o
       by None none = λ v may. none v (old v may)
       by (Some u) ((w, (e, has, last)), each) = ((w, (e, Contains-append_left es (x ∷ []) e has, last)), λ v may. each v (old v may))
@@ -72,10 +66,13 @@ module _ (s : ProgramSketch) (shown : Shown) (l : ℕ) where
   -- with one more
   last_more : (es : List Event) (x : Event) (v : ℕ) → IsLastWith s l v x → (o : Option ℕ) → IfSome o (λ before. before ≡ shown_value shown l v) → IsLastValue s shown (Contains es) l o →
       IsLastValue s shown (Contains (es ++ x ∷ [])) l (Some (shown_value shown l v))
-  last_more es x v is o alike before = ((v, (x, Contains-push es x, is)), λ w (e, has, last). elim (Contains-push_cases es x e has) [
+  last_more es x v is o alike before = (
+    (v, (x, Contains-push es x, is)),
+    λ w (e, has, last). elim (Contains-push_cases es x e has) [
       | inl h ↦ old o alike before w (e, h, last)
       | inr q ↦ ap (shown_value shown l) (same_value s x l l w v (subst (IsLastWith s l w) (sym q) last).0 is.0)
-    ])
+    ],
+  )
     where
       old : (o : Option ℕ) → IfSome o (λ before. before ≡ shown_value shown l v) → IsLastValue s shown (Contains es) l o → (w : ℕ) → MayEndBy s (Contains es) l w → shown_value shown l w ≡ shown_value shown l v
       old None alike none w may = absurd (none w may)
@@ -165,13 +162,6 @@ module _ (s : ProgramSketch) (shown : Shown) (l : ℕ) where
 -- ---- the values that are kept for all locations
 
 module _ (s : ProgramSketch) (shown : Shown) where
-  -- there is none yet
-  pub values_none : length s.program.memory ≤ MAX_LOCATIONS → AreLastValues s shown (Contains []) (replicate MAX_LOCATIONS None)
-  values_none few = record {
-    long = refl;
-    each = λ l h. subst (IsLastValue s shown (Contains []) l) (sym (get_or-replicate MAX_LOCATIONS l None None (omega arith))) (λ v (e, has, last). none_here e has);
-  }
-
   pub values_same : (es : List Event) (x : Event) (values : List (Option ℕ)) → ((l v : ℕ) → l < length s.program.memory → IsLastWith s l v x → ⊥) →
       AreLastValues s shown (Contains es) values → AreLastValues s shown (Contains (es ++ x ∷ [])) values
   values_same es x values other before = record { long = before.long; each = λ l h. last_same s shown l es x (λ v. other l v h) (slice_index_or values l None) (before.each l h) }
