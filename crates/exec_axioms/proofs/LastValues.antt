@@ -1,8 +1,8 @@
 -- What is shown of the writes that may be the last of a location.
-use Rattle.std.proofs.Common.{◌≡◌, ◌↔◌, ◌⊎◌, ℕ, ◌<◌, ◌≤◌, Bool, true, false, IsTrue, List, [], ◌∷◌, ◌++◌, Option, Some, None, Contains, get_or, length, refl, sym, ap, ◌∙◌, subst, inl, inr, arith}
-use Rattle.std.specs.Prelude.{slice_index, slice_index_or, slice_set, replicate, IfSome}
+use Rattle.std.proofs.Common.{◌≡◌, ◌↔◌, ◌⊎◌, ℕ, ◌<◌, Bool, true, false, IsTrue, List, [], ◌∷◌, ◌++◌, Option, Some, None, Contains, length, refl, sym, ap, ◌∙◌, subst, inl, inr, arith}
+use Rattle.std.specs.Prelude.{slice_index, slice_index_or, slice_set, IfSome}
 use Rattle.std.proofs.lemmas.Bool.{cases_eq}
-use Rattle.std.proofs.lemmas.List.{get_or-set_same, get_or-set_other, get_or-replicate, length-set}
+use Rattle.std.proofs.lemmas.List.{get_or-set_same, get_or-set_other, length-set}
 use Rattle.std.proofs.lemmas.List.Elements.{Contains-push, Contains-push_cases, Contains-append_left}
 use Rattle.std.proofs.lemmas.Option.{same_Some, slice_get_within}
 use Rattle.tso_program.specs.declared.limits.TheConstants.{MAX_LOCATIONS}
@@ -12,12 +12,10 @@ use Rattle.candidate_executions.specs.declared.access.Access.{Access}
 use Rattle.candidate_executions.specs.declared.event.Event.{Event}
 use Rattle.candidate_executions.specs.declared.event.Event.TheVariants.{Initial, Access as At}
 use Rattle.candidate_executions.specs.Candidates.{Writes}
-use Rattle.candidate_executions.proofs.Orders.Lists.{none_here}
 use Rattle.exec_axioms.specs.ProgramSketches.{ProgramSketch, access_in}
 use Rattle.exec_axioms.specs.Kept.{IsLawful}
-use Rattle.exec_axioms.specs.Known.{IsInitialWrite}
 use Rattle.exec_axioms.specs.Endings.{IsLastWith, MayEndBy, IsOwn, EndsSo, IsShownEnd, Differ, IsLastValue, AreLastValues, HasLater, IsWritten}
-use Rattle.exec_axioms.proofs.KnownParts.{yes, no, not_by}
+use Rattle.exec_axioms.proofs.KnownParts.{yes, no}
 use Rattle.exec_axioms.proofs.Ends.{last_by}
 
 -- one event writes one value to one location

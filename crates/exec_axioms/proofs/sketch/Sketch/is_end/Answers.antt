@@ -1,4 +1,4 @@
-use Rattle.std.proofs.Common.{◌≡◌, ◌∙◌, List, ℕ, ap, sym}
+use Rattle.std.proofs.Common.{◌∙◌, List, ℕ, ap, sym}
 use Rattle.std.specs.Prelude.{nat_eq, slice_index}
 use Rattle.std.proofs.lemmas.Bool.{eqb-true, eq-eqb}
 use Rattle.tso_program.specs.Shown.{shown_value}
