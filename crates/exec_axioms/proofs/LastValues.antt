@@ -1,95 +1,185 @@
--- The values of the writes that may be the last of a location, and the outcome that they make.
-use Rattle.std.proofs.Common.{◌≡◌, ℕ, ◌+◌, ◌<◌, ◌≤◌, List, [], ◌∷◌, ◌++◌, Option, Some, None, get_or, length, sym, ap, ◌∙◌, subst, inl, inr, arith}
-use Rattle.std.specs.Prelude.{slice_index, unwrap_or}
-use Rattle.std.specs.Option.{MatchOption}
-use Rattle.std.proofs.lemmas.Bool.{cases_lt}
-use Rattle.std.proofs.lemmas.List.{get_or_push, get_or_append_left}
-use Rattle.std.proofs.lemmas.List.FromFn.{fill_by_all}
+-- What is shown of the writes that may be the last of a location.
+use Rattle.std.proofs.Common.{◌≡◌, ◌↔◌, ◌⊎◌, ℕ, ◌<◌, Bool, true, false, IsTrue, List, [], ◌∷◌, ◌++◌, Option, Some, None, Contains, length, refl, sym, ap, ◌∙◌, subst, inl, inr, arith}
+use Rattle.std.specs.Prelude.{slice_index, slice_index_or, slice_set, IfSome}
+use Rattle.std.proofs.lemmas.Bool.{cases_eq}
+use Rattle.std.proofs.lemmas.List.{get_or-set_same, get_or-set_other, length-set}
+use Rattle.std.proofs.lemmas.List.Elements.{Contains-push, Contains-push_cases, Contains-append_left}
 use Rattle.std.proofs.lemmas.Option.{same_Some, slice_get_within}
-use Rattle.tso_program.specs.declared.outcome.Outcome.{Outcome}
+use Rattle.tso_program.specs.declared.limits.TheConstants.{MAX_LOCATIONS}
 use Rattle.tso_program.specs.declared.shown.Shown.{Shown}
-use Rattle.tso_program.specs.Shown.{shown_value, show_registers, show_memory, show, asked}
-use Rattle.tso_program.proofs.Kept.{shown_twice, memory_long, value_at, same_memory}
+use Rattle.tso_program.specs.Shown.{shown_value, value_if, shows_location}
 use Rattle.candidate_executions.specs.declared.access.Access.{Access}
+use Rattle.candidate_executions.specs.declared.event.Event.{Event}
 use Rattle.candidate_executions.specs.declared.event.Event.TheVariants.{Initial, Access as At}
-use Rattle.candidate_executions.specs.Sketches.{MustEndAs}
-use Rattle.exec_axioms.specs.ProgramSketches.{ProgramSketch, trace_in, mode_in}
+use Rattle.candidate_executions.specs.Candidates.{Writes}
+use Rattle.exec_axioms.specs.ProgramSketches.{ProgramSketch, access_in}
 use Rattle.exec_axioms.specs.Kept.{IsLawful}
-use Rattle.exec_axioms.specs.Known.{HasNoCycle}
-use Rattle.exec_axioms.specs.Completions.{MustEndSo, NeedNotEnd}
-use Rattle.exec_axioms.specs.Endings.{final_registers, IsLastWith, MayEndWith, MayEndBy, IsEndValue}
-use Rattle.exec_axioms.proofs.Accesses.{none_past}
-use Rattle.exec_axioms.proofs.LastWrites.{some_last}
+use Rattle.exec_axioms.specs.Endings.{IsLastWith, MayEndBy, IsOwn, EndsSo, IsShownEnd, Differ, IsLastValue, AreLastValues, HasLater, IsWritten}
+use Rattle.exec_axioms.proofs.KnownParts.{yes, no}
+use Rattle.exec_axioms.proofs.Ends.{last_by}
 
--- neither the initial write nor an access of a thread may be the last of the location
-pub none_ends : (s : ProgramSketch) (l n : ℕ) → length s.program.threads ≤ n → ((v : ℕ) → IsLastWith s l v (Initial l) → ⊥) → ((k v : ℕ) → k < n → MayEndBy s k l v → ⊥) →
-    (v : ℕ) → MayEndWith s l v → ⊥
-none_ends s l n h initial below v (Initial m, last) =
-    let w = last.0 in
-    let at : m ≡ l = ap (λ (z : Access). z.location) (same_Some _ w.0 w.1) ∙ w.2 in
-    initial v (subst (λ k. IsLastWith s l v (Initial k)) at last)
-none_ends s l n h initial below v (At t i, last) = elim (cases_lt t n) [
-  | inl a ↦ below t v a (i, last)
-  | inr g ↦ none_past s t i (omega arith) (slice_get_within _ i (last.0).0 (last.0).1)
-]
+-- one event writes one value to one location
+pub same_location : (s : ProgramSketch) (e : Event) (l m v w : ℕ) → Writes (access_in s) e l v → Writes (access_in s) e m w → l ≡ m
+same_location s e l m v w a b = sym a.2 ∙ ap (λ (z : Access). z.location) (same_Some a.0 b.0 (sym a.1 ∙ b.1)) ∙ b.2
 
--- the value that is found, 0 where none is
-pub end_value_by : (s : ProgramSketch) (l : ℕ) (o : Option ℕ) → MatchOption o ((v : ℕ) → MayEndWith s l v → ⊥) (MayEndWith s l) → IsEndValue s l (unwrap_or o 0)
-end_value_by s l None none w may = absurd (none w may)
-end_value_by s l (Some v) ends w may = ends
+pub same_value : (s : ProgramSketch) (e : Event) (l m v w : ℕ) → Writes (access_in s) e l v → Writes (access_in s) e m w → v ≡ w
+same_value s e l m v w a b = same_Some v w (sym a.3 ∙ ap (λ (z : Access). z.written) (same_Some a.0 b.0 (sym a.1 ∙ b.1)) ∙ b.3)
 
--- one value more
-pub values_more : (s : ProgramSketch) (xs : List ℕ) (n x : ℕ) → length xs ≡ n → ((k : ℕ) → k < n → IsEndValue s k (slice_index xs k)) → IsEndValue s n x →
-    (k : ℕ) → k < n + 1 → IsEndValue s k (slice_index (xs ++ x ∷ []) k)
-values_more s xs n x long each new k h = elim (cases_lt k n) [
-  | inl l ↦ subst (IsEndValue s k) (sym (get_or_append_left xs (x ∷ []) 0 k (omega arith))) (each k l)
-  | inr g ↦ (let at : n ≡ k = omega arith in subst (IsEndValue s k) (sym (get_or_push xs x 0 k (omega arith))) (subst (λ m. IsEndValue s m x) at new))
-]
+-- a write is an access, or the initial one
+own_or_initial : (s : ProgramSketch) (e : Event) (l v : ℕ) → Writes (access_in s) e l v → IsOwn s e ⊎ ((e ≡ Initial l) × (v ≡ slice_index s.program.memory l))
+own_or_initial s (At t i) l v w = inl (slice_get_within _ i w.0 w.1)
+own_or_initial s (Initial m) l v w =
+    let at : m ≡ l = same_location s (Initial m) m l (slice_index s.program.memory m) v (_, refl, refl, refl) w in
+    inr (ap Initial at, same_value s (Initial m) l m v (slice_index s.program.memory m) w (_, refl, refl, refl) ∙ ap (slice_index s.program.memory) at)
 
--- the registers of each thread
-pub all_registers : (s : ProgramSketch) (xs : List (List ℕ)) (n : ℕ) → n ≡ length s.program.threads → length xs ≡ n → ((k : ℕ) → k < n → get_or xs k [] ≡ (trace_in s k).last.registers) → xs ≡ final_registers s
-all_registers s xs n all long each = fill_by_all (λ t. (trace_in s t).last.registers) xs (length s.program.threads) [] (long ∙ all) (λ k h. each k (omega arith))
+own_apart : (s : ProgramSketch) (e : Event) (l : ℕ) → IsOwn s e → e ≡ Initial l → ⊥
+own_apart s (Initial m) l own q = own
+own_apart s (At t i) l own q = cc
 
 -- what is shown of a value that is shown
-value_twice : (shown : Shown) (memory : List ℕ) (l : ℕ) → l < length memory → shown_value shown l (slice_index (show_memory shown memory) l) ≡ shown_value shown l (slice_index memory l)
-value_twice shown memory l h =
-    let long = memory_long shown memory in
-    let o : Outcome = record { registers = []; memory = memory } in
-    sym (value_at shown (show_memory shown memory) l (omega arith)) ∙ ap (λ (z : Outcome). slice_index z.memory l) (shown_twice shown o) ∙ value_at shown memory l h
+twice : (b : Bool) (v : ℕ) → value_if b (value_if b v) ≡ value_if b v
+twice true v = refl
+twice false v = refl
 
-module _ (s : ProgramSketch) (shown : Shown) (o : Outcome) (registers : o.registers ≡ final_registers s) (long : length o.memory ≡ length s.program.memory)
-    (values : (l : ℕ) → l < length o.memory → IsEndValue s l (slice_index o.memory l)) where
-  -- where the sketch must end as some outcome, it must end as these values
-  ends_too : (other : Outcome) → MustEndAs (asked s.program shown) (mode_in s) s.chosen other → MustEndAs (asked s.program shown) (mode_in s) s.chosen (show shown o)
-  ends_too other must = record {
-    whole = must.whole;
-    registers = ap (λ (z : Outcome). z.registers) (shown_twice shown o) ∙ ap (show_registers shown) registers;
-    long = memory_long shown o.memory ∙ long;
-    memory = λ l v e h w last.
-        let (d, (write, may)) = values l (omega arith) v (e, (w, last)) in
-        must.memory l v e h w last ∙ sym (must.memory l (slice_index o.memory l) d h write may) ∙ sym (value_twice shown o.memory l (omega arith));
+pub shown_again : (shown : Shown) (l v : ℕ) → shown_value shown l (shown_value shown l v) ≡ shown_value shown l v
+shown_again shown l v = twice (shows_location shown l) v
+
+-- ---- the value that is kept for a location
+
+module _ (s : ProgramSketch) (shown : Shown) (l : ℕ) where
+  -- with no more events
+  last_same : (es : List Event) (x : Event) → ((v : ℕ) → IsLastWith s l v x → ⊥) → (o : Option ℕ) → IsLastValue s shown (Contains es) l o → IsLastValue s shown (Contains (es ++ x ∷ [])) l o
+  last_same es x other o before = by o before
+    where
+      old : (v : ℕ) → MayEndBy s (Contains (es ++ x ∷ [])) l v → MayEndBy s (Contains es) l v
+      old v (e, has, last) = elim (Contains-push_cases es x e has) [
+        | inl h ↦ (e, h, last)
+        | inr q ↦ absurd (other v (subst (IsLastWith s l v) (sym q) last))
+      ]
+
+      by : (o : Option ℕ) → IsLastValue s shown (Contains es) l o → IsLastValue s shown (Contains (es ++ x ∷ [])) l o
+      by None none = λ v may. none v (old v may)
+      by (Some u) ((w, (e, has, last)), each) = ((w, (e, Contains-append_left es (x ∷ []) e has, last)), λ v may. each v (old v may))
+
+  -- with one more
+  last_more : (es : List Event) (x : Event) (v : ℕ) → IsLastWith s l v x → (o : Option ℕ) → IfSome o (λ before. before ≡ shown_value shown l v) → IsLastValue s shown (Contains es) l o →
+      IsLastValue s shown (Contains (es ++ x ∷ [])) l (Some (shown_value shown l v))
+  last_more es x v is o alike before = (
+    (v, (x, Contains-push es x, is)),
+    λ w (e, has, last). elim (Contains-push_cases es x e has) [
+      | inl h ↦ old o alike before w (e, h, last)
+      | inr q ↦ ap (shown_value shown l) (same_value s x l l w v (subst (IsLastWith s l w) (sym q) last).0 is.0)
+    ],
+  )
+    where
+      old : (o : Option ℕ) → IfSome o (λ before. before ≡ shown_value shown l v) → IsLastValue s shown (Contains es) l o → (w : ℕ) → MayEndBy s (Contains es) l w → shown_value shown l w ≡ shown_value shown l v
+      old None alike none w may = absurd (none w may)
+      old (Some u) alike (there, each) w may = each w may ∙ alike
+
+  -- or with one of which something else is shown
+  last_differs : (es : List Event) (x : Event) (v : ℕ) → l < length s.program.memory → IsLastWith s l v x → (o : Option ℕ) → (IfSome o (λ before. before ≡ shown_value shown l v) → ⊥) →
+      IsLastValue s shown (Contains es) l o → Differ s shown
+  last_differs es x v h is None other none = absurd (other tt)
+  last_differs es x v h is (Some u) other ((w, (e, has, last)), each) = record {
+    location = l;
+    there = h;
+    first = w;
+    second = v;
+    first_ends = (e, last);
+    second_ends = (x, is);
+    differ = λ q. other (sym (each w (e, has, last)) ∙ q);
   }
 
-  -- so where it need not end as them, it need not end as any
-  pub need_not : (end : Outcome) → end ≡ show shown o → (MustEndAs (asked s.program shown) (mode_in s) s.chosen end → ⊥) → NeedNotEnd s shown
-  need_not end is never other must = never (subst (MustEndAs (asked s.program shown) (mode_in s) s.chosen) (sym is) (ends_too other must))
+  -- of all accesses
+  last_all : (es : List Event) → ((e : Event) → Contains es e ↔ IsOwn s e) → (o : Option ℕ) → IsLastValue s shown (Contains es) l o → IsLastValue s shown (IsOwn s) l o
+  last_all es exact None none = λ v (e, own, last). none v (e, (exact e).1 own, last)
+  last_all es exact (Some u) ((w, (e, has, last)), each) = ((w, (e, (exact e).0 has, last)), λ v (d, own, also). each v (d, (exact d).1 own, also))
 
--- two outcomes as which a sketch must end show the same
-pub must_end_once : (s : ProgramSketch) (shown : Shown) (o other : Outcome) → IsLawful s → HasNoCycle s → MustEndAs (asked s.program shown) (mode_in s) s.chosen o → MustEndAs (asked s.program shown) (mode_in s) s.chosen other → show shown o ≡ show shown other
-must_end_once s shown o other lawful acyclic first second =
-    let registers = first.registers ∙ sym second.registers in
-    let memory = same_memory shown o.memory other.memory (first.long ∙ sym second.long) (λ l h.
-    let long = first.long in
-    let (v, (e, (w, last))) = some_last s l lawful acyclic in
-    sym (first.memory l v e (omega arith) w last) ∙ second.memory l v e (omega arith) w last) in
-    (λ i. record { registers = registers i; memory = memory i })
+  -- no other write may be the last where an access may be
+  pub kept_end : (o : Option ℕ) (u : ℕ) → o ≡ Some u → IsLastValue s shown (IsOwn s) l o → IsShownEnd s shown l u
+  kept_end None u q none = absurd cc
+  kept_end (Some k) u q ((w, (d, own, last)), each) =
+      let is : shown_value shown l w ≡ u = each w (d, own, last) ∙ same_Some k u q in
+      let as_shown : shown_value shown l u ≡ u = ap (shown_value shown l) (sym is) ∙ shown_again shown l w ∙ is in
+      record {
+        as_shown = as_shown;
+        ends = λ v (e, may). elim (own_or_initial s e l v may.0) [
+          | inl here ↦ each v (e, here, may) ∙ same_Some k u q ∙ sym as_shown
+          | inr initial ↦ absurd (own_apart s d l own (may.1.only_initial initial.0 d w last.0))
+        ];
+      }
 
--- what is shown of the values as which it must end
-pub must_end_so : (s : ProgramSketch) (shown : Shown) (o end : Outcome) → IsLawful s → end ≡ show shown o → MustEndAs (asked s.program shown) (mode_in s) s.chosen end → MustEndSo s shown end
-must_end_so s shown o end lawful is must =
-    let same : show shown end ≡ end = ap (show shown) is ∙ shown_twice shown o ∙ sym is in
-    record {
-      must_end = must;
-      as_shown = same;
-      only = λ acyclic other also. must_end_once s shown other end lawful acyclic also must ∙ same;
-    }
+  -- and where none may be, the initial write alone may be
+  pub initial_end : (o : Option ℕ) → o ≡ None → IsLastValue s shown (IsOwn s) l o → IsShownEnd s shown l (shown_value shown l (slice_index s.program.memory l))
+  initial_end (Some k) q there = absurd cc
+  initial_end None q none = record {
+    as_shown = shown_again shown l (slice_index s.program.memory l);
+    ends = λ v (e, may). elim (own_or_initial s e l v may.0) [
+      | inl own ↦ absurd (none v (e, own, may))
+      | inr initial ↦ ap (shown_value shown l) initial.1 ∙ sym (shown_again shown l (slice_index s.program.memory l))
+    ];
+  }
+
+  -- the value is the held one, as far as it is shown
+  pub kept_test : (o : Option ℕ) (u held : ℕ) (b : Bool) → o ≡ Some u → IsLastValue s shown (IsOwn s) l o → (IsTrue b ↔ (u ≡ shown_value shown l held)) → IsTrue b ↔ EndsSo s shown l held
+  kept_test o u held b q last test =
+      let end = kept_end o u q last in (
+        λ t v may. end.ends v may ∙ end.as_shown ∙ test.0 t,
+        λ ends. test.1 (go o q last ends),
+      )
+    where
+      go : (o : Option ℕ) → o ≡ Some u → IsLastValue s shown (IsOwn s) l o → EndsSo s shown l held → u ≡ shown_value shown l held
+      go None q none ends = absurd cc
+      go (Some k) q ((w, (d, own, last)), each) ends = sym (same_Some k u q) ∙ sym (each w (d, own, last)) ∙ ends w (d, last)
+
+  -- the initial value is the held one
+  pub initial_ends : (o : Option ℕ) (held : ℕ) → o ≡ None → IsLastValue s shown (IsOwn s) l o → shown_value shown l (slice_index s.program.memory l) ≡ shown_value shown l held → EndsSo s shown l held
+  initial_ends o held q last same v may = (initial_end o q last).ends v may ∙ shown_again shown l (slice_index s.program.memory l) ∙ same
+
+  -- where it is not, an access writes the location, or the location does not end so
+  pub written_ends : (o : Option ℕ) (held : ℕ) (b : Bool) → IsLawful s → o ≡ None → IsLastValue s shown (IsOwn s) l o → (shown_value shown l (slice_index s.program.memory l) ≡ shown_value shown l held → ⊥) →
+      (IsTrue b ↔ IsWritten s l) → IsTrue b ↔ EndsSo s shown l held
+  written_ends (Some k) held b lawful q there other test = absurd cc
+  written_ends None held true lawful q none other test = yes (EndsSo s shown l held) (λ v (e, may). elim (own_or_initial s e l v may.0) [
+    | inl own ↦ absurd (none v (e, own, may))
+    | inr initial ↦ (
+        let (t, h) = test.0 refl in
+        let (i, h2) = h in
+        let (w, writes) = h2 in
+        let same : At t i ≡ Initial l = may.1.only_initial initial.0 (At t i) w writes in
+        absurd cc)
+  ])
+  written_ends None held false lawful q none other test = no (EndsSo s shown l held)
+      (λ ends. other (ends (slice_index s.program.memory l) (Initial l, ((_, refl, refl, refl), (last_by s l (Initial l) false free refl test).0 refl))))
+    where
+      free : HasLater s (Initial l) → ⊥
+      free (d, h) =
+          let (differ, (m, v, w, first, second, not_first, not_second)) = lawful.is_sketch.pairs (Initial l) d h in
+          not_first (ap Initial (ap (λ (z : Access). z.location) (same_Some _ first.0 first.1) ∙ first.2))
+
+-- ---- the values that are kept for all locations
+
+module _ (s : ProgramSketch) (shown : Shown) where
+  pub values_same : (es : List Event) (x : Event) (values : List (Option ℕ)) → ((l v : ℕ) → l < length s.program.memory → IsLastWith s l v x → ⊥) →
+      AreLastValues s shown (Contains es) values → AreLastValues s shown (Contains (es ++ x ∷ [])) values
+  values_same es x values other before = record { long = before.long; each = λ l h. last_same s shown l es x (λ v. other l v h) (slice_index_or values l None) (before.each l h) }
+
+  pub values_more : (es : List Event) (x : Event) (l v : ℕ) (values : List (Option ℕ)) → l < MAX_LOCATIONS → IsLastWith s l v x → IfSome (slice_index_or values l None) (λ before. before ≡ shown_value shown l v) →
+      AreLastValues s shown (Contains es) values → AreLastValues s shown (Contains (es ++ x ∷ [])) (slice_set values l (Some (shown_value shown l v)))
+  values_more es x l v values few is alike before = record { long = length-set values l (Some (shown_value shown l v)) ∙ before.long; each = each }
+    where
+      each : (m : ℕ) → m < length s.program.memory → IsLastValue s shown (Contains (es ++ x ∷ [])) m (slice_index_or (slice_set values l (Some (shown_value shown l v))) m None)
+      each m h = elim (cases_eq m l) [
+        | inl q ↦ subst (λ n. IsLastValue s shown (Contains (es ++ x ∷ [])) n (slice_index_or (slice_set values l (Some (shown_value shown l v))) n None)) (sym q)
+            (subst (IsLastValue s shown (Contains (es ++ x ∷ [])) l) (sym (get_or-set_same values l (Some (shown_value shown l v)) None (let long = before.long in omega arith)))
+            (last_more s shown l es x v is (slice_index_or values l None) alike (before.each l (subst (λ n. n < length s.program.memory) q h))))
+        | inr n ↦ subst (IsLastValue s shown (Contains (es ++ x ∷ [])) m) (sym (get_or-set_other values l m (Some (shown_value shown l v)) None n))
+            (last_same s shown m es x (λ w last. n (same_location s x m l w v last.0 is.0)) (slice_index_or values m None) (before.each m h))
+      ]
+
+  pub values_differ : (es : List Event) (x : Event) (l v : ℕ) (values : List (Option ℕ)) → l < length s.program.memory → IsLastWith s l v x → (IfSome (slice_index_or values l None) (λ before. before ≡ shown_value shown l v) → ⊥) →
+      AreLastValues s shown (Contains es) values → Differ s shown
+  values_differ es x l v values h is other before = last_differs s shown l es x v h is (slice_index_or values l None) other (before.each l h)
+
+  pub values_all : (es : List Event) (values : List (Option ℕ)) → ((e : Event) → Contains es e ↔ IsOwn s e) → AreLastValues s shown (Contains es) values → AreLastValues s shown (IsOwn s) values
+  values_all es values exact before = record { long = before.long; each = λ l h. last_all s shown l es exact (slice_index_or values l None) (before.each l h) }

@@ -1,8 +1,9 @@
 -- Accesses by number: what the rows of a sketch say of its events.
-use Rattle.std.proofs.Common.{◌≡◌, ◌↔◌, ℕ, List, [], Option, Some, None, Contains, slice_get, get_or, length, refl, sym, ap, ◌∙◌, subst, inr, ◌≤◌, arith}
+use Rattle.std.proofs.Common.{◌≡◌, ◌↔◌, ℕ, Bool, IsTrue, List, [], Option, Some, None, Contains, slice_get, get_or, length, refl, sym, ap, ◌∙◌, subst, inr, ◌≤◌, arith}
+use Rattle.std.specs.Prelude.{slice_index}
 use Rattle.std.specs.Option.{option_map_or}
 use Rattle.std.proofs.lemmas.Option.{slice_get_within, slice_get-get_or, get_or_from_slice_get, same_Some}
-use Rattle.bit_rows.specs.Rows.{Relates}
+use Rattle.bit_rows.specs.Rows.{IsIn, Relates}
 use Rattle.bit_rows.specs.declared.row.TheConstants.{ROW_BITS}
 use Rattle.tso_program.specs.declared.limits.TheConstants.{MAX_THREADS, MAX_INSTRUCTIONS}
 use Rattle.tso_program.specs.declared.listing.Listing.{Listing}
@@ -21,6 +22,8 @@ use Rattle.exec_axioms.specs.declared.thread_trace.ThreadTrace.{ThreadTrace}
 use Rattle.tso_machine.specs.Modes.{machine_mode}
 use Rattle.exec_axioms.specs.ProgramSketches.{ProgramSketch, mode_in, trace_in, access_in}
 use Rattle.exec_axioms.specs.Kept.{view_of, KeepsTraces}
+use Rattle.exec_axioms.specs.Known.{IsInitialWrite}
+use Rattle.exec_axioms.specs.Endings.{HasLater}
 use Rattle.exec_axioms.specs.Rows.{accesses_at, access_of, IsOfThreads, AreAccesses, EachEnds, AreRowsOf, main_kind, rows_of}
 use Rattle.exec_axioms.proofs.TracesKept.{trace_accesses, no_accesses, trace_next}
 use Rattle.exec_axioms.proofs.Connected.{HasNumber}
@@ -114,6 +117,27 @@ module _ (p : Listing) (mode : Mode) (thread_traces : List ThreadTrace) (sources
       let accesses = all (kept.lawful.whole d e (inr h)) in
       (access_number events accesses d both.0, access_number events accesses e both.1)
 
+  -- the row of an event has a number where a pair puts a write after the event
+  pub later_test : (events : List Event) (later : List ℕ) (d : ℕ) (x : Event) (b : Bool) → (IsWhole s.program (mode_in s) s.chosen → AreAccesses thread_traces events) → AreRowsOf events (λ d e. Contains pairs (d, e)) later →
+      slice_get events d ≡ Some x → (IsTrue b ↔ ((k : ℕ) × IsIn (slice_index later d) k)) → IsTrue b ↔ HasLater s x
+  later_test events later d x b all rows at test = (
+    λ t.
+        let (k, there) = test.0 t in
+        let (y, z, at_y, at_z, chosen) = (rows d k).0 there in
+        (z, subst (λ e. Contains pairs (e, z)) (same_Some y x (sym at_y ∙ at)) chosen),
+    λ (z, chosen).
+        let (k, at_k) = (chosen_numbers events all x z chosen).1 in
+        test.1 (k, (at_numbers events (λ d e. Contains pairs (d, e)) later d k x z rows at at_k).1 chosen),
+  )
+
+  -- the numbered events are the accesses, once each read has its value
+  pub number_exact : (events : List Event) → AreAccesses thread_traces events → (e : Event) → Contains events e ↔ IsAccess s.program (mode_in s) (given_to s.chosen) e
+  number_exact events accesses e = (λ h. (is_access e).1 ((accesses.exact e).0 h), λ h. (accesses.exact e).1 ((is_access e).0 h))
+
 -- an event with a number is an access
 pub number_access : (thread_traces : List ThreadTrace) (events : List Event) → ((e : Event) → Contains events e → IsOfThreads thread_traces e) → (e : Event) → HasNumber events e → IsOfThreads thread_traces e
 number_access thread_traces events of_threads e h = of_threads e (contained events e h)
+
+pub number_own : (thread_traces : List ThreadTrace) (e : Event) → IsOfThreads thread_traces e → IsInitialWrite e → ⊥
+number_own thread_traces (Initial l) h i = h
+number_own thread_traces (At t j) h i = i
