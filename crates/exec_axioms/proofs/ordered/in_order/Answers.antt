@@ -1,0 +1,24 @@
+use Rattle.std.proofs.Common.{◌≡◌, ◌∙◌, List, ap, sym, subst}
+use Rattle.candidate_executions.specs.declared.event.Event.{Event}
+use Rattle.candidate_executions.specs.declared.event.Kind.{Kind}
+use Rattle.candidate_executions.specs.declared.event.Kind.TheVariants as union
+use Rattle.tso_machine.specs.declared.mode.Mode.TheVariants.{Sequential}
+use Rattle.exec_axioms.specs.declared.thread_trace.ThreadTrace.{ThreadTrace}
+use Rattle.exec_axioms.specs.Rows.{NumberedTraces, AreRowsOf, InOrder, HasOrder}
+use Rattle.exec_axioms.proofs.ordered.in_order.Goals as goal
+
+pub returns-clause-order : goal.returns-clause-order
+returns-clause-order c =
+    let threads = c.args.thread_traces.items in
+    let events = c.in_ok-traces.traces.events in
+    let main = c.order_rows-main.result in
+    let global = c.global_rows-global.result in
+    subst (λ (es : List Event). HasOrder c.args.mode threads es main global) (sym (ap (λ (x : NumberedTraces). x.events) c.in_ok-new.ensures.ok))
+    (record {
+      numbered = c.in_ok-traces.ensures.numbered;
+      main_rows = subst (λ (kind : Kind). AreRowsOf events (InOrder threads kind) main) c.main_union.ensures
+          (subst (λ (es : List Event). AreRowsOf es (InOrder threads c.main_union.result) main) c.events.ensures
+          (subst (λ (ts : List ThreadTrace). AreRowsOf c.events.result.now (InOrder ts c.main_union.result) main) (c.thread_traces.ensures ∙ c.in_ok-traces.ensures.thread_traces) c.order_rows-main.ensures));
+      global_rows = subst (λ (es : List Event). AreRowsOf es (λ d e. (c.args.mode ≡ Sequential → ⊥) × InOrder threads union.Global d e) global) c.events-2.ensures
+          (subst (λ (ts : List ThreadTrace). AreRowsOf c.events-2.result.now (λ d e. (c.args.mode ≡ Sequential → ⊥) × InOrder ts union.Global d e) global) (c.thread_traces-2.ensures ∙ c.in_ok-traces.ensures.thread_traces) c.global_rows-global.ensures);
+    })
