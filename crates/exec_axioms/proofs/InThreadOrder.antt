@@ -1,11 +1,10 @@
 -- Accesses listed by thread and index: which of them come after one in its thread.
-use Rattle.std.proofs.Common.{◌≡◌, ◌↔◌, ℕ, ◌+◌, ◌<◌, ◌≤◌, List, [], None, Some, slice_get, get_or, length, sym, ap, ◌∙◌, subst, inl, inr, arith}
+use Rattle.std.proofs.Common.{◌≡◌, ℕ, ◌+◌, ◌<◌, ◌≤◌, List, [], None, Some, slice_get, get_or, sym, ap, ◌∙◌, subst, inl, inr, arith}
 use Rattle.std.specs.List.{AllPairs}
 use Rattle.std.proofs.lemmas.Bool.{cases_lt}
 use Rattle.std.proofs.lemmas.Option.{slice_get_within, get_or_from_slice_get, same_Some}
 use Rattle.bit_rows.specs.Rows.{IsIn, Relates}
 use Rattle.bit_rows.proofs.Bits.{none_in_zero}
-use Rattle.candidate_executions.specs.declared.access.Access.{Access}
 use Rattle.candidate_executions.specs.declared.event.Event.{Event}
 use Rattle.candidate_executions.specs.declared.event.Event.TheVariants.{Initial, Access as At}
 use Rattle.candidate_executions.specs.declared.event.Kind.{Kind}
@@ -21,7 +20,7 @@ pub none_ordered : AllPairs ComesBefore []
 none_ordered i j d h l = absurd (omega arith)
 
 -- of two listed accesses the one at the earlier place comes before the other
-before_in : (events : List Event) → AllPairs ComesBefore events → (i j : ℕ) (a b : Event) → i < j → slice_get events i ≡ Some a → slice_get events j ≡ Some b → ComesBefore a b
+pub before_in : (events : List Event) → AllPairs ComesBefore events → (i j : ℕ) (a b : Event) → i < j → slice_get events i ≡ Some a → slice_get events j ≡ Some b → ComesBefore a b
 before_in events ordered i j a b less here there = subst (λ x. ComesBefore x b) (get_or_from_slice_get events i a a here)
     (subst (ComesBefore (get_or events i a)) (get_or_from_slice_get events j b a there) (ordered i j a less (slice_get_within events j b there)))
 

@@ -15,7 +15,7 @@ use Rattle.candidate_executions.specs.declared.event.Kind.TheVariants as union
 use Rattle.candidate_executions.specs.Candidates.{Writes, IsAccess}
 use Rattle.candidate_executions.specs.Events.{ComesBefore}
 use Rattle.candidate_executions.specs.Consistency.{IsOfMode}
-use Rattle.candidate_executions.specs.Sketches.{IsWhole, IsPair, given_to}
+use Rattle.candidate_executions.specs.Sketches.{IsWhole, IsPair, given_to, next_read}
 use Rattle.tso_machine.specs.declared.mode.Mode.{Mode}
 use Rattle.tso_machine.specs.declared.mode.Mode.TheVariants.{Sequential, Fenced}
 use Rattle.exec_axioms.specs.declared.thread_trace.ThreadTrace.{ThreadTrace}
@@ -24,8 +24,8 @@ use Rattle.exec_axioms.specs.ProgramSketches.{ProgramSketch, mode_in, trace_in, 
 use Rattle.exec_axioms.specs.Kept.{view_of, KeepsTraces}
 use Rattle.exec_axioms.specs.Known.{IsInitialWrite}
 use Rattle.exec_axioms.specs.Endings.{HasLater}
-use Rattle.exec_axioms.specs.Rows.{accesses_at, access_of, IsOfThreads, AreAccesses, EachEnds, AreRowsOf, main_kind, rows_of}
-use Rattle.exec_axioms.proofs.TracesKept.{trace_accesses, no_accesses, trace_next}
+use Rattle.exec_axioms.specs.Rows.{accesses_at, access_of, IsOfThreads, AreAccesses, EachEnds, FitRow, AreRowsOf, main_kind, rows_of}
+use Rattle.exec_axioms.proofs.TracesKept.{trace_accesses, no_accesses, no_trace, trace_next, past_next}
 use Rattle.exec_axioms.proofs.Connected.{HasNumber}
 use Rattle.exec_axioms.proofs.ChoicesCounted.{few_accesses}
 use Rattle.exec_axioms.proofs.BranchesCounted.{not_before_itself}
@@ -96,16 +96,28 @@ module _ (p : Listing) (mode : Mode) (thread_traces : List ThreadTrace) (sources
       go None e = let same = ap (λ q. length (option_map_or (λ (x : ThreadTrace). x.accesses) q [])) e in omega arith
 
   -- once each read has its value, each thread has come to its end
-  pub whole_ends : IsWhole s.program (mode_in s) s.chosen → EachEnds p thread_traces
-  whole_ends whole t c at = sym (trace_next p mode thread_traces sources pairs kept t c at) ∙ whole t
+  pub whole_ends : IsWhole s.program (mode_in s) s.chosen → EachEnds thread_traces
+  whole_ends whole t c at = (kept.traces_are t c at).next ∙ sym (trace_next p mode thread_traces sources pairs kept t c at) ∙ whole t
+
+  -- and the other way round
+  pub ends_whole : EachEnds thread_traces → IsWhole s.program (mode_in s) s.chosen
+  ends_whole ends t = go (slice_get thread_traces t) refl
+    where
+      go : (o : Option ThreadTrace) → slice_get thread_traces t ≡ o → next_read s.program (mode_in s) s.chosen t ≡ None
+      go (Some c) e = trace_next p mode thread_traces sources pairs kept t c e ∙ sym (kept.traces_are t c e).next ∙ ends t c e
+      go None e = past_next p mode thread_traces sources pairs kept t (no_trace p mode thread_traces sources pairs kept t e)
+
+  -- accesses that come by thread and index are few
+  pub fit_row : FitRow thread_traces
+  fit_row events ordered each =
+      let few = (few_accesses s kept.lawful events (λ i j d h l same. not_before_itself _ (subst (λ e. ComesBefore e (get_or events j d)) same (ordered i j d h l)))
+      (λ e has. (is_access e).1 (each e has))).few in
+      omega arith
 
   module _ (events : List Event) (accesses : AreAccesses thread_traces events) where
     -- all accesses have numbers in a row
     pub accesses_few : length events ≤ ROW_BITS
-    accesses_few =
-        let few = (few_accesses s kept.lawful events (λ i j d h l same. not_before_itself _ (subst (λ e. ComesBefore e (get_or events j d)) same (accesses.ordered i j d h l)))
-        (λ e has. (is_access e).1 ((accesses.exact e).0 has))).few in
-        omega arith
+    accesses_few = fit_row events accesses.ordered (λ e has. (accesses.exact e).0 has)
 
     pub access_number : (e : Event) → IsAccess s.program (mode_in s) (given_to s.chosen) e → HasNumber events e
     access_number e h = number_of events e ((accesses.exact e).1 ((is_access e).0 h))

@@ -92,8 +92,8 @@ module _ (p : Listing) (mode : Mode) (thread_traces : List ThreadTrace) (sources
   parts_then union.Global d e f x y z a b c h k = (precedes_then d e f h.0 k.0, kept_then x y z (rise_in d e x y h.0 a b) (rise_in e f y z k.0 b c) h.1 k.1)
 
 -- what comes after an access that comes after another comes after this one too
-pub order_joins : (p : Listing) (thread_traces : List ThreadTrace) → AreOfSketch p thread_traces → (kind : Kind) (d e f : Event) →
+pub order_joins : (thread_traces : List ThreadTrace) → AreOfSketch thread_traces → (kind : Kind) (d e f : Event) →
     InOrder thread_traces kind d e → InOrder thread_traces kind e f → InOrder thread_traces kind d f
-order_joins p thread_traces (mode, sources, pairs, kept) kind d e f (x, y, a, b, h) (w, z, c, g, k) =
+order_joins thread_traces (p, mode, sources, pairs, kept) kind d e f (x, y, a, b, h) (w, z, c, g, k) =
     let same : w ≡ y = same_Some w y (sym c ∙ b) in
     (x, z, a, g, parts_then p mode thread_traces sources pairs kept kind d e f x y z a b g h (subst (λ (v : Access). OrderPart kind e v f z) same k))

@@ -41,7 +41,7 @@ row_if events P Q F row out of each same d = (
 )
 
 module _ (p : Listing) (mode : Mode) (thread_traces : List ThreadTrace) (events : List Event) (sources pairs : List (Event × Event)) (kept : KeepsTraces p mode thread_traces sources pairs)
-    (none : (d e : Event) → Contains sources (d, e) ⊎ Contains pairs (d, e) → ⊥) (main global : List ℕ) (order : HasOrder p mode thread_traces events main global) where
+    (none : (d e : Event) → Contains sources (d, e) ⊎ Contains pairs (d, e) → ⊥) (main global : List ℕ) (order : HasOrder mode thread_traces events main global) where
   abbrev s : ProgramSketch
   s = view_of p mode thread_traces sources pairs
 

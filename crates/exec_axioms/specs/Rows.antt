@@ -1,5 +1,5 @@
 -- Accesses by number, and what is kept of them in rows.
-use Rattle.std.specs.Prelude.{◌≡◌, ◌≢◌, ◌↔◌, ◌⊎◌, ◌<◌, ◌≤◌, ℕ, Bool, IsTrue, List, [], Option, Some, None, IsSome, slice_get, length, Contains}
+use Rattle.std.specs.Prelude.{◌≡◌, ◌≢◌, ◌↔◌, ◌⊎◌, ◌+◌, ◌<◌, ◌≤◌, ℕ, Bool, IsTrue, List, [], Option, Some, None, IsSome, slice_get, length, Contains}
 use Rattle.std.specs.List.{AllPairs}
 use Rattle.std.specs.Option.{option_map_or}
 use Rattle.bit_rows.specs.Rows.{IsIn, Relates, HasRound}
@@ -20,8 +20,6 @@ use Rattle.exec_axioms.specs.ProgramSketches.{ProgramSketch, mode_in}
 use Rattle.exec_axioms.specs.Known.{OrderPart}
 use Rattle.exec_axioms.specs.Kept.{view_of, KeepsTraces}
 use Rattle.bit_rows.specs.declared.row.TheConstants.{ROW_BITS}
-use Rattle.tso_program.specs.Listings.{action}
-use Rattle.candidate_executions.specs.Sketches as sketches
 use Rattle.candidate_executions.specs.Sketches.{KnownEdgeOfMode, IsWhole}
 
 -- the accesses of thread t, none where there is no such thread
@@ -89,24 +87,51 @@ rows_of union.Sequential main global = main
 rows_of union.Location main global = main
 rows_of union.Global main global = global
 
+-- what the threads do, and the accesses that have numbers, their places
+pub record NumberedTraces : Type 0 where
+  pub thread_traces : List ThreadTrace
+  pub events : List Event
+
 -- each thread has come to its end: no read is without a value
-abbrev pub EachEnds : Listing → List ThreadTrace → Type 0
-EachEnds p thread_traces = (t : ℕ) (c : ThreadTrace) → slice_get thread_traces t ≡ Some c → sketches.read_by (action p.threads t c.last) ≡ None
+abbrev pub EachEnds : List ThreadTrace → Type 0
+EachEnds thread_traces = (t : ℕ) (c : ThreadTrace) → slice_get thread_traces t ≡ Some c → c.next ≡ None
 
 -- the traces are those of some sketch
-abbrev pub AreOfSketch : Listing → List ThreadTrace → Type 0
-AreOfSketch p thread_traces = (mode : Mode) × (sources : List (Event × Event)) × (pairs : List (Event × Event)) × KeepsTraces p mode thread_traces sources pairs
+abbrev pub AreOfSketch : List ThreadTrace → Type 0
+AreOfSketch thread_traces = (p : Listing) × (mode : Mode) × (sources : List (Event × Event)) × (pairs : List (Event × Event)) × KeepsTraces p mode thread_traces sources pairs
+
+-- accesses that come by thread and index are few enough for a row
+abbrev pub FitRow : List ThreadTrace → Type 0
+FitRow thread_traces = (events : List Event) → AllPairs ComesBefore events → ((e : Event) → Contains events e → IsOfThreads thread_traces e) → length events ≤ ROW_BITS
 
 -- the accesses that have numbers, all of them where each thread has come to its end
-pub record AreNumbered (p : Listing) (thread_traces : List ThreadTrace) (events : List Event) : Type 0 where
-  pub all : EachEnds p thread_traces → AreAccesses thread_traces events
+pub record AreNumbered (thread_traces : List ThreadTrace) (events : List Event) : Type 0 where
+  pub all : EachEnds thread_traces → AreAccesses thread_traces events
   pub of_threads : (e : Event) → Contains events e → IsOfThreads thread_traces e
   pub ordered : AllPairs ComesBefore events
   pub few : length events ≤ ROW_BITS
 
+-- the number of an access is the start of its thread and its index
+abbrev pub AreStarts : List Event → List ℕ → Type 0
+AreStarts events starts = (d t i : ℕ) → slice_get events d ≡ Some (At t i) → (start : ℕ) × (slice_get starts t ≡ Some start) × (start + i ≡ d)
+
+-- no other number is the event's
+abbrev pub IsOnlyNumber : List Event → Event → ℕ → Type 0
+IsOnlyNumber events e number = (d : ℕ) → slice_get events d ≡ Some e → number ≡ d
+
+-- the new events are the old ones, and the accesses of thread t at the next places
+abbrev pub AreBeyond : List Event → ℕ → List Event → Type 0
+AreBeyond old t new = (d u i : ℕ) → slice_get new d ≡ Some (At u i) → (slice_get old d ≡ Some (At u i)) ⊎ ((u ≡ t) × (length old + i ≡ d))
+
+-- what is kept beside the traces: whether each thread has come to its end, the accesses that have numbers, and the starts of the threads
+pub record KeepsNumbers (thread_traces : List ThreadTrace) (events : List Event) (whole : Bool) (starts : List ℕ) : Type 0 where
+  pub numbered : AreNumbered thread_traces events
+  pub ends : IsTrue whole ↔ EachEnds thread_traces
+  pub starts_are : AreStarts events starts
+
 -- the rows have the program order of the mode's unions between the accesses that have numbers
-pub record HasOrder (p : Listing) (mode : Mode) (thread_traces : List ThreadTrace) (events : List Event) (main global : List ℕ) : Type 0 where
-  pub numbered : AreNumbered p thread_traces events
+pub record HasOrder (mode : Mode) (thread_traces : List ThreadTrace) (events : List Event) (main global : List ℕ) : Type 0 where
+  pub numbered : AreNumbered thread_traces events
   pub main_rows : AreRowsOf events (InOrder thread_traces (main_kind mode)) main
   pub global_rows : AreRowsOf events (λ d e. (mode ≡ Sequential → ⊥) × InOrder thread_traces union.Global d e) global
 

@@ -1,10 +1,11 @@
 -- A thread's trace as it is made, an instruction at a time.
-use Rattle.std.specs.Prelude.{◌≡◌, ◌≤◌, ℕ, Bool, true, false, List, ◌++◌, drop, length}
+use Rattle.std.specs.Prelude.{◌≡◌, ◌≤◌, ◌<◌, ℕ, Bool, IfSome, true, false, List, ◌++◌, drop, length}
 use Rattle.tso_program.specs.declared.action.Local.{Local}
 use Rattle.tso_program.specs.declared.action.Action.{Action}
 use Rattle.tso_program.specs.declared.listing.Listing.{Listing}
-use Rattle.tso_program.specs.Listings.{start_of}
+use Rattle.tso_program.specs.Listings.{start_of, action}
 use Rattle.tso_machine.specs.Machine.{Mode}
+use Rattle.candidate_executions.specs.Sketches.{read_by}
 use Rattle.candidate_executions.specs.declared.access.Access.{Access}
 use Rattle.candidate_executions.specs.Traces.{Trace, traced, stopped, trace_by}
 use Rattle.exec_axioms.specs.declared.thread_trace.ThreadTrace.{ThreadTrace}
@@ -33,10 +34,12 @@ pub record IsTraceSoFarOf (p : Listing) (mode : Mode) (t : ℕ) (given : List �
   pub short : length w.accesses ≤ MAX_INSTRUCTIONS
   pub registers : length (start_of p.threads t).registers ≡ 6
 
--- the same, with the values
+-- the same, with the values, and the location of the read where it stops
 pub record IsThreadTraceOf (p : Listing) (mode : Mode) (t : ℕ) (given : List ℕ) (c : ThreadTrace) : Type 0 where
   pub given_is : c.given ≡ given
   pub accesses : (trace_by p mode (λ u. given) t).accesses ≡ c.accesses
   pub last : (trace_by p mode (λ u. given) t).last ≡ c.last
+  pub next : c.next ≡ read_by (action p.threads t c.last)
+  pub located : IfSome c.next (λ location. location < length p.memory)
   pub short : length c.accesses ≤ MAX_INSTRUCTIONS
   pub registers : length (start_of p.threads t).registers ≡ 6

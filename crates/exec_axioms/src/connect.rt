@@ -8,7 +8,7 @@ ghost use Rattle.exec_axioms.specs.Choices.{MayRead, MayFollow};
 ghost use Rattle.exec_axioms.specs.Rows.{rows_of, IsAlike, AreSourceRows, AreOrderRows, IsRepresented, ClosesAs};
 
 use crate::Mode;
-use crate::rows::{if_far, if_fenced, overwriting, readers_of, row_of};
+use crate::rows::{if_far, if_fenced, overwriting, readers_of};
 use crate::traces::Traces;
 use bit_rows::{ROW_BITS, Relation, joined, put_rows};
 use candidate_executions::{Event, Kind};
@@ -69,13 +69,12 @@ impl EdgeRows {
 
     /// The rows between which a read's source makes edges.
     fn rows_of_source(&self, mode: &Mode, traces: &Traces, read: Event, source: Event) -> SourceRows
-        requires few { length traces.now.events.items ≤ ROW_BITS }
-        requires alike { IsAlike traces.now.events.items self.now.later }
-        ensures { AreSourceRows mode.now traces.now.thread_traces.items traces.now.events.items self.now.later read source result }
+        requires few { length traces.now.events ≤ ROW_BITS }
+        requires alike { IsAlike traces.now.events self.now.later }
+        ensures { AreSourceRows mode.now traces.now.thread_traces traces.now.events self.now.later read source result }
     {
-        let events = traces.events.as_slice();
-        let reader = row_of(events, read);
-        let written = row_of(events, source);
+        let reader = traces.row_of(read);
+        let written = traces.row_of(source);
         let far = if_far(source, read, written);
         SourceRows {
             reader,
@@ -95,11 +94,11 @@ impl EdgeRows {
         read: Event,
         source: Event,
     )
-        requires few { length traces.now.events.items ≤ ROW_BITS }
-        requires alike { IsAlike traces.now.events.items self.old.later }
-        ensures { (p : Listing) (sources pairs : List (Event × Event)) → IsRepresented p mode.now traces.now.thread_traces.items traces.now.events.items sources pairs self.old.later self.old.main self.old.global
-            → MayRead (view_of p mode.now traces.now.thread_traces.items sources pairs) read source
-            → IsRepresented p mode.now traces.now.thread_traces.items traces.now.events.items (sources ++ (read, source) ∷ []) pairs self.new.later self.new.main self.new.global }
+        requires few { length traces.now.events ≤ ROW_BITS }
+        requires alike { IsAlike traces.now.events self.old.later }
+        ensures { (p : Listing) (sources pairs : List (Event × Event)) → IsRepresented p mode.now traces.now.thread_traces traces.now.events sources pairs self.old.later self.old.main self.old.global
+            → MayRead (view_of p mode.now traces.now.thread_traces sources pairs) read source
+            → IsRepresented p mode.now traces.now.thread_traces traces.now.events (sources ++ (read, source) ∷ []) pairs self.new.later self.new.main self.new.global }
     {
         let rows = self.rows_of_source(mode, traces, read, source);
         self.main.connect(rows.written, rows.reader);
@@ -116,11 +115,11 @@ impl EdgeRows {
         read: Event,
         source: Event,
     ) -> bool
-        requires few { length traces.now.events.items ≤ ROW_BITS }
-        requires alike { IsAlike traces.now.events.items self.now.later }
-        ensures { (p : Listing) (sources pairs : List (Event × Event)) → IsRepresented p mode.now traces.now.thread_traces.items traces.now.events.items sources pairs self.now.later self.now.main self.now.global
-            → MayRead (view_of p mode.now traces.now.thread_traces.items sources pairs) read source
-            → ClosesAs p mode.now traces.now.thread_traces.items traces.now.events.items (sources ++ (read, source) ∷ []) pairs result }
+        requires few { length traces.now.events ≤ ROW_BITS }
+        requires alike { IsAlike traces.now.events self.now.later }
+        ensures { (p : Listing) (sources pairs : List (Event × Event)) → IsRepresented p mode.now traces.now.thread_traces traces.now.events sources pairs self.now.later self.now.main self.now.global
+            → MayRead (view_of p mode.now traces.now.thread_traces sources pairs) read source
+            → ClosesAs p mode.now traces.now.thread_traces traces.now.events (sources ++ (read, source) ∷ []) pairs result }
     {
         let rows = self.rows_of_source(mode, traces, read, source);
         let main = self
@@ -142,10 +141,10 @@ impl EdgeRows {
         first: Event,
         second: Event,
     )
-        requires { length traces.now.events.items ≤ ROW_BITS }
-        ensures { (p : Listing) (pairs : List (Event × Event)) → IsRepresented p mode.now traces.now.thread_traces.items traces.now.events.items sources.now pairs self.old.later self.old.main self.old.global
-            → MayFollow (view_of p mode.now traces.now.thread_traces.items sources.now pairs) first second
-            → IsRepresented p mode.now traces.now.thread_traces.items traces.now.events.items sources.now (pairs ++ (first, second) ∷ []) self.new.later self.new.main self.new.global }
+        requires { length traces.now.events ≤ ROW_BITS }
+        ensures { (p : Listing) (pairs : List (Event × Event)) → IsRepresented p mode.now traces.now.thread_traces traces.now.events sources.now pairs self.old.later self.old.main self.old.global
+            → MayFollow (view_of p mode.now traces.now.thread_traces sources.now pairs) first second
+            → IsRepresented p mode.now traces.now.thread_traces traces.now.events sources.now (pairs ++ (first, second) ∷ []) self.new.later self.new.main self.new.global }
     {
         let rows = rows_of_order(mode, traces, sources, first, second);
         put_rows(&mut self.later, rows.before, rows.after);
@@ -162,10 +161,10 @@ impl EdgeRows {
         first: Event,
         second: Event,
     ) -> bool
-        requires { length traces.now.events.items ≤ ROW_BITS }
-        ensures { (p : Listing) (pairs : List (Event × Event)) → IsRepresented p mode.now traces.now.thread_traces.items traces.now.events.items sources.now pairs self.now.later self.now.main self.now.global
-            → MayFollow (view_of p mode.now traces.now.thread_traces.items sources.now pairs) first second
-            → ClosesAs p mode.now traces.now.thread_traces.items traces.now.events.items sources.now (pairs ++ (first, second) ∷ []) result }
+        requires { length traces.now.events ≤ ROW_BITS }
+        ensures { (p : Listing) (pairs : List (Event × Event)) → IsRepresented p mode.now traces.now.thread_traces traces.now.events sources.now pairs self.now.later self.now.main self.now.global
+            → MayFollow (view_of p mode.now traces.now.thread_traces sources.now pairs) first second
+            → ClosesAs p mode.now traces.now.thread_traces traces.now.events sources.now (pairs ++ (first, second) ∷ []) result }
     {
         let rows = rows_of_order(mode, traces, sources, first, second);
         let main = self.main.closes(rows.earlier, rows.after);
@@ -182,16 +181,15 @@ fn rows_of_order(
     first: Event,
     second: Event,
 ) -> OrderRows
-    requires { length traces.now.events.items ≤ ROW_BITS }
-    ensures { AreOrderRows mode.now traces.now.events.items sources.now first second result }
+    requires { length traces.now.events ≤ ROW_BITS }
+    ensures { AreOrderRows mode.now traces.now.events sources.now first second result }
 {
-    let events = traces.events.as_slice();
-    let before = row_of(events, first);
-    let readers = readers_of(sources, events, first, second);
+    let before = traces.row_of(first);
+    let readers = readers_of(sources, traces, first, second);
     let earlier = joined(before, readers);
     OrderRows {
         before,
-        after: row_of(events, second),
+        after: traces.row_of(second),
         readers,
         earlier,
         fenced: if_fenced(*mode, earlier),

@@ -20,7 +20,7 @@ impl Sketch {
         ensures { MatchOption result (Differ self.now shown.now) (AreLastValues self.now shown.now (IsOwn self.now)) }
     {
         let mut values = [None; MAX_LOCATIONS];
-        let events = self.traces.events.as_slice();
+        let events = self.traces.events();
         for (d, event) in events.iter().enumerate() {
             let has_later = has_any(self.rows.later[d]);
             if !self.keep_last(shown, *event, has_later, &mut values) {

@@ -12,12 +12,11 @@ ghost use Rattle.exec_axioms.specs.Rows.{main_kind, AreOfSketch, AreRowsOf, InOr
 use crate::Mode;
 use crate::rows::order_rows;
 use crate::thread_trace::ThreadTrace;
-use crate::traces::{Traces, events_if_whole};
+use crate::traces::Traces;
 use bit_rows::Relation;
 use candidate_executions::{Event, Kind};
 use std::alloc::{AllocError, Global};
 use std::sync::Arc;
-use tso_program::Program;
 
 /// The traces, and the program order of the mode's unions between the accesses that have numbers.
 #[derive(Drop)]
@@ -30,29 +29,18 @@ pub(crate) struct Ordered {
 /// What is known of these traces.
 pub(crate) fn in_order(
     alloc: Global,
-    program: &Program,
     mode: Mode,
     thread_traces: Vec<ThreadTrace>,
 ) -> Result<Ordered, AllocError>
-    requires { AreOfSketch program.now thread_traces.items }
-    ensures thread_traces { IfOk result (λ ordered. (arc_value ordered.traces).thread_traces.items ≡ thread_traces.items) }
-    ensures order { IfOk result (λ ordered. HasOrder program.now mode thread_traces.items (arc_value ordered.traces).events.items ordered.main ordered.global) }
+    requires { AreOfSketch thread_traces.items }
+    ensures thread_traces { IfOk result (λ ordered. (arc_value ordered.traces).thread_traces ≡ thread_traces.items) }
+    ensures order { IfOk result (λ ordered. HasOrder mode thread_traces.items (arc_value ordered.traces).events ordered.main ordered.global) }
 {
-    let events = events_if_whole(alloc, program, thread_traces.as_slice())?;
-    let main = order_rows(
-        main_union(mode),
-        thread_traces.as_slice(),
-        events.as_slice(),
-    );
-    let global = global_rows(mode, thread_traces.as_slice(), events.as_slice());
+    let traces = Traces::new(alloc, thread_traces)?;
+    let main = order_rows(main_union(mode), traces.thread_traces(), traces.events());
+    let global = global_rows(mode, traces.thread_traces(), traces.events());
     Ok(Ordered {
-        traces: Arc::new(
-            alloc,
-            Traces {
-                thread_traces,
-                events,
-            },
-        )?,
+        traces: Arc::new(alloc, traces)?,
         main,
         global,
     })

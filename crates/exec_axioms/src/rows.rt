@@ -17,20 +17,6 @@ use crate::traces::{Traces, access_at};
 use bit_rows::{ROW_BITS, Relation, joined, minus, with};
 use candidate_executions::{Access, Event, Kind};
 
-/// The row of one event.
-pub(crate) fn row_of(events: &[Event], event: Event) -> u32
-    requires { length events.now ≤ ROW_BITS }
-    ensures { IsRowOf events.now (λ e. e ≡ event) result }
-{
-    let mut row = 0;
-    for (d, other) in events.iter().enumerate() {
-        if is_same(*other, event) {
-            row = with(row, d as u8);
-        }
-    }
-    row
-}
-
 /// The accesses to which the union has program order from the one at this place.
 fn later_in_order(
     kind: Kind,
@@ -143,52 +129,47 @@ fn writes_but(thread_traces: &[ThreadTrace], location: u8, except: Event, event:
 /// The reads that have the event as their source, but for one.
 pub(crate) fn readers_of(
     sources: &[(Event, Event)],
-    events: &[Event],
+    traces: &Traces,
     source: Event,
     except: Event,
 ) -> u32
-    requires { length events.now ≤ ROW_BITS }
-    ensures { IsRowOf events.now (ReadsBut sources.now source except) result }
+    ensures { IsRowOf traces.now.events (ReadsBut sources.now source except) result }
 {
     let mut row = 0;
     for chosen in sources {
         if is_same(chosen.1, source) && !is_same(chosen.0, except) {
-            row = joined(row, row_of(events, chosen.0));
+            row = joined(row, traces.row_of(chosen.0));
         }
     }
     row
 }
 
 /// The numbers in the row of an event, but for that of another.
-fn writes_after(events: &[Event], later: &[u32], source: Event, except: Event) -> u32
-    requires few { length events.now ≤ ROW_BITS }
+fn writes_after(traces: &Traces, later: &[u32], source: Event, except: Event) -> u32
+    requires few { length traces.now.events ≤ ROW_BITS }
     requires rows { length later.now ≡ ROW_BITS }
-    requires alike { IsAlike events.now later.now }
-    ensures { (d : ℕ) → IsIn result d ↔ IsAfterBut events.now later.now source except d }
+    requires alike { IsAlike traces.now.events later.now }
+    ensures { (d : ℕ) → IsIn result d ↔ IsAfterBut traces.now.events later.now source except d }
 {
-    match place_of(events, source) {
-        Some(d) => minus(later[d], row_of(events, except)),
+    match traces.number_of(source) {
+        Some(d) => minus(later[d], traces.row_of(except)),
         None => 0,
     }
 }
 
 /// The writes that are known to come after the source of a read, but for the read itself.
 pub(crate) fn overwriting(traces: &Traces, later: &[u32], source: Event, read: Event) -> u32
-    requires few { length traces.now.events.items ≤ ROW_BITS }
+    requires few { length traces.now.events ≤ ROW_BITS }
     requires rows { length later.now ≡ ROW_BITS }
-    requires alike { IsAlike traces.now.events.items later.now }
-    ensures initial { (l : ℕ) → source ≡ Event.Initial l → IsRowOf traces.now.events.items (WritesBut traces.now.thread_traces.items l read) result }
-    ensures after { (t i : ℕ) → source ≡ Event.Access t i → (d : ℕ) → IsIn result d ↔ IsAfterBut traces.now.events.items later.now source read d }
+    requires alike { IsAlike traces.now.events later.now }
+    ensures initial { (l : ℕ) → source ≡ Event.Initial l → IsRowOf traces.now.events (WritesBut traces.now.thread_traces l read) result }
+    ensures after { (t i : ℕ) → source ≡ Event.Access t i → (d : ℕ) → IsIn result d ↔ IsAfterBut traces.now.events later.now source read d }
 {
-    let events = traces.events.as_slice();
     match source {
-        Event::Initial(location) => writes_to(
-            traces.thread_traces.as_slice(),
-            events,
-            location,
-            read,
-        ),
-        Event::Access(_, _) => writes_after(events, later, source, read),
+        Event::Initial(location) => {
+            writes_to(traces.thread_traces(), traces.events(), location, read)
+        }
+        Event::Access(_, _) => writes_after(traces, later, source, read),
     }
 }
 

@@ -1,5 +1,7 @@
 //! What one thread does under its given values.
-ghost use Rattle.std.specs.Prelude.{◌≡◌, ◌<◌, ◌≤◌, ◌+◌, [], ◌∷◌, ◌++◌, length, IfOk};
+ghost use Rattle.std.specs.Prelude.{◌≡◌, ◌<◌, ◌≤◌, ◌+◌, ℕ, [], ◌∷◌, ◌++◌, length, IfOk, IfSome};
+ghost use Rattle.tso_program.specs.Actions.{IsLocated};
+ghost use Rattle.candidate_executions.specs.Sketches as sketches;
 ghost use Rattle.candidate_executions.specs.Traces.{entered, store_of};
 ghost use Rattle.tso_machine.specs.Modes.{machine_mode};
 ghost use Rattle.exec_axioms.specs.ThreadTraces.{GoesOn, IsTraceSoFarOf, IsThreadTraceOf, first_local};
@@ -10,13 +12,14 @@ use candidate_executions::Access;
 use std::alloc::{AllocError, Global};
 use tso_program::{Action, Items, Local, Program, REGISTERS, Reg};
 
-/// The values given to a thread's reads, its accesses up to the first read that has no value, and its
-/// state there.
+/// The values given to a thread's reads, its accesses up to the first read that has no value, its state
+/// there, and the location of that read, if it has not come to its end.
 #[derive(Drop)]
 pub(crate) struct ThreadTrace {
     pub(crate) given: Items<u32>,
     pub(crate) accesses: Items<Access>,
     pub(crate) last: Local,
+    pub(crate) next: Option<u8>,
 }
 
 impl ThreadTrace {
@@ -27,6 +30,7 @@ impl ThreadTrace {
             given: self.given.copy(alloc)?,
             accesses: self.accesses.copy(alloc)?,
             last: self.last,
+            next: self.next,
         })
     }
 
@@ -213,9 +217,22 @@ pub(crate) fn thread_trace_of(
     ensures { IfOk result (IsThreadTraceOf program.now (machine_mode program.now mode) t given) }
 {
     let walk = walked(alloc, program, mode, t, given.as_slice())?;
+    let next = read_by(program.action(t, walk.last));
     Ok(ThreadTrace {
         given,
         accesses: walk.accesses,
         last: walk.last,
+        next,
     })
+}
+
+/// The location that an action reads.
+fn read_by(action: Action) -> Option<u8>
+    ensures value { result ≡ sketches.read_by action }
+    ensures located { (locations : ℕ) → IsLocated locations action → IfSome result (λ location. location < locations) }
+{
+    match action {
+        Action::Read(location, _, _) | Action::Swap(location, _, _, _) => Some(location),
+        _ => None,
+    }
 }

@@ -22,10 +22,10 @@ impl Sketch {
         ensures { IfOk result (λ sketch. sketch ≡ with_chosen self.now (with_values self.now.chosen t (given_to other.now.chosen t))) }
     {
         let place = t as usize;
-        let thread_trace = other.traces.thread_traces[place].copy(self.alloc)?;
-        let mut thread_traces = copied(self.alloc, self.traces.thread_traces.as_slice())?;
+        let thread_trace = other.traces.thread_traces()[place].copy(self.alloc)?;
+        let mut thread_traces = copied(self.alloc, self.traces.thread_traces())?;
         thread_traces[place] = thread_trace;
-        let ordered = in_order(self.alloc, &self.program, self.mode, thread_traces)?;
+        let ordered = in_order(self.alloc, self.mode, thread_traces)?;
         Ok(Sketch {
             alloc: self.alloc,
             program: self.program.copy()?,

@@ -1,24 +1,125 @@
 //! What all threads do under their given values, and all their accesses.
-ghost use Rattle.std.specs.Prelude.{◌≡◌, ◌≤◌, ◌↔◌, ◌⊎◌, ℕ, IfOk, OnOk, IsTrue, Contains, length};
+ghost use Rattle.std.specs.Prelude.{◌≡◌, ◌≤◌, ◌<◌, ◌↔◌, ◌⊎◌, ℕ, [], Some, IfOk, OnOk, IsTrue, MatchOption, Contains, length, slice_get};
 ghost use Rattle.std.specs.List.{AllPairs};
 ghost use Rattle.tso_program.specs.declared.limits.TheConstants.{MAX_THREADS, MAX_INSTRUCTIONS};
 ghost use Rattle.candidate_executions.specs.declared.event.Event.{Event};
 ghost use Rattle.candidate_executions.specs.Events.{ComesBefore};
 ghost use Rattle.exec_axioms.specs.Known.{IsInitialWrite};
-ghost use Rattle.exec_axioms.specs.Rows.{accesses_at, access_of, AreNumbered, AreOfSketch, EachEnds, IsEarly, IsOfThreads};
+ghost use Rattle.exec_axioms.specs.Rows.{accesses_at, access_of, AreAccesses, AreBeyond, AreNumbered, AreOfSketch, AreStarts, EachEnds, FitRow, IsEarly, IsOfThreads, IsOnlyNumber, IsRowOf};
 
-use crate::sketch::read_by;
+use crate::events::is_same;
 use crate::thread_trace::ThreadTrace;
+use bit_rows::with;
 use candidate_executions::{Access, Event};
 use std::alloc::{AllocError, Global};
-use tso_program::Program;
+use std::marker::Model;
+use tso_program::MAX_THREADS;
 
 /// What the threads do, and once each read has its value, all their accesses by thread and index. The
-/// place of an access is its number.
+/// place of an access is its number: the start of its thread, and its index.
 #[derive(Drop)]
 pub(crate) struct Traces {
-    pub(crate) thread_traces: Vec<ThreadTrace>,
-    pub(crate) events: Vec<Event>,
+    thread_traces: Vec<ThreadTrace>,
+    events: Vec<Event>,
+    whole: bool,
+    starts: [u8; MAX_THREADS],
+}
+
+impl Model for Traces {
+    ghost use Rattle.exec_axioms.specs.Rows.{NumberedTraces};
+
+    ghost Value = { NumberedTraces };
+
+    ghost use Rattle.exec_axioms.specs.Rows.{KeepsNumbers};
+
+    ghost view = { λ t. record { thread_traces = t.thread_traces.items; events = t.events.items } };
+
+    ghost invariant = { λ t. KeepsNumbers t.thread_traces.items t.events.items t.whole t.starts };
+}
+
+impl Traces {
+    /// These traces, and their accesses, which get numbers once each read has its value.
+    pub(crate) fn new(alloc: Global, thread_traces: Vec<ThreadTrace>) -> Result<Traces, AllocError>
+        requires { AreOfSketch thread_traces.items }
+        ensures thread_traces { IfOk result (λ traces. traces.thread_traces ≡ thread_traces.items) }
+        ensures numbered { IfOk result (λ traces. AreNumbered thread_traces.items traces.events) }
+    {
+        let mut events = Vec::new(alloc);
+        let mut starts = [0; MAX_THREADS];
+        if !each_ends(thread_traces.as_slice()) {
+            return Ok(Traces {
+                thread_traces,
+                events,
+                whole: false,
+                starts,
+            });
+        }
+        number_accesses(thread_traces.as_slice(), &mut events, &mut starts)?;
+        Ok(Traces {
+            thread_traces,
+            events,
+            whole: true,
+            starts,
+        })
+    }
+
+    /// What the threads do.
+    pub(crate) fn thread_traces(&self) -> &[ThreadTrace]
+        ensures { result.now ≡ self.now.thread_traces }
+    {
+        self.thread_traces.as_slice()
+    }
+
+    /// The accesses that have numbers.
+    pub(crate) fn events(&self) -> &[Event]
+        ensures { result.now ≡ self.now.events }
+    {
+        self.events.as_slice()
+    }
+
+    /// Whether each thread has come to its end.
+    pub(crate) fn is_whole(&self) -> bool
+        ensures { IsTrue result ↔ EachEnds self.now.thread_traces }
+    {
+        self.whole
+    }
+
+    /// The number of an event.
+    pub(crate) fn number_of(&self, event: Event) -> Option<usize>
+        ensures { MatchOption result (Contains self.now.events event → ⊥) (λ i. (i < length self.now.events) × (slice_get self.now.events i ≡ Some event)) }
+    {
+        let number = self.only_number(event)?;
+        let other = *self.events.as_slice().get(number)?;
+        if !is_same(other, event) {
+            return None;
+        }
+        Some(number)
+    }
+
+    /// The number that an event has, if it has one.
+    fn only_number(&self, event: Event) -> Option<usize>
+        ensures { MatchOption result (Contains self.now.events event → ⊥) (λ i. IsOnlyNumber self.now.events event i) }
+    {
+        match event {
+            Event::Initial(_) => None,
+            Event::Access(t, i) => {
+                let start = *self.starts.get(t as usize)?;
+                Some(start as usize + i as usize)
+            }
+        }
+    }
+
+    /// The row of one event.
+    pub(crate) fn row_of(&self, event: Event) -> u32
+        ensures { IsRowOf self.now.events (λ e. e ≡ event) result }
+    {
+        // For the proof alone: what holds of all traces is known where a field of them is read.
+        let _ = &self.events;
+        match self.number_of(event) {
+            Some(number) => with(0, number as u8),
+            None => 0,
+        }
+    }
 }
 
 /// The same traces.
@@ -35,34 +136,37 @@ pub(crate) fn copied(
     Ok(copies)
 }
 
-/// The accesses that get numbers: all, once each read has its value, and none before.
-pub(crate) fn events_if_whole(
-    alloc: Global,
-    program: &Program,
-    thread_traces: &[ThreadTrace],
-) -> Result<Vec<Event>, AllocError>
-    requires { AreOfSketch program.now thread_traces.now }
-    ensures { IfOk result (λ events. AreNumbered program.now thread_traces.now events.items) }
-{
-    let mut events = Vec::new(alloc);
-    if !each_ends(program, thread_traces) {
-        return Ok(events);
-    }
-    push_events(thread_traces, &mut events)?;
-    Ok(events)
-}
-
 /// Whether each thread has come to its end, so that no read is without a value.
-fn each_ends(program: &Program, thread_traces: &[ThreadTrace]) -> bool
-    requires { length thread_traces.now ≤ MAX_THREADS }
-    ensures { IsTrue result ↔ EachEnds program.now thread_traces.now }
+fn each_ends(thread_traces: &[ThreadTrace]) -> bool
+    ensures { IsTrue result ↔ EachEnds thread_traces.now }
 {
-    for (t, thread_trace) in thread_traces.iter().enumerate() {
-        if read_by(program.action(t as u8, thread_trace.last)).is_some() {
+    for thread_trace in thread_traces {
+        if thread_trace.next.is_some() {
             return false;
         }
     }
     true
+}
+
+/// Lists all accesses, and the numbers at which the threads begin.
+fn number_accesses(
+    thread_traces: &[ThreadTrace],
+    events: &mut Vec<Event>,
+    starts: &mut [u8],
+) -> Result<(), AllocError>
+    requires few { length thread_traces.now ≤ MAX_THREADS }
+    requires short { (t : ℕ) → length (accesses_at thread_traces.now t) ≤ MAX_INSTRUCTIONS }
+    requires fit { FitRow thread_traces.now }
+    requires none { events.old.items ≡ [] }
+    requires long { length starts.old ≡ MAX_THREADS }
+    ensures accesses { OnOk result (AreAccesses thread_traces.now events.new.items) }
+    ensures starts { OnOk result (AreStarts events.new.items starts.new) }
+{
+    for (t, thread_trace) in thread_traces.iter().enumerate() {
+        starts[t] = events.len() as u8;
+        push_thread(thread_trace.accesses.len() as u8, t as u8, events)?;
+    }
+    Ok(())
 }
 
 /// Appends all accesses to the events, by thread and index.
@@ -86,6 +190,7 @@ pub(crate) fn push_events(
 fn push_thread(accesses: u8, t: u8, events: &mut Vec<Event>) -> Result<(), AllocError>
     requires { (e : Event) → Contains events.old.items e → ComesBefore e (Event.Access t 0) }
     ensures exact { OnOk result ((e : Event) → Contains events.new.items e ↔ (Contains events.old.items e ⊎ IsEarly t accesses e)) }
+    ensures places { OnOk result (AreBeyond events.old.items t events.new.items) }
     ensures ordered { OnOk result (AllPairs ComesBefore events.old.items → AllPairs ComesBefore events.new.items) }
 {
     for i in 0..accesses {

@@ -16,7 +16,7 @@ returns-then-main c p pairs is may =
       later = later;
       main = main;
       global = global;
-      represented = pair_represented p c.args.mode.now c.args.traces.now.thread_traces.items c.args.traces.now.events.items c.args.sources.now pairs c.args.self.now.later c.args.self.now.main c.args.self.now.global is
+      represented = pair_represented p c.args.mode.now c.args.traces.now.thread_traces c.args.traces.now.events c.args.sources.now pairs c.args.self.now.later c.args.self.now.main c.args.self.now.global is
           c.args.first c.args.second may rows.before rows.after rows.readers rows.earlier rows.fenced later main global
           are.before are.after are.readers are.earlier are.fenced (are_connected c.args.self.now.later rows.before rows.after (omega arith) (omega arith)) to_main to_global;
       test = first_of c.closes-main.result (HasRound main) (HasRound global) test c.if-main.true;
@@ -33,7 +33,7 @@ returns-else-main c p pairs is may =
       later = later;
       main = main;
       global = global;
-      represented = pair_represented p c.args.mode.now c.args.traces.now.thread_traces.items c.args.traces.now.events.items c.args.sources.now pairs c.args.self.now.later c.args.self.now.main c.args.self.now.global is
+      represented = pair_represented p c.args.mode.now c.args.traces.now.thread_traces c.args.traces.now.events c.args.sources.now pairs c.args.self.now.later c.args.self.now.main c.args.self.now.global is
           c.args.first c.args.second may rows.before rows.after rows.readers rows.earlier rows.fenced later main global
           are.before are.after are.readers are.earlier are.fenced (are_connected c.args.self.now.later rows.before rows.after (omega arith) (omega arith)) to_main to_global;
       test = second_of c.closes-main.result c.closes-global.result (HasRound main) (HasRound global) test c.if-main.false test';

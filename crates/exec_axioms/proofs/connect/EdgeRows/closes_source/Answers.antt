@@ -13,7 +13,7 @@ returns-then-main c p sources pairs is may =
       later = c.args.self.now.later;
       main = main';
       global = global';
-      represented = source_represented p c.args.mode.now c.args.traces.now.thread_traces.items c.args.traces.now.events.items sources pairs c.args.self.now.later c.args.self.now.main c.args.self.now.global is
+      represented = source_represented p c.args.mode.now c.args.traces.now.thread_traces c.args.traces.now.events sources pairs c.args.self.now.later c.args.self.now.main c.args.self.now.global is
           c.args.read c.args.source may rows.reader rows.written rows.after rows.far rows.outside rows.from_read main main' global global'
           are.reader are.written are.initial are.after are.far are.outside are.from_read to_main to_main' to_global to_global';
       test = first_of c.closes_twice-main.result (HasRound main') (HasRound global') test c.if-main.true;
@@ -29,7 +29,7 @@ returns-else-main c p sources pairs is may =
       later = c.args.self.now.later;
       main = main';
       global = global';
-      represented = source_represented p c.args.mode.now c.args.traces.now.thread_traces.items c.args.traces.now.events.items sources pairs c.args.self.now.later c.args.self.now.main c.args.self.now.global is
+      represented = source_represented p c.args.mode.now c.args.traces.now.thread_traces c.args.traces.now.events sources pairs c.args.self.now.later c.args.self.now.main c.args.self.now.global is
           c.args.read c.args.source may rows.reader rows.written rows.after rows.far rows.outside rows.from_read main main' global global'
           are.reader are.written are.initial are.after are.far are.outside are.from_read to_main to_main' to_global to_global';
       test = second_of c.closes_twice-main.result c.closes_twice-global.result (HasRound main') (HasRound global') test c.if-main.false test';

@@ -12,4 +12,4 @@ returns-clause-few c = choices_few c.args.self.now (subst (λ (s : ProgramSketch
 
 pub returns-clause-registers : goal.returns-clause-registers
 returns-clause-registers c = subst (λ (s : ProgramSketch). HaveAllRegisters s.program.threads) c.self.view_is
-    (six_registers c.self.inside.program c.self.inside.mode (arc_value c.self.inside.traces).thread_traces.items c.self.inside.sources.items c.self.inside.pairs.items c.self.invariant.kept)
+    (six_registers c.self.inside.program c.self.inside.mode (arc_value c.self.inside.traces).thread_traces c.self.inside.sources.items c.self.inside.pairs.items c.self.invariant.kept)

@@ -1,0 +1,100 @@
+-- The numbers of accesses: the start of a thread, and an index in it.
+use Rattle.std.proofs.Common.{◌≡◌, ◌↔◌, ◌⊎◌, ℕ, ◌+◌, ◌<◌, List, [], ◌∷◌, ◌++◌, Some, Contains, slice_get, set, length, refl, sym, ap, ◌∙◌, subst, inl, inr, arith}
+use Rattle.std.specs.List.{AllPairs}
+use Rattle.std.proofs.lemmas.Bool.{cases_lt}
+use Rattle.std.proofs.lemmas.Option.{slice_get_within, same_Some}
+use Rattle.bit_rows.specs.Rows.{IsIn}
+use Rattle.bit_rows.proofs.Bits.{none_in_zero}
+use Rattle.candidate_executions.specs.declared.event.Event.{Event}
+use Rattle.candidate_executions.specs.declared.event.Event.TheVariants.{Initial, Access as At}
+use Rattle.candidate_executions.proofs.Orders.Lists.{get_cases, get_set_same, get_set_other}
+use Rattle.candidate_executions.specs.Events.{ComesBefore}
+use Rattle.exec_axioms.specs.declared.thread_trace.ThreadTrace.{ThreadTrace}
+use Rattle.exec_axioms.specs.Rows.{IsRowOf, AreAccesses, AreBeyond, AreNumbered, AreStarts, EachEnds, FitRow, IsOfThreads, IsOnlyNumber}
+use Rattle.exec_axioms.proofs.Accesses.{IsBelow}
+use Rattle.exec_axioms.proofs.BranchesCounted.{not_before_itself}
+use Rattle.exec_axioms.proofs.InThreadOrder.{none_ordered, before_in}
+use Rattle.exec_axioms.proofs.Lawful.{none_in}
+use Rattle.exec_axioms.proofs.Numbered.{contained}
+
+pub beyond_none : (old : List Event) (t : ℕ) → AreBeyond old t old
+beyond_none old t d u i at = inl at
+
+-- traces of which some read has no value get no numbers
+pub numbered_none : (thread_traces : List ThreadTrace) (events : List Event) → events ≡ [] → (EachEnds thread_traces → ⊥) → AreNumbered thread_traces events
+numbered_none thread_traces events none goes_on = record {
+  all = λ ends. absurd (goes_on ends);
+  of_threads = λ e h. absurd (none_in e (subst (λ (es : List Event). Contains es e) none h));
+  ordered = subst (AllPairs ComesBefore) (sym none) none_ordered;
+  few = (let empty = ap length none in omega arith);
+}
+
+-- and the others all
+pub numbered_all : (thread_traces : List ThreadTrace) (events : List Event) → FitRow thread_traces → AreAccesses thread_traces events → AreNumbered thread_traces events
+numbered_all thread_traces events fit accesses = record {
+  all = λ ends. accesses;
+  of_threads = λ e h. (accesses.exact e).0 h;
+  ordered = accesses.ordered;
+  few = fit events accesses.ordered (λ e h. (accesses.exact e).0 h);
+}
+
+-- one access more of thread t
+pub beyond_more : (old new : List Event) (t i : ℕ) → length new ≡ length old + i → AreBeyond old t new → AreBeyond old t (new ++ At t i ∷ [])
+beyond_more old new t i long beyond d u j at = elim (get_cases new (At t i) d (At u j) at) [
+  | inl a ↦ beyond d u j a
+  | inr b ↦ (let index : j ≡ i = ap index_of b.1 in let place = b.0 in inr (ap thread_of b.1, omega arith))
+]
+  where
+    thread_of : Event → ℕ
+    thread_of (Initial l) = 0
+    thread_of (At v k) = v
+
+    index_of : Event → ℕ
+    index_of (Initial l) = 0
+    index_of (At v k) = k
+
+pub starts_none : (events : List Event) (starts : List ℕ) → events ≡ [] → AreStarts events starts
+starts_none events starts none d t i at = absurd (let l = slice_get_within events d (At t i) at in let empty = ap length none in omega arith)
+
+-- one thread more
+pub starts_more : (thread_traces : List ThreadTrace) (old next : List Event) (t start : ℕ) (starts : List ℕ) → ((e : Event) → Contains old e → IsBelow thread_traces t e) → t < length starts →
+    start ≡ length old → AreStarts old starts → AreBeyond old t next → AreStarts next (set starts t start)
+starts_more thread_traces old next t start starts below inside here are beyond d u i at = elim (beyond d u i at) [
+  | inl a ↦ (let (first, there, sum) = are d u i a in
+      let earlier = (below (At u i) (contained old (At u i) (d, a))).0 in
+      (first, get_set_other starts t start u (λ same. absurd (omega arith)) ∙ there, sum))
+  | inr (same, sum) ↦ (start, ap (slice_get (set starts t start)) same ∙ get_set_same starts t start inside, omega arith)
+]
+
+-- no event has another number than its own
+pub only_number : (events : List Event) (starts : List ℕ) (t i start : ℕ) → AreStarts events starts → slice_get starts t ≡ Some start → IsOnlyNumber events (At t i) (start + i)
+only_number events starts t i start are there d at = (let (first, here, sum) = are d t i at in
+    let same : first ≡ start = same_Some first start (sym here ∙ there) in omega arith)
+
+-- the row of one number
+pub row_of_number : (events : List Event) (e : Event) (number row : ℕ) → slice_get events number ≡ Some e → ((d : ℕ) → slice_get events d ≡ Some e → d ≡ number) →
+    ((k : ℕ) → IsIn row k ↔ (IsIn 0 k ⊎ (k ≡ number))) → IsRowOf events (λ x. x ≡ e) row
+row_of_number events e number row at only one d = (
+  λ h. elim ((one d).0 h) [
+    | inl z ↦ absurd (none_in_zero d z)
+    | inr same ↦ (e, ap (slice_get events) same ∙ at, refl)
+  ],
+  λ (x, there, same). (one d).1 (inr (only d (there ∙ ap (λ z. Some z) same))),
+)
+
+pub row_of_none : (events : List Event) (e : Event) → (Contains events e → ⊥) → IsRowOf events (λ x. x ≡ e) 0
+row_of_none events e none d = (λ h. absurd (none_in_zero d h), λ (x, there, same). absurd (none (contained events e (d, there ∙ ap (λ z. Some z) same))))
+
+-- no initial write has a number
+pub no_initial : (thread_traces : List ThreadTrace) (events : List Event) (l : ℕ) → ((e : Event) → Contains events e → IsOfThreads thread_traces e) → Contains events (Initial l) → ⊥
+no_initial thread_traces events l of_threads has = of_threads (Initial l) has
+
+-- an event has one number
+pub same_number : (events : List Event) (ordered : AllPairs ComesBefore events) (d k : ℕ) (e : Event) → slice_get events d ≡ Some e → slice_get events k ≡ Some e → d ≡ k
+same_number events ordered d k e at to_at = elim (cases_lt d k) [
+  | inl l ↦ absurd (not_before_itself e (before_in events ordered d k e e l at to_at))
+  | inr g ↦ elim (cases_lt k d) [
+    | inl l ↦ absurd (not_before_itself e (before_in events ordered k d e e l to_at at))
+    | inr h ↦ omega arith
+  ]
+]

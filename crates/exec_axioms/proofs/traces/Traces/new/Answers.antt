@@ -1,0 +1,35 @@
+use Rattle.std.proofs.Common.{◌≤◌, ℕ, List, length, sym, subst, refl}
+use Rattle.tso_program.specs.declared.limits.TheConstants.{MAX_INSTRUCTIONS}
+use Rattle.exec_axioms.specs.declared.thread_trace.ThreadTrace.{ThreadTrace}
+use Rattle.exec_axioms.specs.Rows.{accesses_at, AreAccesses, EachEnds, FitRow}
+use Rattle.exec_axioms.proofs.Numbered.{courses_short, fit_row}
+use Rattle.exec_axioms.proofs.Starts.{numbered_all}
+use Rattle.exec_axioms.proofs.traces.Traces.new.Goals as goal
+
+pub number_accesses-requires-clause-short : goal.number_accesses-requires-clause-short
+number_accesses-requires-clause-short c =
+    let (p, mode, sources, pairs, kept) = c.requires in
+    subst (λ (thread_traces : List ThreadTrace). (t : ℕ) → length (accesses_at thread_traces t) ≤ MAX_INSTRUCTIONS) (sym c.as_slice-2.ensures.value)
+    (courses_short p mode c.args.thread_traces.items sources pairs kept)
+
+pub number_accesses-requires-clause-fit : goal.number_accesses-requires-clause-fit
+number_accesses-requires-clause-fit c =
+    let (p, mode, sources, pairs, kept) = c.requires in
+    subst (λ (thread_traces : List ThreadTrace). FitRow thread_traces) (sym c.as_slice-2.ensures.value) (fit_row p mode c.args.thread_traces.items sources pairs kept)
+
+pub invariant_of-result-2 : goal.invariant_of-result-2
+invariant_of-result-2 c =
+    let (p, mode, sources, pairs, kept) = c.requires in
+    let accesses = subst (λ (thread_traces : List ThreadTrace). AreAccesses thread_traces c.number_accesses.new.events.items) c.as_slice-2.ensures.value c.in_ok-number_accesses.ensures.accesses in
+    let ends = subst (λ (thread_traces : List ThreadTrace). EachEnds thread_traces) c.as_slice.ensures.value (c.each_ends.ensures.0 c.if-not-each_ends.false) in
+    record {
+      numbered = numbered_all c.args.thread_traces.items c.number_accesses.new.events.items (fit_row p mode c.args.thread_traces.items sources pairs kept) accesses;
+      ends = (λ t. ends, λ h. refl);
+      starts_are = c.in_ok-number_accesses.ensures.starts;
+    }
+
+pub returns-clause-numbered : goal.returns-clause-numbered
+returns-clause-numbered c =
+    let (p, mode, sources, pairs, kept) = c.requires in
+    let accesses = subst (λ (thread_traces : List ThreadTrace). AreAccesses thread_traces c.number_accesses.new.events.items) c.as_slice-2.ensures.value c.in_ok-number_accesses.ensures.accesses in
+    numbered_all c.args.thread_traces.items c.number_accesses.new.events.items (fit_row p mode c.args.thread_traces.items sources pairs kept) accesses

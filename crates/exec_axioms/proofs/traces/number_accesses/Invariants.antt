@@ -1,0 +1,13 @@
+use Rattle.std.proofs.Common.{◌≡◌, [], length}
+use Rattle.tso_program.specs.declared.limits.TheConstants.{MAX_THREADS}
+use Rattle.exec_axioms.specs.Rows.{AreStarts}
+use Rattle.exec_axioms.proofs.Accesses.{IsGrown, IsBelow}
+use Rattle.exec_axioms.proofs.traces.number_accesses.Given as goal
+
+-- the accesses of the threads so far have come, and their starts
+abbrev pub invariant-loop-t : goal.invariant-loop-t
+invariant-loop-t l = record {
+  grown : IsGrown (IsBelow l.thread_traces l.t) [] l.events.items;
+  starts_are : AreStarts l.events.items l.starts;
+  long : length l.starts ≡ MAX_THREADS;
+}
