@@ -1,5 +1,5 @@
 -- A location has few values, and a read few sources.
-use Rattle.std.proofs.Common.{◌≡◌, ◌↔◌, ℕ, zero, suc, ◌+◌, ◌-◌, ◌*◌, ◌<◌, ◌≤◌, List, [], ◌∷◌, ◌++◌, Some, map, length, slice_get, get_or, Contains, Vec, Global, Result, Ok, Err, IfOk, sym, ap, ◌∙◌, subst, inl, inr, arith}
+use Rattle.std.proofs.Common.{◌≡◌, ℕ, zero, suc, ◌+◌, ◌-◌, ◌*◌, ◌<◌, ◌≤◌, List, [], ◌∷◌, ◌++◌, Some, map, length, slice_get, get_or, Contains, sym, ap, ◌∙◌, subst, inl, inr, arith}
 use Rattle.std.specs.Prelude.{unwrap_or}
 use Rattle.std.specs.List.{AllPairs}
 use Rattle.std.specs.List.Sorted.{IsStrictlyIncreasing}
@@ -22,8 +22,6 @@ use Rattle.candidate_executions.specs.Events.{ComesBefore}
 use Rattle.candidate_executions.specs.Sketches.{Sketch, given_to, IsSourceOf}
 use Rattle.candidate_executions.specs.Values.{IsKnown, IsValueOf}
 use Rattle.candidate_executions.proofs.Orders.Lists.{first_is_here, later_is_here, mapped}
-use Rattle.exec_axioms.specs.ProgramSketches.{ProgramSketch, mode_in}
-use Rattle.exec_axioms.specs.Kept.{IsLawful}
 use Rattle.exec_axioms.specs.Internal.Immediates.{any_number}
 use Rattle.exec_axioms.specs.Sizes.{HaveAllRegisters, most_values, most_sources}
 use Rattle.exec_axioms.proofs.KnownValues.{known_all}
@@ -139,10 +137,3 @@ module _ (p : Listing) (mode : Mode) (k : Sketch) (read : Event) (within : IsWit
       (λ source has. source_here x at source (are source has)) in
       let all = all_events_few p mode (given_to k) within in
       omega arith
-
--- where the sources are listed in order
-pub few_listed : {E : Type 0} (s : ProgramSketch) (read : Event) (found : Result (Vec Event Global) E) → IsLawful s →
-    IfOk found (λ sources. (source : Event) → Contains sources.items source ↔ IsSourceOf s.program (mode_in s) s.chosen source read) →
-    IfOk found (λ sources. AllPairs ComesBefore sources.items) → IfOk found (λ sources. length sources.items ≤ most_sources)
-few_listed s read (Ok sources) lawful exact ordered = few_sources s.program (mode_in s) s.chosen read lawful.within sources.items ordered (λ source. (exact source).0)
-few_listed s read (Err fault) lawful exact ordered = tt

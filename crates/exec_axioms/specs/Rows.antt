@@ -1,5 +1,5 @@
 -- Accesses by number, and what is kept of them in rows.
-use Rattle.std.specs.Prelude.{◌≡◌, ◌≢◌, ◌↔◌, ◌⊎◌, ◌+◌, ◌<◌, ◌≤◌, ℕ, Bool, IsTrue, List, [], Option, Some, None, IsSome, slice_get, length, Contains}
+use Rattle.std.specs.Prelude.{◌≡◌, ◌≢◌, ◌↔◌, ◌⊎◌, ◌+◌, ◌<◌, ◌≤◌, ℕ, Bool, IsTrue, List, [], Option, Some, None, IsSome, slice_get, slice_index, length, Contains}
 use Rattle.std.specs.List.{AllPairs}
 use Rattle.std.specs.Option.{option_map_or}
 use Rattle.bit_rows.specs.Rows.{IsIn, Relates, HasRound}
@@ -20,6 +20,7 @@ use Rattle.exec_axioms.specs.ProgramSketches.{ProgramSketch, mode_in}
 use Rattle.exec_axioms.specs.Known.{OrderPart}
 use Rattle.exec_axioms.specs.Kept.{view_of, KeepsTraces}
 use Rattle.bit_rows.specs.declared.row.TheConstants.{ROW_BITS}
+use Rattle.tso_program.specs.declared.limits.TheConstants.{MAX_LOCATIONS}
 use Rattle.candidate_executions.specs.Sketches.{KnownEdgeOfMode, IsWhole}
 
 -- the accesses of thread t, none where there is no such thread
@@ -59,6 +60,18 @@ AreRowsOf events R rows =
 abbrev pub InOrder : List ThreadTrace → Kind → Event → Event → Type 0
 InOrder thread_traces kind d e =
     (x : Access) × (y : Access) × (access_of thread_traces d ≡ Some x) × (access_of thread_traces e ≡ Some y) × OrderPart kind d x e y
+
+-- the locations of the accesses are among those that a program has
+abbrev pub AreLocated : List ThreadTrace → Type 0
+AreLocated thread_traces = (e : Event) (x : Access) → access_of thread_traces e ≡ Some x → x.location < MAX_LOCATIONS
+
+-- an access that writes the location
+abbrev pub IsWriteAt : List ThreadTrace → ℕ → Event → Type 0
+IsWriteAt thread_traces l e = (y : Access) × (access_of thread_traces e ≡ Some y) × (y.location ≡ l) × IsSome y.written
+
+-- the rows have for each location the accesses that write it
+abbrev pub AreWriteRows : List ThreadTrace → List Event → List ℕ → Type 0
+AreWriteRows thread_traces events rows = (l : ℕ) → IsRowOf events (IsWriteAt thread_traces l) (slice_index rows l)
 
 -- an access that writes the location, but for one event
 abbrev pub WritesBut : List ThreadTrace → ℕ → Event → Event → Type 0
@@ -123,11 +136,12 @@ IsOnlyNumber events e number = (d : ℕ) → slice_get events d ≡ Some e → n
 abbrev pub AreBeyond : List Event → ℕ → List Event → Type 0
 AreBeyond old t new = (d u i : ℕ) → slice_get new d ≡ Some (At u i) → (slice_get old d ≡ Some (At u i)) ⊎ ((u ≡ t) × (length old + i ≡ d))
 
--- what is kept beside the traces: whether each thread has come to its end, the accesses that have numbers, and the starts of the threads
-pub record KeepsNumbers (thread_traces : List ThreadTrace) (events : List Event) (whole : Bool) (starts : List ℕ) : Type 0 where
+-- what is kept beside the traces: whether each thread has come to its end, the accesses that have numbers, the starts of the threads, and the writes to each location
+pub record KeepsNumbers (thread_traces : List ThreadTrace) (events : List Event) (whole : Bool) (starts written : List ℕ) : Type 0 where
   pub numbered : AreNumbered thread_traces events
   pub ends : IsTrue whole ↔ EachEnds thread_traces
   pub starts_are : AreStarts events starts
+  pub written_are : AreWriteRows thread_traces events written
 
 -- the rows have the program order of the mode's unions between the accesses that have numbers
 pub record HasOrder (mode : Mode) (thread_traces : List ThreadTrace) (events : List Event) (main global : List ℕ) : Type 0 where

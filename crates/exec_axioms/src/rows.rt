@@ -96,36 +96,6 @@ pub(crate) fn order_rows(kind: Kind, thread_traces: &[ThreadTrace], events: &[Ev
     Relation::of_order(rows)
 }
 
-/// The accesses that write a location, but for one event.
-pub(crate) fn writes_to(
-    thread_traces: &[ThreadTrace],
-    events: &[Event],
-    location: u8,
-    except: Event,
-) -> u32
-    requires { length events.now ≤ ROW_BITS }
-    ensures { IsRowOf events.now (WritesBut thread_traces.now location except) result }
-{
-    let mut row = 0;
-    for (d, event) in events.iter().enumerate() {
-        if writes_but(thread_traces, location, except, *event) {
-            row = with(row, d as u8);
-        }
-    }
-    row
-}
-
-fn writes_but(thread_traces: &[ThreadTrace], location: u8, except: Event, event: Event) -> bool
-    ensures { IsTrue result ↔ WritesBut thread_traces.now location except event }
-{
-    match access_at(thread_traces, event) {
-        Some(access) => {
-            access.location == location && access.written.is_some() && !is_same(except, event)
-        }
-        None => false,
-    }
-}
-
 /// The reads that have the event as their source, but for one.
 pub(crate) fn readers_of(
     sources: &[(Event, Event)],
@@ -166,9 +136,7 @@ pub(crate) fn overwriting(traces: &Traces, later: &[u32], source: Event, read: E
     ensures after { (t i : ℕ) → source ≡ Event.Access t i → (d : ℕ) → IsIn result d ↔ IsAfterBut traces.now.events later.now source read d }
 {
     match source {
-        Event::Initial(location) => {
-            writes_to(traces.thread_traces(), traces.events(), location, read)
-        }
+        Event::Initial(location) => minus(traces.writes_to(location), traces.row_of(read)),
         Event::Access(_, _) => writes_after(traces, later, source, read),
     }
 }

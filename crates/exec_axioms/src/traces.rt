@@ -1,19 +1,21 @@
 //! What all threads do under their given values, and all their accesses.
-ghost use Rattle.std.specs.Prelude.{◌≡◌, ◌≤◌, ◌<◌, ◌↔◌, ◌⊎◌, ℕ, [], Some, IfOk, OnOk, IsTrue, MatchOption, Contains, length, slice_get};
+ghost use Rattle.std.specs.Prelude.{◌≡◌, ◌≤◌, ◌<◌, ◌↔◌, ◌⊎◌, ℕ, [], Some, IfOk, OnOk, IsTrue, IfSome, MatchOption, Contains, length, slice_get};
 ghost use Rattle.std.specs.List.{AllPairs};
 ghost use Rattle.tso_program.specs.declared.limits.TheConstants.{MAX_THREADS, MAX_INSTRUCTIONS};
+ghost use Rattle.bit_rows.specs.Rows.{Relates};
+ghost use Rattle.bit_rows.specs.declared.row.TheConstants.{ROW_BITS};
 ghost use Rattle.candidate_executions.specs.declared.event.Event.{Event};
 ghost use Rattle.candidate_executions.specs.Events.{ComesBefore};
 ghost use Rattle.exec_axioms.specs.Known.{IsInitialWrite};
-ghost use Rattle.exec_axioms.specs.Rows.{accesses_at, access_of, AreAccesses, AreBeyond, AreNumbered, AreOfSketch, AreStarts, EachEnds, FitRow, IsEarly, IsOfThreads, IsOnlyNumber, IsRowOf};
+ghost use Rattle.exec_axioms.specs.Rows.{accesses_at, access_of, AreAccesses, AreBeyond, AreLocated, AreNumbered, AreOfSketch, AreStarts, AreWriteRows, EachEnds, FitRow, IsEarly, IsOfThreads, IsOnlyNumber, IsRowOf, IsWriteAt};
 
 use crate::events::is_same;
 use crate::thread_trace::ThreadTrace;
-use bit_rows::with;
+use bit_rows::{ROW_BITS, with};
 use candidate_executions::{Access, Event};
 use std::alloc::{AllocError, Global};
 use std::marker::Model;
-use tso_program::MAX_THREADS;
+use tso_program::{MAX_LOCATIONS, MAX_THREADS};
 
 /// What the threads do, and once each read has its value, all their accesses by thread and index. The
 /// place of an access is its number: the start of its thread, and its index.
@@ -23,6 +25,7 @@ pub(crate) struct Traces {
     events: Vec<Event>,
     whole: bool,
     starts: [u8; MAX_THREADS],
+    written: [u32; MAX_LOCATIONS],
 }
 
 impl Model for Traces {
@@ -34,7 +37,7 @@ impl Model for Traces {
 
     ghost view = { λ t. record { thread_traces = t.thread_traces.items; events = t.events.items } };
 
-    ghost invariant = { λ t. KeepsNumbers t.thread_traces.items t.events.items t.whole t.starts };
+    ghost invariant = { λ t. KeepsNumbers t.thread_traces.items t.events.items t.whole t.starts t.written };
 }
 
 impl Traces {
@@ -52,14 +55,17 @@ impl Traces {
                 events,
                 whole: false,
                 starts,
+                written: [0; MAX_LOCATIONS],
             });
         }
         number_accesses(thread_traces.as_slice(), &mut events, &mut starts)?;
+        let written = write_rows(thread_traces.as_slice(), events.as_slice());
         Ok(Traces {
             thread_traces,
             events,
             whole: true,
             starts,
+            written,
         })
     }
 
@@ -120,6 +126,16 @@ impl Traces {
             None => 0,
         }
     }
+
+    /// The accesses that write the location.
+    pub(crate) fn writes_to(&self, location: u8) -> u32
+        ensures { IsRowOf self.now.events (IsWriteAt self.now.thread_traces location) result }
+    {
+        match self.written.get(location as usize) {
+            Some(row) => *row,
+            None => 0,
+        }
+    }
 }
 
 /// The same traces.
@@ -167,6 +183,45 @@ fn number_accesses(
         push_thread(thread_trace.accesses.len() as u8, t as u8, events)?;
     }
     Ok(())
+}
+
+/// For each location the row of the accesses that write it.
+fn write_rows(thread_traces: &[ThreadTrace], events: &[Event]) -> [u32; MAX_LOCATIONS]
+    requires few { length events.now ≤ ROW_BITS }
+    requires located { AreLocated thread_traces.now }
+    ensures { AreWriteRows thread_traces.now events.now result }
+{
+    let mut rows = [0; MAX_LOCATIONS];
+    for (d, event) in events.iter().enumerate() {
+        put_write(&mut rows, location_written(thread_traces, *event), d as u8);
+    }
+    rows
+}
+
+/// Puts a number into the row of a location, if there is one.
+fn put_write(rows: &mut [u32], location: Option<u8>, number: u8)
+    requires number { number < ROW_BITS }
+    requires there { IfSome location (λ l. l < length rows.old) }
+    ensures { (l k : ℕ) → Relates rows.new l k ↔ (Relates rows.old l k ⊎ ((location ≡ Some l) × (k ≡ number))) }
+{
+    if let Some(l) = location {
+        let place = l as usize;
+        rows[place] = with(rows[place], number);
+    }
+}
+
+/// The location that an access writes, if it writes one.
+fn location_written(thread_traces: &[ThreadTrace], event: Event) -> Option<u8>
+    ensures { (l : ℕ) → (result ≡ Some l) ↔ IsWriteAt thread_traces.now l event }
+{
+    match access_at(thread_traces, event) {
+        Some(access) => if access.written.is_some() {
+            Some(access.location)
+        } else {
+            None
+        },
+        None => None,
+    }
 }
 
 /// Appends all accesses to the events, by thread and index.
