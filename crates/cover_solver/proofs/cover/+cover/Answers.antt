@@ -7,7 +7,7 @@ use Rattle.cover_judge.specs.declared.choice.Choice.{Choice}
 use Rattle.cover_judge.specs.declared.choice.Choice.TheVariants as choice
 use Rattle.cover_solver.specs.Choices.{IsBranch}
 use Rattle.cover_solver.specs.Covers.{IsCoverAt, AreCoversAfter, AreChildren, IsArity}
-use Rattle.cover_solver.proofs.Exploring.{fewer_rounds}
+use Rattle.cover_solver.proofs.Rounds.{fewer_rounds}
 use Rattle.cover_solver.proofs.Nodes.{cover_next, cover_without, covers_more, node_cover, node_arity}
 use Rattle.cover_solver.proofs.cover.+cover.Goals as goal
 

@@ -8,7 +8,7 @@ use Rattle.cover_solver.specs.declared.choices_left.OpenChoice.TheVariants as le
 use Rattle.cover_solver.specs.Covers.{IsCoverAt, AreCoversAfter}
 use Rattle.cover_solver.specs.Plans.{AreOfOthers}
 use Rattle.cover_solver.proofs.CombinedCovers.{before_next, of_others}
-use Rattle.cover_solver.proofs.Exploring.{fewer_rounds}
+use Rattle.cover_solver.proofs.Rounds.{fewer_rounds}
 use Rattle.cover_solver.proofs.Nodes.{cover_next, covers_more, node_cover}
 use Rattle.cover_solver.proofs.cover_values.+cover_values.Goals as goal
 

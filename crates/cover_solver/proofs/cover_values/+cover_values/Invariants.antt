@@ -1,7 +1,7 @@
 use Rattle.std.proofs.Common.{◌+◌, map, take}
 use Rattle.cert_forest.specs.Views.{cover}
 use Rattle.cover_solver.specs.Covers.{AreCoversAfter}
-use Rattle.cover_solver.proofs.Exploring.{rounds}
+use Rattle.cover_solver.proofs.Rounds.{rounds}
 use Rattle.cover_solver.proofs.cover_values.+cover_values.Given as goal
 
 abbrev pub decreases-cover_values : goal.decreases-cover_values
