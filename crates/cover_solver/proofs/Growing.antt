@@ -8,12 +8,14 @@ use Rattle.tso_program.specs.declared.shown.Shown.{Shown}
 use Rattle.tso_program.specs.Shown.{Question, asked}
 use Rattle.tso_machine.specs.Machine.{Mode}
 use Rattle.candidate_executions.specs.Sketches.{Sketch, with_value, with_source, with_pair}
-use Rattle.exec_axioms.specs.ProgramSketches.{ProgramSketch, mode_in}
+use Rattle.exec_axioms.specs.ProgramSketches.{ProgramSketch, mode_in, with_chosen}
 use Rattle.exec_axioms.specs.Completions.{MustEndSo}
 use Rattle.cert_forest.specs.Trees.{Cover, Value, Source, Order, Cycle, Known, Covers, NoCover, MoreCovers, covers_of}
 use Rattle.tree_laws.specs.CoverTrees.{event_of, MustEndAsNumber, IsValidCover, AreValidCovers}
 use Rattle.cover_judge.specs.declared.choice.Choice.{Choice}
 use Rattle.cover_judge.specs.Choices.{sketch_with}
+use Rattle.cover_judge.proofs.SketchesAfter.{moved}
+use Rattle.cover_solver.specs.declared.fault.Stop.{Stop}
 use Rattle.cover_solver.specs.declared.listed.Listed.{Listed}
 use Rattle.cover_solver.specs.declared.listed.Listed.TheVariants.{Closed, Open}
 use Rattle.cover_solver.specs.Covers.{IsCoverAt, AreCoversAfter, IsEndNotListed}
@@ -77,3 +79,11 @@ pub ended : (s : ProgramSketch) (shown : Shown) (outcomes : List Outcome) (end :
     MatchOption number (IsEndNotListed s shown outcomes) (MustEndAsNumber (asked s.program shown) (mode_in s) outcomes s.chosen)
 ended s shown outcomes end None must none = end_not_there s shown outcomes end must none
 ended s shown outcomes end (Some n) must at = end_at s shown outcomes n end must at
+
+-- what the search at the sketch after a choice does, and why it stops, is so at the sketch
+module _ (s next : ProgramSketch) (shown : Shown) (c : Choice) (same : next ≡ with_chosen s (sketch_with s.chosen c)) where
+  pub grows_after : (old new : Listed) → Grows (asked next.program shown) (mode_in next) old new → Grows (asked s.program shown) (mode_in s) old new
+  grows_after old new grows = moved (λ p mode k. Grows (asked p shown) mode old new) s next c same grows
+
+  pub stops_after : (outcomes : Listed) (why : Stop) → StopIs (asked next.program shown) (mode_in next) outcomes why → StopIs (asked s.program shown) (mode_in s) outcomes why
+  stops_after outcomes why is = moved (λ p mode k. StopIs (asked p shown) mode outcomes why) s next c same is

@@ -2,6 +2,7 @@ pub mod NothingLeft
 pub mod WritesListed
 pub mod Inserted
 pub mod Rounds
+pub mod Numbered
 pub mod Growing
 pub mod Renumbering
 pub mod Ends
