@@ -1,5 +1,5 @@
 //! The search for all outcomes.
-ghost use Rattle.std.specs.Prelude.{◌↔◌, IfOk, Contains};
+ghost use Rattle.std.specs.Prelude.{◌≡◌, ◌↔◌, IfOk, Contains};
 ghost use Rattle.tso_program.specs.declared.outcome.Outcome.{Outcome};
 ghost use Rattle.tso_program.specs.Shown.{asked};
 ghost use Rattle.tso_machine.specs.Outcomes.{AllowsShown};
@@ -15,7 +15,7 @@ use crate::listed::Listed;
 use cert_forest::CoverTree;
 use exec_axioms::Mode;
 use std::alloc::{AllocError, Global};
-use tso_program::{Program, Shown};
+use tso_program::{Outcome, Program, Shown};
 
 /// Outcomes, with a cover tree over them.
 #[derive(Drop)]
@@ -23,6 +23,15 @@ pub(crate) struct Covered {
     pub(crate) found: Found,
     /// It names the outcomes in the order in which they were found.
     pub(crate) tree: CoverTree,
+}
+
+impl Covered {
+    /// The outcomes alone, ascending.
+    pub(crate) fn into_outcomes(self) -> Vec<Outcome>
+        ensures { result.items ≡ self.found.outcomes.items }
+    {
+        self.found.outcomes
+    }
 }
 
 /// All outcomes of the machine of a mode, as far as they are shown, each with a run, and a cover tree that

@@ -27,5 +27,5 @@ pub fn outcomes(
     ensures exact { IfOk result (λ outcomes. (o : Outcome) → Contains outcomes.items o ↔ AllowsShown (asked program.now shown.now) (mode_of program.now set.empty model) o) }
 {
     let all = all_outcomes(alloc, program, shown, Mode::unfenced(model))?;
-    Ok(all.found.outcomes)
+    Ok(all.into_outcomes())
 }
