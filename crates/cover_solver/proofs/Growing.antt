@@ -1,6 +1,5 @@
 -- Lists of outcomes that grow, and the trees over them.
-use Rattle.std.proofs.Common.{◌≡◌, ℕ, suc, List, [], ◌∷◌, Contains, map, refl, subst}
-use Rattle.std.specs.Prelude.{◌^◌, ◌<◌}
+use Rattle.std.proofs.Common.{◌≡◌, ℕ, List, [], ◌∷◌, Contains, map, refl, subst}
 use Rattle.std.specs.Option.{MatchOption}
 use Rattle.std.specs.Prelude.{Option, Some, None}
 use Rattle.tso_program.specs.declared.outcome.Outcome.{Outcome}
@@ -18,9 +17,9 @@ use Rattle.cover_judge.proofs.SketchesAfter.{moved}
 use Rattle.cover_solver.specs.declared.fault.Stop.{Stop}
 use Rattle.cover_solver.specs.declared.listed.Listed.{Listed}
 use Rattle.cover_solver.specs.declared.listed.Listed.TheVariants.{Closed, Open}
-use Rattle.cover_solver.specs.Covers.{IsCoverAt, AreCoversAfter, IsEndNotListed}
+use Rattle.cover_solver.specs.Covers.{AreCoversAfter, IsEndNotListed}
 use Rattle.cover_solver.specs.Found.{HasNumber, KeepsNumbers}
-use Rattle.cover_solver.specs.Listed.{listed, AreInOrder, StaysClosed, StopIs, Grows}
+use Rattle.cover_solver.specs.Listed.{AreInOrder, StaysClosed, StopIs, Grows}
 use Rattle.cover_solver.proofs.Ends.{end_at, end_not_there}
 
 stays : (outcomes : Listed) → StaysClosed outcomes outcomes

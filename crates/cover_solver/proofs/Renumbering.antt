@@ -1,5 +1,5 @@
 -- A valid tree stays valid over another list when its numbers are put for those of the same outcomes there.
-use Rattle.std.proofs.Common.{◌≡◌, ℕ, suc, ◌<◌, ◌≤◌, List, [], ◌∷◌, get_or, map, length, refl, sym, ap, subst, arith}
+use Rattle.std.proofs.Common.{◌≡◌, ℕ, suc, ◌<◌, List, [], ◌∷◌, get_or, map, length, refl, ap, arith}
 use Rattle.std.specs.Prelude.{◌^◌, max}
 use Rattle.std.proofs.lemmas.Option.{slice_get_within}
 use Rattle.tso_program.specs.declared.outcome.Outcome.{Outcome}

@@ -18,7 +18,7 @@ use Rattle.cover_solver.specs.declared.traces.TraceTree.{TraceTree}
 use Rattle.cover_solver.specs.Combined.{AreAlike, IsBase, with_root}
 use Rattle.cover_solver.specs.Covers.{IsCoverAt, AreCoversAfter}
 use Rattle.cover_solver.specs.Traces.{Traces, Read, traces, trees_of, root, first_choices, IsTraceTree}
-use Rattle.cover_solver.proofs.CombinedCovers.{child_parts, child_alike, child_cover}
+use Rattle.cover_solver.proofs.CombinedCovers.{child_alike, child_cover}
 use Rattle.cover_solver.proofs.CombinedSketches.{lawful_merged, values_merged}
 use Rattle.cover_solver.proofs.Nodes.{covers_none, covers_more, node_cover}
 use Rattle.cover_solver.proofs.TraceTrees.{as_many_trees, child_tree}
