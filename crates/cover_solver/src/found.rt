@@ -49,15 +49,14 @@ impl Found {
         }
     }
 
-    /// Adds an outcome that is not there yet, with its run, and answers its number.
+    /// Adds an outcome with its run, unless it is there, and answers its number.
     pub(crate) fn add(
         &mut self,
         alloc: Global,
         outcome: Outcome,
         labels: Vec<Label>,
     ) -> Result<usize, AllocError>
-        requires in_order { IsInOrder self.old }
-        requires new { Contains self.old.listed.items outcome → ⊥ }
+        requires { IsInOrder self.old }
         ensures in_order { OnOk result (IsInOrder self.new) }
         ensures number { IfOk result (λ number. HasNumber self.new.listed.items number outcome) }
         ensures keeps { OnOk result (KeepsNumbers self.old.listed.items self.new.listed.items) }

@@ -11,23 +11,23 @@ use Rattle.cover_solver.proofs.found.Found.add.Goals as goal
 
 pub index-requires : goal.index-requires
 index-requires c =
-    let within = number_within c.args.self.now c.requires.in_order c.args.outcome c.in-Ok.place (subst (λ (xs : List Outcome). slice_get xs c.in-Ok.place ≡ Some c.args.outcome) c.deref.ensures.value c.in-Ok.ensures.there) in
+    let within = number_within c.args.self.now c.requires c.args.outcome c.in-Ok.place (subst (λ (xs : List Outcome). slice_get xs c.in-Ok.place ≡ Some c.args.outcome) c.deref.ensures.value c.in-Ok.ensures.there) in
     let long = c.args.self.now.numbers.ok.0 in omega arith
 
 pub returns-in-Ok-clause-number : goal.returns-in-Ok-clause-number
 returns-in-Ok-clause-number c =
-    number_is c.args.self.now c.requires.in_order c.args.outcome c.in-Ok.place (subst (λ (xs : List Outcome). slice_get xs c.in-Ok.place ≡ Some c.args.outcome) c.deref.ensures.value c.in-Ok.ensures.there)
+    number_is c.args.self.now c.requires c.args.outcome c.in-Ok.place (subst (λ (xs : List Outcome). slice_get xs c.in-Ok.place ≡ Some c.args.outcome) c.deref.ensures.value c.in-Ok.ensures.there)
     c.index.result.now c.index.result.now c.index.ensures
 
 pub insert-requires-in-Err : goal.insert-requires-in-Err
 insert-requires-in-Err c =
-    let within = place_within c.args.self.now c.requires.in_order c.args.outcome c.in-Err.place (subst (λ (xs : List Outcome). BelongsAt xs c.args.outcome c.in-Err.place) c.deref.ensures.value c.in-Err.ensures.belongs) in
+    let within = place_within c.args.self.now c.requires c.args.outcome c.in-Err.place (subst (λ (xs : List Outcome). BelongsAt xs c.args.outcome c.in-Err.place) c.deref.ensures.value c.in-Err.ensures.belongs) in
     let long = c.args.self.now.numbers.ok.0 in omega arith
 
 pub returns-in_ok-insert-in-Err-3-clause-in_order : goal.returns-in_ok-insert-in-Err-3-clause-in_order
 returns-in_ok-insert-in-Err-3-clause-in_order c =
     let belongs = subst (λ (xs : List Outcome). BelongsAt xs c.args.outcome c.in-Err.place) c.deref.ensures.value c.in-Err.ensures.belongs in
-    in_order_added c.args.self.now c.requires.in_order c.args.outcome c.in-Err.place belongs
+    in_order_added c.args.self.now c.requires c.args.outcome c.in-Err.place belongs
     (record { listed = c.push.new.self; outcomes = c.insert.new.self; numbers = c.insert-in-Err.new.self; runs = c.insert-in-Err-2.new.self }) c.args.labels.items
     (c.in_ok-push-in-Err.ensures.items ∙ ap (λ (x : Outcome). c.args.self.now.listed.items ++ x ∷ []) c.in_ok-copy-in-Err.ensures) c.in_ok-insert-in-Err.ensures.items
     (c.in_ok-insert-in-Err-2.ensures.items ∙ ap (insert c.args.self.now.numbers.items c.in-Err.place) (c.len-number.ensures ∙ c.args.self.now.listed.ok.0)) c.in_ok-insert-in-Err-3.ensures
