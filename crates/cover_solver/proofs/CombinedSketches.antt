@@ -1,5 +1,5 @@
 -- Sketches in which one thread takes its values from another sketch: what they are, and which read of them has no source.
-use Rattle.std.proofs.Common.{◌≡◌, ◌≢◌, ◌⊎◌, ◌↔◌, ℕ, zero, suc, ◌+◌, ◌<◌, List, [], ◌∷◌, ◌++◌, Option, Some, None, IsSome, Contains, slice_get, slice_index, set, length, refl, sym, ap, ◌∙◌, subst, inl, inr, arith}
+use Rattle.std.proofs.Common.{◌≡◌, ◌≢◌, ◌⊎◌, ◌↔◌, ℕ, zero, suc, ◌<◌, List, [], ◌∷◌, ◌++◌, Option, Some, None, IsSome, Contains, slice_get, slice_index, set, length, refl, sym, ap, ◌∙◌, subst, inl, inr, arith}
 use Rattle.std.proofs.lemmas.Bool.{cases_eq}
 use Rattle.std.proofs.lemmas.Option.{same_Some}
 use Rattle.tso_program.specs.declared.listing.Listing.{Listing}
@@ -29,15 +29,11 @@ use Rattle.cover_judge.specs.declared.choice.Choice.{Choice}
 use Rattle.cover_judge.specs.Choices.{IsValueOpen, AreValueChoices, AreSourceChoices}
 use Rattle.cover_judge.proofs.ChoicesJudged.{source_is_open}
 use Rattle.cover_solver.specs.declared.choices_left.OpenChoice.TheVariants as left
-use Rattle.cover_solver.specs.declared.found.Found.{Found}
 use Rattle.cover_solver.specs.declared.reads_writes.ReadValue.{ReadValue}
 use Rattle.cover_solver.specs.declared.tally.Tally.{Tally}
 use Rattle.cover_solver.specs.Combined.{AreAlike}
 use Rattle.cover_solver.specs.Covers.{IsCoverAt}
-use Rattle.cover_solver.specs.Explored.{Explores}
-use Rattle.cover_solver.specs.Found.{AscendWithRuns}
 use Rattle.cover_solver.specs.Tallies.{IsMarked, IsTallyOf, IsTalliedRead, IsOwn, IsOther, LacksWriteOfBoth}
-use Rattle.cover_solver.proofs.Exploring.{explores_none, explores_all}
 use Rattle.cover_solver.proofs.Nodes.{node_cover, covers_none}
 
 none_when : (o : Option ℕ) → (IsSome o → ⊥) → o ≡ None
@@ -192,9 +188,3 @@ module _ (s u : ProgramSketch) (t : ℕ) (lawful : IsLawful s) (alone : HasValue
         let are = no_sources whole read lacks in
         node_cover merged shown outcomes lawful_merged (left.Source read) [] [] six (source_is_open merged read are.sources are.next) are
         (covers_none merged shown outcomes lawful_merged (choices_few merged lawful_merged))
-
-    -- and no completion is left
-    pub unsourced_explored : (shown : Shown) (found : Found) → AscendWithRuns found → IsWhole merged.program (mode_in merged) merged.chosen → (read : AccessId) → LacksWriteOfBoth mine others read → Explores merged shown found found
-    unsourced_explored shown found in_order whole read lacks =
-        let are = no_sources whole read lacks in
-        explores_all merged shown (left.Source read) [] found found lawful_merged (source_is_open merged read are.sources are.next) are (explores_none merged shown found in_order)

@@ -1,7 +1,10 @@
 pub mod NothingLeft
 pub mod WritesListed
 pub mod Inserted
-pub mod Exploring
+pub mod Rounds
+pub mod Numbered
+pub mod Growing
+pub mod Renumbering
 pub mod Ends
 pub mod AccessesNamed
 pub mod Leaves

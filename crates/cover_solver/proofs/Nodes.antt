@@ -30,10 +30,9 @@ use Rattle.cover_judge.proofs.ChoicesJudged.{no_order}
 use Rattle.cover_judge.proofs.SketchesAfter.{moved}
 use Rattle.cover_solver.specs.declared.choices_left.OpenChoice.{OpenChoice}
 use Rattle.cover_solver.specs.declared.choices_left.OpenChoice.TheVariants as left
-use Rattle.cover_solver.specs.declared.fault.Stop.{Stop}
 use Rattle.cover_solver.specs.Choices.{IsOpen, AreChoicesOf}
-use Rattle.cover_solver.specs.Covers.{IsNeat, AreNeat, IsValidAt, IsLeafAt, IsCoverAt, IsCoverAfter, AreCoversAfter, IsWholeCover, tree_over, IsArity, StopIs}
-use Rattle.cover_solver.proofs.Exploring.{counted_after}
+use Rattle.cover_solver.specs.Covers.{IsNeat, AreNeat, IsValidAt, IsLeafAt, IsCoverAt, IsCoverAfter, AreCoversAfter, IsWholeCover, tree_over, IsArity}
+use Rattle.cover_solver.proofs.Rounds.{counted_after}
 
 map_map : {A B C : Type 0} (f : B → C) (g : A → B) (xs : List A) → map f (map g xs) ≡ map (λ x. f (g x)) xs
 map_map f g [] = refl
@@ -204,8 +203,3 @@ cover_first p mode s shown outcomes tree same is =
       neat = first.neat;
       shallow = (let below = first.shallow in omega arith);
     }
-
--- a search that stops at the sketch after a choice stops at the sketch
-pub stop_after : (s next : ProgramSketch) (shown : Shown) (outcomes : List Outcome) (c : Choice) (why : Stop) → next ≡ with_chosen s (sketch_with s.chosen c) →
-    StopIs (asked next.program shown) (mode_in next) outcomes why → StopIs (asked s.program shown) (mode_in s) outcomes why
-stop_after s next shown outcomes c why same is = moved (λ p mode k. StopIs (asked p shown) mode outcomes why) s next c same is

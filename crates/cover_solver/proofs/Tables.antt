@@ -1,6 +1,6 @@
 -- What trees and runs say of tables, sets and foreign runs.
-use Rattle.std.proofs.Common.{◌≡◌, ◌↔◌, ℕ, Bool, true, false, IsTrue, List, Some, Contains, slice_get, sym, ap, ◌∙◌, subst}
-use Rattle.std.specs.Prelude.{Result, Ok, Err, IfOk, IfErr, is_ok}
+use Rattle.std.proofs.Common.{◌≡◌, ◌↔◌, ℕ, ◌<◌, length, Bool, true, false, IsTrue, List, Some, Contains, slice_get, sym, ap, ◌∙◌, subst}
+use Rattle.std.specs.Prelude.{Result, Ok, Err, IfOk, IfErr, is_ok, ◌^◌}
 use Rattle.std.specs.FinSet as set
 use Rattle.std.proofs.lemmas.Option.{same_Some}
 use Rattle.gap_sets.specs.Gaps.{SetOfGaps}
@@ -26,11 +26,13 @@ use Rattle.cert_forest.specs.Trees.{Cover}
 use Rattle.tree_laws.proofs.ListedOutcomes.{fenced_tree_serves}
 use Rattle.cover_solver.specs.Covers.{IsWholeCover}
 use Rattle.cover_solver.specs.Facts.{IsSequentialTable, IsListOf, IsServing}
-use Rattle.cover_solver.specs.Found.{AreRunsOf}
+use Rattle.cover_solver.specs.Found.{AreRunsOf, place_in, ArePlacesOf}
+use Rattle.cover_solver.specs.Renumbered.{renumbered}
 use Rattle.tso_program.specs.Ordered.{outcome_cmp}
 use Rattle.cover_solver.specs.Ordered.{BelongsAt}
 use Rattle.tree_laws.proofs.OneList.{one_list}
 use Rattle.cover_solver.proofs.Inserted.{not_there}
+use Rattle.cover_solver.proofs.Renumbering.{whole_renumbered}
 use Rattle.tso_program.proofs.OutcomesOrdered.{one_way}
 use Rattle.std.specs.declared.cmp.Ordering.TheVariants.{Less}
 
@@ -38,14 +40,14 @@ use Rattle.std.specs.declared.cmp.Ordering.TheVariants.{Less}
 pub same_question : (q : Question) (p : Listing) (shown : Shown) → p ≡ q.program → shown ≡ q.shown → asked p shown ≡ q
 same_question q p shown program is = λ i. record { program = program i; shown = is i }
 
--- the table of all sequential outcomes
-pub table_is : (q : Question) (outcomes : List Outcome) (runs : List (List Label)) (tree : Cover) → IsListOf q outcomes → AreRunsOf q Sequential runs outcomes → IsWholeCover q Sequential outcomes tree →
-    IsSequentialTable (record { question = q; outcomes = outcomes; runs = runs; tree = tree })
-table_is q outcomes runs tree list are is = record { listed = list; runs = are; tree = is }
-
--- a list of all sequential outcomes lacks no run's outcome
-pub none_new : (q : Question) (outcomes : List Outcome) (labels : List Label) (o : Outcome) → IsListOf q outcomes → IsShownRun q Sequential labels o → (Contains outcomes o → ⊥) → ⊥
-none_new q outcomes labels o list is_run new = new ((list.exact o).1 (labels, is_run))
+-- the table of all sequential outcomes, by a tree that names them in another order
+pub table_of : (p other : Listing) (shown : Shown) (known outcomes : List Outcome) (runs : List (List Label)) (places : List ℕ) (before tree : Cover) → other ≡ p → length outcomes < 2 ^ 64 → IsListOf (asked p shown) outcomes →
+    AreRunsOf (asked p shown) Sequential runs outcomes → IsWholeCover (asked p shown) Sequential known before → ArePlacesOf known outcomes places → tree ≡ renumbered (place_in places) before →
+    IsSequentialTable (record { question = asked other shown; outcomes = outcomes; runs = runs; tree = tree })
+table_of p other shown known outcomes runs places before tree same few list are is moves made =
+    let q = asked p shown in
+    let whole = subst (IsWholeCover q Sequential outcomes) (sym made) (whole_renumbered q Sequential known outcomes (place_in places) few moves before is) in
+    subst (λ (l : Listing). IsSequentialTable (record { question = asked l shown; outcomes = outcomes; runs = runs; tree = tree })) (sym same) (record { listed = list; runs = are; tree = whole })
 
 -- there is one list of a question's sequential outcomes
 pub one_list_of_outcomes : (q : Question) (xs ys : List Outcome) → IsListOf q xs → IsListOf q ys → xs ≡ ys

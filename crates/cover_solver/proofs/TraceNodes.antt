@@ -13,17 +13,13 @@ use Rattle.cover_judge.specs.declared.choice.Choice.TheVariants as choice
 use Rattle.cover_judge.specs.Choices.{AreValueChoices, sketch_with}
 use Rattle.cover_judge.proofs.ChoicesJudged.{next_is_open}
 use Rattle.cover_solver.specs.declared.choices_left.OpenChoice.TheVariants as left
-use Rattle.cover_solver.specs.declared.found.Found.{Found}
 use Rattle.cover_solver.specs.declared.tally.Tally.{Tally}
 use Rattle.cover_solver.specs.declared.traces.TraceTree.{TraceTree}
 use Rattle.cover_solver.specs.Combined.{AreAlike, IsBase, with_root}
 use Rattle.cover_solver.specs.Covers.{IsCoverAt, AreCoversAfter}
-use Rattle.cover_solver.specs.Explored.{Explores, ExploresEach}
-use Rattle.cover_solver.specs.Found.{AscendWithRuns}
 use Rattle.cover_solver.specs.Traces.{Traces, Read, traces, trees_of, root, first_choices, IsTraceTree}
-use Rattle.cover_solver.proofs.CombinedCovers.{child_parts, child_alike, child_cover}
+use Rattle.cover_solver.proofs.CombinedCovers.{child_alike, child_cover}
 use Rattle.cover_solver.proofs.CombinedSketches.{lawful_merged, values_merged}
-use Rattle.cover_solver.proofs.Exploring.{explores_none, explores_more, explores_each, explores_all}
 use Rattle.cover_solver.proofs.Nodes.{covers_none, covers_more, node_cover}
 use Rattle.cover_solver.proofs.TraceTrees.{as_many_trees, child_tree}
 
@@ -64,9 +60,6 @@ module _ (s : ProgramSketch) (t : ℕ) (others : Tally) (base : IsBase t s other
     pub child_meets : IsTraceTree t (traces item) × AreAlike (root (traces item)) s
     child_meets = (child.1, child_alike s u t lawful base.alone base.there own alike choices tree.0 i (choice.Value 0 0) below (traces item) child.0)
 
-    parts : with_root t s (traces item) ≡ with_chosen merged (sketch_with merged.chosen ch)
-    parts = child_parts s u t lawful base.alone base.there own alike choices tree.0 i (choice.Value 0 0) below (traces item) child.0
-
     -- a cover tree of it
     pub one_cover_more : (outcomes : List Outcome) (covers more : List Cover) (made : Cover) → more ≡ covers ++ made ∷ [] → AreCoversAfter (with_root t s x) shown outcomes (take i (first_choices x)) covers →
         IsCoverAt (with_root t s (traces item)) shown outcomes made → AreCoversAfter (with_root t s x) shown outcomes (take (i + 1) (first_choices x)) more
@@ -76,20 +69,9 @@ module _ (s : ProgramSketch) (t : ℕ) (others : Tally) (base : IsBase t s other
         (covers_more merged shown outcomes lawful_here choices covers more i (choice.Value 0 0) made below pushed
         (subst (λ (y : Traces). AreCoversAfter (with_root t s y) shown outcomes (take i (first_choices y)) covers) is before) next)
 
-    -- the outcomes of its completions
-    pub one_found_more : (old mid new : Found) → ExploresEach (with_root t s x) shown (take i (first_choices x)) old mid → Explores (with_root t s (traces item)) shown mid new →
-        ExploresEach (with_root t s x) shown (take (i + 1) (first_choices x)) old new
-    one_found_more old mid new before explores =
-        subst (λ (y : Traces). ExploresEach (with_root t s y) shown (take (i + 1) (first_choices y)) old new) (sym is)
-        (explores_more merged shown (with_root t s (traces item)) choices i (choice.Value 0 0) old mid new below parts
-        (subst (λ (y : Traces). ExploresEach (with_root t s y) shown (take i (first_choices y)) old mid) is before) explores)
-
   -- none yet
   pub no_covers : (outcomes : List Outcome) → AreCoversAfter (with_root t s x) shown outcomes (take 0 (first_choices x)) []
   no_covers outcomes = subst (λ (y : Traces). AreCoversAfter (with_root t s y) shown outcomes (take 0 (first_choices y)) []) (sym is) (covers_none merged shown outcomes lawful_here (choices_few merged lawful_here))
-
-  pub none_found : (found : Found) → AscendWithRuns found → ExploresEach (with_root t s x) shown (take 0 (first_choices x)) found found
-  none_found found in_order = subst (λ (y : Traces). ExploresEach (with_root t s y) shown (take 0 (first_choices y)) found found) (sym is) (explores_none merged shown found in_order)
 
   module _ (i : ℕ) (past : length after ≤ i) where
     past_choices : length choices ≤ i
@@ -103,10 +85,3 @@ module _ (s : ProgramSketch) (t : ℕ) (others : Tally) (base : IsBase t s other
         let all = subst (λ (cs : List Choice). AreCoversAfter merged shown outcomes cs covers) (take_all i choices past_choices) each in
         subst (λ (y : Traces). IsCoverAt (with_root t s y) shown outcomes (Value t (covers_of covers))) (sym is)
         (node_cover merged shown outcomes lawful_here (left.Value t) choices covers six (next_is_open merged t are.values are.next) are all)
-
-    -- the outcomes of all completions
-    pub node_found : (old new : Found) → ExploresEach (with_root t s x) shown (take i (first_choices x)) old new → Explores (with_root t s x) shown old new
-    node_found old new before =
-        let each = subst (λ (y : Traces). ExploresEach (with_root t s y) shown (take i (first_choices y)) old new) is before in
-        subst (λ (y : Traces). Explores (with_root t s y) shown old new) (sym is)
-        (explores_all merged shown (left.Value t) choices old new lawful_here (next_is_open merged t are.values are.next) are (explores_each merged shown choices i old new past_choices each))

@@ -5,7 +5,6 @@ use Rattle.tso_program.specs.declared.outcome.Outcome.{Outcome}
 use Rattle.tso_program.specs.declared.shown.Shown.{Shown}
 use Rattle.tso_program.specs.Shown.{Question, asked, show}
 use Rattle.tso_machine.specs.Machine.{Mode}
-use Rattle.tso_machine.specs.Outcomes.{IsShownRun}
 use Rattle.candidate_executions.specs.Sketches.{empty_sketch, MustEndAs}
 use Rattle.exec_axioms.specs.ProgramSketches.{ProgramSketch, mode_in}
 use Rattle.exec_axioms.specs.Known.{HasNoCycle}
@@ -20,8 +19,6 @@ use Rattle.cover_solver.specs.declared.choices_left.OpenChoice.{OpenChoice}
 use Rattle.cover_solver.specs.declared.choices_left.OpenChoice.TheVariants as left
 use Rattle.cover_solver.specs.declared.cover.Children.{Children}
 use Rattle.cover_solver.specs.declared.cover.Children.TheVariants as children
-use Rattle.cover_solver.specs.declared.fault.Stop.{Stop}
-use Rattle.cover_solver.specs.declared.fault.Stop.TheVariants as stop
 
 -- no cycle of the tree has an event twice
 abbrev mutual
@@ -107,8 +104,3 @@ pub record IsWholeCover (q : Question) (mode : Mode) (outcomes : List Outcome) (
   pub valid : IsValidCover q mode outcomes tree (empty_sketch q.program)
   pub neat : IsNeat tree
   pub shallow : cover_depth tree ≤ most_choices + 1
-
--- why no tree is found: a run has an outcome that isn't in the list
-abbrev pub StopIs : Question → Mode → List Outcome → Stop → Type 0
-StopIs q mode outcomes (stop.New run) = IsShownRun q mode run.labels.items run.outcome × (Contains outcomes run.outcome → ⊥)
-StopIs q mode outcomes stop.OutOfMemory = Unit {0}

@@ -1,7 +1,7 @@
 pub mod Choices
 pub mod Ordered
 pub mod Found
-pub mod Explored
+pub mod Listed
 pub mod Covers
 pub mod Facts
 pub mod ForeignFaults
@@ -11,3 +11,4 @@ pub mod Tallies
 pub mod Traces
 pub mod Combined
 pub mod Plans
+pub mod Renumbered

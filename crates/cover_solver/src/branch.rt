@@ -3,17 +3,18 @@ ghost use Rattle.std.specs.Prelude.{◌≡◌, IfOk, MatchOption, [], ◌∷◌}
 ghost use Rattle.exec_axioms.specs.Complete.{IsComplete};
 ghost use Rattle.cover_judge.specs.Choices.{MayChooseEach};
 ghost use Rattle.cover_solver.specs.Choices.{IsOpen, IsBranch, AreChoicesOf};
-ghost use Rattle.cover_solver.specs.Ordered.{Ascend};
+ghost use Rattle.cover_solver.specs.Listed.{AreInOrder};
 
 use crate::accesses::all_accesses;
 use crate::choices_left::{OpenChoice, open_choices};
+use crate::listed::Listed;
 use crate::preference::preferred;
 use crate::reads_writes::written_values;
 use cert_forest::AccessId;
 use cover_judge::{Choice, source_choices, value_choices};
 use exec_axioms::Sketch;
 use std::alloc::{AllocError, Global};
-use tso_program::{Outcome, Shown};
+use tso_program::Shown;
 
 /// Something that is left to be chosen, and its choices.
 #[derive(Drop)]
@@ -27,9 +28,9 @@ pub(crate) fn next_branch(
     alloc: Global,
     sketch: &Sketch,
     shown: &Shown,
-    outcomes: &[Outcome],
+    outcomes: &Listed,
 ) -> Result<Option<Branch>, AllocError>
-    requires { Ascend outcomes.now }
+    requires { AreInOrder outcomes.now }
     ensures { IfOk result (λ branch. MatchOption branch (IsComplete sketch.now) (IsBranch sketch.now)) }
 {
     let accesses = all_accesses(alloc, sketch)?;

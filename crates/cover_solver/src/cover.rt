@@ -1,18 +1,21 @@
-//! The search for a cover tree over a list of outcomes.
-ghost use Rattle.std.specs.Prelude.{◌≡◌, IfOk, IfErr, IsTrue, map, length};
+//! The search for a cover tree over a list of outcomes. An open list takes each outcome that is new; a
+//! closed list ends the search there.
+ghost use Rattle.std.specs.Prelude.{◌≡◌, IfOk, IfErr, OnOk, IsTrue, map, length};
 ghost use Rattle.tso_program.specs.Shown.{asked};
 ghost use Rattle.tso_machine.specs.Modes.{machine_mode};
 ghost use Rattle.exec_axioms.specs.ProgramSketches.{mode_in};
+ghost use Rattle.exec_axioms.specs.Complete.{IsComplete};
 ghost use Rattle.cert_forest.specs.Views.{cover};
 ghost use Rattle.cover_judge.specs.Choices.{MayChooseEach};
-ghost use Rattle.cover_solver.specs.Ordered.{Ascend};
-ghost use Rattle.cover_solver.specs.Covers.{IsCoverAt, IsValidAt, AreChildren, IsWholeCover, tree_over, IsArity, StopIs};
+ghost use Rattle.cover_solver.specs.Covers.{IsCoverAt, IsValidAt, IsUnsettled, AreChildren, IsWholeCover, tree_over, IsArity};
+ghost use Rattle.cover_solver.specs.Listed.{listed, AreInOrder, Grows, StopIs};
 
 use crate::branch::next_branch;
 use crate::choices_left::OpenChoice;
 use crate::cover_values::cover_values;
 use crate::fault::Stop;
 use crate::leaf::leaf;
+use crate::listed::Listed;
 use crate::plan::plan_for;
 use crate::run::shown_run;
 use cert_forest::CoverTree;
@@ -35,11 +38,12 @@ pub(crate) fn cover_all(
     program: &Program,
     shown: &Shown,
     mode: Mode,
-    outcomes: &[Outcome],
+    outcomes: &mut Listed,
 ) -> Result<CoverTree, Stop>
-    requires { Ascend outcomes.now }
-    ensures tree { IfOk result (λ tree. IsWholeCover (asked program.now shown.now) (machine_mode program.now mode) outcomes.now (cover tree)) }
-    ensures stop { IfErr result (StopIs (asked program.now shown.now) (machine_mode program.now mode) outcomes.now) }
+    requires { AreInOrder outcomes.old }
+    ensures grows { OnOk result (Grows (asked program.now shown.now) (machine_mode program.now mode) outcomes.old outcomes.new) }
+    ensures tree { IfOk result (λ tree. IsWholeCover (asked program.now shown.now) (machine_mode program.now mode) (listed outcomes.new) (cover tree)) }
+    ensures stop { IfErr result (StopIs (asked program.now shown.now) (machine_mode program.now mode) outcomes.old) }
 {
     let sketch = Sketch::new(alloc, program, mode)?;
     match plan_for(alloc, &sketch)? {
@@ -54,11 +58,12 @@ pub(crate) fn cover_from(
     alloc: Global,
     sketch: &Sketch,
     shown: &Shown,
-    outcomes: &[Outcome],
+    outcomes: &mut Listed,
 ) -> Result<CoverTree, Stop>
-    requires { Ascend outcomes.now }
-    ensures tree { IfOk result (λ tree. IsCoverAt sketch.now shown.now outcomes.now (cover tree)) }
-    ensures stop { IfErr result (StopIs (asked sketch.now.program shown.now) (mode_in sketch.now) outcomes.now) }
+    requires { AreInOrder outcomes.old }
+    ensures grows { OnOk result (Grows (asked sketch.now.program shown.now) (mode_in sketch.now) outcomes.old outcomes.new) }
+    ensures tree { IfOk result (λ tree. IsCoverAt sketch.now shown.now (listed outcomes.new) (cover tree)) }
+    ensures stop { IfErr result (StopIs (asked sketch.now.program shown.now) (mode_in sketch.now) outcomes.old) }
 {
     // For the proof alone: what holds of every sketch is known where its program is read.
     let _ = sketch.program();
@@ -70,8 +75,29 @@ pub(crate) fn cover_from(
             Children::Each(trees) => Ok(node_over(alloc, branch.next, trees)?),
             Children::One(tree) => Ok(tree),
         },
-        None => Err(Stop::New(shown_run(alloc, sketch, shown)?)),
+        None => end(alloc, sketch, shown, outcomes),
     }
+}
+
+/// The leaf of a complete sketch that nothing closes: its outcome is new.
+fn end(
+    alloc: Global,
+    sketch: &Sketch,
+    shown: &Shown,
+    outcomes: &mut Listed,
+) -> Result<CoverTree, Stop>
+    requires in_order { AreInOrder outcomes.old }
+    requires complete { IsComplete sketch.now }
+    requires unsettled { IsUnsettled sketch.now shown.now (listed outcomes.old) }
+    ensures grows { OnOk result (Grows (asked sketch.now.program shown.now) (mode_in sketch.now) outcomes.old outcomes.new) }
+    ensures tree { IfOk result (λ tree. IsCoverAt sketch.now shown.now (listed outcomes.new) (cover tree)) }
+    ensures stop { IfErr result (StopIs (asked sketch.now.program shown.now) (mode_in sketch.now) outcomes.old) }
+{
+    // For the proof alone: what holds of every sketch is known where its program is read.
+    let _ = sketch.program();
+    let run = shown_run(alloc, sketch, shown)?;
+    let number = outcomes.add(alloc, run)?;
+    Ok(CoverTree::Known { run: number as u64 })
 }
 
 /// A tree for the sketch after each of the choices, up to one that is valid without its choice: then no
@@ -82,12 +108,13 @@ fn cover_each(
     sketch: &Sketch,
     shown: &Shown,
     choices: &[Choice],
-    outcomes: &[Outcome],
+    outcomes: &mut Listed,
 ) -> Result<Children, Stop>
-    requires ascend { Ascend outcomes.now }
+    requires in_order { AreInOrder outcomes.old }
     requires may { MayChooseEach sketch.now choices.now }
-    ensures children { IfOk result (AreChildren sketch.now shown.now outcomes.now choices.now) }
-    ensures stop { IfErr result (StopIs (asked sketch.now.program shown.now) (mode_in sketch.now) outcomes.now) }
+    ensures grows { OnOk result (Grows (asked sketch.now.program shown.now) (mode_in sketch.now) outcomes.old outcomes.new) }
+    ensures children { IfOk result (AreChildren sketch.now shown.now (listed outcomes.new) choices.now) }
+    ensures stop { IfErr result (StopIs (asked sketch.now.program shown.now) (mode_in sketch.now) outcomes.old) }
 {
     // For the proof alone: what holds of every sketch is known where its program is read.
     let _ = sketch.program();
@@ -95,7 +122,7 @@ fn cover_each(
     for choice in choices {
         let next = sketch_with(sketch, *choice)?;
         let tree = cover_from(alloc, &next, shown, outcomes)?;
-        if is_valid(alloc, &tree, sketch, shown, outcomes)? {
+        if is_valid(alloc, &tree, sketch, shown, outcomes.as_slice())? {
             return Ok(Children::One(tree));
         }
         trees.push(tree)?;

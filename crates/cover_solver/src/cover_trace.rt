@@ -1,21 +1,22 @@
 //! Cover trees over the values of the thread whose values are chosen last.
-ghost use Rattle.std.specs.Prelude.{IfOk, IfErr};
+ghost use Rattle.std.specs.Prelude.{IfOk, IfErr, OnOk};
 ghost use Rattle.tso_program.specs.Shown.{asked};
 ghost use Rattle.exec_axioms.specs.ProgramSketches.{mode_in};
 ghost use Rattle.cert_forest.specs.Views.{cover};
-ghost use Rattle.cover_solver.specs.Ordered.{Ascend};
-ghost use Rattle.cover_solver.specs.Covers.{IsCoverAt, StopIs};
+ghost use Rattle.cover_solver.specs.Covers.{IsCoverAt};
+ghost use Rattle.cover_solver.specs.Listed.{listed, AreInOrder, Grows, StopIs};
 ghost use Rattle.cover_solver.specs.Traces.{traces, root, IsTraceTree, IsFullTrace};
 ghost use Rattle.cover_solver.specs.Combined.{AreAlike, IsBase, with_root, with_trace};
 
 use crate::cover::cover_from;
 use crate::fault::Stop;
+use crate::listed::Listed;
 use crate::tally::Tally;
 use crate::traces::{FullTrace, TraceTree};
 use cert_forest::CoverTree;
 use exec_axioms::Sketch;
 use std::alloc::Global;
-use tso_program::{Outcome, Shown};
+use tso_program::Shown;
 
 /// A tree for the sketch with the values of thread t at the first node. All other threads have their
 /// values in the sketch, and read and write what the tally of them says.
@@ -27,14 +28,15 @@ pub(crate) fn cover_trace(
     t: u8,
     tree: &TraceTree,
     shown: &Shown,
-    outcomes: &[Outcome],
+    outcomes: &mut Listed,
 ) -> Result<CoverTree, Stop>
-    requires ascend { Ascend outcomes.now }
+    requires in_order { AreInOrder outcomes.old }
     requires base { IsBase t sketch.now others.now }
     requires tree { IsTraceTree t (traces tree.now) }
     requires alike { AreAlike (root (traces tree.now)) sketch.now }
-    ensures cover { IfOk result (λ made. IsCoverAt (with_root t sketch.now (traces tree.now)) shown.now outcomes.now (cover made)) }
-    ensures stop { IfErr result (StopIs (asked sketch.now.program shown.now) (mode_in sketch.now) outcomes.now) }
+    ensures grows { OnOk result (Grows (asked sketch.now.program shown.now) (mode_in sketch.now) outcomes.old outcomes.new) }
+    ensures cover { IfOk result (λ made. IsCoverAt (with_root t sketch.now (traces tree.now)) shown.now (listed outcomes.new) (cover made)) }
+    ensures stop { IfErr result (StopIs (asked sketch.now.program shown.now) (mode_in sketch.now) outcomes.old) }
 {
     // For the proof alone: what holds of every sketch is known where its program is read.
     let _ = sketch.program();
@@ -69,14 +71,15 @@ fn cover_full(
     t: u8,
     trace: &FullTrace,
     shown: &Shown,
-    outcomes: &[Outcome],
+    outcomes: &mut Listed,
 ) -> Result<CoverTree, Stop>
-    requires ascend { Ascend outcomes.now }
+    requires in_order { AreInOrder outcomes.old }
     requires base { IsBase t sketch.now others.now }
     requires trace { IsFullTrace t trace.now }
     requires alike { AreAlike trace.now.sketch sketch.now }
-    ensures cover { IfOk result (λ made. IsCoverAt (with_trace t sketch.now trace.now) shown.now outcomes.now (cover made)) }
-    ensures stop { IfErr result (StopIs (asked sketch.now.program shown.now) (mode_in sketch.now) outcomes.now) }
+    ensures grows { OnOk result (Grows (asked sketch.now.program shown.now) (mode_in sketch.now) outcomes.old outcomes.new) }
+    ensures cover { IfOk result (λ made. IsCoverAt (with_trace t sketch.now trace.now) shown.now (listed outcomes.new) (cover made)) }
+    ensures stop { IfErr result (StopIs (asked sketch.now.program shown.now) (mode_in sketch.now) outcomes.old) }
 {
     // For the proof alone: what holds of every sketch is known where its program is read.
     let _ = sketch.program();

@@ -1,11 +1,11 @@
 //! Cover trees over the values of all reads, a thread at a time.
-ghost use Rattle.std.specs.Prelude.{IfOk, IfErr, map};
+ghost use Rattle.std.specs.Prelude.{IfOk, IfErr, OnOk, map};
 ghost use Rattle.tso_program.specs.Shown.{asked};
 ghost use Rattle.exec_axioms.specs.ProgramSketches.{mode_in};
 ghost use Rattle.cert_forest.specs.Views.{cover};
 ghost use Rattle.cover_judge.specs.Choices.{MayChooseEach};
-ghost use Rattle.cover_solver.specs.Ordered.{Ascend};
-ghost use Rattle.cover_solver.specs.Covers.{IsCoverAt, AreCoversAfter, StopIs};
+ghost use Rattle.cover_solver.specs.Covers.{IsCoverAt, AreCoversAfter};
+ghost use Rattle.cover_solver.specs.Listed.{listed, AreInOrder, Grows, StopIs};
 ghost use Rattle.cover_solver.specs.Plans.{IsBeforeLast, AreOfOthers, AreOthersFull};
 
 use crate::branch::choices_of;
@@ -13,13 +13,14 @@ use crate::choices_left::OpenChoice;
 use crate::cover::node_over;
 use crate::cover_trace::cover_trace;
 use crate::fault::Stop;
+use crate::listed::Listed;
 use crate::plan::Plan;
 use crate::tally::Tally;
 use cert_forest::CoverTree;
 use cover_judge::{Choice, sketch_with};
 use exec_axioms::Sketch;
 use std::alloc::Global;
-use tso_program::{Outcome, Shown};
+use tso_program::Shown;
 
 /// A tree for a sketch in which the last thread has no value yet.
 #[cycle(cover_values)]
@@ -28,12 +29,13 @@ pub(crate) fn cover_values(
     sketch: &Sketch,
     plan: &Plan,
     shown: &Shown,
-    outcomes: &[Outcome],
+    outcomes: &mut Listed,
 ) -> Result<CoverTree, Stop>
-    requires ascend { Ascend outcomes.now }
+    requires in_order { AreInOrder outcomes.old }
     requires before { IsBeforeLast sketch.now plan.now.last }
-    ensures tree { IfOk result (λ tree. IsCoverAt sketch.now shown.now outcomes.now (cover tree)) }
-    ensures stop { IfErr result (StopIs (asked sketch.now.program shown.now) (mode_in sketch.now) outcomes.now) }
+    ensures grows { OnOk result (Grows (asked sketch.now.program shown.now) (mode_in sketch.now) outcomes.old outcomes.new) }
+    ensures tree { IfOk result (λ tree. IsCoverAt sketch.now shown.now (listed outcomes.new) (cover tree)) }
+    ensures stop { IfErr result (StopIs (asked sketch.now.program shown.now) (mode_in sketch.now) outcomes.old) }
 {
     // For the proof alone: what holds of every sketch is known where its program is read.
     let _ = sketch.program();
@@ -56,14 +58,15 @@ fn cover_each_value(
     plan: &Plan,
     choices: &[Choice],
     shown: &Shown,
-    outcomes: &[Outcome],
+    outcomes: &mut Listed,
 ) -> Result<Vec<CoverTree>, Stop>
-    requires ascend { Ascend outcomes.now }
+    requires in_order { AreInOrder outcomes.old }
     requires before { IsBeforeLast sketch.now plan.now.last }
     requires may { MayChooseEach sketch.now choices.now }
     requires others { AreOfOthers plan.now.last.thread choices.now }
-    ensures trees { IfOk result (λ trees. AreCoversAfter sketch.now shown.now outcomes.now choices.now (map cover trees.items)) }
-    ensures stop { IfErr result (StopIs (asked sketch.now.program shown.now) (mode_in sketch.now) outcomes.now) }
+    ensures grows { OnOk result (Grows (asked sketch.now.program shown.now) (mode_in sketch.now) outcomes.old outcomes.new) }
+    ensures trees { IfOk result (λ trees. AreCoversAfter sketch.now shown.now (listed outcomes.new) choices.now (map cover trees.items)) }
+    ensures stop { IfErr result (StopIs (asked sketch.now.program shown.now) (mode_in sketch.now) outcomes.old) }
 {
     // For the proof alone: what holds of every sketch is known where its program is read.
     let _ = sketch.program();
@@ -81,13 +84,14 @@ fn cover_last(
     sketch: &Sketch,
     plan: &Plan,
     shown: &Shown,
-    outcomes: &[Outcome],
+    outcomes: &mut Listed,
 ) -> Result<CoverTree, Stop>
-    requires ascend { Ascend outcomes.now }
+    requires in_order { AreInOrder outcomes.old }
     requires before { IsBeforeLast sketch.now plan.now.last }
     requires full { AreOthersFull sketch.now plan.now.last.thread }
-    ensures tree { IfOk result (λ tree. IsCoverAt sketch.now shown.now outcomes.now (cover tree)) }
-    ensures stop { IfErr result (StopIs (asked sketch.now.program shown.now) (mode_in sketch.now) outcomes.now) }
+    ensures grows { OnOk result (Grows (asked sketch.now.program shown.now) (mode_in sketch.now) outcomes.old outcomes.new) }
+    ensures tree { IfOk result (λ tree. IsCoverAt sketch.now shown.now (listed outcomes.new) (cover tree)) }
+    ensures stop { IfErr result (StopIs (asked sketch.now.program shown.now) (mode_in sketch.now) outcomes.old) }
 {
     // For the proof alone: what holds of every sketch is known where its program is read.
     let _ = sketch.program();

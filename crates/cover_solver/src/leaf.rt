@@ -8,26 +8,26 @@ ghost use Rattle.exec_axioms.specs.Known.{HasNoCycle};
 ghost use Rattle.exec_axioms.specs.Search.{IsSimpleCycle, AreFewAccesses};
 ghost use Rattle.cert_forest.specs.Views.{cover};
 ghost use Rattle.tree_laws.specs.CoverTrees.{MustEndAsNumber};
-ghost use Rattle.cover_solver.specs.Ordered.{Ascend};
 ghost use Rattle.cover_solver.specs.Covers.{IsLeafAt, IsUnsettled, IsEndNotListed};
+ghost use Rattle.cover_solver.specs.Listed.{listed, AreInOrder};
 
 use crate::accesses::accesses_of;
-use crate::ordered::place_of;
+use crate::listed::Listed;
 use candidate_executions::{Event, Kind};
 use cert_forest::CoverTree;
 use exec_axioms::Sketch;
 use std::alloc::{AllocError, Global};
-use tso_program::{Outcome, Shown};
+use tso_program::Shown;
 
 /// The leaf of a sketch that must end as an outcome of the list, or has a cycle.
 pub(crate) fn leaf(
     alloc: Global,
     sketch: &Sketch,
     shown: &Shown,
-    outcomes: &[Outcome],
+    outcomes: &Listed,
 ) -> Result<Option<CoverTree>, AllocError>
-    requires { Ascend outcomes.now }
-    ensures { IfOk result (λ leaf. MatchOption leaf (IsUnsettled sketch.now shown.now outcomes.now) (λ tree. IsLeafAt sketch.now shown.now outcomes.now (cover tree))) }
+    requires { AreInOrder outcomes.now }
+    ensures { IfOk result (λ leaf. MatchOption leaf (IsUnsettled sketch.now shown.now (listed outcomes.now)) (λ tree. IsLeafAt sketch.now shown.now (listed outcomes.now) (cover tree))) }
 {
     if let Some(number) = known(sketch, shown, outcomes)? {
         return Ok(Some(CoverTree::Known { run: number as u64 }));
@@ -42,16 +42,13 @@ pub(crate) fn leaf(
 pub(crate) fn known(
     sketch: &Sketch,
     shown: &Shown,
-    outcomes: &[Outcome],
+    outcomes: &Listed,
 ) -> Result<Option<usize>, AllocError>
-    requires { Ascend outcomes.now }
-    ensures { IfOk result (λ number. MatchOption number (IsEndNotListed sketch.now shown.now outcomes.now) (MustEndAsNumber (asked sketch.now.program shown.now) (mode_in sketch.now) outcomes.now sketch.now.chosen)) }
+    requires { AreInOrder outcomes.now }
+    ensures { IfOk result (λ number. MatchOption number (IsEndNotListed sketch.now shown.now (listed outcomes.now)) (MustEndAsNumber (asked sketch.now.program shown.now) (mode_in sketch.now) (listed outcomes.now) sketch.now.chosen)) }
 {
     match sketch.must_end(shown)? {
-        Some(end) => match place_of(outcomes, &end) {
-            Ok(number) => Ok(Some(number)),
-            Err(_) => Ok(None),
-        },
+        Some(end) => Ok(outcomes.number_of(&end)),
         None => Ok(None),
     }
 }

@@ -6,24 +6,24 @@
 #![tactic(auto)]
 
 mod accesses;
+mod all_outcomes;
 mod branch;
 mod choices_left;
 mod cover;
 mod cover_trace;
 mod cover_values;
-mod explore;
-mod explore_trace;
-mod explore_values;
 mod fault;
 mod foreign;
 mod found;
 mod leaf;
 mod list;
+mod listed;
 mod oracle;
 mod ordered;
 mod plan;
 mod preference;
 mod reads_writes;
+mod renumber;
 mod run;
 mod served;
 mod settled;

@@ -7,7 +7,7 @@ ghost use Rattle.tso_machine.specs.Outcomes.{AllowsShown};
 ghost use Rattle.tso_machine.specs.Modes.{mode_of};
 ghost use Rattle.cover_solver.specs.Ordered.{Ascend};
 
-use crate::explore::explore_all;
+use crate::all_outcomes::all_outcomes;
 use crate::fault::SolveFault;
 use exec_axioms::Mode;
 use std::alloc::Global;
@@ -26,5 +26,6 @@ pub fn outcomes(
     ensures fault { IfErr result (λ fault. fault ≡ SolveFault.OutOfMemory) }
     ensures exact { IfOk result (λ outcomes. (o : Outcome) → Contains outcomes.items o ↔ AllowsShown (asked program.now shown.now) (mode_of program.now set.empty model) o) }
 {
-    Ok(explore_all(alloc, program, shown, Mode::unfenced(model))?.outcomes)
+    let all = all_outcomes(alloc, program, shown, Mode::unfenced(model))?;
+    Ok(all.into_outcomes())
 }

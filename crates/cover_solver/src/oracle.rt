@@ -11,6 +11,7 @@ ghost use Rattle.cover_solver.specs.Verdicts.{IsVerdictOf};
 use crate::cover::cover_all;
 use crate::fault::{SolveFault, Stop};
 use crate::foreign::ForeignRun;
+use crate::listed::Listed;
 use crate::ordered::copies;
 use crate::served::Served;
 use crate::table::SeqTable;
@@ -97,7 +98,7 @@ impl Solver {
             &self.program,
             &self.shown,
             Mode::Fenced(*set),
-            &self.outcomes,
+            &mut Listed::Closed(&self.outcomes),
         ) {
             Ok(tree) => self.serves(set, tree),
             Err(Stop::New(run)) => self.foreign(set, run),

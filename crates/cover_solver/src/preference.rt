@@ -3,17 +3,18 @@
 ghost use Rattle.std.specs.Prelude.{◌<◌, IfOk, IfSome, All, length};
 ghost use Rattle.cover_judge.specs.Choices.{MayChoose, IsSourceOpen};
 ghost use Rattle.cover_solver.specs.Choices.{IsOpen};
-ghost use Rattle.cover_solver.specs.Ordered.{Ascend};
+ghost use Rattle.cover_solver.specs.Listed.{AreInOrder};
 
 use crate::choices_left::OpenChoice;
 use crate::leaf::known;
+use crate::listed::Listed;
 use crate::reads_writes::{ReadValue, WrittenValue, gives, read_value};
 use crate::settled::{LastWrite, ends_differ, last_writes};
 use cert_forest::AccessId;
 use cover_judge::{Choice, event_of, sketch_with};
 use exec_axioms::{Event, Sketch};
 use std::alloc::{AllocError, Global};
-use tso_program::{Outcome, Shown};
+use tso_program::Shown;
 
 /// How many children stay open after a choice, how many there are, and whether it is an order: the
 /// least is the best.
@@ -37,11 +38,11 @@ pub(crate) fn preferred(
     alloc: Global,
     sketch: &Sketch,
     shown: &Shown,
-    outcomes: &[Outcome],
+    outcomes: &Listed,
     writes: &[WrittenValue],
     left: &[OpenChoice],
 ) -> Result<usize, AllocError>
-    requires ascend { Ascend outcomes.now }
+    requires in_order { AreInOrder outcomes.now }
     requires each { All (IsOpen sketch.now) left.now }
     requires some { 0 < length left.now }
     ensures { IfOk result (λ number. number < length left.now) }
@@ -105,12 +106,12 @@ fn has_source(sketch: &Sketch, writes: &[WrittenValue], read: ReadValue) -> bool
 fn merit_of(
     sketch: &Sketch,
     shown: &Shown,
-    outcomes: &[Outcome],
+    outcomes: &Listed,
     seen: &Seen,
     next: OpenChoice,
     most: usize,
 ) -> Result<Merit, AllocError>
-    requires ascend { Ascend outcomes.now }
+    requires in_order { AreInOrder outcomes.now }
     requires open { IsOpen sketch.now next }
 {
     match next {
@@ -177,12 +178,12 @@ fn with_source(sketch: &Sketch, merit: Merit, read: AccessId, source: Event, mos
 fn merit_of_orders(
     sketch: &Sketch,
     shown: &Shown,
-    outcomes: &[Outcome],
+    outcomes: &Listed,
     last: &[LastWrite],
     first: AccessId,
     second: AccessId,
 ) -> Result<Merit, AllocError>
-    requires ascend { Ascend outcomes.now }
+    requires in_order { AreInOrder outcomes.now }
     requires open { IsOpen sketch.now (OpenChoice.Order first second) }
 {
     let first_before = stays_open(sketch, shown, outcomes, last, first, second)?;
@@ -204,12 +205,12 @@ fn merit_of_orders(
 fn stays_open(
     sketch: &Sketch,
     shown: &Shown,
-    outcomes: &[Outcome],
+    outcomes: &Listed,
     last: &[LastWrite],
     first: AccessId,
     second: AccessId,
 ) -> Result<bool, AllocError>
-    requires ascend { Ascend outcomes.now }
+    requires in_order { AreInOrder outcomes.now }
     requires may { MayChoose sketch.now (Choice.Order first second) }
 {
     if sketch.closes_order(event_of(first), event_of(second)) {

@@ -2,18 +2,16 @@
 ghost use Rattle.std.specs.Prelude.{◌≡◌, ◌↔◌, IfOk, IfErr, IsTrue};
 ghost use Rattle.tso_program.specs.Shown.{asked};
 ghost use Rattle.tso_machine.specs.Outcomes.{IsSequentialOutcome};
-ghost use Rattle.tso_machine.specs.Machine.{Sequential};
 ghost use Rattle.cert_forest.specs.Views.{cover};
-ghost use Rattle.cover_solver.specs.Covers.{IsWholeCover};
-ghost use Rattle.cover_solver.specs.Facts.{IsSequentialTable, IsListOf};
+ghost use Rattle.cover_solver.specs.Facts.{IsSequentialTable};
 
-use crate::cover::cover_all;
-use crate::explore::explore_all;
-use crate::fault::{SolveFault, Stop};
+use crate::all_outcomes::all_outcomes;
+use crate::fault::SolveFault;
 use crate::ordered::place_of;
+use crate::renumber::renumber;
 use cert_forest::{CoverTree, Runs};
 use exec_axioms::Mode;
-use std::alloc::{AllocError, Global};
+use std::alloc::Global;
 use std::marker::Model;
 use tso_program::{Outcome, Program, Shown};
 
@@ -48,41 +46,24 @@ impl Model for SeqTable {
     ghost invariant = { λ t. IsSequentialTable (record { question = asked t.program t.shown; outcomes = t.outcomes.items; runs = t.runs; tree = cover t.tree }) };
 }
 
-/// The sequential outcomes of a program, as far as they are shown. They are found first; the tree is then
-/// made over the whole list.
+/// The sequential outcomes of a program, as far as they are shown. The search finds them in some order, and
+/// its tree names them in that order, so the numbers of the tree are then put in ascending order.
 pub fn sequential(alloc: Global, program: &Program, shown: &Shown) -> Result<SeqTable, SolveFault>
     ensures question { IfOk result (λ table. table.question ≡ asked program.now shown.now) }
     ensures table { IfOk result IsSequentialTable }
     ensures fault { IfErr result (λ fault. fault ≡ SolveFault.OutOfMemory) }
 {
-    // For the proof alone: what holds of every program is known where its threads are read.
-    let _ = program.threads();
-    let found = explore_all(alloc, program, shown, Mode::Sequential)?;
-    let tree = cover_sequential(alloc, program, shown, &found.outcomes)?;
+    let all = all_outcomes(alloc, program, shown, Mode::Sequential)?;
+    let places = all.found.places(alloc)?;
+    let mut tree = all.tree;
+    renumber(&mut tree, &places);
     Ok(SeqTable {
         program: program.copy()?,
         shown: *shown,
-        outcomes: found.outcomes,
-        runs: found.runs,
+        outcomes: all.found.outcomes,
+        runs: all.found.runs,
         tree,
     })
-}
-
-/// A tree over all sequential outcomes.
-fn cover_sequential(
-    alloc: Global,
-    program: &Program,
-    shown: &Shown,
-    outcomes: &[Outcome],
-) -> Result<CoverTree, AllocError>
-    requires { IsListOf (asked program.now shown.now) outcomes.now }
-    ensures { IfOk result (λ tree. IsWholeCover (asked program.now shown.now) Sequential outcomes.now (cover tree)) }
-{
-    match cover_all(alloc, program, shown, Mode::Sequential, outcomes) {
-        Ok(tree) => Ok(tree),
-        Err(Stop::OutOfMemory) => Err(AllocError),
-        Err(Stop::New(_)) => unreachable!(),
-    }
 }
 
 impl SeqTable {

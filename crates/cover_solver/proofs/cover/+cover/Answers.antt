@@ -1,13 +1,18 @@
-use Rattle.std.proofs.Common.{List, [], ◌∷◌, get_or, map, sym, ap, ◌∙◌, subst, arith}
+use Rattle.std.proofs.Common.{List, [], ◌∷◌, get_or, map, take, sym, ap, ◌∙◌, subst, arith}
 use Rattle.std.specs.Option.{MatchOption}
 use Rattle.std.proofs.lemmas.List.{map-append, length-map}
+use Rattle.tso_program.specs.declared.outcome.Outcome.{Outcome}
+use Rattle.tso_program.specs.Shown.{asked}
 use Rattle.cert_forest.specs.Views.{cover}
 use Rattle.exec_axioms.specs.Complete.{IsComplete}
+use Rattle.exec_axioms.specs.ProgramSketches.{mode_in}
 use Rattle.cover_judge.specs.declared.choice.Choice.{Choice}
 use Rattle.cover_judge.specs.declared.choice.Choice.TheVariants as choice
 use Rattle.cover_solver.specs.Choices.{IsBranch}
-use Rattle.cover_solver.specs.Covers.{IsCoverAt, AreCoversAfter, AreChildren, IsArity}
-use Rattle.cover_solver.proofs.Exploring.{fewer_rounds}
+use Rattle.cover_solver.specs.Covers.{IsValidAt, IsCoverAt, AreCoversAfter, AreChildren, IsArity}
+use Rattle.cover_solver.specs.Listed.{listed}
+use Rattle.cover_solver.proofs.Growing.{grows_twice, grows_after, covers_still}
+use Rattle.cover_solver.proofs.Rounds.{fewer_rounds}
 use Rattle.cover_solver.proofs.Nodes.{cover_next, cover_without, covers_more, node_cover, node_arity}
 use Rattle.cover_solver.proofs.cover.+cover.Goals as goal
 
@@ -17,36 +22,53 @@ cover_each-cover_from-requires t c =
     let i = c.loop-choice.choice-index in
     let d = choice.Value 0 0 in
     let ch = get_or c.args.choices.now i d in
-    (omega (arith, fewer_rounds s c.in_ok-next.next ch c.program.ensures.lawful c.program.ensures.few (c.requires.may.each i d c.loop-choice-test.true) c.in_ok-next.ensures), c.requires.ascend)
+    (omega (arith, fewer_rounds s c.in_ok-next.next ch c.program.ensures.lawful c.program.ensures.few (c.requires.may.each i d c.loop-choice-test.true) c.in_ok-next.ensures), c.loop-choice.invariant.0.in_order)
 
 pub cover_each-returns-then-branch-clause-children : goal.cover_each-returns-then-branch-clause-children
 cover_each-returns-then-branch-clause-children t c =
     let s = c.args.sketch.now in
-    let i = c.loop-choice.choice-index in
+    let shown = c.args.shown.now in
     let d = choice.Value 0 0 in
+    let i = c.loop-choice.choice-index in
     let ch = get_or c.args.choices.now i d in
-    cover_without s c.args.shown.now c.args.outcomes.now c.program.ensures.lawful c.in_ok-next.next ch (cover c.in_ok-tree.tree) (c.requires.may.each i d c.loop-choice-test.true)
-    c.in_ok-next.ensures c.in_ok-tree.ensures.tree (c.in_ok-is_valid.ensures c.if-branch.true)
+    let tree = cover c.in_ok-tree.tree in
+    cover_without s shown (listed c.cover_from.new.outcomes) c.program.ensures.lawful c.in_ok-next.next ch tree (c.requires.may.each i d c.loop-choice-test.true)
+    c.in_ok-next.ensures c.in_ok-tree.ensures.tree (subst (λ (os : List Outcome). IsValidAt s shown os tree) c.as_slice.ensures (c.in_ok-is_valid.ensures c.if-branch.true))
 
 pub cover_each-loop-choice-preserved : goal.cover_each-loop-choice-preserved
 cover_each-loop-choice-preserved t c =
     let s = c.args.sketch.now in
     let shown = c.args.shown.now in
-    let outcomes = c.args.outcomes.now in
+    let mid = c.loop-choice.outcomes in
+    let new = c.cover_from.new.outcomes in
     let lawful = c.program.ensures.lawful in
     let i = c.loop-choice.choice-index in
     let d = choice.Value 0 0 in
     let ch = get_or c.args.choices.now i d in
     let tree = c.in_ok-tree.tree in
-    covers_more s shown outcomes lawful c.args.choices.now (map cover c.loop-choice.trees.items) (map cover c.push.new.self.items) i d (cover tree) c.loop-choice-test.true
-    (ap (map cover) c.in_ok-push.ensures.items ∙ map-append cover c.loop-choice.trees.items (tree ∷ [])) c.loop-choice.invariant
-    (cover_next s shown outcomes lawful c.in_ok-next.next ch (cover tree) (c.requires.may.each i d c.loop-choice-test.true) c.in_ok-next.ensures c.in_ok-tree.ensures.tree)
+    let next = c.in_ok-next.next in
+    let grows = grows_after s next shown ch c.in_ok-next.ensures mid new c.in_ok-tree.ensures.grows in (
+      grows_twice (asked s.program shown) (mode_in s) c.args.outcomes.now mid new c.loop-choice.invariant.0 grows,
+      covers_more s shown (listed new) lawful c.args.choices.now (map cover c.loop-choice.trees.items) (map cover c.push.new.self.items) i d (cover tree) c.loop-choice-test.true
+          (ap (map cover) c.in_ok-push.ensures.items ∙ map-append cover c.loop-choice.trees.items (tree ∷ []))
+          (covers_still s shown (listed mid) (listed new) (take i c.args.choices.now) (map cover c.loop-choice.trees.items) grows.keeps c.loop-choice.invariant.1)
+          (cover_next s shown (listed new) lawful next ch (cover tree) (c.requires.may.each i d c.loop-choice-test.true) c.in_ok-next.ensures c.in_ok-tree.ensures.tree),
+    )
+
+pub cover_each-returns-then-branch-clause-grows : goal.cover_each-returns-then-branch-clause-grows
+cover_each-returns-then-branch-clause-grows t c =
+    let s = c.args.sketch.now in
+    let shown = c.args.shown.now in
+    let mid = c.loop-choice.outcomes in
+    let new = c.cover_from.new.outcomes in
+    grows_twice (asked s.program shown) (mode_in s) c.args.outcomes.now mid new c.loop-choice.invariant.0
+    (grows_after s c.in_ok-next.next shown (get_or c.args.choices.now c.loop-choice.choice-index (choice.Value 0 0)) c.in_ok-next.ensures mid new c.in_ok-tree.ensures.grows)
 
 pub cover_from-node_over-requires : goal.cover_from-node_over-requires
 cover_from-node_over-requires t c =
     let s = c.args.sketch.now in
     let shown = c.args.shown.now in
-    let outcomes = c.args.outcomes.now in
+    let outcomes = listed c.cover_each.new.outcomes in
     let trees = map cover c.in-Each.trees.items in
     let choices = c.in-Some-2.branch.choices.items in
     let is_branch = subst (λ branch. MatchOption branch (IsComplete s) (IsBranch s)) c.in-Some-2.is c.in_ok-branch.ensures in
@@ -59,7 +81,7 @@ pub cover_from-returns-in-Each-clause-tree : goal.cover_from-returns-in-Each-cla
 cover_from-returns-in-Each-clause-tree t c =
     let s = c.args.sketch.now in
     let shown = c.args.shown.now in
-    let outcomes = c.args.outcomes.now in
+    let outcomes = listed c.cover_each.new.outcomes in
     let trees = map cover c.in-Each.trees.items in
     let choices = c.in-Some-2.branch.choices.items in
     let are = subst (λ (cs : List Choice). AreCoversAfter s shown outcomes cs trees) c.deref.ensures.value

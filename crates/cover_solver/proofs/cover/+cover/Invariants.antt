@@ -1,7 +1,10 @@
 use Rattle.std.proofs.Common.{◌+◌, map, take}
+use Rattle.tso_program.specs.Shown.{asked}
+use Rattle.exec_axioms.specs.ProgramSketches.{mode_in}
 use Rattle.cert_forest.specs.Views.{cover}
 use Rattle.cover_solver.specs.Covers.{AreCoversAfter}
-use Rattle.cover_solver.proofs.Exploring.{rounds}
+use Rattle.cover_solver.specs.Listed.{listed, Grows}
+use Rattle.cover_solver.proofs.Rounds.{rounds}
 use Rattle.cover_solver.proofs.cover.+cover.Given as goal
 
 abbrev pub decreases-cover_from : goal.decreases-cover_from
@@ -10,6 +13,7 @@ decreases-cover_from l = rounds l.sketch.now + 1
 abbrev pub decreases-cover_each : goal.decreases-cover_each
 decreases-cover_each l = rounds l.sketch.now
 
--- the trees are valid after the choices so far
+-- the list has grown, and the trees are valid over it after the choices so far
 abbrev pub invariant-cover_each-loop-choice : goal.invariant-cover_each-loop-choice
-invariant-cover_each-loop-choice l = AreCoversAfter l.sketch l.shown l.outcomes (take l.choice-index l.choices) (map cover l.trees.items)
+invariant-cover_each-loop-choice l =
+    Grows (asked l.sketch.program l.shown) (mode_in l.sketch) l.fn.outcomes l.outcomes × AreCoversAfter l.sketch l.shown (listed l.outcomes) (take l.choice-index l.choices) (map cover l.trees.items)

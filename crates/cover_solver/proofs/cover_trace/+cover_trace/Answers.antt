@@ -1,5 +1,7 @@
 use Rattle.std.proofs.Common.{◌≡◌, ◌<◌, ◌≤◌, ◌∷◌, [], ◌∙◌, List, get_or, length, map, take, ap, sym, subst, rules}
 use Rattle.std.proofs.lemmas.List.{map-append}
+use Rattle.tso_program.specs.Shown.{asked}
+use Rattle.exec_axioms.specs.ProgramSketches.{mode_in}
 use Rattle.cert_forest.specs.declared.tree.CoverTree.{CoverTree}
 use Rattle.cert_forest.specs.declared.tree.CoverTree.TheVariants as memory
 use Rattle.cert_forest.specs.declared.tree.CoverTree.TheViews as trees
@@ -11,7 +13,9 @@ use Rattle.cover_solver.specs.declared.traces.TraceTree.TheViews as views
 use Rattle.cover_solver.specs.declared.traces.TraceTree.TheFolds.{fold-roll-TraceTree, fold_out-TraceTree}
 use Rattle.cover_solver.specs.Combined.{with_root}
 use Rattle.cover_solver.specs.Covers.{IsCoverAt, AreCoversAfter}
+use Rattle.cover_solver.specs.Listed.{listed}
 use Rattle.cover_solver.specs.Traces.{Traces, Read, traces, trace_node, trees_of, first_choices}
+use Rattle.cover_solver.proofs.Growing.{grows_none, grows_twice, covers_still}
 use Rattle.cover_solver.proofs.TraceNodes.{child_meets, no_covers, one_cover_more, node_covered}
 use Rattle.cover_solver.proofs.cover_trace.+cover_trace.Goals as goal
 
@@ -21,8 +25,11 @@ loop-next-init t c =
     let after = c.in-Read.after.items in
     let x = traces c.args.tree.now in
     let is : traces c.args.tree.now ≡ Read c.in-Read.own c.in-Read.choices.items (trees_of (map traces c.in-Read.after.items)) = search (rules, views.the_lemmas, fold-roll-TraceTree Traces trace_node, fold_out-TraceTree Traces trace_node) in
-    subst (λ (xs : List CoverTree). AreCoversAfter (with_root c.args.t c.args.sketch.now x) c.args.shown.now c.args.outcomes.now (take 0 (first_choices x)) (map cover xs)) (sym c.in_ok-children-in-Read.ensures.items)
-    (no_covers c.args.sketch.now c.args.t c.args.others.now c.requires.base c.program.ensures.lawful c.in-Read.own c.program-in-Read.ensures.lawful choices after x is c.requires.tree c.requires.alike c.args.shown.now c.args.outcomes.now)
+    let outcomes = c.args.outcomes.now in (
+      grows_none (asked c.args.sketch.now.program c.args.shown.now) (mode_in c.args.sketch.now) outcomes c.requires.in_order,
+      subst (λ (xs : List CoverTree). AreCoversAfter (with_root c.args.t c.args.sketch.now x) c.args.shown.now (listed outcomes) (take 0 (first_choices x)) (map cover xs)) (sym c.in_ok-children-in-Read.ensures.items)
+          (no_covers c.args.sketch.now c.args.t c.args.others.now c.requires.base c.program.ensures.lawful c.in-Read.own c.program-in-Read.ensures.lawful choices after x is c.requires.tree c.requires.alike c.args.shown.now (listed outcomes)),
+    )
 
 pub cover_trace-requires : goal.cover_trace-requires
 cover_trace-requires t c = (
@@ -34,7 +41,7 @@ cover_trace-requires t c = (
       let is : traces c.args.tree.now ≡ Read c.in-Read.own c.in-Read.choices.items (trees_of (map traces c.in-Read.after.items)) = search (rules, views.the_lemmas, fold-roll-TraceTree Traces trace_node, fold_out-TraceTree Traces trace_node) in
       let here = subst (λ (xs : List TraceTree). i < length xs) c.deref-next-items.ensures.value c.loop-next-test.true in
       let at = subst (λ (xs : List TraceTree). item ≡ get_or xs i item) c.deref-next-items.ensures.value c.next-item.is in (
-        c.requires.ascend,
+        c.loop-next.invariant.0.in_order,
         (
           c.requires.base,
           child_meets c.args.sketch.now c.args.t c.args.others.now c.requires.base c.program.ensures.lawful c.in-Read.own c.program-in-Read.ensures.lawful choices after (traces c.args.tree.now) is c.requires.tree c.requires.alike
@@ -54,9 +61,17 @@ loop-next-preserved t c =
     let is : traces c.args.tree.now ≡ Read c.in-Read.own c.in-Read.choices.items (trees_of (map traces c.in-Read.after.items)) = search (rules, views.the_lemmas, fold-roll-TraceTree Traces trace_node, fold_out-TraceTree Traces trace_node) in
     let here = subst (λ (xs : List TraceTree). i < length xs) c.deref-next-items.ensures.value c.loop-next-test.true in
     let at = subst (λ (xs : List TraceTree). item ≡ get_or xs i item) c.deref-next-items.ensures.value c.next-item.is in
-    one_cover_more c.args.sketch.now c.args.t c.args.others.now c.requires.base c.program.ensures.lawful c.in-Read.own c.program-in-Read.ensures.lawful choices after (traces c.args.tree.now) is c.requires.tree c.requires.alike
-    c.args.shown.now i item here at c.args.outcomes.now (map cover before) (map cover c.push.new.self.items) (cover made) (ap (map cover) c.in_ok-push-in-Read.ensures.items ∙ map-append cover before (made ∷ []))
-    c.loop-next.invariant c.in_ok-child-in-Read.ensures.cover
+    let x = traces c.args.tree.now in
+    let s = c.args.sketch.now in
+    let shown = c.args.shown.now in
+    let mid = c.loop-next.outcomes in
+    let new = c.cover_trace.new.outcomes in
+    let grows = c.in_ok-child-in-Read.ensures.grows in (
+      grows_twice (asked s.program shown) (mode_in s) c.args.outcomes.now mid new c.loop-next.invariant.0 grows,
+      one_cover_more s c.args.t c.args.others.now c.requires.base c.program.ensures.lawful c.in-Read.own c.program-in-Read.ensures.lawful choices after x is c.requires.tree c.requires.alike
+          shown i item here at (listed new) (map cover before) (map cover c.push.new.self.items) (cover made) (ap (map cover) c.in_ok-push-in-Read.ensures.items ∙ map-append cover before (made ∷ []))
+          (covers_still (with_root c.args.t s x) shown (listed mid) (listed new) (take i (first_choices x)) (map cover before) grows.keeps c.loop-next.invariant.1) c.in_ok-child-in-Read.ensures.cover,
+    )
 
 pub returns-after-loop-next-clause-cover : goal.returns-after-loop-next-clause-cover
 returns-after-loop-next-clause-cover t c =
@@ -67,6 +82,6 @@ returns-after-loop-next-clause-cover t c =
     let is : traces c.args.tree.now ≡ Read c.in-Read.own c.in-Read.choices.items (trees_of (map traces c.in-Read.after.items)) = search (rules, views.the_lemmas, fold-roll-TraceTree Traces trace_node, fold_out-TraceTree Traces trace_node) in
     let past = subst (λ (xs : List TraceTree). length xs ≤ i) c.deref-next-items.ensures.value c.loop-next-test.false in
     let made : cover (memory.Value c.args.t c.loop-next.children) ≡ Value c.args.t (covers_of (map cover c.loop-next.children.items)) = search (rules, trees.the_lemmas, fold_out-CoverTree Cover cover_node) in
-    subst (IsCoverAt (with_root c.args.t c.args.sketch.now (traces c.args.tree.now)) c.args.shown.now c.args.outcomes.now) (sym made)
+    subst (IsCoverAt (with_root c.args.t c.args.sketch.now (traces c.args.tree.now)) c.args.shown.now (listed c.loop-next.outcomes)) (sym made)
     (node_covered c.args.sketch.now c.args.t c.args.others.now c.requires.base c.program.ensures.lawful c.in-Read.own c.program-in-Read.ensures.lawful choices after (traces c.args.tree.now) is c.requires.tree c.requires.alike
-    c.args.shown.now i past c.args.outcomes.now (map cover kids.items) c.program.ensures.registers c.loop-next.invariant)
+    c.args.shown.now i past (listed c.loop-next.outcomes) (map cover kids.items) c.program.ensures.registers c.loop-next.invariant.1)

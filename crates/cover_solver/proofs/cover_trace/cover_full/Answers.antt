@@ -7,6 +7,7 @@ use Rattle.cert_forest.specs.Views.{cover, cover_node}
 use Rattle.cert_forest.specs.Trees.{Cover, Source, covers_of}
 use Rattle.cover_solver.specs.Combined.{with_trace}
 use Rattle.cover_solver.specs.Covers.{IsCoverAt}
+use Rattle.cover_solver.specs.Listed.{listed}
 use Rattle.cover_solver.proofs.CombinedSketches.{whole_merged, unsourced_cover}
 use Rattle.cover_solver.proofs.cover_trace.cover_full.Goals as goal
 
@@ -20,6 +21,6 @@ returns-in-Some-clause-cover c =
     let whole = whole_merged s u c.args.t lawful base.alone base.there own c.requires.alike c.requires.trace.full base.full in
     let made : cover (memory.Source c.in-Some.read c.new.result) ≡ Source c.in-Some.read (covers_of (map cover c.new.result.items)) = search (rules, the_lemmas, fold_out-CoverTree Cover cover_node) in
     let none = ap (λ (trees : List CoverTree). Source c.in-Some.read (covers_of (map cover trees))) c.new.ensures.items in
-    subst (IsCoverAt (with_trace c.args.t s c.args.trace.now) c.args.shown.now c.args.outcomes.now) (sym (made ∙ none))
+    subst (IsCoverAt (with_trace c.args.t s c.args.trace.now) c.args.shown.now (listed c.args.outcomes.now)) (sym (made ∙ none))
     (unsourced_cover s u c.args.t lawful base.alone base.there own c.requires.alike c.args.trace.now.tally c.args.others.now c.requires.trace.tally base.tally
-    c.args.shown.now c.args.outcomes.now c.program.ensures.registers whole c.in-Some.read c.in-Some.ensures)
+    c.args.shown.now (listed c.args.outcomes.now) c.program.ensures.registers whole c.in-Some.read c.in-Some.ensures)

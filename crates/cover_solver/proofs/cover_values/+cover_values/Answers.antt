@@ -1,14 +1,18 @@
-use Rattle.std.proofs.Common.{List, [], ◌∷◌, ◌∙◌, get_or, map, sym, ap, subst, arith}
+use Rattle.std.proofs.Common.{List, [], ◌∷◌, ◌∙◌, get_or, map, take, sym, ap, subst, arith}
 use Rattle.std.proofs.lemmas.List.{map-append}
+use Rattle.tso_program.specs.Shown.{asked}
+use Rattle.exec_axioms.specs.ProgramSketches.{mode_in}
 use Rattle.cert_forest.specs.Views.{cover}
 use Rattle.cover_judge.specs.declared.choice.Choice.{Choice}
 use Rattle.cover_judge.specs.declared.choice.Choice.TheVariants as choice
 use Rattle.cover_judge.specs.Choices.{MayChooseEach}
 use Rattle.cover_solver.specs.declared.choices_left.OpenChoice.TheVariants as left
 use Rattle.cover_solver.specs.Covers.{IsCoverAt, AreCoversAfter}
+use Rattle.cover_solver.specs.Listed.{listed}
 use Rattle.cover_solver.specs.Plans.{AreOfOthers}
 use Rattle.cover_solver.proofs.CombinedCovers.{before_next, of_others}
-use Rattle.cover_solver.proofs.Exploring.{fewer_rounds}
+use Rattle.cover_solver.proofs.Growing.{grows_twice, grows_after, covers_still}
+use Rattle.cover_solver.proofs.Rounds.{fewer_rounds}
 use Rattle.cover_solver.proofs.Nodes.{cover_next, covers_more, node_cover}
 use Rattle.cover_solver.proofs.cover_values.+cover_values.Goals as goal
 
@@ -20,22 +24,29 @@ cover_each_value-cover_values-requires t c =
     let ch = get_or c.args.choices.now i d in
     let next = c.in_ok-next.next in (
       omega (arith, fewer_rounds s next ch c.program.ensures.lawful c.program.ensures.few (c.requires.may.each i d c.loop-choice-test.true) c.in_ok-next.ensures),
-      (c.requires.ascend, before_next s next c.args.plan.now.last ch (c.requires.others i d c.loop-choice-test.true) c.in_ok-next.ensures c.requires.before),
+      (c.loop-choice.invariant.0.in_order, before_next s next c.args.plan.now.last ch (c.requires.others i d c.loop-choice-test.true) c.in_ok-next.ensures c.requires.before),
     )
 
 pub cover_each_value-loop-choice-preserved : goal.cover_each_value-loop-choice-preserved
 cover_each_value-loop-choice-preserved t c =
     let s = c.args.sketch.now in
     let shown = c.args.shown.now in
-    let outcomes = c.args.outcomes.now in
+    let mid = c.loop-choice.outcomes in
+    let new = c.cover_values.new.outcomes in
     let lawful = c.program.ensures.lawful in
     let i = c.loop-choice.choice-index in
     let d = choice.Value 0 0 in
     let ch = get_or c.args.choices.now i d in
     let tree = c.in_ok-cover_values.field-0 in
-    covers_more s shown outcomes lawful c.args.choices.now (map cover c.loop-choice.trees.items) (map cover c.push.new.self.items) i d (cover tree) c.loop-choice-test.true
-    (ap (map cover) c.in_ok-push.ensures.items ∙ map-append cover c.loop-choice.trees.items (tree ∷ [])) c.loop-choice.invariant
-    (cover_next s shown outcomes lawful c.in_ok-next.next ch (cover tree) (c.requires.may.each i d c.loop-choice-test.true) c.in_ok-next.ensures c.in_ok-cover_values.ensures.tree)
+    let trees = map cover c.loop-choice.trees.items in
+    let next = c.in_ok-next.next in
+    let grows = grows_after s next shown ch c.in_ok-next.ensures mid new c.in_ok-cover_values.ensures.grows in (
+      grows_twice (asked s.program shown) (mode_in s) c.args.outcomes.now mid new c.loop-choice.invariant.0 grows,
+      covers_more s shown (listed new) lawful c.args.choices.now trees (map cover c.push.new.self.items) i d (cover tree) c.loop-choice-test.true
+          (ap (map cover) c.in_ok-push.ensures.items ∙ map-append cover c.loop-choice.trees.items (tree ∷ []))
+          (covers_still s shown (listed mid) (listed new) (take i c.args.choices.now) trees grows.keeps c.loop-choice.invariant.1)
+          (cover_next s shown (listed new) lawful next ch (cover tree) (c.requires.may.each i d c.loop-choice-test.true) c.in_ok-next.ensures c.in_ok-cover_values.ensures.tree),
+    )
 
 pub cover_values-cover_each_value-requires : goal.cover_values-cover_each_value-requires
 cover_values-cover_each_value-requires t c =
@@ -45,7 +56,7 @@ cover_values-cover_each_value-requires t c =
     let others = of_others s c.in-Some.t last choices c.in_ok-choices-in-Some.ensures.choices c.in-Some.ensures.0 in (
       omega arith,
       (
-        c.requires.ascend,
+        c.requires.in_order,
         (
           c.requires.before,
           (subst (MayChooseEach s) (sym c.deref.ensures.value) c.in_ok-choices-in-Some.ensures.may, subst (AreOfOthers last) (sym c.deref.ensures.value) others),
@@ -57,7 +68,7 @@ pub cover_values-returns-in_ok-node_over-in-Some-clause-tree : goal.cover_values
 cover_values-returns-in_ok-node_over-in-Some-clause-tree t c =
     let s = c.args.sketch.now in
     let shown = c.args.shown.now in
-    let outcomes = c.args.outcomes.now in
+    let outcomes = listed c.cover_each_value.new.outcomes in
     let trees = map cover c.in_ok-trees-in-Some.trees.items in
     let choices = c.in_ok-choices-in-Some.choices.items in
     let are = subst (λ (cs : List Choice). AreCoversAfter s shown outcomes cs trees) c.deref.ensures.value c.in_ok-trees-in-Some.ensures.trees in

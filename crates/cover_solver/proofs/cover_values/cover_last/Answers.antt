@@ -3,6 +3,7 @@ use Rattle.exec_axioms.specs.ProgramSketches.{ProgramSketch}
 use Rattle.cert_forest.specs.Views.{cover}
 use Rattle.cover_solver.specs.Combined.{with_root}
 use Rattle.cover_solver.specs.Covers.{IsCoverAt}
+use Rattle.cover_solver.specs.Listed.{listed}
 use Rattle.cover_solver.specs.Traces.{traces}
 use Rattle.cover_judge.proofs.Answered.{if_ok}
 use Rattle.cover_solver.proofs.CombinedCovers.{at_start}
@@ -13,6 +14,6 @@ returns-clause-tree c =
     let s = c.args.sketch.now in
     let last = c.args.plan.now.last in
     let shown = c.args.shown.now in
-    let outcomes = c.args.outcomes.now in
+    let outcomes = listed c.cover_trace.new.outcomes in
     if_ok c.cover_trace.result (λ tree. IsCoverAt (with_root last.thread s (traces last.tree)) shown outcomes (cover tree)) (λ tree. IsCoverAt s shown outcomes (cover tree))
     (λ tree is. subst (λ (n : ProgramSketch). IsCoverAt n shown outcomes (cover tree)) (at_start s last c.program.ensures.lawful c.requires.before) is) c.cover_trace.ensures.cover

@@ -1,6 +1,6 @@
 use Rattle.std.proofs.Common.{get_or, ◌∙◌, arith}
 use Rattle.cover_judge.specs.declared.choice.Choice.TheVariants as choice
-use Rattle.cover_solver.proofs.Exploring.{fewer_rounds}
+use Rattle.cover_solver.proofs.Rounds.{fewer_rounds}
 use Rattle.cover_solver.proofs.TraceTrees.{child_more}
 use Rattle.cover_solver.proofs.traces.+trace_tree.Goals as goal
 

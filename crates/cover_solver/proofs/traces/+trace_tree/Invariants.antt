@@ -1,6 +1,6 @@
 use Rattle.std.proofs.Common.{◌+◌, map, take}
 use Rattle.cover_solver.specs.Traces.{traces, trees_of, AreTraceTrees}
-use Rattle.cover_solver.proofs.Exploring.{rounds}
+use Rattle.cover_solver.proofs.Rounds.{rounds}
 use Rattle.cover_solver.proofs.traces.+trace_tree.Given as goal
 
 abbrev pub decreases-trace_tree : goal.decreases-trace_tree

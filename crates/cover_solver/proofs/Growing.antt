@@ -1,0 +1,88 @@
+-- Lists of outcomes that grow, and the trees over them.
+use Rattle.std.proofs.Common.{◌≡◌, ℕ, List, [], ◌∷◌, Contains, map, refl, subst}
+use Rattle.std.specs.Option.{MatchOption}
+use Rattle.std.specs.Prelude.{Option, Some, None}
+use Rattle.tso_program.specs.declared.outcome.Outcome.{Outcome}
+use Rattle.tso_program.specs.declared.shown.Shown.{Shown}
+use Rattle.tso_program.specs.Shown.{Question, asked}
+use Rattle.tso_machine.specs.Machine.{Mode}
+use Rattle.candidate_executions.specs.Sketches.{Sketch, with_value, with_source, with_pair}
+use Rattle.exec_axioms.specs.ProgramSketches.{ProgramSketch, mode_in, with_chosen}
+use Rattle.exec_axioms.specs.Completions.{MustEndSo}
+use Rattle.cert_forest.specs.Trees.{Cover, Value, Source, Order, Cycle, Known, Covers, NoCover, MoreCovers, covers_of}
+use Rattle.tree_laws.specs.CoverTrees.{event_of, MustEndAsNumber, IsValidCover, AreValidCovers}
+use Rattle.cover_judge.specs.declared.choice.Choice.{Choice}
+use Rattle.cover_judge.specs.Choices.{sketch_with}
+use Rattle.cover_judge.proofs.SketchesAfter.{moved}
+use Rattle.cover_solver.specs.declared.fault.Stop.{Stop}
+use Rattle.cover_solver.specs.declared.listed.Listed.{Listed}
+use Rattle.cover_solver.specs.declared.listed.Listed.TheVariants.{Closed, Open}
+use Rattle.cover_solver.specs.Covers.{AreCoversAfter, IsEndNotListed}
+use Rattle.cover_solver.specs.Found.{HasNumber, KeepsNumbers}
+use Rattle.cover_solver.specs.Listed.{AreInOrder, StaysClosed, StopIs, Grows}
+use Rattle.cover_solver.proofs.Ends.{end_at, end_not_there}
+
+stays : (outcomes : Listed) → StaysClosed outcomes outcomes
+stays (Closed outcomes) = refl
+stays (Open found) = tt
+
+stays_twice : (old mid new : Listed) → StaysClosed old mid → StaysClosed mid new → StaysClosed old new
+stays_twice (Closed outcomes) mid new first second = subst (λ m. StaysClosed m new) first second
+stays_twice (Open found) mid new first second = tt
+
+module _ (q : Question) (mode : Mode) where
+  -- nothing new
+  pub grows_none : (outcomes : Listed) → AreInOrder outcomes → Grows q mode outcomes outcomes
+  grows_none outcomes in_order = record { in_order = in_order; keeps = λ n o here. here; runs = λ are. are; closed = stays outcomes; stops = λ why is. is }
+
+  -- one search after another
+  pub grows_twice : (old mid new : Listed) → Grows q mode old mid → Grows q mode mid new → Grows q mode old new
+  grows_twice old mid new first second = record {
+    in_order = second.in_order;
+    keeps = λ n o here. second.keeps n o (first.keeps n o here);
+    runs = λ are. second.runs (first.runs are);
+    closed = stays_twice old mid new first.closed second.closed;
+    stops = λ why is. first.stops why (second.stops why is);
+  }
+
+-- a tree stays valid where each outcome keeps its number
+module _ (q : Question) (mode : Mode) (old new : List Outcome) (keeps : KeepsNumbers old new) where
+  mutual
+    still_valid : (tree : Cover) (k : Sketch) → IsValidCover q mode old tree k → IsValidCover q mode new tree k
+    still_valid (Value t trees) k (values, has, valid) = (values, has, still_valid_each trees (map (with_value k t) values) valid)
+    still_valid (Source read trees) k (sources, has, valid) = (sources, has, still_valid_each trees (map (with_source k (event_of read)) sources) valid)
+    still_valid (Order first second one other) k (has, before, after) = (
+      has,
+      still_valid one (with_pair k (event_of first) (event_of second)) before,
+      still_valid other (with_pair k (event_of second) (event_of first)) after,
+    )
+    still_valid (Cycle kind events) k known = known
+    still_valid (Known number) k must = record { outcome = must.outcome; is_outcome = keeps number must.outcome must.is_outcome; must_end = must.must_end }
+
+    still_valid_each : (trees : Covers) (ks : List Sketch) → AreValidCovers q mode old trees ks → AreValidCovers q mode new trees ks
+    still_valid_each NoCover [] valid = tt
+    still_valid_each NoCover (k ∷ ks) valid = absurd valid
+    still_valid_each (MoreCovers tree trees) [] valid = absurd valid
+    still_valid_each (MoreCovers tree trees) (k ∷ ks) (now, later) = (still_valid tree k now, still_valid_each trees ks later)
+
+-- and so do the trees after choices
+pub covers_still : (s : ProgramSketch) (shown : Shown) (old new : List Outcome) (choices : List Choice) (trees : List Cover) → KeepsNumbers old new → AreCoversAfter s shown old choices trees → AreCoversAfter s shown new choices trees
+covers_still s shown old new choices trees keeps are = record {
+  valid = still_valid_each (asked s.program shown) (mode_in s) old new keeps (covers_of trees) (map (sketch_with s.chosen) choices) are.valid;
+  neat = are.neat;
+  shallow = are.shallow;
+}
+
+-- the number of the outcome as which a sketch must end
+pub ended : (s : ProgramSketch) (shown : Shown) (outcomes : List Outcome) (end : Outcome) (number : Option ℕ) → MustEndSo s shown end → MatchOption number (Contains outcomes end → ⊥) (λ n. HasNumber outcomes n end) →
+    MatchOption number (IsEndNotListed s shown outcomes) (MustEndAsNumber (asked s.program shown) (mode_in s) outcomes s.chosen)
+ended s shown outcomes end None must none = end_not_there s shown outcomes end must none
+ended s shown outcomes end (Some n) must at = end_at s shown outcomes n end must at
+
+-- what the search at the sketch after a choice does, and why it stops, is so at the sketch
+module _ (s next : ProgramSketch) (shown : Shown) (c : Choice) (same : next ≡ with_chosen s (sketch_with s.chosen c)) where
+  pub grows_after : (old new : Listed) → Grows (asked next.program shown) (mode_in next) old new → Grows (asked s.program shown) (mode_in s) old new
+  grows_after old new grows = moved (λ p mode k. Grows (asked p shown) mode old new) s next c same grows
+
+  pub stops_after : (outcomes : Listed) (why : Stop) → StopIs (asked next.program shown) (mode_in next) outcomes why → StopIs (asked s.program shown) (mode_in s) outcomes why
+  stops_after outcomes why is = moved (λ p mode k. StopIs (asked p shown) mode outcomes why) s next c same is
