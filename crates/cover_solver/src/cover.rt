@@ -2,11 +2,13 @@
 ghost use Rattle.std.specs.Prelude.{◌≡◌, IfOk, IfErr, IsTrue, map, length};
 ghost use Rattle.tso_program.specs.Shown.{asked};
 ghost use Rattle.tso_machine.specs.Modes.{machine_mode};
+ghost use Rattle.candidate_executions.specs.Sketches.{IsWhole};
 ghost use Rattle.exec_axioms.specs.ProgramSketches.{mode_in};
 ghost use Rattle.cert_forest.specs.Views.{cover};
 ghost use Rattle.cover_judge.specs.Choices.{MayChooseEach};
 ghost use Rattle.cover_solver.specs.Ordered.{Ascend};
 ghost use Rattle.cover_solver.specs.Covers.{IsCoverAt, IsValidAt, AreChildren, IsWholeCover, tree_over, IsArity, StopIs};
+ghost use Rattle.cover_solver.specs.Internal.Accesses.{AreAccessesOf};
 
 use crate::branch::next_branch;
 use crate::choices_left::OpenChoice;
@@ -14,6 +16,7 @@ use crate::cover_values::cover_values;
 use crate::fault::Stop;
 use crate::leaf::leaf;
 use crate::plan::plan_for;
+use crate::reads_writes::{WholeAccesses, whole_accesses};
 use crate::run::shown_run;
 use cert_forest::CoverTree;
 use cover_judge::{Choice, TreeFault, judge_cover, sketch_with};
@@ -44,19 +47,37 @@ pub(crate) fn cover_all(
     let sketch = Sketch::new(alloc, program, mode)?;
     match plan_for(alloc, &sketch)? {
         Some(plan) => cover_values(alloc, &sketch, &plan, shown, outcomes),
-        None => cover_from(alloc, &sketch, shown, outcomes),
+        None => cover_whole(alloc, &sketch, shown, outcomes),
     }
 }
 
-/// A tree for a sketch.
-#[cycle(cover)]
-pub(crate) fn cover_from(
+/// A tree for a sketch in which each read has its value.
+pub(crate) fn cover_whole(
     alloc: Global,
     sketch: &Sketch,
     shown: &Shown,
     outcomes: &[Outcome],
 ) -> Result<CoverTree, Stop>
-    requires { Ascend outcomes.now }
+    requires ascend { Ascend outcomes.now }
+    requires whole { IsWhole sketch.now.program (mode_in sketch.now) sketch.now.chosen }
+    ensures tree { IfOk result (λ tree. IsCoverAt sketch.now shown.now outcomes.now (cover tree)) }
+    ensures stop { IfErr result (StopIs (asked sketch.now.program shown.now) (mode_in sketch.now) outcomes.now) }
+{
+    let accesses = whole_accesses(alloc, sketch)?;
+    cover_from(alloc, sketch, &accesses, shown, outcomes)
+}
+
+/// The same, by what the sketch reads and writes.
+#[cycle(cover)]
+fn cover_from(
+    alloc: Global,
+    sketch: &Sketch,
+    accesses: &WholeAccesses,
+    shown: &Shown,
+    outcomes: &[Outcome],
+) -> Result<CoverTree, Stop>
+    requires ascend { Ascend outcomes.now }
+    requires accesses { AreAccessesOf sketch.now accesses.now }
     ensures tree { IfOk result (λ tree. IsCoverAt sketch.now shown.now outcomes.now (cover tree)) }
     ensures stop { IfErr result (StopIs (asked sketch.now.program shown.now) (mode_in sketch.now) outcomes.now) }
 {
@@ -65,11 +86,13 @@ pub(crate) fn cover_from(
     if let Some(tree) = leaf(alloc, sketch, shown, outcomes)? {
         return Ok(tree);
     }
-    match next_branch(alloc, sketch, shown, outcomes)? {
-        Some(branch) => match cover_each(alloc, sketch, shown, &branch.choices, outcomes)? {
-            Children::Each(trees) => Ok(node_over(alloc, branch.next, trees)?),
-            Children::One(tree) => Ok(tree),
-        },
+    match next_branch(alloc, sketch, accesses, shown, outcomes)? {
+        Some(branch) => {
+            match cover_each(alloc, sketch, accesses, shown, &branch.choices, outcomes)? {
+                Children::Each(trees) => Ok(node_over(alloc, branch.next, trees)?),
+                Children::One(tree) => Ok(tree),
+            }
+        }
         None => Err(Stop::New(shown_run(alloc, sketch, shown)?)),
     }
 }
@@ -80,11 +103,13 @@ pub(crate) fn cover_from(
 fn cover_each(
     alloc: Global,
     sketch: &Sketch,
+    accesses: &WholeAccesses,
     shown: &Shown,
     choices: &[Choice],
     outcomes: &[Outcome],
 ) -> Result<Children, Stop>
     requires ascend { Ascend outcomes.now }
+    requires accesses { AreAccessesOf sketch.now accesses.now }
     requires may { MayChooseEach sketch.now choices.now }
     ensures children { IfOk result (AreChildren sketch.now shown.now outcomes.now choices.now) }
     ensures stop { IfErr result (StopIs (asked sketch.now.program shown.now) (mode_in sketch.now) outcomes.now) }
@@ -94,7 +119,7 @@ fn cover_each(
     let mut trees = Vec::new(alloc);
     for choice in choices {
         let next = sketch_with(sketch, *choice)?;
-        let tree = cover_from(alloc, &next, shown, outcomes)?;
+        let tree = cover_from(alloc, &next, accesses, shown, outcomes)?;
         if is_valid(alloc, &tree, sketch, shown, outcomes)? {
             return Ok(Children::One(tree));
         }
@@ -103,7 +128,8 @@ fn cover_each(
     Ok(Children::Each(trees))
 }
 
-/// Whether a tree is valid at a sketch in which each read has its value.
+/// Whether the tree of a child is valid at an open sketch. A leaf is not: what closes the child would have
+/// closed the sketch.
 fn is_valid(
     alloc: Global,
     tree: &CoverTree,
@@ -113,7 +139,7 @@ fn is_valid(
 ) -> Result<bool, AllocError>
     ensures { IfOk result (λ valid. IsTrue valid → IsValidAt sketch.now shown.now outcomes.now (cover tree.now)) }
 {
-    if !sketch.is_whole() {
+    if is_leaf(tree) {
         return Ok(false);
     }
     match judge_cover(alloc, tree, sketch, shown, outcomes) {
@@ -121,6 +147,10 @@ fn is_valid(
         Err(TreeFault::Wrong(_)) => Ok(false),
         Err(TreeFault::OutOfMemory) => Err(AllocError),
     }
+}
+
+fn is_leaf(tree: &CoverTree) -> bool {
+    matches!(tree, CoverTree::Cycle { .. } | CoverTree::Known { .. })
 }
 
 /// The node over a tree for each choice.

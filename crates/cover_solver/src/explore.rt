@@ -3,19 +3,22 @@ ghost use Rattle.std.specs.Prelude.{◌≡◌, ◌↔◌, IfOk, OnOk, IsTrue, fa
 ghost use Rattle.tso_program.specs.declared.outcome.Outcome.{Outcome};
 ghost use Rattle.tso_program.specs.Shown.{asked};
 ghost use Rattle.tso_machine.specs.Outcomes.{AllowsShown};
-ghost use Rattle.exec_axioms.specs.ProgramSketches.{nothing_chosen};
+ghost use Rattle.candidate_executions.specs.Sketches.{IsWhole};
+ghost use Rattle.exec_axioms.specs.ProgramSketches.{nothing_chosen, mode_in};
 ghost use Rattle.exec_axioms.specs.Known.{HasNoCycle};
 ghost use Rattle.tso_machine.specs.Modes.{machine_mode};
 ghost use Rattle.exec_axioms.specs.Complete.{IsComplete};
 ghost use Rattle.cover_judge.specs.Choices.{MayChooseEach};
 ghost use Rattle.cover_solver.specs.Found.{AscendWithRuns, HasRunOfEach};
 ghost use Rattle.cover_solver.specs.Explored.{Explores, ExploresEach};
+ghost use Rattle.cover_solver.specs.Internal.Accesses.{AreAccessesOf};
 
 use crate::branch::next_branch;
 use crate::explore_values::explore_values;
 use crate::found::Found;
 use crate::leaf::leaf;
 use crate::plan::plan_for;
+use crate::reads_writes::{WholeAccesses, whole_accesses};
 use crate::run::shown_run;
 use cover_judge::{Choice, sketch_with};
 use exec_axioms::{Mode, Sketch};
@@ -54,19 +57,37 @@ fn explore_mode(
     let sketch = Sketch::new(alloc, program, mode)?;
     match plan_for(alloc, &sketch)? {
         Some(plan) => explore_values(alloc, &sketch, &plan, shown, found),
-        None => explore(alloc, &sketch, shown, found),
+        None => explore_whole(alloc, &sketch, shown, found),
     }
 }
 
-/// Puts the outcome of each consistent completion of the sketch to those found.
-#[cycle(explore)]
-pub(crate) fn explore(
+/// Puts the outcome of each consistent completion of the sketch, in which each read has its value, to those
+/// found.
+pub(crate) fn explore_whole(
     alloc: Global,
     sketch: &Sketch,
     shown: &Shown,
     found: &mut Found,
 ) -> Result<(), AllocError>
-    requires { AscendWithRuns found.old }
+    requires in_order { AscendWithRuns found.old }
+    requires whole { IsWhole sketch.now.program (mode_in sketch.now) sketch.now.chosen }
+    ensures { OnOk result (Explores sketch.now shown.now found.old found.new) }
+{
+    let accesses = whole_accesses(alloc, sketch)?;
+    explore(alloc, sketch, &accesses, shown, found)
+}
+
+/// The same, by what the sketch reads and writes.
+#[cycle(explore)]
+fn explore(
+    alloc: Global,
+    sketch: &Sketch,
+    accesses: &WholeAccesses,
+    shown: &Shown,
+    found: &mut Found,
+) -> Result<(), AllocError>
+    requires in_order { AscendWithRuns found.old }
+    requires accesses { AreAccessesOf sketch.now accesses.now }
     ensures { OnOk result (Explores sketch.now shown.now found.old found.new) }
 {
     // For the proof alone: what holds of every sketch is known where its program is read.
@@ -74,8 +95,8 @@ pub(crate) fn explore(
     if is_closed(alloc, sketch, shown, found)? {
         return Ok(());
     }
-    match next_branch(alloc, sketch, shown, &found.outcomes)? {
-        Some(branch) => explore_each(alloc, sketch, shown, &branch.choices, found),
+    match next_branch(alloc, sketch, accesses, shown, &found.outcomes)? {
+        Some(branch) => explore_each(alloc, sketch, accesses, shown, &branch.choices, found),
         None => add_end(alloc, sketch, shown, found),
     }
 }
@@ -85,11 +106,13 @@ pub(crate) fn explore(
 fn explore_each(
     alloc: Global,
     sketch: &Sketch,
+    accesses: &WholeAccesses,
     shown: &Shown,
     choices: &[Choice],
     found: &mut Found,
 ) -> Result<(), AllocError>
     requires in_order { AscendWithRuns found.old }
+    requires accesses { AreAccessesOf sketch.now accesses.now }
     requires may { MayChooseEach sketch.now choices.now }
     ensures { OnOk result (ExploresEach sketch.now shown.now choices.now found.old found.new) }
 {
@@ -97,7 +120,7 @@ fn explore_each(
     let _ = sketch.program();
     for choice in choices {
         let next = sketch_with(sketch, *choice)?;
-        explore(alloc, &next, shown, found)?;
+        explore(alloc, &next, accesses, shown, found)?;
     }
     Ok(())
 }

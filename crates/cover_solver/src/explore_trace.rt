@@ -5,7 +5,7 @@ ghost use Rattle.cover_solver.specs.Explored.{Explores};
 ghost use Rattle.cover_solver.specs.Found.{AscendWithRuns};
 ghost use Rattle.cover_solver.specs.Traces.{traces, root, IsTraceTree, IsFullTrace};
 
-use crate::explore::explore;
+use crate::explore::explore_whole;
 use crate::found::Found;
 use crate::tally::Tally;
 use crate::traces::{FullTrace, TraceTree};
@@ -75,7 +75,7 @@ fn explore_full(
         Some(_) => Ok(()),
         None => {
             let whole = sketch.with_thread(t, &trace.sketch)?;
-            explore(alloc, &whole, shown, found)
+            explore_whole(alloc, &whole, shown, found)
         }
     }
 }

@@ -1,68 +1,75 @@
 //! Whether the ends of a sketch are settled: for each location the same is shown of the values of all
 //! writes that may be its last. Only which choice is taken first depends on it.
+//!
+//! An initial write may be the last only where its location has no other, and then there is nothing that
+//! its value could differ from.
 
 use crate::reads_writes::WrittenValue;
-use cert_forest::AccessId;
+use bit_rows::{ROW_BITS, has_any, joined, minus, with};
 use cover_judge::event_of;
 use exec_axioms::Sketch;
-use std::alloc::{AllocError, Global};
 use tso_program::{MAX_LOCATIONS, Shown};
 
-/// A write that may be the last of its location, with what is shown of its value.
-#[derive(Clone, Copy, Debug)]
-pub(crate) struct LastWrite {
-    write: AccessId,
-    location: u8,
-    value: u32,
+/// The locations whose ends are not settled, as a row.
+pub(crate) fn unsettled_row(sketch: &Sketch, shown: &Shown, writes: &[WrittenValue]) -> u32 {
+    let mut row = 0;
+    let mut ends = [None; MAX_LOCATIONS];
+    for write in writes {
+        let place = write.location as usize;
+        if place < ends.len() && differs(sketch, shown, *write, &mut ends[place]) {
+            row = joined(row, row_of(write.location));
+        }
+    }
+    row
 }
 
-/// Those of the writes that may be the last of their locations. An initial write may be only where its
-/// location has no other, and then there is nothing that its value could differ from.
-pub(crate) fn last_writes(
-    alloc: Global,
+/// Whether the ends would not be settled either if the write were no longer its location's last.
+pub(crate) fn is_unsettled_without(
     sketch: &Sketch,
     shown: &Shown,
     writes: &[WrittenValue],
-) -> Result<Vec<LastWrite>, AllocError> {
-    let mut last = Vec::with_capacity(alloc, writes.len())?;
+    unsettled: u32,
+    except: WrittenValue,
+) -> bool {
+    has_any(minus(unsettled, row_of(except.location)))
+        || others_differ(sketch, shown, writes, except)
+}
+
+/// Whether the ends of a write's location are not settled without it.
+fn others_differ(
+    sketch: &Sketch,
+    shown: &Shown,
+    writes: &[WrittenValue],
+    except: WrittenValue,
+) -> bool {
+    let mut end = None;
     for write in writes {
-        if sketch.may_be_last(write.location, event_of(write.write)) {
-            last.push(last_write(shown, *write))?;
-        }
-    }
-    Ok(last)
-}
-
-fn last_write(shown: &Shown, write: WrittenValue) -> LastWrite {
-    LastWrite {
-        write: write.write,
-        location: write.location,
-        value: shown.value(write.location as usize, write.value),
-    }
-}
-
-/// Whether the values of two writes to one location differ, apart from one write.
-pub(crate) fn ends_differ(last: &[LastWrite], except: AccessId) -> bool {
-    let mut ends = [None; MAX_LOCATIONS];
-    for write in last {
-        if write.write != except && differs_from_end(&mut ends, *write) {
+        if write.location == except.location
+            && write.write != except.write
+            && differs(sketch, shown, *write, &mut end)
+        {
             return true;
         }
     }
     false
 }
 
-/// Whether another value than the write's is kept for its location. The write's is, where none was.
-fn differs_from_end(ends: &mut [Option<u32>], write: LastWrite) -> bool {
-    let place = write.location as usize;
-    if place >= ends.len() {
+/// Whether the write may be the last of its location, and something else is shown of its value than the
+/// end. What is shown of its value becomes the end, where there was none.
+fn differs(sketch: &Sketch, shown: &Shown, write: WrittenValue, end: &mut Option<u32>) -> bool {
+    if !sketch.may_be_last(write.location, event_of(write.write)) {
         return false;
     }
-    match ends[place] {
-        Some(value) => value != write.value,
+    let value = shown.value(write.location as usize, write.value);
+    match *end {
+        Some(other) => other != value,
         None => {
-            ends[place] = Some(write.value);
+            *end = Some(value);
             false
         }
     }
+}
+
+fn row_of(location: u8) -> u32 {
+    with(0, location % ROW_BITS as u8)
 }
