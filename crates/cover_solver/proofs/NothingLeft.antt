@@ -30,6 +30,13 @@ use Rattle.cover_solver.specs.Internal.ChoicesLeft.{HasEachSource, AreWritesInOr
 pub of_each : {A : Type 0} (P : A → Type 0) (xs : List A) (n : ℕ) → length xs ≤ n → ((k : ℕ) (x : A) → k < n → get_or xs k x ≡ x → P x) → (x : A) → Contains xs x → P x
 of_each P xs n long each x (k, h, e) = each k x (omega arith) e
 
+-- two writes of a list are in order, whatever stands for those past its end
+pub in_order_at : (s : ProgramSketch) (writes : List WrittenValue) (i n j : ℕ) (d e : WrittenValue) → i < length writes → n < length writes → j ≡ n → AreWritesInOrder s (get_or writes i d) (get_or writes n d) →
+    AreWritesInOrder s (get_or writes i e) (get_or writes j e)
+in_order_at s writes i n j d e h l same are = subst (λ k. AreWritesInOrder s (get_or writes i e) (get_or writes k e)) (sym same)
+    (subst (λ w. AreWritesInOrder s w (get_or writes n e)) (same_default writes i d e h)
+    (subst (λ w. AreWritesInOrder s (get_or writes i d) w) (same_default writes n d e l) are))
+
 -- the other way round
 other_order : (s : ProgramSketch) (d e : Event) → IsOrdered s d e → IsOrdered s e d
 other_order s d e h = elim h [ inl a ↦ inr a | inr a ↦ inl a ]
@@ -64,12 +71,12 @@ complete_of s accesses are sources orders = record {
 }
   where
     sourced : (e : Event) → IsAccess s.program (mode_in s) (given_to s.chosen) e → HasItsSource s e
-    sourced (Initial l) there = absurd there
+    sourced (Initial l) there reads = absurd there
     sourced (At t i) there reads = (let (r, here, is) = are.reads.all (record { thread = t; access = i }) reads in subst (λ a. HasItsSource s (event_of a)) is (sources r here) reads)
 
     ordered : (d e : Event) → IsAccess s.program (mode_in s) (given_to s.chosen) d → IsAccess s.program (mode_in s) (given_to s.chosen) e → IsOrderedWith s d e
-    ordered (Initial l) e first second = absurd first
-    ordered (At t i) (Initial l) first second = absurd second
+    ordered (Initial l) e first second pair = absurd first
+    ordered (At t i) (Initial l) first second pair = absurd second
     ordered (At t i) (At u j) first second pair = (
         let (l, v, w, of_a, of_b, not_a, not_b) = pair.1 in
         let a : AccessId = record { thread = t; access = i } in

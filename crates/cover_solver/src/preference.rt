@@ -92,7 +92,7 @@ fn best_source(sketch: &Sketch, reads: &[ReadValue], writes: &[WrittenValue]) ->
     requires whole { IsWhole sketch.now.program (mode_in sketch.now) sketch.now.chosen }
     requires reads { All (IsReadValue sketch.now) reads.now }
     requires writes { All (IsWrittenValue sketch.now) writes.now }
-    ensures open { IfSome result (λ best. IsOpen sketch.now best.next) }
+    ensures is_open { IfSome result (λ best. IsOpen sketch.now best.next) }
     ensures none { result ≡ None → HasEachSource sketch.now reads.now }
 {
     let mut best = None;
@@ -122,7 +122,13 @@ fn better(best: Option<Rated>, other: Rated) -> Rated
     ensures { (s : ProgramSketch) → IfSome best (λ best. IsOpen s best.next) → IsOpen s other.next → IsOpen s result.next }
 {
     match best {
-        Some(best) => { if other.merit < best.merit { other } else { best } }
+        Some(best) => {
+            if other.merit < best.merit {
+                other
+            } else {
+                best
+            }
+        }
         None => other,
     }
 }
@@ -134,7 +140,7 @@ fn better_source(
     read: ReadValue,
     best: Option<Rated>,
 ) -> Rated
-    requires open { IsSourceOpen sketch.now read.read }
+    requires is_open { IsSourceOpen sketch.now read.read }
     requires read { IsReadValue sketch.now read }
     requires writes { All (IsWrittenValue sketch.now) writes.now }
     requires best { IfSome best (λ best. IsOpen sketch.now best.next) }
@@ -153,13 +159,8 @@ fn better_source(
 
 /// The merit of the sources of a read. A source closes the sketch by a cycle alone: it changes no outcome.
 /// Children that stay open are counted up to one more than `most`.
-fn merit_of_sources(
-    sketch: &Sketch,
-    writes: &[WrittenValue],
-    read: ReadValue,
-    most: usize,
-) -> Merit
-    requires open { IsSourceOpen sketch.now read.read }
+fn merit_of_sources(sketch: &Sketch, writes: &[WrittenValue], read: ReadValue, most: usize) -> Merit
+    requires is_open { IsSourceOpen sketch.now read.read }
     requires read { IsReadValue sketch.now read }
     requires writes { All (IsWrittenValue sketch.now) writes.now }
 {
@@ -213,7 +214,7 @@ fn best_order(
     requires whole { IsWhole sketch.now.program (mode_in sketch.now) sketch.now.chosen }
     requires writes { All (IsWrittenValue sketch.now) writes.now }
     requires best { IfSome best (λ best. IsOpen sketch.now best.next) }
-    ensures open { IfOk result (λ found. IfSome found (λ best. IsOpen sketch.now best.next)) }
+    ensures is_open { IfOk result (λ found. IfSome found (λ best. IsOpen sketch.now best.next)) }
     ensures none { IfOk result (λ found. found ≡ None → (best ≡ None) × IsEachInOrder sketch.now writes.now) }
 {
     let mut best = best;
@@ -240,7 +241,7 @@ fn with_orders(
     requires writes { All (IsWrittenValue sketch.now) writes.now }
     requires place { place < length writes.now }
     requires best { IfSome best (λ best. IsOpen sketch.now best.next) }
-    ensures open { IfOk result (λ found. IfSome found (λ best. IsOpen sketch.now best.next)) }
+    ensures is_open { IfOk result (λ found. IfSome found (λ best. IsOpen sketch.now best.next)) }
     ensures none { IfOk result (λ found. found ≡ None → (best ≡ None) × IsInOrderWithLater sketch.now writes.now place) }
 {
     let mut best = best;
@@ -267,7 +268,7 @@ fn better_order(
     best: Option<Rated>,
 ) -> Result<Rated, AllocError>
     requires ascend { Ascend outcomes.now }
-    requires open { IsOpen sketch.now (OpenChoice.Order pair.0.write pair.1.write) }
+    requires is_open { IsOpen sketch.now (OpenChoice.Order pair.0.write pair.1.write) }
     requires best { IfSome best (λ best. IsOpen sketch.now best.next) }
     ensures { IfOk result (λ best. IsOpen sketch.now best.next) }
 {
@@ -291,7 +292,7 @@ fn merit_of_orders(
     pair: (WrittenValue, WrittenValue),
 ) -> Result<Merit, AllocError>
     requires ascend { Ascend outcomes.now }
-    requires open { IsOpen sketch.now (OpenChoice.Order pair.0.write pair.1.write) }
+    requires is_open { IsOpen sketch.now (OpenChoice.Order pair.0.write pair.1.write) }
 {
     let (first, second) = pair;
     let first_before = stays_open(sketch, shown, outcomes, writes, unsettled, first, second)?;

@@ -8,6 +8,7 @@ use Rattle.cover_solver.specs.Choices.{IsBranch}
 use Rattle.cover_solver.specs.Explored.{Explores, ExploresEach}
 use Rattle.cover_judge.proofs.Answered.{on_ok}
 use Rattle.cover_solver.proofs.Exploring.{explores_none, explores_more, explores_each, explores_all, fewer_rounds}
+use Rattle.cover_solver.proofs.NothingLeft.{accesses_after}
 use Rattle.cover_solver.proofs.explore.+explore.Goals as goal
 
 pub explore-returns-in-Some : goal.explore-returns-in-Some
@@ -30,8 +31,10 @@ explore_each-explore-requires t c =
     let s = c.args.sketch.now in
     let i = c.loop-choice.choice-index in
     let d = choice.Value 0 0 in
-    let ch = get_or c.args.choices.now i d in
-    (omega (arith, fewer_rounds s c.in_ok-next.next ch c.program.ensures.lawful c.program.ensures.few (c.requires.may.each i d c.loop-choice-test.true) c.in_ok-next.ensures), c.loop-choice.invariant.grows.in_order)
+    let ch = get_or c.args.choices.now i d in (
+      omega (arith, fewer_rounds s c.in_ok-next.next ch c.program.ensures.lawful c.program.ensures.few (c.requires.may.each i d c.loop-choice-test.true) c.in_ok-next.ensures),
+      (c.loop-choice.invariant.grows.in_order, accesses_after s c.in_ok-next.next ch c.args.accesses.now (c.requires.may.each i d c.loop-choice-test.true) c.in_ok-next.ensures c.requires.accesses),
+    )
 
 pub explore_each-loop-choice-preserved : goal.explore_each-loop-choice-preserved
 explore_each-loop-choice-preserved t c =

@@ -1,5 +1,14 @@
+use Rattle.std.proofs.Common.{sym, subst}
+use Rattle.candidate_executions.specs.Sketches.{IsWhole}
+use Rattle.exec_axioms.specs.ProgramSketches.{ProgramSketch, mode_in}
 use Rattle.cover_solver.proofs.CombinedSketches.{whole_merged, unsourced_explored}
 use Rattle.cover_solver.proofs.explore_trace.explore_full.Goals as goal
+
+pub explore_whole-requires-clause-whole : goal.explore_whole-requires-clause-whole
+explore_whole-requires-clause-whole c =
+    let base = c.requires.base in
+    subst (λ (n : ProgramSketch). IsWhole n.program (mode_in n) n.chosen) (sym c.in_ok-whole-in-None.ensures)
+    (whole_merged c.args.sketch.now c.args.trace.now.sketch c.args.t c.program.ensures.lawful base.alone base.there c.program-2.ensures.lawful c.requires.alike c.requires.trace.full base.full)
 
 pub returns-in-Some : goal.returns-in-Some
 returns-in-Some c =
