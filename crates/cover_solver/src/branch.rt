@@ -3,7 +3,6 @@ ghost use Rattle.std.specs.Prelude.{◌≡◌, IfOk, MatchOption, [], ◌∷◌}
 ghost use Rattle.exec_axioms.specs.Complete.{IsComplete};
 ghost use Rattle.cover_judge.specs.Choices.{MayChooseEach};
 ghost use Rattle.cover_solver.specs.Choices.{IsOpen, IsBranch, AreChoicesOf};
-ghost use Rattle.cover_solver.specs.Ordered.{Ascend};
 ghost use Rattle.cover_solver.specs.Internal.Accesses.{AreAccessesOf};
 
 use crate::choices_left::OpenChoice;
@@ -30,11 +29,10 @@ pub(crate) fn next_branch(
     shown: &Shown,
     outcomes: &[Outcome],
 ) -> Result<Option<Branch>, AllocError>
-    requires ascend { Ascend outcomes.now }
-    requires accesses { AreAccessesOf sketch.now accesses.now }
+    requires { AreAccessesOf sketch.now accesses.now }
     ensures { IfOk result (λ branch. MatchOption branch (IsComplete sketch.now) (IsBranch sketch.now)) }
 {
-    match preferred(sketch, accesses, shown, outcomes)? {
+    match preferred(sketch, accesses, shown, outcomes) {
         Some(next) => Ok(Some(branch_of(alloc, sketch, next)?)),
         None => Ok(None),
     }

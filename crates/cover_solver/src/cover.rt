@@ -63,7 +63,7 @@ pub(crate) fn cover_whole(
     ensures tree { IfOk result (λ tree. IsCoverAt sketch.now shown.now outcomes.now (cover tree)) }
     ensures stop { IfErr result (StopIs (asked sketch.now.program shown.now) (mode_in sketch.now) outcomes.now) }
 {
-    let accesses = whole_accesses(alloc, sketch)?;
+    let accesses = whole_accesses(alloc, sketch, shown)?;
     cover_from(alloc, sketch, &accesses, shown, outcomes)
 }
 
@@ -128,8 +128,7 @@ fn cover_each(
     Ok(Children::Each(trees))
 }
 
-/// Whether the tree of a child is valid at an open sketch. A leaf is not: what closes the child would have
-/// closed the sketch.
+/// Whether the tree of a child is valid at an open sketch. A cycle is not: it would have closed the sketch.
 fn is_valid(
     alloc: Global,
     tree: &CoverTree,
@@ -139,7 +138,7 @@ fn is_valid(
 ) -> Result<bool, AllocError>
     ensures { IfOk result (λ valid. IsTrue valid → IsValidAt sketch.now shown.now outcomes.now (cover tree.now)) }
 {
-    if is_leaf(tree) {
+    if is_cycle(tree) {
         return Ok(false);
     }
     match judge_cover(alloc, tree, sketch, shown, outcomes) {
@@ -149,8 +148,8 @@ fn is_valid(
     }
 }
 
-fn is_leaf(tree: &CoverTree) -> bool {
-    matches!(tree, CoverTree::Cycle { .. } | CoverTree::Known { .. })
+fn is_cycle(tree: &CoverTree) -> bool {
+    matches!(tree, CoverTree::Cycle { .. })
 }
 
 /// The node over a tree for each choice.

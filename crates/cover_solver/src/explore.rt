@@ -73,7 +73,7 @@ pub(crate) fn explore_whole(
     requires whole { IsWhole sketch.now.program (mode_in sketch.now) sketch.now.chosen }
     ensures { OnOk result (Explores sketch.now shown.now found.old found.new) }
 {
-    let accesses = whole_accesses(alloc, sketch)?;
+    let accesses = whole_accesses(alloc, sketch, shown)?;
     explore(alloc, sketch, &accesses, shown, found)
 }
 

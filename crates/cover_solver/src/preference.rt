@@ -1,6 +1,6 @@
 //! What is chosen first. The size of a tree depends on it, and nothing that is proved of the tree does but
 //! that it is left to be chosen.
-ghost use Rattle.std.specs.Prelude.{◌≡◌, ◌<◌, None, IsTrue, IsSome, IfOk, IfSome, MatchOption, All, length};
+ghost use Rattle.std.specs.Prelude.{◌≡◌, ◌<◌, None, IsTrue, IsSome, IfSome, MatchOption, All, length};
 ghost use Rattle.candidate_executions.specs.Sketches.{IsWhole};
 ghost use Rattle.exec_axioms.specs.ProgramSketches.{ProgramSketch, mode_in};
 ghost use Rattle.exec_axioms.specs.Choices.{MayRead};
@@ -8,18 +8,15 @@ ghost use Rattle.exec_axioms.specs.Complete.{IsComplete};
 ghost use Rattle.tree_laws.specs.CoverTrees as trees;
 ghost use Rattle.cover_judge.specs.Choices.{MayChoose, IsSourceOpen};
 ghost use Rattle.cover_solver.specs.Choices.{IsOpen};
-ghost use Rattle.cover_solver.specs.Ordered.{Ascend};
 ghost use Rattle.cover_solver.specs.Internal.Accesses.{IsReadValue, IsWrittenValue, AreAccessesOf};
 ghost use Rattle.cover_solver.specs.Internal.ChoicesLeft.{HasEachSource, IsInOrderWithLater, IsEachInOrder};
 
 use crate::choices_left::{OpenChoice, needs_order, needs_source};
-use crate::leaf::known;
 use crate::reads_writes::{ReadValue, WholeAccesses, WrittenValue, gives};
-use crate::settled::{is_unsettled_without, unsettled_row};
+use crate::settled::{SketchEnds, is_listed_without, sketch_ends};
 use cert_forest::AccessId;
-use cover_judge::{Choice, event_of, sketch_with};
+use cover_judge::{Choice, event_of};
 use exec_axioms::{Event, Sketch};
-use std::alloc::AllocError;
 use tso_program::{Outcome, Shown};
 
 /// How many children stay open after a choice, how many there are, and whether it is an order: the
@@ -45,13 +42,12 @@ pub(crate) fn preferred(
     accesses: &WholeAccesses,
     shown: &Shown,
     outcomes: &[Outcome],
-) -> Result<Option<OpenChoice>, AllocError>
-    requires ascend { Ascend outcomes.now }
-    requires accesses { AreAccessesOf sketch.now accesses.now }
-    ensures { IfOk result (λ next. MatchOption next (IsComplete sketch.now) (IsOpen sketch.now)) }
+) -> Option<OpenChoice>
+    requires { AreAccessesOf sketch.now accesses.now }
+    ensures { MatchOption result (IsComplete sketch.now) (IsOpen sketch.now) }
 {
     match open_unsourced(sketch, accesses) {
-        Some(read) => Ok(Some(OpenChoice::Source(read))),
+        Some(read) => Some(OpenChoice::Source(read)),
         None => best_of(sketch, accesses, shown, outcomes),
     }
 }
@@ -75,15 +71,14 @@ fn best_of(
     accesses: &WholeAccesses,
     shown: &Shown,
     outcomes: &[Outcome],
-) -> Result<Option<OpenChoice>, AllocError>
-    requires ascend { Ascend outcomes.now }
-    requires accesses { AreAccessesOf sketch.now accesses.now }
-    ensures { IfOk result (λ next. MatchOption next (IsComplete sketch.now) (IsOpen sketch.now)) }
+) -> Option<OpenChoice>
+    requires { AreAccessesOf sketch.now accesses.now }
+    ensures { MatchOption result (IsComplete sketch.now) (IsOpen sketch.now) }
 {
     let best = best_source(sketch, &accesses.reads, &accesses.writes);
-    match best_order(sketch, shown, outcomes, &accesses.writes, best)? {
-        Some(best) => Ok(Some(best.next)),
-        None => Ok(None),
+    match best_order(sketch, accesses, shown, outcomes, best) {
+        Some(best) => Some(best.next),
+        None => None,
     }
 }
 
@@ -205,131 +200,122 @@ fn with_source(sketch: &Sketch, merit: Merit, read: AccessId, source: Event, mos
 /// The better of the best so far and the orders that are left.
 fn best_order(
     sketch: &Sketch,
+    accesses: &WholeAccesses,
     shown: &Shown,
     outcomes: &[Outcome],
-    writes: &[WrittenValue],
     best: Option<Rated>,
-) -> Result<Option<Rated>, AllocError>
-    requires ascend { Ascend outcomes.now }
-    requires whole { IsWhole sketch.now.program (mode_in sketch.now) sketch.now.chosen }
-    requires writes { All (IsWrittenValue sketch.now) writes.now }
+) -> Option<Rated>
+    requires accesses { AreAccessesOf sketch.now accesses.now }
     requires best { IfSome best (λ best. IsOpen sketch.now best.next) }
-    ensures is_open { IfOk result (λ found. IfSome found (λ best. IsOpen sketch.now best.next)) }
-    ensures none { IfOk result (λ found. found ≡ None → (best ≡ None) × IsEachInOrder sketch.now writes.now) }
+    ensures is_open { IfSome result (λ best. IsOpen sketch.now best.next) }
+    ensures none { result ≡ None → (best ≡ None) × IsEachInOrder sketch.now accesses.now.writes.items }
 {
     let mut best = best;
-    let mut row = None;
-    for place in 0..writes.len() {
-        best = with_orders(sketch, shown, outcomes, writes, place, &mut row, best)?;
+    let mut ends = None;
+    for place in 0..accesses.writes.len() {
+        best = with_orders(sketch, accesses, shown, outcomes, place, &mut ends, best);
     }
-    Ok(best)
+    best
 }
 
-/// The same of the orders of the write at this place and the later ones. The locations whose ends aren't
-/// settled are looked for once.
+/// The same of the orders of the write at this place and the later ones. The sketch's ends are looked for
+/// once.
 fn with_orders(
     sketch: &Sketch,
+    accesses: &WholeAccesses,
     shown: &Shown,
     outcomes: &[Outcome],
-    writes: &[WrittenValue],
     place: usize,
-    row: &mut Option<u32>,
+    ends: &mut Option<SketchEnds>,
     best: Option<Rated>,
-) -> Result<Option<Rated>, AllocError>
-    requires ascend { Ascend outcomes.now }
-    requires whole { IsWhole sketch.now.program (mode_in sketch.now) sketch.now.chosen }
-    requires writes { All (IsWrittenValue sketch.now) writes.now }
-    requires place { place < length writes.now }
+) -> Option<Rated>
+    requires accesses { AreAccessesOf sketch.now accesses.now }
+    requires place { place < length accesses.now.writes.items }
     requires best { IfSome best (λ best. IsOpen sketch.now best.next) }
-    ensures is_open { IfOk result (λ found. IfSome found (λ best. IsOpen sketch.now best.next)) }
-    ensures none { IfOk result (λ found. found ≡ None → (best ≡ None) × IsInOrderWithLater sketch.now writes.now place) }
+    ensures is_open { IfSome result (λ best. IsOpen sketch.now best.next) }
+    ensures none { result ≡ None → (best ≡ None) × IsInOrderWithLater sketch.now accesses.now.writes.items place }
 {
     let mut best = best;
+    let writes = accesses.writes.as_slice();
     for later in place + 1..writes.len() {
         if leaves_none_open(best) {
-            return Ok(best);
+            return best;
         }
         let pair = (writes[place], writes[later]);
         if needs_order(sketch, pair.0, pair.1) {
-            best = Some(better_order(sketch, shown, outcomes, writes, pair, row, best)?);
+            best = Some(better_order(sketch, accesses, shown, outcomes, pair, ends, best));
         }
     }
-    Ok(best)
+    best
 }
 
 /// The better of the best so far and the orders of two writes.
 fn better_order(
     sketch: &Sketch,
+    accesses: &WholeAccesses,
     shown: &Shown,
     outcomes: &[Outcome],
-    writes: &[WrittenValue],
     pair: (WrittenValue, WrittenValue),
-    row: &mut Option<u32>,
+    ends: &mut Option<SketchEnds>,
     best: Option<Rated>,
-) -> Result<Rated, AllocError>
-    requires ascend { Ascend outcomes.now }
+) -> Rated
     requires is_open { IsOpen sketch.now (OpenChoice.Order pair.0.write pair.1.write) }
     requires best { IfSome best (λ best. IsOpen sketch.now best.next) }
-    ensures { IfOk result (λ best. IsOpen sketch.now best.next) }
+    ensures { IsOpen sketch.now result.next }
 {
-    let unsettled = match *row {
-        Some(unsettled) => unsettled,
-        None => unsettled_row(sketch, shown, writes),
+    let known = match *ends {
+        Some(known) => known,
+        None => sketch_ends(sketch, shown, &accesses.writes),
     };
-    *row = Some(unsettled);
-    let merit = merit_of_orders(sketch, shown, outcomes, writes, unsettled, pair)?;
-    let next = OpenChoice::Order(pair.0.write, pair.1.write);
-    Ok(better(best, Rated { next, merit }))
+    *ends = Some(known);
+    let other = Rated {
+        next: OpenChoice::Order(pair.0.write, pair.1.write),
+        merit: merit_of_orders(sketch, accesses, shown, outcomes, &known, pair),
+    };
+    better(best, other)
 }
 
 /// The merit of the orders of two writes: either may be the first.
 fn merit_of_orders(
     sketch: &Sketch,
+    accesses: &WholeAccesses,
     shown: &Shown,
     outcomes: &[Outcome],
-    writes: &[WrittenValue],
-    unsettled: u32,
+    ends: &SketchEnds,
     pair: (WrittenValue, WrittenValue),
-) -> Result<Merit, AllocError>
-    requires ascend { Ascend outcomes.now }
-    requires is_open { IsOpen sketch.now (OpenChoice.Order pair.0.write pair.1.write) }
+) -> Merit
+    requires { IsOpen sketch.now (OpenChoice.Order pair.0.write pair.1.write) }
 {
     let (first, second) = pair;
-    let first_before = stays_open(sketch, shown, outcomes, writes, unsettled, first, second)?;
-    let second_before = stays_open(sketch, shown, outcomes, writes, unsettled, second, first)?;
+    let first_before = stays_open(sketch, accesses, shown, outcomes, ends, first, second);
+    let second_before = stays_open(sketch, accesses, shown, outcomes, ends, second, first);
     let open = match (first_before, second_before) {
         (true, true) => 2,
         (false, false) => 0,
         _ => 1,
     };
-    Ok(Merit {
+    Merit {
         open,
         children: 2,
         is_order: true,
-    })
+    }
 }
 
 /// Whether an open sketch stays open after an order: neither a cycle nor an outcome of the list closes
-/// it. Where all ends are settled, the outcome is the sketch's own, which isn't listed. Where they are
-/// after the order alone, the outcome is looked up in a copy.
+/// it. Where all ends are settled, the outcome is that of the sketch, which isn't listed.
 fn stays_open(
     sketch: &Sketch,
+    accesses: &WholeAccesses,
     shown: &Shown,
     outcomes: &[Outcome],
-    writes: &[WrittenValue],
-    unsettled: u32,
+    ends: &SketchEnds,
     first: WrittenValue,
     second: WrittenValue,
-) -> Result<bool, AllocError>
-    requires ascend { Ascend outcomes.now }
-    requires may { MayChoose sketch.now (Choice.Order first.write second.write) }
+) -> bool
+    requires { MayChoose sketch.now (Choice.Order first.write second.write) }
 {
     if sketch.closes_order(event_of(first.write), event_of(second.write)) {
-        return Ok(false);
+        return false;
     }
-    if unsettled == 0 || is_unsettled_without(sketch, shown, writes, unsettled, first) {
-        return Ok(true);
-    }
-    let after = sketch_with(sketch, Choice::Order(first.write, second.write))?;
-    Ok(known(&after, shown, outcomes)?.is_none())
+    ends.unsettled == 0 || !is_listed_without(sketch, shown, outcomes, accesses, ends, first)
 }

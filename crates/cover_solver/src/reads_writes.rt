@@ -11,6 +11,7 @@ use cert_forest::AccessId;
 use cover_judge::event_of;
 use exec_axioms::{Event, Sketch};
 use std::alloc::{AllocError, Global};
+use tso_program::{Items, Names, Outcome, REGISTER_PLACES, Shown};
 
 /// A read, with its location and its value.
 #[derive(Clone, Copy, Debug)]
@@ -36,10 +37,16 @@ pub(crate) struct WholeAccesses {
     pub(crate) writes: Vec<WrittenValue>,
     /// The first read that no write gives its value.
     pub(crate) unsourced: Option<AccessId>,
+    /// What is shown of the registers where the threads stop, and of the initial memory.
+    pub(crate) start: Option<Outcome>,
 }
 
 /// What a sketch reads and writes in which each read has its value.
-pub(crate) fn whole_accesses(alloc: Global, sketch: &Sketch) -> Result<WholeAccesses, AllocError>
+pub(crate) fn whole_accesses(
+    alloc: Global,
+    sketch: &Sketch,
+    shown: &Shown,
+) -> Result<WholeAccesses, AllocError>
     requires { IsWhole sketch.now.program (mode_in sketch.now) sketch.now.chosen }
     ensures { IfOk result (AreAccessesOf sketch.now) }
 {
@@ -51,7 +58,37 @@ pub(crate) fn whole_accesses(alloc: Global, sketch: &Sketch) -> Result<WholeAcce
         reads,
         writes,
         unsourced,
+        start: shown_start(alloc, sketch, shown)?,
     })
+}
+
+/// What is shown of the registers where the threads stop, and of the initial memory.
+fn shown_start(
+    alloc: Global,
+    sketch: &Sketch,
+    shown: &Shown,
+) -> Result<Option<Outcome>, AllocError> {
+    match sketch.must_end(&Shown::Only(each_register()))? {
+        Some(end) => {
+            let memory = Vec::from_slice(alloc, sketch.program().memory())?;
+            let mut start = Outcome {
+                registers: end.registers,
+                memory: Items::of(memory),
+            };
+            start.show(shown);
+            Ok(Some(start))
+        }
+        None => Ok(None),
+    }
+}
+
+/// All registers of all threads.
+fn each_register() -> Names {
+    let mut names = Names::none();
+    for place in 0..REGISTER_PLACES as u8 {
+        names = names.with_place(place);
+    }
+    names
 }
 
 /// The first of the reads that no write gives its value.

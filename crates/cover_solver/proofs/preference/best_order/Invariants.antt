@@ -9,5 +9,5 @@ use Rattle.cover_solver.proofs.preference.best_order.Given as goal
 abbrev pub invariant-loop-place : goal.invariant-loop-place
 invariant-loop-place l = record {
   is_open : IfSome l.best (λ (best : Rated). IsOpen l.sketch best.next);
-  none : l.best ≡ None → (l.fn.best ≡ None) × ((i : ℕ) → i < l.place → IsInOrderWithLater l.sketch l.writes i);
+  none : l.best ≡ None → (l.fn.best ≡ None) × ((i : ℕ) → i < l.place → IsInOrderWithLater l.sketch l.accesses.writes.items i);
 }

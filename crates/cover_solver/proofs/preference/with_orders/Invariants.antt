@@ -10,5 +10,5 @@ use Rattle.cover_solver.proofs.preference.with_orders.Given as goal
 abbrev pub invariant-loop-later : goal.invariant-loop-later
 invariant-loop-later l = record {
   is_open : IfSome l.best (λ (best : Rated). IsOpen l.sketch best.next);
-  none : l.best ≡ None → (l.fn.best ≡ None) × ((j : ℕ) (d : WrittenValue) → l.place < j → j < l.later → AreWritesInOrder l.sketch (get_or l.writes l.place d) (get_or l.writes j d));
+  none : l.best ≡ None → (l.fn.best ≡ None) × ((j : ℕ) (d : WrittenValue) → l.place < j → j < l.later → AreWritesInOrder l.sketch (get_or l.accesses.writes.items l.place d) (get_or l.accesses.writes.items j d));
 }
