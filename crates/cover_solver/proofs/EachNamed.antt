@@ -9,7 +9,7 @@ use Rattle.tree_laws.specs.CoverTrees.{event_of}
 use Rattle.cover_solver.specs.Internal.Accesses.{NamesEvent}
 
 -- the access that is the event
-abbrev id_of : Event → AccessId
+abbrev pub id_of : Event → AccessId
 id_of (Initial l) = record { thread = 0; access = 0 }
 id_of (At t i) = record { thread = t; access = i }
 

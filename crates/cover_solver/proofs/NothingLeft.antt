@@ -1,15 +1,16 @@
 -- What it says of a sketch that nothing is left to be chosen.
-use Rattle.std.proofs.Common.{◌≡◌, ℕ, zero, suc, ◌+◌, ◌<◌, ◌≤◌, List, [], ◌∷◌, None, Some, Contains, All, get_or, length, sym, ap, ◌∙◌, subst, inl, inr, arith}
+use Rattle.std.proofs.Common.{◌≡◌, ◌↔◌, ℕ, Bool, true, false, not, IsTrue, zero, suc, ◌+◌, ◌<◌, ◌≤◌, List, [], ◌∷◌, Option, None, Some, Contains, All, get_or, length, sym, ap, ◌∙◌, subst, inl, inr, arith}
+use Rattle.std.specs.Prelude.{IfSome}
 use Rattle.std.proofs.lemmas.Bool.{cases_lt}
 use Rattle.std.proofs.lemmas.Option.{same_Some}
 use Rattle.tso_program.specs.declared.listing.Thread.{Thread}
 use Rattle.candidate_executions.specs.declared.access.Access.{Access}
 use Rattle.candidate_executions.specs.declared.event.Event.{Event}
 use Rattle.candidate_executions.specs.declared.event.Event.TheVariants.{Initial, Access as At}
-use Rattle.candidate_executions.specs.Candidates.{IsAccess}
+use Rattle.candidate_executions.specs.Candidates.{IsAccess, Writes}
 use Rattle.candidate_executions.specs.Sketches as sketches
 use Rattle.candidate_executions.specs.Sketches.{given_to, IsPair, IsWhole}
-use Rattle.exec_axioms.specs.ProgramSketches.{ProgramSketch, mode_in, trace_in, with_chosen}
+use Rattle.exec_axioms.specs.ProgramSketches.{ProgramSketch, mode_in, trace_in, access_in, with_chosen}
 use Rattle.exec_axioms.specs.Choices.{IsOrdered, MayFollow}
 use Rattle.cover_judge.specs.declared.choice.Choice.{Choice}
 use Rattle.cover_judge.specs.declared.choice.Choice.TheVariants as choice
@@ -21,10 +22,12 @@ use Rattle.exec_axioms.specs.Complete.{IsComplete, HasItsSource, IsOrderedWith}
 use Rattle.exec_axioms.proofs.Completeness.{read_there, first_there, second_there}
 use Rattle.cert_forest.specs.declared.tree.AccessId.{AccessId}
 use Rattle.tree_laws.specs.CoverTrees.{event_of}
+use Rattle.cover_solver.specs.declared.reads_writes.ReadValue.{ReadValue}
 use Rattle.cover_solver.specs.declared.reads_writes.WrittenValue.{WrittenValue}
 use Rattle.cover_solver.specs.declared.reads_writes.WholeAccesses.{WholeAccesses}
-use Rattle.cover_solver.specs.Internal.Accesses.{IsWrittenValue, NamesWrite, AreAccessesOf}
+use Rattle.cover_solver.specs.Internal.Accesses.{IsReadValue, IsWrittenValue, NamesWrite, AreAccessesOf}
 use Rattle.cover_solver.specs.Internal.ChoicesLeft.{HasEachSource, AreWritesInOrder, IsEachInOrder}
+use Rattle.cover_solver.proofs.EachNamed.{id_of}
 
 -- what holds of each element holds of those that are found
 pub of_each : {A : Type 0} (P : A → Type 0) (xs : List A) (n : ℕ) → length xs ≤ n → ((k : ℕ) (x : A) → k < n → get_or xs k x ≡ x → P x) → (x : A) → Contains xs x → P x
@@ -83,22 +86,44 @@ complete_of s accesses are sources orders = record {
         let b : AccessId = record { thread = u; access = j } in
         named_in_order s accesses.writes.items orders a b (are.writes.all a (l, v, of_a)) (are.writes.all b (l, w, of_b)) pair)
 
--- the accesses are those of the sketch after a choice: values are chosen no more
+-- the accesses depend on the values alone
+module _ (s : ProgramSketch) (sources pairs : List (Event × Event)) where
+  abbrev other : ProgramSketch
+  other = with_chosen s (record s.chosen { sources = sources; pairs = pairs })
+
+  same_read : (r : ReadValue) → IsReadValue s r → IsReadValue other r
+  same_read r is = record { access = is.access; is_access = is.is_access; location = is.location; reads = is.reads }
+
+  same_if : (o : Option ReadValue) → IfSome o (IsReadValue s) → IfSome o (IsReadValue other)
+  same_if None h = h
+  same_if (Some r) h = same_read r h
+
+  same_accesses : (accesses : WholeAccesses) → AreAccessesOf s accesses → AreAccessesOf other accesses
+  same_accesses accesses are = record {
+    whole = are.whole;
+    reads = record { each = λ k d h. same_read _ (are.reads.each k d h); all = are.reads.all };
+    writes = record { each = are.writes.each; all = are.writes.all };
+    unsourced = same_if accesses.unsourced are.unsourced;
+  }
+
+-- they are those of the sketch after a choice: values are chosen no more
 pub accesses_after : (s next : ProgramSketch) (c : Choice) (accesses : WholeAccesses) → MayChoose s c → next ≡ with_chosen s (sketch_with s.chosen c) → AreAccessesOf s accesses → AreAccessesOf next accesses
 accesses_after s next c accesses may same are = subst (λ (n : ProgramSketch). AreAccessesOf n accesses) (sym same) (after c may)
   where
     after : (c : Choice) → MayChoose s c → AreAccessesOf (with_chosen s (sketch_with s.chosen c)) accesses
     after (choice.Value t v) may = (let no : None ≡ Some may.0 = sym (are.whole t) ∙ may.1 in absurd cc)
-    after (choice.Source read source) may = record {
-      whole = are.whole;
-      reads = record { each = λ k d h. (let r = are.reads.each k d h in record { access = r.access; is_access = r.is_access; location = r.location; reads = r.reads }); all = are.reads.all };
-      writes = record { each = are.writes.each; all = are.writes.all };
-    }
-    after (choice.Order first second) may = record {
-      whole = are.whole;
-      reads = record { each = λ k d h. (let r = are.reads.each k d h in record { access = r.access; is_access = r.is_access; location = r.location; reads = r.reads }); all = are.reads.all };
-      writes = record { each = are.writes.each; all = are.writes.all };
-    }
+    after (choice.Source read source) may = same_accesses s (sketch_with s.chosen (choice.Source read source)).sources s.chosen.pairs accesses are
+    after (choice.Order first second) may = same_accesses s s.chosen.sources (sketch_with s.chosen (choice.Order first second)).pairs accesses are
+
+-- what a test denies
+pub unless : (b : Bool) (P : Type 0) → (IsTrue b ↔ P) → IsTrue (not b) → P → ⊥
+unless true P test not_so p = absurd cc
+unless false P test not_so p = (let no : false ≡ true = test.1 p in absurd cc)
+
+-- two writes to one location are a pair
+pub pair_of : (s : ProgramSketch) (a b : WrittenValue) → IsWrittenValue s a → IsWrittenValue s b → a.location ≡ b.location → (a.write ≡ b.write → ⊥) →
+    IsPair s.program (mode_in s) s.chosen (event_of a.write) (event_of b.write)
+pair_of s a b of_a of_b same differ = (λ e. differ (ap id_of e), (a.location, a.value, b.value, of_a, subst (λ l. Writes (access_in s) (event_of b.write) l b.value) (sym same) of_b, λ e. absurd cc, λ e. absurd cc))
 
 -- two writes to different locations are no pair
 pub elsewhere : (s : ProgramSketch) (a b : WrittenValue) → IsWrittenValue s a → IsWrittenValue s b → (a.location ≡ b.location → ⊥) → AreWritesInOrder s a b

@@ -1,12 +1,13 @@
 //! What is left to be chosen in a sketch.
-ghost use Rattle.std.specs.Prelude.{◌≡◌, IsTrue, false};
+ghost use Rattle.std.specs.Prelude.{◌≡◌, ◌↔◌, IsTrue, false};
 ghost use Rattle.tree_laws.specs.CoverTrees as trees;
-ghost use Rattle.exec_axioms.specs.Complete.{HasItsSource, IsOrderedWith};
+ghost use Rattle.exec_axioms.specs.Choices.{IsOrdered};
+ghost use Rattle.exec_axioms.specs.Complete.{HasItsSource};
 ghost use Rattle.cover_solver.specs.Choices.{NeedsSource, NeedsOrder};
-ghost use Rattle.cover_solver.specs.Internal.Accesses.{IsWrittenValue};
+ghost use Rattle.cover_solver.specs.Internal.Accesses.{IsReadValue, IsWrittenValue};
 ghost use Rattle.cover_solver.specs.Internal.ChoicesLeft.{AreWritesInOrder};
 
-use crate::reads_writes::WrittenValue;
+use crate::reads_writes::{ReadValue, WrittenValue};
 use cert_forest::AccessId;
 use cover_judge::event_of;
 use exec_axioms::{Event, Sketch};
@@ -22,22 +23,13 @@ pub(crate) enum OpenChoice {
     Order(AccessId, AccessId),
 }
 
-/// Whether an access is a read that has no source.
-pub(crate) fn needs_source(sketch: &Sketch, access: AccessId) -> bool
-    ensures needs { IsTrue result → NeedsSource sketch.now (trees.event_of access) }
-    ensures has { result ≡ false → HasItsSource sketch.now (trees.event_of access) }
+/// Whether a read has no source.
+pub(crate) fn needs_source(sketch: &Sketch, read: ReadValue) -> bool
+    requires { IsReadValue sketch.now read }
+    ensures needs { IsTrue result → NeedsSource sketch.now (trees.event_of read.read) }
+    ensures has { result ≡ false → HasItsSource sketch.now (trees.event_of read.read) }
 {
-    lacks_source(sketch, event_of(access))
-}
-
-fn lacks_source(sketch: &Sketch, event: Event) -> bool
-    ensures needs { IsTrue result → NeedsSource sketch.now event }
-    ensures has { result ≡ false → HasItsSource sketch.now event }
-{
-    match sketch.access(event) {
-        Some(access) => access.read.is_some() && sketch.source(event).is_none(),
-        None => false,
-    }
+    sketch.source(event_of(read.read)).is_none()
 }
 
 /// Whether two writes are to one location and in no order.
@@ -50,18 +42,22 @@ pub(crate) fn needs_order(sketch: &Sketch, first: WrittenValue, second: WrittenV
     if first.location != second.location {
         return false;
     }
-    lacks_order(sketch, event_of(first.write), event_of(second.write))
+    if is_same(first.write, second.write) {
+        return false;
+    }
+    !are_in_order(sketch, event_of(first.write), event_of(second.write))
 }
 
-fn lacks_order(sketch: &Sketch, first: Event, second: Event) -> bool
-    ensures needs { IsTrue result → NeedsOrder sketch.now first second }
-    ensures has { result ≡ false → IsOrderedWith sketch.now first second }
+/// Whether two accesses are one.
+fn is_same(a: AccessId, b: AccessId) -> bool
+    ensures { IsTrue result ↔ (a ≡ b) }
 {
-    if !sketch.is_pair(first, second) {
-        return false;
-    }
-    if sketch.before(first, second) {
-        return false;
-    }
-    !sketch.before(second, first)
+    a == b
+}
+
+/// Whether two writes are in order, one way or the other.
+fn are_in_order(sketch: &Sketch, first: Event, second: Event) -> bool
+    ensures { IsTrue result ↔ IsOrdered sketch.now first second }
+{
+    sketch.before(first, second) || sketch.before(second, first)
 }

@@ -54,12 +54,12 @@ pub(crate) fn preferred(
 
 /// The read that no write gives its value, if there is one and it has no source.
 fn open_unsourced(sketch: &Sketch, accesses: &WholeAccesses) -> Option<AccessId>
-    requires { IsWhole sketch.now.program (mode_in sketch.now) sketch.now.chosen }
+    requires { AreAccessesOf sketch.now accesses.now }
     ensures { IfSome result (IsSourceOpen sketch.now) }
 {
     let read = accesses.unsourced?;
     if needs_source(sketch, read) {
-        Some(read)
+        Some(read.read)
     } else {
         None
     }
@@ -95,7 +95,7 @@ fn best_source(sketch: &Sketch, reads: &[ReadValue], writes: &[WrittenValue]) ->
         if leaves_none_open(best) {
             return best;
         }
-        if needs_source(sketch, read.read) {
+        if needs_source(sketch, *read) {
             best = Some(better_source(sketch, writes, *read, best));
         }
     }

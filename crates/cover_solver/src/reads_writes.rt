@@ -1,5 +1,5 @@
 //! Reads and writes of a sketch, with their locations and their values.
-ghost use Rattle.std.specs.Prelude.{◌≡◌, IsTrue, IfOk, MatchOption};
+ghost use Rattle.std.specs.Prelude.{◌≡◌, IsTrue, IfOk, IfSome, MatchOption, All};
 ghost use Rattle.candidate_executions.specs.Sketches.{IsSourceOf, IsWhole};
 ghost use Rattle.exec_axioms.specs.ProgramSketches.{ProgramSketch, mode_in};
 ghost use Rattle.exec_axioms.specs.Choices.{IsRead};
@@ -36,7 +36,7 @@ pub(crate) struct WholeAccesses {
     pub(crate) reads: Vec<ReadValue>,
     pub(crate) writes: Vec<WrittenValue>,
     /// The first read that no write gives its value.
-    pub(crate) unsourced: Option<AccessId>,
+    pub(crate) unsourced: Option<ReadValue>,
     /// What is shown of the registers where the threads stop, and of the initial memory.
     pub(crate) start: Option<Outcome>,
 }
@@ -96,10 +96,13 @@ fn first_unsourced(
     sketch: &Sketch,
     reads: &[ReadValue],
     writes: &[WrittenValue],
-) -> Option<AccessId> {
+) -> Option<ReadValue>
+    requires { All (IsReadValue sketch.now) reads.now }
+    ensures { IfSome result (IsReadValue sketch.now) }
+{
     for read in reads {
         if !is_given(sketch, writes, *read) {
-            return Some(read.read);
+            return Some(*read);
         }
     }
     None

@@ -1,5 +1,5 @@
 -- Accesses, as trees name them.
-use Rattle.std.specs.Prelude.{◌≡◌, ℕ, List, Some, All, Contains}
+use Rattle.std.specs.Prelude.{◌≡◌, ℕ, List, Some, IfSome, All, Contains}
 use Rattle.candidate_executions.specs.declared.access.Access.{Access}
 use Rattle.candidate_executions.specs.declared.event.Event.{Event}
 use Rattle.candidate_executions.specs.declared.event.Event.TheVariants.{Initial, Access as At}
@@ -59,8 +59,9 @@ pub record AreWrites (s : ProgramSketch) (writes : List WrittenValue) : Type 0 w
   pub each : All (IsWrittenValue s) writes
   pub all : (a : AccessId) → IsWrite s a → NamesWrite writes a
 
--- each read of the sketch has its value, and these are its reads and its writes
+-- each read of the sketch has its value, these are its reads and its writes, and one of the reads stands apart
 pub record AreAccessesOf (s : ProgramSketch) (accesses : WholeAccesses) : Type 0 where
   pub whole : IsWhole s.program (mode_in s) s.chosen
   pub reads : AreReads s accesses.reads.items
   pub writes : AreWrites s accesses.writes.items
+  pub unsourced : IfSome accesses.unsourced (IsReadValue s)
