@@ -1,10 +1,8 @@
 -- What it says of a sketch that nothing is left to be chosen.
-use Rattle.std.proofs.Common.{◌≡◌, ◌↔◌, ℕ, Bool, true, false, not, IsTrue, zero, suc, ◌+◌, ◌<◌, ◌≤◌, List, [], ◌∷◌, Option, None, Some, Contains, All, get_or, length, sym, ap, ◌∙◌, subst, inl, inr, arith}
+use Rattle.std.proofs.Common.{◌≡◌, ◌↔◌, ℕ, Bool, true, false, not, IsTrue, zero, suc, ◌<◌, ◌≤◌, List, [], ◌∷◌, Option, None, Some, All, get_or, length, sym, ap, ◌∙◌, subst, inl, inr, arith}
 use Rattle.std.specs.Prelude.{IfSome}
 use Rattle.std.proofs.lemmas.Bool.{cases_lt}
-use Rattle.std.proofs.lemmas.Option.{same_Some}
 use Rattle.tso_program.specs.declared.listing.Thread.{Thread}
-use Rattle.candidate_executions.specs.declared.access.Access.{Access}
 use Rattle.candidate_executions.specs.declared.event.Event.{Event}
 use Rattle.candidate_executions.specs.declared.event.Event.TheVariants.{Initial, Access as At}
 use Rattle.candidate_executions.specs.Candidates.{IsAccess, Writes}
@@ -28,10 +26,6 @@ use Rattle.cover_solver.specs.declared.reads_writes.WholeAccesses.{WholeAccesses
 use Rattle.cover_solver.specs.Internal.Accesses.{IsReadValue, IsWrittenValue, NamesWrite, AreAccessesOf}
 use Rattle.cover_solver.specs.Internal.ChoicesLeft.{HasEachSource, AreWritesInOrder, IsEachInOrder}
 use Rattle.cover_solver.proofs.EachNamed.{id_of}
-
--- what holds of each element holds of those that are found
-pub of_each : {A : Type 0} (P : A → Type 0) (xs : List A) (n : ℕ) → length xs ≤ n → ((k : ℕ) (x : A) → k < n → get_or xs k x ≡ x → P x) → (x : A) → Contains xs x → P x
-of_each P xs n long each x (k, h, e) = each k x (omega arith) e
 
 -- two writes of a list are in order, whatever stands for those past its end
 pub in_order_at : (s : ProgramSketch) (writes : List WrittenValue) (i n j : ℕ) (d e : WrittenValue) → i < length writes → n < length writes → j ≡ n → AreWritesInOrder s (get_or writes i d) (get_or writes n d) →
@@ -124,13 +118,6 @@ unless false P test not_so p = (let no : false ≡ true = test.1 p in absurd cc)
 pub pair_of : (s : ProgramSketch) (a b : WrittenValue) → IsWrittenValue s a → IsWrittenValue s b → a.location ≡ b.location → (a.write ≡ b.write → ⊥) →
     IsPair s.program (mode_in s) s.chosen (event_of a.write) (event_of b.write)
 pair_of s a b of_a of_b same differ = (λ e. differ (ap id_of e), (a.location, a.value, b.value, of_a, subst (λ l. Writes (access_in s) (event_of b.write) l b.value) (sym same) of_b, λ e. absurd cc, λ e. absurd cc))
-
--- two writes to different locations are no pair
-pub elsewhere : (s : ProgramSketch) (a b : WrittenValue) → IsWrittenValue s a → IsWrittenValue s b → (a.location ≡ b.location → ⊥) → AreWritesInOrder s a b
-elsewhere s a b of_a of_b differ pair =
-    let (l, v, w, first, second, not_first, not_second) = pair.1 in
-    absurd (differ (sym of_a.2 ∙ ap (λ (x : Access). x.location) (same_Some _ _ (sym of_a.1 ∙ first.1)) ∙ first.2
-    ∙ sym second.2 ∙ ap (λ (x : Access). x.location) (same_Some _ _ (sym second.1 ∙ of_b.1)) ∙ of_b.2))
 
 -- a thread that is not there has no next read
 pub no_read : (s : ProgramSketch) (threads : List Thread) (t : ℕ) → threads ≡ s.program.threads → length threads ≤ t → sketches.next_read s.program (mode_in s) s.chosen t ≡ None

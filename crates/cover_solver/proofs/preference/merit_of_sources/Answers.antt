@@ -1,4 +1,4 @@
-use Rattle.std.proofs.Common.{sym, subst, get_or}
+use Rattle.std.proofs.Common.{sym, subst}
 use Rattle.candidate_executions.specs.Sketches.{IsSourceOf}
 use Rattle.exec_axioms.specs.ProgramSketches.{mode_in}
 use Rattle.tree_laws.specs.CoverTrees.{event_of}
