@@ -1,78 +1,38 @@
--- Lists of what is left to be chosen, and what it says that they are empty.
-use Rattle.std.proofs.Common.{◌≡◌, ℕ, zero, suc, ◌+◌, ◌-◌, ◌<◌, ◌≤◌, List, [], ◌∷◌, ◌++◌, Option, None, Some, false, Contains, All, drop, take, get_or, length, refl, sym, ap, ◌∙◌, subst, inl, inr, arith}
-use Rattle.std.specs.Option.{is_some}
+-- What it says of a sketch that nothing is left to be chosen.
+use Rattle.std.proofs.Common.{◌≡◌, ◌↔◌, ℕ, Bool, true, false, not, IsTrue, zero, suc, ◌<◌, ◌≤◌, List, [], ◌∷◌, Option, None, Some, All, get_or, length, sym, ap, ◌∙◌, subst, inl, inr, arith}
+use Rattle.std.specs.Prelude.{IfSome}
 use Rattle.std.proofs.lemmas.Bool.{cases_lt}
-use Rattle.std.proofs.lemmas.List.{get_or-drop, length-drop, take_all}
-use Rattle.std.proofs.lemmas.Option.{same_Some}
 use Rattle.tso_program.specs.declared.listing.Thread.{Thread}
-use Rattle.candidate_executions.specs.declared.access.Access.{Access}
 use Rattle.candidate_executions.specs.declared.event.Event.{Event}
+use Rattle.candidate_executions.specs.declared.event.Event.TheVariants.{Initial, Access as At}
+use Rattle.candidate_executions.specs.Candidates.{IsAccess, Writes}
 use Rattle.candidate_executions.specs.Sketches as sketches
-use Rattle.candidate_executions.specs.Sketches.{IsPair, IsWhole}
-use Rattle.exec_axioms.specs.ProgramSketches.{ProgramSketch, mode_in, trace_in}
+use Rattle.candidate_executions.specs.Sketches.{given_to, IsPair, IsWhole}
+use Rattle.exec_axioms.specs.ProgramSketches.{ProgramSketch, mode_in, trace_in, access_in, with_chosen}
 use Rattle.exec_axioms.specs.Choices.{IsOrdered, MayFollow}
 use Rattle.cover_judge.specs.declared.choice.Choice.{Choice}
 use Rattle.cover_judge.specs.declared.choice.Choice.TheVariants as choice
-use Rattle.cover_judge.specs.Choices.{MayChoose, MayChooseEach}
+use Rattle.cover_judge.specs.Choices.{sketch_with, MayChoose, MayChooseEach}
 use Rattle.cover_judge.proofs.ChoicesJudged.{other_way, turned}
 use Rattle.exec_axioms.proofs.TracesKept.{no_action}
 use Rattle.exec_axioms.proofs.Lookups.{same_default}
 use Rattle.exec_axioms.specs.Complete.{IsComplete, HasItsSource, IsOrderedWith}
 use Rattle.exec_axioms.proofs.Completeness.{read_there, first_there, second_there}
-use Rattle.cover_solver.specs.declared.choices_left.OpenChoice.{OpenChoice}
 use Rattle.cert_forest.specs.declared.tree.AccessId.{AccessId}
 use Rattle.tree_laws.specs.CoverTrees.{event_of}
+use Rattle.cover_solver.specs.declared.reads_writes.ReadValue.{ReadValue}
 use Rattle.cover_solver.specs.declared.reads_writes.WrittenValue.{WrittenValue}
-use Rattle.cover_solver.specs.Internal.Accesses.{HasAccesses, IsWrittenValue, NamesWrite, AreWrites}
-use Rattle.cover_solver.specs.Internal.ChoicesLeft.{LeavesNone, HasEachSource, AreWritesInOrder, IsInOrderWithEach, IsEachInOrder}
+use Rattle.cover_solver.specs.declared.reads_writes.WholeAccesses.{WholeAccesses}
+use Rattle.cover_solver.specs.Internal.Accesses.{IsReadValue, IsWrittenValue, NamesWrite, AreAccessesOf}
+use Rattle.cover_solver.specs.Internal.ChoicesLeft.{HasEachSource, AreWritesInOrder, IsEachInOrder}
+use Rattle.cover_solver.proofs.EachNamed.{id_of}
 
--- a list with one more at its end is not empty
-pub pushed_some : {A : Type 0} (xs ys : List A) (x : A) → ys ≡ xs ++ x ∷ [] → ys ≡ [] → ⊥
-pushed_some [] ys x pushed none = (let no : x ∷ [] ≡ [] = sym pushed ∙ none in absurd cc)
-pushed_some (y ∷ xs) ys x pushed none = (let no : y ∷ (xs ++ x ∷ []) ≡ [] = sym pushed ∙ none in absurd cc)
-
--- one more is left
-pub leaves_one : (old mid new : List OpenChoice) (x : OpenChoice) (P : Type 0) → new ≡ mid ++ x ∷ [] → LeavesNone old new P
-leaves_one old mid new x P pushed = record { before = λ none. absurd (pushed_some mid new x pushed none); since = λ none. absurd (pushed_some mid new x pushed none) }
-
--- nothing more is left, and more has been looked at
-pub leaves_same : (old mid new : List OpenChoice) (P Q : Type 0) → new ≡ mid → LeavesNone old mid P → (P → Q) → LeavesNone old new Q
-leaves_same old mid new P Q same none more = record { before = λ e. none.before (sym same ∙ e); since = λ e. more (none.since (sym same ∙ e)) }
-
--- one list after another
-pub leaves_twice : (old mid new : List OpenChoice) (P Q R : Type 0) → LeavesNone old mid P → LeavesNone mid new Q → (P → Q → R) → LeavesNone old new R
-leaves_twice old mid new P Q R first second both = record {
-  before = λ e. first.before (second.before e);
-  since = λ e. both (first.since (second.before e)) (second.since e);
-}
-
--- nothing has been looked at
-pub leaves_start : (xs : List OpenChoice) (P : Type 0) → P → LeavesNone xs xs P
-leaves_start xs P p = record { before = λ e. e; since = λ e. p }
-
--- what holds of each element holds of those that are found
-pub of_each : {A : Type 0} (P : A → Type 0) (xs : List A) (n : ℕ) → length xs ≤ n → ((k : ℕ) (x : A) → k < n → get_or xs k x ≡ x → P x) → (x : A) → Contains xs x → P x
-of_each P xs n long each x (k, h, e) = each k x (omega arith) e
-
--- a write of a list is one of those after an earlier one
-later_found : (xs : List WrittenValue) (i j : ℕ) (d : WrittenValue) → i < j → j < length xs → Contains (drop (i + 1) xs) (get_or xs j d)
-later_found xs i j d h l = (
-  j - (i + 1),
-  subst (λ n. j - (i + 1) < n) (sym (length-drop (i + 1) xs)) (omega arith),
-  get_or-drop (i + 1) xs (j - (i + 1)) (get_or xs j d) ∙ ap (λ n. get_or xs n (get_or xs j d)) (let same : i + 1 + (j - (i + 1)) ≡ j = omega arith in same) ∙ same_default xs j (get_or xs j d) d l,
-)
-
--- the writes so far are in order with all later ones, and so is the next one
-pub each_later : (s : ProgramSketch) (xs : List WrittenValue) (i : ℕ) (first : WrittenValue) → i < length xs → ((d : WrittenValue) → get_or xs i d ≡ first) →
-    ((a b : ℕ) (d : WrittenValue) → a < i → a < b → b < length xs → AreWritesInOrder s (get_or xs a d) (get_or xs b d)) → IsInOrderWithEach s first (drop (i + 1) xs) →
-    (a b : ℕ) (d : WrittenValue) → a < i + 1 → a < b → b < length xs → AreWritesInOrder s (get_or xs a d) (get_or xs b d)
-each_later s xs i first h is below here a b d l m n = elim (cases_lt a i) [
-  | inl less ↦ below a b d less m n
-  | inr more ↦ (
-      let same : a ≡ i = omega arith in
-      subst (λ k. AreWritesInOrder s (get_or xs k d) (get_or xs b d)) (sym same)
-      (subst (λ e. AreWritesInOrder s e (get_or xs b d)) (sym (is d)) (here (get_or xs b d) (later_found xs i b d (omega arith) n))))
-]
+-- two writes of a list are in order, whatever stands for those past its end
+pub in_order_at : (s : ProgramSketch) (writes : List WrittenValue) (i n j : ℕ) (d e : WrittenValue) → i < length writes → n < length writes → j ≡ n → AreWritesInOrder s (get_or writes i d) (get_or writes n d) →
+    AreWritesInOrder s (get_or writes i e) (get_or writes j e)
+in_order_at s writes i n j d e h l same are = subst (λ k. AreWritesInOrder s (get_or writes i e) (get_or writes k e)) (sym same)
+    (subst (λ w. AreWritesInOrder s w (get_or writes n e)) (same_default writes i d e h)
+    (subst (λ w. AreWritesInOrder s (get_or writes i d) w) (same_default writes n d e l) are))
 
 -- the other way round
 other_order : (s : ProgramSketch) (d e : Event) → IsOrdered s d e → IsOrdered s e d
@@ -100,39 +60,72 @@ named_in_order s writes orders a b (v, (i, h, p), v_is) (w, (j, l, q), w_is) pai
 ]
 
 -- a sketch with each value, source and order is complete
-pub complete_of : (s : ProgramSketch) (accesses : List AccessId) (writes : List WrittenValue) → HasAccesses s accesses → AreWrites s writes → IsWhole s.program (mode_in s) s.chosen →
-    HasEachSource s accesses → IsEachInOrder s writes → IsComplete s
-complete_of s accesses writes has are whole sources orders = record {
-  whole = whole;
-  sources = λ e reads. (let (a, here, is) = has e (read_there s e reads) in subst (HasItsSource s) is (sources a here) reads);
-  pairs = λ d e pair. (
-      let (a, here, is) = has d (first_there s d e pair) in
-      let (b, there, same) = has e (second_there s d e pair) in
-      subst (λ x. IsOrderedWith s x e) is (subst (IsOrderedWith s (event_of a)) same (named_pair a b)) pair);
+pub complete_of : (s : ProgramSketch) (accesses : WholeAccesses) → AreAccessesOf s accesses → HasEachSource s accesses.reads.items → IsEachInOrder s accesses.writes.items → IsComplete s
+complete_of s accesses are sources orders = record {
+  whole = are.whole;
+  sources = λ e reads. sourced e (read_there s e reads) reads;
+  pairs = λ d e pair. ordered d e (first_there s d e pair) (second_there s d e pair) pair;
 }
   where
-    named_pair : (a b : AccessId) → IsOrderedWith s (event_of a) (event_of b)
-    named_pair a b pair = (let (l, v, w, of_a, of_b, not_a, not_b) = pair.1 in named_in_order s writes orders a b (are.all a l v of_a) (are.all b l w of_b) pair)
+    sourced : (e : Event) → IsAccess s.program (mode_in s) (given_to s.chosen) e → HasItsSource s e
+    sourced (Initial l) there reads = absurd there
+    sourced (At t i) there reads = (let (r, here, is) = are.reads.all (record { thread = t; access = i }) reads in subst (λ a. HasItsSource s (event_of a)) is (sources r here) reads)
 
--- two writes to different locations are no pair
-pub elsewhere : (s : ProgramSketch) (a b : WrittenValue) → IsWrittenValue s a → IsWrittenValue s b → (a.location ≡ b.location → ⊥) → AreWritesInOrder s a b
-elsewhere s a b of_a of_b differ pair =
-    let (l, v, w, first, second, not_first, not_second) = pair.1 in
-    absurd (differ (sym of_a.2 ∙ ap (λ (x : Access). x.location) (same_Some _ _ (sym of_a.1 ∙ first.1)) ∙ first.2
-    ∙ sym second.2 ∙ ap (λ (x : Access). x.location) (same_Some _ _ (sym second.1 ∙ of_b.1)) ∙ of_b.2))
+    ordered : (d e : Event) → IsAccess s.program (mode_in s) (given_to s.chosen) d → IsAccess s.program (mode_in s) (given_to s.chosen) e → IsOrderedWith s d e
+    ordered (Initial l) e first second pair = absurd first
+    ordered (At t i) (Initial l) first second pair = absurd second
+    ordered (At t i) (At u j) first second pair = (
+        let (l, v, w, of_a, of_b, not_a, not_b) = pair.1 in
+        let a : AccessId = record { thread = t; access = i } in
+        let b : AccessId = record { thread = u; access = j } in
+        named_in_order s accesses.writes.items orders a b (are.writes.all a (l, v, of_a)) (are.writes.all b (l, w, of_b)) pair)
+
+-- the accesses depend on the values alone
+module _ (s : ProgramSketch) (sources pairs : List (Event × Event)) where
+  abbrev other : ProgramSketch
+  other = with_chosen s (record s.chosen { sources = sources; pairs = pairs })
+
+  same_read : (r : ReadValue) → IsReadValue s r → IsReadValue other r
+  same_read r is = record { access = is.access; is_access = is.is_access; location = is.location; reads = is.reads }
+
+  same_if : (o : Option ReadValue) → IfSome o (IsReadValue s) → IfSome o (IsReadValue other)
+  same_if None h = h
+  same_if (Some r) h = same_read r h
+
+  same_accesses : (accesses : WholeAccesses) → AreAccessesOf s accesses → AreAccessesOf other accesses
+  same_accesses accesses are = record {
+    whole = are.whole;
+    reads = record { each = λ k d h. same_read _ (are.reads.each k d h); all = are.reads.all };
+    writes = record { each = are.writes.each; all = are.writes.all };
+    unsourced = same_if accesses.unsourced are.unsourced;
+  }
+
+-- they are those of the sketch after a choice: values are chosen no more
+pub accesses_after : (s next : ProgramSketch) (c : Choice) (accesses : WholeAccesses) → MayChoose s c → next ≡ with_chosen s (sketch_with s.chosen c) → AreAccessesOf s accesses → AreAccessesOf next accesses
+accesses_after s next c accesses may same are = subst (λ (n : ProgramSketch). AreAccessesOf n accesses) (sym same) (after c may)
+  where
+    after : (c : Choice) → MayChoose s c → AreAccessesOf (with_chosen s (sketch_with s.chosen c)) accesses
+    after (choice.Value t v) may = (let no : None ≡ Some may.0 = sym (are.whole t) ∙ may.1 in absurd cc)
+    after (choice.Source read source) may = same_accesses s (sketch_with s.chosen (choice.Source read source)).sources s.chosen.pairs accesses are
+    after (choice.Order first second) may = same_accesses s s.chosen.sources (sketch_with s.chosen (choice.Order first second)).pairs accesses are
+
+-- what a test denies
+pub unless : (b : Bool) (P : Type 0) → (IsTrue b ↔ P) → IsTrue (not b) → P → ⊥
+unless true P test not_so p = absurd cc
+unless false P test not_so p = (let no : false ≡ true = test.1 p in absurd cc)
+
+-- two writes to one location are a pair
+pub pair_of : (s : ProgramSketch) (a b : WrittenValue) → IsWrittenValue s a → IsWrittenValue s b → a.location ≡ b.location → (a.write ≡ b.write → ⊥) →
+    IsPair s.program (mode_in s) s.chosen (event_of a.write) (event_of b.write)
+pair_of s a b of_a of_b same differ = (λ e. differ (ap id_of e), (a.location, a.value, b.value, of_a, subst (λ l. Writes (access_in s) (event_of b.write) l b.value) (sym same) of_b, λ e. absurd cc, λ e. absurd cc))
 
 -- a thread that is not there has no next read
 pub no_read : (s : ProgramSketch) (threads : List Thread) (t : ℕ) → threads ≡ s.program.threads → length threads ≤ t → sketches.next_read s.program (mode_in s) s.chosen t ≡ None
 no_read s threads t same h = ap sketches.read_by (no_action s.program.threads t (trace_in s t).last (subst (λ ts. length ts ≤ t) same h))
 
--- an option that has no value
-pub none_of : (o : Option ℕ) → is_some o ≡ false → o ≡ None
-none_of None e = refl
-none_of (Some n) e = absurd cc
-
--- a slice to the end
-pub rest_is : {A : Type 0} (xs : List A) (n : ℕ) → take (length xs - n) (drop n xs) ≡ drop n xs
-rest_is xs n = take_all (length xs - n) (drop n xs) (subst (λ m. m ≤ length xs - n) (sym (length-drop n xs)) (omega arith))
+-- a program without threads has no next read
+pub none_open : (s : ProgramSketch) (threads : List Thread) → threads ≡ s.program.threads → length threads ≡ 0 → IsWhole s.program (mode_in s) s.chosen
+none_open s threads same none t = no_read s threads t same (omega arith)
 
 -- both orders of two writes may be chosen
 pub both_may : (s : ProgramSketch) (first second : AccessId) (choices : List Choice) → MayFollow s (event_of first) (event_of second) →

@@ -3,18 +3,16 @@ ghost use Rattle.std.specs.Prelude.{◌≡◌, IfOk, MatchOption, [], ◌∷◌}
 ghost use Rattle.exec_axioms.specs.Complete.{IsComplete};
 ghost use Rattle.cover_judge.specs.Choices.{MayChooseEach};
 ghost use Rattle.cover_solver.specs.Choices.{IsOpen, IsBranch, AreChoicesOf};
-ghost use Rattle.cover_solver.specs.Listed.{AreInOrder};
+ghost use Rattle.cover_solver.specs.Internal.Accesses.{AreAccessesOf};
 
-use crate::accesses::all_accesses;
-use crate::choices_left::{OpenChoice, open_choices};
-use crate::listed::Listed;
+use crate::choices_left::OpenChoice;
 use crate::preference::preferred;
-use crate::reads_writes::written_values;
+use crate::reads_writes::WholeAccesses;
 use cert_forest::AccessId;
 use cover_judge::{Choice, source_choices, value_choices};
 use exec_axioms::Sketch;
 use std::alloc::{AllocError, Global};
-use tso_program::Shown;
+use tso_program::{Outcome, Shown};
 
 /// Something that is left to be chosen, and its choices.
 #[derive(Drop)]
@@ -27,20 +25,17 @@ pub(crate) struct Branch {
 pub(crate) fn next_branch(
     alloc: Global,
     sketch: &Sketch,
+    accesses: &WholeAccesses,
     shown: &Shown,
-    outcomes: &Listed,
+    outcomes: &[Outcome],
 ) -> Result<Option<Branch>, AllocError>
-    requires { AreInOrder outcomes.now }
+    requires { AreAccessesOf sketch.now accesses.now }
     ensures { IfOk result (λ branch. MatchOption branch (IsComplete sketch.now) (IsBranch sketch.now)) }
 {
-    let accesses = all_accesses(alloc, sketch)?;
-    let writes = written_values(alloc, sketch, &accesses)?;
-    let left = open_choices(alloc, sketch, &accesses, &writes)?;
-    if left.is_empty() {
-        return Ok(None);
+    match preferred(sketch, accesses, shown, outcomes) {
+        Some(next) => Ok(Some(branch_of(alloc, sketch, next)?)),
+        None => Ok(None),
     }
-    let number = preferred(alloc, sketch, shown, outcomes, &writes, &left)?;
-    Ok(Some(branch_of(alloc, sketch, left[number])?))
 }
 
 /// What is left to be chosen, with its choices.

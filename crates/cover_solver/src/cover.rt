@@ -3,12 +3,14 @@
 ghost use Rattle.std.specs.Prelude.{◌≡◌, IfOk, IfErr, OnOk, IsTrue, map, length};
 ghost use Rattle.tso_program.specs.Shown.{asked};
 ghost use Rattle.tso_machine.specs.Modes.{machine_mode};
+ghost use Rattle.candidate_executions.specs.Sketches.{IsWhole};
 ghost use Rattle.exec_axioms.specs.ProgramSketches.{mode_in};
 ghost use Rattle.exec_axioms.specs.Complete.{IsComplete};
 ghost use Rattle.cert_forest.specs.Views.{cover};
 ghost use Rattle.cover_judge.specs.Choices.{MayChooseEach};
 ghost use Rattle.cover_solver.specs.Covers.{IsCoverAt, IsValidAt, IsUnsettled, AreChildren, IsWholeCover, tree_over, IsArity};
 ghost use Rattle.cover_solver.specs.Listed.{listed, AreInOrder, Grows, StopIs};
+ghost use Rattle.cover_solver.specs.Internal.Accesses.{AreAccessesOf};
 
 use crate::branch::next_branch;
 use crate::choices_left::OpenChoice;
@@ -17,6 +19,7 @@ use crate::fault::Stop;
 use crate::leaf::leaf;
 use crate::listed::Listed;
 use crate::plan::plan_for;
+use crate::reads_writes::{WholeAccesses, whole_accesses};
 use crate::run::shown_run;
 use cert_forest::CoverTree;
 use cover_judge::{Choice, TreeFault, judge_cover, sketch_with};
@@ -48,19 +51,38 @@ pub(crate) fn cover_all(
     let sketch = Sketch::new(alloc, program, mode)?;
     match plan_for(alloc, &sketch)? {
         Some(plan) => cover_values(alloc, &sketch, &plan, shown, outcomes),
-        None => cover_from(alloc, &sketch, shown, outcomes),
+        None => cover_whole(alloc, &sketch, shown, outcomes),
     }
 }
 
-/// A tree for a sketch.
-#[cycle(cover)]
-pub(crate) fn cover_from(
+/// A tree for a sketch in which each read has its value.
+pub(crate) fn cover_whole(
     alloc: Global,
     sketch: &Sketch,
     shown: &Shown,
     outcomes: &mut Listed,
 ) -> Result<CoverTree, Stop>
-    requires { AreInOrder outcomes.old }
+    requires in_order { AreInOrder outcomes.old }
+    requires whole { IsWhole sketch.now.program (mode_in sketch.now) sketch.now.chosen }
+    ensures grows { OnOk result (Grows (asked sketch.now.program shown.now) (mode_in sketch.now) outcomes.old outcomes.new) }
+    ensures tree { IfOk result (λ tree. IsCoverAt sketch.now shown.now (listed outcomes.new) (cover tree)) }
+    ensures stop { IfErr result (StopIs (asked sketch.now.program shown.now) (mode_in sketch.now) outcomes.old) }
+{
+    let accesses = whole_accesses(alloc, sketch)?;
+    cover_from(alloc, sketch, &accesses, shown, outcomes)
+}
+
+/// The same, by what the sketch reads and writes.
+#[cycle(cover)]
+fn cover_from(
+    alloc: Global,
+    sketch: &Sketch,
+    accesses: &WholeAccesses,
+    shown: &Shown,
+    outcomes: &mut Listed,
+) -> Result<CoverTree, Stop>
+    requires in_order { AreInOrder outcomes.old }
+    requires accesses { AreAccessesOf sketch.now accesses.now }
     ensures grows { OnOk result (Grows (asked sketch.now.program shown.now) (mode_in sketch.now) outcomes.old outcomes.new) }
     ensures tree { IfOk result (λ tree. IsCoverAt sketch.now shown.now (listed outcomes.new) (cover tree)) }
     ensures stop { IfErr result (StopIs (asked sketch.now.program shown.now) (mode_in sketch.now) outcomes.old) }
@@ -70,11 +92,13 @@ pub(crate) fn cover_from(
     if let Some(tree) = leaf(alloc, sketch, shown, outcomes)? {
         return Ok(tree);
     }
-    match next_branch(alloc, sketch, shown, outcomes)? {
-        Some(branch) => match cover_each(alloc, sketch, shown, &branch.choices, outcomes)? {
-            Children::Each(trees) => Ok(node_over(alloc, branch.next, trees)?),
-            Children::One(tree) => Ok(tree),
-        },
+    match next_branch(alloc, sketch, accesses, shown, outcomes.ascending())? {
+        Some(branch) => {
+            match cover_each(alloc, sketch, accesses, shown, &branch.choices, outcomes)? {
+                Children::Each(trees) => Ok(node_over(alloc, branch.next, trees)?),
+                Children::One(tree) => Ok(tree),
+            }
+        }
         None => end(alloc, sketch, shown, outcomes),
     }
 }
@@ -106,11 +130,13 @@ fn end(
 fn cover_each(
     alloc: Global,
     sketch: &Sketch,
+    accesses: &WholeAccesses,
     shown: &Shown,
     choices: &[Choice],
     outcomes: &mut Listed,
 ) -> Result<Children, Stop>
     requires in_order { AreInOrder outcomes.old }
+    requires accesses { AreAccessesOf sketch.now accesses.now }
     requires may { MayChooseEach sketch.now choices.now }
     ensures grows { OnOk result (Grows (asked sketch.now.program shown.now) (mode_in sketch.now) outcomes.old outcomes.new) }
     ensures children { IfOk result (AreChildren sketch.now shown.now (listed outcomes.new) choices.now) }
@@ -121,7 +147,7 @@ fn cover_each(
     let mut trees = Vec::new(alloc);
     for choice in choices {
         let next = sketch_with(sketch, *choice)?;
-        let tree = cover_from(alloc, &next, shown, outcomes)?;
+        let tree = cover_from(alloc, &next, accesses, shown, outcomes)?;
         if is_valid(alloc, &tree, sketch, shown, outcomes.as_slice())? {
             return Ok(Children::One(tree));
         }
@@ -130,7 +156,7 @@ fn cover_each(
     Ok(Children::Each(trees))
 }
 
-/// Whether a tree is valid at a sketch in which each read has its value.
+/// Whether the tree of a child is valid at an open sketch. A cycle is not: it would have closed the sketch.
 fn is_valid(
     alloc: Global,
     tree: &CoverTree,
@@ -140,7 +166,7 @@ fn is_valid(
 ) -> Result<bool, AllocError>
     ensures { IfOk result (λ valid. IsTrue valid → IsValidAt sketch.now shown.now outcomes.now (cover tree.now)) }
 {
-    if !sketch.is_whole() {
+    if is_cycle(tree) {
         return Ok(false);
     }
     match judge_cover(alloc, tree, sketch, shown, outcomes) {
@@ -148,6 +174,10 @@ fn is_valid(
         Err(TreeFault::Wrong(_)) => Ok(false),
         Err(TreeFault::OutOfMemory) => Err(AllocError),
     }
+}
+
+fn is_cycle(tree: &CoverTree) -> bool {
+    matches!(tree, CoverTree::Cycle { .. })
 }
 
 /// The node over a tree for each choice.

@@ -8,7 +8,7 @@ ghost use Rattle.cover_solver.specs.Listed.{listed, AreInOrder, Grows, StopIs};
 ghost use Rattle.cover_solver.specs.Traces.{traces, root, IsTraceTree, IsFullTrace};
 ghost use Rattle.cover_solver.specs.Combined.{AreAlike, IsBase, with_root, with_trace};
 
-use crate::cover::cover_from;
+use crate::cover::cover_whole;
 use crate::fault::Stop;
 use crate::listed::Listed;
 use crate::tally::Tally;
@@ -91,7 +91,7 @@ fn cover_full(
         }),
         None => {
             let whole = sketch.with_thread(t, &trace.sketch)?;
-            cover_from(alloc, &whole, shown, outcomes)
+            cover_whole(alloc, &whole, shown, outcomes)
         }
     }
 }

@@ -34,6 +34,14 @@ impl Listed<'_> {
         }
     }
 
+    /// The same outcomes, ascending.
+    pub(crate) fn ascending(&self) -> &[Outcome] {
+        match self {
+            Listed::Closed(outcomes) => outcomes,
+            Listed::Open(found) => &found.outcomes,
+        }
+    }
+
     /// The number of an outcome. `None` if it is not in the list.
     pub(crate) fn number_of(&self, outcome: &Outcome) -> Option<usize>
         requires { AreInOrder self.now }

@@ -1,20 +1,23 @@
-//! Which choice is taken first. The size of a tree depends on it, and nothing that is proved of the tree
-//! does.
-ghost use Rattle.std.specs.Prelude.{◌<◌, IfOk, IfSome, All, length};
+//! What is chosen first. The size of a tree depends on it, and nothing that is proved of the tree does but
+//! that it is left to be chosen.
+ghost use Rattle.std.specs.Prelude.{◌≡◌, ◌<◌, None, IsTrue, IsSome, IfSome, MatchOption, All, length};
+ghost use Rattle.candidate_executions.specs.Sketches.{IsWhole};
+ghost use Rattle.exec_axioms.specs.ProgramSketches.{ProgramSketch, mode_in};
+ghost use Rattle.exec_axioms.specs.Choices.{MayRead};
+ghost use Rattle.exec_axioms.specs.Complete.{IsComplete};
+ghost use Rattle.tree_laws.specs.CoverTrees as trees;
 ghost use Rattle.cover_judge.specs.Choices.{MayChoose, IsSourceOpen};
 ghost use Rattle.cover_solver.specs.Choices.{IsOpen};
-ghost use Rattle.cover_solver.specs.Listed.{AreInOrder};
+ghost use Rattle.cover_solver.specs.Internal.Accesses.{IsReadValue, IsWrittenValue, AreAccessesOf};
+ghost use Rattle.cover_solver.specs.Internal.ChoicesLeft.{HasEachSource, IsInOrderWithLater, IsEachInOrder};
 
-use crate::choices_left::OpenChoice;
-use crate::leaf::known;
-use crate::listed::Listed;
-use crate::reads_writes::{ReadValue, WrittenValue, gives, read_value};
-use crate::settled::{LastWrite, ends_differ, last_writes};
+use crate::choices_left::{OpenChoice, needs_order, needs_source};
+use crate::reads_writes::{ReadValue, WholeAccesses, WrittenValue, gives};
+use crate::settled::{SketchEnds, is_listed_without, sketch_ends};
 use cert_forest::AccessId;
-use cover_judge::{Choice, event_of, sketch_with};
+use cover_judge::{Choice, event_of};
 use exec_axioms::{Event, Sketch};
-use std::alloc::{AllocError, Global};
-use tso_program::Shown;
+use tso_program::{Outcome, Shown};
 
 /// How many children stay open after a choice, how many there are, and whether it is an order: the
 /// least is the best.
@@ -25,148 +28,168 @@ struct Merit {
     is_order: bool,
 }
 
-/// What merits are counted with: all writes, and those that may be the last of their locations.
+/// Something that is left to be chosen, with its merit.
 #[derive(Clone, Copy)]
-struct Seen<'a> {
-    writes: &'a [WrittenValue],
-    last: &'a [LastWrite],
+struct Rated {
+    next: OpenChoice,
+    merit: Merit,
 }
 
-/// The number of what is chosen first, where these are all writes. A read without a source is, and what
-/// leaves no child open, and then no other is looked at.
+/// What is chosen first. `None` if the sketch is complete. A read that no write gives its value is, and
+/// what leaves no child open, and then no other is looked at.
 pub(crate) fn preferred(
-    alloc: Global,
     sketch: &Sketch,
+    accesses: &WholeAccesses,
     shown: &Shown,
-    outcomes: &Listed,
+    outcomes: &[Outcome],
+) -> Option<OpenChoice>
+    requires { AreAccessesOf sketch.now accesses.now }
+    ensures { MatchOption result (IsComplete sketch.now) (IsOpen sketch.now) }
+{
+    match open_unsourced(sketch, accesses) {
+        Some(read) => Some(OpenChoice::Source(read)),
+        None => best_of(sketch, accesses, shown, outcomes),
+    }
+}
+
+/// The read that no write gives its value, if there is one and it has no source.
+fn open_unsourced(sketch: &Sketch, accesses: &WholeAccesses) -> Option<AccessId>
+    requires { AreAccessesOf sketch.now accesses.now }
+    ensures { IfSome result (IsSourceOpen sketch.now) }
+{
+    let read = accesses.unsourced?;
+    if needs_source(sketch, read) {
+        Some(read.read)
+    } else {
+        None
+    }
+}
+
+/// What has the best merit.
+fn best_of(
+    sketch: &Sketch,
+    accesses: &WholeAccesses,
+    shown: &Shown,
+    outcomes: &[Outcome],
+) -> Option<OpenChoice>
+    requires { AreAccessesOf sketch.now accesses.now }
+    ensures { MatchOption result (IsComplete sketch.now) (IsOpen sketch.now) }
+{
+    let best = best_source(sketch, &accesses.reads, &accesses.writes);
+    match best_order(sketch, accesses, shown, outcomes, best) {
+        Some(best) => Some(best.next),
+        None => None,
+    }
+}
+
+/// The best of the reads without a source.
+fn best_source(sketch: &Sketch, reads: &[ReadValue], writes: &[WrittenValue]) -> Option<Rated>
+    requires whole { IsWhole sketch.now.program (mode_in sketch.now) sketch.now.chosen }
+    requires reads { All (IsReadValue sketch.now) reads.now }
+    requires writes { All (IsWrittenValue sketch.now) writes.now }
+    ensures is_open { IfSome result (λ best. IsOpen sketch.now best.next) }
+    ensures none { result ≡ None → HasEachSource sketch.now reads.now }
+{
+    let mut best = None;
+    for read in reads {
+        if leaves_none_open(best) {
+            return best;
+        }
+        if needs_source(sketch, *read) {
+            best = Some(better_source(sketch, writes, *read, best));
+        }
+    }
+    best
+}
+
+/// Whether no child of the best stays open.
+fn leaves_none_open(best: Option<Rated>) -> bool
+    ensures { IsTrue result → IsSome best }
+{
+    match best {
+        Some(best) => best.merit.open == 0,
+        None => false,
+    }
+}
+
+/// The better of the best so far and another, and the first of equals.
+fn better(best: Option<Rated>, other: Rated) -> Rated
+    ensures { (s : ProgramSketch) → IfSome best (λ best. IsOpen s best.next) → IsOpen s other.next → IsOpen s result.next }
+{
+    match best {
+        Some(best) => {
+            if other.merit < best.merit {
+                other
+            } else {
+                best
+            }
+        }
+        None => other,
+    }
+}
+
+/// The better of the best so far and a read without a source.
+fn better_source(
+    sketch: &Sketch,
     writes: &[WrittenValue],
-    left: &[OpenChoice],
-) -> Result<usize, AllocError>
-    requires in_order { AreInOrder outcomes.now }
-    requires each { All (IsOpen sketch.now) left.now }
-    requires some { 0 < length left.now }
-    ensures { IfOk result (λ number. number < length left.now) }
+    read: ReadValue,
+    best: Option<Rated>,
+) -> Rated
+    requires is_open { IsSourceOpen sketch.now read.read }
+    requires read { IsReadValue sketch.now read }
+    requires writes { All (IsWrittenValue sketch.now) writes.now }
+    requires best { IfSome best (λ best. IsOpen sketch.now best.next) }
+    ensures { IsOpen sketch.now result.next }
 {
-    if let Some(number) = first_unsourced(sketch, writes, left) {
-        return Ok(number);
-    }
-    let last = last_writes(alloc, sketch, shown, writes)?;
-    let seen = Seen {
-        writes,
-        last: &last,
+    let most = match best {
+        Some(best) => best.merit.open,
+        None => usize::MAX,
     };
-    let mut best: usize = 0;
-    let mut merit = merit_of(sketch, shown, outcomes, &seen, left[0], usize::MAX)?;
-    for number in 1..left.len() {
-        if merit.open == 0 {
-            return Ok(best);
-        }
-        let other = merit_of(sketch, shown, outcomes, &seen, left[number], merit.open)?;
-        if other < merit {
-            best = number;
-            merit = other;
-        }
-    }
-    Ok(best)
+    let other = Rated {
+        next: OpenChoice::Source(read.read),
+        merit: merit_of_sources(sketch, writes, read, most),
+    };
+    better(best, other)
 }
 
-/// The number of the first read that has no source.
-fn first_unsourced(sketch: &Sketch, writes: &[WrittenValue], left: &[OpenChoice]) -> Option<usize>
-    ensures { IfSome result (λ number. number < length left.now) }
+/// The merit of the sources of a read. A source closes the sketch by a cycle alone: it changes no outcome.
+/// Children that stay open are counted up to one more than `most`.
+fn merit_of_sources(sketch: &Sketch, writes: &[WrittenValue], read: ReadValue, most: usize) -> Merit
+    requires is_open { IsSourceOpen sketch.now read.read }
+    requires read { IsReadValue sketch.now read }
+    requires writes { All (IsWrittenValue sketch.now) writes.now }
 {
-    for (number, next) in left.iter().enumerate() {
-        if is_unsourced(sketch, writes, *next) {
-            return Some(number);
-        }
-    }
-    None
-}
-
-fn is_unsourced(sketch: &Sketch, writes: &[WrittenValue], next: OpenChoice) -> bool {
-    match next {
-        OpenChoice::Source(read) => match read_value(sketch, read) {
-            Some(read) => !has_source(sketch, writes, read),
-            None => true,
-        },
-        _ => false,
-    }
-}
-
-/// Whether the initial write or one of the writes is a source of the read.
-fn has_source(sketch: &Sketch, writes: &[WrittenValue], read: ReadValue) -> bool {
+    let mut merit = merit_of_initial(sketch, read, most);
     for write in writes {
         if gives(*write, read) {
-            return true;
+            merit = with_source(sketch, merit, read.read, event_of(write.write), most);
         }
     }
-    sketch.is_source(Event::Initial(read.location), event_of(read.read))
+    merit
 }
 
-/// The merit of a choice. Children that stay open are counted up to one more than `most`.
-fn merit_of(
-    sketch: &Sketch,
-    shown: &Shown,
-    outcomes: &Listed,
-    seen: &Seen,
-    next: OpenChoice,
-    most: usize,
-) -> Result<Merit, AllocError>
-    requires in_order { AreInOrder outcomes.now }
-    requires open { IsOpen sketch.now next }
-{
-    match next {
-        OpenChoice::Value(thread) => merit_of_values(sketch, thread),
-        OpenChoice::Source(read) => Ok(merit_of_sources(sketch, seen.writes, read, most)),
-        OpenChoice::Order(first, second) => {
-            merit_of_orders(sketch, shown, outcomes, seen.last, first, second)
-        }
-    }
-}
-
-/// Each value leaves the sketch open.
-fn merit_of_values(sketch: &Sketch, thread: u8) -> Result<Merit, AllocError> {
-    let values = match sketch.next_read(thread) {
-        Some(location) => sketch.values_for(location)?.len(),
-        None => 0,
-    };
-    Ok(Merit {
-        open: values,
-        children: values,
-        is_order: false,
-    })
-}
-
-/// A source closes the sketch by a cycle alone: it changes no outcome.
-fn merit_of_sources(sketch: &Sketch, writes: &[WrittenValue], read: AccessId, most: usize) -> Merit
-    requires { IsSourceOpen sketch.now read }
+/// The same of the initial write alone.
+fn merit_of_initial(sketch: &Sketch, read: ReadValue, most: usize) -> Merit
+    requires { IsSourceOpen sketch.now read.read }
 {
     let none = Merit {
         open: 0,
         children: 0,
         is_order: false,
     };
-    let Some(value) = read_value(sketch, read) else {
-        return none;
-    };
-    let initial = Event::Initial(value.location);
-    let mut merit = with_source(sketch, none, read, initial, most);
-    for write in writes {
-        if gives(*write, value) {
-            merit = with_source(sketch, merit, read, event_of(write.write), most);
-        }
+    let initial = Event::Initial(read.location);
+    if sketch.is_source(initial, event_of(read.read)) {
+        with_source(sketch, none, read.read, initial, most)
+    } else {
+        none
     }
-    merit
 }
 
-/// The merit with one more child where the event is a source of the read.
+/// The merit with one more child, for a source of the read.
 fn with_source(sketch: &Sketch, merit: Merit, read: AccessId, source: Event, most: usize) -> Merit
-    requires { IsSourceOpen sketch.now read }
+    requires { MayRead sketch.now (trees.event_of read) source }
 {
-    let read = event_of(read);
-    if !sketch.is_source(source, read) {
-        return merit;
-    }
-    let stays_open = merit.open <= most && !sketch.closes_source(read, source);
+    let stays_open = merit.open <= most && !sketch.closes_source(event_of(read), source);
     Merit {
         open: merit.open.saturating_add(usize::from(stays_open)),
         children: merit.children.saturating_add(1),
@@ -174,51 +197,125 @@ fn with_source(sketch: &Sketch, merit: Merit, read: AccessId, source: Event, mos
     }
 }
 
-/// Either write may be the first.
+/// The better of the best so far and the orders that are left.
+fn best_order(
+    sketch: &Sketch,
+    accesses: &WholeAccesses,
+    shown: &Shown,
+    outcomes: &[Outcome],
+    best: Option<Rated>,
+) -> Option<Rated>
+    requires accesses { AreAccessesOf sketch.now accesses.now }
+    requires best { IfSome best (λ best. IsOpen sketch.now best.next) }
+    ensures is_open { IfSome result (λ best. IsOpen sketch.now best.next) }
+    ensures none { result ≡ None → (best ≡ None) × IsEachInOrder sketch.now accesses.now.writes.items }
+{
+    let mut best = best;
+    let mut ends = None;
+    for place in 0..accesses.writes.len() {
+        best = with_orders(sketch, accesses, shown, outcomes, place, &mut ends, best);
+    }
+    best
+}
+
+/// The same of the orders of the write at this place and the later ones. The sketch's ends are looked for
+/// once.
+fn with_orders(
+    sketch: &Sketch,
+    accesses: &WholeAccesses,
+    shown: &Shown,
+    outcomes: &[Outcome],
+    place: usize,
+    ends: &mut Option<SketchEnds>,
+    best: Option<Rated>,
+) -> Option<Rated>
+    requires accesses { AreAccessesOf sketch.now accesses.now }
+    requires place { place < length accesses.now.writes.items }
+    requires best { IfSome best (λ best. IsOpen sketch.now best.next) }
+    ensures is_open { IfSome result (λ best. IsOpen sketch.now best.next) }
+    ensures none { result ≡ None → (best ≡ None) × IsInOrderWithLater sketch.now accesses.now.writes.items place }
+{
+    let mut best = best;
+    let writes = accesses.writes.as_slice();
+    for later in place + 1..writes.len() {
+        if leaves_none_open(best) {
+            return best;
+        }
+        let pair = (writes[place], writes[later]);
+        if needs_order(sketch, pair.0, pair.1) {
+            best = Some(better_order(sketch, accesses, shown, outcomes, pair, ends, best));
+        }
+    }
+    best
+}
+
+/// The better of the best so far and the orders of two writes.
+fn better_order(
+    sketch: &Sketch,
+    accesses: &WholeAccesses,
+    shown: &Shown,
+    outcomes: &[Outcome],
+    pair: (WrittenValue, WrittenValue),
+    ends: &mut Option<SketchEnds>,
+    best: Option<Rated>,
+) -> Rated
+    requires is_open { IsOpen sketch.now (OpenChoice.Order pair.0.write pair.1.write) }
+    requires best { IfSome best (λ best. IsOpen sketch.now best.next) }
+    ensures { IsOpen sketch.now result.next }
+{
+    let known = match *ends {
+        Some(known) => known,
+        None => sketch_ends(sketch, shown, &accesses.writes),
+    };
+    *ends = Some(known);
+    let other = Rated {
+        next: OpenChoice::Order(pair.0.write, pair.1.write),
+        merit: merit_of_orders(sketch, accesses, shown, outcomes, &known, pair),
+    };
+    better(best, other)
+}
+
+/// The merit of the orders of two writes: either may be the first.
 fn merit_of_orders(
     sketch: &Sketch,
+    accesses: &WholeAccesses,
     shown: &Shown,
-    outcomes: &Listed,
-    last: &[LastWrite],
-    first: AccessId,
-    second: AccessId,
-) -> Result<Merit, AllocError>
-    requires in_order { AreInOrder outcomes.now }
-    requires open { IsOpen sketch.now (OpenChoice.Order first second) }
+    outcomes: &[Outcome],
+    ends: &SketchEnds,
+    pair: (WrittenValue, WrittenValue),
+) -> Merit
+    requires { IsOpen sketch.now (OpenChoice.Order pair.0.write pair.1.write) }
 {
-    let first_before = stays_open(sketch, shown, outcomes, last, first, second)?;
-    let second_before = stays_open(sketch, shown, outcomes, last, second, first)?;
+    let (first, second) = pair;
+    let first_before = stays_open(sketch, accesses, shown, outcomes, ends, first, second);
+    let second_before = stays_open(sketch, accesses, shown, outcomes, ends, second, first);
     let open = match (first_before, second_before) {
         (true, true) => 2,
         (false, false) => 0,
         _ => 1,
     };
-    Ok(Merit {
+    Merit {
         open,
         children: 2,
         is_order: true,
-    })
+    }
 }
 
 /// Whether an open sketch stays open after an order: neither a cycle nor an outcome of the list closes
-/// it. The outcome is looked up in a copy, where the last writes then agree.
+/// it. Where all ends are settled, the outcome is that of the sketch, which isn't listed.
 fn stays_open(
     sketch: &Sketch,
+    accesses: &WholeAccesses,
     shown: &Shown,
-    outcomes: &Listed,
-    last: &[LastWrite],
-    first: AccessId,
-    second: AccessId,
-) -> Result<bool, AllocError>
-    requires in_order { AreInOrder outcomes.now }
-    requires may { MayChoose sketch.now (Choice.Order first second) }
+    outcomes: &[Outcome],
+    ends: &SketchEnds,
+    first: WrittenValue,
+    second: WrittenValue,
+) -> bool
+    requires { MayChoose sketch.now (Choice.Order first.write second.write) }
 {
-    if sketch.closes_order(event_of(first), event_of(second)) {
-        return Ok(false);
+    if sketch.closes_order(event_of(first.write), event_of(second.write)) {
+        return false;
     }
-    if ends_differ(last, first) {
-        return Ok(true);
-    }
-    let after = sketch_with(sketch, Choice::Order(first, second))?;
-    Ok(known(&after, shown, outcomes)?.is_none())
+    ends.unsettled == 0 || !is_listed_without(sketch, shown, outcomes, accesses, ends, first)
 }

@@ -1,13 +1,17 @@
 -- Accesses, as trees name them.
-use Rattle.std.specs.Prelude.{◌≡◌, ℕ, List, All, Contains}
+use Rattle.std.specs.Prelude.{◌≡◌, ℕ, List, Some, IfSome, All, Contains}
+use Rattle.candidate_executions.specs.declared.access.Access.{Access}
 use Rattle.candidate_executions.specs.declared.event.Event.{Event}
 use Rattle.candidate_executions.specs.declared.event.Event.TheVariants.{Initial, Access as At}
 use Rattle.candidate_executions.specs.Candidates.{IsAccess, Writes}
-use Rattle.candidate_executions.specs.Sketches.{given_to}
+use Rattle.candidate_executions.specs.Sketches.{given_to, IsWhole}
 use Rattle.exec_axioms.specs.ProgramSketches.{ProgramSketch, mode_in, access_in}
+use Rattle.exec_axioms.specs.Choices.{IsRead}
 use Rattle.cert_forest.specs.declared.tree.AccessId.{AccessId}
 use Rattle.tree_laws.specs.CoverTrees.{event_of}
+use Rattle.cover_solver.specs.declared.reads_writes.ReadValue.{ReadValue}
 use Rattle.cover_solver.specs.declared.reads_writes.WrittenValue.{WrittenValue}
+use Rattle.cover_solver.specs.declared.reads_writes.WholeAccesses.{WholeAccesses}
 
 -- no initial write
 abbrev pub IsOfThread : Event → Type 0
@@ -22,19 +26,42 @@ NamesEvent accesses e = (a : AccessId) × Contains accesses a × (event_of a ≡
 abbrev pub HasAccesses : ProgramSketch → List AccessId → Type 0
 HasAccesses s accesses = (e : Event) → IsAccess s.program (mode_in s) (given_to s.chosen) e → NamesEvent accesses e
 
+-- the access reads the value from the location
+pub record IsReadValue (s : ProgramSketch) (r : ReadValue) : Type 0 where
+  pub access : Access
+  pub is_access : access_in s (event_of r.read) ≡ Some access
+  pub location : access.location ≡ r.location
+  pub reads : access.read ≡ Some r.value
+
+-- one of these is of the access
+abbrev pub NamesRead : List ReadValue → AccessId → Type 0
+NamesRead reads a = (r : ReadValue) × Contains reads r × (r.read ≡ a)
+
+-- these are the accesses of the sketch that read
+pub record AreReads (s : ProgramSketch) (reads : List ReadValue) : Type 0 where
+  pub each : All (IsReadValue s) reads
+  pub all : (a : AccessId) → IsRead s (event_of a) → NamesRead reads a
+
 -- the access writes the value to the location
 abbrev pub IsWrittenValue : ProgramSketch → WrittenValue → Type 0
 IsWrittenValue s w = Writes (access_in s) (event_of w.write) w.location w.value
+
+-- the access writes something
+abbrev pub IsWrite : ProgramSketch → AccessId → Type 0
+IsWrite s a = (l : ℕ) × (v : ℕ) × Writes (access_in s) (event_of a) l v
 
 -- one of these is of the access
 abbrev pub NamesWrite : List WrittenValue → AccessId → Type 0
 NamesWrite writes a = (w : WrittenValue) × Contains writes w × (w.write ≡ a)
 
--- the access is one of these, if it writes
-abbrev pub HasItsWrite : ProgramSketch → List WrittenValue → AccessId → Type 0
-HasItsWrite s writes a = (l v : ℕ) → Writes (access_in s) (event_of a) l v → NamesWrite writes a
-
 -- these are the accesses of the sketch that write
 pub record AreWrites (s : ProgramSketch) (writes : List WrittenValue) : Type 0 where
   pub each : All (IsWrittenValue s) writes
-  pub all : (a : AccessId) → HasItsWrite s writes a
+  pub all : (a : AccessId) → IsWrite s a → NamesWrite writes a
+
+-- each read of the sketch has its value, these are its reads and its writes, and one of the reads stands apart
+pub record AreAccessesOf (s : ProgramSketch) (accesses : WholeAccesses) : Type 0 where
+  pub whole : IsWhole s.program (mode_in s) s.chosen
+  pub reads : AreReads s accesses.reads.items
+  pub writes : AreWrites s accesses.writes.items
+  pub unsourced : IfSome accesses.unsourced (IsReadValue s)

@@ -1,29 +1,23 @@
 -- What it says of a sketch that nothing is left to be chosen.
-use Rattle.std.specs.Prelude.{◌≡◌, List, [], Contains}
+use Rattle.std.specs.Prelude.{ℕ, ◌<◌, List, Contains, length, slice_index_or}
 use Rattle.std.specs.List.{AllPairs}
 use Rattle.exec_axioms.specs.ProgramSketches.{ProgramSketch}
 use Rattle.exec_axioms.specs.Complete.{HasItsSource, IsOrderedWith}
-use Rattle.cert_forest.specs.declared.tree.AccessId.{AccessId}
 use Rattle.tree_laws.specs.CoverTrees.{event_of}
-use Rattle.cover_solver.specs.declared.choices_left.OpenChoice.{OpenChoice}
+use Rattle.cover_solver.specs.declared.reads_writes.ReadValue.{ReadValue}
 use Rattle.cover_solver.specs.declared.reads_writes.WrittenValue.{WrittenValue}
 
--- where the longer list has nothing, neither has the shorter, and this holds
-pub record LeavesNone (old new : List OpenChoice) (P : Type 0) : Type 0 where
-  pub before : new ≡ [] → old ≡ []
-  pub since : new ≡ [] → P
-
--- each of the accesses has its source, if it reads
-abbrev pub HasEachSource : ProgramSketch → List AccessId → Type 0
-HasEachSource s accesses = (a : AccessId) → Contains accesses a → HasItsSource s (event_of a)
+-- each of the reads has its source
+abbrev pub HasEachSource : ProgramSketch → List ReadValue → Type 0
+HasEachSource s reads = (r : ReadValue) → Contains reads r → HasItsSource s (event_of r.read)
 
 -- the two are in order, if both write to one location
 abbrev pub AreWritesInOrder : ProgramSketch → WrittenValue → WrittenValue → Type 0
 AreWritesInOrder s a b = IsOrderedWith s (event_of a.write) (event_of b.write)
 
--- the write is in order with each of the others
-abbrev pub IsInOrderWithEach : ProgramSketch → WrittenValue → List WrittenValue → Type 0
-IsInOrderWithEach s a others = (b : WrittenValue) → Contains others b → AreWritesInOrder s a b
+-- the write at this place is in order with each later one
+abbrev pub IsInOrderWithLater : ProgramSketch → List WrittenValue → ℕ → Type 0
+IsInOrderWithLater s writes i = (j : ℕ) (d : WrittenValue) → i < j → j < length writes → AreWritesInOrder s (slice_index_or writes i d) (slice_index_or writes j d)
 
 -- each of the writes is so with each later one
 abbrev pub IsEachInOrder : ProgramSketch → List WrittenValue → Type 0

@@ -13,6 +13,7 @@ use Rattle.cover_solver.specs.Covers.{IsValidAt, IsCoverAt, AreCoversAfter, AreC
 use Rattle.cover_solver.specs.Listed.{listed}
 use Rattle.cover_solver.proofs.Growing.{grows_twice, grows_after, covers_still}
 use Rattle.cover_solver.proofs.Rounds.{fewer_rounds}
+use Rattle.cover_solver.proofs.NothingLeft.{accesses_after}
 use Rattle.cover_solver.proofs.Nodes.{cover_next, cover_without, covers_more, node_cover, node_arity}
 use Rattle.cover_solver.proofs.cover.+cover.Goals as goal
 
@@ -22,7 +23,8 @@ cover_each-cover_from-requires t c =
     let i = c.loop-choice.choice-index in
     let d = choice.Value 0 0 in
     let ch = get_or c.args.choices.now i d in
-    (omega (arith, fewer_rounds s c.in_ok-next.next ch c.program.ensures.lawful c.program.ensures.few (c.requires.may.each i d c.loop-choice-test.true) c.in_ok-next.ensures), c.loop-choice.invariant.0.in_order)
+    (omega (arith, fewer_rounds s c.in_ok-next.next ch c.program.ensures.lawful c.program.ensures.few (c.requires.may.each i d c.loop-choice-test.true) c.in_ok-next.ensures),
+    (c.loop-choice.invariant.0.in_order, accesses_after s c.in_ok-next.next ch c.args.accesses.now (c.requires.may.each i d c.loop-choice-test.true) c.in_ok-next.ensures c.requires.accesses))
 
 pub cover_each-returns-then-branch-clause-children : goal.cover_each-returns-then-branch-clause-children
 cover_each-returns-then-branch-clause-children t c =

@@ -1,4 +1,6 @@
 use Rattle.std.proofs.Common.{◌≡◌, ◌∙◌, List, map, ap, sym, subst, rules}
+use Rattle.candidate_executions.specs.Sketches.{IsWhole}
+use Rattle.exec_axioms.specs.ProgramSketches.{ProgramSketch, mode_in}
 use Rattle.cert_forest.specs.declared.tree.CoverTree.{CoverTree}
 use Rattle.cert_forest.specs.declared.tree.CoverTree.TheVariants as memory
 use Rattle.cert_forest.specs.declared.tree.CoverTree.TheViews.{the_lemmas}
@@ -10,6 +12,12 @@ use Rattle.cover_solver.specs.Covers.{IsCoverAt}
 use Rattle.cover_solver.specs.Listed.{listed}
 use Rattle.cover_solver.proofs.CombinedSketches.{whole_merged, unsourced_cover}
 use Rattle.cover_solver.proofs.cover_trace.cover_full.Goals as goal
+
+pub cover_whole-requires-clause-whole : goal.cover_whole-requires-clause-whole
+cover_whole-requires-clause-whole c =
+    let base = c.requires.base in
+    subst (λ (n : ProgramSketch). IsWhole n.program (mode_in n) n.chosen) (sym c.in_ok-whole-in-None.ensures)
+    (whole_merged c.args.sketch.now c.args.trace.now.sketch c.args.t c.program.ensures.lawful base.alone base.there c.program-2.ensures.lawful c.requires.alike c.requires.trace.full base.full)
 
 pub returns-in-Some-clause-cover : goal.returns-in-Some-clause-cover
 returns-in-Some-clause-cover c =
