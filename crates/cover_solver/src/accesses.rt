@@ -21,7 +21,7 @@ pub(crate) fn accesses_of(alloc: Global, events: &[Event]) -> Result<Vec<AccessI
     requires { (e : Event) → Contains events.now e → IsOfThread e }
     ensures { IfOk result (λ accesses. map event_of accesses.items ≡ events.now) }
 {
-    let mut accesses = Vec::new(alloc);
+    let mut accesses = Vec::with_capacity(alloc, events.len())?;
     for event in events {
         accesses.push(access_of(*event))?;
     }

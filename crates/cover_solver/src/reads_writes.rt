@@ -11,7 +11,7 @@ use cert_forest::AccessId;
 use cover_judge::event_of;
 use exec_axioms::{Event, Sketch};
 use std::alloc::{AllocError, Global};
-use tso_program::{Items, Names, Outcome, REGISTER_PLACES, Shown};
+use tso_program::{Items, MAX_THREADS, Names, Outcome, REGISTERS, Shown};
 
 /// A read, with its location and its value.
 #[derive(Clone, Copy, Debug)]
@@ -68,7 +68,7 @@ fn shown_start(
     sketch: &Sketch,
     shown: &Shown,
 ) -> Result<Option<Outcome>, AllocError> {
-    match sketch.must_end(&Shown::Only(each_register()))? {
+    match sketch.must_end(&Shown::Only(each_register(sketch)))? {
         Some(end) => {
             let memory = Vec::from_slice(alloc, sketch.program().memory())?;
             let mut start = Outcome {
@@ -83,9 +83,10 @@ fn shown_start(
 }
 
 /// All registers of all threads.
-fn each_register() -> Names {
+fn each_register(sketch: &Sketch) -> Names {
+    let threads = sketch.program().threads().len().min(MAX_THREADS);
     let mut names = Names::none();
-    for place in 0..REGISTER_PLACES as u8 {
+    for place in 0..(REGISTERS * threads) as u8 {
         names = names.with_place(place);
     }
     names
