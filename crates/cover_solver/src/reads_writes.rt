@@ -39,10 +39,7 @@ pub(crate) struct WholeAccesses {
 }
 
 /// What a sketch reads and writes in which each read has its value.
-pub(crate) fn whole_accesses(
-    alloc: Global,
-    sketch: &Sketch,
-) -> Result<WholeAccesses, AllocError>
+pub(crate) fn whole_accesses(alloc: Global, sketch: &Sketch) -> Result<WholeAccesses, AllocError>
     requires { IsWhole sketch.now.program (mode_in sketch.now) sketch.now.chosen }
     ensures { IfOk result (AreAccessesOf sketch.now) }
 {

@@ -22,9 +22,10 @@ cover_each-cover_from-requires t c =
     let s = c.args.sketch.now in
     let i = c.loop-choice.choice-index in
     let d = choice.Value 0 0 in
-    let ch = get_or c.args.choices.now i d in
-    (omega (arith, fewer_rounds s c.in_ok-next.next ch c.program.ensures.lawful c.program.ensures.few (c.requires.may.each i d c.loop-choice-test.true) c.in_ok-next.ensures),
-    (c.loop-choice.invariant.0.in_order, accesses_after s c.in_ok-next.next ch c.args.accesses.now (c.requires.may.each i d c.loop-choice-test.true) c.in_ok-next.ensures c.requires.accesses))
+    let ch = get_or c.args.choices.now i d in (
+      omega (arith, fewer_rounds s c.in_ok-next.next ch c.program.ensures.lawful c.program.ensures.few (c.requires.may.each i d c.loop-choice-test.true) c.in_ok-next.ensures),
+      (c.loop-choice.invariant.0.in_order, accesses_after s c.in_ok-next.next ch c.args.accesses.now (c.requires.may.each i d c.loop-choice-test.true) c.in_ok-next.ensures c.requires.accesses),
+    )
 
 pub cover_each-returns-then-branch-clause-children : goal.cover_each-returns-then-branch-clause-children
 cover_each-returns-then-branch-clause-children t c =
