@@ -38,9 +38,11 @@ impl ThreadTrace {
     pub(crate) fn with_given(&self, alloc: Global, value: u32) -> Result<Items<u32>, AllocError>
         ensures { IfOk result (λ given. given ≡ self.now.given ++ value ∷ []) }
     {
-        let mut given = self.given.copy(alloc)?;
-        given.push(value)?;
-        Ok(given)
+        let given = self.given.as_slice();
+        let mut more = Vec::with_capacity(alloc, given.len() + 1)?;
+        more.extend_from_slice(given)?;
+        more.push(value)?;
+        Ok(Items::of(more))
     }
 }
 
@@ -54,9 +56,13 @@ struct TraceSoFar {
 }
 
 impl TraceSoFar {
-    /// A thread at its start.
-    fn new(alloc: Global, registers: [u32; REGISTERS]) -> TraceSoFar
-        ensures start { result ≡ record { accesses = []; last = first_local registers; section = 0; taken = 0 } }
+    /// A thread at its start, with room for this many accesses.
+    fn new(
+        alloc: Global,
+        registers: [u32; REGISTERS],
+        accesses: usize,
+    ) -> Result<TraceSoFar, AllocError>
+        ensures start { IfOk result (λ walk. walk ≡ record { accesses = []; last = first_local registers; section = 0; taken = 0 }) }
         ensures six { length registers ≡ 6 }
     {
         let last = Local {
@@ -64,12 +70,12 @@ impl TraceSoFar {
             registers,
             flag: false,
         };
-        TraceSoFar {
-            accesses: Items::of(Vec::new(alloc)),
+        Ok(TraceSoFar {
+            accesses: Items::of(Vec::with_capacity(alloc, accesses)?),
             last,
             section: 0,
             taken: 0,
-        }
+        })
     }
 
     /// A section ends where a fenced gap is met.
@@ -193,7 +199,7 @@ fn walked(
     ensures { IfOk result (IsTraceSoFarOf program.now (machine_mode program.now mode) t given.now) }
 {
     let thread = &program.threads()[t as usize];
-    let mut walk = TraceSoFar::new(alloc, thread.registers);
+    let mut walk = TraceSoFar::new(alloc, thread.registers, thread.code.len())?;
     for step in 0..thread.code.len() {
         let fenced = ends_section(program, mode, t, walk.last.place);
         let action = program.action(t, walk.last);

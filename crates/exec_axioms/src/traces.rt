@@ -47,17 +47,17 @@ impl Traces {
         ensures thread_traces { IfOk result (λ traces. traces.thread_traces ≡ thread_traces.items) }
         ensures numbered { IfOk result (λ traces. AreNumbered thread_traces.items traces.events) }
     {
-        let mut events = Vec::new(alloc);
         let mut starts = [0; MAX_THREADS];
         if !each_ends(thread_traces.as_slice()) {
             return Ok(Traces {
                 thread_traces,
-                events,
+                events: Vec::new(alloc),
                 whole: false,
                 starts,
                 written: [0; MAX_LOCATIONS],
             });
         }
+        let mut events = Vec::with_capacity(alloc, ROW_BITS)?;
         number_accesses(thread_traces.as_slice(), &mut events, &mut starts)?;
         let written = write_rows(thread_traces.as_slice(), events.as_slice());
         Ok(Traces {
@@ -145,7 +145,7 @@ pub(crate) fn copied(
 ) -> Result<Vec<ThreadTrace>, AllocError>
     ensures { IfOk result (λ copies. copies.items ≡ thread_traces.now) }
 {
-    let mut copies = Vec::new(alloc);
+    let mut copies = Vec::with_capacity(alloc, thread_traces.len())?;
     for thread_trace in thread_traces {
         copies.push(thread_trace.copy(alloc)?)?;
     }
