@@ -23,9 +23,11 @@ use Rattle.tso_machine.specs.Modes.{machine_mode}
 use Rattle.exec_axioms.specs.ProgramSketches.{ProgramSketch, mode_in, trace_in, access_in}
 use Rattle.exec_axioms.specs.Kept.{view_of, KeepsTraces}
 use Rattle.exec_axioms.specs.Known.{IsInitialWrite}
-use Rattle.exec_axioms.specs.Endings.{HasLater}
-use Rattle.exec_axioms.specs.Rows.{accesses_at, access_of, IsOfThreads, AreAccesses, EachEnds, FitRow, AreRowsOf, main_kind, rows_of}
+use Rattle.exec_axioms.specs.Endings.{HasLater, IsWritten}
+use Rattle.exec_axioms.specs.Rows.{accesses_at, access_of, IsOfThreads, AreAccesses, EachEnds, FitRow, AreRowsOf, IsRowOf, IsWriteAt, main_kind, rows_of}
 use Rattle.exec_axioms.proofs.TracesKept.{trace_accesses, no_accesses, no_trace, trace_next, past_next}
+use Rattle.candidate_executions.proofs.Orders.Lists.{some_value}
+use Rattle.exec_axioms.proofs.KnownParts.{of_some}
 use Rattle.exec_axioms.proofs.Connected.{HasNumber}
 use Rattle.exec_axioms.proofs.ChoicesCounted.{few_accesses}
 use Rattle.exec_axioms.proofs.BranchesCounted.{not_before_itself}
@@ -140,6 +142,23 @@ module _ (p : Listing) (mode : Mode) (thread_traces : List ThreadTrace) (sources
     λ (z, chosen).
         let (k, at_k) = (chosen_numbers events all x z chosen).1 in
         test.1 (k, (at_numbers events (λ d e. Contains pairs (d, e)) later d k x z rows at at_k).1 chosen),
+  )
+
+  -- an access that writes the location
+  write_at : (l : ℕ) (e : Event) → IsWriteAt thread_traces l e → IsWritten s l
+  write_at l (Initial m) (y, a, q, w) = absurd (cc)
+  write_at l (At t i) (y, a, q, w) =
+      let (v, r) = some_value y.written w in
+      (t, (i, (v, (y, sym (access_same (At t i) (slice_get_within _ i y a)) ∙ a, q, r))))
+
+  -- the row of a location's writes has a number where some access writes the location
+  pub written_test : (events : List Event) (row l : ℕ) (b : Bool) → AreAccesses thread_traces events → IsRowOf events (IsWriteAt thread_traces l) row → (IsTrue b ↔ ((k : ℕ) × IsIn row k)) → IsTrue b ↔ IsWritten s l
+  written_test events row l b accesses is_row test = (
+    λ h. (let (k, there) = test.0 h in let (x, at, write) = (is_row k).0 there in write_at l x write),
+    λ (t, (i, (v, w))).
+        let there = (is_access (At t i)).0 (slice_get_within _ i w.0 w.1) in
+        let (k, at) = number_of events (At t i) ((accesses.exact (At t i)).1 there) in
+        test.1 (k, (is_row k).1 (At t i, at, (w.0, access_same (At t i) there ∙ w.1, w.2, of_some w.0.written v w.3))),
   )
 
   -- the numbered events are the accesses, once each read has its value

@@ -11,7 +11,7 @@ ghost use Rattle.exec_axioms.specs.Rows.{main_kind, AreOfSketch, AreRowsOf, InOr
 
 use crate::Mode;
 use crate::rows::order_rows;
-use crate::thread_trace::ThreadTrace;
+use crate::thread_trace::SharedTrace;
 use crate::traces::Traces;
 use bit_rows::Relation;
 use candidate_executions::{Event, Kind};
@@ -30,7 +30,7 @@ pub(crate) struct Ordered {
 pub(crate) fn in_order(
     alloc: Global,
     mode: Mode,
-    thread_traces: Vec<ThreadTrace>,
+    thread_traces: Vec<SharedTrace>,
 ) -> Result<Ordered, AllocError>
     requires { AreOfSketch thread_traces.items }
     ensures thread_traces { IfOk result (λ ordered. (arc_value ordered.traces).thread_traces ≡ thread_traces.items) }
@@ -57,7 +57,7 @@ fn main_union(mode: Mode) -> Kind
 }
 
 /// The program order of the global union, which sequential mode has not.
-fn global_rows(mode: Mode, thread_traces: &[ThreadTrace], events: &[Event]) -> Relation
+fn global_rows(mode: Mode, thread_traces: &[SharedTrace], events: &[Event]) -> Relation
     requires few { length events.now ≤ ROW_BITS }
     requires ordered { AllPairs ComesBefore events.now }
     requires joins { (d e f : Event) → InOrder thread_traces.now union.Global d e → InOrder thread_traces.now union.Global e f → InOrder thread_traces.now union.Global d f }

@@ -12,7 +12,7 @@ ghost use Rattle.candidate_executions.specs.Consistency.{SameThread};
 use crate::Mode;
 use crate::edges::keeps_order;
 use crate::events::{is_one_thread, is_same, precedes};
-use crate::thread_trace::ThreadTrace;
+use crate::thread_trace::SharedTrace;
 use crate::traces::{Traces, access_at};
 use bit_rows::{ROW_BITS, Relation, joined, minus, with};
 use candidate_executions::{Access, Event, Kind};
@@ -20,7 +20,7 @@ use candidate_executions::{Access, Event, Kind};
 /// The accesses to which the union has program order from the one at this place.
 fn later_in_order(
     kind: Kind,
-    thread_traces: &[ThreadTrace],
+    thread_traces: &[SharedTrace],
     events: &[Event],
     place: usize,
     from: Event,
@@ -40,7 +40,7 @@ fn later_in_order(
 /// next places, up to the first of another thread.
 fn later_than(
     kind: Kind,
-    thread_traces: &[ThreadTrace],
+    thread_traces: &[SharedTrace],
     events: &[Event],
     place: usize,
     from: Event,
@@ -68,7 +68,7 @@ fn later_than(
 /// Whether the union has program order between two accesses, of which the first reads and writes so.
 fn is_in_order(
     kind: Kind,
-    thread_traces: &[ThreadTrace],
+    thread_traces: &[SharedTrace],
     from: Event,
     access: Access,
     to: Event,
@@ -83,7 +83,7 @@ fn is_in_order(
 }
 
 /// The program order of the union, which joins its steps.
-pub(crate) fn order_rows(kind: Kind, thread_traces: &[ThreadTrace], events: &[Event]) -> Relation
+pub(crate) fn order_rows(kind: Kind, thread_traces: &[SharedTrace], events: &[Event]) -> Relation
     requires few { length events.now ≤ ROW_BITS }
     requires ordered { AllPairs ComesBefore events.now }
     requires joins { (d e f : Event) → InOrder thread_traces.now kind d e → InOrder thread_traces.now kind e f → InOrder thread_traces.now kind d f }

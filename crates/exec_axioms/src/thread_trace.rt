@@ -1,5 +1,5 @@
 //! What one thread does under its given values.
-ghost use Rattle.std.specs.Prelude.{◌≡◌, ◌<◌, ◌≤◌, ◌+◌, ℕ, [], ◌∷◌, ◌++◌, length, IfOk, IfSome};
+ghost use Rattle.std.specs.Prelude.{◌≡◌, ◌<◌, ◌≤◌, ◌+◌, ℕ, [], ◌∷◌, ◌++◌, length, slice_get, IfOk, IfSome};
 ghost use Rattle.tso_program.specs.Actions.{IsLocated};
 ghost use Rattle.candidate_executions.specs.Sketches as sketches;
 ghost use Rattle.candidate_executions.specs.Traces.{entered, store_of};
@@ -10,6 +10,8 @@ use crate::Mode;
 use crate::sections::ends_section;
 use candidate_executions::Access;
 use std::alloc::{AllocError, Global};
+use std::marker::Model;
+use std::sync::Arc;
 use tso_program::{Action, Items, Local, Program, REGISTERS, Reg};
 
 /// The values given to a thread's reads, its accesses up to the first read that has no value, its state
@@ -22,15 +24,50 @@ pub(crate) struct ThreadTrace {
     pub(crate) next: Option<u8>,
 }
 
-impl ThreadTrace {
-    pub(crate) fn copy(&self, alloc: Global) -> Result<ThreadTrace, AllocError>
+/// A thread's trace that sketches share. It never changes, and a copy takes no memory.
+#[derive(Drop)]
+pub(crate) struct SharedTrace {
+    trace: Arc<ThreadTrace>,
+}
+
+impl Model for SharedTrace {
+    ghost use Rattle.exec_axioms.specs.declared.thread_trace.ThreadTrace.{ThreadTrace};
+    ghost use Rattle.std.specs.Arc.{arc_value};
+
+    ghost Value = { ThreadTrace };
+
+    ghost view = { λ t. arc_value t.trace };
+}
+
+impl SharedTrace {
+    fn new(alloc: Global, trace: ThreadTrace) -> Result<SharedTrace, AllocError>
+        ensures { IfOk result (λ shared. shared ≡ trace) }
+    {
+        Ok(SharedTrace {
+            trace: Arc::new(alloc, trace)?,
+        })
+    }
+
+    /// The trace.
+    pub(crate) fn trace(&self) -> &ThreadTrace
+        ensures { result.now ≡ self.now }
+    {
+        &self.trace
+    }
+
+    /// What access i of the thread reads and writes.
+    pub(crate) fn access(&self, i: u8) -> Option<Access>
+        ensures { result ≡ slice_get self.now.accesses i }
+    {
+        self.trace.accesses.as_slice().get(i as usize).copied()
+    }
+
+    /// The same trace.
+    pub(crate) fn copy(&self) -> Result<SharedTrace, AllocError>
         ensures { IfOk result (λ other. other ≡ self.now) }
     {
-        Ok(ThreadTrace {
-            given: self.given.copy(alloc)?,
-            accesses: self.accesses.copy(alloc)?,
-            last: self.last,
-            next: self.next,
+        Ok(SharedTrace {
+            trace: Arc::try_clone(&self.trace)?,
         })
     }
 
@@ -38,9 +75,11 @@ impl ThreadTrace {
     pub(crate) fn with_given(&self, alloc: Global, value: u32) -> Result<Items<u32>, AllocError>
         ensures { IfOk result (λ given. given ≡ self.now.given ++ value ∷ []) }
     {
-        let mut given = self.given.copy(alloc)?;
-        given.push(value)?;
-        Ok(given)
+        let given = self.trace.given.as_slice();
+        let mut more = Vec::with_capacity(alloc, given.len() + 1)?;
+        more.extend_from_slice(given)?;
+        more.push(value)?;
+        Ok(Items::of(more))
     }
 }
 
@@ -54,9 +93,13 @@ struct TraceSoFar {
 }
 
 impl TraceSoFar {
-    /// A thread at its start.
-    fn new(alloc: Global, registers: [u32; REGISTERS]) -> TraceSoFar
-        ensures start { result ≡ record { accesses = []; last = first_local registers; section = 0; taken = 0 } }
+    /// A thread at its start, with room for this many accesses.
+    fn new(
+        alloc: Global,
+        registers: [u32; REGISTERS],
+        accesses: usize,
+    ) -> Result<TraceSoFar, AllocError>
+        ensures start { IfOk result (λ walk. walk ≡ record { accesses = []; last = first_local registers; section = 0; taken = 0 }) }
         ensures six { length registers ≡ 6 }
     {
         let last = Local {
@@ -64,12 +107,12 @@ impl TraceSoFar {
             registers,
             flag: false,
         };
-        TraceSoFar {
-            accesses: Items::of(Vec::new(alloc)),
+        Ok(TraceSoFar {
+            accesses: Items::of(Vec::with_capacity(alloc, accesses)?),
             last,
             section: 0,
             taken: 0,
-        }
+        })
     }
 
     /// A section ends where a fenced gap is met.
@@ -193,7 +236,7 @@ fn walked(
     ensures { IfOk result (IsTraceSoFarOf program.now (machine_mode program.now mode) t given.now) }
 {
     let thread = &program.threads()[t as usize];
-    let mut walk = TraceSoFar::new(alloc, thread.registers);
+    let mut walk = TraceSoFar::new(alloc, thread.registers, thread.code.len())?;
     for step in 0..thread.code.len() {
         let fenced = ends_section(program, mode, t, walk.last.place);
         let action = program.action(t, walk.last);
@@ -212,18 +255,19 @@ pub(crate) fn thread_trace_of(
     mode: Mode,
     t: u8,
     given: Items<u32>,
-) -> Result<ThreadTrace, AllocError>
+) -> Result<SharedTrace, AllocError>
     requires { t < length program.now.threads }
     ensures { IfOk result (IsThreadTraceOf program.now (machine_mode program.now mode) t given) }
 {
     let walk = walked(alloc, program, mode, t, given.as_slice())?;
     let next = read_by(program.action(t, walk.last));
-    Ok(ThreadTrace {
+    let trace = ThreadTrace {
         given,
         accesses: walk.accesses,
         last: walk.last,
         next,
-    })
+    };
+    SharedTrace::new(alloc, trace)
 }
 
 /// The location that an action reads.

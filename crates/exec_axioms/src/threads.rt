@@ -13,7 +13,7 @@ use std::alloc::AllocError;
 
 impl Sketch {
     /// This sketch with the values that thread t's reads have in the other one, in place of its own.
-    /// What the thread does under them is copied, and not worked out again.
+    /// What the thread does under them is shared, and not worked out again.
     pub fn with_thread(&self, t: u8, other: &Sketch) -> Result<Sketch, AllocError>
         requires there { t < length self.now.program.threads }
         requires program { other.now.program ≡ self.now.program }
@@ -22,7 +22,7 @@ impl Sketch {
         ensures { IfOk result (λ sketch. sketch ≡ with_chosen self.now (with_values self.now.chosen t (given_to other.now.chosen t))) }
     {
         let place = t as usize;
-        let thread_trace = other.traces.thread_traces()[place].copy(self.alloc)?;
+        let thread_trace = other.traces.thread_traces()[place].copy()?;
         let mut thread_traces = copied(self.alloc, self.traces.thread_traces())?;
         thread_traces[place] = thread_trace;
         let ordered = in_order(self.alloc, self.mode, thread_traces)?;

@@ -10,7 +10,7 @@ ghost use Rattle.exec_axioms.specs.Known.{IsInitialWrite};
 ghost use Rattle.exec_axioms.specs.Rows.{accesses_at, access_of, AreAccesses, AreBeyond, AreLocated, AreNumbered, AreOfSketch, AreStarts, AreWriteRows, EachEnds, FitRow, IsEarly, IsOfThreads, IsOnlyNumber, IsRowOf, IsWriteAt};
 
 use crate::events::is_same;
-use crate::thread_trace::ThreadTrace;
+use crate::thread_trace::SharedTrace;
 use bit_rows::{ROW_BITS, with};
 use candidate_executions::{Access, Event};
 use std::alloc::{AllocError, Global};
@@ -21,7 +21,7 @@ use tso_program::{MAX_LOCATIONS, MAX_THREADS};
 /// place of an access is its number: the start of its thread, and its index.
 #[derive(Drop)]
 pub(crate) struct Traces {
-    thread_traces: Vec<ThreadTrace>,
+    thread_traces: Vec<SharedTrace>,
     events: Vec<Event>,
     whole: bool,
     starts: [u8; MAX_THREADS],
@@ -42,22 +42,22 @@ impl Model for Traces {
 
 impl Traces {
     /// These traces, and their accesses, which get numbers once each read has its value.
-    pub(crate) fn new(alloc: Global, thread_traces: Vec<ThreadTrace>) -> Result<Traces, AllocError>
+    pub(crate) fn new(alloc: Global, thread_traces: Vec<SharedTrace>) -> Result<Traces, AllocError>
         requires { AreOfSketch thread_traces.items }
         ensures thread_traces { IfOk result (λ traces. traces.thread_traces ≡ thread_traces.items) }
         ensures numbered { IfOk result (λ traces. AreNumbered thread_traces.items traces.events) }
     {
-        let mut events = Vec::new(alloc);
         let mut starts = [0; MAX_THREADS];
         if !each_ends(thread_traces.as_slice()) {
             return Ok(Traces {
                 thread_traces,
-                events,
+                events: Vec::new(alloc),
                 whole: false,
                 starts,
                 written: [0; MAX_LOCATIONS],
             });
         }
+        let mut events = Vec::with_capacity(alloc, ROW_BITS)?;
         number_accesses(thread_traces.as_slice(), &mut events, &mut starts)?;
         let written = write_rows(thread_traces.as_slice(), events.as_slice());
         Ok(Traces {
@@ -70,7 +70,7 @@ impl Traces {
     }
 
     /// What the threads do.
-    pub(crate) fn thread_traces(&self) -> &[ThreadTrace]
+    pub(crate) fn thread_traces(&self) -> &[SharedTrace]
         ensures { result.now ≡ self.now.thread_traces }
     {
         self.thread_traces.as_slice()
@@ -141,23 +141,23 @@ impl Traces {
 /// The same traces.
 pub(crate) fn copied(
     alloc: Global,
-    thread_traces: &[ThreadTrace],
-) -> Result<Vec<ThreadTrace>, AllocError>
+    thread_traces: &[SharedTrace],
+) -> Result<Vec<SharedTrace>, AllocError>
     ensures { IfOk result (λ copies. copies.items ≡ thread_traces.now) }
 {
-    let mut copies = Vec::new(alloc);
+    let mut copies = Vec::with_capacity(alloc, thread_traces.len())?;
     for thread_trace in thread_traces {
-        copies.push(thread_trace.copy(alloc)?)?;
+        copies.push(thread_trace.copy()?)?;
     }
     Ok(copies)
 }
 
 /// Whether each thread has come to its end, so that no read is without a value.
-fn each_ends(thread_traces: &[ThreadTrace]) -> bool
+fn each_ends(thread_traces: &[SharedTrace]) -> bool
     ensures { IsTrue result ↔ EachEnds thread_traces.now }
 {
     for thread_trace in thread_traces {
-        if thread_trace.next.is_some() {
+        if thread_trace.trace().next.is_some() {
             return false;
         }
     }
@@ -166,7 +166,7 @@ fn each_ends(thread_traces: &[ThreadTrace]) -> bool
 
 /// Lists all accesses, and the numbers at which the threads begin.
 fn number_accesses(
-    thread_traces: &[ThreadTrace],
+    thread_traces: &[SharedTrace],
     events: &mut Vec<Event>,
     starts: &mut [u8],
 ) -> Result<(), AllocError>
@@ -180,13 +180,13 @@ fn number_accesses(
 {
     for (t, thread_trace) in thread_traces.iter().enumerate() {
         starts[t] = events.len() as u8;
-        push_thread(thread_trace.accesses.len() as u8, t as u8, events)?;
+        push_thread(thread_trace.trace().accesses.len() as u8, t as u8, events)?;
     }
     Ok(())
 }
 
 /// For each location the row of the accesses that write it.
-fn write_rows(thread_traces: &[ThreadTrace], events: &[Event]) -> [u32; MAX_LOCATIONS]
+fn write_rows(thread_traces: &[SharedTrace], events: &[Event]) -> [u32; MAX_LOCATIONS]
     requires few { length events.now ≤ ROW_BITS }
     requires located { AreLocated thread_traces.now }
     ensures { AreWriteRows thread_traces.now events.now result }
@@ -211,7 +211,7 @@ fn put_write(rows: &mut [u32], location: Option<u8>, number: u8)
 }
 
 /// The location that an access writes, if it writes one.
-fn location_written(thread_traces: &[ThreadTrace], event: Event) -> Option<u8>
+fn location_written(thread_traces: &[SharedTrace], event: Event) -> Option<u8>
     ensures { (l : ℕ) → (result ≡ Some l) ↔ IsWriteAt thread_traces.now l event }
 {
     match access_at(thread_traces, event) {
@@ -226,7 +226,7 @@ fn location_written(thread_traces: &[ThreadTrace], event: Event) -> Option<u8>
 
 /// Appends all accesses to the events, by thread and index.
 pub(crate) fn push_events(
-    thread_traces: &[ThreadTrace],
+    thread_traces: &[SharedTrace],
     events: &mut Vec<Event>,
 ) -> Result<(), AllocError>
     requires few { length thread_traces.now ≤ MAX_THREADS }
@@ -236,7 +236,7 @@ pub(crate) fn push_events(
     ensures ordered { OnOk result (AllPairs ComesBefore events.old.items → AllPairs ComesBefore events.new.items) }
 {
     for (t, thread_trace) in thread_traces.iter().enumerate() {
-        push_thread(thread_trace.accesses.len() as u8, t as u8, events)?;
+        push_thread(thread_trace.trace().accesses.len() as u8, t as u8, events)?;
     }
     Ok(())
 }
@@ -255,13 +255,13 @@ fn push_thread(accesses: u8, t: u8, events: &mut Vec<Event>) -> Result<(), Alloc
 }
 
 /// What an access reads and writes.
-pub(crate) fn access_at(thread_traces: &[ThreadTrace], event: Event) -> Option<Access>
+pub(crate) fn access_at(thread_traces: &[SharedTrace], event: Event) -> Option<Access>
     ensures { result ≡ access_of thread_traces.now event }
 {
     match event {
         Event::Initial(_) => None,
         Event::Access(t, i) => match thread_traces.get(t as usize) {
-            Some(thread_trace) => thread_trace.accesses.as_slice().get(i as usize).copied(),
+            Some(thread_trace) => thread_trace.access(i),
             None => None,
         },
     }

@@ -10,9 +10,9 @@ pub loop-step-init : goal.loop-step-init
 loop-step-init c =
     let there = code_there c.args.program.now.threads c.threads.result.now c.args.t c.len-step-end.result c.index-threads-t.result c.threads.ensures.value c.requires c.index-threads-t.is c.len-step-end.ensures in
     record {
-      made = begun c.args.program.now (machine_mode c.args.program.now c.args.mode) c.args.t c.args.given.now c.index-threads-t.result c.new-walk.result c.requires there.0 c.new-walk.ensures.start;
-      sections = omega (arith, ap (λ w. w.section) c.new-walk.ensures.start);
-      short = omega (arith, ap (λ w. length w.accesses) c.new-walk.ensures.start);
+      made = begun c.args.program.now (machine_mode c.args.program.now c.args.mode) c.args.t c.args.given.now c.index-threads-t.result c.in_ok-walk.walk c.requires there.0 c.in_ok-walk.ensures.start;
+      sections = omega (arith, ap (λ w. w.section) c.in_ok-walk.ensures.start);
+      short = omega (arith, ap (λ w. length w.accesses) c.in_ok-walk.ensures.start);
     }
 
 pub enter-requires : goal.enter-requires
@@ -56,7 +56,7 @@ returns-then-not-branch c =
       accesses = made.0;
       last = made.1;
       short = omega arith;
-      registers = registers_there c.args.program.now.threads c.args.t c.index-threads-t.result c.requires there.0 ∙ c.new-walk.ensures.six;
+      registers = registers_there c.args.program.now.threads c.args.t c.index-threads-t.result c.requires there.0 ∙ c.in_ok-walk.ensures.six;
     }
 
 pub returns : goal.returns
@@ -68,5 +68,5 @@ returns c =
       accesses = made.0;
       last = made.1;
       short = omega arith;
-      registers = registers_there c.args.program.now.threads c.args.t c.index-threads-t.result c.requires there.0 ∙ c.new-walk.ensures.six;
+      registers = registers_there c.args.program.now.threads c.args.t c.index-threads-t.result c.requires there.0 ∙ c.in_ok-walk.ensures.six;
     }

@@ -1,4 +1,5 @@
 use Rattle.std.proofs.Common.{◌∙◌, [], length, length-set, sym, ap, subst, refl, arith}
+use Rattle.exec_axioms.specs.declared.thread_trace.ThreadTrace.{ThreadTrace}
 use Rattle.exec_axioms.proofs.Accesses.{IsGrown, IsBelow, grown_none, grown_threads, grown_all, grown_alone, before_thread, below_none, below_of, below_is, accesses_read}
 use Rattle.exec_axioms.proofs.Lawful.{none_in}
 use Rattle.exec_axioms.proofs.InThreadOrder.{none_ordered}
@@ -20,6 +21,7 @@ overflow_cast-starts c =
 pub overflow_cast-len : goal.overflow_cast-len
 overflow_cast-len c =
     let here = ap length (accesses_read c.args.thread_traces.now c.loop-t.t c.index-thread_traces-t.result c.loop-t-test.true c.index-thread_traces-t.is) in
+    let same = ap (λ (x : ThreadTrace). length x.accesses) c.trace.ensures in
     let short = c.requires.short c.loop-t.t in
     omega arith
 
@@ -33,7 +35,7 @@ loop-t-preserved c =
     let few = c.requires.few in
     let there = c.loop-t-test.true in
     record {
-      grown = grown_threads c.args.thread_traces.now [] c.loop-t.events.items c.push_thread.new.events.items c.loop-t.t c.len-in-loop-t.result (ap length here ∙ sym c.len-in-loop-t.ensures) c.loop-t.invariant.grown
+      grown = grown_threads c.args.thread_traces.now [] c.loop-t.events.items c.push_thread.new.events.items c.loop-t.t c.len-in-loop-t.result (ap length here ∙ ap (λ (x : ThreadTrace). length x.accesses) (sym c.trace.ensures) ∙ sym c.len-in-loop-t.ensures) c.loop-t.invariant.grown
           c.in_ok-push_thread.ensures.exact c.in_ok-push_thread.ensures.ordered;
       starts_are = starts_more c.args.thread_traces.now c.loop-t.events.items c.push_thread.new.events.items c.loop-t.t c.len.result c.loop-t.starts
           (below_is (IsBelow c.args.thread_traces.now c.loop-t.t) c.loop-t.events.items c.loop-t.invariant.grown) (omega arith) (let same = c.len.ensures in omega arith) c.loop-t.invariant.starts_are c.in_ok-push_thread.ensures.places;

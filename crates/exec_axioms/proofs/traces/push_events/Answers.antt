@@ -1,4 +1,5 @@
 use Rattle.std.proofs.Common.{◌∙◌, length, sym, ap}
+use Rattle.exec_axioms.specs.declared.thread_trace.ThreadTrace.{ThreadTrace}
 use Rattle.exec_axioms.proofs.Accesses.{IsBelow, grown_none, grown_threads, grown_all, before_thread, below_none, accesses_read}
 use Rattle.exec_axioms.proofs.traces.push_events.Goals as goal
 
@@ -12,7 +13,7 @@ pub loop-t-preserved : goal.loop-t-preserved
 loop-t-preserved c =
     let here = accesses_read c.args.thread_traces.now c.loop-t.t c.index-thread_traces-t.result c.loop-t-test.true c.index-thread_traces-t.is in
     let long = c.len.ensures in
-    grown_threads c.args.thread_traces.now c.args.events.now.items c.loop-t.events.items c.push_thread.new.events.items c.loop-t.t c.len.result (ap length here ∙ sym long) c.loop-t.invariant
+    grown_threads c.args.thread_traces.now c.args.events.now.items c.loop-t.events.items c.push_thread.new.events.items c.loop-t.t c.len.result (ap length here ∙ ap (λ (x : ThreadTrace). length x.accesses) (sym c.trace.ensures) ∙ sym long) c.loop-t.invariant
     c.in_ok-push_thread.ensures.exact c.in_ok-push_thread.ensures.ordered
 
 pub returns-clause-exact : goal.returns-clause-exact
