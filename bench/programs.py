@@ -1,13 +1,15 @@
-"""Litmus tests for measurements: the classical ones, and threads of loads and stores drawn from a seed."""
+"""Litmus tests for measurements: the classical ones, and tests drawn from a seed, of loads and stores alone or of every kind of instruction."""
 REGISTERS = ("EAX", "EBX", "ECX", "EDX", "ESI", "EDI")
+JUMPS = ("JE", "JNE", "JNE", "JMP")
 
 
-def litmus(threads):
-    """A test of these threads, each a list of instructions."""
+def litmus(threads, first=()):
+    """A test of these threads, each a list of instructions with their labels, and of these first values."""
     longest = max(len(code) for code in threads)
     rows = zip(*(code + [""] * (longest - len(code)) for code in threads))
     lines = [" | ".join(f"P{t}" for t in range(len(threads))), *(" | ".join(row) for row in rows)]
-    return "X86 measured\n{ }\n" + "".join(line + " ;\n" for line in lines) + "exists (true)\n"
+    values = "".join(f"{value}; " for value in first)
+    return f"X86 measured\n{{ {values}}}\n" + "".join(line + " ;\n" for line in lines) + "exists (true)\n"
 
 
 def store_bufferings(count):
@@ -36,3 +38,41 @@ def mixed(seed, shape, locations):
         return f"MOV [{location}],${next(drawn) % 2 + 1}"
 
     return [[one(place) for place in range(shape[1])] for _ in range(shape[0])]
+
+
+def one_of(drawn, values):
+    return values[next(drawn) % len(values)]
+
+
+def instruction(drawn, locations):
+    """An instruction that is no jump: mostly a load or a store."""
+    register, other = one_of(drawn, REGISTERS), one_of(drawn, REGISTERS)
+    location, value = one_of(drawn, locations), one_of(drawn, "123")
+    plain = [f"MOV {register},[{location}]", f"MOV [{location}],${value}"]
+    others = [f"MOV [{location}],{register}", f"XCHG [{location}],{register}", f"CMP {register},${value}", f"CMP {register},{other}"]
+    return one_of(drawn, [*plain * 8, *others, f"MOV {register},${value}", f"MOV {register},{other}", "MFENCE"])
+
+
+def thread(drawn, length, locations):
+    """So many instructions, where after each comparison a jump leads to a later place or to the thread's end."""
+    cells, targets = [], set()
+    for place in range(length):
+        if cells and cells[-1].startswith("CMP"):
+            target = min(place + 1 + next(drawn) % 3, length)
+            targets.add(target)
+            cells.append(f"{one_of(drawn, JUMPS)} L{target}")
+        else:
+            cells.append(instruction(drawn, locations))
+    if length in targets:
+        cells.append("")
+    return [f"L{place}: {cell}".strip() if place in targets else cell for place, cell in enumerate(cells)]
+
+
+def varied(seed, shape, locations):
+    """Threads of so many instructions of every kind, first values of some locations and registers, and the text of a cost file."""
+    drawn = numbers(seed)
+    threads = [thread(drawn, shape[1], locations) for _ in range(shape[0])]
+    named = [*locations, *(f"{t}:{register}" for t in range(shape[0]) for register in REGISTERS)]
+    first = [f"{name}={one_of(drawn, '123')}" for name in named if next(drawn) % 8 == 0]
+    costs = [f"{t}:{place} {one_of(drawn, '11234')}\n" for t in range(shape[0]) for place in range(1, shape[1])]
+    return threads, first, "".join(costs)

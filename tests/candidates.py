@@ -40,9 +40,24 @@ def given(call, threads, locations):
             if not waiting:
                 whole.append(script)
             for t, location in waiting[:1]:
-                after += [(*script, f"give:{t}:{value}") for value in told[threads + location][1:-1].split(", ")]
+                after += [(*script, step) for step in giving(t, told[threads + location])]
         level = after
     return whole
+
+
+def giving(t, values):
+    """The steps that give the next read of a thread each of these values."""
+    return [f"give:{t}:{value}" for value in values[1:-1].split(", ")]
+
+
+def choosing(read, sources):
+    """The steps that choose each of these sources for a read."""
+    return [f"choose:{read}:{a or f'{t}.{k}'}" for a, t, k in EVENT.findall(sources)]
+
+
+def ordering(first, second):
+    """The steps that order two writes, one way and the other."""
+    return [f"order:{first}:{second}", f"order:{second}:{first}"]
 
 
 def to_choose(events, told):
@@ -51,10 +66,10 @@ def to_choose(events, told):
     there = [(event, access[1], access[2] == "Some", access[3] == "Some", sources) for event, access, sources in accesses if access]
     for event, _, reads, _, sources in there:
         if reads:
-            yield [f"choose:{event}:{a or f'{t}.{k}'}" for a, t, k in EVENT.findall(sources)]
+            yield choosing(event, sources)
     for (first, at, _, stores, _), (second, there_too, _, stores_too, _) in itertools.combinations(there, 2):
         if stores and stores_too and at == there_too:
-            yield [f"order:{first}:{second}", f"order:{second}:{first}"]
+            yield ordering(first, second)
 
 
 def has_cycle(edges):
@@ -77,29 +92,61 @@ def searched_cycles(call, scripts, events, unions):
         yield [union for union in unions if has_cycle([pair for pair in pairs if next(rest) == "true"])]
 
 
-def without_cycle(call, level, events, unions):
-    """The scripts, each with what is left to choose after it, whose sketches have no cycle. What the sketches find is compared with a plain search where there are unions to search."""
-    scripts = [script for script, _ in level]
-    found = [cycle for (cycle,) in answers(call, scripts, [["find-cycle"]] * len(level))]
+def found_cycles(call, scripts, events, unions):
+    """What each sketch finds. It is compared with a plain search where there are unions to search."""
+    found = [cycle for (cycle,) in answers(call, scripts, [["find-cycle"]] * len(scripts))]
     if unions:
         for script, cycle, searched in zip(scripts, found, searched_cycles(call, scripts, events, unions)):
             if cycle not in ([f"{UNIONS[union]} true" for union in searched] or ["none"]):
                 raise Refused(script, cycle, searched)
-    return [it for it, cycle in zip(level, found) if cycle == "none"]
+    return found
+
+
+def accesses(code):
+    """As many events of each thread as it has instructions."""
+    return [f"{t}.{k}" for t, instructions in enumerate(code) for k in range(len(instructions))]
 
 
 def complete(call, code, locations, unions=""):
     """The scripts that choose everything, without a cycle."""
-    whole = given(call, len(code), locations)
-    events = [f"{t}.{k}" for t, instructions in enumerate(code) for k in range(len(instructions))]
+    whole, events = given(call, len(code), locations), accesses(code)
     asked = [f"access:{event}" for event in events] + [f"sources:{event}" for event in events]
     level = [(script, list(to_choose(events, told))) for script, told in zip(whole, answers(call, whole, [asked] * len(whole)))]
     found = []
     while level:
-        level = without_cycle(call, level, events, unions)
+        cycles = found_cycles(call, [script for script, _ in level], events, unions)
+        level = [it for it, cycle in zip(level, cycles) if cycle == "none"]
         found += [script for script, left in level if not left]
         level = [((*script, choice), left[1:]) for script, left in level if left for choice in left[0]]
     return found
+
+
+def chosen_below(call, locations, words, script):
+    """The steps by which a node of a certificate's cover tree goes on after a script; none at a leaf."""
+    letter, about = next(words), next(words)
+    if letter == "O":
+        return ordering(about, next(words))
+    count = 0 if letter == "K" else int(next(words))
+    if letter == "V":
+        ((at, *values),) = answers(call, [script], [[f"next:{about}", *(f"values:{location}" for location in range(locations))]])
+        return giving(about, values[int(at[5:-1])])
+    if letter == "S":
+        ((sources,),) = answers(call, [script], [[f"sources:{about}"]])
+        return choosing(about, sources)
+    list(itertools.islice(words, count))
+    return []
+
+
+def below(call, locations, words, script=()):
+    """The sketches that a cover tree of a certificate goes through, from its root on, as scripts."""
+    yield script
+    for step in chosen_below(call, locations, words, script):
+        yield from below(call, locations, words, (*script, step))
+
+
+def compare_tree(call, code, locations, tree, unions):
+    """Compares what the sketches find that a cover tree of a certificate goes through with a plain search."""
+    found_cycles(call, list(below(call, locations, iter(tree.split()))), accesses(code), unions)
 
 
 def outcomes(call, code, locations, unions=""):
