@@ -47,7 +47,7 @@ def one_of(drawn, values):
 def instruction(drawn, locations):
     """An instruction that is no jump: mostly a load or a store."""
     register, other = one_of(drawn, REGISTERS), one_of(drawn, REGISTERS)
-    location, value = one_of(drawn, locations), one_of(drawn, "123")
+    location, value = one_of(drawn, locations), one_of(drawn, "12")
     plain = [f"MOV {register},[{location}]", f"MOV [{location}],${value}"]
     others = [f"MOV [{location}],{register}", f"XCHG [{location}],{register}", f"CMP {register},${value}", f"CMP {register},{other}"]
     return one_of(drawn, [*plain * 8, *others, f"MOV {register},${value}", f"MOV {register},{other}", "MFENCE"])
@@ -73,6 +73,6 @@ def varied(seed, shape, locations):
     drawn = numbers(seed)
     threads = [thread(drawn, shape[1], locations) for _ in range(shape[0])]
     named = [*locations, *(f"{t}:{register}" for t in range(shape[0]) for register in REGISTERS)]
-    first = [f"{name}={one_of(drawn, '123')}" for name in named if next(drawn) % 8 == 0]
+    first = [f"{name}={one_of(drawn, '12')}" for name in named if next(drawn) % 8 == 0]
     costs = [f"{t}:{place} {one_of(drawn, '11234')}\n" for t in range(shape[0]) for place in range(1, shape[1])]
     return threads, first, "".join(costs)
