@@ -24,6 +24,7 @@ beyond_none old t d u i at = inl at
 pub numbered_none : (thread_traces : List ThreadTrace) (events : List Event) → events ≡ [] → (EachEnds thread_traces → ⊥) → AreNumbered thread_traces events
 numbered_none thread_traces events none goes_on = record {
   all = λ ends. absurd (goes_on ends);
+  not_some = λ e h. absurd (none_in e (subst (λ (es : List Event). Contains es e) none h));
   of_threads = λ e h. absurd (none_in e (subst (λ (es : List Event). Contains es e) none h));
   ordered = subst (AllPairs ComesBefore) (sym none) none_ordered;
   few = (let empty = ap length none in omega arith);
@@ -33,6 +34,7 @@ numbered_none thread_traces events none goes_on = record {
 pub numbered_all : (thread_traces : List ThreadTrace) (events : List Event) → FitRow thread_traces → AreAccesses thread_traces events → AreNumbered thread_traces events
 numbered_all thread_traces events fit accesses = record {
   all = λ ends. accesses;
+  not_some = λ e h. accesses;
   of_threads = λ e h. (accesses.exact e).0 h;
   ordered = accesses.ordered;
   few = fit events accesses.ordered (λ e h. (accesses.exact e).0 h);

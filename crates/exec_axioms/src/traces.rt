@@ -7,12 +7,12 @@ ghost use Rattle.bit_rows.specs.declared.row.TheConstants.{ROW_BITS};
 ghost use Rattle.candidate_executions.specs.declared.event.Event.{Event};
 ghost use Rattle.candidate_executions.specs.Events.{ComesBefore};
 ghost use Rattle.exec_axioms.specs.Known.{IsInitialWrite};
-ghost use Rattle.exec_axioms.specs.Rows.{accesses_at, access_of, AreAccesses, AreBeyond, AreLocated, AreNumbered, AreOfSketch, AreStarts, AreWriteRows, EachEnds, FitRow, IsEarly, IsOfThreads, IsOnlyNumber, IsRowOf, IsWriteAt};
+ghost use Rattle.exec_axioms.specs.Rows.{accesses_at, access_of, AreAccesses, AreBeyond, AreLocated, AreNumbered, AreOfSketch, AreStarts, AreWriteRows, EachEnds, FitRow, IsEarly, IsOfThreads, IsOnlyNumber, IsRowOf, IsWriteAt, InOrder, AreRowsOf};
 
 use crate::events::is_same;
 use crate::thread_trace::SharedTrace;
-use bit_rows::{ROW_BITS, with};
-use candidate_executions::{Access, Event};
+use bit_rows::{ROW_BITS, Relation, raised, with};
+use candidate_executions::{Access, Event, Kind};
 use std::alloc::{AllocError, Global};
 use std::marker::Model;
 use tso_program::{MAX_LOCATIONS, MAX_THREADS};
@@ -111,6 +111,34 @@ impl Traces {
             Event::Access(t, i) => {
                 let start = *self.starts.get(t as usize)?;
                 Some(start as usize + i as usize)
+            }
+        }
+    }
+
+    /// The program order of the union, which joins its steps.
+    pub(crate) fn order_rows(&self, kind: Kind) -> Relation
+        requires { (d e f : Event) → InOrder self.now.thread_traces kind d e → InOrder self.now.thread_traces kind e f → InOrder self.now.thread_traces kind d f }
+        ensures { AreRowsOf self.now.events (InOrder self.now.thread_traces kind) result }
+    {
+        let mut rows = [0; ROW_BITS];
+        for (d, from) in self.events.as_slice().iter().enumerate() {
+            rows[d] = self.later_in_order(kind, d, *from);
+        }
+        Relation::of_order(rows)
+    }
+
+    /// The accesses to which the union has program order from the one with this number: those of its
+    /// thread, whose numbers begin where the thread does.
+    fn later_in_order(&self, kind: Kind, number: usize, from: Event) -> u32
+        requires { slice_get self.now.events number ≡ Some from }
+        ensures { IsRowOf self.now.events (InOrder self.now.thread_traces kind from) result }
+    {
+        match from {
+            Event::Initial(_) => 0,
+            Event::Access(t, i) => {
+                let start = number - i as usize;
+                let thread_traces = self.thread_traces.as_slice();
+                raised(thread_traces[t as usize].later(kind, i), start as u8)
             }
         }
     }
