@@ -1,19 +1,16 @@
 -- Accesses listed by thread and index.
-use Rattle.std.proofs.Common.{◌≡◌, ℕ, ◌+◌, ◌<◌, ◌≤◌, List, [], None, Some, slice_get, get_or, sym, ap, ◌∙◌, subst, inl, inr, arith}
+use Rattle.std.proofs.Common.{◌≡◌, ℕ, ◌<◌, List, [], Some, slice_get, get_or, sym, ◌∙◌, subst, arith}
 use Rattle.std.specs.List.{AllPairs}
-use Rattle.std.proofs.lemmas.Bool.{cases_lt}
 use Rattle.std.proofs.lemmas.Option.{slice_get_within, get_or_from_slice_get, same_Some}
-use Rattle.bit_rows.specs.Rows.{IsIn, Relates}
-use Rattle.bit_rows.proofs.Bits.{none_in_zero}
+use Rattle.bit_rows.specs.Rows.{Relates}
 use Rattle.candidate_executions.specs.declared.event.Event.{Event}
 use Rattle.candidate_executions.specs.declared.event.Event.TheVariants.{Initial, Access as At}
 use Rattle.candidate_executions.specs.declared.event.Kind.{Kind}
 use Rattle.candidate_executions.specs.Consistency.{Precedes}
 use Rattle.candidate_executions.specs.Events.{ComesBefore}
 use Rattle.exec_axioms.specs.declared.thread_trace.ThreadTrace.{ThreadTrace}
-use Rattle.exec_axioms.specs.Rows.{access_of, InOrder, IsRowOf, AreRowsOf}
+use Rattle.exec_axioms.specs.Rows.{InOrder, AreRowsOf}
 use Rattle.exec_axioms.proofs.Connected.{order_precedes}
-use Rattle.exec_axioms.proofs.Masks.{IsRowBelow}
 
 -- nothing is listed
 pub none_ordered : AllPairs ComesBefore []

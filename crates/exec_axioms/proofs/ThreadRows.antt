@@ -118,9 +118,9 @@ pub record IsPlaced (thread_traces : List ThreadTrace) (events : List Event) (d 
   pub sum : start + i ≡ d
   pub low : d < ROW_BITS
 
-pub placed : (thread_traces : List ThreadTrace) (events : List Event) (whole : Bool) (starts written : List ℕ) (x : NumberedTraces) (d t i : ℕ) (e : Event) →
-    KeepsNumbers thread_traces events whole starts written → record { thread_traces = thread_traces; events = events } ≡ x → slice_get x.events d ≡ Some e → e ≡ At t i → IsPlaced thread_traces events d t i
-placed thread_traces events whole starts written x d t i e keeps is at same =
+pub placed : (thread_traces : List ThreadTrace) (events : List Event) (whole : Bool) (starts counts written : List ℕ) (x : NumberedTraces) (d t i : ℕ) (e : Event) →
+    KeepsNumbers thread_traces events whole starts counts written → record { thread_traces = thread_traces; events = events } ≡ x → slice_get x.events d ≡ Some e → e ≡ At t i → IsPlaced thread_traces events d t i
+placed thread_traces events whole starts counts written x d t i e keeps is at same =
     let here : slice_get events d ≡ Some (At t i) = ap (λ (y : NumberedTraces). slice_get y.events d) is ∙ at ∙ ap Some same in
     let has = contained events (At t i) (d, here) in
     let (start, at_start, sum) = keeps.starts_are d t i here in

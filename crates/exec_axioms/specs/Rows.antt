@@ -145,19 +145,20 @@ pub record AreNumbered (thread_traces : List ThreadTrace) (events : List Event) 
 abbrev pub AreStarts : List Event → List ℕ → Type 0
 AreStarts events starts = (d t i : ℕ) → slice_get events d ≡ Some (At t i) → (start : ℕ) × (slice_get starts t ≡ Some start) × (start + i ≡ d)
 
--- no other number is the event's
-abbrev pub IsOnlyNumber : List Event → Event → ℕ → Type 0
-IsOnlyNumber events e number = (d : ℕ) → slice_get events d ≡ Some e → number ≡ d
+-- the accesses of a thread are as many as its count
+abbrev pub AreCounts : List Event → List ℕ → Type 0
+AreCounts events counts = (t i : ℕ) → Contains events (At t i) ↔ ((count : ℕ) × (slice_get counts t ≡ Some count) × (i < count))
 
 -- the new events are the old ones, and the accesses of thread t at the next places
 abbrev pub AreBeyond : List Event → ℕ → List Event → Type 0
 AreBeyond old t new = (d u i : ℕ) → slice_get new d ≡ Some (At u i) → (slice_get old d ≡ Some (At u i)) ⊎ ((u ≡ t) × (length old + i ≡ d))
 
--- what is kept beside the traces: whether each thread has come to its end, the accesses that have numbers, the starts of the threads, and the writes to each location
-pub record KeepsNumbers (thread_traces : List ThreadTrace) (events : List Event) (whole : Bool) (starts written : List ℕ) : Type 0 where
+-- what is kept beside the traces: whether each thread has come to its end, the accesses that have numbers, the starts of the threads, how many accesses they have, and the writes to each location
+pub record KeepsNumbers (thread_traces : List ThreadTrace) (events : List Event) (whole : Bool) (starts counts written : List ℕ) : Type 0 where
   pub numbered : AreNumbered thread_traces events
   pub ends : IsTrue whole ↔ EachEnds thread_traces
   pub starts_are : AreStarts events starts
+  pub counts_are : AreCounts events counts
   pub written_are : AreWriteRows thread_traces events written
 
 -- the rows have the program order of the mode's unions between the accesses that have numbers

@@ -12,23 +12,23 @@ use Rattle.exec_axioms.proofs.traces.Traces.later_in_order.Goals as goal
 
 pub bounds-thread_traces-t : goal.bounds-thread_traces-t
 bounds-thread_traces-t c =
-    let place = placed c.self.inside.thread_traces.items c.self.inside.events.items c.self.inside.whole c.self.inside.starts c.self.inside.written c.args.self.now c.args.number c.in-Access.t c.in-Access.i c.args.from c.self.invariant c.self.view_is c.requires c.in-Access.is in
+    let place = placed c.self.inside.thread_traces.items c.self.inside.events.items c.self.inside.whole c.self.inside.starts c.self.inside.counts c.self.inside.written c.args.self.now c.args.number c.in-Access.t c.in-Access.i c.args.from c.self.invariant c.self.view_is c.requires c.in-Access.is in
     let there = place.there in
     let long = ap length c.as_slice-thread_traces.ensures.value in
     omega arith
 
 pub later-requires : goal.later-requires
-later-requires c = let place = placed c.self.inside.thread_traces.items c.self.inside.events.items c.self.inside.whole c.self.inside.starts c.self.inside.written c.args.self.now c.args.number c.in-Access.t c.in-Access.i c.args.from c.self.invariant c.self.view_is c.requires c.in-Access.is in let low = place.low in let sum = place.sum in omega arith
+later-requires c = let place = placed c.self.inside.thread_traces.items c.self.inside.events.items c.self.inside.whole c.self.inside.starts c.self.inside.counts c.self.inside.written c.args.self.now c.args.number c.in-Access.t c.in-Access.i c.args.from c.self.invariant c.self.view_is c.requires c.in-Access.is in let low = place.low in let sum = place.sum in omega arith
 
 pub overflow_cast-start-in-Access : goal.overflow_cast-start-in-Access
-overflow_cast-start-in-Access c = let place = placed c.self.inside.thread_traces.items c.self.inside.events.items c.self.inside.whole c.self.inside.starts c.self.inside.written c.args.self.now c.args.number c.in-Access.t c.in-Access.i c.args.from c.self.invariant c.self.view_is c.requires c.in-Access.is in let low = place.low in omega arith
+overflow_cast-start-in-Access c = let place = placed c.self.inside.thread_traces.items c.self.inside.events.items c.self.inside.whole c.self.inside.starts c.self.inside.counts c.self.inside.written c.args.self.now c.args.number c.in-Access.t c.in-Access.i c.args.from c.self.invariant c.self.view_is c.requires c.in-Access.is in let low = place.low in omega arith
 
 pub raised-requires : goal.raised-requires
-raised-requires c = let place = placed c.self.inside.thread_traces.items c.self.inside.events.items c.self.inside.whole c.self.inside.starts c.self.inside.written c.args.self.now c.args.number c.in-Access.t c.in-Access.i c.args.from c.self.invariant c.self.view_is c.requires c.in-Access.is in let low = place.low in omega arith
+raised-requires c = let place = placed c.self.inside.thread_traces.items c.self.inside.events.items c.self.inside.whole c.self.inside.starts c.self.inside.counts c.self.inside.written c.args.self.now c.args.number c.in-Access.t c.in-Access.i c.args.from c.self.invariant c.self.view_is c.requires c.in-Access.is in let low = place.low in omega arith
 
 pub returns-in-Access : goal.returns-in-Access
 returns-in-Access c =
-    let place = placed c.self.inside.thread_traces.items c.self.inside.events.items c.self.inside.whole c.self.inside.starts c.self.inside.written c.args.self.now c.args.number c.in-Access.t c.in-Access.i c.args.from c.self.invariant c.self.view_is c.requires c.in-Access.is in
+    let place = placed c.self.inside.thread_traces.items c.self.inside.events.items c.self.inside.whole c.self.inside.starts c.self.inside.counts c.self.inside.written c.args.self.now c.args.number c.in-Access.t c.in-Access.i c.args.from c.self.invariant c.self.view_is c.requires c.in-Access.is in
     let trace = c.index-thread_traces-t.result in
     let items = c.self.inside.thread_traces.items in
     let events = c.self.inside.events.items in
