@@ -9,4 +9,6 @@ mod relation;
 mod row;
 
 pub use relation::{Relation, put_rows};
-pub use row::{ROW_BITS, common, has, has_any, joined, lowest, meets, minus, with, without};
+pub use row::{
+    ROW_BITS, common, has, has_any, joined, lowest, meets, minus, raised, with, without,
+};

@@ -1,5 +1,5 @@
 //! Numbers below 32 as the bits of a word.
-ghost use Rattle.std.specs.Prelude.{◌≡◌, ◌≢◌, ◌↔◌, ◌⊎◌, ◌<◌, ℕ, IsTrue, MatchOption};
+ghost use Rattle.std.specs.Prelude.{◌≡◌, ◌≢◌, ◌↔◌, ◌⊎◌, ◌+◌, ◌<◌, ℕ, IsTrue, MatchOption};
 ghost use Rattle.bit_rows.specs.Rows.{IsIn};
 ghost use Rattle.bit_rows.specs.declared.row.TheConstants.{ROW_BITS};
 
@@ -67,6 +67,14 @@ pub fn minus(a: u32, b: u32) -> u32
     ensures { (k : ℕ) → IsIn result k ↔ (IsIn a k × (IsIn b k → ⊥)) }
 {
     a & !b
+}
+
+/// The row with each number larger by this much. What would be `ROW_BITS` or more is left out.
+pub fn raised(row: u32, by: u8) -> u32
+    requires { by < ROW_BITS }
+    ensures { (k : ℕ) → IsIn result k ↔ ((k < ROW_BITS) × ((j : ℕ) × IsIn row j × (by + j ≡ k))) }
+{
+    row << by
 }
 
 /// Whether some number is in both rows.

@@ -8,7 +8,7 @@ use Rattle.std.proofs.lemmas.List.{length-append}
 use Rattle.std.proofs.lemmas.List.Edits.{length-remove}
 use Rattle.std.proofs.lemmas.List.Elements.{Contains-append_left, Contains-append_right}
 use Rattle.std.proofs.lemmas.List.Sums.{sum_by_more, sum_by-take-le}
-use Rattle.std.proofs.lemmas.Option.{slice_get-get_or, unwrap_or-slice_get}
+use Rattle.std.proofs.lemmas.Option.{slice_get-get_or, get_or_from_slice_get, unwrap_or-slice_get}
 use Rattle.tso_program.specs.declared.listing.Thread.{Thread}
 use Rattle.tso_program.specs.Listings.{accesses_of, code_of}
 use Rattle.tso_program.specs.declared.listing.Listing.{Listing}
@@ -17,7 +17,7 @@ use Rattle.tso_machine.specs.Machine.{Mode}
 use Rattle.candidate_executions.specs.Traces.{trace_by}
 use Rattle.candidate_executions.specs.declared.event.Event.{Event}
 use Rattle.candidate_executions.specs.declared.event.Event.TheVariants.{Access as At}
-use Rattle.candidate_executions.proofs.Orders.Lists.{first_is_here, later_is_here}
+use Rattle.candidate_executions.proofs.Orders.Lists.{get_some, first_is_here, later_is_here}
 use Rattle.exec_axioms.proofs.Accesses.{none_past_by}
 use Rattle.exec_axioms.proofs.AccessesCounted.{weight, accesses_few}
 use Rattle.exec_axioms.proofs.Walks.{contains_remove}
@@ -115,6 +115,17 @@ module _ (p : Listing) (mode : Mode) (given : ℕ → List ℕ) (within : IsWith
       let few = accesses_few p mode given t within.shared.forward_jumps in
       let code : code_of p.threads t ≡ x.code = ap (λ o. option_map_or (λ (thread : Thread). thread.code) o []) at in
       let same = ap (sum_by weight) code in
+      omega arith
+
+  -- no thread has more accesses than a program may have
+  pub thread_few : (t : ℕ) → t < length p.threads → counts t ≤ MAX_ACCESSES
+  thread_few t there =
+      let (x, at) = get_some p.threads t there in
+      let one = code_there t x at in
+      let here = ap accesses_of (get_or_from_slice_get p.threads t x x at) in
+      let more = sum_by_more accesses_of p.threads t x there in
+      let all = sum_by-take-le accesses_of p.threads (t + 1) in
+      let limit = within.shared.few_accesses in
       omega arith
 
   pub all_events_few : length all_events ≤ MAX_ACCESSES

@@ -94,7 +94,7 @@ module _ (p : Listing) (mode : Mode) (thread_traces : List ThreadTrace) (sources
   courses_short t = go (slice_get thread_traces t) refl
     where
       go : (o : Option ThreadTrace) → slice_get thread_traces t ≡ o → length (accesses_at thread_traces t) ≤ MAX_INSTRUCTIONS
-      go (Some c) e = let short = (kept.traces_are t c e).short in let same = ap (λ q. length (option_map_or (λ (x : ThreadTrace). x.accesses) q [])) e in omega arith
+      go (Some c) e = let short = (kept.traces_are t c e).few in let same = ap (λ q. length (option_map_or (λ (x : ThreadTrace). x.accesses) q [])) e in omega arith
       go None e = let same = ap (λ q. length (option_map_or (λ (x : ThreadTrace). x.accesses) q [])) e in omega arith
 
   -- once each read has its value, each thread has come to its end

@@ -1,21 +1,22 @@
 -- The numbers of accesses: the start of a thread, and an index in it.
-use Rattle.std.proofs.Common.{◌≡◌, ◌↔◌, ◌⊎◌, ℕ, ◌+◌, ◌<◌, List, [], ◌∷◌, ◌++◌, Some, Contains, slice_get, set, length, refl, sym, ap, ◌∙◌, subst, inl, inr, arith}
+use Rattle.std.proofs.Common.{◌≡◌, ◌↔◌, ◌⊎◌, ℕ, zero, suc, ◌+◌, ◌<◌, ◌≤◌, List, [], ◌∷◌, ◌++◌, Some, Contains, slice_get, set, length, refl, sym, ap, ◌∙◌, subst, inl, inr, arith}
 use Rattle.std.specs.List.{AllPairs}
-use Rattle.std.proofs.lemmas.Bool.{cases_lt}
+use Rattle.std.proofs.lemmas.Bool.{cases_lt, cases_eq}
 use Rattle.std.proofs.lemmas.Option.{slice_get_within, same_Some}
 use Rattle.bit_rows.specs.Rows.{IsIn}
 use Rattle.bit_rows.proofs.Bits.{none_in_zero}
+use Rattle.bit_rows.proofs.Written.{zeros}
 use Rattle.candidate_executions.specs.declared.event.Event.{Event}
 use Rattle.candidate_executions.specs.declared.event.Event.TheVariants.{Initial, Access as At}
 use Rattle.candidate_executions.proofs.Orders.Lists.{get_cases, get_set_same, get_set_other}
 use Rattle.candidate_executions.specs.Events.{ComesBefore}
 use Rattle.exec_axioms.specs.declared.thread_trace.ThreadTrace.{ThreadTrace}
-use Rattle.exec_axioms.specs.Rows.{IsRowOf, AreAccesses, AreBeyond, AreNumbered, AreStarts, EachEnds, FitRow, IsOfThreads, IsOnlyNumber}
+use Rattle.exec_axioms.specs.Rows.{IsRowOf, AreAccesses, AreBeyond, AreCounts, AreNumbered, AreStarts, EachEnds, FitRow, IsEarly, IsOfThreads}
 use Rattle.exec_axioms.proofs.Accesses.{IsBelow}
 use Rattle.exec_axioms.proofs.BranchesCounted.{not_before_itself}
 use Rattle.exec_axioms.proofs.InThreadOrder.{none_ordered, before_in}
 use Rattle.exec_axioms.proofs.Lawful.{none_in}
-use Rattle.exec_axioms.proofs.Numbered.{contained}
+use Rattle.exec_axioms.proofs.Numbered.{number_of, contained}
 
 pub beyond_none : (old : List Event) (t : ℕ) → AreBeyond old t old
 beyond_none old t d u i at = inl at
@@ -24,6 +25,7 @@ beyond_none old t d u i at = inl at
 pub numbered_none : (thread_traces : List ThreadTrace) (events : List Event) → events ≡ [] → (EachEnds thread_traces → ⊥) → AreNumbered thread_traces events
 numbered_none thread_traces events none goes_on = record {
   all = λ ends. absurd (goes_on ends);
+  not_some = λ e h. absurd (none_in e (subst (λ (es : List Event). Contains es e) none h));
   of_threads = λ e h. absurd (none_in e (subst (λ (es : List Event). Contains es e) none h));
   ordered = subst (AllPairs ComesBefore) (sym none) none_ordered;
   few = (let empty = ap length none in omega arith);
@@ -33,6 +35,7 @@ numbered_none thread_traces events none goes_on = record {
 pub numbered_all : (thread_traces : List ThreadTrace) (events : List Event) → FitRow thread_traces → AreAccesses thread_traces events → AreNumbered thread_traces events
 numbered_all thread_traces events fit accesses = record {
   all = λ ends. accesses;
+  not_some = λ e h. accesses;
   of_threads = λ e h. (accesses.exact e).0 h;
   ordered = accesses.ordered;
   few = fit events accesses.ordered (λ e h. (accesses.exact e).0 h);
@@ -66,10 +69,56 @@ starts_more thread_traces old next t start starts below inside here are beyond d
   | inr (same, sum) ↦ (start, ap (slice_get (set starts t start)) same ∙ get_set_same starts t start inside, omega arith)
 ]
 
--- no event has another number than its own
-pub only_number : (events : List Event) (starts : List ℕ) (t i start : ℕ) → AreStarts events starts → slice_get starts t ≡ Some start → IsOnlyNumber events (At t i) (start + i)
-only_number events starts t i start are there d at = (let (first, here, sum) = are d t i at in
-    let same : first ≡ start = same_Some first start (sym here ∙ there) in omega arith)
+-- threads with no accesses
+no_count : (n t count : ℕ) → slice_get (zeros n) t ≡ Some count → count ≡ 0
+no_count zero t count h = absurd cc
+no_count (suc n) zero count h = sym (same_Some 0 count h)
+no_count (suc n) (suc t) count h = no_count n t count h
+
+pub counts_none : (events : List Event) (n : ℕ) → events ≡ [] → AreCounts events (zeros n)
+counts_none events n none t i = (
+  λ h. absurd (none_in (At t i) (subst (λ (es : List Event). Contains es (At t i)) none h)),
+  λ (count, at, less). absurd (let no = no_count n t count at in omega arith),
+)
+
+-- one thread more
+pub counts_more : (thread_traces : List ThreadTrace) (old next : List Event) (t count : ℕ) (counts : List ℕ) → ((e : Event) → Contains old e → IsBelow thread_traces t e) → t < length counts →
+    AreCounts old counts → ((e : Event) → Contains next e ↔ (Contains old e ⊎ IsEarly t count e)) → AreCounts next (set counts t count)
+counts_more thread_traces old next t count counts below inside are exact u i = elim (cases_eq u t) [
+  | inl same ↦ (
+    λ h. elim ((exact (At u i)).0 h) [
+      | inl a ↦ absurd (let earlier = (below (At u i) a).0 in omega arith)
+      | inr (is, less) ↦ (count, ap (slice_get (set counts t count)) same ∙ get_set_same counts t count inside, less)
+    ],
+    λ (n, at, less). (let here : n ≡ count = same_Some n count (sym at ∙ ap (slice_get (set counts t count)) same ∙ get_set_same counts t count inside) in
+        (exact (At u i)).1 (inr (same, omega arith))),
+  )
+  | inr other ↦ (
+    λ h. elim ((exact (At u i)).0 h) [
+      | inl a ↦ (let (n, at, less) = (are u i).0 a in (n, get_set_other counts t count u other ∙ at, less))
+      | inr (is, less) ↦ absurd (other is)
+    ],
+    λ (n, at, less). (exact (At u i)).1 (inl ((are u i).1 (n, sym (get_set_other counts t count u other) ∙ at, less))),
+  )
+]
+
+module _ (events : List Event) (starts counts : List ℕ) (t i : ℕ) (starts_are : AreStarts events starts) (counts_are : AreCounts events counts) where
+  -- the number of an access is the start of its thread and its index
+  pub number_at : (start count : ℕ) → slice_get starts t ≡ Some start → slice_get counts t ≡ Some count → i < count → (start + i < length events) × (slice_get events (start + i) ≡ Some (At t i))
+  number_at start count here there less =
+      let (d, at) = number_of events (At t i) ((counts_are t i).1 (count, there, less)) in
+      let (first, at_start, sum) = starts_are d t i at in
+      let same : first ≡ start = same_Some first start (sym at_start ∙ here) in
+      let number : d ≡ start + i = omega arith in
+      let is = ap (slice_get events) (sym number) ∙ at in
+      (slice_get_within events (start + i) (At t i) is, is)
+
+  -- what is past a thread's count has no number
+  pub past_count : (count : ℕ) → slice_get counts t ≡ Some count → count ≤ i → Contains events (At t i) → ⊥
+  past_count count there past has =
+      let (n, at, less) = (counts_are t i).0 has in
+      let same : n ≡ count = same_Some n count (sym at ∙ there) in
+      omega arith
 
 -- the row of one number
 pub row_of_number : (events : List Event) (e : Event) (number row : ℕ) → slice_get events number ≡ Some e → ((d : ℕ) → slice_get events d ≡ Some e → d ≡ number) →

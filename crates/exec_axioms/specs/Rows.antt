@@ -14,10 +14,11 @@ use Rattle.candidate_executions.specs.Consistency.{SameThread}
 use Rattle.tso_machine.specs.declared.mode.Mode.{Mode}
 use Rattle.tso_machine.specs.declared.mode.Mode.TheVariants.{Sequential, Fenced}
 use Rattle.exec_axioms.specs.declared.thread_trace.ThreadTrace.{ThreadTrace}
+use Rattle.exec_axioms.specs.declared.thread_trace.OrderedTrace.{OrderedTrace}
 use Rattle.exec_axioms.specs.declared.connect.SourceRows.{SourceRows}
 use Rattle.exec_axioms.specs.declared.connect.OrderRows.{OrderRows}
 use Rattle.exec_axioms.specs.ProgramSketches.{ProgramSketch, mode_in}
-use Rattle.exec_axioms.specs.Known.{OrderPart}
+use Rattle.exec_axioms.specs.Known.{OrderPart, IsKeptBy}
 use Rattle.exec_axioms.specs.Kept.{view_of, KeepsTraces}
 use Rattle.bit_rows.specs.declared.row.TheConstants.{ROW_BITS}
 use Rattle.tso_program.specs.declared.limits.TheConstants.{MAX_LOCATIONS}
@@ -60,6 +61,21 @@ AreRowsOf events R rows =
 abbrev pub InOrder : List ThreadTrace → Kind → Event → Event → Type 0
 InOrder thread_traces kind d e =
     (x : Access) × (y : Access) × (access_of thread_traces d ≡ Some x) × (access_of thread_traces e ≡ Some y) × OrderPart kind d x e y
+
+-- the union has program order from access i of a thread to access j of it
+abbrev pub IsLaterIn : Kind → List Access → ℕ → ℕ → Type 0
+IsLaterIn kind accesses i j =
+    (i < j) × ((x : Access) × (y : Access) × (slice_get accesses i ≡ Some x) × (slice_get accesses j ≡ Some y) × IsKeptBy kind x y)
+
+-- the rows have the union's program order between the accesses of a thread
+abbrev pub AreOrderOf : Kind → List Access → List ℕ → Type 0
+AreOrderOf kind accesses rows = (i j : ℕ) → Relates rows i j ↔ IsLaterIn kind accesses i j
+
+-- the rows of each union have its program order
+pub record KeepsOrders (c : OrderedTrace) : Type 0 where
+  pub sequential : AreOrderOf union.Sequential c.trace.accesses c.sequential
+  pub location : AreOrderOf union.Location c.trace.accesses c.location
+  pub global : AreOrderOf union.Global c.trace.accesses c.global
 
 -- the locations of the accesses are among those that a program has
 abbrev pub AreLocated : List ThreadTrace → Type 0
@@ -117,9 +133,10 @@ AreOfSketch thread_traces = (p : Listing) × (mode : Mode) × (sources : List (E
 abbrev pub FitRow : List ThreadTrace → Type 0
 FitRow thread_traces = (events : List Event) → AllPairs ComesBefore events → ((e : Event) → Contains events e → IsOfThreads thread_traces e) → length events ≤ ROW_BITS
 
--- the accesses that have numbers, all of them where each thread has come to its end
+-- the accesses that have numbers: all of them where each thread has come to its end, and all or none
 pub record AreNumbered (thread_traces : List ThreadTrace) (events : List Event) : Type 0 where
   pub all : EachEnds thread_traces → AreAccesses thread_traces events
+  pub not_some : (e : Event) → Contains events e → AreAccesses thread_traces events
   pub of_threads : (e : Event) → Contains events e → IsOfThreads thread_traces e
   pub ordered : AllPairs ComesBefore events
   pub few : length events ≤ ROW_BITS
@@ -128,19 +145,20 @@ pub record AreNumbered (thread_traces : List ThreadTrace) (events : List Event) 
 abbrev pub AreStarts : List Event → List ℕ → Type 0
 AreStarts events starts = (d t i : ℕ) → slice_get events d ≡ Some (At t i) → (start : ℕ) × (slice_get starts t ≡ Some start) × (start + i ≡ d)
 
--- no other number is the event's
-abbrev pub IsOnlyNumber : List Event → Event → ℕ → Type 0
-IsOnlyNumber events e number = (d : ℕ) → slice_get events d ≡ Some e → number ≡ d
+-- the accesses of a thread are as many as its count
+abbrev pub AreCounts : List Event → List ℕ → Type 0
+AreCounts events counts = (t i : ℕ) → Contains events (At t i) ↔ ((count : ℕ) × (slice_get counts t ≡ Some count) × (i < count))
 
 -- the new events are the old ones, and the accesses of thread t at the next places
 abbrev pub AreBeyond : List Event → ℕ → List Event → Type 0
 AreBeyond old t new = (d u i : ℕ) → slice_get new d ≡ Some (At u i) → (slice_get old d ≡ Some (At u i)) ⊎ ((u ≡ t) × (length old + i ≡ d))
 
--- what is kept beside the traces: whether each thread has come to its end, the accesses that have numbers, the starts of the threads, and the writes to each location
-pub record KeepsNumbers (thread_traces : List ThreadTrace) (events : List Event) (whole : Bool) (starts written : List ℕ) : Type 0 where
+-- what is kept beside the traces: whether each thread has come to its end, the accesses that have numbers, the starts of the threads, how many accesses they have, and the writes to each location
+pub record KeepsNumbers (thread_traces : List ThreadTrace) (events : List Event) (whole : Bool) (starts counts written : List ℕ) : Type 0 where
   pub numbered : AreNumbered thread_traces events
   pub ends : IsTrue whole ↔ EachEnds thread_traces
   pub starts_are : AreStarts events starts
+  pub counts_are : AreCounts events counts
   pub written_are : AreWriteRows thread_traces events written
 
 -- the rows have the program order of the mode's unions between the accesses that have numbers

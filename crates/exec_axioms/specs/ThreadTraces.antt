@@ -10,7 +10,7 @@ use Rattle.candidate_executions.specs.declared.access.Access.{Access}
 use Rattle.candidate_executions.specs.Traces.{Trace, traced, stopped, trace_by}
 use Rattle.exec_axioms.specs.declared.thread_trace.ThreadTrace.{ThreadTrace}
 use Rattle.exec_axioms.specs.declared.thread_trace.TraceSoFar.{TraceSoFar}
-use Rattle.tso_program.specs.declared.limits.TheConstants.{MAX_INSTRUCTIONS}
+use Rattle.tso_program.specs.declared.limits.TheConstants.{MAX_ACCESSES}
 
 -- a thread at its start
 abbrev pub first_local : List ℕ → Local
@@ -31,7 +31,7 @@ GoesOn section w next a given false = (next.accesses ≡ w.accesses) × (next.la
 pub record IsTraceSoFarOf (p : Listing) (mode : Mode) (t : ℕ) (given : List ℕ) (w : TraceSoFar) : Type 0 where
   pub accesses : (trace_by p mode (λ u. given) t).accesses ≡ w.accesses
   pub last : (trace_by p mode (λ u. given) t).last ≡ w.last
-  pub short : length w.accesses ≤ MAX_INSTRUCTIONS
+  pub few : length w.accesses ≤ MAX_ACCESSES
   pub registers : length (start_of p.threads t).registers ≡ 6
 
 -- the same, with the values, and the location of the read where it stops
@@ -41,5 +41,5 @@ pub record IsThreadTraceOf (p : Listing) (mode : Mode) (t : ℕ) (given : List �
   pub last : (trace_by p mode (λ u. given) t).last ≡ c.last
   pub next : c.next ≡ read_by (action p.threads t c.last)
   pub located : IfSome c.next (λ location. location < length p.memory)
-  pub short : length c.accesses ≤ MAX_INSTRUCTIONS
+  pub few : length c.accesses ≤ MAX_ACCESSES
   pub registers : length (start_of p.threads t).registers ≡ 6

@@ -1,20 +1,16 @@
 //! What is known before anything but values is chosen.
-ghost use Rattle.std.specs.Prelude.{◌≡◌, ◌≤◌, IfOk, length};
+ghost use Rattle.std.specs.Prelude.{◌≡◌, IfOk};
 ghost use Rattle.std.specs.Arc.{arc_value};
-ghost use Rattle.std.specs.List.{AllPairs};
-ghost use Rattle.bit_rows.specs.declared.row.TheConstants.{ROW_BITS};
 ghost use Rattle.candidate_executions.specs.declared.event.Event.{Event};
 ghost use Rattle.candidate_executions.specs.declared.event.Kind.TheVariants as union;
-ghost use Rattle.candidate_executions.specs.Events.{ComesBefore};
 ghost use Rattle.tso_machine.specs.declared.mode.Mode.TheVariants.{Sequential};
 ghost use Rattle.exec_axioms.specs.Rows.{main_kind, AreOfSketch, AreRowsOf, InOrder, HasOrder};
 
 use crate::Mode;
-use crate::rows::order_rows;
 use crate::thread_trace::SharedTrace;
 use crate::traces::Traces;
 use bit_rows::Relation;
-use candidate_executions::{Event, Kind};
+use candidate_executions::Kind;
 use std::alloc::{AllocError, Global};
 use std::sync::Arc;
 
@@ -37,8 +33,8 @@ pub(crate) fn in_order(
     ensures order { IfOk result (λ ordered. HasOrder mode thread_traces.items (arc_value ordered.traces).events ordered.main ordered.global) }
 {
     let traces = Traces::new(alloc, thread_traces)?;
-    let main = order_rows(main_union(mode), traces.thread_traces(), traces.events());
-    let global = global_rows(mode, traces.thread_traces(), traces.events());
+    let main = traces.order_rows(main_union(mode));
+    let global = global_rows(mode, &traces);
     Ok(Ordered {
         traces: Arc::new(alloc, traces)?,
         main,
@@ -57,14 +53,12 @@ fn main_union(mode: Mode) -> Kind
 }
 
 /// The program order of the global union, which sequential mode has not.
-fn global_rows(mode: Mode, thread_traces: &[SharedTrace], events: &[Event]) -> Relation
-    requires few { length events.now ≤ ROW_BITS }
-    requires ordered { AllPairs ComesBefore events.now }
-    requires joins { (d e f : Event) → InOrder thread_traces.now union.Global d e → InOrder thread_traces.now union.Global e f → InOrder thread_traces.now union.Global d f }
-    ensures { AreRowsOf events.now (λ d e. (mode ≡ Sequential → ⊥) × InOrder thread_traces.now union.Global d e) result }
+fn global_rows(mode: Mode, traces: &Traces) -> Relation
+    requires { (d e f : Event) → InOrder traces.now.thread_traces union.Global d e → InOrder traces.now.thread_traces union.Global e f → InOrder traces.now.thread_traces union.Global d f }
+    ensures { AreRowsOf traces.now.events (λ d e. (mode ≡ Sequential → ⊥) × InOrder traces.now.thread_traces union.Global d e) result }
 {
     match mode {
         Mode::Sequential => Relation::empty(),
-        Mode::Fenced(_) => order_rows(Kind::Global, thread_traces, events),
+        Mode::Fenced(_) => traces.order_rows(Kind::Global),
     }
 }

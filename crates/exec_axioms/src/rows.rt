@@ -1,100 +1,17 @@
 //! Rows of accesses by their numbers, their places among all accesses.
-ghost use Rattle.std.specs.Prelude.{◌≡◌, ◌≤◌, ◌<◌, ◌↔◌, IsTrue, ℕ, Some, MatchOption, Contains, length, slice_get};
-ghost use Rattle.std.specs.List.{AllPairs};
+ghost use Rattle.std.specs.Prelude.{◌≡◌, ◌≤◌, ◌<◌, ◌↔◌, ℕ, Some, MatchOption, Contains, length, slice_get};
 ghost use Rattle.candidate_executions.specs.declared.event.Event.{Event};
-ghost use Rattle.candidate_executions.specs.Events.{ComesBefore};
 ghost use Rattle.bit_rows.specs.Rows.{IsIn};
 ghost use Rattle.bit_rows.specs.declared.row.TheConstants.{ROW_BITS};
-ghost use Rattle.exec_axioms.specs.Rows.{access_of, IsRowOf, AreRowsOf, InOrder, WritesBut, ReadsBut, IsAlike, IsAfterBut};
+ghost use Rattle.exec_axioms.specs.Rows.{IsRowOf, WritesBut, ReadsBut, IsAlike, IsAfterBut};
 ghost use Rattle.tso_machine.specs.declared.mode.Mode.TheVariants.{Sequential};
 ghost use Rattle.candidate_executions.specs.Consistency.{SameThread};
 
 use crate::Mode;
-use crate::edges::keeps_order;
-use crate::events::{is_one_thread, is_same, precedes};
-use crate::thread_trace::SharedTrace;
-use crate::traces::{Traces, access_at};
-use bit_rows::{ROW_BITS, Relation, joined, minus, with};
-use candidate_executions::{Access, Event, Kind};
-
-/// The accesses to which the union has program order from the one at this place.
-fn later_in_order(
-    kind: Kind,
-    thread_traces: &[SharedTrace],
-    events: &[Event],
-    place: usize,
-    from: Event,
-) -> u32
-    requires few { length events.now ≤ ROW_BITS }
-    requires ordered { AllPairs ComesBefore events.now }
-    requires here { slice_get events.now place ≡ Some from }
-    ensures { IsRowOf events.now (InOrder thread_traces.now kind from) result }
-{
-    match access_at(thread_traces, from) {
-        Some(access) => later_than(kind, thread_traces, events, place, from, access),
-        None => 0,
-    }
-}
-
-/// The same of what reads and writes so. The accesses of its thread that come after it are those at the
-/// next places, up to the first of another thread.
-fn later_than(
-    kind: Kind,
-    thread_traces: &[SharedTrace],
-    events: &[Event],
-    place: usize,
-    from: Event,
-    access: Access,
-) -> u32
-    requires few { length events.now ≤ ROW_BITS }
-    requires ordered { AllPairs ComesBefore events.now }
-    requires here { slice_get events.now place ≡ Some from }
-    requires access { access_of thread_traces.now from ≡ Some access }
-    ensures { IsRowOf events.now (InOrder thread_traces.now kind from) result }
-{
-    let mut row = 0;
-    for d in place + 1..events.len() {
-        let to = events[d];
-        if !precedes(from, to) {
-            return row;
-        }
-        if is_in_order(kind, thread_traces, from, access, to) {
-            row = with(row, d as u8);
-        }
-    }
-    row
-}
-
-/// Whether the union has program order between two accesses, of which the first reads and writes so.
-fn is_in_order(
-    kind: Kind,
-    thread_traces: &[SharedTrace],
-    from: Event,
-    access: Access,
-    to: Event,
-) -> bool
-    requires { access_of thread_traces.now from ≡ Some access }
-    ensures { IsTrue result ↔ InOrder thread_traces.now kind from to }
-{
-    match access_at(thread_traces, to) {
-        Some(other) => keeps_order(kind, from, access, to, other),
-        None => false,
-    }
-}
-
-/// The program order of the union, which joins its steps.
-pub(crate) fn order_rows(kind: Kind, thread_traces: &[SharedTrace], events: &[Event]) -> Relation
-    requires few { length events.now ≤ ROW_BITS }
-    requires ordered { AllPairs ComesBefore events.now }
-    requires joins { (d e f : Event) → InOrder thread_traces.now kind d e → InOrder thread_traces.now kind e f → InOrder thread_traces.now kind d f }
-    ensures { AreRowsOf events.now (InOrder thread_traces.now kind) result }
-{
-    let mut rows = [0; ROW_BITS];
-    for (d, from) in events.iter().enumerate() {
-        rows[d] = later_in_order(kind, thread_traces, events, d, *from);
-    }
-    Relation::of_order(rows)
-}
+use crate::events::{is_one_thread, is_same};
+use crate::traces::Traces;
+use bit_rows::{joined, minus};
+use candidate_executions::Event;
 
 /// The reads that have the event as their source, but for one.
 pub(crate) fn readers_of(

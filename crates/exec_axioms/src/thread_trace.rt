@@ -1,14 +1,19 @@
 //! What one thread does under its given values.
-ghost use Rattle.std.specs.Prelude.{◌≡◌, ◌<◌, ◌≤◌, ◌+◌, ℕ, [], ◌∷◌, ◌++◌, length, slice_get, IfOk, IfSome};
+ghost use Rattle.std.specs.Prelude.{◌≡◌, ◌↔◌, ◌<◌, ◌≤◌, ◌+◌, ℕ, [], ◌∷◌, ◌++◌, length, slice_get, IfOk, IfSome};
 ghost use Rattle.tso_program.specs.Actions.{IsLocated};
 ghost use Rattle.candidate_executions.specs.Sketches as sketches;
 ghost use Rattle.candidate_executions.specs.Traces.{entered, store_of};
 ghost use Rattle.tso_machine.specs.Modes.{machine_mode};
+ghost use Rattle.bit_rows.specs.Rows.{IsIn};
+ghost use Rattle.bit_rows.specs.declared.row.TheConstants.{ROW_BITS};
+ghost use Rattle.exec_axioms.specs.Rows.{IsLaterIn};
 ghost use Rattle.exec_axioms.specs.ThreadTraces.{GoesOn, IsTraceSoFarOf, IsThreadTraceOf, first_local};
 
 use crate::Mode;
 use crate::sections::ends_section;
-use candidate_executions::Access;
+use crate::thread_order::thread_order;
+use bit_rows::ROW_BITS;
+use candidate_executions::{Access, Kind};
 use std::alloc::{AllocError, Global};
 use std::marker::Model;
 use std::sync::Arc;
@@ -24,10 +29,20 @@ pub(crate) struct ThreadTrace {
     pub(crate) next: Option<u8>,
 }
 
+/// A thread's trace, and in rows the program order of each union between its accesses, by their
+/// indices.
+#[derive(Drop)]
+struct OrderedTrace {
+    trace: ThreadTrace,
+    sequential: [u32; ROW_BITS],
+    location: [u32; ROW_BITS],
+    global: [u32; ROW_BITS],
+}
+
 /// A thread's trace that sketches share. It never changes, and a copy takes no memory.
 #[derive(Drop)]
 pub(crate) struct SharedTrace {
-    trace: Arc<ThreadTrace>,
+    ordered: Arc<OrderedTrace>,
 }
 
 impl Model for SharedTrace {
@@ -36,15 +51,30 @@ impl Model for SharedTrace {
 
     ghost Value = { ThreadTrace };
 
-    ghost view = { λ t. arc_value t.trace };
+    ghost use Rattle.exec_axioms.specs.Rows.{KeepsOrders};
+
+    ghost view = { λ t. (arc_value t.ordered).trace };
+
+    ghost invariant = { λ t. KeepsOrders (arc_value t.ordered) };
 }
 
 impl SharedTrace {
     fn new(alloc: Global, trace: ThreadTrace) -> Result<SharedTrace, AllocError>
+        requires { length trace.accesses ≤ ROW_BITS }
         ensures { IfOk result (λ shared. shared ≡ trace) }
     {
+        let accesses = trace.accesses.as_slice();
+        let sequential = thread_order(Kind::Sequential, accesses);
+        let location = thread_order(Kind::Location, accesses);
+        let global = thread_order(Kind::Global, accesses);
+        let ordered = OrderedTrace {
+            trace,
+            sequential,
+            location,
+            global,
+        };
         Ok(SharedTrace {
-            trace: Arc::new(alloc, trace)?,
+            ordered: Arc::new(alloc, ordered)?,
         })
     }
 
@@ -52,14 +82,32 @@ impl SharedTrace {
     pub(crate) fn trace(&self) -> &ThreadTrace
         ensures { result.now ≡ self.now }
     {
-        &self.trace
+        &self.ordered.trace
     }
 
     /// What access i of the thread reads and writes.
     pub(crate) fn access(&self, i: u8) -> Option<Access>
         ensures { result ≡ slice_get self.now.accesses i }
     {
-        self.trace.accesses.as_slice().get(i as usize).copied()
+        self.ordered
+            .trace
+            .accesses
+            .as_slice()
+            .get(i as usize)
+            .copied()
+    }
+
+    /// The later accesses to which the union has program order from access i, by their indices.
+    pub(crate) fn later(&self, kind: Kind, i: u8) -> u32
+        requires { i < ROW_BITS }
+        ensures { (j : ℕ) → IsIn result j ↔ IsLaterIn kind self.now.accesses i j }
+    {
+        let ordered = &self.ordered;
+        match kind {
+            Kind::Sequential => ordered.sequential[i as usize],
+            Kind::Location => ordered.location[i as usize],
+            Kind::Global => ordered.global[i as usize],
+        }
     }
 
     /// The same trace.
@@ -67,7 +115,7 @@ impl SharedTrace {
         ensures { IfOk result (λ other. other ≡ self.now) }
     {
         Ok(SharedTrace {
-            trace: Arc::try_clone(&self.trace)?,
+            ordered: Arc::try_clone(&self.ordered)?,
         })
     }
 
@@ -75,7 +123,7 @@ impl SharedTrace {
     pub(crate) fn with_given(&self, alloc: Global, value: u32) -> Result<Items<u32>, AllocError>
         ensures { IfOk result (λ given. given ≡ self.now.given ++ value ∷ []) }
     {
-        let given = self.trace.given.as_slice();
+        let given = self.ordered.trace.given.as_slice();
         let mut more = Vec::with_capacity(alloc, given.len() + 1)?;
         more.extend_from_slice(given)?;
         more.push(value)?;
@@ -130,7 +178,6 @@ impl TraceSoFar {
         requires { self.old.section < 255 }
         ensures goes { IfOk result (GoesOn self.old.section self.old self.new action given.now) }
         ensures section { IfOk result (λ on. self.new.section ≤ self.old.section + 1) }
-        ensures short { IfOk result (λ on. length self.new.accesses ≤ length self.old.accesses + 1) }
     {
         match action {
             Action::Stop => Ok(false),
@@ -165,7 +212,6 @@ impl TraceSoFar {
     ) -> Result<bool, AllocError>
         ensures goes { IfOk result (GoesOn self.old.section self.old self.new (Action.Read location to next) given.now) }
         ensures section { IfOk result (λ on. self.new.section ≡ self.old.section) }
-        ensures short { IfOk result (λ on. length self.new.accesses ≤ length self.old.accesses + 1) }
     {
         let Some(value) = given.get(self.taken).copied() else {
             return Ok(false);
@@ -194,7 +240,6 @@ impl TraceSoFar {
         requires { self.old.section < 255 }
         ensures goes { IfOk result (GoesOn self.old.section self.old self.new (Action.Swap location written to next) given.now) }
         ensures section { IfOk result (λ on. self.new.section ≤ self.old.section + 1) }
-        ensures short { IfOk result (λ on. length self.new.accesses ≤ length self.old.accesses + 1) }
     {
         let Some(value) = given.get(self.taken).copied() else {
             return Ok(false);

@@ -7,12 +7,11 @@ ghost use Rattle.bit_rows.specs.declared.row.TheConstants.{ROW_BITS};
 ghost use Rattle.candidate_executions.specs.declared.event.Event.{Event};
 ghost use Rattle.candidate_executions.specs.Events.{ComesBefore};
 ghost use Rattle.exec_axioms.specs.Known.{IsInitialWrite};
-ghost use Rattle.exec_axioms.specs.Rows.{accesses_at, access_of, AreAccesses, AreBeyond, AreLocated, AreNumbered, AreOfSketch, AreStarts, AreWriteRows, EachEnds, FitRow, IsEarly, IsOfThreads, IsOnlyNumber, IsRowOf, IsWriteAt};
+ghost use Rattle.exec_axioms.specs.Rows.{accesses_at, access_of, AreAccesses, AreBeyond, AreCounts, AreLocated, AreNumbered, AreOfSketch, AreStarts, AreWriteRows, EachEnds, FitRow, IsEarly, IsOfThreads, IsRowOf, IsWriteAt, InOrder, AreRowsOf};
 
-use crate::events::is_same;
 use crate::thread_trace::SharedTrace;
-use bit_rows::{ROW_BITS, with};
-use candidate_executions::{Access, Event};
+use bit_rows::{ROW_BITS, Relation, raised, with};
+use candidate_executions::{Access, Event, Kind};
 use std::alloc::{AllocError, Global};
 use std::marker::Model;
 use tso_program::{MAX_LOCATIONS, MAX_THREADS};
@@ -25,6 +24,7 @@ pub(crate) struct Traces {
     events: Vec<Event>,
     whole: bool,
     starts: [u8; MAX_THREADS],
+    counts: [u8; MAX_THREADS],
     written: [u32; MAX_LOCATIONS],
 }
 
@@ -37,7 +37,7 @@ impl Model for Traces {
 
     ghost view = { λ t. record { thread_traces = t.thread_traces.items; events = t.events.items } };
 
-    ghost invariant = { λ t. KeepsNumbers t.thread_traces.items t.events.items t.whole t.starts t.written };
+    ghost invariant = { λ t. KeepsNumbers t.thread_traces.items t.events.items t.whole t.starts t.counts t.written };
 }
 
 impl Traces {
@@ -48,23 +48,31 @@ impl Traces {
         ensures numbered { IfOk result (λ traces. AreNumbered thread_traces.items traces.events) }
     {
         let mut starts = [0; MAX_THREADS];
+        let mut counts = [0; MAX_THREADS];
         if !each_ends(thread_traces.as_slice()) {
             return Ok(Traces {
                 thread_traces,
                 events: Vec::new(alloc),
                 whole: false,
                 starts,
+                counts,
                 written: [0; MAX_LOCATIONS],
             });
         }
         let mut events = Vec::with_capacity(alloc, ROW_BITS)?;
-        number_accesses(thread_traces.as_slice(), &mut events, &mut starts)?;
+        number_accesses(
+            thread_traces.as_slice(),
+            &mut events,
+            &mut starts,
+            &mut counts,
+        )?;
         let written = write_rows(thread_traces.as_slice(), events.as_slice());
         Ok(Traces {
             thread_traces,
             events,
             whole: true,
             starts,
+            counts,
             written,
         })
     }
@@ -92,25 +100,46 @@ impl Traces {
 
     /// The number of an event.
     pub(crate) fn number_of(&self, event: Event) -> Option<usize>
-        ensures { MatchOption result (Contains self.now.events event → ⊥) (λ i. (i < length self.now.events) × (slice_get self.now.events i ≡ Some event)) }
-    {
-        let number = self.only_number(event)?;
-        let other = *self.events.as_slice().get(number)?;
-        if !is_same(other, event) {
-            return None;
-        }
-        Some(number)
-    }
-
-    /// The number that an event has, if it has one.
-    fn only_number(&self, event: Event) -> Option<usize>
-        ensures { MatchOption result (Contains self.now.events event → ⊥) (λ i. IsOnlyNumber self.now.events event i) }
+        ensures { MatchOption result (Contains self.now.events event → ⊥) (λ d. (d < length self.now.events) × (slice_get self.now.events d ≡ Some event)) }
     {
         match event {
             Event::Initial(_) => None,
             Event::Access(t, i) => {
                 let start = *self.starts.get(t as usize)?;
-                Some(start as usize + i as usize)
+                let count = *self.counts.get(t as usize)?;
+                if i < count {
+                    Some(start as usize + i as usize)
+                } else {
+                    None
+                }
+            }
+        }
+    }
+
+    /// The program order of the union, which joins its steps.
+    pub(crate) fn order_rows(&self, kind: Kind) -> Relation
+        requires { (d e f : Event) → InOrder self.now.thread_traces kind d e → InOrder self.now.thread_traces kind e f → InOrder self.now.thread_traces kind d f }
+        ensures { AreRowsOf self.now.events (InOrder self.now.thread_traces kind) result }
+    {
+        let mut rows = [0; ROW_BITS];
+        for (d, from) in self.events.as_slice().iter().enumerate() {
+            rows[d] = self.later_in_order(kind, d, *from);
+        }
+        Relation::of_order(rows)
+    }
+
+    /// The accesses to which the union has program order from the one with this number: those of its
+    /// thread, whose numbers begin where the thread does.
+    fn later_in_order(&self, kind: Kind, number: usize, from: Event) -> u32
+        requires { slice_get self.now.events number ≡ Some from }
+        ensures { IsRowOf self.now.events (InOrder self.now.thread_traces kind from) result }
+    {
+        match from {
+            Event::Initial(_) => 0,
+            Event::Access(t, i) => {
+                let start = number - i as usize;
+                let thread_traces = self.thread_traces.as_slice();
+                raised(thread_traces[t as usize].later(kind, i), start as u8)
             }
         }
     }
@@ -164,23 +193,28 @@ fn each_ends(thread_traces: &[SharedTrace]) -> bool
     true
 }
 
-/// Lists all accesses, and the numbers at which the threads begin.
+/// Lists all accesses, the numbers at which the threads begin, and how many accesses they have.
 fn number_accesses(
     thread_traces: &[SharedTrace],
     events: &mut Vec<Event>,
     starts: &mut [u8],
+    counts: &mut [u8],
 ) -> Result<(), AllocError>
     requires few { length thread_traces.now ≤ MAX_THREADS }
     requires short { (t : ℕ) → length (accesses_at thread_traces.now t) ≤ MAX_INSTRUCTIONS }
     requires fit { FitRow thread_traces.now }
     requires none { events.old.items ≡ [] }
-    requires long { length starts.old ≡ MAX_THREADS }
+    requires starts { length starts.old ≡ MAX_THREADS }
+    requires counts { (length counts.old ≡ MAX_THREADS) × AreCounts events.old.items counts.old }
     ensures accesses { OnOk result (AreAccesses thread_traces.now events.new.items) }
     ensures starts { OnOk result (AreStarts events.new.items starts.new) }
+    ensures counts { OnOk result (AreCounts events.new.items counts.new) }
 {
     for (t, thread_trace) in thread_traces.iter().enumerate() {
         starts[t] = events.len() as u8;
-        push_thread(thread_trace.trace().accesses.len() as u8, t as u8, events)?;
+        let accesses = thread_trace.trace().accesses.len() as u8;
+        counts[t] = accesses;
+        push_thread(accesses, t as u8, events)?;
     }
     Ok(())
 }

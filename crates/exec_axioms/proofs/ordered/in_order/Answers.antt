@@ -1,4 +1,4 @@
-use Rattle.std.proofs.Common.{◌≡◌, ◌∙◌, List, ap, sym, subst}
+use Rattle.std.proofs.Common.{◌≡◌, List, ap, sym, subst}
 use Rattle.candidate_executions.specs.declared.event.Event.{Event}
 use Rattle.candidate_executions.specs.declared.event.Kind.{Kind}
 use Rattle.candidate_executions.specs.declared.event.Kind.TheVariants as union
@@ -8,13 +8,13 @@ use Rattle.exec_axioms.specs.Rows.{NumberedTraces, AreRowsOf, InOrder, HasOrder}
 use Rattle.exec_axioms.proofs.OrderJoins.{order_joins}
 use Rattle.exec_axioms.proofs.ordered.in_order.Goals as goal
 
-pub order_rows-main-requires-clause-joins : goal.order_rows-main-requires-clause-joins
-order_rows-main-requires-clause-joins c = subst (λ (thread_traces : List ThreadTrace). (d e f : Event) → InOrder thread_traces c.main_union.result d e → InOrder thread_traces c.main_union.result e f → InOrder thread_traces c.main_union.result d f)
-    (sym (c.thread_traces.ensures ∙ c.in_ok-traces.ensures.thread_traces)) (order_joins c.args.thread_traces.items c.requires c.main_union.result)
+pub order_rows-main-requires : goal.order_rows-main-requires
+order_rows-main-requires c = subst (λ (thread_traces : List ThreadTrace). (d e f : Event) → InOrder thread_traces c.main_union.result d e → InOrder thread_traces c.main_union.result e f → InOrder thread_traces c.main_union.result d f)
+    (sym c.in_ok-traces.ensures.thread_traces) (order_joins c.args.thread_traces.items c.requires c.main_union.result)
 
-pub global_rows-global-requires-clause-joins : goal.global_rows-global-requires-clause-joins
-global_rows-global-requires-clause-joins c = subst (λ (thread_traces : List ThreadTrace). (d e f : Event) → InOrder thread_traces union.Global d e → InOrder thread_traces union.Global e f → InOrder thread_traces union.Global d f)
-    (sym (c.thread_traces-2.ensures ∙ c.in_ok-traces.ensures.thread_traces)) (order_joins c.args.thread_traces.items c.requires union.Global)
+pub global_rows-global-requires : goal.global_rows-global-requires
+global_rows-global-requires c = subst (λ (thread_traces : List ThreadTrace). (d e f : Event) → InOrder thread_traces union.Global d e → InOrder thread_traces union.Global e f → InOrder thread_traces union.Global d f)
+    (sym c.in_ok-traces.ensures.thread_traces) (order_joins c.args.thread_traces.items c.requires union.Global)
 
 pub returns-clause-order : goal.returns-clause-order
 returns-clause-order c =
@@ -26,8 +26,6 @@ returns-clause-order c =
     (record {
       numbered = c.in_ok-traces.ensures.numbered;
       main_rows = subst (λ (kind : Kind). AreRowsOf events (InOrder threads kind) main) c.main_union.ensures
-          (subst (λ (es : List Event). AreRowsOf es (InOrder threads c.main_union.result) main) c.events.ensures
-          (subst (λ (ts : List ThreadTrace). AreRowsOf c.events.result.now (InOrder ts c.main_union.result) main) (c.thread_traces.ensures ∙ c.in_ok-traces.ensures.thread_traces) c.order_rows-main.ensures));
-      global_rows = subst (λ (es : List Event). AreRowsOf es (λ d e. (c.args.mode ≡ Sequential → ⊥) × InOrder threads union.Global d e) global) c.events-2.ensures
-          (subst (λ (ts : List ThreadTrace). AreRowsOf c.events-2.result.now (λ d e. (c.args.mode ≡ Sequential → ⊥) × InOrder ts union.Global d e) global) (c.thread_traces-2.ensures ∙ c.in_ok-traces.ensures.thread_traces) c.global_rows-global.ensures);
+          (subst (λ (ts : List ThreadTrace). AreRowsOf events (InOrder ts c.main_union.result) main) c.in_ok-traces.ensures.thread_traces c.order_rows-main.ensures);
+      global_rows = subst (λ (ts : List ThreadTrace). AreRowsOf events (λ d e. (c.args.mode ≡ Sequential → ⊥) × InOrder ts union.Global d e) global) c.in_ok-traces.ensures.thread_traces c.global_rows-global.ensures;
     })

@@ -12,5 +12,4 @@ invariant-loop-step l = record {
       ≡ with_accesses l.walk.accesses (trace (action l.program.threads l.t) (fenced_gaps (machine_mode l.program l.mode) l.t) (length (code_of l.program.threads l.t) - l.step)
       l.walk.section l.walk.last (drop l.walk.taken l.given));
   sections : l.walk.section ≤ 2 * l.step;
-  short : length l.walk.accesses ≤ l.step;
 }

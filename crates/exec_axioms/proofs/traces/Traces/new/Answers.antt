@@ -28,6 +28,7 @@ invariant_of-result-2 c =
       numbered = numbered_all c.args.thread_traces.items c.number_accesses.new.events.items (fit_row p mode c.args.thread_traces.items sources pairs kept) accesses;
       ends = (λ t. ends, λ h. refl);
       starts_are = c.in_ok-number_accesses.ensures.starts;
+      counts_are = c.in_ok-number_accesses.ensures.counts;
       written_are = subst (λ (thread_traces : List ThreadTrace). AreWriteRows thread_traces c.number_accesses.new.events.items c.write_rows-written.result) c.as_slice-3.ensures.value
           (subst (λ (events : List Event). AreWriteRows c.as_slice-3.result.now events c.write_rows-written.result) c.as_slice-4.ensures.value c.write_rows-written.ensures);
     }
