@@ -11,7 +11,7 @@ ghost use Rattle.cover_judge.specs.Choices.{sketch_with, MayChoose, MayChooseEac
 ghost use Rattle.cover_judge.specs.CoverDefects.{FirstWrongCover};
 ghost use Rattle.cover_judge.specs.Judged.{IfWrong, IsAtRoot, IsBelow, IsValidAfter, IsWrongAt, AreValidAfter, IsWrongChild, AreSoMany, AreNotSoMany};
 
-use crate::choice::{Choice, event_of, is_order_open, sketch_with, source_choices, value_choices};
+use crate::choice::{Choice, choose, event_of, is_order_open, source_choices, value_choices};
 use crate::fault::TreeFault;
 use candidate_executions::{Event, Kind};
 use cert_forest::{AccessId, CoverTree};
@@ -34,6 +34,25 @@ pub fn judge_cover(
     ensures accepts { trees.IsValidCover (asked sketch.now.program shown.now) (mode_in sketch.now) outcomes.now (cover tree.now) sketch.now.chosen → IsOkUnless result TreeFault.OutOfMemory }
     ensures wrong { IfErr result (IfWrong (FirstWrongCover (asked sketch.now.program shown.now) (mode_in sketch.now) outcomes.now (cover tree.now) sketch.now.chosen)) }
 {
+    let mut own = sketch.copy()?;
+    judge(alloc, tree, &mut own, shown, outcomes)
+}
+
+/// The same in one sketch: each choice is made in it and taken back.
+pub fn judge_in_place(
+    alloc: Global,
+    tree: &CoverTree,
+    sketch: &mut Sketch,
+    shown: &Shown,
+    outcomes: &[Outcome],
+) -> Result<(), TreeFault>
+    ensures kept { sketch.new ≡ sketch.old }
+    ensures valid { OnOk result (trees.IsValidCover (asked sketch.old.program shown.now) (mode_in sketch.old) outcomes.now (cover tree.now) sketch.old.chosen) }
+
+    // A valid tree is accepted if memory is there, any other is refused by its first wrong node.
+    ensures accepts { trees.IsValidCover (asked sketch.old.program shown.now) (mode_in sketch.old) outcomes.now (cover tree.now) sketch.old.chosen → IsOkUnless result TreeFault.OutOfMemory }
+    ensures wrong { IfErr result (IfWrong (FirstWrongCover (asked sketch.old.program shown.now) (mode_in sketch.old) outcomes.now (cover tree.now) sketch.old.chosen)) }
+{
     judge(alloc, tree, sketch, shown, outcomes)
 }
 
@@ -42,12 +61,13 @@ pub fn judge_cover(
 fn judge(
     alloc: Global,
     tree: &CoverTree,
-    sketch: &Sketch,
+    sketch: &mut Sketch,
     shown: &Shown,
     outcomes: &[Outcome],
 ) -> Result<(), TreeFault>
-    ensures valid { OnOk result (IsValidAfter shown.now outcomes.now sketch.now (cover tree.now) sketch.now.chosen) }
-    ensures wrong { IfErr result (IfWrong (IsWrongAt shown.now outcomes.now sketch.now (cover tree.now) sketch.now.chosen)) }
+    ensures kept { sketch.new ≡ sketch.old }
+    ensures valid { OnOk result (IsValidAfter shown.now outcomes.now sketch.old (cover tree.now) sketch.old.chosen) }
+    ensures wrong { IfErr result (IfWrong (IsWrongAt shown.now outcomes.now sketch.old (cover tree.now) sketch.old.chosen)) }
 {
     match tree {
         CoverTree::Value { thread, children } => {
@@ -79,12 +99,13 @@ fn judge_values(
     alloc: Global,
     thread: u8,
     children: &[CoverTree],
-    sketch: &Sketch,
+    sketch: &mut Sketch,
     shown: &Shown,
     outcomes: &[Outcome],
 ) -> Result<(), TreeFault>
-    ensures valid { OnOk result (IsValidAfter shown.now outcomes.now sketch.now (Value thread (covers_of (map cover children.now))) sketch.now.chosen) }
-    ensures wrong { IfErr result (IfWrong (IsWrongAt shown.now outcomes.now sketch.now (Value thread (covers_of (map cover children.now))) sketch.now.chosen)) }
+    ensures kept { sketch.new ≡ sketch.old }
+    ensures valid { OnOk result (IsValidAfter shown.now outcomes.now sketch.old (Value thread (covers_of (map cover children.now))) sketch.old.chosen) }
+    ensures wrong { IfErr result (IfWrong (IsWrongAt shown.now outcomes.now sketch.old (Value thread (covers_of (map cover children.now))) sketch.old.chosen)) }
 {
     let found = value_choices(alloc, sketch, thread)?;
     let choices = so_many(alloc, found, children.len())?;
@@ -97,12 +118,13 @@ fn judge_sources(
     alloc: Global,
     read: AccessId,
     children: &[CoverTree],
-    sketch: &Sketch,
+    sketch: &mut Sketch,
     shown: &Shown,
     outcomes: &[Outcome],
 ) -> Result<(), TreeFault>
-    ensures valid { OnOk result (IsValidAfter shown.now outcomes.now sketch.now (Source read (covers_of (map cover children.now))) sketch.now.chosen) }
-    ensures wrong { IfErr result (IfWrong (IsWrongAt shown.now outcomes.now sketch.now (Source read (covers_of (map cover children.now))) sketch.now.chosen)) }
+    ensures kept { sketch.new ≡ sketch.old }
+    ensures valid { OnOk result (IsValidAfter shown.now outcomes.now sketch.old (Source read (covers_of (map cover children.now))) sketch.old.chosen) }
+    ensures wrong { IfErr result (IfWrong (IsWrongAt shown.now outcomes.now sketch.old (Source read (covers_of (map cover children.now))) sketch.old.chosen)) }
 {
     let found = source_choices(alloc, sketch, read)?;
     let choices = so_many(alloc, found, children.len())?;
@@ -134,15 +156,16 @@ fn so_many(
 fn judge_children(
     alloc: Global,
     trees: &[CoverTree],
-    sketch: &Sketch,
+    sketch: &mut Sketch,
     choices: &[Choice],
     shown: &Shown,
     outcomes: &[Outcome],
 ) -> Result<(), TreeFault>
-    requires may { MayChooseEach sketch.now choices.now }
+    requires may { MayChooseEach sketch.old choices.now }
     requires as_many { length trees.now ≡ length choices.now }
-    ensures valid { OnOk result (AreValidAfter shown.now outcomes.now sketch.now (map cover trees.now) choices.now) }
-    ensures wrong { IfErr result (IfWrong (IsBelow (IsWrongChild shown.now outcomes.now sketch.now (map cover trees.now) choices.now))) }
+    ensures kept { sketch.new ≡ sketch.old }
+    ensures valid { OnOk result (AreValidAfter shown.now outcomes.now sketch.old (map cover trees.now) choices.now) }
+    ensures wrong { IfErr result (IfWrong (IsBelow (IsWrongChild shown.now outcomes.now sketch.old (map cover trees.now) choices.now))) }
 {
     for (number, tree) in trees.iter().enumerate() {
         judge_child(
@@ -163,21 +186,43 @@ fn judge_children(
 fn judge_child(
     alloc: Global,
     tree: &CoverTree,
-    sketch: &Sketch,
+    sketch: &mut Sketch,
     choice: Choice,
     number: usize,
     shown: &Shown,
     outcomes: &[Outcome],
 ) -> Result<(), TreeFault>
-    requires { MayChoose sketch.now choice }
-    ensures valid { OnOk result (IsValidAfter shown.now outcomes.now sketch.now (cover tree.now) (sketch_with sketch.now.chosen choice)) }
-    ensures wrong { IfErr result (IfWrong (IsBelow (λ n path. (n ≡ number) × IsWrongAt shown.now outcomes.now sketch.now (cover tree.now) (sketch_with sketch.now.chosen choice) path))) }
+    requires { MayChoose sketch.old choice }
+    ensures kept { sketch.new ≡ sketch.old }
+    ensures valid { OnOk result (IsValidAfter shown.now outcomes.now sketch.old (cover tree.now) (sketch_with sketch.old.chosen choice)) }
+    ensures wrong { IfErr result (IfWrong (IsBelow (λ n path. (n ≡ number) × IsWrongAt shown.now outcomes.now sketch.old (cover tree.now) (sketch_with sketch.old.chosen choice) path))) }
 {
-    let next = sketch_with(sketch, choice)?;
-    match judge(alloc, tree, &next, shown, outcomes) {
+    match judge_after(alloc, tree, sketch, choice, shown, outcomes) {
         Ok(()) => Ok(()),
         Err(fault) => Err(fault.from_parent(number)),
     }
+}
+
+/// Judges a tree at the sketch after a choice, which is taken back.
+#[cycle(judge)]
+fn judge_after(
+    alloc: Global,
+    tree: &CoverTree,
+    sketch: &mut Sketch,
+    choice: Choice,
+    shown: &Shown,
+    outcomes: &[Outcome],
+) -> Result<(), TreeFault>
+    requires { MayChoose sketch.old choice }
+    ensures kept { sketch.new ≡ sketch.old }
+    ensures valid { OnOk result (IsValidAfter shown.now outcomes.now sketch.old (cover tree.now) (sketch_with sketch.old.chosen choice)) }
+    ensures wrong { IfErr result (IfWrong (IsWrongAt shown.now outcomes.now sketch.old (cover tree.now) (sketch_with sketch.old.chosen choice))) }
+{
+    let mark = sketch.mark()?;
+    choose(sketch, choice)?;
+    let judged = judge(alloc, tree, sketch, shown, outcomes);
+    sketch.go_back(mark);
+    judged
 }
 
 /// Judges that two writes to one location are in no order yet.
