@@ -24,7 +24,7 @@ use Rattle.cover_judge.proofs.cover.+judge.Goals as goal
 pub judge_values-returns-in_err-choices-clause-wrong : goal.judge_values-returns-in_err-choices-clause-wrong
 judge_values-returns-in_err-choices-clause-wrong t c =
     let kids = map cover c.args.children.now in
-    let s = c.args.sketch.now in
+    let s = c.args.sketch in
     let None : ℕ → Type 0 = HasNoValues s.program (mode_in s) s.chosen c.args.thread in
     let At = IsWrongAt c.args.shown.now c.args.outcomes.now s (Value c.args.thread (covers_of kids)) s.chosen in
     let count = length c.args.children.now in
@@ -39,7 +39,7 @@ judge_values-returns-in_err-choices-clause-wrong t c =
 pub judge_values-returns-clause-valid : goal.judge_values-returns-clause-valid
 judge_values-returns-clause-valid t c =
     let kids = map cover c.args.children.now in
-    let s = c.args.sketch.now in
+    let s = c.args.sketch in
     let outs = c.args.outcomes.now in
     let choices = c.in_ok-choices.choices.items in
     let are = found_so_many (length c.args.children.now) c.in_ok-found.found c.in_ok-choices.choices (IsValueOpen s c.args.thread → ⊥) (AreValueChoices s c.args.thread) c.in_ok-choices.ensures.many c.in_ok-found.ensures.values in
@@ -49,7 +49,7 @@ judge_values-returns-clause-valid t c =
 pub judge_values-returns-clause-wrong : goal.judge_values-returns-clause-wrong
 judge_values-returns-clause-wrong t c =
     let kids = map cover c.args.children.now in
-    let s = c.args.sketch.now in
+    let s = c.args.sketch in
     let outs = c.args.outcomes.now in
     let choices = c.in_ok-choices.choices.items in
     let are = found_so_many (length c.args.children.now) c.in_ok-found.found c.in_ok-choices.choices (IsValueOpen s c.args.thread → ⊥) (AreValueChoices s c.args.thread) c.in_ok-choices.ensures.many c.in_ok-found.ensures.values in
@@ -61,20 +61,20 @@ judge_values-returns-clause-wrong t c =
 
 pub judge-returns-in-Value-clause-valid : goal.judge-returns-in-Value-clause-valid
 judge-returns-in-Value-clause-valid t c =
-    let s = c.args.sketch.now in
+    let s = c.args.sketch in
     let is : cover c.args.tree.now ≡ Value c.in-Value.thread (covers_of (map cover c.in-Value.children.items)) = search (rules, the_lemmas, fold-roll-CoverTree Cover cover_node, fold_out-CoverTree Cover cover_node) in
     subst (λ tree. OnOk c.judge_values.result (IsValidAfter c.args.shown.now c.args.outcomes.now s tree s.chosen)) (sym is) (rw c.deref.ensures.value at c.judge_values.ensures.valid)
 
 pub judge-returns-in-Value-clause-wrong : goal.judge-returns-in-Value-clause-wrong
 judge-returns-in-Value-clause-wrong t c =
-    let s = c.args.sketch.now in
+    let s = c.args.sketch in
     let is : cover c.args.tree.now ≡ Value c.in-Value.thread (covers_of (map cover c.in-Value.children.items)) = search (rules, the_lemmas, fold-roll-CoverTree Cover cover_node, fold_out-CoverTree Cover cover_node) in
     subst (λ tree. IfErr c.judge_values.result (IfWrong (IsWrongAt c.args.shown.now c.args.outcomes.now s tree s.chosen))) (sym is) (rw c.deref.ensures.value at c.judge_values.ensures.wrong)
 
 pub judge_sources-returns-in_err-choices-clause-wrong : goal.judge_sources-returns-in_err-choices-clause-wrong
 judge_sources-returns-in_err-choices-clause-wrong t c =
     let kids = map cover c.args.children.now in
-    let s = c.args.sketch.now in
+    let s = c.args.sketch in
     let None : ℕ → Type 0 = HasNoSources s.program (mode_in s) s.chosen (event_of c.args.read) in
     let At = IsWrongAt c.args.shown.now c.args.outcomes.now s (Source c.args.read (covers_of kids)) s.chosen in
     let count = length c.args.children.now in
@@ -89,7 +89,7 @@ judge_sources-returns-in_err-choices-clause-wrong t c =
 pub judge_sources-returns-clause-valid : goal.judge_sources-returns-clause-valid
 judge_sources-returns-clause-valid t c =
     let kids = map cover c.args.children.now in
-    let s = c.args.sketch.now in
+    let s = c.args.sketch in
     let outs = c.args.outcomes.now in
     let choices = c.in_ok-choices.choices.items in
     let are = found_so_many (length c.args.children.now) c.in_ok-found.found c.in_ok-choices.choices (IsSourceOpen s c.args.read → ⊥) (AreSourceChoices s c.args.read) c.in_ok-choices.ensures.many c.in_ok-found.ensures.sources in
@@ -99,7 +99,7 @@ judge_sources-returns-clause-valid t c =
 pub judge_sources-returns-clause-wrong : goal.judge_sources-returns-clause-wrong
 judge_sources-returns-clause-wrong t c =
     let kids = map cover c.args.children.now in
-    let s = c.args.sketch.now in
+    let s = c.args.sketch in
     let outs = c.args.outcomes.now in
     let choices = c.in_ok-choices.choices.items in
     let are = found_so_many (length c.args.children.now) c.in_ok-found.found c.in_ok-choices.choices (IsSourceOpen s c.args.read → ⊥) (AreSourceChoices s c.args.read) c.in_ok-choices.ensures.many c.in_ok-found.ensures.sources in
@@ -111,19 +111,19 @@ judge_sources-returns-clause-wrong t c =
 
 pub judge-returns-in-Source-clause-valid : goal.judge-returns-in-Source-clause-valid
 judge-returns-in-Source-clause-valid t c =
-    let s = c.args.sketch.now in
+    let s = c.args.sketch in
     let is : cover c.args.tree.now ≡ Source c.in-Source.read (covers_of (map cover c.in-Source.children.items)) = search (rules, the_lemmas, fold-roll-CoverTree Cover cover_node, fold_out-CoverTree Cover cover_node) in
     subst (λ tree. OnOk c.judge_sources.result (IsValidAfter c.args.shown.now c.args.outcomes.now s tree s.chosen)) (sym is) (rw c.deref-in-Source.ensures.value at c.judge_sources.ensures.valid)
 
 pub judge-returns-in-Source-clause-wrong : goal.judge-returns-in-Source-clause-wrong
 judge-returns-in-Source-clause-wrong t c =
-    let s = c.args.sketch.now in
+    let s = c.args.sketch in
     let is : cover c.args.tree.now ≡ Source c.in-Source.read (covers_of (map cover c.in-Source.children.items)) = search (rules, the_lemmas, fold-roll-CoverTree Cover cover_node, fold_out-CoverTree Cover cover_node) in
     subst (λ tree. IfErr c.judge_sources.result (IfWrong (IsWrongAt c.args.shown.now c.args.outcomes.now s tree s.chosen))) (sym is) (rw c.deref-in-Source.ensures.value at c.judge_sources.ensures.wrong)
 
 pub judge-returns-in_err-judge_order-in-Order-clause-wrong : goal.judge-returns-in_err-judge_order-in-Order-clause-wrong
 judge-returns-in_err-judge_order-in-Order-clause-wrong t c =
-    let s = c.args.sketch.now in
+    let s = c.args.sketch in
     let outs = c.args.outcomes.now in
     let first = c.in-Order.first in
     let second = c.in-Order.second in
@@ -138,7 +138,7 @@ judge-returns-in_err-judge_order-in-Order-clause-wrong t c =
 
 pub judge-returns-in_err-judge_child-in-Order-clause-wrong : goal.judge-returns-in_err-judge_child-in-Order-clause-wrong
 judge-returns-in_err-judge_child-in-Order-clause-wrong t c =
-    let s = c.args.sketch.now in
+    let s = c.args.sketch in
     let outs = c.args.outcomes.now in
     let first = c.in-Order.first in
     let second = c.in-Order.second in
@@ -155,7 +155,7 @@ judge-returns-in_err-judge_child-in-Order-clause-wrong t c =
 
 pub judge-returns-in_ok-judge_child-in-Order-clause-valid : goal.judge-returns-in_ok-judge_child-in-Order-clause-valid
 judge-returns-in_ok-judge_child-in-Order-clause-valid t c =
-    let s = c.args.sketch.now in
+    let s = c.args.sketch in
     let outs = c.args.outcomes.now in
     let first = c.in-Order.first in
     let second = c.in-Order.second in
@@ -171,7 +171,7 @@ judge-returns-in_ok-judge_child-in-Order-clause-valid t c =
 
 pub judge-returns-in_ok-judge_child-in-Order-clause-wrong : goal.judge-returns-in_ok-judge_child-in-Order-clause-wrong
 judge-returns-in_ok-judge_child-in-Order-clause-wrong t c =
-    let s = c.args.sketch.now in
+    let s = c.args.sketch in
     let outs = c.args.outcomes.now in
     let first = c.in-Order.first in
     let second = c.in-Order.second in
@@ -189,12 +189,12 @@ judge-returns-in_ok-judge_child-in-Order-clause-wrong t c =
 pub judge_child-returns-in-Ok-clause-valid : goal.judge_child-returns-in-Ok-clause-valid
 judge_child-returns-in-Ok-clause-valid t c =
     let tree = cover c.args.tree.now in
-    moved (λ p mode k. IsValidCover (asked p c.args.shown.now) mode c.args.outcomes.now tree k) c.args.sketch.now c.in_ok-next.next c.args.choice c.in_ok-next.ensures
+    moved (λ p mode k. IsValidCover (asked p c.args.shown.now) mode c.args.outcomes.now tree k) c.args.sketch c.in_ok-next.next c.args.choice c.in_ok-next.ensures
     c.in-Ok.ensures.valid
 
 pub judge_child-returns-clause-wrong : goal.judge_child-returns-clause-wrong
 judge_child-returns-clause-wrong t c =
-    let s = c.args.sketch.now in
+    let s = c.args.sketch in
     let outs = c.args.outcomes.now in
     let tree = cover c.args.tree.now in
     let wrong = moved (λ p mode k. IfWrong (FirstWrongCover (asked p c.args.shown.now) mode outs tree k) c.in-Err.fault) s c.in_ok-next.next c.args.choice c.in_ok-next.ensures
@@ -203,7 +203,7 @@ judge_child-returns-clause-wrong t c =
 
 pub judge_children-returns-in_err-judge_child-clause-wrong : goal.judge_children-returns-in_err-judge_child-clause-wrong
 judge_children-returns-in_err-judge_child-clause-wrong t c =
-    let s = c.args.sketch.now in
+    let s = c.args.sketch in
     let outs = c.args.outcomes.now in
     let number = c.loop-number.number in
     let x = c.index-trees-number.result in
@@ -217,6 +217,6 @@ pub judge_children-loop-number-preserved : goal.judge_children-loop-number-prese
 judge_children-loop-number-preserved t c =
     let number = c.loop-number.number in
     let y = get_or c.args.choices.now number (choice.Value 0 0) in
-    go_on c.args.shown.now c.args.outcomes.now c.args.sketch.now c.args.trees.now c.args.choices.now number c.index-trees-number.result y c.loop-number-test.true c.index-trees-number.is
+    go_on c.args.shown.now c.args.outcomes.now c.args.sketch c.args.trees.now c.args.choices.now number c.index-trees-number.result y c.loop-number-test.true c.index-trees-number.is
     (same_default c.args.choices.now number (choice.Value 0 0) y (let h = c.loop-number-test.true in let many = c.requires.as_many in omega arith)) c.requires.as_many c.loop-number.invariant
     c.in_ok-judge_child.ensures.valid
