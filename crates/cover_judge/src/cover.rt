@@ -1,10 +1,11 @@
 //! Cover trees, judged node by node.
-ghost use Rattle.std.specs.Prelude.{◌≡◌, OnOk, IfOk, IfErr, IsOkUnless, length, map, slice_get};
+ghost use Rattle.std.specs.Prelude.{◌≡◌, ◌↔◌, IsTrue, OnOk, IfOk, IfErr, IsOkUnless, length, map, slice_get};
 ghost use Rattle.std.specs.Option.{option_copied};
 ghost use Rattle.tso_program.specs.Shown.{asked};
 ghost use Rattle.cert_forest.specs.Views.{cover};
 ghost use Rattle.cert_forest.specs.Trees.{Value, Source, covers_of};
-ghost use Rattle.candidate_executions.specs.Sketches.{IsKnownCycle};
+ghost use Rattle.candidate_executions.specs.Consistency.{Leads};
+ghost use Rattle.candidate_executions.specs.Sketches.{IsKnownCycle, KnownEdgeOfMode};
 ghost use Rattle.exec_axioms.specs.ProgramSketches.{mode_in};
 ghost use Rattle.tree_laws.specs.CoverTrees as trees;
 ghost use Rattle.cover_judge.specs.Choices.{sketch_with, MayChoose, MayChooseEach};
@@ -16,7 +17,7 @@ use crate::fault::TreeFault;
 use candidate_executions::{Event, Kind};
 use cert_forest::{AccessId, CoverTree};
 use exec_axioms::Sketch;
-use std::alloc::{AllocError, Global};
+use std::alloc::Global;
 use tso_program::{Outcome, Shown};
 
 /// Judges a tree at a sketch, over a list of outcomes: `Known` nodes have their numbers in it. It recurses
@@ -252,21 +253,36 @@ fn judge_cycle(
     ensures cycle { OnOk result (IsKnownCycle sketch.now.program (mode_in sketch.now) sketch.now.chosen kind (map trees.event_of accesses.now)) }
     ensures wrong { IfErr result (IfWrong (IsAtRoot (IsKnownCycle sketch.now.program (mode_in sketch.now) sketch.now.chosen kind (map trees.event_of accesses.now) → ⊥))) }
 {
-    let events = events_of(alloc, accesses)?;
-    if sketch.is_cycle(kind, &events) {
+    if is_cycle(sketch, kind, accesses) {
         Ok(())
     } else {
         Err(TreeFault::at_root(alloc))
     }
 }
 
-fn events_of(alloc: Global, accesses: &[AccessId]) -> Result<Vec<Event>, AllocError>
-    ensures { IfOk result (λ events. events.items ≡ map trees.event_of accesses.now) }
+/// Whether each access has a known edge of the union to the next, and the last to the first.
+fn is_cycle(sketch: &Sketch, kind: Kind, accesses: &[AccessId]) -> bool
+    ensures { IsTrue result ↔ IsKnownCycle sketch.now.program (mode_in sketch.now) sketch.now.chosen kind (map trees.event_of accesses.now) }
 {
-    accesses
-        .iter()
-        .map(|access| event_of(*access))
-        .collect(alloc)
+    match accesses.split_first() {
+        Some((first, rest)) => leads_back(sketch, kind, event_of(*first), rest),
+        None => false,
+    }
+}
+
+/// Whether known edges lead from the first event through each access in turn, and back to it.
+fn leads_back(sketch: &Sketch, kind: Kind, first: Event, rest: &[AccessId]) -> bool
+    ensures { IsTrue result ↔ Leads (KnownEdgeOfMode sketch.now.program (mode_in sketch.now) sketch.now.chosen kind) first (map trees.event_of rest.now) first }
+{
+    let mut last = first;
+    for access in rest {
+        let next = event_of(*access);
+        if !sketch.is_edge(kind, last, next) {
+            return false;
+        }
+        last = next;
+    }
+    sketch.is_edge(kind, last, first)
 }
 
 /// Judges that the sketch must end as the outcome of this number.

@@ -17,59 +17,70 @@ use Rattle.cover_solver.proofs.NothingLeft.{accesses_after}
 use Rattle.cover_solver.proofs.Nodes.{cover_next, cover_without, covers_more, node_cover, node_arity}
 use Rattle.cover_solver.proofs.cover.+cover.Goals as goal
 
-pub cover_each-cover_from-requires : goal.cover_each-cover_from-requires
-cover_each-cover_from-requires t c =
-    let s = c.args.sketch.now in
+pub cover_each-cover_after-requires : goal.cover_each-cover_after-requires
+cover_each-cover_after-requires t c =
+    let s = c.args.sketch in
     let i = c.loop-choice.choice-index in
     let d = choice.Value 0 0 in
-    let ch = get_or c.args.choices.now i d in (
-      omega (arith, fewer_rounds s c.in_ok-next.next ch c.program.ensures.lawful c.program.ensures.few (c.requires.may.each i d c.loop-choice-test.true) c.in_ok-next.ensures),
-      (c.loop-choice.invariant.0.in_order, accesses_after s c.in_ok-next.next ch c.args.accesses.now (c.requires.may.each i d c.loop-choice-test.true) c.in_ok-next.ensures c.requires.accesses),
+    let ch = get_or c.args.choices.now i d in
+    let same = c.loop-choice.invariant.0 in (
+      omega (arith, ap rounds same),
+      (
+        c.loop-choice.invariant.1.in_order,
+        subst (λ (k : ProgramSketch). AreAccessesOf k c.args.accesses.now) (sym same) c.requires.accesses,
+        subst (λ (k : ProgramSketch). MayChoose k ch) (sym same) (c.requires.may.each i d c.loop-choice-test.true),
+      ),
     )
 
 pub cover_each-returns-then-branch-clause-children : goal.cover_each-returns-then-branch-clause-children
 cover_each-returns-then-branch-clause-children t c =
-    let s = c.args.sketch.now in
+    let s = c.args.sketch in
     let shown = c.args.shown.now in
     let d = choice.Value 0 0 in
     let i = c.loop-choice.choice-index in
     let ch = get_or c.args.choices.now i d in
     let tree = cover c.in_ok-tree.tree in
-    cover_without s shown (listed c.cover_from.new.outcomes) c.program.ensures.lawful c.in_ok-next.next ch tree (c.requires.may.each i d c.loop-choice-test.true)
-    c.in_ok-next.ensures c.in_ok-tree.ensures.tree (subst (λ (os : List Outcome). IsValidAt s shown os tree) c.as_slice.ensures (c.in_ok-is_valid.ensures c.if-branch.true))
+    let same = c.loop-choice.invariant.0 in
+    let outs = listed c.cover_after.new.outcomes in
+    cover_without s shown outs c.program.ensures.lawful (with_chosen s (sketch_with s.chosen ch)) ch tree (c.requires.may.each i d c.loop-choice-test.true)
+    refl (subst (λ (k : ProgramSketch). IsCoverAt (with_chosen k (sketch_with k.chosen ch)) shown outs tree) same c.in_ok-tree.ensures.tree)
+    (subst (λ (k : ProgramSketch). IsValidAt k shown outs tree) (c.cover_after.ensures.kept ∙ same) (subst (λ (os : List Outcome). IsValidAt c.cover_after.new.sketch shown os tree) c.as_slice.ensures (c.in_ok-is_valid.ensures.valid c.if-branch.true)))
 
 pub cover_each-loop-choice-preserved : goal.cover_each-loop-choice-preserved
 cover_each-loop-choice-preserved t c =
-    let s = c.args.sketch.now in
+    let s = c.args.sketch in
     let shown = c.args.shown.now in
     let mid = c.loop-choice.outcomes in
-    let new = c.cover_from.new.outcomes in
+    let new = c.cover_after.new.outcomes in
     let lawful = c.program.ensures.lawful in
     let i = c.loop-choice.choice-index in
     let d = choice.Value 0 0 in
     let ch = get_or c.args.choices.now i d in
     let tree = c.in_ok-tree.tree in
-    let next = c.in_ok-next.next in
-    let grows = grows_after s next shown ch c.in_ok-next.ensures mid new c.in_ok-tree.ensures.grows in (
-      grows_twice (asked s.program shown) (mode_in s) c.args.outcomes.now mid new c.loop-choice.invariant.0 grows,
+    let same = c.loop-choice.invariant.0 in
+    let grows = subst (λ (k : ProgramSketch). Grows (asked k.program shown) (mode_in k) mid new) same c.in_ok-tree.ensures.grows in (
+      c.is_valid.ensures.kept ∙ c.cover_after.ensures.kept ∙ same,
+      grows_twice (asked s.program shown) (mode_in s) c.args.outcomes mid new c.loop-choice.invariant.1 grows,
       covers_more s shown (listed new) lawful c.args.choices.now (map cover c.loop-choice.trees.items) (map cover c.push.new.self.items) i d (cover tree) c.loop-choice-test.true
           (ap (map cover) c.in_ok-push.ensures.items ∙ map-append cover c.loop-choice.trees.items (tree ∷ []))
-          (covers_still s shown (listed mid) (listed new) (take i c.args.choices.now) (map cover c.loop-choice.trees.items) grows.keeps c.loop-choice.invariant.1)
-          (cover_next s shown (listed new) lawful next ch (cover tree) (c.requires.may.each i d c.loop-choice-test.true) c.in_ok-next.ensures c.in_ok-tree.ensures.tree),
+          (covers_still s shown (listed mid) (listed new) (take i c.args.choices.now) (map cover c.loop-choice.trees.items) grows.keeps c.loop-choice.invariant.2)
+          (cover_next s shown (listed new) lawful (with_chosen s (sketch_with s.chosen ch)) ch (cover tree) (c.requires.may.each i d c.loop-choice-test.true) refl
+          (subst (λ (k : ProgramSketch). IsCoverAt (with_chosen k (sketch_with k.chosen ch)) shown (listed new) (cover tree)) same c.in_ok-tree.ensures.tree)),
     )
 
 pub cover_each-returns-then-branch-clause-grows : goal.cover_each-returns-then-branch-clause-grows
 cover_each-returns-then-branch-clause-grows t c =
-    let s = c.args.sketch.now in
+    let s = c.args.sketch in
     let shown = c.args.shown.now in
     let mid = c.loop-choice.outcomes in
-    let new = c.cover_from.new.outcomes in
-    grows_twice (asked s.program shown) (mode_in s) c.args.outcomes.now mid new c.loop-choice.invariant.0
-    (grows_after s c.in_ok-next.next shown (get_or c.args.choices.now c.loop-choice.choice-index (choice.Value 0 0)) c.in_ok-next.ensures mid new c.in_ok-tree.ensures.grows)
+    let new = c.cover_after.new.outcomes in
+    let same = c.loop-choice.invariant.0 in
+    grows_twice (asked s.program shown) (mode_in s) c.args.outcomes mid new c.loop-choice.invariant.1
+    (subst (λ (k : ProgramSketch). Grows (asked k.program shown) (mode_in k) mid new) same c.in_ok-tree.ensures.grows)
 
 pub cover_from-node_over-requires : goal.cover_from-node_over-requires
 cover_from-node_over-requires t c =
-    let s = c.args.sketch.now in
+    let s = c.args.sketch in
     let shown = c.args.shown.now in
     let outcomes = listed c.cover_each.new.outcomes in
     let trees = map cover c.in-Each.trees.items in
@@ -82,7 +93,7 @@ cover_from-node_over-requires t c =
 
 pub cover_from-returns-in-Each-clause-tree : goal.cover_from-returns-in-Each-clause-tree
 cover_from-returns-in-Each-clause-tree t c =
-    let s = c.args.sketch.now in
+    let s = c.args.sketch in
     let shown = c.args.shown.now in
     let outcomes = listed c.cover_each.new.outcomes in
     let trees = map cover c.in-Each.trees.items in
