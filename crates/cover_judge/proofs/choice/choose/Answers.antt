@@ -2,11 +2,10 @@ use Rattle.std.proofs.Common.{◌≡◌, ℕ, Some, sym, ◌∙◌, subst}
 use Rattle.std.proofs.lemmas.Option.{same_Some}
 use Rattle.candidate_executions.specs.Sketches.{next_read}
 use Rattle.candidate_executions.specs.Values.{IsValueOf}
-
 use Rattle.cover_judge.specs.Choices.{MayChoose}
 use Rattle.cover_judge.proofs.choice.choose.Goals as goal
 
-pub give_value-chosen-requires-clause-value : goal.give_value-taken-requires-clause-value
+pub give_value-chosen-requires-clause-value : goal.give_value-chosen-requires-clause-value
 give_value-chosen-requires-clause-value c =
     let t = c.in-Value.t in
     let v = c.in-Value.value in
