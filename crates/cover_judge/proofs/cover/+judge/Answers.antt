@@ -16,7 +16,7 @@ use Rattle.cover_judge.specs.Choices.{sketch_with, AreValueChoices, IsValueOpen,
 use Rattle.cover_judge.specs.Judged.{IfWrong, IsAtRoot, IsBelow, IsValidAfter, IsWrongAt, AreValidAfter, IsWrongChild, AreNotSoMany}
 use Rattle.cover_judge.proofs.Answered.{err_up, if_err, on_ok}
 use Rattle.cover_judge.proofs.ChoicesJudged.{if_wrong, from_child, values_differ, sources_differ, found_so_many}
-use Rattle.cover_judge.proofs.SketchesAfter.{moved}
+use Rattle.cover_judge.proofs.SketchesAfter.{moved, comes_after}
 use Rattle.cover_judge.proofs.CoverNodes.{value_here, value_below, value_valid, source_here, source_below, source_valid, order_here, order_first, order_second, order_valid}
 use Rattle.cover_judge.proofs.CoverSteps.{go_on, stop_here}
 use Rattle.cover_judge.proofs.cover.+judge.Goals as goal
@@ -24,7 +24,7 @@ use Rattle.cover_judge.proofs.cover.+judge.Goals as goal
 pub judge_values-returns-in_err-choices-clause-wrong : goal.judge_values-returns-in_err-choices-clause-wrong
 judge_values-returns-in_err-choices-clause-wrong t c =
     let kids = map cover c.args.children.now in
-    let s = c.args.sketch in
+    let s = c.args.sketch.now in
     let None : ℕ → Type 0 = HasNoValues s.program (mode_in s) s.chosen c.args.thread in
     let At = IsWrongAt c.args.shown.now c.args.outcomes.now s (Value c.args.thread (covers_of kids)) s.chosen in
     let count = length c.args.children.now in
@@ -39,7 +39,7 @@ judge_values-returns-in_err-choices-clause-wrong t c =
 pub judge_values-returns-clause-valid : goal.judge_values-returns-clause-valid
 judge_values-returns-clause-valid t c =
     let kids = map cover c.args.children.now in
-    let s = c.args.sketch in
+    let s = c.args.sketch.now in
     let outs = c.args.outcomes.now in
     let choices = c.in_ok-choices.choices.items in
     let are = found_so_many (length c.args.children.now) c.in_ok-found.found c.in_ok-choices.choices (IsValueOpen s c.args.thread → ⊥) (AreValueChoices s c.args.thread) c.in_ok-choices.ensures.many c.in_ok-found.ensures.values in
@@ -49,7 +49,7 @@ judge_values-returns-clause-valid t c =
 pub judge_values-returns-clause-wrong : goal.judge_values-returns-clause-wrong
 judge_values-returns-clause-wrong t c =
     let kids = map cover c.args.children.now in
-    let s = c.args.sketch in
+    let s = c.args.sketch.now in
     let outs = c.args.outcomes.now in
     let choices = c.in_ok-choices.choices.items in
     let are = found_so_many (length c.args.children.now) c.in_ok-found.found c.in_ok-choices.choices (IsValueOpen s c.args.thread → ⊥) (AreValueChoices s c.args.thread) c.in_ok-choices.ensures.many c.in_ok-found.ensures.values in
@@ -61,20 +61,20 @@ judge_values-returns-clause-wrong t c =
 
 pub judge-returns-in-Value-clause-valid : goal.judge-returns-in-Value-clause-valid
 judge-returns-in-Value-clause-valid t c =
-    let s = c.args.sketch in
+    let s = c.args.sketch.now in
     let is : cover c.args.tree.now ≡ Value c.in-Value.thread (covers_of (map cover c.in-Value.children.items)) = search (rules, the_lemmas, fold-roll-CoverTree Cover cover_node, fold_out-CoverTree Cover cover_node) in
     subst (λ tree. OnOk c.judge_values.result (IsValidAfter c.args.shown.now c.args.outcomes.now s tree s.chosen)) (sym is) (rw c.deref.ensures.value at c.judge_values.ensures.valid)
 
 pub judge-returns-in-Value-clause-wrong : goal.judge-returns-in-Value-clause-wrong
 judge-returns-in-Value-clause-wrong t c =
-    let s = c.args.sketch in
+    let s = c.args.sketch.now in
     let is : cover c.args.tree.now ≡ Value c.in-Value.thread (covers_of (map cover c.in-Value.children.items)) = search (rules, the_lemmas, fold-roll-CoverTree Cover cover_node, fold_out-CoverTree Cover cover_node) in
     subst (λ tree. IfErr c.judge_values.result (IfWrong (IsWrongAt c.args.shown.now c.args.outcomes.now s tree s.chosen))) (sym is) (rw c.deref.ensures.value at c.judge_values.ensures.wrong)
 
 pub judge_sources-returns-in_err-choices-clause-wrong : goal.judge_sources-returns-in_err-choices-clause-wrong
 judge_sources-returns-in_err-choices-clause-wrong t c =
     let kids = map cover c.args.children.now in
-    let s = c.args.sketch in
+    let s = c.args.sketch.now in
     let None : ℕ → Type 0 = HasNoSources s.program (mode_in s) s.chosen (event_of c.args.read) in
     let At = IsWrongAt c.args.shown.now c.args.outcomes.now s (Source c.args.read (covers_of kids)) s.chosen in
     let count = length c.args.children.now in
@@ -89,7 +89,7 @@ judge_sources-returns-in_err-choices-clause-wrong t c =
 pub judge_sources-returns-clause-valid : goal.judge_sources-returns-clause-valid
 judge_sources-returns-clause-valid t c =
     let kids = map cover c.args.children.now in
-    let s = c.args.sketch in
+    let s = c.args.sketch.now in
     let outs = c.args.outcomes.now in
     let choices = c.in_ok-choices.choices.items in
     let are = found_so_many (length c.args.children.now) c.in_ok-found.found c.in_ok-choices.choices (IsSourceOpen s c.args.read → ⊥) (AreSourceChoices s c.args.read) c.in_ok-choices.ensures.many c.in_ok-found.ensures.sources in
@@ -99,7 +99,7 @@ judge_sources-returns-clause-valid t c =
 pub judge_sources-returns-clause-wrong : goal.judge_sources-returns-clause-wrong
 judge_sources-returns-clause-wrong t c =
     let kids = map cover c.args.children.now in
-    let s = c.args.sketch in
+    let s = c.args.sketch.now in
     let outs = c.args.outcomes.now in
     let choices = c.in_ok-choices.choices.items in
     let are = found_so_many (length c.args.children.now) c.in_ok-found.found c.in_ok-choices.choices (IsSourceOpen s c.args.read → ⊥) (AreSourceChoices s c.args.read) c.in_ok-choices.ensures.many c.in_ok-found.ensures.sources in
@@ -111,19 +111,19 @@ judge_sources-returns-clause-wrong t c =
 
 pub judge-returns-in-Source-clause-valid : goal.judge-returns-in-Source-clause-valid
 judge-returns-in-Source-clause-valid t c =
-    let s = c.args.sketch in
+    let s = c.args.sketch.now in
     let is : cover c.args.tree.now ≡ Source c.in-Source.read (covers_of (map cover c.in-Source.children.items)) = search (rules, the_lemmas, fold-roll-CoverTree Cover cover_node, fold_out-CoverTree Cover cover_node) in
     subst (λ tree. OnOk c.judge_sources.result (IsValidAfter c.args.shown.now c.args.outcomes.now s tree s.chosen)) (sym is) (rw c.deref-in-Source.ensures.value at c.judge_sources.ensures.valid)
 
 pub judge-returns-in-Source-clause-wrong : goal.judge-returns-in-Source-clause-wrong
 judge-returns-in-Source-clause-wrong t c =
-    let s = c.args.sketch in
+    let s = c.args.sketch.now in
     let is : cover c.args.tree.now ≡ Source c.in-Source.read (covers_of (map cover c.in-Source.children.items)) = search (rules, the_lemmas, fold-roll-CoverTree Cover cover_node, fold_out-CoverTree Cover cover_node) in
     subst (λ tree. IfErr c.judge_sources.result (IfWrong (IsWrongAt c.args.shown.now c.args.outcomes.now s tree s.chosen))) (sym is) (rw c.deref-in-Source.ensures.value at c.judge_sources.ensures.wrong)
 
 pub judge-returns-in_err-judge_order-in-Order-clause-wrong : goal.judge-returns-in_err-judge_order-in-Order-clause-wrong
 judge-returns-in_err-judge_order-in-Order-clause-wrong t c =
-    let s = c.args.sketch in
+    let s = c.args.sketch.now in
     let outs = c.args.outcomes.now in
     let first = c.in-Order.first in
     let second = c.in-Order.second in
@@ -138,7 +138,7 @@ judge-returns-in_err-judge_order-in-Order-clause-wrong t c =
 
 pub judge-returns-in_err-judge_child-in-Order-clause-wrong : goal.judge-returns-in_err-judge_child-in-Order-clause-wrong
 judge-returns-in_err-judge_child-in-Order-clause-wrong t c =
-    let s = c.args.sketch in
+    let s = c.args.sketch.now in
     let outs = c.args.outcomes.now in
     let first = c.in-Order.first in
     let second = c.in-Order.second in
@@ -155,7 +155,7 @@ judge-returns-in_err-judge_child-in-Order-clause-wrong t c =
 
 pub judge-returns-in_ok-judge_child-in-Order-clause-valid : goal.judge-returns-in_ok-judge_child-in-Order-clause-valid
 judge-returns-in_ok-judge_child-in-Order-clause-valid t c =
-    let s = c.args.sketch in
+    let s = c.args.sketch.now in
     let outs = c.args.outcomes.now in
     let first = c.in-Order.first in
     let second = c.in-Order.second in
@@ -167,11 +167,13 @@ judge-returns-in_ok-judge_child-in-Order-clause-valid t c =
     let before : IsValidAfter c.args.shown.now outs s one (sketch_with s.chosen (choice.Order first second)) = rw c.deref-in-Order.ensures at c.in_ok-judge_child-in-Order.ensures.valid in
     subst (λ tree. OnOk c.judge_child-in-Order.result (IsValidAfter c.args.shown.now outs s tree s.chosen)) (sym is)
     (on_ok c.judge_child-in-Order.result (IsValidAfter c.args.shown.now outs s other (sketch_with s.chosen (choice.Order second first))) (IsValidAfter c.args.shown.now outs s (Order first second one other) s.chosen)
-    (order_valid c.args.shown.now outs s first second one other may before) (rw c.deref-in-Order-2.ensures at c.judge_child-in-Order.ensures.valid))
+    (order_valid c.args.shown.now outs s first second one other may before)
+    (subst (λ (k : ProgramSketch). OnOk c.judge_child-in-Order.result (IsValidAfter c.args.shown.now outs k other (sketch_with k.chosen (choice.Order second first)))) c.in_ok-judge_child-in-Order.ensures.kept
+    (rw c.deref-in-Order-2.ensures at c.judge_child-in-Order.ensures.valid)))
 
 pub judge-returns-in_ok-judge_child-in-Order-clause-wrong : goal.judge-returns-in_ok-judge_child-in-Order-clause-wrong
 judge-returns-in_ok-judge_child-in-Order-clause-wrong t c =
-    let s = c.args.sketch in
+    let s = c.args.sketch.now in
     let outs = c.args.outcomes.now in
     let first = c.in-Order.first in
     let second = c.in-Order.second in
@@ -184,36 +186,41 @@ judge-returns-in_ok-judge_child-in-Order-clause-wrong t c =
     let Q = IsBelow (λ n rest. (n ≡ 1) × IsWrongAt c.args.shown.now outs s other (sketch_with s.chosen (choice.Order second first)) rest) in
     subst (λ tree. IfErr c.judge_child-in-Order.result (IfWrong (IsWrongAt c.args.shown.now outs s tree s.chosen))) (sym is)
     (if_err c.judge_child-in-Order.result (IfWrong Q) (IfWrong P) (λ fault. if_wrong Q P fault (order_second c.args.shown.now outs s first second one other may before))
-    (rw c.deref-in-Order-2.ensures at c.judge_child-in-Order.ensures.wrong))
+    (subst (λ (k : ProgramSketch). IfErr c.judge_child-in-Order.result (IfWrong (IsBelow (λ n rest. (n ≡ 1) × IsWrongAt c.args.shown.now outs k other (sketch_with k.chosen (choice.Order second first)) rest)))) c.in_ok-judge_child-in-Order.ensures.kept
+    (rw c.deref-in-Order-2.ensures at c.judge_child-in-Order.ensures.wrong)))
+
+pub judge_after-returns-clause-kept : goal.judge_after-returns-clause-kept
+judge_after-returns-clause-kept t c =
+    c.go_back.ensures c.args.sketch.now c.in_ok-mark.ensures (comes_after c.args.sketch.now c.judge-judged.new.sketch c.args.choice (c.judge-judged.ensures.kept ∙ c.in_ok-choose.ensures.ok))
 
 pub judge_after-returns-clause-valid : goal.judge_after-returns-clause-valid
 judge_after-returns-clause-valid t c =
     let tree = cover c.args.tree.now in
     let outs = c.args.outcomes.now in
-    let s = c.args.sketch in
+    let s = c.args.sketch.now in
     let next = c.choose.new.sketch in
-    on_ok c.judge.result (IsValidAfter c.args.shown.now outs next tree next.chosen) (IsValidAfter c.args.shown.now outs s tree (sketch_with s.chosen c.args.choice))
-    (moved (λ p mode k. IsValidCover (asked p c.args.shown.now) mode outs tree k) s next c.args.choice c.in_ok-choose.ensures) c.judge.ensures.valid
+    on_ok c.judge-judged.result (IsValidAfter c.args.shown.now outs next tree next.chosen) (IsValidAfter c.args.shown.now outs s tree (sketch_with s.chosen c.args.choice))
+    (moved (λ p mode k. IsValidCover (asked p c.args.shown.now) mode outs tree k) s next c.args.choice c.in_ok-choose.ensures.ok) c.judge-judged.ensures.valid
 
 pub judge_after-returns-clause-wrong : goal.judge_after-returns-clause-wrong
 judge_after-returns-clause-wrong t c =
     let tree = cover c.args.tree.now in
     let outs = c.args.outcomes.now in
-    let s = c.args.sketch in
+    let s = c.args.sketch.now in
     let next = c.choose.new.sketch in
-    if_err c.judge.result (IfWrong (IsWrongAt c.args.shown.now outs next tree next.chosen)) (IfWrong (IsWrongAt c.args.shown.now outs s tree (sketch_with s.chosen c.args.choice)))
-    (λ fault. moved (λ p mode k. IfWrong (FirstWrongCover (asked p c.args.shown.now) mode outs tree k) fault) s next c.args.choice c.in_ok-choose.ensures) c.judge.ensures.wrong
+    if_err c.judge-judged.result (IfWrong (IsWrongAt c.args.shown.now outs next tree next.chosen)) (IfWrong (IsWrongAt c.args.shown.now outs s tree (sketch_with s.chosen c.args.choice)))
+    (λ fault. moved (λ p mode k. IfWrong (FirstWrongCover (asked p c.args.shown.now) mode outs tree k) fault) s next c.args.choice c.in_ok-choose.ensures.ok) c.judge-judged.ensures.wrong
 
-pub judge_child-returns-clause-wrong : goal.judge_child-returns-clause-wrong
-judge_child-returns-clause-wrong t c =
-    let s = c.args.sketch in
+pub judge_child-returns-in-Err-clause-wrong : goal.judge_child-returns-in-Err-clause-wrong
+judge_child-returns-in-Err-clause-wrong t c =
+    let s = c.args.sketch.now in
     let outs = c.args.outcomes.now in
     let tree = cover c.args.tree.now in
     from_child (IsWrongAt c.args.shown.now outs s tree (sketch_with s.chosen c.args.choice)) c.args.number c.in-Err.fault c.from_parent.result c.from_parent.ensures c.in-Err.ensures.wrong
 
 pub judge_children-returns-in_err-judge_child-clause-wrong : goal.judge_children-returns-in_err-judge_child-clause-wrong
 judge_children-returns-in_err-judge_child-clause-wrong t c =
-    let s = c.args.sketch in
+    let s = c.args.sketch.now in
     let number = c.loop-number.number in
     let x = c.index-trees-number.result in
     let y = get_or c.args.choices.now number (choice.Value 0 0) in
@@ -227,7 +234,7 @@ judge_children-returns-in_err-judge_child-clause-wrong t c =
 
 pub judge_children-loop-number-preserved : goal.judge_children-loop-number-preserved
 judge_children-loop-number-preserved t c =
-    let s = c.args.sketch in
+    let s = c.args.sketch.now in
     let number = c.loop-number.number in
     let x = c.index-trees-number.result in
     let y = get_or c.args.choices.now number (choice.Value 0 0) in (

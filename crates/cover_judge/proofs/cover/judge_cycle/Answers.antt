@@ -5,8 +5,8 @@ use Rattle.tree_laws.specs.CoverTrees.{event_of}
 use Rattle.cover_judge.proofs.ChoicesJudged.{here}
 use Rattle.cover_judge.proofs.cover.judge_cycle.Goals as goal
 
-pub returns-clause-wrong : goal.returns-clause-wrong
-returns-clause-wrong c =
+pub returns-else-is_cycle-clause-wrong : goal.returns-else-is_cycle-clause-wrong
+returns-else-is_cycle-clause-wrong c =
     let s = c.args.sketch.now in
     here (IsKnownCycle s.program (mode_in s) s.chosen c.args.kind (map event_of c.args.accesses.now) → ⊥) c.at_root.result c.at_root.ensures
     (λ h. (let yes = c.is_cycle.ensures.1 h in let no : true ≡ false = sym yes ∙ c.if-is_cycle.false in cc))

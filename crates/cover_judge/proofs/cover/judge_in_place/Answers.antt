@@ -11,7 +11,7 @@ use Rattle.cover_judge.proofs.cover.judge_in_place.Goals as goal
 
 pub returns-clause-accepts : goal.returns-clause-accepts
 returns-clause-accepts c valid =
-    let s = c.args.sketch in
+    let s = c.args.sketch.now in
     let q = asked s.program c.args.shown.now in
     let tree = cover c.args.tree.now in
     if_err c.judge.result (IfWrong (FirstWrongCover q (mode_in s) c.args.outcomes.now tree s.chosen)) (λ fault. fault ≡ OutOfMemory)

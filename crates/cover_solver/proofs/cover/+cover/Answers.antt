@@ -19,7 +19,7 @@ use Rattle.cover_solver.proofs.cover.+cover.Goals as goal
 
 pub cover_each-cover_after-requires : goal.cover_each-cover_after-requires
 cover_each-cover_after-requires t c =
-    let s = c.args.sketch in
+    let s = c.args.sketch.now in
     let i = c.loop-choice.choice-index in
     let d = choice.Value 0 0 in
     let ch = get_or c.args.choices.now i d in
@@ -34,7 +34,7 @@ cover_each-cover_after-requires t c =
 
 pub cover_each-returns-then-branch-clause-children : goal.cover_each-returns-then-branch-clause-children
 cover_each-returns-then-branch-clause-children t c =
-    let s = c.args.sketch in
+    let s = c.args.sketch.now in
     let shown = c.args.shown.now in
     let d = choice.Value 0 0 in
     let i = c.loop-choice.choice-index in
@@ -48,7 +48,7 @@ cover_each-returns-then-branch-clause-children t c =
 
 pub cover_each-loop-choice-preserved : goal.cover_each-loop-choice-preserved
 cover_each-loop-choice-preserved t c =
-    let s = c.args.sketch in
+    let s = c.args.sketch.now in
     let shown = c.args.shown.now in
     let mid = c.loop-choice.outcomes in
     let new = c.cover_after.new.outcomes in
@@ -60,7 +60,7 @@ cover_each-loop-choice-preserved t c =
     let same = c.loop-choice.invariant.0 in
     let grows = subst (λ (k : ProgramSketch). Grows (asked k.program shown) (mode_in k) mid new) same c.in_ok-tree.ensures.grows in (
       c.is_valid.ensures.kept ∙ c.cover_after.ensures.kept ∙ same,
-      grows_twice (asked s.program shown) (mode_in s) c.args.outcomes mid new c.loop-choice.invariant.1 grows,
+      grows_twice (asked s.program shown) (mode_in s) c.args.outcomes.now mid new c.loop-choice.invariant.1 grows,
       covers_more s shown (listed new) lawful c.args.choices.now (map cover c.loop-choice.trees.items) (map cover c.push.new.self.items) i d (cover tree) c.loop-choice-test.true
           (ap (map cover) c.in_ok-push.ensures.items ∙ map-append cover c.loop-choice.trees.items (tree ∷ []))
           (covers_still s shown (listed mid) (listed new) (take i c.args.choices.now) (map cover c.loop-choice.trees.items) grows.keeps c.loop-choice.invariant.2)
@@ -70,17 +70,17 @@ cover_each-loop-choice-preserved t c =
 
 pub cover_each-returns-then-branch-clause-grows : goal.cover_each-returns-then-branch-clause-grows
 cover_each-returns-then-branch-clause-grows t c =
-    let s = c.args.sketch in
+    let s = c.args.sketch.now in
     let shown = c.args.shown.now in
     let mid = c.loop-choice.outcomes in
     let new = c.cover_after.new.outcomes in
     let same = c.loop-choice.invariant.0 in
-    grows_twice (asked s.program shown) (mode_in s) c.args.outcomes mid new c.loop-choice.invariant.1
+    grows_twice (asked s.program shown) (mode_in s) c.args.outcomes.now mid new c.loop-choice.invariant.1
     (subst (λ (k : ProgramSketch). Grows (asked k.program shown) (mode_in k) mid new) same c.in_ok-tree.ensures.grows)
 
 pub cover_from-node_over-requires : goal.cover_from-node_over-requires
 cover_from-node_over-requires t c =
-    let s = c.args.sketch in
+    let s = c.args.sketch.now in
     let shown = c.args.shown.now in
     let outcomes = listed c.cover_each.new.outcomes in
     let trees = map cover c.in-Each.trees.items in
@@ -93,7 +93,7 @@ cover_from-node_over-requires t c =
 
 pub cover_from-returns-in-Each-clause-tree : goal.cover_from-returns-in-Each-clause-tree
 cover_from-returns-in-Each-clause-tree t c =
-    let s = c.args.sketch in
+    let s = c.args.sketch.now in
     let shown = c.args.shown.now in
     let outcomes = listed c.cover_each.new.outcomes in
     let trees = map cover c.in-Each.trees.items in
