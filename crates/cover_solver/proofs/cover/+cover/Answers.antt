@@ -1,18 +1,21 @@
-use Rattle.std.proofs.Common.{List, [], ◌∷◌, get_or, map, take, sym, ap, ◌∙◌, subst, arith}
+use Rattle.std.proofs.Common.{List, [], ◌∷◌, get_or, map, take, refl, sym, ap, ◌∙◌, subst, arith}
 use Rattle.std.specs.Option.{MatchOption}
 use Rattle.std.proofs.lemmas.List.{map-append, length-map}
 use Rattle.tso_program.specs.declared.outcome.Outcome.{Outcome}
 use Rattle.tso_program.specs.Shown.{asked}
 use Rattle.cert_forest.specs.Views.{cover}
 use Rattle.exec_axioms.specs.Complete.{IsComplete}
-use Rattle.exec_axioms.specs.ProgramSketches.{mode_in}
+use Rattle.exec_axioms.specs.ProgramSketches.{ProgramSketch, mode_in, with_chosen}
 use Rattle.cover_judge.specs.declared.choice.Choice.{Choice}
 use Rattle.cover_judge.specs.declared.choice.Choice.TheVariants as choice
+use Rattle.cover_judge.specs.Choices.{sketch_with, MayChoose}
+use Rattle.cover_judge.proofs.SketchesAfter.{comes_after}
 use Rattle.cover_solver.specs.Choices.{IsBranch}
 use Rattle.cover_solver.specs.Covers.{IsValidAt, IsCoverAt, AreCoversAfter, AreChildren, IsArity}
-use Rattle.cover_solver.specs.Listed.{listed}
+use Rattle.cover_solver.specs.Listed.{listed, Grows}
+use Rattle.cover_solver.specs.Internal.Accesses.{AreAccessesOf}
 use Rattle.cover_solver.proofs.Growing.{grows_twice, grows_after, covers_still}
-use Rattle.cover_solver.proofs.Rounds.{fewer_rounds}
+use Rattle.cover_solver.proofs.Rounds.{rounds, fewer_rounds}
 use Rattle.cover_solver.proofs.NothingLeft.{accesses_after}
 use Rattle.cover_solver.proofs.Nodes.{cover_next, cover_without, covers_more, node_cover, node_arity}
 use Rattle.cover_solver.proofs.cover.+cover.Goals as goal
@@ -27,8 +30,10 @@ cover_each-cover_after-requires t c =
       omega (arith, ap rounds same),
       (
         c.loop-choice.invariant.1.in_order,
-        subst (λ (k : ProgramSketch). AreAccessesOf k c.args.accesses.now) (sym same) c.requires.accesses,
-        subst (λ (k : ProgramSketch). MayChoose k ch) (sym same) (c.requires.may.each i d c.loop-choice-test.true),
+        (
+          subst (λ (k : ProgramSketch). AreAccessesOf k c.args.accesses.now) (sym same) c.requires.accesses,
+          subst (λ (k : ProgramSketch). MayChoose k ch) (sym same) (c.requires.may.each i d c.loop-choice-test.true),
+        ),
       ),
     )
 
@@ -77,6 +82,18 @@ cover_each-returns-then-branch-clause-grows t c =
     let same = c.loop-choice.invariant.0 in
     grows_twice (asked s.program shown) (mode_in s) c.args.outcomes.now mid new c.loop-choice.invariant.1
     (subst (λ (k : ProgramSketch). Grows (asked k.program shown) (mode_in k) mid new) same c.in_ok-tree.ensures.grows)
+
+pub cover_after-cover_from-covered-requires : goal.cover_after-cover_from-covered-requires
+cover_after-cover_from-covered-requires t c =
+    let s = c.args.sketch.now in
+    let next = c.choose.new.sketch in (
+      omega (arith, fewer_rounds s next c.args.choice c.program.ensures.lawful c.program.ensures.few c.requires.may c.in_ok-choose.ensures.ok),
+      (c.requires.in_order, accesses_after s next c.args.choice c.args.accesses.now c.requires.may c.in_ok-choose.ensures.ok c.requires.accesses),
+    )
+
+pub cover_after-returns-clause-kept : goal.cover_after-returns-clause-kept
+cover_after-returns-clause-kept t c =
+    c.go_back.ensures c.args.sketch.now c.in_ok-mark.ensures (comes_after c.args.sketch.now c.cover_from-covered.new.sketch c.args.choice (c.cover_from-covered.ensures.kept ∙ c.in_ok-choose.ensures.ok))
 
 pub cover_from-node_over-requires : goal.cover_from-node_over-requires
 cover_from-node_over-requires t c =

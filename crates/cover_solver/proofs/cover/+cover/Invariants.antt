@@ -8,13 +8,13 @@ use Rattle.cover_solver.proofs.Rounds.{rounds}
 use Rattle.cover_solver.proofs.cover.+cover.Given as goal
 
 abbrev pub decreases-cover_from : goal.decreases-cover_from
-decreases-cover_from l = rounds l.sketch + 2
+decreases-cover_from l = rounds l.sketch.now + 2
 
 abbrev pub decreases-cover_each : goal.decreases-cover_each
-decreases-cover_each l = rounds l.sketch + 1
+decreases-cover_each l = rounds l.sketch.now + 1
 
 abbrev pub decreases-cover_after : goal.decreases-cover_after
-decreases-cover_after l = rounds l.sketch
+decreases-cover_after l = rounds l.sketch.now
 
 -- the sketch is as before, the list has grown, and the trees are valid over it after the choices so far
 abbrev pub invariant-cover_each-loop-choice : goal.invariant-cover_each-loop-choice
