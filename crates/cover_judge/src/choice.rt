@@ -1,5 +1,5 @@
 //! What branches in a sketch.
-ghost use Rattle.std.specs.Prelude.{◌≡◌, ◌↔◌, IsTrue, IfOk, IfSome, MatchOption, map};
+ghost use Rattle.std.specs.Prelude.{◌≡◌, ◌↔◌, IsTrue, IfOk, OnOk, OnErr, IfSome, MatchOption, map};
 ghost use Rattle.exec_axioms.specs.ProgramSketches.{with_chosen};
 ghost use Rattle.exec_axioms.specs.Choices.{IsOrdered};
 ghost use Rattle.tree_laws.specs.CoverTrees as trees;
@@ -34,13 +34,23 @@ pub fn sketch_with(sketch: &Sketch, choice: Choice) -> Result<Sketch, AllocError
     ensures { IfOk result (λ next. next ≡ with_chosen sketch.now (sketch_with sketch.now.chosen choice)) }
 {
     let mut next = sketch.copy()?;
-    let taken = match choice {
-        Choice::Value(t, value) => next.give_value(t, value),
-        Choice::Source(read, source) => next.choose_source(event_of(read), source),
-        Choice::Order(first, second) => next.choose_order(event_of(first), event_of(second)),
+    choose(&mut next, choice)?;
+    Ok(next)
+}
+
+/// Makes a choice in the sketch.
+pub fn choose(sketch: &mut Sketch, choice: Choice) -> Result<(), AllocError>
+    requires { MayChoose sketch.old choice }
+    ensures ok { OnOk result (sketch.new ≡ with_chosen sketch.old (sketch_with sketch.old.chosen choice)) }
+    ensures err { OnErr result (sketch.new ≡ sketch.old) }
+{
+    let chosen = match choice {
+        Choice::Value(t, value) => sketch.give_value(t, value),
+        Choice::Source(read, source) => sketch.choose_source(event_of(read), source),
+        Choice::Order(first, second) => sketch.choose_order(event_of(first), event_of(second)),
     };
-    match taken {
-        Ok(()) => Ok(next),
+    match chosen {
+        Ok(()) => Ok(()),
         Err(_) => Err(AllocError),
     }
 }

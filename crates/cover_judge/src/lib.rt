@@ -6,7 +6,9 @@ mod cover;
 mod fault;
 mod path;
 
-pub use choice::{Choice, event_of, is_order_open, sketch_with, source_choices, value_choices};
-pub use cover::judge_cover;
+pub use choice::{
+    Choice, choose, event_of, is_order_open, sketch_with, source_choices, value_choices,
+};
+pub use cover::{judge_cover, judge_in_place};
 pub use fault::TreeFault;
 pub use path::Path;

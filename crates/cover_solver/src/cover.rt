@@ -4,10 +4,10 @@ ghost use Rattle.std.specs.Prelude.{◌≡◌, IfOk, IfErr, OnOk, IsTrue, map, l
 ghost use Rattle.tso_program.specs.Shown.{asked};
 ghost use Rattle.tso_machine.specs.Modes.{machine_mode};
 ghost use Rattle.candidate_executions.specs.Sketches.{IsWhole};
-ghost use Rattle.exec_axioms.specs.ProgramSketches.{mode_in};
+ghost use Rattle.exec_axioms.specs.ProgramSketches.{mode_in, with_chosen};
 ghost use Rattle.exec_axioms.specs.Complete.{IsComplete};
 ghost use Rattle.cert_forest.specs.Views.{cover};
-ghost use Rattle.cover_judge.specs.Choices.{MayChooseEach};
+ghost use Rattle.cover_judge.specs.Choices.{sketch_with, MayChoose, MayChooseEach};
 ghost use Rattle.cover_solver.specs.Covers.{IsCoverAt, IsValidAt, IsUnsettled, AreChildren, IsWholeCover, tree_over, IsArity};
 ghost use Rattle.cover_solver.specs.Listed.{listed, AreInOrder, Grows, StopIs};
 ghost use Rattle.cover_solver.specs.Internal.Accesses.{AreAccessesOf};
@@ -22,7 +22,7 @@ use crate::plan::plan_for;
 use crate::reads_writes::{WholeAccesses, whole_accesses};
 use crate::run::shown_run;
 use cert_forest::CoverTree;
-use cover_judge::{Choice, TreeFault, judge_cover, sketch_with};
+use cover_judge::{Choice, TreeFault, choose, judge_in_place};
 use exec_axioms::{Mode, Sketch};
 use std::alloc::{AllocError, Global};
 use tso_program::{Outcome, Program, Shown};
@@ -48,25 +48,26 @@ pub(crate) fn cover_all(
     ensures tree { IfOk result (λ tree. IsWholeCover (asked program.now shown.now) (machine_mode program.now mode) (listed outcomes.new) (cover tree)) }
     ensures stop { IfErr result (StopIs (asked program.now shown.now) (machine_mode program.now mode) outcomes.old) }
 {
-    let sketch = Sketch::new(alloc, program, mode)?;
+    let mut sketch = Sketch::new(alloc, program, mode)?;
     match plan_for(alloc, &sketch)? {
         Some(plan) => cover_values(alloc, &sketch, &plan, shown, outcomes),
-        None => cover_whole(alloc, &sketch, shown, outcomes),
+        None => cover_whole(alloc, &mut sketch, shown, outcomes),
     }
 }
 
 /// A tree for a sketch in which each read has its value.
 pub(crate) fn cover_whole(
     alloc: Global,
-    sketch: &Sketch,
+    sketch: &mut Sketch,
     shown: &Shown,
     outcomes: &mut Listed,
 ) -> Result<CoverTree, Stop>
     requires in_order { AreInOrder outcomes.old }
-    requires whole { IsWhole sketch.now.program (mode_in sketch.now) sketch.now.chosen }
-    ensures grows { OnOk result (Grows (asked sketch.now.program shown.now) (mode_in sketch.now) outcomes.old outcomes.new) }
-    ensures tree { IfOk result (λ tree. IsCoverAt sketch.now shown.now (listed outcomes.new) (cover tree)) }
-    ensures stop { IfErr result (StopIs (asked sketch.now.program shown.now) (mode_in sketch.now) outcomes.old) }
+    requires whole { IsWhole sketch.old.program (mode_in sketch.old) sketch.old.chosen }
+    ensures kept { sketch.new ≡ sketch.old }
+    ensures grows { OnOk result (Grows (asked sketch.old.program shown.now) (mode_in sketch.old) outcomes.old outcomes.new) }
+    ensures tree { IfOk result (λ tree. IsCoverAt sketch.old shown.now (listed outcomes.new) (cover tree)) }
+    ensures stop { IfErr result (StopIs (asked sketch.old.program shown.now) (mode_in sketch.old) outcomes.old) }
 {
     let accesses = whole_accesses(alloc, sketch)?;
     cover_from(alloc, sketch, &accesses, shown, outcomes)
@@ -76,16 +77,17 @@ pub(crate) fn cover_whole(
 #[cycle(cover)]
 fn cover_from(
     alloc: Global,
-    sketch: &Sketch,
+    sketch: &mut Sketch,
     accesses: &WholeAccesses,
     shown: &Shown,
     outcomes: &mut Listed,
 ) -> Result<CoverTree, Stop>
     requires in_order { AreInOrder outcomes.old }
-    requires accesses { AreAccessesOf sketch.now accesses.now }
-    ensures grows { OnOk result (Grows (asked sketch.now.program shown.now) (mode_in sketch.now) outcomes.old outcomes.new) }
-    ensures tree { IfOk result (λ tree. IsCoverAt sketch.now shown.now (listed outcomes.new) (cover tree)) }
-    ensures stop { IfErr result (StopIs (asked sketch.now.program shown.now) (mode_in sketch.now) outcomes.old) }
+    requires accesses { AreAccessesOf sketch.old accesses.now }
+    ensures kept { sketch.new ≡ sketch.old }
+    ensures grows { OnOk result (Grows (asked sketch.old.program shown.now) (mode_in sketch.old) outcomes.old outcomes.new) }
+    ensures tree { IfOk result (λ tree. IsCoverAt sketch.old shown.now (listed outcomes.new) (cover tree)) }
+    ensures stop { IfErr result (StopIs (asked sketch.old.program shown.now) (mode_in sketch.old) outcomes.old) }
 {
     // For the proof alone: what holds of every sketch is known where its program is read.
     let _ = sketch.program();
@@ -129,25 +131,25 @@ fn end(
 #[cycle(cover)]
 fn cover_each(
     alloc: Global,
-    sketch: &Sketch,
+    sketch: &mut Sketch,
     accesses: &WholeAccesses,
     shown: &Shown,
     choices: &[Choice],
     outcomes: &mut Listed,
 ) -> Result<Children, Stop>
     requires in_order { AreInOrder outcomes.old }
-    requires accesses { AreAccessesOf sketch.now accesses.now }
-    requires may { MayChooseEach sketch.now choices.now }
-    ensures grows { OnOk result (Grows (asked sketch.now.program shown.now) (mode_in sketch.now) outcomes.old outcomes.new) }
-    ensures children { IfOk result (AreChildren sketch.now shown.now (listed outcomes.new) choices.now) }
-    ensures stop { IfErr result (StopIs (asked sketch.now.program shown.now) (mode_in sketch.now) outcomes.old) }
+    requires accesses { AreAccessesOf sketch.old accesses.now }
+    requires may { MayChooseEach sketch.old choices.now }
+    ensures kept { sketch.new ≡ sketch.old }
+    ensures grows { OnOk result (Grows (asked sketch.old.program shown.now) (mode_in sketch.old) outcomes.old outcomes.new) }
+    ensures children { IfOk result (AreChildren sketch.old shown.now (listed outcomes.new) choices.now) }
+    ensures stop { IfErr result (StopIs (asked sketch.old.program shown.now) (mode_in sketch.old) outcomes.old) }
 {
     // For the proof alone: what holds of every sketch is known where its program is read.
     let _ = sketch.program();
     let mut trees = Vec::new(alloc);
     for choice in choices {
-        let next = sketch_with(sketch, *choice)?;
-        let tree = cover_from(alloc, &next, accesses, shown, outcomes)?;
+        let tree = cover_after(alloc, sketch, accesses, shown, *choice, outcomes)?;
         if is_valid(alloc, &tree, sketch, shown, outcomes.as_slice())? {
             return Ok(Children::One(tree));
         }
@@ -156,20 +158,48 @@ fn cover_each(
     Ok(Children::Each(trees))
 }
 
+/// A tree for the sketch after a choice, which is taken back.
+#[cycle(cover)]
+fn cover_after(
+    alloc: Global,
+    sketch: &mut Sketch,
+    accesses: &WholeAccesses,
+    shown: &Shown,
+    choice: Choice,
+    outcomes: &mut Listed,
+) -> Result<CoverTree, Stop>
+    requires in_order { AreInOrder outcomes.old }
+    requires accesses { AreAccessesOf sketch.old accesses.now }
+    requires may { MayChoose sketch.old choice }
+    ensures kept { sketch.new ≡ sketch.old }
+    ensures grows { OnOk result (Grows (asked sketch.old.program shown.now) (mode_in sketch.old) outcomes.old outcomes.new) }
+    ensures tree { IfOk result (λ tree. IsCoverAt (with_chosen sketch.old (sketch_with sketch.old.chosen choice)) shown.now (listed outcomes.new) (cover tree)) }
+    ensures stop { IfErr result (StopIs (asked sketch.old.program shown.now) (mode_in sketch.old) outcomes.old) }
+{
+    // For the proof alone: what holds of every sketch is known where its program is read.
+    let _ = sketch.program();
+    let mark = sketch.mark()?;
+    choose(sketch, choice)?;
+    let covered = cover_from(alloc, sketch, accesses, shown, outcomes);
+    sketch.go_back(mark);
+    covered
+}
+
 /// Whether the tree of a child is valid at an open sketch. A cycle is not: it would have closed the sketch.
 fn is_valid(
     alloc: Global,
     tree: &CoverTree,
-    sketch: &Sketch,
+    sketch: &mut Sketch,
     shown: &Shown,
     outcomes: &[Outcome],
 ) -> Result<bool, AllocError>
-    ensures { IfOk result (λ valid. IsTrue valid → IsValidAt sketch.now shown.now outcomes.now (cover tree.now)) }
+    ensures kept { sketch.new ≡ sketch.old }
+    ensures valid { IfOk result (λ valid. IsTrue valid → IsValidAt sketch.old shown.now outcomes.now (cover tree.now)) }
 {
     if is_cycle(tree) {
         return Ok(false);
     }
-    match judge_cover(alloc, tree, sketch, shown, outcomes) {
+    match judge_in_place(alloc, tree, sketch, shown, outcomes) {
         Ok(()) => Ok(true),
         Err(TreeFault::Wrong(_)) => Ok(false),
         Err(TreeFault::OutOfMemory) => Err(AllocError),

@@ -90,8 +90,8 @@ fn cover_full(
             children: Vec::new(alloc),
         }),
         None => {
-            let whole = sketch.with_thread(t, &trace.sketch)?;
-            cover_whole(alloc, &whole, shown, outcomes)
+            let mut whole = sketch.with_thread(t, &trace.sketch)?;
+            cover_whole(alloc, &mut whole, shown, outcomes)
         }
     }
 }

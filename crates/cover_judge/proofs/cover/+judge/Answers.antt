@@ -7,7 +7,7 @@ use Rattle.cert_forest.specs.declared.tree.CoverTree.TheFolds.{fold-roll-CoverTr
 use Rattle.cert_forest.specs.Views.{cover, cover_node}
 use Rattle.cert_forest.specs.Trees.{Cover, Value, Source, Order, covers_of}
 use Rattle.tso_program.specs.Shown.{asked}
-use Rattle.exec_axioms.specs.ProgramSketches.{mode_in}
+use Rattle.exec_axioms.specs.ProgramSketches.{ProgramSketch, mode_in}
 use Rattle.tree_laws.specs.CoverTrees.{event_of, IsValidCover, HasNoOrder}
 use Rattle.exec_axioms.proofs.Lookups.{same_default}
 use Rattle.cover_judge.specs.declared.choice.Choice.TheVariants as choice
@@ -16,7 +16,7 @@ use Rattle.cover_judge.specs.Choices.{sketch_with, AreValueChoices, IsValueOpen,
 use Rattle.cover_judge.specs.Judged.{IfWrong, IsAtRoot, IsBelow, IsValidAfter, IsWrongAt, AreValidAfter, IsWrongChild, AreNotSoMany}
 use Rattle.cover_judge.proofs.Answered.{err_up, if_err, on_ok}
 use Rattle.cover_judge.proofs.ChoicesJudged.{if_wrong, from_child, values_differ, sources_differ, found_so_many}
-use Rattle.cover_judge.proofs.SketchesAfter.{moved}
+use Rattle.cover_judge.proofs.SketchesAfter.{moved, comes_after}
 use Rattle.cover_judge.proofs.CoverNodes.{value_here, value_below, value_valid, source_here, source_below, source_valid, order_here, order_first, order_second, order_valid}
 use Rattle.cover_judge.proofs.CoverSteps.{go_on, stop_here}
 use Rattle.cover_judge.proofs.cover.+judge.Goals as goal
@@ -167,7 +167,9 @@ judge-returns-in_ok-judge_child-in-Order-clause-valid t c =
     let before : IsValidAfter c.args.shown.now outs s one (sketch_with s.chosen (choice.Order first second)) = rw c.deref-in-Order.ensures at c.in_ok-judge_child-in-Order.ensures.valid in
     subst (λ tree. OnOk c.judge_child-in-Order.result (IsValidAfter c.args.shown.now outs s tree s.chosen)) (sym is)
     (on_ok c.judge_child-in-Order.result (IsValidAfter c.args.shown.now outs s other (sketch_with s.chosen (choice.Order second first))) (IsValidAfter c.args.shown.now outs s (Order first second one other) s.chosen)
-    (order_valid c.args.shown.now outs s first second one other may before) (rw c.deref-in-Order-2.ensures at c.judge_child-in-Order.ensures.valid))
+    (order_valid c.args.shown.now outs s first second one other may before)
+    (subst (λ (k : ProgramSketch). OnOk c.judge_child-in-Order.result (IsValidAfter c.args.shown.now outs k other (sketch_with k.chosen (choice.Order second first)))) c.in_ok-judge_child-in-Order.ensures.kept
+    (rw c.deref-in-Order-2.ensures at c.judge_child-in-Order.ensures.valid)))
 
 pub judge-returns-in_ok-judge_child-in-Order-clause-wrong : goal.judge-returns-in_ok-judge_child-in-Order-clause-wrong
 judge-returns-in_ok-judge_child-in-Order-clause-wrong t c =
@@ -184,39 +186,60 @@ judge-returns-in_ok-judge_child-in-Order-clause-wrong t c =
     let Q = IsBelow (λ n rest. (n ≡ 1) × IsWrongAt c.args.shown.now outs s other (sketch_with s.chosen (choice.Order second first)) rest) in
     subst (λ tree. IfErr c.judge_child-in-Order.result (IfWrong (IsWrongAt c.args.shown.now outs s tree s.chosen))) (sym is)
     (if_err c.judge_child-in-Order.result (IfWrong Q) (IfWrong P) (λ fault. if_wrong Q P fault (order_second c.args.shown.now outs s first second one other may before))
-    (rw c.deref-in-Order-2.ensures at c.judge_child-in-Order.ensures.wrong))
+    (subst (λ (k : ProgramSketch). IfErr c.judge_child-in-Order.result (IfWrong (IsBelow (λ n rest. (n ≡ 1) × IsWrongAt c.args.shown.now outs k other (sketch_with k.chosen (choice.Order second first)) rest)))) c.in_ok-judge_child-in-Order.ensures.kept
+    (rw c.deref-in-Order-2.ensures at c.judge_child-in-Order.ensures.wrong)))
 
-pub judge_child-returns-in-Ok-clause-valid : goal.judge_child-returns-in-Ok-clause-valid
-judge_child-returns-in-Ok-clause-valid t c =
+pub judge_after-returns-clause-kept : goal.judge_after-returns-clause-kept
+judge_after-returns-clause-kept t c =
+    c.go_back.ensures c.args.sketch.now c.in_ok-mark.ensures (comes_after c.args.sketch.now c.judge-judged.new.sketch c.args.choice (c.judge-judged.ensures.kept ∙ c.in_ok-choose.ensures.ok))
+
+pub judge_after-returns-clause-valid : goal.judge_after-returns-clause-valid
+judge_after-returns-clause-valid t c =
     let tree = cover c.args.tree.now in
-    moved (λ p mode k. IsValidCover (asked p c.args.shown.now) mode c.args.outcomes.now tree k) c.args.sketch.now c.in_ok-next.next c.args.choice c.in_ok-next.ensures
-    c.in-Ok.ensures.valid
+    let outs = c.args.outcomes.now in
+    let s = c.args.sketch.now in
+    let next = c.choose.new.sketch in
+    on_ok c.judge-judged.result (IsValidAfter c.args.shown.now outs next tree next.chosen) (IsValidAfter c.args.shown.now outs s tree (sketch_with s.chosen c.args.choice))
+    (moved (λ p mode k. IsValidCover (asked p c.args.shown.now) mode outs tree k) s next c.args.choice c.in_ok-choose.ensures.ok) c.judge-judged.ensures.valid
 
-pub judge_child-returns-clause-wrong : goal.judge_child-returns-clause-wrong
-judge_child-returns-clause-wrong t c =
+pub judge_after-returns-clause-wrong : goal.judge_after-returns-clause-wrong
+judge_after-returns-clause-wrong t c =
+    let tree = cover c.args.tree.now in
+    let outs = c.args.outcomes.now in
+    let s = c.args.sketch.now in
+    let next = c.choose.new.sketch in
+    if_err c.judge-judged.result (IfWrong (IsWrongAt c.args.shown.now outs next tree next.chosen)) (IfWrong (IsWrongAt c.args.shown.now outs s tree (sketch_with s.chosen c.args.choice)))
+    (λ fault. moved (λ p mode k. IfWrong (FirstWrongCover (asked p c.args.shown.now) mode outs tree k) fault) s next c.args.choice c.in_ok-choose.ensures.ok) c.judge-judged.ensures.wrong
+
+pub judge_child-returns-in-Err-clause-wrong : goal.judge_child-returns-in-Err-clause-wrong
+judge_child-returns-in-Err-clause-wrong t c =
     let s = c.args.sketch.now in
     let outs = c.args.outcomes.now in
     let tree = cover c.args.tree.now in
-    let wrong = moved (λ p mode k. IfWrong (FirstWrongCover (asked p c.args.shown.now) mode outs tree k) c.in-Err.fault) s c.in_ok-next.next c.args.choice c.in_ok-next.ensures
-    c.in-Err.ensures.wrong in
-    from_child (IsWrongAt c.args.shown.now outs s tree (sketch_with s.chosen c.args.choice)) c.args.number c.in-Err.fault c.from_parent.result c.from_parent.ensures wrong
+    from_child (IsWrongAt c.args.shown.now outs s tree (sketch_with s.chosen c.args.choice)) c.args.number c.in-Err.fault c.from_parent.result c.from_parent.ensures c.in-Err.ensures.wrong
 
 pub judge_children-returns-in_err-judge_child-clause-wrong : goal.judge_children-returns-in_err-judge_child-clause-wrong
 judge_children-returns-in_err-judge_child-clause-wrong t c =
     let s = c.args.sketch.now in
-    let outs = c.args.outcomes.now in
     let number = c.loop-number.number in
     let x = c.index-trees-number.result in
     let y = get_or c.args.choices.now number (choice.Value 0 0) in
-    let below = IsBelow (IsWrongChild c.args.shown.now outs s (map cover c.args.trees.now) c.args.choices.now) in
-    err_up c.from_residual.result c.in_err-judge_child.field-0.0 (IfWrong below) c.from_residual.ensures.1
-    (if_wrong (IsBelow (λ m others. (m ≡ number) × IsWrongAt c.args.shown.now outs s (cover x) (sketch_with s.chosen y) others)) below c.in_err-judge_child.field-0.0
-    (stop_here c.args.shown.now outs s c.args.trees.now c.args.choices.now number x y c.loop-number-test.true c.index-trees-number.is (same_default c.args.choices.now number (choice.Value 0 0) y (let h = c.loop-number-test.true in let many = c.requires.as_many in omega arith)) c.requires.as_many c.loop-number.invariant) c.in_err-judge_child.ensures.wrong)
+    let below = IsBelow (IsWrongChild c.args.shown.now c.args.outcomes.now s (map cover c.args.trees.now) c.args.choices.now) in
+    let fault = c.in_err-judge_child.field-0.0 in
+    let here : ProgramSketch → Type 0 = λ k. IfWrong (IsBelow (λ m others. (m ≡ number) × IsWrongAt c.args.shown.now c.args.outcomes.now k (cover x) (sketch_with k.chosen y) others)) fault in
+    err_up c.from_residual.result fault (IfWrong below) c.from_residual.ensures.1
+    (if_wrong (IsBelow (λ m others. (m ≡ number) × IsWrongAt c.args.shown.now c.args.outcomes.now s (cover x) (sketch_with s.chosen y) others)) below fault
+    (stop_here c.args.shown.now c.args.outcomes.now s c.args.trees.now c.args.choices.now number x y c.loop-number-test.true c.index-trees-number.is (same_default c.args.choices.now number (choice.Value 0 0) y (let h = c.loop-number-test.true in let many = c.requires.as_many in omega arith)) c.requires.as_many c.loop-number.invariant.1)
+    (subst here c.loop-number.invariant.0 c.in_err-judge_child.ensures.wrong))
 
 pub judge_children-loop-number-preserved : goal.judge_children-loop-number-preserved
 judge_children-loop-number-preserved t c =
+    let s = c.args.sketch.now in
     let number = c.loop-number.number in
-    let y = get_or c.args.choices.now number (choice.Value 0 0) in
-    go_on c.args.shown.now c.args.outcomes.now c.args.sketch.now c.args.trees.now c.args.choices.now number c.index-trees-number.result y c.loop-number-test.true c.index-trees-number.is
-    (same_default c.args.choices.now number (choice.Value 0 0) y (let h = c.loop-number-test.true in let many = c.requires.as_many in omega arith)) c.requires.as_many c.loop-number.invariant
-    c.in_ok-judge_child.ensures.valid
+    let x = c.index-trees-number.result in
+    let y = get_or c.args.choices.now number (choice.Value 0 0) in (
+      c.judge_child.ensures.kept ∙ c.loop-number.invariant.0,
+      go_on c.args.shown.now c.args.outcomes.now s c.args.trees.now c.args.choices.now number x y c.loop-number-test.true c.index-trees-number.is
+          (same_default c.args.choices.now number (choice.Value 0 0) y (let h = c.loop-number-test.true in let many = c.requires.as_many in omega arith)) c.requires.as_many c.loop-number.invariant.1
+          (subst (λ (k : ProgramSketch). IsValidAfter c.args.shown.now c.args.outcomes.now k (cover x) (sketch_with k.chosen y)) c.loop-number.invariant.0 c.in_ok-judge_child.ensures.valid),
+    )
