@@ -5,6 +5,7 @@ pub mod Recording
 pub mod GapTreeSmall
 pub mod ShortRuns
 pub mod CertificateMade
+pub mod PlacementMade
 pub mod Splitting
 pub mod Settling
 pub mod Workers
