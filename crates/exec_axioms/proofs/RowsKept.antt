@@ -142,9 +142,16 @@ module _ (p : Listing) (mode : Mode) (thread_traces : List ThreadTrace) (events 
     after_initial l reader after from of_reader each d = (
       λ h. (let (x, at, (y, ay, loc, wr)) = ((each d).0 h).0 in
           let there = number_access thread_traces events is.rows.of_threads x (d, at) in
-          let same = access_same p mode thread_traces sources pairs is.kept x there in
-          (x, at, (y, sym same ∙ ay, inr (from ∙ ap (λ n. Initial n) (sym loc), (λ q. subst (IsOfThreads thread_traces) (q ∙ from) there), wr),
-          λ q. ((each d).0 h).1 ((of_reader d).1 (x, at, sym q))))),
+          let same = access_same p mode thread_traces sources pairs is.kept x there in (
+            x,
+            at,
+            (
+              y,
+              sym same ∙ ay,
+              inr (from ∙ ap (λ n. Initial n) (sym loc), (λ q. subst (IsOfThreads thread_traces) (q ∙ from) there), wr),
+              λ q. ((each d).0 h).1 ((of_reader d).1 (x, at, sym q)),
+            ),
+          )),
       λ (x, at, (y, ay, before, ne)).
           let there = number_access thread_traces events is.rows.of_threads x (d, at) in
           let same = access_same p mode thread_traces sources pairs is.kept x there in

@@ -100,7 +100,8 @@ impl EdgeRows {
         self.main.connect(rows.reader, rows.after);
         let far = if_far(source, read, rows.written);
         self.global.connect(if_fenced(*mode, far), rows.reader);
-        self.global.connect(if_fenced(*mode, rows.reader), rows.after);
+        self.global
+            .connect(if_fenced(*mode, rows.reader), rows.after);
     }
 
     /// Whether a path of known edges would lead back to where it began if these edges were made.
