@@ -1,5 +1,5 @@
 //! Numbers below 32 as the bits of a word.
-ghost use Rattle.std.specs.Prelude.{◌≡◌, ◌≢◌, ◌↔◌, ◌⊎◌, ◌+◌, ◌<◌, ℕ, IsTrue, MatchOption};
+ghost use Rattle.std.specs.Prelude.{◌≡◌, ◌≢◌, ◌↔◌, ◌⊎◌, ◌+◌, ◌<◌, ◌≤◌, ℕ, IsTrue, MatchOption};
 ghost use Rattle.bit_rows.specs.Rows.{IsIn};
 ghost use Rattle.bit_rows.specs.declared.row.TheConstants.{ROW_BITS};
 
@@ -40,7 +40,7 @@ pub fn without(row: u32, number: u8) -> u32
 
 /// The lowest number of the row.
 pub fn lowest(row: u32) -> Option<u8>
-    ensures { MatchOption result ((k : ℕ) → IsIn row k → ⊥) (λ d. (d < ROW_BITS) × IsIn row d) }
+    ensures { MatchOption result ((k : ℕ) → IsIn row k → ⊥) (λ d. (d < ROW_BITS) × IsIn row d × ((k : ℕ) → IsIn row k → d ≤ k)) }
 {
     if row == 0 {
         return None;

@@ -1,5 +1,5 @@
 -- Accesses by number: what the rows of a sketch say of its events.
-use Rattle.std.proofs.Common.{◌≡◌, ◌↔◌, ℕ, Bool, IsTrue, List, [], Option, Some, None, Contains, slice_get, get_or, length, refl, sym, ap, ◌∙◌, subst, inr, ◌≤◌, arith}
+use Rattle.std.proofs.Common.{◌≡◌, ◌↔◌, ℕ, Bool, IsTrue, List, [], Option, Some, None, Contains, slice_get, get_or, length, refl, sym, ap, ◌∙◌, subst, inl, inr, ◌≤◌, arith}
 use Rattle.std.specs.Prelude.{slice_index}
 use Rattle.std.specs.Option.{option_map_or}
 use Rattle.std.proofs.lemmas.Option.{slice_get_within, slice_get-get_or, get_or_from_slice_get, same_Some}
@@ -23,6 +23,7 @@ use Rattle.tso_machine.specs.Modes.{machine_mode}
 use Rattle.exec_axioms.specs.ProgramSketches.{ProgramSketch, mode_in, trace_in, access_in}
 use Rattle.exec_axioms.specs.Kept.{view_of, KeepsTraces}
 use Rattle.exec_axioms.specs.Known.{IsInitialWrite}
+use Rattle.exec_axioms.specs.Choices.{IsOrdered}
 use Rattle.exec_axioms.specs.Endings.{HasLater, IsWritten}
 use Rattle.exec_axioms.specs.Rows.{accesses_at, access_of, IsOfThreads, AreAccesses, EachEnds, FitRow, AreRowsOf, IsRowOf, IsWriteAt, main_kind, rows_of}
 use Rattle.exec_axioms.proofs.TracesKept.{trace_accesses, no_accesses, no_trace, trace_next, past_next}
@@ -130,6 +131,11 @@ module _ (p : Listing) (mode : Mode) (thread_traces : List ThreadTrace) (sources
       let both = pair_accesses d e (kept.lawful.is_sketch.pairs d e h) in
       let accesses = all (kept.lawful.whole d e (inr h)) in
       (access_number events accesses d both.0, access_number events accesses e both.1)
+
+  -- so have two writes that are in order
+  pub ordered_numbers : (events : List Event) → (IsWhole s.program (mode_in s) s.chosen → AreAccesses thread_traces events) → (d e : Event) → IsOrdered s d e → HasNumber events d × HasNumber events e
+  ordered_numbers events all d e (inl h) = chosen_numbers events all d e h
+  ordered_numbers events all d e (inr h) = let numbers = chosen_numbers events all e d h in (numbers.1, numbers.0)
 
   -- the row of an event has a number where a pair puts a write after the event
   pub later_test : (events : List Event) (later : List ℕ) (d : ℕ) (x : Event) (b : Bool) → (IsWhole s.program (mode_in s) s.chosen → AreAccesses thread_traces events) → AreRowsOf events (λ d e. Contains pairs (d, e)) later →

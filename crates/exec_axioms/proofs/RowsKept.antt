@@ -1,7 +1,7 @@
 -- The rows of a sketch at its start, and after each choice.
 use Rattle.std.proofs.Common.{◌≡◌, ◌↔◌, ◌⊎◌, ℕ, ◌<◌, List, [], ◌∷◌, ◌++◌, Some, None, Contains, slice_get, get_or, length, refl, sym, ap, ◌∙◌, subst, inl, inr}
 use Rattle.std.proofs.lemmas.Option.{slice_get-get_or, same_Some}
-use Rattle.bit_rows.specs.Rows.{IsIn, Relates}
+use Rattle.bit_rows.specs.Rows.{IsIn, Relates, AreConnected}
 use Rattle.tso_program.specs.declared.listing.Listing.{Listing}
 use Rattle.candidate_executions.specs.declared.access.Access.{Access}
 use Rattle.candidate_executions.specs.declared.event.Event.{Event}
@@ -12,11 +12,13 @@ use Rattle.candidate_executions.specs.Consistency.{IsOfMode, SameThread}
 use Rattle.candidate_executions.specs.Sketches.{with_source, with_pair, KnownEdgeOfMode}
 use Rattle.tso_machine.specs.declared.mode.Mode.{Mode}
 use Rattle.tso_machine.specs.declared.mode.Mode.TheVariants.{Sequential, Fenced}
+use Rattle.exec_axioms.specs.declared.connect.SourceRows.{SourceRows}
+use Rattle.exec_axioms.specs.declared.connect.OrderRows.{OrderRows}
 use Rattle.exec_axioms.specs.declared.thread_trace.ThreadTrace.{ThreadTrace}
 use Rattle.exec_axioms.specs.ProgramSketches.{ProgramSketch, mode_in, access_in, with_chosen}
 use Rattle.exec_axioms.specs.Kept.{view_of, KeepsTraces}
 use Rattle.exec_axioms.specs.Choices.{MayRead, MayFollow}
-use Rattle.exec_axioms.specs.Rows.{accesses_at, access_of, IsOfThreads, IsRowOf, AreRowsOf, InOrder, WritesBut, ReadsBut, IsAfterBut, HasOrder, IsRepresented, main_kind}
+use Rattle.exec_axioms.specs.Rows.{accesses_at, access_of, IsOfThreads, IsRowOf, AreRowsOf, InOrder, IsWriteAt, ReadsBut, IsAfter, HasOrder, AreSourceRows, AreOrderRows, IsRepresented, main_kind}
 use Rattle.exec_axioms.proofs.KnownParts.{to_relates}
 use Rattle.exec_axioms.proofs.Chosen.{source_kept, pair_kept}
 use Rattle.exec_axioms.proofs.Masks.{row_joined, row_by}
@@ -84,39 +86,44 @@ module _ (p : Listing) (mode : Mode) (thread_traces : List ThreadTrace) (events 
   abbrev v : ProgramSketch
   v = view_of p mode thread_traces sources pairs
 
-  -- after an order is chosen
-  pub pair_represented : (first second : Event) (may : MayFollow v first second) (before after readers earlier outer : ℕ) (later' main' global' : List ℕ) →
-      IsRowOf events (λ e. e ≡ first) before → IsRowOf events (λ e. e ≡ second) after → IsRowOf events (ReadsBut sources first second) readers →
-      ((k : ℕ) → IsIn earlier k ↔ (IsIn before k ⊎ IsIn readers k)) → ((k : ℕ) → IsIn outer k ↔ ((mode ≡ Sequential → ⊥) × IsIn earlier k)) →
-      ((d e : ℕ) → Relates later' d e ↔ (Relates later d e ⊎ (IsIn before d × IsIn after e))) →
-      ((d e : ℕ) → Relates main' d e ↔ (Relates main d e ⊎ (IsIn earlier d × IsIn after e))) →
-      ((d e : ℕ) → Relates global' d e ↔ (Relates global d e ⊎ (IsIn outer d × IsIn after e))) →
-      IsRepresented p mode thread_traces events sources (pairs ++ (first, second) ∷ []) later' main' global'
-  pair_represented first second may before after readers earlier outer later' main' global' of_before of_after of_readers both fenced put put_main put_global =
-      let lawful = is.kept.lawful in
-      let t : ProgramSketch = with_chosen v (with_pair v.chosen first second) in
-      let of_earlier : IsRowOf events (Earlier v lawful first second may) earlier =
-      row_joined events (λ e. e ≡ first) (ReadsBut sources first second) (Earlier v lawful first second may) before readers earlier of_before of_readers both (λ x. (λ h. h, λ h. h)) in
-      record {
-        kept = pair_kept p mode thread_traces sources pairs is.kept first second may;
-        rows = record {
-          all = is.rows.all;
-          of_threads = is.rows.of_threads;
-          few = is.rows.few;
-          later_rows = connected events (λ d e. Contains pairs (d, e)) (λ d e. Contains (pairs ++ (first, second) ∷ []) (d, e)) (λ e. e ≡ first) (λ e. e ≡ second) before after later later'
-              is.rows.later_rows of_before of_after put (λ x y _ _. pair_pairs v lawful first second may x y);
-          main_rows = connected events (KnownEdgeOfMode v.program (mode_in v) v.chosen (main_kind mode)) (KnownEdgeOfMode t.program (mode_in t) t.chosen (main_kind mode)) (λ x. IsOfMode (mode_in v) (main_kind mode) × Earlier v lawful first second may x)
-              (λ e. e ≡ second) earlier after main main' is.rows.main_rows
-              (row_by events (Earlier v lawful first second may) (λ x. IsOfMode (mode_in v) (main_kind mode) × Earlier v lawful first second may x) earlier
-              (λ d x at. (λ h. (main_of_mode p mode, h), λ h. h.1)) of_earlier)
-              of_after put_main (λ x y _ _. pair_edges v lawful first second may (main_kind mode) x y);
-          global_rows = connected events (KnownEdgeOfMode v.program (mode_in v) v.chosen union.Global) (KnownEdgeOfMode t.program (mode_in t) t.chosen union.Global) (λ x. IsOfMode (mode_in v) union.Global × Earlier v lawful first second may x)
-              (λ e. e ≡ second) outer after global global' is.rows.global_rows
-              (row_if events (Earlier v lawful first second may) (λ x. IsOfMode (mode_in v) union.Global × Earlier v lawful first second may x) (mode ≡ Sequential → ⊥) earlier outer of_earlier fenced
-              (λ x. (λ h. ((global_of_mode p mode).1 h.0, h.1), λ h. ((global_of_mode p mode).0 h.0, h.1))))
-              of_after put_global (λ x y _ _. pair_edges v lawful first second may union.Global x y);
-        };
-      }
+  module _ (first second : Event) (may : MayFollow v first second) (rows : OrderRows) (are : AreOrderRows events sources first second rows) where
+    abbrev t : ProgramSketch
+    t = with_chosen v (with_pair v.chosen first second)
+
+    abbrev Goes : Event → Type 0
+    Goes d = Earlier v is.kept.lawful first second may d
+
+    of_earlier : IsRowOf events Goes rows.earlier
+    of_earlier = row_joined events (λ e. e ≡ first) (ReadsBut sources first second) Goes rows.before rows.readers rows.earlier are.before are.readers are.earlier (λ x. (λ h. h, λ h. h))
+
+    -- the main union after an order is chosen
+    pub pair_main : (main' : List ℕ) → AreConnected main rows.earlier rows.after main' → AreRowsOf events (KnownEdgeOfMode t.program (mode_in t) t.chosen (main_kind mode)) main'
+    pair_main main' put = connected events (KnownEdgeOfMode v.program (mode_in v) v.chosen (main_kind mode)) (KnownEdgeOfMode t.program (mode_in t) t.chosen (main_kind mode)) (λ x. IsOfMode (mode_in v) (main_kind mode) × Goes x)
+        (λ e. e ≡ second) rows.earlier rows.after main main' is.rows.main_rows
+        (row_by events Goes (λ x. IsOfMode (mode_in v) (main_kind mode) × Goes x) rows.earlier (λ d x at. (λ h. (main_of_mode p mode, h), λ h. h.1)) of_earlier)
+        are.after put (λ x y _ _. pair_edges v is.kept.lawful first second may (main_kind mode) x y)
+
+    -- all rows
+    pub pair_represented : (outer : ℕ) (later' main' global' : List ℕ) →
+        ((k : ℕ) → IsIn outer k ↔ ((mode ≡ Sequential → ⊥) × IsIn rows.earlier k)) →
+        AreConnected later rows.before rows.after later' → AreConnected main rows.earlier rows.after main' → AreConnected global outer rows.after global' →
+        IsRepresented p mode thread_traces events sources (pairs ++ (first, second) ∷ []) later' main' global'
+    pair_represented outer later' main' global' fenced put put_main put_global = record {
+      kept = pair_kept p mode thread_traces sources pairs is.kept first second may;
+      rows = record {
+        all = is.rows.all;
+        of_threads = is.rows.of_threads;
+        few = is.rows.few;
+        later_rows = connected events (λ d e. Contains pairs (d, e)) (λ d e. Contains (pairs ++ (first, second) ∷ []) (d, e)) (λ e. e ≡ first) (λ e. e ≡ second) rows.before rows.after later later'
+            is.rows.later_rows are.before are.after put (λ x y _ _. pair_pairs v is.kept.lawful first second may x y);
+        main_rows = pair_main main' put_main;
+        global_rows = connected events (KnownEdgeOfMode v.program (mode_in v) v.chosen union.Global) (KnownEdgeOfMode t.program (mode_in t) t.chosen union.Global) (λ x. IsOfMode (mode_in v) union.Global × Goes x)
+            (λ e. e ≡ second) outer rows.after global global' is.rows.global_rows
+            (row_if events Goes (λ x. IsOfMode (mode_in v) union.Global × Goes x) (mode ≡ Sequential → ⊥) rows.earlier outer of_earlier fenced
+            (λ x. (λ h. ((global_of_mode p mode).1 h.0, h.1), λ h. ((global_of_mode p mode).0 h.0, h.1))))
+            are.after put_global (λ x y _ _. pair_edges v is.kept.lawful first second may union.Global x y);
+      };
+    }
 
   module _ (read source : Event) (may : MayRead v read source) where
     abbrev w : ProgramSketch
@@ -125,35 +132,55 @@ module _ (p : Listing) (mode : Mode) (thread_traces : List ThreadTrace) (events 
     abbrev Comes : Event → Type 0
     Comes e = After v is.kept.lawful read source may e
 
+    -- what is not the read is not in its row
+    not_read : (reader d : ℕ) (x : Event) → IsRowOf events (λ e. e ≡ read) reader → slice_get events d ≡ Some x → (read ≡ x → ⊥) → IsIn reader d → ⊥
+    not_read reader d x of_reader at ne h = let (z, at_z, q) = (of_reader d).0 h in ne (sym q ∙ same_Some z x (sym at_z ∙ at))
+
     -- the writes that come after an initial write
-    after_initial : (l after : ℕ) → source ≡ Initial l → IsRowOf events (WritesBut thread_traces l read) after → IsRowOf events Comes after
-    after_initial l after from = row_by events (WritesBut thread_traces l read) Comes after
-        (λ d e at.
-        let there = number_access thread_traces events is.rows.of_threads e (d, at) in
-        let same = access_same p mode thread_traces sources pairs is.kept e there in (
-          λ (y, ay, loc, wr, ne). (y, sym same ∙ ay, inr (from ∙ ap (λ n. Initial n) (sym loc), (λ q. subst (IsOfThreads thread_traces) (q ∙ from) there), wr), ne),
-          λ (y, ay, before, ne). elim before [
-            | inl h ↦ absurd (subst (IsOfThreads thread_traces) from (number_access thread_traces events is.rows.of_threads source
-                (chosen_numbers p mode thread_traces sources pairs is.kept events is.rows.all source e h).0))
-            | inr (q, other, wr) ↦ (y, same ∙ ay, same_location y.location l (sym q ∙ from), wr, ne)
-          ],
-        ))
+    after_initial : (l reader after : ℕ) → source ≡ Initial l → IsRowOf events (λ e. e ≡ read) reader →
+        ((d : ℕ) → IsIn after d ↔ (((x : Event) × (slice_get events d ≡ Some x) × IsWriteAt thread_traces l x) × (IsIn reader d → ⊥))) → IsRowOf events Comes after
+    after_initial l reader after from of_reader each d = (
+      λ h. (let (x, at, (y, ay, loc, wr)) = ((each d).0 h).0 in
+          let there = number_access thread_traces events is.rows.of_threads x (d, at) in
+          let same = access_same p mode thread_traces sources pairs is.kept x there in (
+            x,
+            at,
+            (
+              y,
+              sym same ∙ ay,
+              inr (from ∙ ap (λ n. Initial n) (sym loc), (λ q. subst (IsOfThreads thread_traces) (q ∙ from) there), wr),
+              λ q. ((each d).0 h).1 ((of_reader d).1 (x, at, sym q)),
+            ),
+          )),
+      λ (x, at, (y, ay, before, ne)).
+          let there = number_access thread_traces events is.rows.of_threads x (d, at) in
+          let same = access_same p mode thread_traces sources pairs is.kept x there in
+          (each d).1 (
+            elim before [
+              | inl h ↦ absurd (subst (IsOfThreads thread_traces) from (number_access thread_traces events is.rows.of_threads source
+                  (chosen_numbers p mode thread_traces sources pairs is.kept events is.rows.all source x h).0))
+              | inr (q, other, wr) ↦ (x, at, (y, same ∙ ay, same_location y.location l (sym q ∙ from), wr))
+            ],
+            not_read reader d x of_reader at ne,
+          ),
+    )
       where
         same_location : (m n : ℕ) → Initial m ≡ Initial n → m ≡ n
         same_location m n q = cc
 
     -- and those that chosen pairs put after an access
-    after_access : (t i after : ℕ) → source ≡ At t i → ((d : ℕ) → IsIn after d ↔ IsAfterBut events later source read d) → IsRowOf events Comes after
-    after_access t i after from each d = (
+    after_access : (t i reader after : ℕ) → source ≡ At t i → IsRowOf events (λ e. e ≡ read) reader →
+        ((d : ℕ) → IsIn after d ↔ (IsAfter events later source d × (IsIn reader d → ⊥))) → IsRowOf events Comes after
+    after_access t i reader after from of_reader each d = (
       λ h. (let (k, at_k, rel) = ((each d).0 h).0 in
           let (x, y, at_x, at_y, has) = (is.rows.later_rows k d).0 rel in
           let same : x ≡ source = same_Some x source (sym at_x ∙ at_k) in
           let own : Contains pairs (source, y) = subst (λ z. Contains pairs (z, y)) same has in
           let (a, ay) = there y (d, at_y) in
-          (y, at_y, (a, ay, inl own, λ q. ((each d).0 h).1 (at_y ∙ ap (λ z. Some z) (sym q))))),
+          (y, at_y, (a, ay, inl own, λ q. ((each d).0 h).1 ((of_reader d).1 (y, at_y, sym q))))),
       λ (x, at, (y, ay, before, ne)). elim before [
         | inl h ↦ (let (k, at_k) = (chosen_numbers p mode thread_traces sources pairs is.kept events is.rows.all source x h).0 in
-            (each d).1 ((k, at_k, (is.rows.later_rows k d).1 (source, x, at_k, at, h)), λ q. ne (sym (same_Some x read (sym at ∙ q)))))
+            (each d).1 ((k, at_k, (is.rows.later_rows k d).1 (source, x, at_k, at, h)), not_read reader d x of_reader at ne))
         | inr (q, other, wr) ↦ absurd (let e : At t i ≡ Initial y.location = sym from ∙ q in cc)
       ],
     )
@@ -171,10 +198,9 @@ module _ (p : Listing) (mode : Mode) (thread_traces : List ThreadTrace) (events 
             let (y, ay) = has_access e of_thread in
             (y, sym (access_same p mode thread_traces sources pairs is.kept e of_thread) ∙ ay)
 
-    after_by : (e : Event) (after : ℕ) → source ≡ e → ((l : ℕ) → source ≡ Initial l → IsRowOf events (WritesBut thread_traces l read) after) →
-        ((t i : ℕ) → source ≡ At t i → (d : ℕ) → IsIn after d ↔ IsAfterBut events later source read d) → IsRowOf events Comes after
-    after_by (Initial l) after from initial access = after_initial l after from (initial l from)
-    after_by (At t i) after from initial access = after_access t i after from (access t i from)
+    after_by : (e : Event) (rows : SourceRows) → source ≡ e → AreSourceRows thread_traces events later read source rows → IsRowOf events Comes rows.after
+    after_by (Initial l) rows from are = after_initial l rows.reader rows.after from are.reader (are.initial l from)
+    after_by (At t i) rows from are = after_access t i rows.reader rows.after from are.reader (are.after t i from)
 
     step_main : (m : Mode) (d e : Event) → Step v is.kept.lawful read source may (main_kind m) d e ↔ ((d ≡ source) × (e ≡ read))
     step_main Sequential d e = (λ h. h, λ h. h)
@@ -203,43 +229,45 @@ module _ (p : Listing) (mode : Mode) (thread_traces : List ThreadTrace) (events 
           ]),
         ))
 
-    -- after a source is chosen
-    pub source_represented : (reader written after near outer_near outer_reader : ℕ) (main₁ main₂ global₁ global₂ : List ℕ) →
-        IsRowOf events (λ e. e ≡ read) reader → IsRowOf events (λ e. e ≡ source) written →
-        ((l : ℕ) → source ≡ Initial l → IsRowOf events (WritesBut thread_traces l read) after) →
-        ((t i : ℕ) → source ≡ At t i → (d : ℕ) → IsIn after d ↔ IsAfterBut events later source read d) →
-        ((k : ℕ) → IsIn near k ↔ ((SameThread source read → ⊥) × IsIn written k)) →
-        ((k : ℕ) → IsIn outer_near k ↔ ((mode ≡ Sequential → ⊥) × IsIn near k)) →
-        ((k : ℕ) → IsIn outer_reader k ↔ ((mode ≡ Sequential → ⊥) × IsIn reader k)) →
-        ((d e : ℕ) → Relates main₁ d e ↔ (Relates main d e ⊎ (IsIn written d × IsIn reader e))) →
-        ((d e : ℕ) → Relates main₂ d e ↔ (Relates main₁ d e ⊎ (IsIn reader d × IsIn after e))) →
-        ((d e : ℕ) → Relates global₁ d e ↔ (Relates global d e ⊎ (IsIn outer_near d × IsIn reader e))) →
-        ((d e : ℕ) → Relates global₂ d e ↔ (Relates global₁ d e ⊎ (IsIn outer_reader d × IsIn after e))) →
-        IsRepresented p mode thread_traces events (sources ++ (read, source) ∷ []) pairs later main₂ global₂
-    source_represented reader written after near outer_near outer_reader main₁ main₂ global₁ global₂ of_reader of_written initial access if_far fenced_near fenced_reader put₁ put₂ put₃ put₄ =
-        let of_after = after_by source after refl initial access in
-        let of_mode : IsOfMode (mode_in v) (main_kind mode) = main_of_mode p mode in
-        let of_near : IsRowOf events (λ e. (SameThread source read → ⊥) × (e ≡ source)) near =
-        row_if events (λ e. e ≡ source) (λ e. (SameThread source read → ⊥) × (e ≡ source)) (SameThread source read → ⊥) written near of_written if_far (λ x. (λ h. h, λ h. h)) in
-        record {
-          kept = source_kept p mode thread_traces sources pairs is.kept read source may;
-          rows = record {
-            all = is.rows.all;
-            of_threads = is.rows.of_threads;
-            few = is.rows.few;
-            later_rows = is.rows.later_rows;
-            main_rows = twice (main_kind mode) (λ d. d ≡ source) written reader reader after main main₁ main₂ is.rows.main_rows
-                (λ d e. (λ h. (step_main mode d e).0 h.1, λ h. (of_mode, (step_main mode d e).1 h)))
-                of_written of_reader
-                (row_by events (λ e. e ≡ read) (λ d. IsOfMode (mode_in v) (main_kind mode) × (d ≡ read)) reader (λ d x at. (λ h. (of_mode, h), λ h. h.1)) of_reader)
-                of_after put₁ put₂;
-            global_rows = twice union.Global (λ d. IsOfMode (mode_in v) union.Global × ((SameThread source read → ⊥) × (d ≡ source))) outer_near reader outer_reader after global global₁ global₂ is.rows.global_rows
-                (λ d e. (λ h. ((h.0, h.1.0), h.1.1), λ h. (h.0.0, (h.0.1, h.1))))
-                (row_if events (λ e. (SameThread source read → ⊥) × (e ≡ source)) (λ d. IsOfMode (mode_in v) union.Global × ((SameThread source read → ⊥) × (d ≡ source))) (mode ≡ Sequential → ⊥) near outer_near of_near fenced_near
-                (λ x. (λ h. ((global_of_mode p mode).1 h.0, h.1), λ h. ((global_of_mode p mode).0 h.0, h.1))))
-                of_reader
-                (row_if events (λ e. e ≡ read) (λ d. IsOfMode (mode_in v) union.Global × (d ≡ read)) (mode ≡ Sequential → ⊥) reader outer_reader of_reader fenced_reader
-                (λ x. (λ h. ((global_of_mode p mode).1 h.0, h.1), λ h. ((global_of_mode p mode).0 h.0, h.1))))
-                of_after put₃ put₄;
-          };
-        }
+    module _ (rows : SourceRows) (are : AreSourceRows thread_traces events later read source rows) where
+      of_mode : IsOfMode (mode_in v) (main_kind mode)
+      of_mode = main_of_mode p mode
+
+      -- the main union after a source is chosen
+      pub source_main : (main₁ main₂ : List ℕ) → AreConnected main rows.written rows.reader main₁ → AreConnected main₁ rows.reader rows.after main₂ →
+          AreRowsOf events (KnownEdgeOfMode w.program (mode_in w) w.chosen (main_kind mode)) main₂
+      source_main main₁ main₂ put₁ put₂ = twice (main_kind mode) (λ d. d ≡ source) rows.written rows.reader rows.reader rows.after main main₁ main₂ is.rows.main_rows
+          (λ d e. (λ h. (step_main mode d e).0 h.1, λ h. (of_mode, (step_main mode d e).1 h)))
+          are.written are.reader
+          (row_by events (λ e. e ≡ read) (λ d. IsOfMode (mode_in v) (main_kind mode) × (d ≡ read)) rows.reader (λ d x at. (λ h. (of_mode, h), λ h. h.1)) are.reader)
+          (after_by source rows refl are) put₁ put₂
+
+      -- all rows
+      pub source_represented : (near outer_near outer_reader : ℕ) (main₁ main₂ global₁ global₂ : List ℕ) →
+          ((k : ℕ) → IsIn near k ↔ ((SameThread source read → ⊥) × IsIn rows.written k)) →
+          ((k : ℕ) → IsIn outer_near k ↔ ((mode ≡ Sequential → ⊥) × IsIn near k)) →
+          ((k : ℕ) → IsIn outer_reader k ↔ ((mode ≡ Sequential → ⊥) × IsIn rows.reader k)) →
+          AreConnected main rows.written rows.reader main₁ → AreConnected main₁ rows.reader rows.after main₂ →
+          AreConnected global outer_near rows.reader global₁ → AreConnected global₁ outer_reader rows.after global₂ →
+          IsRepresented p mode thread_traces events (sources ++ (read, source) ∷ []) pairs later main₂ global₂
+      source_represented near outer_near outer_reader main₁ main₂ global₁ global₂ if_far fenced_near fenced_reader put₁ put₂ put₃ put₄ =
+          let of_near : IsRowOf events (λ e. (SameThread source read → ⊥) × (e ≡ source)) near =
+          row_if events (λ e. e ≡ source) (λ e. (SameThread source read → ⊥) × (e ≡ source)) (SameThread source read → ⊥) rows.written near are.written if_far (λ x. (λ h. h, λ h. h)) in
+          record {
+            kept = source_kept p mode thread_traces sources pairs is.kept read source may;
+            rows = record {
+              all = is.rows.all;
+              of_threads = is.rows.of_threads;
+              few = is.rows.few;
+              later_rows = is.rows.later_rows;
+              main_rows = source_main main₁ main₂ put₁ put₂;
+              global_rows = twice union.Global (λ d. IsOfMode (mode_in v) union.Global × ((SameThread source read → ⊥) × (d ≡ source))) outer_near rows.reader outer_reader rows.after global global₁ global₂ is.rows.global_rows
+                  (λ d e. (λ h. ((h.0, h.1.0), h.1.1), λ h. (h.0.0, (h.0.1, h.1))))
+                  (row_if events (λ e. (SameThread source read → ⊥) × (e ≡ source)) (λ d. IsOfMode (mode_in v) union.Global × ((SameThread source read → ⊥) × (d ≡ source))) (mode ≡ Sequential → ⊥) near outer_near of_near fenced_near
+                  (λ x. (λ h. ((global_of_mode p mode).1 h.0, h.1), λ h. ((global_of_mode p mode).0 h.0, h.1))))
+                  are.reader
+                  (row_if events (λ e. e ≡ read) (λ d. IsOfMode (mode_in v) union.Global × (d ≡ read)) (mode ≡ Sequential → ⊥) rows.reader outer_reader are.reader fenced_reader
+                  (λ x. (λ h. ((global_of_mode p mode).1 h.0, h.1), λ h. ((global_of_mode p mode).0 h.0, h.1))))
+                  (after_by source rows refl are) put₃ put₄;
+            };
+          }

@@ -2,7 +2,7 @@
 use Rattle.std.specs.Prelude.{◌≡◌, ◌≢◌, ◌↔◌, ◌⊎◌, ◌+◌, ◌<◌, ◌≤◌, ℕ, Bool, IsTrue, List, [], Option, Some, None, IsSome, slice_get, slice_index, length, Contains}
 use Rattle.std.specs.List.{AllPairs}
 use Rattle.std.specs.Option.{option_map_or}
-use Rattle.bit_rows.specs.Rows.{IsIn, Relates, HasRound}
+use Rattle.bit_rows.specs.Rows.{IsIn, Relates, AreConnected, HasRound}
 use Rattle.tso_program.specs.declared.listing.Listing.{Listing}
 use Rattle.candidate_executions.specs.declared.access.Access.{Access}
 use Rattle.candidate_executions.specs.declared.event.Event.{Event}
@@ -89,10 +89,6 @@ IsWriteAt thread_traces l e = (y : Access) × (access_of thread_traces e ≡ Som
 abbrev pub AreWriteRows : List ThreadTrace → List Event → List ℕ → Type 0
 AreWriteRows thread_traces events rows = (l : ℕ) → IsRowOf events (IsWriteAt thread_traces l) (slice_index rows l)
 
--- an access that writes the location, but for one event
-abbrev pub WritesBut : List ThreadTrace → ℕ → Event → Event → Type 0
-WritesBut thread_traces l except e = (y : Access) × (access_of thread_traces e ≡ Some y) × (y.location ≡ l) × IsSome y.written × (except ≢ e)
-
 -- the event is chosen as the source of another than this one
 abbrev pub ReadsBut : List (Event × Event) → Event → Event → Event → Type 0
 ReadsBut sources source except read = Contains sources (read, source) × (read ≢ except)
@@ -101,9 +97,9 @@ ReadsBut sources source except read = Contains sources (read, source) × (read �
 abbrev pub IsAlike : List Event → List ℕ → Type 0
 IsAlike events rows = (j k d : ℕ) → slice_get events j ≡ slice_get events k → Relates rows j d → Relates rows k d
 
--- d is in the row of the event, and not the number of another
-abbrev pub IsAfterBut : List Event → List ℕ → Event → Event → ℕ → Type 0
-IsAfterBut events rows event except d = ((k : ℕ) × (slice_get events k ≡ Some event) × Relates rows k d) × (slice_get events d ≡ Some except → ⊥)
+-- d is in the row of the event
+abbrev pub IsAfter : List Event → List ℕ → Event → ℕ → Type 0
+IsAfter events rows event d = (k : ℕ) × (slice_get events k ≡ Some event) × Relates rows k d
 
 -- the union that a mode has alone, or beside the global one
 abbrev pub main_kind : Mode → Kind
@@ -181,28 +177,27 @@ pub record IsRepresented (p : Listing) (mode : Mode) (thread_traces : List Threa
   pub kept : KeepsTraces p mode thread_traces sources pairs
   pub rows : HasRows (view_of p mode thread_traces sources pairs) thread_traces events later main global
 
--- the rows of a read's source: those of the read and of the source, this one where it is of another thread, both outside sequential mode, and the writes after the source
-pub record AreSourceRows (mode : Mode) (thread_traces : List ThreadTrace) (events : List Event) (later : List ℕ) (read source : Event) (rows : SourceRows) : Type 0 where
+-- the rows of a read's source: those of the read and of the source, and the writes after the source but for the read
+pub record AreSourceRows (thread_traces : List ThreadTrace) (events : List Event) (later : List ℕ) (read source : Event) (rows : SourceRows) : Type 0 where
   pub reader : IsRowOf events (λ e. e ≡ read) rows.reader
   pub written : IsRowOf events (λ e. e ≡ source) rows.written
-  pub far : (k : ℕ) → IsIn rows.far k ↔ ((SameThread source read → ⊥) × IsIn rows.written k)
-  pub outside : (k : ℕ) → IsIn rows.outside k ↔ ((mode ≡ Sequential → ⊥) × IsIn rows.far k)
-  pub from_read : (k : ℕ) → IsIn rows.from_read k ↔ ((mode ≡ Sequential → ⊥) × IsIn rows.reader k)
-  pub initial : (l : ℕ) → source ≡ Initial l → IsRowOf events (WritesBut thread_traces l read) rows.after
-  pub after : (t i : ℕ) → source ≡ At t i → (d : ℕ) → IsIn rows.after d ↔ IsAfterBut events later source read d
+  pub initial : (l : ℕ) → source ≡ Initial l → (d : ℕ) → IsIn rows.after d ↔ (((x : Event) × (slice_get events d ≡ Some x) × IsWriteAt thread_traces l x) × (IsIn rows.reader d → ⊥))
+  pub after : (t i : ℕ) → source ≡ At t i → (d : ℕ) → IsIn rows.after d ↔ (IsAfter events later source d × (IsIn rows.reader d → ⊥))
 
--- the rows of an order: those of the two writes, of the reads that have the first as their source, of these and the first, and the same outside sequential mode
-pub record AreOrderRows (mode : Mode) (events : List Event) (sources : List (Event × Event)) (first second : Event) (rows : OrderRows) : Type 0 where
+-- the rows of an order: those of the two writes, of the reads that have the first as their source, and of these and the first
+pub record AreOrderRows (events : List Event) (sources : List (Event × Event)) (first second : Event) (rows : OrderRows) : Type 0 where
   pub before : IsRowOf events (λ e. e ≡ first) rows.before
   pub after : IsRowOf events (λ e. e ≡ second) rows.after
   pub readers : IsRowOf events (ReadsBut sources first second) rows.readers
   pub earlier : (k : ℕ) → IsIn rows.earlier k ↔ (IsIn rows.before k ⊎ IsIn rows.readers k)
-  pub fenced : (k : ℕ) → IsIn rows.fenced k ↔ ((mode ≡ Sequential → ⊥) × IsIn rows.earlier k)
 
--- rows represent what is chosen, and the test says whether they have a round
-pub record ClosesAs (p : Listing) (mode : Mode) (thread_traces : List ThreadTrace) (events : List Event) (sources pairs : List (Event × Event)) (closes : Bool) : Type 0 where
-  pub later : List ℕ
-  pub main : List ℕ
-  pub global : List ℕ
-  pub represented : IsRepresented p mode thread_traces events sources pairs later main global
-  pub test : IsTrue closes ↔ (HasRound main ⊎ HasRound global)
+-- whether the rows of the global union, which sequential mode has not, have a round once one row is connected to another
+abbrev pub ClosesOnce : Mode → List ℕ → ℕ → ℕ → Bool → Type 0
+ClosesOnce Sequential global from to closes = IsTrue closes ↔ HasRound global
+ClosesOnce (Fenced gaps) global from to closes = (rows : List ℕ) × AreConnected global from to rows × (IsTrue closes ↔ HasRound rows)
+
+-- and once that one is connected to a third
+abbrev pub ClosesTwice : Mode → List ℕ → ℕ → ℕ → ℕ → Bool → Type 0
+ClosesTwice Sequential global from through to closes = IsTrue closes ↔ HasRound global
+ClosesTwice (Fenced gaps) global from through to closes =
+    (rows more : List ℕ) × AreConnected global from through rows × AreConnected rows through to more × (IsTrue closes ↔ HasRound more)

@@ -1,16 +1,17 @@
 //! The known edges in rows, and what a choice adds to them.
-ghost use Rattle.std.specs.Prelude.{◌≡◌, ◌≤◌, [], ◌∷◌, ◌++◌, List, length};
+ghost use Rattle.std.specs.Prelude.{◌≡◌, ◌↔◌, ◌≤◌, [], ◌∷◌, ◌++◌, IsTrue, List, length};
 ghost use Rattle.bit_rows.specs.declared.row.TheConstants.{ROW_BITS};
 ghost use Rattle.tso_program.specs.declared.listing.Listing.{Listing};
 ghost use Rattle.candidate_executions.specs.declared.event.Event.{Event};
 ghost use Rattle.exec_axioms.specs.Kept.{view_of};
 ghost use Rattle.exec_axioms.specs.Choices.{MayRead, MayFollow};
-ghost use Rattle.exec_axioms.specs.Rows.{rows_of, IsAlike, AreSourceRows, AreOrderRows, IsRepresented, ClosesAs};
+ghost use Rattle.exec_axioms.specs.Known.{HasCycle};
+ghost use Rattle.exec_axioms.specs.Rows.{rows_of, IsAlike, AreSourceRows, AreOrderRows, IsRepresented, ClosesOnce, ClosesTwice};
 
 use crate::Mode;
-use crate::rows::{if_far, if_fenced, overwriting, readers_of};
+use crate::rows::{if_far, if_fenced, readers_of, writes_after};
 use crate::traces::Traces;
-use bit_rows::{ROW_BITS, Relation, joined, put_rows};
+use bit_rows::{ROW_BITS, Relation, joined, minus, put_rows};
 use candidate_executions::{Event, Kind};
 
 /// Between accesses by their numbers: the chosen orders, and the known edges of the mode's unions. The
@@ -23,26 +24,22 @@ pub(crate) struct EdgeRows {
 }
 
 /// The rows between which a read's source makes edges: the read's, the source's, and that of the writes
-/// after the source. The source counts in the global union only where it is of another thread.
+/// after the source.
 #[derive(Drop)]
 pub(crate) struct SourceRows {
     reader: u32,
     written: u32,
-    far: u32,
-    outside: u32,
-    from_read: u32,
     after: u32,
 }
 
-/// The rows between which an order of two writes makes edges: the first's, the second's, and that of
-/// the reads that have the first as their source.
+/// The rows between which an order of two writes makes edges: the first's, the second's, that of the
+/// reads that have the first as their source, and that of these and the first.
 #[derive(Drop)]
 pub(crate) struct OrderRows {
     before: u32,
     after: u32,
     readers: u32,
     earlier: u32,
-    fenced: u32,
 }
 
 impl EdgeRows {
@@ -68,25 +65,23 @@ impl EdgeRows {
     }
 
     /// The rows between which a read's source makes edges.
-    fn rows_of_source(&self, mode: &Mode, traces: &Traces, read: Event, source: Event) -> SourceRows
+    fn rows_of_source(&self, traces: &Traces, read: Event, source: Event) -> SourceRows
         requires few { length traces.now.events ≤ ROW_BITS }
         requires alike { IsAlike traces.now.events self.now.later }
-        ensures { AreSourceRows mode.now traces.now.thread_traces traces.now.events self.now.later read source result }
+        ensures { AreSourceRows traces.now.thread_traces traces.now.events self.now.later read source result }
     {
         let reader = traces.row_of(read);
         let written = traces.row_of(source);
-        let far = if_far(source, read, written);
+        let after = writes_after(traces, &self.later, source, written);
         SourceRows {
             reader,
             written,
-            far,
-            outside: if_fenced(*mode, far),
-            from_read: if_fenced(*mode, reader),
-            after: overwriting(traces, &self.later, source, read),
+            after: minus(after, reader),
         }
     }
 
-    /// The edges of a read's source: from it to the read, and from the read to the writes after it.
+    /// The edges of a read's source: from it to the read, and from the read to the writes after it. In the
+    /// global union it counts only where it is of another thread.
     pub(crate) fn connect_source(
         &mut self,
         mode: &Mode,
@@ -100,11 +95,13 @@ impl EdgeRows {
             → MayRead (view_of p mode.now traces.now.thread_traces sources pairs) read source
             → IsRepresented p mode.now traces.now.thread_traces traces.now.events (sources ++ (read, source) ∷ []) pairs self.new.later self.new.main self.new.global }
     {
-        let rows = self.rows_of_source(mode, traces, read, source);
+        let rows = self.rows_of_source(traces, read, source);
         self.main.connect(rows.written, rows.reader);
         self.main.connect(rows.reader, rows.after);
-        self.global.connect(rows.outside, rows.reader);
-        self.global.connect(rows.from_read, rows.after);
+        let far = if_far(source, read, rows.written);
+        self.global.connect(if_fenced(*mode, far), rows.reader);
+        self.global
+            .connect(if_fenced(*mode, rows.reader), rows.after);
     }
 
     /// Whether a path of known edges would lead back to where it began if these edges were made.
@@ -119,16 +116,36 @@ impl EdgeRows {
         requires alike { IsAlike traces.now.events self.now.later }
         ensures { (p : Listing) (sources pairs : List (Event × Event)) → IsRepresented p mode.now traces.now.thread_traces traces.now.events sources pairs self.now.later self.now.main self.now.global
             → MayRead (view_of p mode.now traces.now.thread_traces sources pairs) read source
-            → ClosesAs p mode.now traces.now.thread_traces traces.now.events (sources ++ (read, source) ∷ []) pairs result }
+            → IsTrue result ↔ HasCycle (view_of p mode.now traces.now.thread_traces (sources ++ (read, source) ∷ []) pairs) }
     {
-        let rows = self.rows_of_source(mode, traces, read, source);
-        let main = self
-            .main
-            .closes_twice(rows.written, rows.reader, rows.reader, rows.after);
-        let global = self
-            .global
-            .closes_twice(rows.outside, rows.reader, rows.from_read, rows.after);
-        main || global
+        let rows = self.rows_of_source(traces, read, source);
+        let (reader, after) = (rows.reader, rows.after);
+        if self.main.closes_twice(rows.written, reader, reader, after) {
+            return true;
+        }
+        let far = if_far(source, read, rows.written);
+        self.global_closes_twice(mode, far, reader, after)
+    }
+
+    /// Whether the global union would have a path back to where it began if the first row were connected
+    /// to the second, and that to the third. Sequential mode has no global union.
+    fn global_closes_twice(&self, mode: &Mode, far: u32, reader: u32, after: u32) -> bool
+        ensures { ClosesTwice mode.now self.now.global far reader after result }
+    {
+        match mode {
+            Mode::Sequential => self.global.has_round(),
+            Mode::Fenced(_) => self.global.closes_twice(far, reader, reader, after),
+        }
+    }
+
+    /// The same if the first row were connected to the second.
+    fn global_closes(&self, mode: &Mode, from: u32, to: u32) -> bool
+        ensures { ClosesOnce mode.now self.now.global from to result }
+    {
+        match mode {
+            Mode::Sequential => self.global.has_round(),
+            Mode::Fenced(_) => self.global.closes(from, to),
+        }
     }
 
     /// The edges of an order of two writes: from the first, and from the reads that have it as their
@@ -146,10 +163,11 @@ impl EdgeRows {
             → MayFollow (view_of p mode.now traces.now.thread_traces sources.now pairs) first second
             → IsRepresented p mode.now traces.now.thread_traces traces.now.events sources.now (pairs ++ (first, second) ∷ []) self.new.later self.new.main self.new.global }
     {
-        let rows = rows_of_order(mode, traces, sources, first, second);
+        let rows = rows_of_order(traces, sources, first, second);
         put_rows(&mut self.later, rows.before, rows.after);
         self.main.connect(rows.earlier, rows.after);
-        self.global.connect(rows.fenced, rows.after);
+        self.global
+            .connect(if_fenced(*mode, rows.earlier), rows.after);
     }
 
     /// Whether a path of known edges would lead back to where it began if these edges were made.
@@ -164,34 +182,32 @@ impl EdgeRows {
         requires { length traces.now.events ≤ ROW_BITS }
         ensures { (p : Listing) (pairs : List (Event × Event)) → IsRepresented p mode.now traces.now.thread_traces traces.now.events sources.now pairs self.now.later self.now.main self.now.global
             → MayFollow (view_of p mode.now traces.now.thread_traces sources.now pairs) first second
-            → ClosesAs p mode.now traces.now.thread_traces traces.now.events sources.now (pairs ++ (first, second) ∷ []) result }
+            → IsTrue result ↔ HasCycle (view_of p mode.now traces.now.thread_traces sources.now (pairs ++ (first, second) ∷ [])) }
     {
-        let rows = rows_of_order(mode, traces, sources, first, second);
-        let main = self.main.closes(rows.earlier, rows.after);
-        let global = self.global.closes(rows.fenced, rows.after);
-        main || global
+        let rows = rows_of_order(traces, sources, first, second);
+        if self.main.closes(rows.earlier, rows.after) {
+            return true;
+        }
+        self.global_closes(mode, rows.earlier, rows.after)
     }
 }
 
 /// The rows between which an order of two writes makes edges.
 fn rows_of_order(
-    mode: &Mode,
     traces: &Traces,
     sources: &[(Event, Event)],
     first: Event,
     second: Event,
 ) -> OrderRows
     requires { length traces.now.events ≤ ROW_BITS }
-    ensures { AreOrderRows mode.now traces.now.events sources.now first second result }
+    ensures { AreOrderRows traces.now.events sources.now first second result }
 {
     let before = traces.row_of(first);
     let readers = readers_of(sources, traces, first, second);
-    let earlier = joined(before, readers);
     OrderRows {
         before,
         after: traces.row_of(second),
         readers,
-        earlier,
-        fenced: if_fenced(*mode, earlier),
+        earlier: joined(before, readers),
     }
 }

@@ -1,16 +1,16 @@
 //! Rows of accesses by their numbers, their places among all accesses.
 ghost use Rattle.std.specs.Prelude.{◌≡◌, ◌≤◌, ◌<◌, ◌↔◌, ℕ, Some, MatchOption, Contains, length, slice_get};
 ghost use Rattle.candidate_executions.specs.declared.event.Event.{Event};
-ghost use Rattle.bit_rows.specs.Rows.{IsIn};
+ghost use Rattle.bit_rows.specs.Rows.{IsIn, Relates, LeadsInto};
 ghost use Rattle.bit_rows.specs.declared.row.TheConstants.{ROW_BITS};
-ghost use Rattle.exec_axioms.specs.Rows.{IsRowOf, WritesBut, ReadsBut, IsAlike, IsAfterBut};
+ghost use Rattle.exec_axioms.specs.Rows.{IsRowOf, IsWriteAt, ReadsBut, IsAlike, IsAfter};
 ghost use Rattle.tso_machine.specs.declared.mode.Mode.TheVariants.{Sequential};
 ghost use Rattle.candidate_executions.specs.Consistency.{SameThread};
 
 use crate::Mode;
 use crate::events::{is_one_thread, is_same};
 use crate::traces::Traces;
-use bit_rows::{joined, minus};
+use bit_rows::{joined, lowest};
 use candidate_executions::Event;
 
 /// The reads that have the event as their source, but for one.
@@ -31,30 +31,29 @@ pub(crate) fn readers_of(
     row
 }
 
-/// The numbers in the row of an event, but for that of another.
-fn writes_after(traces: &Traces, later: &[u32], source: Event, except: Event) -> u32
-    requires few { length traces.now.events ≤ ROW_BITS }
-    requires rows { length later.now ≡ ROW_BITS }
-    requires alike { IsAlike traces.now.events later.now }
-    ensures { (d : ℕ) → IsIn result d ↔ IsAfterBut traces.now.events later.now source except d }
+/// The row at the number that a row has, if it has one.
+fn row_at(rows: &[u32], number: u32) -> u32
+    requires { length rows.now ≡ ROW_BITS }
+    ensures from { (d : ℕ) → IsIn result d → LeadsInto rows.now number d }
+    ensures whole { (k : ℕ) → IsIn number k → (j : ℕ) × IsIn number j × ((d : ℕ) → Relates rows.now j d → IsIn result d) }
 {
-    match traces.number_of(source) {
-        Some(d) => minus(later[d], traces.row_of(except)),
+    match lowest(number) {
+        Some(d) => rows[d as usize],
         None => 0,
     }
 }
 
-/// The writes that are known to come after the source of a read, but for the read itself.
-pub(crate) fn overwriting(traces: &Traces, later: &[u32], source: Event, read: Event) -> u32
-    requires few { length traces.now.events ≤ ROW_BITS }
+/// The writes that are known to come after an event, which has the number of this row.
+pub(crate) fn writes_after(traces: &Traces, later: &[u32], event: Event, number: u32) -> u32
     requires rows { length later.now ≡ ROW_BITS }
     requires alike { IsAlike traces.now.events later.now }
-    ensures initial { (l : ℕ) → source ≡ Event.Initial l → IsRowOf traces.now.events (WritesBut traces.now.thread_traces l read) result }
-    ensures after { (t i : ℕ) → source ≡ Event.Access t i → (d : ℕ) → IsIn result d ↔ IsAfterBut traces.now.events later.now source read d }
+    requires number { IsRowOf traces.now.events (λ e. e ≡ event) number }
+    ensures initial { (l : ℕ) → event ≡ Event.Initial l → IsRowOf traces.now.events (IsWriteAt traces.now.thread_traces l) result }
+    ensures after { (t i : ℕ) → event ≡ Event.Access t i → (d : ℕ) → IsIn result d ↔ IsAfter traces.now.events later.now event d }
 {
-    match source {
-        Event::Initial(location) => minus(traces.writes_to(location), traces.row_of(read)),
-        Event::Access(_, _) => writes_after(traces, later, source, read),
+    match event {
+        Event::Initial(location) => traces.writes_to(location),
+        Event::Access(_, _) => row_at(later, number),
     }
 }
 

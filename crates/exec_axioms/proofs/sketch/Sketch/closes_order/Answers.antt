@@ -6,9 +6,8 @@ use Rattle.candidate_executions.specs.Sketches.{with_pair}
 use Rattle.exec_axioms.specs.ProgramSketches.{ProgramSketch, with_chosen}
 use Rattle.exec_axioms.specs.Kept.{view_of}
 use Rattle.exec_axioms.specs.Choices.{MayFollow}
-use Rattle.exec_axioms.specs.Rows.{NumberedTraces, IsRepresented, ClosesAs}
+use Rattle.exec_axioms.specs.Rows.{NumberedTraces, IsRepresented}
 use Rattle.exec_axioms.specs.Known.{HasCycle}
-use Rattle.exec_axioms.proofs.Closed.{closed}
 use Rattle.exec_axioms.proofs.sketch.Sketch.closes_order.Goals as goal
 
 pub returns : goal.returns
@@ -16,11 +15,9 @@ returns c =
     let may = subst (λ (s : ProgramSketch). MayFollow s c.args.first c.args.second) (sym c.self.view_is) c.requires in
     let kept = subst (λ (t : NumberedTraces). (p : Listing) (pairs : List (Event × Event)) → IsRepresented p c.self.inside.mode t.thread_traces t.events c.as_slice-sources.result.now pairs c.self.inside.rows.later c.self.inside.rows.main c.self.inside.rows.global →
     MayFollow (view_of p c.self.inside.mode t.thread_traces c.as_slice-sources.result.now pairs) c.args.first c.args.second →
-    ClosesAs p c.self.inside.mode t.thread_traces t.events c.as_slice-sources.result.now (pairs ++ (c.args.first, c.args.second) ∷ []) c.closes_order.result) c.deref.ensures c.closes_order.ensures in
-    let own = subst (λ (sources : List (Event × Event)). (p : Listing) (pairs : List (Event × Event)) → IsRepresented p c.self.inside.mode (arc_value c.self.inside.traces).thread_traces (arc_value c.self.inside.traces).events sources pairs c.self.inside.rows.later c.self.inside.rows.main c.self.inside.rows.global →
+    IsTrue c.closes_order.result ↔ HasCycle (view_of p c.self.inside.mode t.thread_traces c.as_slice-sources.result.now (pairs ++ (c.args.first, c.args.second) ∷ []))) c.deref.ensures c.closes_order.ensures in
+    let closes = subst (λ (sources : List (Event × Event)). (p : Listing) (pairs : List (Event × Event)) → IsRepresented p c.self.inside.mode (arc_value c.self.inside.traces).thread_traces (arc_value c.self.inside.traces).events sources pairs c.self.inside.rows.later c.self.inside.rows.main c.self.inside.rows.global →
     MayFollow (view_of p c.self.inside.mode (arc_value c.self.inside.traces).thread_traces sources pairs) c.args.first c.args.second →
-    ClosesAs p c.self.inside.mode (arc_value c.self.inside.traces).thread_traces (arc_value c.self.inside.traces).events sources (pairs ++ (c.args.first, c.args.second) ∷ []) c.closes_order.result) c.as_slice-sources.ensures.value kept in
-    let closes = own c.self.inside.program c.self.inside.pairs.items c.self.invariant may in
+    IsTrue c.closes_order.result ↔ HasCycle (view_of p c.self.inside.mode (arc_value c.self.inside.traces).thread_traces sources (pairs ++ (c.args.first, c.args.second) ∷ []))) c.as_slice-sources.ensures.value kept in
     subst (λ (s : ProgramSketch). IsTrue c.closes_order.result ↔ HasCycle (with_chosen s (with_pair s.chosen c.args.first c.args.second))) c.self.view_is
-    (closed c.self.inside.program c.self.inside.mode (arc_value c.self.inside.traces).thread_traces (arc_value c.self.inside.traces).events c.self.inside.sources.items (c.self.inside.pairs.items ++ (c.args.first, c.args.second) ∷ []) closes.later closes.main closes.global closes.represented may.whole
-    c.closes_order.result closes.test)
+    (closes c.self.inside.program c.self.inside.pairs.items c.self.invariant may)
