@@ -15,22 +15,22 @@ use Rattle.fence_place.specs.Placements.{IsPlacement}
 use Rattle.fence_place.specs.Proofs.{IsProof}
 use Rattle.fence_place.specs.Recorded.{AreDistinct}
 
--- what the law of the checker says: a valid certificate proves the headline, and the headline tells the answer
+-- what the law of the checker says: a valid certificate proves the headline, and the headline determines the answer
 abbrev pub Proves : Question → List ℕ → Type 0
 Proves q costs = (c : Certificate) → IsValidCertificate q costs c → IsProved q costs c
 
-abbrev pub Tells : Question → List ℕ → Type 0
-Tells q costs = (gaps : SetOfGaps) (cost : ℕ) → Headline q costs gaps → cost ≡ total costs gaps → (gaps ≡ the_answer q costs) × (cost ≡ least_cost q costs)
+abbrev pub Determines : Question → List ℕ → Type 0
+Determines q costs = (gaps : SetOfGaps) (cost : ℕ) → Headline q costs gaps → cost ≡ total costs gaps → (gaps ≡ the_answer q costs) × (cost ≡ least_cost q costs)
 
 module _ (q : Question) (costs : List ℕ) (placed : Placed) (proof : IsProof q costs placed.certificate) (once : AreDistinct placed.certificate.runs)
     (same_set : placed.certificate.gaps ≡ placed.set) (same_cost : placed.certificate.cost ≡ placed.cost) where
   -- where it says so of the question
-  of_question : Proves q costs → Tells q costs → IsPlacement q costs placed
-  of_question proves tells =
+  of_question : Proves q costs → Determines q costs → IsPlacement q costs placed
+  of_question proves determines =
       let proved = proves placed.certificate proof.valid in
       let headline : Headline q costs placed.set = subst (λ (gaps : SetOfGaps). Headline q costs gaps) same_set proved.headline in
       let cost : placed.cost ≡ total costs placed.set = sym same_cost ∙ proof.valid.cost ∙ ap (λ (gaps : SetOfGaps). total costs gaps) same_set in
-      let told = tells placed.set placed.cost headline cost in
+      let told = determines placed.set placed.cost headline cost in
       record {
         headline = headline;
         answer = subst (λ (gaps : SetOfGaps). IsTheAnswer q costs gaps) same_set proved.answer;
@@ -43,7 +43,7 @@ module _ (q : Question) (costs : List ℕ) (placed : Placed) (proof : IsProof q 
       }
 
   -- where it says so of the question's program and of what the question shows
-  pub is_placement : (p : Listing) (shown : Shown) → p ≡ q.program → shown ≡ q.shown → Proves (asked p shown) costs → Tells (asked p shown) costs → IsPlacement q costs placed
-  is_placement p shown same_program same_shown proves tells =
+  pub is_placement : (p : Listing) (shown : Shown) → p ≡ q.program → shown ≡ q.shown → Proves (asked p shown) costs → Determines (asked p shown) costs → IsPlacement q costs placed
+  is_placement p shown same_program same_shown proves determines =
       let same : asked p shown ≡ q = ap (λ (l : Listing). asked l shown) same_program ∙ ap (λ (s : Shown). asked q.program s) same_shown in
-      of_question (subst (λ (x : Question). Proves x costs) same proves) (subst (λ (x : Question). Tells x costs) same tells)
+      of_question (subst (λ (x : Question). Proves x costs) same proves) (subst (λ (x : Question). Determines x costs) same determines)
