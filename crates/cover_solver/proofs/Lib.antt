@@ -1,5 +1,5 @@
 pub mod NothingLeft
-pub mod EachNamed
+pub mod TakenIn
 pub mod Inserted
 pub mod Rounds
 pub mod Numbered

@@ -25,7 +25,7 @@ use Rattle.cover_solver.specs.declared.reads_writes.WrittenValue.{WrittenValue}
 use Rattle.cover_solver.specs.declared.reads_writes.WholeAccesses.{WholeAccesses}
 use Rattle.cover_solver.specs.Internal.Accesses.{IsReadValue, IsWrittenValue, NamesWrite, AreAccessesOf}
 use Rattle.cover_solver.specs.Internal.ChoicesLeft.{HasEachSource, AreWritesInOrder, IsEachInOrder}
-use Rattle.cover_solver.proofs.EachNamed.{id_of}
+use Rattle.cover_solver.proofs.AccessesNamed.{id_of}
 
 -- two writes of a list are in order, whatever stands for those past its end
 pub in_order_at : (s : ProgramSketch) (writes : List WrittenValue) (i n j : ℕ) (d e : WrittenValue) → i < length writes → n < length writes → j ≡ n → AreWritesInOrder s (get_or writes i d) (get_or writes n d) →

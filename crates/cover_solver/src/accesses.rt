@@ -2,19 +2,11 @@
 ghost use Rattle.std.specs.Prelude.{◌≡◌, IfOk, Contains, map};
 ghost use Rattle.candidate_executions.specs.declared.event.Event.{Event};
 ghost use Rattle.tree_laws.specs.CoverTrees.{event_of};
-ghost use Rattle.cover_solver.specs.Internal.Accesses.{IsOfThread, HasAccesses};
+ghost use Rattle.cover_solver.specs.Internal.Accesses.{IsOfThread};
 
 use cert_forest::AccessId;
-use exec_axioms::{Event, Sketch};
+use exec_axioms::Event;
 use std::alloc::{AllocError, Global};
-
-/// All accesses of a sketch, by thread and number.
-pub(crate) fn all_accesses(alloc: Global, sketch: &Sketch) -> Result<Vec<AccessId>, AllocError>
-    ensures { IfOk result (λ accesses. HasAccesses sketch.now accesses.items) }
-{
-    let events = sketch.events()?;
-    accesses_of(alloc, &events)
-}
 
 /// Events of threads as accesses.
 pub(crate) fn accesses_of(alloc: Global, events: &[Event]) -> Result<Vec<AccessId>, AllocError>

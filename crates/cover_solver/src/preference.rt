@@ -12,7 +12,7 @@ ghost use Rattle.cover_solver.specs.Internal.Accesses.{IsReadValue, IsWrittenVal
 ghost use Rattle.cover_solver.specs.Internal.ChoicesLeft.{HasEachSource, IsInOrderWithLater, IsEachInOrder};
 
 use crate::choices_left::{OpenChoice, needs_order, needs_source};
-use crate::reads_writes::{ReadValue, WholeAccesses, WrittenValue, gives};
+use crate::reads_writes::{ReadValue, WholeAccesses, WrittenValue, gives, gives_at_first};
 use crate::settled::{SketchEnds, is_listed_without, sketch_ends};
 use cert_forest::AccessId;
 use cover_judge::{Choice, event_of};
@@ -76,10 +76,30 @@ fn best_of(
     ensures { MatchOption result (IsComplete sketch.now) (IsOpen sketch.now) }
 {
     let best = best_source(sketch, &accesses.reads, &accesses.writes);
-    match best_order(sketch, accesses, shown, outcomes, best) {
+    match or_order(sketch, accesses, shown, outcomes, best) {
         Some(best) => Some(best.next),
         None => None,
     }
+}
+
+/// The better of the best so far and the orders that are left. They are looked at where a child of the
+/// best stays open.
+fn or_order(
+    sketch: &Sketch,
+    accesses: &WholeAccesses,
+    shown: &Shown,
+    outcomes: &[Outcome],
+    best: Option<Rated>,
+) -> Option<Rated>
+    requires accesses { AreAccessesOf sketch.now accesses.now }
+    requires best { IfSome best (λ best. IsOpen sketch.now best.next) }
+    ensures is_open { IfSome result (λ best. IsOpen sketch.now best.next) }
+    ensures none { result ≡ None → (best ≡ None) × IsEachInOrder sketch.now accesses.now.writes.items }
+{
+    if leaves_none_open(best) {
+        return best;
+    }
+    best_order(sketch, accesses, shown, outcomes, best)
 }
 
 /// The best of the reads without a source.
@@ -102,6 +122,23 @@ fn best_source(sketch: &Sketch, reads: &[ReadValue], writes: &[WrittenValue]) ->
     best
 }
 
+/// Whether a merit is no better than another. More children make none better.
+fn is_no_better(merit: Merit, best: Merit) -> bool {
+    merit >= best
+}
+
+/// The merit of the best so far, and the worst where there is none.
+fn merit_of(best: Option<Rated>) -> Merit {
+    match best {
+        Some(best) => best.merit,
+        None => Merit {
+            open: usize::MAX,
+            children: usize::MAX,
+            is_order: true,
+        },
+    }
+}
+
 /// Whether no child of the best stays open.
 fn leaves_none_open(best: Option<Rated>) -> bool
     ensures { IsTrue result → IsSome best }
@@ -118,10 +155,10 @@ fn better(best: Option<Rated>, other: Rated) -> Rated
 {
     match best {
         Some(best) => {
-            if other.merit < best.merit {
-                other
-            } else {
+            if is_no_better(other.merit, best.merit) {
                 best
+            } else {
+                other
             }
         }
         None => other,
@@ -141,59 +178,72 @@ fn better_source(
     requires best { IfSome best (λ best. IsOpen sketch.now best.next) }
     ensures { IsOpen sketch.now result.next }
 {
-    let most = match best {
-        Some(best) => best.merit.open,
-        None => usize::MAX,
-    };
     let other = Rated {
         next: OpenChoice::Source(read.read),
-        merit: merit_of_sources(sketch, writes, read, most),
+        merit: merit_of_sources(sketch, writes, read, merit_of(best)),
     };
     better(best, other)
 }
 
-/// The merit of the sources of a read. A source closes the sketch by a cycle alone: it changes no outcome.
-/// Children that stay open are counted up to one more than `most`.
-fn merit_of_sources(sketch: &Sketch, writes: &[WrittenValue], read: ReadValue, most: usize) -> Merit
+/// The merit of the sources of a read, counted until it is no better than the best. A source closes the
+/// sketch by a cycle alone: it changes no outcome.
+fn merit_of_sources(sketch: &Sketch, writes: &[WrittenValue], read: ReadValue, best: Merit) -> Merit
     requires is_open { IsSourceOpen sketch.now read.read }
     requires read { IsReadValue sketch.now read }
     requires writes { All (IsWrittenValue sketch.now) writes.now }
 {
-    let mut merit = merit_of_initial(sketch, read, most);
+    let mut merit = merit_of_initial(sketch, read, best);
     for write in writes {
+        if is_no_better(merit, best) {
+            return merit;
+        }
         if gives(*write, read) {
-            merit = with_source(sketch, merit, read.read, event_of(write.write), most);
+            merit = with_source(sketch, merit, read.read, event_of(write.write), best);
         }
     }
     merit
 }
 
 /// The same of the initial write alone.
-fn merit_of_initial(sketch: &Sketch, read: ReadValue, most: usize) -> Merit
-    requires { IsSourceOpen sketch.now read.read }
+fn merit_of_initial(sketch: &Sketch, read: ReadValue, best: Merit) -> Merit
+    requires is_open { IsSourceOpen sketch.now read.read }
+    requires read { IsReadValue sketch.now read }
 {
     let none = Merit {
         open: 0,
         children: 0,
         is_order: false,
     };
-    let initial = Event::Initial(read.location);
-    if sketch.is_source(initial, event_of(read.read)) {
-        with_source(sketch, none, read.read, initial, most)
+    if gives_at_first(sketch, read) {
+        let initial = Event::Initial(read.location);
+        with_source(sketch, none, read.read, initial, best)
     } else {
         none
     }
 }
 
-/// The merit with one more child, for a source of the read.
-fn with_source(sketch: &Sketch, merit: Merit, read: AccessId, source: Event, most: usize) -> Merit
+/// The merit with one more child, for a source of the read. Whether it stays open is not looked at where
+/// the merit is no better than the best without it.
+fn with_source(sketch: &Sketch, merit: Merit, read: AccessId, source: Event, best: Merit) -> Merit
     requires { MayRead sketch.now (trees.event_of read) source }
 {
-    let stays_open = merit.open <= most && !sketch.closes_source(event_of(read), source);
-    Merit {
-        open: merit.open.saturating_add(usize::from(stays_open)),
+    let closed = Merit {
+        open: merit.open,
         children: merit.children.saturating_add(1),
         is_order: false,
+    };
+    if is_no_better(closed, best) || sketch.closes_source(event_of(read), source) {
+        return closed;
+    }
+    with_open(closed)
+}
+
+/// The merit with one more child that stays open, where there are as many children.
+fn with_open(merit: Merit) -> Merit {
+    Merit {
+        open: merit.open.saturating_add(1),
+        children: merit.children,
+        is_order: merit.is_order,
     }
 }
 
@@ -211,22 +261,24 @@ fn best_order(
     ensures none { result ≡ None → (best ≡ None) × IsEachInOrder sketch.now accesses.now.writes.items }
 {
     let mut best = best;
-    let mut ends = None;
+    let ends = sketch_ends(sketch, shown, &accesses.writes);
     for place in 0..accesses.writes.len() {
-        best = with_orders(sketch, accesses, shown, outcomes, place, &mut ends, best);
+        if leaves_none_open(best) {
+            return best;
+        }
+        best = with_orders(sketch, accesses, shown, outcomes, &ends, place, best);
     }
     best
 }
 
-/// The same of the orders of the write at this place and the later ones. The sketch's ends are looked for
-/// once.
+/// The same of the orders of the write at this place and the later ones.
 fn with_orders(
     sketch: &Sketch,
     accesses: &WholeAccesses,
     shown: &Shown,
     outcomes: &[Outcome],
+    ends: &SketchEnds,
     place: usize,
-    ends: &mut Option<SketchEnds>,
     best: Option<Rated>,
 ) -> Option<Rated>
     requires accesses { AreAccessesOf sketch.now accesses.now }
@@ -243,7 +295,7 @@ fn with_orders(
         }
         let pair = (writes[place], writes[later]);
         if needs_order(sketch, pair.0, pair.1) {
-            best = Some(better_order(sketch, accesses, shown, outcomes, pair, ends, best));
+            best = Some(better_order(sketch, accesses, shown, outcomes, ends, pair, best));
         }
     }
     best
@@ -255,27 +307,24 @@ fn better_order(
     accesses: &WholeAccesses,
     shown: &Shown,
     outcomes: &[Outcome],
+    ends: &SketchEnds,
     pair: (WrittenValue, WrittenValue),
-    ends: &mut Option<SketchEnds>,
     best: Option<Rated>,
 ) -> Rated
     requires is_open { IsOpen sketch.now (OpenChoice.Order pair.0.write pair.1.write) }
     requires best { IfSome best (λ best. IsOpen sketch.now best.next) }
     ensures { IsOpen sketch.now result.next }
 {
-    let known = match *ends {
-        Some(known) => known,
-        None => sketch_ends(sketch, shown, &accesses.writes),
-    };
-    *ends = Some(known);
+    let most = merit_of(best);
     let other = Rated {
         next: OpenChoice::Order(pair.0.write, pair.1.write),
-        merit: merit_of_orders(sketch, accesses, shown, outcomes, &known, pair),
+        merit: merit_of_orders(sketch, accesses, shown, outcomes, ends, pair, most),
     };
     better(best, other)
 }
 
-/// The merit of the orders of two writes: either may be the first.
+/// The merit of the orders of two writes, counted until it is no better than the best: either may be the
+/// first.
 fn merit_of_orders(
     sketch: &Sketch,
     accesses: &WholeAccesses,
@@ -283,22 +332,26 @@ fn merit_of_orders(
     outcomes: &[Outcome],
     ends: &SketchEnds,
     pair: (WrittenValue, WrittenValue),
+    best: Merit,
 ) -> Merit
     requires { IsOpen sketch.now (OpenChoice.Order pair.0.write pair.1.write) }
 {
     let (first, second) = pair;
-    let first_before = stays_open(sketch, accesses, shown, outcomes, ends, first, second);
-    let second_before = stays_open(sketch, accesses, shown, outcomes, ends, second, first);
-    let open = match (first_before, second_before) {
-        (true, true) => 2,
-        (false, false) => 0,
-        _ => 1,
-    };
-    Merit {
-        open,
+    let mut merit = Merit {
+        open: 0,
         children: 2,
         is_order: true,
+    };
+    if stays_open(sketch, accesses, shown, outcomes, ends, first, second) {
+        merit = with_open(merit);
     }
+    if is_no_better(merit, best) {
+        return merit;
+    }
+    if stays_open(sketch, accesses, shown, outcomes, ends, second, first) {
+        merit = with_open(merit);
+    }
+    merit
 }
 
 /// Whether an open sketch stays open after an order: neither a cycle nor an outcome of the list closes

@@ -1,12 +1,11 @@
 //! Reads and writes of a sketch, with their locations and their values.
-ghost use Rattle.std.specs.Prelude.{◌≡◌, IsTrue, IfOk, IfSome, MatchOption, All};
+ghost use Rattle.std.specs.Prelude.{◌≡◌, [], IsTrue, IfOk, OnOk, IfSome, All};
 ghost use Rattle.candidate_executions.specs.Sketches.{IsSourceOf, IsWhole};
 ghost use Rattle.exec_axioms.specs.ProgramSketches.{ProgramSketch, mode_in};
-ghost use Rattle.exec_axioms.specs.Choices.{IsRead};
 ghost use Rattle.tree_laws.specs.CoverTrees as trees;
-ghost use Rattle.cover_solver.specs.Internal.Accesses.{HasAccesses, IsReadValue, AreReads, IsWrittenValue, IsWrite, AreWrites, AreAccessesOf};
+ghost use Rattle.cover_solver.specs.Internal.Accesses.{IsReadValue, IsWrittenValue, AreAccessesOf, IsItself, IsOfItsThread, TakesIn};
 
-use crate::accesses::all_accesses;
+use bit_rows::ROW_BITS;
 use cert_forest::AccessId;
 use cover_judge::event_of;
 use exec_axioms::{Event, Sketch};
@@ -38,20 +37,66 @@ pub(crate) struct WholeAccesses {
     pub(crate) unsourced: Option<ReadValue>,
 }
 
+impl WholeAccesses {
+    /// Of no access, with room for those of a whole sketch.
+    fn none(alloc: Global) -> Result<WholeAccesses, AllocError>
+        ensures reads { IfOk result (λ accesses. accesses.reads.items ≡ []) }
+        ensures writes { IfOk result (λ accesses. accesses.writes.items ≡ []) }
+    {
+        Ok(WholeAccesses {
+            reads: Vec::with_capacity(alloc, ROW_BITS)?,
+            writes: Vec::with_capacity(alloc, ROW_BITS)?,
+            unsourced: None,
+        })
+    }
+
+    /// Takes a thread's accesses in.
+    fn add_thread(&mut self, sketch: &Sketch, t: u8) -> Result<(), AllocError>
+        ensures { OnOk result (TakesIn sketch.now (IsOfItsThread t) self.old self.new) }
+    {
+        for access in 0..sketch.accesses(t) {
+            self.add_access(sketch, AccessId { thread: t, access })?;
+        }
+        Ok(())
+    }
+
+    /// Takes an access in: with the reads if it reads, and with the writes if it writes.
+    fn add_access(&mut self, sketch: &Sketch, id: AccessId) -> Result<(), AllocError>
+        ensures { OnOk result (TakesIn sketch.now (IsItself id) self.old self.new) }
+    {
+        let Some(access) = sketch.access(event_of(id)) else {
+            return Ok(());
+        };
+        if let Some(value) = access.read {
+            self.reads.push(ReadValue {
+                read: id,
+                location: access.location,
+                value,
+            })?;
+        }
+        if let Some(value) = access.written {
+            self.writes.push(WrittenValue {
+                write: id,
+                location: access.location,
+                value,
+            })?;
+        }
+        Ok(())
+    }
+}
+
 /// What a sketch reads and writes in which each read has its value.
 pub(crate) fn whole_accesses(alloc: Global, sketch: &Sketch) -> Result<WholeAccesses, AllocError>
     requires { IsWhole sketch.now.program (mode_in sketch.now) sketch.now.chosen }
     ensures { IfOk result (AreAccessesOf sketch.now) }
 {
-    let accesses = all_accesses(alloc, sketch)?;
-    let reads = read_values(alloc, sketch, &accesses)?;
-    let writes = written_values(alloc, sketch, &accesses)?;
-    let unsourced = first_unsourced(sketch, &reads, &writes);
-    Ok(WholeAccesses {
-        reads,
-        writes,
-        unsourced,
-    })
+    let mut accesses = WholeAccesses::none(alloc)?;
+    let threads = sketch.program().threads().len() as u8;
+    for t in 0..threads {
+        accesses.add_thread(sketch, t)?;
+    }
+    accesses.unsourced = first_unsourced(sketch, &accesses.reads, &accesses.writes);
+    Ok(accesses)
 }
 
 /// The first of the reads that no write gives its value.
@@ -73,74 +118,25 @@ fn first_unsourced(
 
 /// Whether the initial write or one of the writes gives a read its value.
 fn is_given(sketch: &Sketch, writes: &[WrittenValue], read: ReadValue) -> bool {
+    if gives_at_first(sketch, read) {
+        return true;
+    }
     for write in writes {
         if gives(*write, read) {
             return true;
         }
     }
-    sketch.is_source(Event::Initial(read.location), event_of(read.read))
+    false
 }
 
-/// The reads among all accesses.
-fn read_values(
-    alloc: Global,
-    sketch: &Sketch,
-    accesses: &[AccessId],
-) -> Result<Vec<ReadValue>, AllocError>
-    requires { HasAccesses sketch.now accesses.now }
-    ensures { IfOk result (λ reads. AreReads sketch.now reads.items) }
+/// Whether the initial write of a read's location has the read's value.
+pub(crate) fn gives_at_first(sketch: &Sketch, read: ReadValue) -> bool
+    ensures { IsReadValue sketch.now read → IsTrue result → IsSourceOf sketch.now.program (mode_in sketch.now) sketch.now.chosen (Event.Initial read.location) (trees.event_of read.read) }
 {
-    let mut reads = Vec::with_capacity(alloc, accesses.len())?;
-    for access in accesses {
-        if let Some(read) = read_value(sketch, *access) {
-            reads.push(read)?;
-        }
+    match sketch.access(Event::Initial(read.location)) {
+        Some(initial) => initial.written == Some(read.value),
+        None => false,
     }
-    Ok(reads)
-}
-
-/// What an access reads, if it reads.
-fn read_value(sketch: &Sketch, read: AccessId) -> Option<ReadValue>
-    ensures { MatchOption result (IsRead sketch.now (trees.event_of read) → ⊥) (λ r. (r.read ≡ read) × IsReadValue sketch.now r) }
-{
-    let access = sketch.access(event_of(read))?;
-    let value = access.read?;
-    Some(ReadValue {
-        read,
-        location: access.location,
-        value,
-    })
-}
-
-/// The writes among all accesses.
-fn written_values(
-    alloc: Global,
-    sketch: &Sketch,
-    accesses: &[AccessId],
-) -> Result<Vec<WrittenValue>, AllocError>
-    requires { HasAccesses sketch.now accesses.now }
-    ensures { IfOk result (λ writes. AreWrites sketch.now writes.items) }
-{
-    let mut writes = Vec::with_capacity(alloc, accesses.len())?;
-    for access in accesses {
-        if let Some(write) = written_value(sketch, *access) {
-            writes.push(write)?;
-        }
-    }
-    Ok(writes)
-}
-
-/// What an access writes, if it writes.
-fn written_value(sketch: &Sketch, write: AccessId) -> Option<WrittenValue>
-    ensures { MatchOption result (IsWrite sketch.now write → ⊥) (λ w. (w.write ≡ write) × IsWrittenValue sketch.now w) }
-{
-    let access = sketch.access(event_of(write))?;
-    let value = access.written?;
-    Some(WrittenValue {
-        write,
-        location: access.location,
-        value,
-    })
 }
 
 /// Whether another access writes to a read's location the read's value.

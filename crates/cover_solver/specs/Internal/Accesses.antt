@@ -3,8 +3,8 @@ use Rattle.std.specs.Prelude.{◌≡◌, ℕ, List, Some, IfSome, All, Contains}
 use Rattle.candidate_executions.specs.declared.access.Access.{Access}
 use Rattle.candidate_executions.specs.declared.event.Event.{Event}
 use Rattle.candidate_executions.specs.declared.event.Event.TheVariants.{Initial, Access as At}
-use Rattle.candidate_executions.specs.Candidates.{IsAccess, Writes}
-use Rattle.candidate_executions.specs.Sketches.{given_to, IsWhole}
+use Rattle.candidate_executions.specs.Candidates.{Writes}
+use Rattle.candidate_executions.specs.Sketches.{IsWhole}
 use Rattle.exec_axioms.specs.ProgramSketches.{ProgramSketch, mode_in, access_in}
 use Rattle.exec_axioms.specs.Choices.{IsRead}
 use Rattle.cert_forest.specs.declared.tree.AccessId.{AccessId}
@@ -17,14 +17,6 @@ use Rattle.cover_solver.specs.declared.reads_writes.WholeAccesses.{WholeAccesses
 abbrev pub IsOfThread : Event → Type 0
 IsOfThread (Initial l) = ⊥
 IsOfThread (At t i) = Unit {0}
-
--- one of these is the event
-abbrev pub NamesEvent : List AccessId → Event → Type 0
-NamesEvent accesses e = (a : AccessId) × Contains accesses a × (event_of a ≡ e)
-
--- each access of the sketch is one of these
-abbrev pub HasAccesses : ProgramSketch → List AccessId → Type 0
-HasAccesses s accesses = (e : Event) → IsAccess s.program (mode_in s) (given_to s.chosen) e → NamesEvent accesses e
 
 -- the access reads the value from the location
 pub record IsReadValue (s : ProgramSketch) (r : ReadValue) : Type 0 where
@@ -65,3 +57,19 @@ pub record AreAccessesOf (s : ProgramSketch) (accesses : WholeAccesses) : Type 0
   pub reads : AreReads s accesses.reads.items
   pub writes : AreWrites s accesses.writes.items
   pub unsourced : IfSome accesses.unsourced (IsReadValue s)
+
+-- the access itself, and each access of its thread
+abbrev pub IsItself : AccessId → AccessId → Type 0
+IsItself a b = b ≡ a
+
+abbrev pub IsOfItsThread : ℕ → AccessId → Type 0
+IsOfItsThread t a = a.thread ≡ t
+
+-- nothing but what the sketch reads and writes is put in, none is taken away, and these accesses are in as far as they read and write
+pub record TakesIn (s : ProgramSketch) (T : AccessId → Type 0) (old new : WholeAccesses) : Type 0 where
+  pub reads : All (IsReadValue s) old.reads.items → All (IsReadValue s) new.reads.items
+  pub writes : All (IsWrittenValue s) old.writes.items → All (IsWrittenValue s) new.writes.items
+  pub kept_reads : (a : AccessId) → NamesRead old.reads.items a → NamesRead new.reads.items a
+  pub kept_writes : (a : AccessId) → NamesWrite old.writes.items a → NamesWrite new.writes.items a
+  pub read : (a : AccessId) → T a → IsRead s (event_of a) → NamesRead new.reads.items a
+  pub written : (a : AccessId) → T a → IsWrite s a → NamesWrite new.writes.items a
