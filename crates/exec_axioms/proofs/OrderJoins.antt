@@ -6,7 +6,7 @@ use Rattle.tso_program.specs.declared.action.Action.{Action}
 use Rattle.tso_program.specs.declared.action.Action.TheVariants.{Stop, Go, Wait, Read, Write, Swap}
 use Rattle.tso_program.specs.declared.action.Local.{Local}
 use Rattle.tso_program.specs.declared.listing.Listing.{Listing}
-use Rattle.tso_program.specs.Listings.{action, code_of, start_of}
+use Rattle.tso_program.specs.Listings.{action, start_of}
 use Rattle.tso_machine.specs.declared.mode.Mode.{Mode}
 use Rattle.tso_machine.specs.Modes.{machine_mode}
 use Rattle.candidate_executions.specs.declared.access.Access.{Access}

@@ -14,7 +14,7 @@ use Rattle.cover_solver.specs.Choices.{IsBranch}
 use Rattle.cover_solver.specs.Covers.{IsValidAt, IsCoverAt, AreCoversAfter, AreChildren, IsArity}
 use Rattle.cover_solver.specs.Listed.{listed, Grows}
 use Rattle.cover_solver.specs.Internal.Accesses.{AreAccessesOf}
-use Rattle.cover_solver.proofs.Growing.{grows_twice, grows_after, covers_still}
+use Rattle.cover_solver.proofs.Growing.{grows_twice, covers_still}
 use Rattle.cover_solver.proofs.Rounds.{rounds, fewer_rounds}
 use Rattle.cover_solver.proofs.NothingLeft.{accesses_after}
 use Rattle.cover_solver.proofs.Nodes.{cover_next, cover_without, covers_more, node_cover, node_arity}
