@@ -11,4 +11,5 @@ pub mod Tallies
 pub mod Traces
 pub mod Combined
 pub mod Plans
+pub mod Kept
 pub mod Renumbered

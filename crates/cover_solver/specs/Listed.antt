@@ -1,11 +1,13 @@
 -- Lists of outcomes by which a search for a cover tree goes.
-use Rattle.std.specs.Prelude.{◌≡◌, List, Contains}
+use Rattle.std.specs.Prelude.{◌≡◌, List, Result, Ok, Err, Contains}
 use Rattle.tso_program.specs.declared.outcome.Outcome.{Outcome}
 use Rattle.tso_program.specs.Shown.{Question}
 use Rattle.tso_machine.specs.Machine.{Mode}
+use Rattle.tso_machine.specs.Modes.{machine_mode}
 use Rattle.tso_machine.specs.Outcomes.{IsShownRun}
 use Rattle.cover_solver.specs.declared.fault.Stop.{Stop}
 use Rattle.cover_solver.specs.declared.fault.Stop.TheVariants as stop
+use Rattle.cover_solver.specs.declared.found.Found.{Found}
 use Rattle.cover_solver.specs.declared.listed.Listed.{Listed}
 use Rattle.cover_solver.specs.declared.listed.Listed.TheVariants.{Closed, Open}
 use Rattle.cover_solver.specs.Found.{IsInOrder, KeepsNumbers, AreRunsOf}
@@ -14,34 +16,39 @@ use Rattle.cover_solver.specs.Ordered.{Ascend}
 -- the outcomes, in the order of their numbers
 abbrev pub listed : Listed → List Outcome
 listed (Closed outcomes) = outcomes.now
-listed (Open found) = found.listed.items
+listed (Open found mode) = found.listed.items
 
 -- a closed list ascends, and an open one is in order
 abbrev pub AreInOrder : Listed → Type 0
 AreInOrder (Closed outcomes) = Ascend outcomes.now
-AreInOrder (Open found) = IsInOrder found
+AreInOrder (Open found mode) = IsInOrder found
 
--- the list is open, and each of its outcomes is what is shown of that of its run
-abbrev pub HasRunOfEach : Question → Mode → Listed → Type 0
-HasRunOfEach q mode (Closed outcomes) = ⊥
-HasRunOfEach q mode (Open found) = AreRunsOf q mode found.runs found.outcomes.items
+-- the list is open, and each of its outcomes is what is shown of that of its run in the mode
+abbrev pub HasRunOfEach : Question → Listed → Type 0
+HasRunOfEach q (Closed outcomes) = ⊥
+HasRunOfEach q (Open found mode) = AreRunsOf q (machine_mode q.program mode) found.runs found.outcomes.items
 
--- why no tree is found: a closed list lacks the outcome of a run
+-- why no tree is found in a mode: a closed list lacks the outcome of a run
 abbrev pub StopIs : Question → Mode → Listed → Stop → Type 0
 StopIs q mode (Closed outcomes) (stop.New run) = IsShownRun q mode run.labels.items run.outcome × (Contains outcomes.now run.outcome → ⊥)
 StopIs q mode (Closed outcomes) stop.OutOfMemory = Unit {0}
-StopIs q mode (Open found) (stop.New run) = ⊥
-StopIs q mode (Open found) stop.OutOfMemory = Unit {0}
+StopIs q mode (Open found of) why = Unit {0}
 
--- a closed list is what it was
-abbrev pub StaysClosed : Listed → Listed → Type 0
-StaysClosed (Closed outcomes) new = new ≡ Closed outcomes
-StaysClosed (Open found) new = Unit {0}
+-- a closed list is what it was, and an open one is open for the mode that it was
+abbrev pub StaysOf : Listed → Listed → Type 0
+StaysOf (Closed outcomes) new = new ≡ Closed outcomes
+StaysOf (Open found mode) new = (other : Found) × (new ≡ Open other mode)
 
--- an open list may grow by outcomes of the mode's machine, and each outcome keeps its number
-pub record Grows (q : Question) (mode : Mode) (old new : Listed) : Type 0 where
+-- an open list may grow by outcomes of its mode's machine, and each outcome keeps its number
+pub record Grows (q : Question) (old new : Listed) : Type 0 where
   pub in_order : AreInOrder new
   pub keeps : KeepsNumbers (listed old) (listed new)
-  pub runs : HasRunOfEach q mode old → HasRunOfEach q mode new
-  pub closed : StaysClosed old new
-  pub stops : (why : Stop) → StopIs q mode new why → StopIs q mode old why
+  pub runs : HasRunOfEach q old → HasRunOfEach q new
+  pub stays : StaysOf old new
+  pub stops : (mode : Mode) (why : Stop) → StopIs q mode new why → StopIs q mode old why
+
+-- this holds unless memory is out
+abbrev pub OnTold : {T : Type 0} → Result T Stop → Type 0 → Type 0
+OnTold (Ok made) P = P
+OnTold (Err (stop.New run)) P = P
+OnTold (Err stop.OutOfMemory) P = Unit {0}

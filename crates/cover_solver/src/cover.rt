@@ -1,31 +1,28 @@
 //! The search for a cover tree over a list of outcomes. An open list takes each outcome that is new; a
 //! closed list ends the search there.
-ghost use Rattle.std.specs.Prelude.{◌≡◌, IfOk, IfErr, OnOk, IsTrue, map, length};
+ghost use Rattle.std.specs.Prelude.{◌≡◌, IfOk, IfErr, IsTrue, map, length};
 ghost use Rattle.tso_program.specs.Shown.{asked};
-ghost use Rattle.tso_machine.specs.Modes.{machine_mode};
 ghost use Rattle.candidate_executions.specs.Sketches.{IsWhole};
 ghost use Rattle.exec_axioms.specs.ProgramSketches.{mode_in, with_chosen};
 ghost use Rattle.exec_axioms.specs.Complete.{IsComplete};
 ghost use Rattle.cert_forest.specs.Views.{cover};
 ghost use Rattle.cover_judge.specs.Choices.{sketch_with, MayChoose, MayChooseEach};
-ghost use Rattle.cover_solver.specs.Covers.{IsCoverAt, IsValidAt, IsUnsettled, AreChildren, IsWholeCover, tree_over, IsArity};
-ghost use Rattle.cover_solver.specs.Listed.{listed, AreInOrder, Grows, StopIs};
+ghost use Rattle.cover_solver.specs.Covers.{IsCoverAt, IsValidAt, IsUnsettled, AreChildren, tree_over, IsArity};
+ghost use Rattle.cover_solver.specs.Listed.{listed, AreInOrder, Grows, OnTold, StopIs};
 ghost use Rattle.cover_solver.specs.Internal.Accesses.{AreAccessesOf};
 
 use crate::branch::next_branch;
 use crate::choices_left::OpenChoice;
-use crate::cover_values::cover_values;
 use crate::fault::Stop;
-use crate::leaf::leaf;
+use crate::leaf::{known, leaf};
 use crate::listed::Listed;
-use crate::plan::plan_for;
 use crate::reads_writes::{WholeAccesses, whole_accesses};
 use crate::run::shown_run;
 use cert_forest::CoverTree;
 use cover_judge::{Choice, TreeFault, choose, judge_in_place};
-use exec_axioms::{Mode, Sketch};
+use exec_axioms::Sketch;
 use std::alloc::{AllocError, Global};
-use tso_program::{Outcome, Program, Shown};
+use tso_program::{Outcome, Shown};
 
 /// What the choices at a node lead to.
 enum Children {
@@ -33,26 +30,6 @@ enum Children {
     Each(Vec<CoverTree>),
     /// A tree for one of the choices that is valid without it.
     One(CoverTree),
-}
-
-/// A tree for the sketch with no choice.
-pub(crate) fn cover_all(
-    alloc: Global,
-    program: &Program,
-    shown: &Shown,
-    mode: Mode,
-    outcomes: &mut Listed,
-) -> Result<CoverTree, Stop>
-    requires { AreInOrder outcomes.old }
-    ensures grows { OnOk result (Grows (asked program.now shown.now) (machine_mode program.now mode) outcomes.old outcomes.new) }
-    ensures tree { IfOk result (λ tree. IsWholeCover (asked program.now shown.now) (machine_mode program.now mode) (listed outcomes.new) (cover tree)) }
-    ensures stop { IfErr result (StopIs (asked program.now shown.now) (machine_mode program.now mode) outcomes.old) }
-{
-    let mut sketch = Sketch::new(alloc, program, mode)?;
-    match plan_for(alloc, &sketch)? {
-        Some(plan) => cover_values(alloc, &sketch, &plan, shown, outcomes),
-        None => cover_whole(alloc, &mut sketch, shown, outcomes),
-    }
 }
 
 /// A tree for a sketch in which each read has its value.
@@ -65,7 +42,7 @@ pub(crate) fn cover_whole(
     requires in_order { AreInOrder outcomes.old }
     requires whole { IsWhole sketch.old.program (mode_in sketch.old) sketch.old.chosen }
     ensures kept { sketch.new ≡ sketch.old }
-    ensures grows { OnOk result (Grows (asked sketch.old.program shown.now) (mode_in sketch.old) outcomes.old outcomes.new) }
+    ensures grows { OnTold result (Grows (asked sketch.old.program shown.now) outcomes.old outcomes.new) }
     ensures tree { IfOk result (λ tree. IsCoverAt sketch.old shown.now (listed outcomes.new) (cover tree)) }
     ensures stop { IfErr result (StopIs (asked sketch.old.program shown.now) (mode_in sketch.old) outcomes.old) }
 {
@@ -85,7 +62,7 @@ fn cover_from(
     requires in_order { AreInOrder outcomes.old }
     requires accesses { AreAccessesOf sketch.old accesses.now }
     ensures kept { sketch.new ≡ sketch.old }
-    ensures grows { OnOk result (Grows (asked sketch.old.program shown.now) (mode_in sketch.old) outcomes.old outcomes.new) }
+    ensures grows { OnTold result (Grows (asked sketch.old.program shown.now) outcomes.old outcomes.new) }
     ensures tree { IfOk result (λ tree. IsCoverAt sketch.old shown.now (listed outcomes.new) (cover tree)) }
     ensures stop { IfErr result (StopIs (asked sketch.old.program shown.now) (mode_in sketch.old) outcomes.old) }
 {
@@ -101,7 +78,7 @@ fn cover_from(
                 Children::One(tree) => Ok(tree),
             }
         }
-        None => end(alloc, sketch, shown, outcomes),
+        None => end(alloc, sketch, accesses, shown, outcomes),
     }
 }
 
@@ -109,21 +86,24 @@ fn cover_from(
 fn end(
     alloc: Global,
     sketch: &Sketch,
+    accesses: &WholeAccesses,
     shown: &Shown,
     outcomes: &mut Listed,
 ) -> Result<CoverTree, Stop>
     requires in_order { AreInOrder outcomes.old }
     requires complete { IsComplete sketch.now }
     requires unsettled { IsUnsettled sketch.now shown.now (listed outcomes.old) }
-    ensures grows { OnOk result (Grows (asked sketch.now.program shown.now) (mode_in sketch.now) outcomes.old outcomes.new) }
+    ensures grows { OnTold result (Grows (asked sketch.now.program shown.now) outcomes.old outcomes.new) }
     ensures tree { IfOk result (λ tree. IsCoverAt sketch.now shown.now (listed outcomes.new) (cover tree)) }
     ensures stop { IfErr result (StopIs (asked sketch.now.program shown.now) (mode_in sketch.now) outcomes.old) }
 {
     // For the proof alone: what holds of every sketch is known where its program is read.
     let _ = sketch.program();
-    let run = shown_run(alloc, sketch, shown)?;
-    let number = outcomes.add(alloc, run)?;
-    Ok(CoverTree::Known { run: number as u64 })
+    outcomes.add(alloc, sketch, accesses, shown)?;
+    match known(sketch, shown, outcomes)? {
+        Some(number) => Ok(CoverTree::Known { run: number as u64 }),
+        None => Err(Stop::New(shown_run(alloc, sketch, shown)?)),
+    }
 }
 
 /// A tree for the sketch after each of the choices, up to one that is valid without its choice: then no
@@ -141,7 +121,7 @@ fn cover_each(
     requires accesses { AreAccessesOf sketch.old accesses.now }
     requires may { MayChooseEach sketch.old choices.now }
     ensures kept { sketch.new ≡ sketch.old }
-    ensures grows { OnOk result (Grows (asked sketch.old.program shown.now) (mode_in sketch.old) outcomes.old outcomes.new) }
+    ensures grows { OnTold result (Grows (asked sketch.old.program shown.now) outcomes.old outcomes.new) }
     ensures children { IfOk result (AreChildren sketch.old shown.now (listed outcomes.new) choices.now) }
     ensures stop { IfErr result (StopIs (asked sketch.old.program shown.now) (mode_in sketch.old) outcomes.old) }
 {
@@ -172,7 +152,7 @@ fn cover_after(
     requires accesses { AreAccessesOf sketch.old accesses.now }
     requires may { MayChoose sketch.old choice }
     ensures kept { sketch.new ≡ sketch.old }
-    ensures grows { OnOk result (Grows (asked sketch.old.program shown.now) (mode_in sketch.old) outcomes.old outcomes.new) }
+    ensures grows { OnTold result (Grows (asked sketch.old.program shown.now) outcomes.old outcomes.new) }
     ensures tree { IfOk result (λ tree. IsCoverAt (with_chosen sketch.old (sketch_with sketch.old.chosen choice)) shown.now (listed outcomes.new) (cover tree)) }
     ensures stop { IfErr result (StopIs (asked sketch.old.program shown.now) (mode_in sketch.old) outcomes.old) }
 {

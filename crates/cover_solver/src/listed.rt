@@ -1,26 +1,28 @@
 //! Lists of outcomes by which a search for a cover tree goes.
-ghost use Rattle.std.specs.Prelude.{◌≡◌, IfOk, IfErr, OnOk, MatchOption, Contains};
-ghost use Rattle.tso_program.specs.Shown.{Question};
-ghost use Rattle.tso_machine.specs.Machine.{Mode};
-ghost use Rattle.tso_machine.specs.Outcomes.{IsShownRun};
+ghost use Rattle.std.specs.Prelude.{◌≡◌, IfOk, IfSome, OnOk, MatchOption, Contains};
+ghost use Rattle.tso_program.specs.Shown.{asked};
 ghost use Rattle.cover_solver.specs.Found.{HasNumber};
-ghost use Rattle.cover_solver.specs.Listed.{listed, AreInOrder, Grows, StopIs};
+ghost use Rattle.cover_solver.specs.Internal.Runs.{IsShownRunOf};
+ghost use Rattle.cover_solver.specs.Listed.{listed, AreInOrder, Grows};
 ghost use Rattle.cover_solver.specs.Ordered.{Ascend};
 
-use crate::fault::Stop;
 use crate::found::Found;
 use crate::ordered::place_of;
+use crate::reads_writes::WholeAccesses;
+use crate::run::shown_run;
+use crate::sketch_in::sketch_in;
+use exec_axioms::{Mode, Sketch};
 use run_maker::MadeRun;
-use std::alloc::Global;
-use tso_program::Outcome;
+use std::alloc::{AllocError, Global};
+use tso_program::{Outcome, Shown};
 
 /// The outcomes that the leaves of a tree may name, by their numbers.
 #[derive(Debug, Drop)]
 pub(crate) enum Listed<'a> {
     /// These alone. They ascend, and the number of an outcome is its place.
     Closed(&'a [Outcome]),
-    /// Those that are found so far. Each new one is added.
-    Open(Found),
+    /// Those that are found so far. Each new one is added that a run in the mode has.
+    Open { found: Found, mode: Mode },
 }
 
 impl Listed<'_> {
@@ -30,7 +32,7 @@ impl Listed<'_> {
     {
         match self {
             Listed::Closed(outcomes) => outcomes,
-            Listed::Open(found) => &found.listed,
+            Listed::Open { found, .. } => &found.listed,
         }
     }
 
@@ -38,7 +40,7 @@ impl Listed<'_> {
     pub(crate) fn ascending(&self) -> &[Outcome] {
         match self {
             Listed::Closed(outcomes) => outcomes,
-            Listed::Open(found) => &found.outcomes,
+            Listed::Open { found, .. } => &found.outcomes,
         }
     }
 
@@ -49,23 +51,42 @@ impl Listed<'_> {
     {
         match self {
             Listed::Closed(outcomes) => number_in(outcomes, outcome),
-            Listed::Open(found) => found.number_of(outcome),
+            Listed::Open { found, .. } => found.number_of(outcome),
         }
     }
 
-    /// Adds the outcome of a run, which is not in the list, and answers its number. A closed list takes no
-    /// other.
-    pub(crate) fn add(&mut self, alloc: Global, run: MadeRun) -> Result<usize, Stop>
-        requires in_order { AreInOrder self.old }
-        requires new { Contains (listed self.old) run.outcome → ⊥ }
-        ensures number { IfOk result (λ number. HasNumber (listed self.new) number run.outcome) }
-        ensures grows { OnOk result ((q : Question) (mode : Mode) → IsShownRun q mode run.labels.items run.outcome → Grows q mode self.old self.new) }
-        ensures stop { IfErr result (λ why. (q : Question) (mode : Mode) → IsShownRun q mode run.labels.items run.outcome → StopIs q mode self.old why) }
+    /// Adds the outcome of the run with these choices in the mode of the list, if there is one. A closed list takes
+    /// no other outcome.
+    pub(crate) fn add(
+        &mut self,
+        alloc: Global,
+        sketch: &Sketch,
+        accesses: &WholeAccesses,
+        shown: &Shown,
+    ) -> Result<(), AllocError>
+        requires { AreInOrder self.old }
+        ensures { OnOk result (Grows (asked sketch.now.program shown.now) self.old self.new) }
     {
-        match self {
-            Listed::Closed(_) => Err(Stop::New(run)),
-            Listed::Open(found) => Ok(found.add(alloc, run.outcome, run.labels)?),
+        if let Listed::Open { found, mode } = self {
+            let same = sketch_in(alloc, sketch, accesses, *mode)?;
+            if let Some(run) = run_of(alloc, &same, shown)? {
+                found.add(alloc, run.outcome, run.labels)?;
+            }
         }
+        Ok(())
+    }
+}
+
+/// A run of the sketch, if it is complete and has no cycle.
+fn run_of(alloc: Global, sketch: &Sketch, shown: &Shown) -> Result<Option<MadeRun>, AllocError>
+    ensures { IfOk result (λ found. IfSome found (IsShownRunOf sketch.now shown.now)) }
+{
+    if !sketch.is_complete() {
+        return Ok(None);
+    }
+    match sketch.find_cycle()? {
+        Some(_) => Ok(None),
+        None => Ok(Some(shown_run(alloc, sketch, shown)?)),
     }
 }
 

@@ -8,9 +8,10 @@ ghost use Rattle.cert_forest.specs.Views.{cover};
 ghost use Rattle.cover_solver.specs.Covers.{IsWholeCover};
 ghost use Rattle.cover_solver.specs.Verdicts.{IsVerdictOf};
 
-use crate::cover::cover_all;
+use crate::all_outcomes::cover_all;
 use crate::fault::{SolveFault, Stop};
 use crate::foreign::ForeignRun;
+use crate::kept_tree::KeptTree;
 use crate::listed::Listed;
 use crate::ordered::copies;
 use crate::served::Served;
@@ -21,6 +22,7 @@ use gap_sets::GapSet;
 use run_maker::MadeRun;
 use std::alloc::{AllocError, Global};
 use std::marker;
+use std::sync::Arc;
 use tso_machine::{Model, ReplayFault, replay_shown};
 use tso_program::{Outcome, Program, Shown};
 
@@ -54,6 +56,8 @@ pub struct Solver {
     program: Program,
     shown: Shown,
     outcomes: Vec<Outcome>,
+    /// What the search for the sequential outcomes kept.
+    kept: Arc<KeptTree>,
 }
 
 impl marker::Model for Solver {
@@ -87,6 +91,7 @@ impl Solver {
             program: program.copy()?,
             shown: *table.shown(),
             outcomes: copies(alloc, table.outcomes())?,
+            kept: table.kept()?,
         })
     }
 
@@ -96,8 +101,9 @@ impl Solver {
         match cover_all(
             self.alloc,
             &self.program,
-            &self.shown,
             Mode::Fenced(*set),
+            &self.kept,
+            &self.shown,
             &mut Listed::Closed(&self.outcomes),
         ) {
             Ok(tree) => self.serves(set, tree),

@@ -3,8 +3,10 @@ ghost use Rattle.std.specs.Prelude.{◌≡◌, map};
 ghost use Rattle.cert_forest.specs.Trees.{covers_of};
 ghost use Rattle.cert_forest.specs.Views.{cover};
 ghost use Rattle.cover_solver.specs.Found.{place_in};
-ghost use Rattle.cover_solver.specs.Renumbered.{renumbered, renumbered_each};
+ghost use Rattle.cover_solver.specs.Kept.{kept, kept_of};
+ghost use Rattle.cover_solver.specs.Renumbered.{renumbered, renumbered_each, renumbered_kept, renumbered_each_kept};
 
+use crate::kept_tree::KeptTree;
 use cert_forest::CoverTree;
 
 /// Puts for each outcome's number the one that stands at its place in the list.
@@ -43,4 +45,26 @@ fn place_of_number(places: &[usize], number: u64) -> u64
     ensures { result ≡ place_in places.now number }
 {
     places.get(number as usize).copied().unwrap_or(0) as u64
+}
+
+/// The same in each tree that is kept.
+#[cycle(renumber_kept)]
+pub(crate) fn renumber_kept(tree: &mut KeptTree, places: &[usize])
+    ensures { kept tree.new ≡ renumbered_kept (place_in places.now) (kept tree.old) }
+{
+    match tree {
+        KeptTree::Closed(tree) => renumber(tree, places),
+        KeptTree::Values { children, .. } => renumber_each_kept(children, places),
+        KeptTree::Hole => {}
+    }
+}
+
+/// The same in each of the trees.
+#[cycle(renumber_kept)]
+fn renumber_each_kept(trees: &mut Vec<KeptTree>, places: &[usize])
+    ensures { kept_of (map kept trees.new.items) ≡ renumbered_each_kept (place_in places.now) (kept_of (map kept trees.old.items)) }
+{
+    for i in 0..trees.len() {
+        renumber_kept(&mut trees[i], places);
+    }
 }

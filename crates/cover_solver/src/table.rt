@@ -7,12 +7,14 @@ ghost use Rattle.cover_solver.specs.Facts.{IsSequentialTable};
 
 use crate::all_outcomes::all_outcomes;
 use crate::fault::SolveFault;
+use crate::kept_tree::KeptTree;
 use crate::ordered::place_of;
-use crate::renumber::renumber;
+use crate::renumber::{renumber, renumber_kept};
 use cert_forest::{CoverTree, Runs};
 use exec_axioms::Mode;
-use std::alloc::Global;
+use std::alloc::{AllocError, Global};
 use std::marker::Model;
+use std::sync::Arc;
 use tso_program::{Outcome, Program, Shown};
 
 /// The sequential outcomes of a program, as far as they are shown, ascending and each of them once, with
@@ -24,6 +26,8 @@ pub struct SeqTable {
     outcomes: Vec<Outcome>,
     runs: Runs,
     tree: CoverTree,
+    /// What the search for the tree keeps for a solver.
+    kept: Arc<KeptTree>,
 }
 
 impl Model for SeqTable {
@@ -57,12 +61,15 @@ pub fn sequential(alloc: Global, program: &Program, shown: &Shown) -> Result<Seq
     let places = all.found.places(alloc)?;
     let mut tree = all.tree;
     renumber(&mut tree, &places);
+    let mut kept = all.kept;
+    renumber_kept(&mut kept, &places);
     Ok(SeqTable {
         program: program.copy()?,
         shown: *shown,
         outcomes: all.found.outcomes,
         runs: all.found.runs,
         tree,
+        kept: Arc::new(alloc, kept)?,
     })
 }
 
@@ -102,6 +109,13 @@ impl SeqTable {
         ensures { cover result.now ≡ self.now.tree }
     {
         &self.tree
+    }
+
+    /// What the search for the tree keeps, shared.
+    pub(crate) fn kept(&self) -> Result<Arc<KeptTree>, AllocError>
+        ensures { IfOk result (λ shared. IsKept self.now.question.program self.now.question.shown self.now.outcomes (kept shared.now)) }
+    {
+        Arc::try_clone(&self.kept)
     }
 
     /// Whether an outcome is sequential.

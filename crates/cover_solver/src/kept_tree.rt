@@ -1,0 +1,66 @@
+//! What is kept of one search for the others: cover trees that are made with no gap fenced. They hold with any
+//! gaps fenced, and in the sequential machine, since a tighter machine only has more known edges.
+ghost use Rattle.std.specs.Prelude.{◌≡◌, IsTrue, IfOk, map};
+ghost use Rattle.cert_forest.specs.Views.{cover};
+ghost use Rattle.cover_solver.specs.Kept.{kept, Closed, AreClosed, IsJoined};
+
+use cert_forest::CoverTree;
+use std::alloc::{AllocError, Global};
+
+/// A cover tree over the values of all reads with no gap fenced, but for its holes.
+#[derive(Drop)]
+pub(crate) enum KeptTree {
+    /// A tree without a hole.
+    Closed(CoverTree),
+    /// What is kept for each value of the thread's next read. One of them has a hole.
+    Values {
+        thread: u8,
+        children: Vec<KeptTree>,
+    },
+    /// Each read has its value, and with no gap fenced there is a run whose outcome is not in the list.
+    Hole,
+}
+
+impl KeptTree {
+    /// The node over what is kept for each value of a thread's next read.
+    pub(crate) fn over(
+        alloc: Global,
+        thread: u8,
+        children: Vec<KeptTree>,
+    ) -> Result<KeptTree, AllocError>
+        ensures { IfOk result (λ made. IsJoined thread (map kept children.items) (kept made)) }
+    {
+        if !are_closed(&children) {
+            return Ok(KeptTree::Values { thread, children });
+        }
+        let children = closed_trees(alloc, children)?;
+        Ok(KeptTree::Closed(CoverTree::Value { thread, children }))
+    }
+}
+
+/// Whether none of the trees has a hole.
+fn are_closed(trees: &[KeptTree]) -> bool
+    ensures { IsTrue result → AreClosed (map kept trees.now) }
+{
+    for tree in trees {
+        if !matches!(tree, KeptTree::Closed(_)) {
+            return false;
+        }
+    }
+    true
+}
+
+/// The trees, none of which has a hole.
+fn closed_trees(alloc: Global, kept: Vec<KeptTree>) -> Result<Vec<CoverTree>, AllocError>
+    requires { AreClosed (map kept kept.items) }
+    ensures { IfOk result (λ trees. map kept kept.items ≡ map Closed (map cover trees.items)) }
+{
+    let mut trees = Vec::with_capacity(alloc, kept.len())?;
+    for tree in kept {
+        match tree {
+            KeptTree::Closed(tree) => trees.push(tree)?,
+            _ => unreachable!(),
+        }
+    }
+    Ok(trees)
+}
