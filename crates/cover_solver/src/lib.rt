@@ -15,6 +15,7 @@ mod cover_values;
 mod fault;
 mod foreign;
 mod found;
+mod in_sequence;
 mod leaf;
 mod list;
 mod listed;
