@@ -1,5 +1,5 @@
 -- Trees in memory, each of which is changed.
-use Rattle.std.proofs.Common.{◌≡◌, ℕ, suc, ◌<◌, List, [], ◌∷◌, get_or, map, length, refl, sym, ◌∙◌, arith}
+use Rattle.std.proofs.Common.{◌≡◌, ℕ, suc, ◌<◌, List, [], ◌∷◌, get_or, map, length, sym, ◌∙◌, arith}
 use Rattle.cert_forest.specs.declared.tree.CoverTree.{CoverTree}
 use Rattle.cert_forest.specs.Views.{cover}
 use Rattle.cert_forest.specs.Trees.{Cover, Covers, NoCover, MoreCovers, covers_of}
