@@ -5,6 +5,7 @@ pub mod Rounds
 pub mod Numbered
 pub mod Growing
 pub mod ChangedTrees
+pub mod TighterTrees
 pub mod Renumbering
 pub mod Ends
 pub mod AccessesNamed
