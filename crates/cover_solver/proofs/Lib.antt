@@ -4,6 +4,8 @@ pub mod Inserted
 pub mod Rounds
 pub mod Numbered
 pub mod Growing
+pub mod ChangedTrees
+pub mod TighterTrees
 pub mod Renumbering
 pub mod Ends
 pub mod AccessesNamed

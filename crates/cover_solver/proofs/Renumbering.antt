@@ -1,14 +1,12 @@
 -- A valid tree stays valid over another list when its numbers are put for those of the same outcomes there.
-use Rattle.std.proofs.Common.{◌≡◌, ℕ, suc, ◌<◌, List, [], ◌∷◌, get_or, map, length, refl, ap, arith}
+use Rattle.std.proofs.Common.{◌≡◌, ℕ, suc, ◌<◌, List, [], ◌∷◌, map, length, refl, ap, arith}
 use Rattle.std.specs.Prelude.{◌^◌, max}
 use Rattle.std.proofs.lemmas.Option.{slice_get_within}
 use Rattle.tso_program.specs.declared.outcome.Outcome.{Outcome}
 use Rattle.tso_program.specs.Shown.{Question}
 use Rattle.tso_machine.specs.Machine.{Mode}
 use Rattle.candidate_executions.specs.Sketches.{Sketch, empty_sketch, with_value, with_source, with_pair}
-use Rattle.cert_forest.specs.declared.tree.CoverTree.{CoverTree}
-use Rattle.cert_forest.specs.Views.{cover}
-use Rattle.cert_forest.specs.Trees.{Cover, Value, Source, Order, Cycle, Known, Covers, NoCover, MoreCovers, covers_of}
+use Rattle.cert_forest.specs.Trees.{Cover, Value, Source, Order, Cycle, Known, Covers, NoCover, MoreCovers}
 use Rattle.cert_forest.specs.Texts.{count_covers}
 use Rattle.cert_forest.specs.Limits.{cover_depth, covers_depth}
 use Rattle.tree_laws.specs.CoverTrees.{event_of, IsValidCover, AreValidCovers}
@@ -81,14 +79,3 @@ module _ (q : Question) (mode : Mode) (old new : List Outcome) (place : ℕ → 
   whole_renumbered tree is =
       let made = fits tree (empty_sketch q.program) is.valid is.neat in
       record { valid = made.valid; neat = made.neat; shallow = (let same = made.depth in let below = is.shallow in omega arith) }
-
--- several trees in memory with their other numbers
-pub each_renumbered : (place : ℕ → ℕ) (made trees : List CoverTree) → length made ≡ length trees → ((k : ℕ) (d : CoverTree) → k < length trees → cover (get_or made k d) ≡ renumbered place (cover (get_or trees k d))) →
-    covers_of (map cover made) ≡ renumbered_each place (covers_of (map cover trees))
-each_renumbered place [] [] same each = refl
-each_renumbered place [] (t ∷ ts) same each = absurd (omega arith)
-each_renumbered place (m ∷ ms) [] same each = absurd (omega arith)
-each_renumbered place (m ∷ ms) (t ∷ ts) same each =
-    let first = each 0 t (omega arith) in
-    let rest = each_renumbered place ms ts (omega arith) (λ k d h. each (suc k) d (omega arith)) in
-    λ i. MoreCovers (first i) (rest i)

@@ -5,6 +5,8 @@ pub mod InOrder
 -- cover trees
 pub mod CoveredSketches
 pub mod ListedOutcomes
+pub mod WiderTraces
+pub mod TighterModes
 -- gap trees
 pub mod AvoidedGaps
 pub mod BetterSets

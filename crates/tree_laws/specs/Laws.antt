@@ -13,9 +13,10 @@ use Rattle.tso_machine.specs.declared.label.Label.{Label}
 use Rattle.tso_machine.specs.Machine.{Mode, Sequential, Fenced}
 use Rattle.tso_machine.specs.Outcomes.{AllowsShown, IsSequentialOutcome, Serves, IsForeignRun, EachBetterLeavesOutcome, IsTheAnswer, Headline}
 use Rattle.candidate_executions.specs.declared.event.Event.{Event}
-use Rattle.candidate_executions.specs.Sketches.{Sketch, empty_sketch, IsSketch}
+use Rattle.candidate_executions.specs.Sketches.{Sketch, empty_sketch, IsSketch, IsWhole}
 use Rattle.cert_forest.specs.Trees.{Cover, Gap, covers_of, gap_trees_of}
 use Rattle.tree_laws.specs.CoverTrees.{HasNextValues, HasSources, IsValidCover, AreValidCovers, IsCovered}
+use Rattle.tree_laws.specs.TighterModes.{IsNoLooser, in_mode}
 use Rattle.tree_laws.specs.GapTrees.{IsSplitBy, IsValidGap, AreValidGaps, EachBetterOfRegionLeavesOutcome, NoServingSetIsBetter, HaveCosts}
 use Rattle.cert_forest.specs.Certificates.{Certificate}
 use Rattle.tree_laws.specs.Certificates.{AreSequentialRuns, IsValidCertificate}
@@ -47,6 +48,21 @@ AValidTreeMakesTheSequentialList = (q : Question) (runs : List (List Label)) (ou
 abbrev pub AValidFencedTreeServes : Type 0
 AValidFencedTreeServes = (q : Question) (gaps : SetOfGaps) (outcomes : List Outcome) (tree : Cover) → JumpForward q.program.threads →
     IsSequentialList q outcomes → IsValidCover q (Fenced (gaps_in q.program gaps)) outcomes tree (empty_sketch q.program) → Serves q gaps
+
+-- A cover tree that is valid in a mode is valid in each mode that is no looser, its cycles being of that mode's unions: known
+-- edges only grow.
+abbrev pub ATighterModeKeepsACover : Type 0
+ATighterModeKeepsACover = (q : Question) (loose tight : Mode) (outcomes : List Outcome) (tree : Cover) (k : Sketch) → IsNoLooser loose tight →
+    IsValidCover q loose outcomes tree k → IsValidCover q tight outcomes (in_mode tight tree) k
+
+-- the values of a thread's next read stay the same
+abbrev pub ATighterModeKeepsTheValues : Type 0
+ATighterModeKeepsTheValues = (p : Listing) (loose tight : Mode) (k : Sketch) (t : ℕ) (values : List ℕ) → IsNoLooser loose tight →
+    HasNextValues p loose k t values → HasNextValues p tight k t values
+
+-- a sketch in which each read has its value stays one
+abbrev pub ATighterModeKeepsAWholeSketch : Type 0
+ATighterModeKeepsAWholeSketch = (p : Listing) (loose tight : Mode) (k : Sketch) → IsNoLooser loose tight → IsWhole p loose k → IsWhole p tight k
 
 -- the labels are a foreign run
 abbrev pub IsForeign : Question → List Label → Type 0

@@ -1,4 +1,5 @@
 pub mod CoverTrees
+pub mod TighterModes
 pub mod GapTrees
 pub mod Certificates
 pub mod Laws

@@ -1,5 +1,5 @@
 //! The laws: each function's contract is a theorem, and calling it does nothing.
-ghost use Rattle.tree_laws.specs.Laws.{AValidCoverCovers, ACoveredListHasEachOutcome, AValidTreeMakesTheSequentialList, AValidFencedTreeServes, ASplitLosesNoSet, AValidGapTreeLeavesNoBetter, SoNoServingSetIsBetter, TheRootHasEverySet, AValidCertificateProves, CoversAreJudgedInOrder, GapsAreJudgedInOrder, TheValuesAreOneList, TheSourcesAreOneList, TheGapsAreOneList};
+ghost use Rattle.tree_laws.specs.Laws.{AValidCoverCovers, ACoveredListHasEachOutcome, AValidTreeMakesTheSequentialList, AValidFencedTreeServes, ATighterModeKeepsACover, ATighterModeKeepsTheValues, ATighterModeKeepsAWholeSketch, ASplitLosesNoSet, AValidGapTreeLeavesNoBetter, SoNoServingSetIsBetter, TheRootHasEverySet, AValidCertificateProves, CoversAreJudgedInOrder, GapsAreJudgedInOrder, TheValuesAreOneList, TheSourcesAreOneList, TheGapsAreOneList};
 ghost use Rattle.tree_laws.specs.StoreBuffering.{StoreBufferingIsCertified};
 
 /// Where a cover tree is valid at a sketch, each consistent completion of the sketch has an outcome of
@@ -18,6 +18,14 @@ pub fn a_valid_tree_lists_every_outcome()
 /// A set of gaps with a valid cover tree over the sequential outcomes serves.
 pub fn a_valid_fenced_tree_serves()
     ensures { AValidFencedTreeServes }
+{}
+
+/// A cover tree that is valid in a mode is valid in each mode that is no looser, as one of that mode. Which
+/// reads have a value, and the values of the next, stay the same.
+pub fn a_tighter_mode_keeps_a_cover()
+    ensures cover { ATighterModeKeepsACover }
+    ensures values { ATighterModeKeepsTheValues }
+    ensures whole { ATighterModeKeepsAWholeSketch }
 {}
 
 /// The children of a region hold every set of it that has one of the gaps.

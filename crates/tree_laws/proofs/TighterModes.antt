@@ -1,0 +1,277 @@
+-- A cover tree that is valid in a mode is valid in each tighter one: of what is known of a sketch only sections change, and of two modes with gaps fenced they come no closer.
+use Rattle.std.proofs.Common.{◌≡◌, ◌⊎◌, ℕ, List, [], ◌∷◌, Some, IsSome, map, length, refl, sym, ap, ◌∙◌, subst, inl, inr}
+use mathlib.Core.Path.{fun_ext}
+use Rattle.std.specs.List.{range_with_len}
+use Rattle.tso_program.specs.declared.action.Local.{Local}
+use Rattle.tso_program.specs.declared.listing.Listing.{Listing}
+use Rattle.tso_program.specs.declared.outcome.Outcome.{Outcome}
+use Rattle.tso_program.specs.Shown.{Question, show_registers}
+use Rattle.tso_program.specs.Listings.{action, start_of, code_of}
+use Rattle.tso_program.specs.Fences.{Gaps}
+use Rattle.tso_machine.specs.Machine.{Mode, Sequential, Fenced, no_gaps}
+use Rattle.candidate_executions.specs.declared.access.Access.{Access}
+use Rattle.candidate_executions.specs.declared.event.Event.{Event}
+use Rattle.candidate_executions.specs.declared.event.Event.TheVariants.{Initial, Access as At}
+use Rattle.candidate_executions.specs.declared.event.Kind.{Kind}
+use Rattle.candidate_executions.specs.declared.event.Kind.TheVariants as union
+use Rattle.candidate_executions.specs.Traces.{fenced_gaps, trace_by}
+use Rattle.candidate_executions.specs.Candidates.{access_by, Writes}
+use Rattle.candidate_executions.specs.Consistency.{Precedes, KeepsOrder, IsOfMode}
+use Rattle.candidate_executions.specs.Sketches.{Sketch, given_to, IsSourceOf, IsPair, with_value, with_source, with_pair, read_by, next_read, IsWhole, MayBeLast, MustEndAs, IsBefore, KnownFromReads, KnownRelates, KnownEdgeOfMode, IsKnownCycle}
+use Rattle.candidate_executions.proofs.Orders.WiderRelations.{cycle_wider}
+use Rattle.cert_forest.specs.Trees.{Cover, Value, Source, Order, Cycle, Known, Covers, NoCover, MoreCovers}
+use Rattle.tree_laws.specs.CoverTrees.{event_of, HasNextValues, HasSources, HasNoOrder, MustEndAsNumber, IsValidCover, AreValidCovers}
+use Rattle.tree_laws.specs.TighterModes.{AreAmong, IsNoLooser, in_sequence, each_in_sequence, in_mode}
+use Rattle.tree_laws.specs.Laws.{ATighterModeKeepsACover, ATighterModeKeepsTheValues, ATighterModeKeepsAWholeSketch}
+use Rattle.tree_laws.proofs.WiderTraces.{bare, IsWiderTrace, also, also_back, still_apart, wider_trace}
+
+-- no gap at all is among any gaps
+none_among : (gaps : Gaps) → AreAmong no_gaps gaps
+none_among gaps t i h = absurd cc
+
+module _ (p : Listing) (k : Sketch) where
+  -- an access is one of the mode, but for its section
+  abbrev IsAlso : Mode → Event → Access → Type 0
+  IsAlso mode e x = (y : Access) × (access_by p mode (given_to k) e ≡ Some y) × (bare x ≡ bare y)
+
+  -- so each access of the first mode is one of the second
+  abbrev AreAlso : Mode → Mode → Type 0
+  AreAlso one other = (e : Event) (x : Access) → access_by p one (given_to k) e ≡ Some x → IsAlso other e x
+
+  -- two modes have the same accesses but for their sections, and their traces end in one state
+  record AreAlike (one other : Mode) : Type 0 where
+    forth : AreAlso one other
+    back : AreAlso other one
+    last : (t : ℕ) → (trace_by p one (given_to k) t).last ≡ (trace_by p other (given_to k) t).last
+
+  module _ (one other : Mode) (among : AreAmong (fenced_gaps one) (fenced_gaps other)) where
+    wider : (t : ℕ) → IsWiderTrace 0 0 (trace_by p one (given_to k) t) (trace_by p other (given_to k) t)
+    wider t = wider_trace (action p.threads t) (fenced_gaps one t) (fenced_gaps other t) (among t) (length (code_of p.threads t)) 0 0 (start_of p.threads t) (given_to k t)
+
+    forth : AreAlso one other
+    forth (Initial l) x h = (x, h, refl)
+    forth (At t i) x h = let (y, there, is) = also 0 0 _ _ i x (wider t).accesses h in (y, there, is.same)
+
+    back : AreAlso other one
+    back (Initial l) x h = (x, h, refl)
+    back (At t i) x h = let (y, there, same) = also_back 0 0 _ _ i x (wider t).accesses h in (y, there, sym same)
+
+    alike_wider : AreAlike one other
+    alike_wider = record { forth = forth; back = back; last = λ t. (wider t).last }
+
+  turned_about : (one other : Mode) → AreAlike one other → AreAlike other one
+  turned_about one other is = record { forth = is.back; back = is.forth; last = λ t. sym (is.last t) }
+
+  alike : (loose tight : Mode) → IsNoLooser loose tight → AreAlike loose tight
+  alike (Fenced fewer) (Fenced more) among = alike_wider (Fenced fewer) (Fenced more) among
+  alike (Fenced fewer) Sequential tighter = turned_about Sequential (Fenced fewer) (alike_wider Sequential (Fenced fewer) (none_among fewer))
+  alike Sequential (Fenced more) tighter = absurd tighter
+  alike Sequential Sequential tighter = alike_wider Sequential Sequential (λ t i h. h)
+
+  -- what is a write or a source in a mode is in each that has its accesses
+  module _ (mode other : Mode) (too : AreAlso mode other) where
+    writes : (e : Event) (l v : ℕ) → Writes (access_by p mode (given_to k)) e l v → Writes (access_by p other (given_to k)) e l v
+    writes e l v (x, a, q, w) =
+        let (y, b, s) = too e x a in
+        (y, b, sym (ap (λ (z : Access). z.location) s) ∙ q, sym (ap (λ (z : Access). z.written) s) ∙ w)
+
+    source : (s e : Event) → IsSourceOf p mode k s e → IsSourceOf p other k s e
+    source s e (x, v, a, reads, differ, written) =
+        let (y, b, q) = too e x a in (
+          y,
+          v,
+          b,
+          sym (ap (λ (z : Access). z.read) q) ∙ reads,
+          differ,
+          writes s y.location v (subst (λ (z : Access). Writes (access_by p mode (given_to k)) s z.location v) q written),
+        )
+
+  -- where one access keeps its order before another, it still does with more gaps fenced
+  module _ (fewer more : Gaps) (among : AreAmong fewer more) where
+    abbrev loosely : Event → Access → Type 0
+    loosely e x = access_by p (Fenced fewer) (given_to k) e ≡ Some x
+
+    abbrev tightly : Event → Access → Type 0
+    tightly e x = access_by p (Fenced more) (given_to k) e ≡ Some x
+
+    keeps_order : (d e : Event) (x y z w : Access) → Precedes d e → loosely d x → loosely e y → tightly d z → tightly e w →
+        bare x ≡ bare z → bare y ≡ bare w → KeepsOrder x y → KeepsOrder z w
+    keeps_order d e x y z w before a b c f q r (inl reads) = inl (subst (λ (u : Access). IsSome u.read) q reads)
+    keeps_order d e x y z w before a b c f q r (inr (inl written)) = inr (inl (subst (λ (u : Access). IsSome u.written) r written))
+    keeps_order (Initial l) e x y z w before a b c f q r (inr (inr apart)) = absurd before
+    keeps_order (At t i) (Initial l) x y z w before a b c f q r (inr (inr apart)) = absurd before
+    keeps_order (At t i) (At u j) x y z w before a b c f q r (inr (inr apart)) =
+        inr (inr (still_apart 0 0 _ _ i j x y z w (wider (Fenced fewer) (Fenced more) among t).accesses before.1 a (of_one_thread fewer y b) c (of_one_thread more w f) apart))
+      where
+        of_one_thread : (gaps : Gaps) (v : Access) → access_by p (Fenced gaps) (given_to k) (At u j) ≡ Some v → access_by p (Fenced gaps) (given_to k) (At t j) ≡ Some v
+        of_one_thread gaps v h = subst (λ (n : ℕ). access_by p (Fenced gaps) (given_to k) (At n j) ≡ Some v) (sym before.0) h
+
+    fenced_relates : (kind : Kind) (d e : Event) (x y z w : Access) → loosely d x → loosely e y → tightly d z → tightly e w → bare x ≡ bare z → bare y ≡ bare w →
+        KnownRelates k kind d x e y → KnownRelates k kind d z e w
+    fenced_relates union.Sequential d e x y z w a b c f q r h = subst (λ (u : Access). KnownRelates k union.Sequential d z e u) r h
+    fenced_relates union.Location d e x y z w a b c f q r h =
+        subst (λ (u : Access). KnownRelates k union.Location d (bare z) e u) r (subst (λ (u : Access). KnownRelates k union.Location d u e (bare y)) q h)
+    fenced_relates union.Global d e x y z w a b c f q r (inl h) = inl (h.0, keeps_order d e x y z w h.0 a b c f q r h.1)
+    fenced_relates union.Global d e x y z w a b c f q r (inr (inl h)) = inr (inl h)
+    fenced_relates union.Global d e x y z w a b c f q r (inr (inr h)) = inr (inr (subst (λ (u : Access). IsBefore k d e u ⊎ KnownFromReads k d e u) r h))
+
+  -- what a union relates, that of sequential consistency does
+  sequentially : (kind : Kind) (d e : Event) (x y z w : Access) → bare y ≡ bare w → KnownRelates k kind d x e y → KnownRelates k union.Sequential d z e w
+  sequentially kind d e x y z w r h = subst (λ (u : Access). KnownRelates k union.Sequential d z e u) r (by_kind kind h)
+    where
+      by_kind : (kind : Kind) → KnownRelates k kind d x e y → KnownRelates k union.Sequential d z e (bare y)
+      by_kind union.Sequential h = h
+      by_kind union.Location (inl h) = inl h.0
+      by_kind union.Location (inr h) = inr h
+      by_kind union.Global (inl h) = inl h.0
+      by_kind union.Global (inr (inl h)) = inr (inl h.0)
+      by_kind union.Global (inr (inr h)) = inr (inr h)
+
+-- the union of the mode that has the edges of this one
+abbrev kind_in : Mode → Kind → Kind
+kind_in Sequential kind = union.Sequential
+kind_in (Fenced gaps) kind = kind
+
+module _ (p : Listing) (loose tight : Mode) (tighter : IsNoLooser loose tight) (k : Sketch) where
+  both : AreAlike p k loose tight
+  both = alike p k loose tight tighter
+
+  pair_forth : (d e : Event) → IsPair p loose k d e → IsPair p tight k d e
+  pair_forth d e (differ, (l, v, w, one, other, not_first, not_second)) =
+      (differ, (l, v, w, writes p k loose tight both.forth d l v one, writes p k loose tight both.forth e l w other, not_first, not_second))
+
+  same_next : (t : ℕ) → next_read p tight k t ≡ next_read p loose k t
+  same_next t = ap (λ (s : Local). read_by (action p.threads t s)) (sym (both.last t))
+
+  whole_forth : IsWhole p loose k → IsWhole p tight k
+  whole_forth whole t = same_next t ∙ whole t
+
+  values_forth : (t : ℕ) (values : List ℕ) → HasNextValues p loose k t values → HasNextValues p tight k t values
+  values_forth t values has = record { location = has.location; next = same_next t ∙ has.next; ascending = has.ascending; exact = has.exact }
+
+  sources_forth : (e : Event) (sources : List Event) → HasSources p loose k e sources → HasSources p tight k e sources
+  sources_forth e sources has =
+      let (y, there, same) = both.forth e has.access has.is_access in record {
+        whole = whole_forth has.whole;
+        access = y;
+        is_access = there;
+        is_read = subst (λ (z : Access). IsSome z.read) same has.is_read;
+        free = has.free;
+        in_order = has.in_order;
+        exact = λ s. ((λ here. source p k loose tight both.forth s e ((has.exact s).0 here)), (λ is. (has.exact s).1 (source p k tight loose both.back s e is)));
+      }
+
+  order_forth : (d e : Event) → HasNoOrder p loose k d e → HasNoOrder p tight k d e
+  order_forth d e has = record { whole = whole_forth has.whole; is_pair = pair_forth d e has.is_pair; free = has.free }
+
+  written_back : (e : Event) (l v : ℕ) → Writes (access_by p tight (given_to k)) e l v → Writes (access_by p loose (given_to k)) e l v
+  written_back = writes p k tight loose both.back
+
+  last_back : (l : ℕ) (e : Event) → MayBeLast p tight k l e → MayBeLast p loose k l e
+  last_back l e last = record { no_later = last.no_later; only_initial = λ q d v w. last.only_initial q d v (writes p k loose tight both.forth d l v w) }
+
+  edge_forth : (kind : Kind) (d e : Event) → KnownEdgeOfMode p loose k kind d e → KnownEdgeOfMode p tight k (kind_in tight kind) d e
+  edge_forth kind d e (of_mode, (x, y, a, b, relates)) =
+      let (z, c, q) = both.forth d x a in
+      let (w, f, r) = both.forth e y b in
+      by_modes loose tight tighter of_mode x y z w a b c f q r relates
+    where
+      by_modes : (loose tight : Mode) → IsNoLooser loose tight → IsOfMode loose kind → (x y z w : Access) →
+          access_by p loose (given_to k) d ≡ Some x → access_by p loose (given_to k) e ≡ Some y →
+          access_by p tight (given_to k) d ≡ Some z → access_by p tight (given_to k) e ≡ Some w → bare x ≡ bare z → bare y ≡ bare w →
+          KnownRelates k kind d x e y → KnownEdgeOfMode p tight k (kind_in tight kind) d e
+      by_modes (Fenced fewer) (Fenced more) among of_mode x y z w a b c f q r h =
+          (of_mode, (z, w, c, f, fenced_relates p k fewer more among kind d e x y z w a b c f q r h))
+      by_modes Sequential (Fenced more) tighter of_mode x y z w a b c f q r h = absurd tighter
+      by_modes loose Sequential tighter of_mode x y z w a b c f q r h = (tt, (z, w, c, f, sequentially p k kind d e x y z w r h))
+
+  cycle_forth : (kind : Kind) (es : List Event) → IsKnownCycle p loose k kind es → IsKnownCycle p tight k (kind_in tight kind) es
+  cycle_forth kind = cycle_wider (KnownEdgeOfMode p loose k kind) (KnownEdgeOfMode p tight k (kind_in tight kind)) (edge_forth kind)
+
+-- the tree with cycles of the unions of the mode, each worked out
+abbrev mutual
+  turned : Mode → Cover → Cover
+  turned mode (Value t trees) = Value t (each_turned mode trees)
+  turned mode (Source read trees) = Source read (each_turned mode trees)
+  turned mode (Order first second one other) = Order first second (turned mode one) (turned mode other)
+  turned mode (Cycle kind events) = Cycle (kind_in mode kind) events
+  turned mode (Known number) = Known number
+
+  each_turned : Mode → Covers → Covers
+  each_turned mode NoCover = NoCover
+  each_turned mode (MoreCovers tree trees) = MoreCovers (turned mode tree) (each_turned mode trees)
+
+mutual
+  turned_in_sequence : (tree : Cover) → turned Sequential tree ≡ in_sequence tree
+  turned_in_sequence (Value t trees) = ap (Value t) (each_turned_in_sequence trees)
+  turned_in_sequence (Source read trees) = ap (Source read) (each_turned_in_sequence trees)
+  turned_in_sequence (Order first second one other) = λ i. Order first second (turned_in_sequence one i) (turned_in_sequence other i)
+  turned_in_sequence (Cycle kind events) = refl
+  turned_in_sequence (Known number) = refl
+
+  each_turned_in_sequence : (trees : Covers) → each_turned Sequential trees ≡ each_in_sequence trees
+  each_turned_in_sequence NoCover = refl
+  each_turned_in_sequence (MoreCovers tree trees) = λ i. MoreCovers (turned_in_sequence tree i) (each_turned_in_sequence trees i)
+
+mutual
+  turned_stays : (gaps : Gaps) (tree : Cover) → turned (Fenced gaps) tree ≡ tree
+  turned_stays gaps (Value t trees) = ap (Value t) (each_turned_stays gaps trees)
+  turned_stays gaps (Source read trees) = ap (Source read) (each_turned_stays gaps trees)
+  turned_stays gaps (Order first second one other) = λ i. Order first second (turned_stays gaps one i) (turned_stays gaps other i)
+  turned_stays gaps (Cycle kind events) = refl
+  turned_stays gaps (Known number) = refl
+
+  each_turned_stays : (gaps : Gaps) (trees : Covers) → each_turned (Fenced gaps) trees ≡ trees
+  each_turned_stays gaps NoCover = refl
+  each_turned_stays gaps (MoreCovers tree trees) = λ i. MoreCovers (turned_stays gaps tree i) (each_turned_stays gaps trees i)
+
+turned_in_mode : (mode : Mode) (tree : Cover) → turned mode tree ≡ in_mode mode tree
+turned_in_mode Sequential tree = turned_in_sequence tree
+turned_in_mode (Fenced gaps) tree = turned_stays gaps tree
+
+module _ (q : Question) (loose tight : Mode) (tighter : IsNoLooser loose tight) where
+  abbrev p : Listing
+  p = q.program
+
+  must_end : (k : Sketch) (o : Outcome) → MustEndAs q loose k o → MustEndAs q tight k o
+  must_end k o must = record {
+    whole = whole_forth p loose tight tighter k must.whole;
+    registers = must.registers ∙ ap (λ f. show_registers q.shown (map f (range_with_len 0 (length p.threads))))
+        (fun_ext (λ t. ap (λ (s : Local). s.registers) ((both p loose tight tighter k).last t)));
+    long = must.long;
+    memory = λ l v e within w last. must.memory l v e within (written_back p loose tight tighter k e l v w) (last_back p loose tight tighter k l e last);
+  }
+
+  module _ (outcomes : List Outcome) where
+    known : (k : Sketch) (number : ℕ) → MustEndAsNumber q loose outcomes k number → MustEndAsNumber q tight outcomes k number
+    known k number must = record { outcome = must.outcome; is_outcome = must.is_outcome; must_end = must_end k must.outcome must.must_end }
+
+    mutual
+      kept : (tree : Cover) (k : Sketch) → IsValidCover q loose outcomes tree k → IsValidCover q tight outcomes (turned tight tree) k
+      kept (Value t children) k (values, has, valid) =
+          (values, values_forth p loose tight tighter k t values has, each_kept children (map (with_value k t) values) valid)
+      kept (Source read children) k (sources, has, valid) =
+          (sources, sources_forth p loose tight tighter k (event_of read) sources has, each_kept children (map (with_source k (event_of read)) sources) valid)
+      kept (Order one other one_before other_before) k (has, before, after) = (
+        order_forth p loose tight tighter k (event_of one) (event_of other) has,
+        kept one_before (with_pair k (event_of one) (event_of other)) before,
+        kept other_before (with_pair k (event_of other) (event_of one)) after,
+      )
+      kept (Cycle kind events) k cycle = cycle_forth p loose tight tighter k kind (map event_of events) cycle
+      kept (Known number) k must = known k number must
+
+      each_kept : (trees : Covers) (ks : List Sketch) → AreValidCovers q loose outcomes trees ks → AreValidCovers q tight outcomes (each_turned tight trees) ks
+      each_kept NoCover [] valid = valid
+      each_kept NoCover (k ∷ ks) valid = absurd valid
+      each_kept (MoreCovers tree trees) [] valid = absurd valid
+      each_kept (MoreCovers tree trees) (k ∷ ks) (now, later) = (kept tree k now, each_kept trees ks later)
+
+pub tighter_keeps_cover : ATighterModeKeepsACover
+tighter_keeps_cover q loose tight outcomes tree k tighter valid =
+    subst (λ (t : Cover). IsValidCover q tight outcomes t k) (turned_in_mode tight tree) (kept q loose tight tighter outcomes tree k valid)
+
+pub tighter_keeps_values : ATighterModeKeepsTheValues
+tighter_keeps_values p loose tight k t values tighter has = values_forth p loose tight tighter k t values has
+
+pub tighter_keeps_whole : ATighterModeKeepsAWholeSketch
+tighter_keeps_whole p loose tight k tighter whole = whole_forth p loose tight tighter k whole
