@@ -2,8 +2,11 @@
 ghost use Rattle.std.specs.Prelude.{◌≡◌, IfOk, IfErr, OnOk, map};
 ghost use Rattle.tso_program.specs.Shown.{asked};
 ghost use Rattle.exec_axioms.specs.ProgramSketches.{mode_in};
+ghost use Rattle.tso_program.specs.declared.listing.Listing.{Listing};
+ghost use Rattle.tso_machine.specs.Modes.{machine_mode};
 ghost use Rattle.cert_forest.specs.Views.{cover};
-ghost use Rattle.cover_judge.specs.Choices.{AreValueChoices, MayChooseEach};
+ghost use Rattle.tree_laws.specs.TighterModes.{in_mode};
+ghost use Rattle.cover_judge.specs.Choices.{MayChooseEach};
 ghost use Rattle.cover_solver.specs.Covers.{IsCoverAt, AreCoversAfter};
 ghost use Rattle.cover_solver.specs.Kept.{kept, kept_of, unfenced, IsKeptAt, AreKeptAfter};
 ghost use Rattle.cover_solver.specs.Listed.{listed, AreInOrder, Grows, StopIs};
@@ -77,8 +80,9 @@ fn filled_each(
     Ok(made)
 }
 
-/// A copy of a tree in a mode: that of the sequential machine has known edges of one kind.
+/// A copy of a tree for a mode: the known edges of the sequential machine are of one kind.
 fn copy_in(alloc: Global, tree: &CoverTree, mode: Mode) -> Result<CoverTree, AllocError>
+    ensures { IfOk result (λ copy. (p : Listing) → cover copy ≡ in_mode (machine_mode p mode) (cover tree.now)) }
 {
     let mut copy = tree.copy(alloc)?;
     if let Mode::Sequential = mode {

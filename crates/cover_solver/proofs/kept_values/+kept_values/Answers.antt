@@ -14,10 +14,10 @@ use Rattle.cover_solver.proofs.CombinedCovers.{before_next, of_others}
 use Rattle.cover_solver.proofs.Growing.{grows_twice, grows_after, covers_still}
 use Rattle.cover_solver.proofs.Rounds.{fewer_rounds}
 use Rattle.cover_solver.proofs.Nodes.{cover_next, covers_more, node_cover}
-use Rattle.cover_solver.proofs.cover_values.+cover_values.Goals as goal
+use Rattle.cover_solver.proofs.kept_values.+kept_values.Goals as goal
 
-pub cover_each_value-cover_values-requires : goal.cover_each_value-cover_values-requires
-cover_each_value-cover_values-requires t c =
+pub kept_each_value-kept_values-requires : goal.kept_each_value-kept_values-requires
+kept_each_value-kept_values-requires t c =
     let s = c.args.sketch.now in
     let i = c.loop-choice.choice-index in
     let d = choice.Value 0 0 in
@@ -27,29 +27,29 @@ cover_each_value-cover_values-requires t c =
       (c.loop-choice.invariant.0.in_order, before_next s next c.args.plan.now.last ch (c.requires.others i d c.loop-choice-test.true) c.in_ok-next.ensures c.requires.before),
     )
 
-pub cover_each_value-loop-choice-preserved : goal.cover_each_value-loop-choice-preserved
-cover_each_value-loop-choice-preserved t c =
+pub kept_each_value-loop-choice-preserved : goal.kept_each_value-loop-choice-preserved
+kept_each_value-loop-choice-preserved t c =
     let s = c.args.sketch.now in
     let shown = c.args.shown.now in
     let mid = c.loop-choice.outcomes in
-    let new = c.cover_values.new.outcomes in
+    let new = c.kept_values.new.outcomes in
     let lawful = c.program.ensures.lawful in
     let i = c.loop-choice.choice-index in
     let d = choice.Value 0 0 in
     let ch = get_or c.args.choices.now i d in
-    let tree = c.in_ok-cover_values.field-0 in
+    let tree = c.in_ok-kept_values.field-0 in
     let trees = map cover c.loop-choice.trees.items in
     let next = c.in_ok-next.next in
-    let grows = grows_after s next shown ch c.in_ok-next.ensures mid new c.in_ok-cover_values.ensures.grows in (
+    let grows = grows_after s next shown ch c.in_ok-next.ensures mid new c.in_ok-kept_values.ensures.grows in (
       grows_twice (asked s.program shown) (mode_in s) c.args.outcomes.now mid new c.loop-choice.invariant.0 grows,
       covers_more s shown (listed new) lawful c.args.choices.now trees (map cover c.push.new.self.items) i d (cover tree) c.loop-choice-test.true
           (ap (map cover) c.in_ok-push.ensures.items ∙ map-append cover c.loop-choice.trees.items (tree ∷ []))
           (covers_still s shown (listed mid) (listed new) (take i c.args.choices.now) trees grows.keeps c.loop-choice.invariant.1)
-          (cover_next s shown (listed new) lawful next ch (cover tree) (c.requires.may.each i d c.loop-choice-test.true) c.in_ok-next.ensures c.in_ok-cover_values.ensures.tree),
+          (cover_next s shown (listed new) lawful next ch (cover tree) (c.requires.may.each i d c.loop-choice-test.true) c.in_ok-next.ensures c.in_ok-kept_values.ensures.tree),
     )
 
-pub cover_values-cover_each_value-requires : goal.cover_values-cover_each_value-requires
-cover_values-cover_each_value-requires t c =
+pub kept_values-kept_each_value-requires : goal.kept_values-kept_each_value-requires
+kept_values-kept_each_value-requires t c =
     let s = c.args.sketch.now in
     let last = c.args.plan.now.last.thread in
     let choices = c.in_ok-choices-in-Some.choices.items in
@@ -64,11 +64,11 @@ cover_values-cover_each_value-requires t c =
       ),
     )
 
-pub cover_values-returns-in_ok-node_over-in-Some-clause-tree : goal.cover_values-returns-in_ok-node_over-in-Some-clause-tree
-cover_values-returns-in_ok-node_over-in-Some-clause-tree t c =
+pub kept_values-returns-in_ok-node_over-in-Some-clause-tree : goal.kept_values-returns-in_ok-node_over-in-Some-clause-tree
+kept_values-returns-in_ok-node_over-in-Some-clause-tree t c =
     let s = c.args.sketch.now in
     let shown = c.args.shown.now in
-    let outcomes = listed c.cover_each_value.new.outcomes in
+    let outcomes = listed c.kept_each_value.new.outcomes in
     let trees = map cover c.in_ok-trees-in-Some.trees.items in
     let choices = c.in_ok-choices-in-Some.choices.items in
     let are = subst (λ (cs : List Choice). AreCoversAfter s shown outcomes cs trees) c.deref.ensures.value c.in_ok-trees-in-Some.ensures.trees in

@@ -6,7 +6,7 @@ use Rattle.cover_solver.specs.Combined.{with_root}
 use Rattle.cover_solver.specs.Covers.{AreCoversAfter}
 use Rattle.cover_solver.specs.Listed.{listed, Grows}
 use Rattle.cover_solver.specs.Traces.{traces, first_choices}
-use Rattle.cover_solver.proofs.cover_trace.+cover_trace.Given as goal
+use Rattle.cover_solver.proofs.kept_trace.+kept_trace.Given as goal
 
 -- the list has grown, and the children are valid over it after the choices so far
 abbrev pub invariant-loop-next : goal.invariant-loop-next

@@ -17,7 +17,7 @@ use Rattle.cover_solver.specs.Listed.{listed}
 use Rattle.cover_solver.specs.Traces.{Traces, Read, traces, trace_node, trees_of, first_choices}
 use Rattle.cover_solver.proofs.Growing.{grows_none, grows_twice, covers_still}
 use Rattle.cover_solver.proofs.TraceNodes.{child_meets, no_covers, one_cover_more, node_covered}
-use Rattle.cover_solver.proofs.cover_trace.+cover_trace.Goals as goal
+use Rattle.cover_solver.proofs.kept_trace.+kept_trace.Goals as goal
 
 pub loop-next-init : goal.loop-next-init
 loop-next-init t c =
@@ -31,8 +31,8 @@ loop-next-init t c =
           (no_covers c.args.sketch.now c.args.t c.args.others.now c.requires.base c.program.ensures.lawful c.in-Read.own c.program-in-Read.ensures.lawful choices after x is c.requires.tree c.requires.alike c.args.shown.now (listed outcomes)),
     )
 
-pub cover_trace-requires : goal.cover_trace-requires
-cover_trace-requires t c = (
+pub kept_trace-requires : goal.kept_trace-requires
+kept_trace-requires t c = (
   search (rules, views.the_lemmas),
   (let choices = c.in-Read.choices.items in
       let after = c.in-Read.after.items in
@@ -65,7 +65,7 @@ loop-next-preserved t c =
     let s = c.args.sketch.now in
     let shown = c.args.shown.now in
     let mid = c.loop-next.outcomes in
-    let new = c.cover_trace.new.outcomes in
+    let new = c.kept_trace.new.outcomes in
     let grows = c.in_ok-child-in-Read.ensures.grows in (
       grows_twice (asked s.program shown) (mode_in s) c.args.outcomes.now mid new c.loop-next.invariant.0 grows,
       one_cover_more s c.args.t c.args.others.now c.requires.base c.program.ensures.lawful c.in-Read.own c.program-in-Read.ensures.lawful choices after x is c.requires.tree c.requires.alike

@@ -7,13 +7,13 @@ use Rattle.cover_solver.specs.Listed.{listed}
 use Rattle.cover_solver.specs.Traces.{traces}
 use Rattle.cover_judge.proofs.Answered.{if_ok}
 use Rattle.cover_solver.proofs.CombinedCovers.{at_start}
-use Rattle.cover_solver.proofs.cover_values.cover_last.Goals as goal
+use Rattle.cover_solver.proofs.kept_values.kept_last.Goals as goal
 
 pub returns-clause-tree : goal.returns-clause-tree
 returns-clause-tree c =
     let s = c.args.sketch.now in
     let last = c.args.plan.now.last in
     let shown = c.args.shown.now in
-    let outcomes = listed c.cover_trace.new.outcomes in
-    if_ok c.cover_trace.result (λ tree. IsCoverAt (with_root last.thread s (traces last.tree)) shown outcomes (cover tree)) (λ tree. IsCoverAt s shown outcomes (cover tree))
-    (λ tree is. subst (λ (n : ProgramSketch). IsCoverAt n shown outcomes (cover tree)) (at_start s last c.program.ensures.lawful c.requires.before) is) c.cover_trace.ensures.cover
+    let outcomes = listed c.kept_trace.new.outcomes in
+    if_ok c.kept_trace.result (λ tree. IsCoverAt (with_root last.thread s (traces last.tree)) shown outcomes (cover tree)) (λ tree. IsCoverAt s shown outcomes (cover tree))
+    (λ tree is. subst (λ (n : ProgramSketch). IsCoverAt n shown outcomes (cover tree)) (at_start s last c.program.ensures.lawful c.requires.before) is) c.kept_trace.ensures.cover

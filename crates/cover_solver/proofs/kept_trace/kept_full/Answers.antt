@@ -11,7 +11,7 @@ use Rattle.cover_solver.specs.Combined.{with_trace}
 use Rattle.cover_solver.specs.Covers.{IsCoverAt}
 use Rattle.cover_solver.specs.Listed.{listed}
 use Rattle.cover_solver.proofs.CombinedSketches.{whole_merged, unsourced_cover}
-use Rattle.cover_solver.proofs.cover_trace.cover_full.Goals as goal
+use Rattle.cover_solver.proofs.kept_trace.kept_full.Goals as goal
 
 pub cover_whole-requires-clause-whole : goal.cover_whole-requires-clause-whole
 cover_whole-requires-clause-whole c =
