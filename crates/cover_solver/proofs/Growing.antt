@@ -19,36 +19,36 @@ use Rattle.cover_solver.specs.declared.listed.Listed.{Listed}
 use Rattle.cover_solver.specs.declared.listed.Listed.TheVariants.{Closed, Open}
 use Rattle.cover_solver.specs.Covers.{AreCoversAfter, IsEndNotListed}
 use Rattle.cover_solver.specs.Found.{HasNumber, KeepsNumbers}
-use Rattle.cover_solver.specs.Listed.{AreInOrder, StaysClosed, StopIs, Grows}
+use Rattle.cover_solver.specs.Listed.{AreInOrder, StaysOf, StopIs, Grows}
 use Rattle.cover_solver.proofs.Ends.{end_at, end_not_there}
 
-stays : (outcomes : Listed) → StaysClosed outcomes outcomes
+stays : (outcomes : Listed) → StaysOf outcomes outcomes
 stays (Closed outcomes) = refl
-stays (Open found) = tt
+stays (Open found mode) = (found, refl)
 
-stays_twice : (old mid new : Listed) → StaysClosed old mid → StaysClosed mid new → StaysClosed old new
-stays_twice (Closed outcomes) mid new first second = subst (λ m. StaysClosed m new) first second
-stays_twice (Open found) mid new first second = tt
+stays_twice : (old mid new : Listed) → StaysOf old mid → StaysOf mid new → StaysOf old new
+stays_twice (Closed outcomes) mid new first second = subst (λ m. StaysOf m new) first second
+stays_twice (Open found mode) mid new first second = subst (λ m. StaysOf m new) first.1 second
 
-module _ (q : Question) (mode : Mode) where
+module _ (q : Question) where
   -- nothing new
-  pub grows_none : (outcomes : Listed) → AreInOrder outcomes → Grows q mode outcomes outcomes
-  grows_none outcomes in_order = record { in_order = in_order; keeps = λ n o here. here; runs = λ are. are; closed = stays outcomes; stops = λ why is. is }
+  pub grows_none : (outcomes : Listed) → AreInOrder outcomes → Grows q outcomes outcomes
+  grows_none outcomes in_order = record { in_order = in_order; keeps = λ n o here. here; runs = λ are. are; stays = stays outcomes; stops = λ mode why is. is }
 
   -- one search after another
-  pub grows_twice : (old mid new : Listed) → Grows q mode old mid → Grows q mode mid new → Grows q mode old new
+  pub grows_twice : (old mid new : Listed) → Grows q old mid → Grows q mid new → Grows q old new
   grows_twice old mid new first second = record {
     in_order = second.in_order;
     keeps = λ n o here. second.keeps n o (first.keeps n o here);
     runs = λ are. second.runs (first.runs are);
-    closed = stays_twice old mid new first.closed second.closed;
-    stops = λ why is. first.stops why (second.stops why is);
+    stays = stays_twice old mid new first.stays second.stays;
+    stops = λ mode why is. first.stops mode why (second.stops mode why is);
   }
 
 -- a tree stays valid where each outcome keeps its number
 module _ (q : Question) (mode : Mode) (old new : List Outcome) (keeps : KeepsNumbers old new) where
   mutual
-    still_valid : (tree : Cover) (k : Sketch) → IsValidCover q mode old tree k → IsValidCover q mode new tree k
+    pub still_valid : (tree : Cover) (k : Sketch) → IsValidCover q mode old tree k → IsValidCover q mode new tree k
     still_valid (Value t trees) k (values, has, valid) = (values, has, still_valid_each trees (map (with_value k t) values) valid)
     still_valid (Source read trees) k (sources, has, valid) = (sources, has, still_valid_each trees (map (with_source k (event_of read)) sources) valid)
     still_valid (Order first second one other) k (has, before, after) = (
@@ -81,8 +81,8 @@ ended s shown outcomes end (Some n) must at = end_at s shown outcomes n end must
 
 -- what the search at the sketch after a choice does, and why it stops, is so at the sketch
 module _ (s next : ProgramSketch) (shown : Shown) (c : Choice) (same : next ≡ with_chosen s (sketch_with s.chosen c)) where
-  pub grows_after : (old new : Listed) → Grows (asked next.program shown) (mode_in next) old new → Grows (asked s.program shown) (mode_in s) old new
-  grows_after old new grows = moved (λ p mode k. Grows (asked p shown) mode old new) s next c same grows
+  pub grows_after : (old new : Listed) → Grows (asked next.program shown) old new → Grows (asked s.program shown) old new
+  grows_after old new grows = moved (λ p mode k. Grows (asked p shown) old new) s next c same grows
 
   pub stops_after : (outcomes : Listed) (why : Stop) → StopIs (asked next.program shown) (mode_in next) outcomes why → StopIs (asked s.program shown) (mode_in s) outcomes why
   stops_after outcomes why is = moved (λ p mode k. StopIs (asked p shown) mode outcomes why) s next c same is
