@@ -47,11 +47,16 @@ module _ (q : Question) where
     stops = λ mode why is. first.stops mode why (second.stops mode why is);
   }
 
+-- an open list that found more stops for what it did before
+stops_open : (q : Question) (machine : Mode) (mode : own.Mode) (old new : Found) (why : Stop) → StopIs q machine (Open new mode) why → StopIs q machine (Open old mode) why
+stops_open q machine mode old new (stop.New run) is = is
+stops_open q machine mode old new stop.OutOfMemory is = tt
+
 -- an open list that found more
 module _ (q : Question) (mode : own.Mode) (old new : Found) (in_order : IsInOrder new) (keeps : KeepsNumbers old.listed.items new.listed.items)
     (runs : AreRunsOf q (machine_mode q.program mode) old.runs old.outcomes.items → AreRunsOf q (machine_mode q.program mode) new.runs new.outcomes.items) where
   pub grows_open : Grows q (Open old mode) (Open new mode)
-  grows_open = record { in_order = in_order; keeps = keeps; runs = runs; stays = (new, refl); stops = λ of why is. tt }
+  grows_open = record { in_order = in_order; keeps = keeps; runs = runs; stays = (new, refl); stops = λ machine why is. stops_open q machine mode old new why is }
 
 stopped : (T U : Type 0) (why : Stop) (P Q : Type 0) → (P → Q) → OnTold {T = T} (Err why) P → OnTold {T = U} (Err why) Q
 stopped T U (stop.New run) P Q follows part = follows part

@@ -4,6 +4,8 @@ pub mod Inserted
 pub mod Rounds
 pub mod Numbered
 pub mod Growing
+pub mod OwnEnds
+pub mod SameMachine
 pub mod ChangedTrees
 pub mod TighterTrees
 pub mod Renumbering

@@ -1,10 +1,13 @@
 -- Lists of outcomes by which a search for a cover tree goes.
 use Rattle.std.specs.Prelude.{◌≡◌, List, Result, Ok, Err, Contains}
 use Rattle.tso_program.specs.declared.outcome.Outcome.{Outcome}
-use Rattle.tso_program.specs.Shown.{Question}
+use Rattle.tso_program.specs.declared.shown.Shown.{Shown}
+use Rattle.tso_program.specs.Shown.{Question, asked, show}
 use Rattle.tso_machine.specs.Machine.{Mode}
 use Rattle.tso_machine.specs.Modes.{machine_mode}
 use Rattle.tso_machine.specs.Outcomes.{IsShownRun}
+use Rattle.candidate_executions.specs.Sketches.{MustEndAs}
+use Rattle.exec_axioms.specs.ProgramSketches.{ProgramSketch, mode_in}
 use Rattle.cover_solver.specs.declared.fault.Stop.{Stop}
 use Rattle.cover_solver.specs.declared.fault.Stop.TheVariants as stop
 use Rattle.cover_solver.specs.declared.found.Found.{Found}
@@ -28,11 +31,17 @@ abbrev pub HasRunOfEach : Question → Listed → Type 0
 HasRunOfEach q (Closed outcomes) = ⊥
 HasRunOfEach q (Open found mode) = AreRunsOf q (machine_mode q.program mode) found.runs found.outcomes.items
 
--- why no tree is found in a mode: a closed list lacks the outcome of a run
+-- a list that is open for the sketch's own mode has what is shown of an outcome as which the sketch must end
+abbrev pub HasOwnEnd : ProgramSketch → Shown → Listed → Type 0
+HasOwnEnd s shown (Closed outcomes) = Unit {0}
+HasOwnEnd s shown (Open found mode) = machine_mode s.program mode ≡ mode_in s → (o : Outcome) × MustEndAs (asked s.program shown) (mode_in s) s.chosen o × Contains found.listed.items (show shown o)
+
+-- why no tree is found in a mode: a closed list lacks the outcome of a run, and an open list is open for another mode
 abbrev pub StopIs : Question → Mode → Listed → Stop → Type 0
 StopIs q mode (Closed outcomes) (stop.New run) = IsShownRun q mode run.labels.items run.outcome × (Contains outcomes.now run.outcome → ⊥)
 StopIs q mode (Closed outcomes) stop.OutOfMemory = Unit {0}
-StopIs q mode (Open found of) why = Unit {0}
+StopIs q mode (Open found of) (stop.New run) = machine_mode q.program of ≡ mode → ⊥
+StopIs q mode (Open found of) stop.OutOfMemory = Unit {0}
 
 -- a closed list is what it was, and an open one is open for the mode that it was
 abbrev pub StaysOf : Listed → Listed → Type 0

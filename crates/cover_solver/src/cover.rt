@@ -83,7 +83,7 @@ fn cover_from(
 }
 
 /// The leaf of a complete sketch that nothing closes: its outcome is new. The search stops with its run if
-/// the list does not take the outcome.
+/// the list does not take the outcome. A list that is open for the sketch's mode takes it.
 fn end(
     alloc: Global,
     sketch: &Sketch,

@@ -29,6 +29,7 @@ mod preference;
 mod reads_writes;
 mod renumber;
 mod run;
+mod same_machine;
 mod served;
 mod settled;
 mod sketch_in;

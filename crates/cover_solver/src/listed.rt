@@ -1,15 +1,22 @@
 //! Lists of outcomes by which a search for a cover tree goes.
 ghost use Rattle.std.specs.Prelude.{◌≡◌, IfOk, IfSome, OnOk, MatchOption, Contains};
+ghost use Rattle.std.specs.Option.{IsSomeAnd};
 ghost use Rattle.tso_program.specs.Shown.{asked};
+ghost use Rattle.tso_machine.specs.Modes.{machine_mode};
+ghost use Rattle.tso_machine.specs.Outcomes.{IsShownRun};
+ghost use Rattle.exec_axioms.specs.ProgramSketches.{mode_in};
+ghost use Rattle.exec_axioms.specs.Complete.{IsComplete};
+ghost use Rattle.exec_axioms.specs.Known.{HasNoCycle};
 ghost use Rattle.cover_solver.specs.Found.{HasNumber};
 ghost use Rattle.cover_solver.specs.Internal.Runs.{IsShownRunOf};
-ghost use Rattle.cover_solver.specs.Listed.{listed, AreInOrder, Grows};
+ghost use Rattle.cover_solver.specs.Listed.{listed, AreInOrder, Grows, HasOwnEnd};
 ghost use Rattle.cover_solver.specs.Ordered.{Ascend};
 
 use crate::found::Found;
 use crate::ordered::place_of;
 use crate::reads_writes::WholeAccesses;
 use crate::run::shown_run;
+use crate::same_machine::have_same_machine;
 use crate::sketch_in::sketch_in;
 use exec_axioms::{Mode, Sketch};
 use run_maker::MadeRun;
@@ -64,17 +71,39 @@ impl Listed<'_> {
         accesses: &WholeAccesses,
         shown: &Shown,
     ) -> Result<(), AllocError>
-        requires { AreInOrder self.old }
-        ensures { OnOk result (Grows (asked sketch.now.program shown.now) self.old self.new) }
+        requires in_order { AreInOrder self.old }
+        requires complete { IsComplete sketch.now }
+        requires acyclic { HasNoCycle sketch.now }
+        ensures grows { OnOk result (Grows (asked sketch.now.program shown.now) self.old self.new) }
+        ensures own { OnOk result (HasOwnEnd sketch.now shown.now self.new) }
     {
         if let Listed::Open { found, mode } = self {
-            let same = sketch_in(alloc, sketch, accesses, *mode)?;
-            if let Some(run) = run_of(alloc, &same, shown)? {
+            if let Some(run) = run_in(alloc, sketch, accesses, *mode, shown)? {
                 found.add(alloc, run.outcome, run.labels)?;
             }
         }
         Ok(())
     }
+}
+
+/// A run with the choices of a complete sketch in a mode. `None` if they are not complete in that mode, or
+/// have a cycle there.
+fn run_in(
+    alloc: Global,
+    sketch: &Sketch,
+    accesses: &WholeAccesses,
+    mode: Mode,
+    shown: &Shown,
+) -> Result<Option<MadeRun>, AllocError>
+    requires complete { IsComplete sketch.now }
+    requires acyclic { HasNoCycle sketch.now }
+    ensures run { IfOk result (λ found. IfSome found (λ run. IsShownRun (asked sketch.now.program shown.now) (machine_mode sketch.now.program mode) run.labels.items run.outcome)) }
+    ensures own { machine_mode sketch.now.program mode ≡ mode_in sketch.now → IfOk result (λ found. IsSomeAnd found (IsShownRunOf sketch.now shown.now)) }
+{
+    if have_same_machine(sketch.program(), mode, sketch.mode()) {
+        return Ok(Some(shown_run(alloc, sketch, shown)?));
+    }
+    run_of(alloc, &sketch_in(alloc, sketch, accesses, mode)?, shown)
 }
 
 /// A run of the sketch, if it is complete and has no cycle.

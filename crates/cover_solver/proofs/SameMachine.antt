@@ -1,0 +1,35 @@
+-- Sets that have the same gaps of a program.
+use Rattle.std.proofs.Common.{◌≡◌, ℕ, ◌<◌, Option, None, Some, Bool, false, refl, sym, ap, ◌∙◌}
+use mathlib.Core.Path.{fun_ext}
+use Rattle.std.specs.FinSet as set
+use Rattle.std.specs.Option.{option_map_or}
+use Rattle.gap_sets.specs.Gaps.{SetOfGaps}
+use Rattle.tso_program.specs.declared.listing.Listing.{Listing}
+use Rattle.tso_program.specs.Listings.{gap_count, gap_number}
+use Rattle.tso_program.specs.Fences.{Gaps, gaps_in}
+use Rattle.tso_program.proofs.Gaps.{gap_below}
+use Rattle.tso_machine.specs.Machine.{Mode, Sequential, Fenced, no_gaps}
+
+-- the gap of this number, if the program has it, is in both sets or in neither
+abbrev pub AreAlikeAt : Listing → SetOfGaps → SetOfGaps → ℕ → Type 0
+AreAlikeAt p one other gap = (t k : ℕ) → gap_number p.threads t k ≡ Some gap → gaps_in p one t k ≡ gaps_in p other t k
+
+-- sets that are alike at each gap of the program fence the same gaps
+pub fence_same : (p : Listing) (one other : SetOfGaps) → ((gap : ℕ) → gap < gap_count p.threads → AreAlikeAt p one other gap) → gaps_in p one ≡ gaps_in p other
+fence_same p one other alike = fun_ext (λ t. fun_ext (λ k. at t k (gap_number p.threads t k) refl))
+  where
+    at : (t k : ℕ) (o : Option ℕ) → gap_number p.threads t k ≡ o → gaps_in p one t k ≡ gaps_in p other t k
+    at t k None none = ap (λ found. option_map_or (set.contains one) found false) none ∙ sym (ap (λ found. option_map_or (set.contains other) found false) none)
+    at t k (Some gap) found = alike gap (gap_below p.threads t k gap found) t k found
+
+-- sets that fence the same gaps are alike at each
+pub alike_at : (p : Listing) (one other : SetOfGaps) (gap : ℕ) → gaps_in p one ≡ gaps_in p other → AreAlikeAt p one other gap
+alike_at p one other gap same t k found = ap (λ (gaps : Gaps). gaps t k) same
+
+-- a machine with gaps fenced tells which
+abbrev gaps_of : Mode → Gaps
+gaps_of Sequential = no_gaps
+gaps_of (Fenced gaps) = gaps
+
+pub same_gaps : (one other : Gaps) → Fenced one ≡ Fenced other → one ≡ other
+same_gaps one other same = ap gaps_of same
