@@ -16,6 +16,9 @@ pub mod Tallied
 pub mod TraceTrees
 pub mod CombinedSketches
 pub mod CombinedCovers
+pub mod ClosedTrees
+pub mod KeptTrees
+pub mod FilledTrees
 pub mod TraceNodes
 pub mod Planned
 pub mod Neat
