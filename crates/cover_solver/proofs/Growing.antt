@@ -1,11 +1,14 @@
 -- Lists of outcomes that grow, and the trees over them.
-use Rattle.std.proofs.Common.{◌≡◌, ℕ, List, [], ◌∷◌, Contains, map, refl, subst}
+use Rattle.std.proofs.Common.{◌≡◌, ℕ, List, [], ◌∷◌, Contains, map, refl, sym, subst}
 use Rattle.std.specs.Option.{MatchOption}
-use Rattle.std.specs.Prelude.{Option, Some, None}
+use Rattle.std.specs.Prelude.{Option, Some, None, Result, Ok, Err}
+use Rattle.std.specs.Result.{IsErrAnd}
 use Rattle.tso_program.specs.declared.outcome.Outcome.{Outcome}
 use Rattle.tso_program.specs.declared.shown.Shown.{Shown}
 use Rattle.tso_program.specs.Shown.{Question, asked}
+use Rattle.tso_machine.specs.declared.mode.Mode as own
 use Rattle.tso_machine.specs.Machine.{Mode}
+use Rattle.tso_machine.specs.Modes.{machine_mode}
 use Rattle.candidate_executions.specs.Sketches.{Sketch, with_value, with_source, with_pair}
 use Rattle.exec_axioms.specs.ProgramSketches.{ProgramSketch, mode_in, with_chosen}
 use Rattle.exec_axioms.specs.Completions.{MustEndSo}
@@ -15,11 +18,13 @@ use Rattle.cover_judge.specs.declared.choice.Choice.{Choice}
 use Rattle.cover_judge.specs.Choices.{sketch_with}
 use Rattle.cover_judge.proofs.SketchesAfter.{moved}
 use Rattle.cover_solver.specs.declared.fault.Stop.{Stop}
+use Rattle.cover_solver.specs.declared.fault.Stop.TheVariants as stop
+use Rattle.cover_solver.specs.declared.found.Found.{Found}
 use Rattle.cover_solver.specs.declared.listed.Listed.{Listed}
 use Rattle.cover_solver.specs.declared.listed.Listed.TheVariants.{Closed, Open}
 use Rattle.cover_solver.specs.Covers.{AreCoversAfter, IsEndNotListed}
-use Rattle.cover_solver.specs.Found.{HasNumber, KeepsNumbers}
-use Rattle.cover_solver.specs.Listed.{AreInOrder, StaysOf, StopIs, Grows}
+use Rattle.cover_solver.specs.Found.{HasNumber, KeepsNumbers, IsInOrder, AreRunsOf}
+use Rattle.cover_solver.specs.Listed.{AreInOrder, StaysOf, StopIs, Grows, OnTold}
 use Rattle.cover_solver.proofs.Ends.{end_at, end_not_there}
 
 stays : (outcomes : Listed) → StaysOf outcomes outcomes
@@ -44,6 +49,21 @@ module _ (q : Question) where
     stays = stays_twice old mid new first.stays second.stays;
     stops = λ mode why is. first.stops mode why (second.stops mode why is);
   }
+
+-- an open list with one outcome more
+module _ (q : Question) (own : own.Mode) (old new : Found) (in_order : IsInOrder new) (keeps : KeepsNumbers old.listed.items new.listed.items)
+    (runs : AreRunsOf q (machine_mode q.program own) old.runs old.outcomes.items → AreRunsOf q (machine_mode q.program own) new.runs new.outcomes.items) where
+  pub grows_open : Grows q (Open old own) (Open new own)
+  grows_open = record { in_order = in_order; keeps = keeps; runs = runs; stays = (new, refl); stops = λ mode why is. tt }
+
+stopped : (T U : Type 0) (why : Stop) (P Q : Type 0) → (P → Q) → OnTold {T = T} (Err why) P → OnTold {T = U} (Err why) Q
+stopped T U (stop.New run) P Q follows part = follows part
+stopped T U stop.OutOfMemory P Q follows part = tt
+
+-- a search that stops as a part of it did
+pub stops_as : (T U : Type 0) (why : Stop) (result : Result U Stop) (P Q : Type 0) → IsErrAnd result (λ other. other ≡ why) → (P → Q) → OnTold {T = T} (Err why) P → OnTold result Q
+stops_as T U why (Ok made) P Q same follows part = absurd same
+stops_as T U why (Err other) P Q same follows part = subst (λ (w : Stop). OnTold {T = U} (Err w) Q) (sym same) (stopped T U why P Q follows part)
 
 -- a tree stays valid where each outcome keeps its number
 module _ (q : Question) (mode : Mode) (old new : List Outcome) (keeps : KeepsNumbers old new) where

@@ -1,20 +1,21 @@
-use Rattle.std.proofs.Common.{List, [], ◌∷◌, get_or, map, take, refl, sym, ap, ◌∙◌, subst, arith}
+use Rattle.std.proofs.Common.{List, [], ◌∷◌, Err, get_or, map, take, refl, sym, ap, ◌∙◌, subst, arith}
 use Rattle.std.specs.Option.{MatchOption}
 use Rattle.std.proofs.lemmas.List.{map-append, length-map}
 use Rattle.tso_program.specs.declared.outcome.Outcome.{Outcome}
 use Rattle.tso_program.specs.Shown.{asked}
+use Rattle.cert_forest.specs.declared.tree.CoverTree.{CoverTree}
 use Rattle.cert_forest.specs.Views.{cover}
 use Rattle.exec_axioms.specs.Complete.{IsComplete}
-use Rattle.exec_axioms.specs.ProgramSketches.{ProgramSketch, mode_in, with_chosen}
+use Rattle.exec_axioms.specs.ProgramSketches.{ProgramSketch, with_chosen}
 use Rattle.cover_judge.specs.declared.choice.Choice.{Choice}
 use Rattle.cover_judge.specs.declared.choice.Choice.TheVariants as choice
 use Rattle.cover_judge.specs.Choices.{sketch_with, MayChoose}
 use Rattle.cover_judge.proofs.SketchesAfter.{comes_after}
 use Rattle.cover_solver.specs.Choices.{IsBranch}
 use Rattle.cover_solver.specs.Covers.{IsValidAt, IsCoverAt, AreCoversAfter, AreChildren, IsArity}
-use Rattle.cover_solver.specs.Listed.{listed, Grows}
+use Rattle.cover_solver.specs.Listed.{listed, Grows, OnTold}
 use Rattle.cover_solver.specs.Internal.Accesses.{AreAccessesOf}
-use Rattle.cover_solver.proofs.Growing.{grows_twice, covers_still}
+use Rattle.cover_solver.proofs.Growing.{grows_none, grows_twice, stops_as, covers_still}
 use Rattle.cover_solver.proofs.Rounds.{rounds, fewer_rounds}
 use Rattle.cover_solver.proofs.NothingLeft.{accesses_after}
 use Rattle.cover_solver.proofs.Nodes.{cover_next, cover_without, covers_more, node_cover, node_arity}
@@ -63,9 +64,9 @@ cover_each-loop-choice-preserved t c =
     let ch = get_or c.args.choices.now i d in
     let tree = c.in_ok-tree.tree in
     let same = c.loop-choice.invariant.0 in
-    let grows = subst (λ (k : ProgramSketch). Grows (asked k.program shown) (mode_in k) mid new) same c.in_ok-tree.ensures.grows in (
+    let grows = subst (λ (k : ProgramSketch). Grows (asked k.program shown) mid new) same c.in_ok-tree.ensures.grows in (
       c.is_valid.ensures.kept ∙ c.cover_after.ensures.kept ∙ same,
-      grows_twice (asked s.program shown) (mode_in s) c.args.outcomes.now mid new c.loop-choice.invariant.1 grows,
+      grows_twice (asked s.program shown) c.args.outcomes.now mid new c.loop-choice.invariant.1 grows,
       covers_more s shown (listed new) lawful c.args.choices.now (map cover c.loop-choice.trees.items) (map cover c.push.new.self.items) i d (cover tree) c.loop-choice-test.true
           (ap (map cover) c.in_ok-push.ensures.items ∙ map-append cover c.loop-choice.trees.items (tree ∷ []))
           (covers_still s shown (listed mid) (listed new) (take i c.args.choices.now) (map cover c.loop-choice.trees.items) grows.keeps c.loop-choice.invariant.2)
@@ -80,8 +81,8 @@ cover_each-returns-then-branch-clause-grows t c =
     let mid = c.loop-choice.outcomes in
     let new = c.cover_after.new.outcomes in
     let same = c.loop-choice.invariant.0 in
-    grows_twice (asked s.program shown) (mode_in s) c.args.outcomes.now mid new c.loop-choice.invariant.1
-    (subst (λ (k : ProgramSketch). Grows (asked k.program shown) (mode_in k) mid new) same c.in_ok-tree.ensures.grows)
+    grows_twice (asked s.program shown) c.args.outcomes.now mid new c.loop-choice.invariant.1
+    (subst (λ (k : ProgramSketch). Grows (asked k.program shown) mid new) same c.in_ok-tree.ensures.grows)
 
 pub cover_after-cover_from-covered-requires : goal.cover_after-cover_from-covered-requires
 cover_after-cover_from-covered-requires t c =
@@ -121,3 +122,27 @@ cover_from-returns-in-Each-clause-tree t c =
     subst (IsCoverAt s shown outcomes) (sym c.in_ok-node_over-in-Each.ensures)
     (node_cover s shown outcomes c.program.ensures.lawful c.in-Some-2.branch.next choices trees
     c.program.ensures.registers is_branch.is_open is_branch.choices are)
+
+pub cover_each-loop-choice-init : goal.cover_each-loop-choice-init
+cover_each-loop-choice-init t c =
+    let s = c.args.sketch.now in
+    let shown = c.args.shown.now in
+    let outcomes = listed c.args.outcomes.now in
+    let none : AreCoversAfter s shown outcomes [] [] = record { valid = tt; neat = record { numbers = tt; simple = tt }; shallow = (let few = c.program.ensures.few in omega arith) } in (
+      refl,
+      grows_none (asked s.program shown) c.args.outcomes.now c.requires.in_order,
+      subst (λ (trees : List CoverTree). AreCoversAfter s shown outcomes [] (map cover trees)) (sym c.new-trees.ensures.items) none,
+    )
+
+pub cover_each-returns-in_err-tree-clause-grows : goal.cover_each-returns-in_err-tree-clause-grows
+cover_each-returns-in_err-tree-clause-grows t c = 
+    let s = c.args.sketch.now in
+    let shown = c.args.shown.now in
+    let mid = c.loop-choice.outcomes in
+    let new = c.cover_after.new.outcomes in
+    let whole = asked s.program shown in
+    let grows = subst (λ (k : ProgramSketch). OnTold {T = CoverTree} (Err c.in_err-tree.field-0.0) (Grows (asked k.program shown) mid new)) c.loop-choice.invariant.0 c.in_err-tree.ensures.grows in
+    stops_as CoverTree _ c.in_err-tree.field-0.0 c.from_residual.result (Grows whole mid new) (Grows whole c.args.outcomes.now new) (c.from_residual.ensures.1) (grows_twice whole c.args.outcomes.now mid new c.loop-choice.invariant.1) grows
+
+pub cover_from-returns-in-Some-clause-grows : goal.cover_from-returns-in-Some-clause-grows
+cover_from-returns-in-Some-clause-grows t c = grows_none (asked c.args.sketch.now.program c.args.shown.now) c.args.outcomes.now c.requires.in_order

@@ -1,6 +1,5 @@
 use Rattle.std.proofs.Common.{◌≡◌, ◌+◌, map, take}
 use Rattle.tso_program.specs.Shown.{asked}
-use Rattle.exec_axioms.specs.ProgramSketches.{mode_in}
 use Rattle.cert_forest.specs.Views.{cover}
 use Rattle.cover_solver.specs.Covers.{AreCoversAfter}
 use Rattle.cover_solver.specs.Listed.{listed, Grows}
@@ -19,4 +18,4 @@ decreases-cover_after l = rounds l.sketch.now
 -- the sketch is as before, the list has grown, and the trees are valid over it after the choices so far
 abbrev pub invariant-cover_each-loop-choice : goal.invariant-cover_each-loop-choice
 invariant-cover_each-loop-choice l =
-    (l.sketch ≡ l.fn.sketch) × Grows (asked l.fn.sketch.program l.shown) (mode_in l.fn.sketch) l.fn.outcomes l.outcomes × AreCoversAfter l.fn.sketch l.shown (listed l.outcomes) (take l.choice-index l.choices) (map cover l.trees.items)
+    (l.sketch ≡ l.fn.sketch) × Grows (asked l.fn.sketch.program l.shown) l.fn.outcomes l.outcomes × AreCoversAfter l.fn.sketch l.shown (listed l.outcomes) (take l.choice-index l.choices) (map cover l.trees.items)
