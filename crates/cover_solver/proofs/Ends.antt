@@ -1,5 +1,5 @@
 -- How sketches end, as far as it is shown.
-use Rattle.std.proofs.Common.{◌≡◌, ℕ, ◌<◌, Bool, true, false, List, Some, Contains, slice_get, length, slice_index, refl, sym, ap, ◌∙◌, subst, arith}
+use Rattle.std.proofs.Common.{◌≡◌, ℕ, ◌<◌, Bool, true, false, length, slice_index, refl, sym, ap, ◌∙◌, subst, arith}
 use Rattle.tso_program.specs.declared.outcome.Outcome.{Outcome}
 use Rattle.tso_program.specs.declared.shown.Shown.{Shown}
 use Rattle.tso_program.specs.Shown.{show, shown_value, shows_location, value_if, asked}
@@ -8,12 +8,9 @@ use Rattle.candidate_executions.specs.declared.event.Event.{Event}
 use Rattle.candidate_executions.specs.Candidates.{Writes}
 use Rattle.candidate_executions.specs.Sketches.{MayBeLast, MustEndAs}
 use Rattle.exec_axioms.specs.ProgramSketches.{ProgramSketch, mode_in, access_in}
-use Rattle.exec_axioms.specs.Completions.{MustEndSo}
 use Rattle.run_maker.specs.declared.run.MadeRun.{MadeRun}
 use Rattle.run_maker.specs.MadeRuns.{IsMadeRun}
-use Rattle.tree_laws.specs.CoverTrees.{MustEndAsNumber}
 use Rattle.cover_solver.specs.Internal.Runs.{IsShownRunOf}
-use Rattle.cover_solver.specs.Covers.{IsEndNotListed}
 
 twice : (b : Bool) (v : ℕ) → value_if b (value_if b v) ≡ value_if b v
 twice true v = refl
@@ -42,12 +39,3 @@ shown_run_of s shown run made is same = subst (IsShownRunOf s shown) (sym same) 
   must_end = shown_end s shown run.outcome (is.must_end shown);
   as_shown = shown_twice shown run.outcome;
 })
-
--- the end has this place in the list
-pub end_at : (s : ProgramSketch) (shown : Shown) (outcomes : List Outcome) (n : ℕ) (end : Outcome) → MustEndSo s shown end → slice_get outcomes n ≡ Some end →
-    MustEndAsNumber (asked s.program shown) (mode_in s) outcomes s.chosen n
-end_at s shown outcomes n end must at = record { outcome = end; is_outcome = at; must_end = must.must_end }
-
--- the end is not in the list
-pub end_not_there : (s : ProgramSketch) (shown : Shown) (outcomes : List Outcome) (end : Outcome) → MustEndSo s shown end → (Contains outcomes end → ⊥) → IsEndNotListed s shown outcomes
-end_not_there s shown outcomes end must none acyclic o ends here = none (subst (Contains outcomes) (must.only acyclic o ends) here)

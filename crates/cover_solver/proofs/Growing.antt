@@ -1,7 +1,6 @@
 -- Lists of outcomes that grow, and the trees over them.
-use Rattle.std.proofs.Common.{◌≡◌, ℕ, List, [], ◌∷◌, Contains, map, refl, sym, subst}
-use Rattle.std.specs.Option.{MatchOption}
-use Rattle.std.specs.Prelude.{Option, Some, None, Result, Ok, Err}
+use Rattle.std.proofs.Common.{◌≡◌, List, [], ◌∷◌, map, refl, sym, subst}
+use Rattle.std.specs.Prelude.{Result, Ok, Err}
 use Rattle.std.specs.Result.{IsErrAnd}
 use Rattle.tso_program.specs.declared.outcome.Outcome.{Outcome}
 use Rattle.tso_program.specs.declared.shown.Shown.{Shown}
@@ -11,9 +10,8 @@ use Rattle.tso_machine.specs.Machine.{Mode}
 use Rattle.tso_machine.specs.Modes.{machine_mode}
 use Rattle.candidate_executions.specs.Sketches.{Sketch, with_value, with_source, with_pair}
 use Rattle.exec_axioms.specs.ProgramSketches.{ProgramSketch, mode_in, with_chosen}
-use Rattle.exec_axioms.specs.Completions.{MustEndSo}
 use Rattle.cert_forest.specs.Trees.{Cover, Value, Source, Order, Cycle, Known, Covers, NoCover, MoreCovers, covers_of}
-use Rattle.tree_laws.specs.CoverTrees.{event_of, MustEndAsNumber, IsValidCover, AreValidCovers}
+use Rattle.tree_laws.specs.CoverTrees.{event_of, IsValidCover, AreValidCovers}
 use Rattle.cover_judge.specs.declared.choice.Choice.{Choice}
 use Rattle.cover_judge.specs.Choices.{sketch_with}
 use Rattle.cover_judge.proofs.SketchesAfter.{moved}
@@ -22,10 +20,9 @@ use Rattle.cover_solver.specs.declared.fault.Stop.TheVariants as stop
 use Rattle.cover_solver.specs.declared.found.Found.{Found}
 use Rattle.cover_solver.specs.declared.listed.Listed.{Listed}
 use Rattle.cover_solver.specs.declared.listed.Listed.TheVariants.{Closed, Open}
-use Rattle.cover_solver.specs.Covers.{AreCoversAfter, IsEndNotListed}
-use Rattle.cover_solver.specs.Found.{HasNumber, KeepsNumbers, IsInOrder, AreRunsOf}
+use Rattle.cover_solver.specs.Covers.{AreCoversAfter}
+use Rattle.cover_solver.specs.Found.{KeepsNumbers, IsInOrder, AreRunsOf}
 use Rattle.cover_solver.specs.Listed.{AreInOrder, StaysOf, StopIs, Grows, OnTold}
-use Rattle.cover_solver.proofs.Ends.{end_at, end_not_there}
 
 stays : (outcomes : Listed) → StaysOf outcomes outcomes
 stays (Closed outcomes) = refl
@@ -50,11 +47,11 @@ module _ (q : Question) where
     stops = λ mode why is. first.stops mode why (second.stops mode why is);
   }
 
--- an open list with one outcome more
-module _ (q : Question) (own : own.Mode) (old new : Found) (in_order : IsInOrder new) (keeps : KeepsNumbers old.listed.items new.listed.items)
-    (runs : AreRunsOf q (machine_mode q.program own) old.runs old.outcomes.items → AreRunsOf q (machine_mode q.program own) new.runs new.outcomes.items) where
-  pub grows_open : Grows q (Open old own) (Open new own)
-  grows_open = record { in_order = in_order; keeps = keeps; runs = runs; stays = (new, refl); stops = λ mode why is. tt }
+-- an open list that found more
+module _ (q : Question) (mode : own.Mode) (old new : Found) (in_order : IsInOrder new) (keeps : KeepsNumbers old.listed.items new.listed.items)
+    (runs : AreRunsOf q (machine_mode q.program mode) old.runs old.outcomes.items → AreRunsOf q (machine_mode q.program mode) new.runs new.outcomes.items) where
+  pub grows_open : Grows q (Open old mode) (Open new mode)
+  grows_open = record { in_order = in_order; keeps = keeps; runs = runs; stays = (new, refl); stops = λ of why is. tt }
 
 stopped : (T U : Type 0) (why : Stop) (P Q : Type 0) → (P → Q) → OnTold {T = T} (Err why) P → OnTold {T = U} (Err why) Q
 stopped T U (stop.New run) P Q follows part = follows part
@@ -92,12 +89,6 @@ covers_still s shown old new choices trees keeps are = record {
   neat = are.neat;
   shallow = are.shallow;
 }
-
--- the number of the outcome as which a sketch must end
-pub ended : (s : ProgramSketch) (shown : Shown) (outcomes : List Outcome) (end : Outcome) (number : Option ℕ) → MustEndSo s shown end → MatchOption number (Contains outcomes end → ⊥) (λ n. HasNumber outcomes n end) →
-    MatchOption number (IsEndNotListed s shown outcomes) (MustEndAsNumber (asked s.program shown) (mode_in s) outcomes s.chosen)
-ended s shown outcomes end None must none = end_not_there s shown outcomes end must none
-ended s shown outcomes end (Some n) must at = end_at s shown outcomes n end must at
 
 -- what the search at the sketch after a choice does, and why it stops, is so at the sketch
 module _ (s next : ProgramSketch) (shown : Shown) (c : Choice) (same : next ≡ with_chosen s (sketch_with s.chosen c)) where

@@ -1,5 +1,5 @@
-//! The search for a cover tree over a list of outcomes. An open list takes each outcome that is new; a
-//! closed list ends the search there.
+//! The search for a cover tree over a list of outcomes. Where it comes to a new outcome, an open list adds
+//! that of the same choices in its own mode. A new outcome that the list then still lacks ends the search.
 ghost use Rattle.std.specs.Prelude.{◌≡◌, IfOk, IfErr, IsTrue, map, length};
 ghost use Rattle.tso_program.specs.Shown.{asked};
 ghost use Rattle.candidate_executions.specs.Sketches.{IsWhole};
@@ -82,7 +82,8 @@ fn cover_from(
     }
 }
 
-/// The leaf of a complete sketch that nothing closes: its outcome is new.
+/// The leaf of a complete sketch that nothing closes: its outcome is new. The search stops with its run if
+/// the list does not take the outcome.
 fn end(
     alloc: Global,
     sketch: &Sketch,

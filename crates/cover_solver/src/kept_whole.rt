@@ -14,7 +14,7 @@ use exec_axioms::Sketch;
 use std::alloc::{AllocError, Global};
 use tso_program::Shown;
 
-/// What is kept of the sketch: a tree, or a hole if some run has an outcome that the list doesn't take.
+/// What is kept of the sketch: a tree, or a hole if some run has an outcome that the list does not take.
 pub(crate) fn kept_whole(
     alloc: Global,
     sketch: &mut Sketch,

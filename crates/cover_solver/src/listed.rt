@@ -21,7 +21,7 @@ use tso_program::{Outcome, Shown};
 pub(crate) enum Listed<'a> {
     /// These alone. They ascend, and the number of an outcome is its place.
     Closed(&'a [Outcome]),
-    /// Those that are found so far. Each new one is added that a run in the mode has.
+    /// Those that are found so far, each with a run in the mode. The search adds to them.
     Open { found: Found, mode: Mode },
 }
 
@@ -55,8 +55,8 @@ impl Listed<'_> {
         }
     }
 
-    /// Adds the outcome of the run with these choices in the mode of the list, if there is one. A closed list takes
-    /// no other outcome.
+    /// Adds the outcome of the run with the sketch's choices in the mode of the list. Adds nothing if they
+    /// are not complete in that mode, or have a cycle there. A closed list stays as it is.
     pub(crate) fn add(
         &mut self,
         alloc: Global,

@@ -1,4 +1,4 @@
-//! Sketches of another mode.
+//! Sketches with the same choices in another mode.
 ghost use Rattle.std.specs.Prelude.{◌≡◌, IfOk, OnOk};
 ghost use Rattle.cover_solver.specs.Combined.{AreAlike};
 
@@ -7,7 +7,8 @@ use cover_judge::{Choice, choose, event_of, value_choices};
 use exec_axioms::{Mode, Sketch, SketchFault};
 use std::alloc::{AllocError, Global};
 
-/// The sketch in a mode, with the values, sources and orders that are chosen here.
+/// The sketch in a mode, with the same values, sources and orders. A choice that the mode does not allow is
+/// left out.
 pub(crate) fn sketch_in(
     alloc: Global,
     sketch: &Sketch,
@@ -18,15 +19,23 @@ pub(crate) fn sketch_in(
     ensures mode { IfOk result (λ same. same.mode ≡ mode) }
 {
     let mut same = Sketch::new(alloc, sketch.program(), mode)?;
-    let threads = sketch.program().threads().len() as u8;
-    for t in 0..threads {
-        give_each(alloc, &mut same, t, sketch.given(t))?;
-    }
+    give_values(alloc, &mut same, sketch)?;
     choose_sources(&mut same, sketch, &accesses.reads)?;
     for write in &accesses.writes {
         choose_orders(&mut same, sketch, *write, &accesses.writes)?;
     }
     Ok(same)
+}
+
+/// Gives the reads of each thread the values that they have in the other sketch.
+fn give_values(alloc: Global, same: &mut Sketch, sketch: &Sketch) -> Result<(), AllocError>
+    ensures { OnOk result (AreAlike same.new same.old) }
+{
+    let threads = sketch.program().threads().len() as u8;
+    for t in 0..threads {
+        give_each(alloc, same, t, sketch.given(t))?;
+    }
+    Ok(())
 }
 
 /// Gives the next reads of a thread these values.
@@ -94,9 +103,8 @@ fn choose_orders(
     Ok(())
 }
 
-/// Whether memory was out. A choice that may not be made is left out.
-fn out_of_memory(chosen: Result<(), SketchFault>) -> Result<(), AllocError>
-{
+/// Reports out of memory alone: a choice that the mode does not allow is left out.
+fn out_of_memory(chosen: Result<(), SketchFault>) -> Result<(), AllocError> {
     match chosen {
         Err(SketchFault::OutOfMemory) => Err(AllocError),
         _ => Ok(()),

@@ -135,7 +135,7 @@ cover_each-loop-choice-init t c =
     )
 
 pub cover_each-returns-in_err-tree-clause-grows : goal.cover_each-returns-in_err-tree-clause-grows
-cover_each-returns-in_err-tree-clause-grows t c = 
+cover_each-returns-in_err-tree-clause-grows t c =
     let s = c.args.sketch.now in
     let shown = c.args.shown.now in
     let mid = c.loop-choice.outcomes in

@@ -2,8 +2,5 @@ use Rattle.std.proofs.Common.{◌≡◌}
 use Rattle.cover_solver.proofs.sketch_in.sketch_in.Given as goal
 
 -- the sketch is of the program, and in the mode
-abbrev pub invariant-loop-t : goal.invariant-loop-t
-invariant-loop-t l = (l.same.program ≡ l.fn.sketch.program) × (l.same.mode ≡ l.fn.mode)
-
 abbrev pub invariant-loop-write : goal.invariant-loop-write
 invariant-loop-write l = (l.same.program ≡ l.fn.sketch.program) × (l.same.mode ≡ l.fn.mode)

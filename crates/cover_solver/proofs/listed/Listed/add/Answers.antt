@@ -1,4 +1,4 @@
-use Rattle.std.proofs.Common.{◌≡◌, IfSome, sym, ◌∙◌, subst}
+use Rattle.std.proofs.Common.{IfSome, sym, ◌∙◌, subst}
 use Rattle.tso_program.specs.declared.listing.Listing.{Listing}
 use Rattle.tso_program.specs.Shown.{asked}
 use Rattle.tso_machine.specs.declared.mode.Mode as own
@@ -29,6 +29,6 @@ returns-after-branch-3 c =
           subst (λ (new : Listed). Grows q c.args.self.now new) (sym w.self-is)
           (subst (λ (old : Listed). Grows q old (Open w.add.new.self mode)) (sym c.in-Open.is)
           (grows_open q mode found w.add.new.self w.in_ok-add.ensures.in_order w.in_ok-add.ensures.keeps (λ are. w.in_ok-add.ensures.runs q (machine_mode p mode) are is_run)))
-      )
+          )
       | in_default-2 w ↦ subst (λ (new : Listed). Grows q c.args.self.now new) (c.in-Open.is ∙ sym w.self-is) (grows_none q c.args.self.now c.requires)
     ]
