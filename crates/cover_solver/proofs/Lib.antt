@@ -7,6 +7,7 @@ pub mod Growing
 pub mod ChangedTrees
 pub mod TighterTrees
 pub mod Renumbering
+pub mod KeptRenumbered
 pub mod Ends
 pub mod AccessesNamed
 pub mod Leaves

@@ -4,8 +4,9 @@ ghost use Rattle.tso_program.specs.Shown.{asked};
 ghost use Rattle.tso_machine.specs.Outcomes.{IsSequentialOutcome};
 ghost use Rattle.cert_forest.specs.Views.{cover};
 ghost use Rattle.cover_solver.specs.Facts.{IsSequentialTable};
+ghost use Rattle.cover_solver.specs.Kept.{kept, IsKept};
 
-use crate::all_outcomes::all_outcomes;
+use crate::all_outcomes::{Covered, all_outcomes};
 use crate::fault::SolveFault;
 use crate::kept_tree::KeptTree;
 use crate::ordered::place_of;
@@ -58,16 +59,19 @@ pub fn sequential(alloc: Global, program: &Program, shown: &Shown) -> Result<Seq
     ensures fault { IfErr result (λ fault. fault ≡ SolveFault.OutOfMemory) }
 {
     let all = all_outcomes(alloc, program, shown, Mode::Sequential)?;
-    let places = all.found.places(alloc)?;
-    let mut tree = all.tree;
+    let Covered {
+        found,
+        mut kept,
+        mut tree,
+    } = all;
+    let places = found.places(alloc)?;
     renumber(&mut tree, &places);
-    let mut kept = all.kept;
     renumber_kept(&mut kept, &places);
     Ok(SeqTable {
         program: program.copy()?,
         shown: *shown,
-        outcomes: all.found.outcomes,
-        runs: all.found.runs,
+        outcomes: found.outcomes,
+        runs: found.runs,
         tree,
         kept: Arc::new(alloc, kept)?,
     })
