@@ -51,12 +51,12 @@ fn are_closed(trees: &[KeptTree]) -> bool
 }
 
 /// The trees, none of which has a hole.
-fn closed_trees(alloc: Global, made: Vec<KeptTree>) -> Result<Vec<CoverTree>, AllocError>
-    requires { AreClosed (map kept made.items) }
-    ensures { IfOk result (λ trees. map kept made.items ≡ map Closed (map cover trees.items)) }
+fn closed_trees(alloc: Global, kept: Vec<KeptTree>) -> Result<Vec<CoverTree>, AllocError>
+    requires { AreClosed (map kept kept.items) }
+    ensures { IfOk result (λ trees. map kept kept.items ≡ map Closed (map cover trees.items)) }
 {
-    let mut trees = Vec::with_capacity(alloc, made.len())?;
-    for tree in made {
+    let mut trees = Vec::with_capacity(alloc, kept.len())?;
+    for tree in kept {
         match tree {
             KeptTree::Closed(tree) => trees.push(tree)?,
             _ => unreachable!(),

@@ -1,5 +1,6 @@
 //! The sequential outcomes of a program.
 ghost use Rattle.std.specs.Prelude.{◌≡◌, ◌↔◌, IfOk, IfErr, IsTrue};
+ghost use Rattle.std.specs.Arc.{arc_value};
 ghost use Rattle.tso_program.specs.Shown.{asked};
 ghost use Rattle.tso_machine.specs.Outcomes.{IsSequentialOutcome};
 ghost use Rattle.cert_forest.specs.Views.{cover};
@@ -45,10 +46,12 @@ impl Model for SeqTable {
     ghost use Rattle.cert_forest.specs.Views.{cover};
     ghost use Rattle.cover_solver.specs.Facts.{IsSequentialTable};
     ghost use Rattle.tso_program.specs.Shown.{asked};
+    ghost use Rattle.std.specs.Arc.{arc_value};
+    ghost use Rattle.cover_solver.specs.Kept.{kept, IsKept};
 
     ghost view = { λ t. record { question = asked t.program t.shown; outcomes = t.outcomes.items; runs = t.runs; tree = cover t.tree } };
 
-    ghost invariant = { λ t. IsSequentialTable (record { question = asked t.program t.shown; outcomes = t.outcomes.items; runs = t.runs; tree = cover t.tree }) };
+    ghost invariant = { λ t. IsSequentialTable (record { question = asked t.program t.shown; outcomes = t.outcomes.items; runs = t.runs; tree = cover t.tree }) × IsKept t.program t.shown t.outcomes.items (kept (arc_value t.kept)) };
 }
 
 /// The sequential outcomes of a program, as far as they are shown. The search finds them in some order, and
@@ -117,7 +120,7 @@ impl SeqTable {
 
     /// What the search for the tree keeps, shared.
     pub(crate) fn kept(&self) -> Result<Arc<KeptTree>, AllocError>
-        ensures { IfOk result (λ shared. IsKept self.now.question.program self.now.question.shown self.now.outcomes (kept shared.now)) }
+        ensures { IfOk result (λ shared. IsKept self.now.question.program self.now.question.shown self.now.outcomes (kept (arc_value shared))) }
     {
         Arc::try_clone(&self.kept)
     }
