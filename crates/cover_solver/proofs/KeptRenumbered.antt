@@ -12,7 +12,6 @@ use Rattle.cert_forest.specs.Trees.{Cover}
 use Rattle.cover_judge.specs.declared.choice.Choice.{Choice}
 use Rattle.cover_judge.specs.Choices.{sketch_with}
 use Rattle.cover_solver.specs.declared.kept_tree.KeptTree.{KeptTree}
-use Rattle.cover_solver.specs.Covers.{IsCoverAt}
 use Rattle.cover_solver.specs.Found.{HasNumber, place_in, ArePlacesOf}
 use Rattle.cover_solver.specs.Kept.{KeptCover, Closed, Values, Hole, KeptCovers, NoKept, MoreKept, kept, kept_of, IsKeptAt, AreKeptAfter, IsKept}
 use Rattle.cover_solver.specs.Renumbered.{renumbered, renumbered_kept, renumbered_each_kept}

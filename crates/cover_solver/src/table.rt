@@ -47,11 +47,11 @@ impl Model for SeqTable {
     ghost use Rattle.cover_solver.specs.Facts.{IsSequentialTable};
     ghost use Rattle.tso_program.specs.Shown.{asked};
     ghost use Rattle.std.specs.Arc.{arc_value};
-    ghost use Rattle.cover_solver.specs.Kept.{kept, IsKept};
+    ghost use Rattle.cover_solver.specs.Kept.{IsKept, kept as kept_cover};
 
     ghost view = { λ t. record { question = asked t.program t.shown; outcomes = t.outcomes.items; runs = t.runs; tree = cover t.tree } };
 
-    ghost invariant = { λ t. IsSequentialTable (record { question = asked t.program t.shown; outcomes = t.outcomes.items; runs = t.runs; tree = cover t.tree }) × IsKept t.program t.shown t.outcomes.items (kept (arc_value t.kept)) };
+    ghost invariant = { λ t. IsSequentialTable (record { question = asked t.program t.shown; outcomes = t.outcomes.items; runs = t.runs; tree = cover t.tree }) × IsKept t.program t.shown t.outcomes.items (kept_cover (arc_value t.kept)) };
 }
 
 /// The sequential outcomes of a program, as far as they are shown. The search finds them in some order, and
