@@ -1,20 +1,18 @@
 -- What is kept, with other numbers for its outcomes.
-use Rattle.std.proofs.Common.{◌≡◌, ℕ, suc, ◌<◌, List, [], ◌∷◌, get_or, map, length, refl, ap, sym, ◌∙◌, subst, arith}
+use Rattle.std.proofs.Common.{◌≡◌, ℕ, suc, ◌<◌, List, [], ◌∷◌, get_or, map, length, refl, sym, subst, arith}
 use Rattle.std.specs.Prelude.{◌^◌}
 use Rattle.std.specs.FinSet as set
 use Rattle.tso_program.specs.declared.listing.Listing.{Listing}
 use Rattle.tso_program.specs.declared.outcome.Outcome.{Outcome}
 use Rattle.tso_program.specs.declared.shown.Shown.{Shown}
-use Rattle.tso_program.specs.Shown.{asked}
 use Rattle.tso_machine.specs.declared.mode.Mode.TheVariants as modes
-use Rattle.exec_axioms.specs.ProgramSketches.{ProgramSketch, mode_in, nothing_chosen, with_chosen}
-use Rattle.cert_forest.specs.Trees.{Cover}
+use Rattle.exec_axioms.specs.ProgramSketches.{ProgramSketch, nothing_chosen, with_chosen}
 use Rattle.cover_judge.specs.declared.choice.Choice.{Choice}
 use Rattle.cover_judge.specs.Choices.{sketch_with}
 use Rattle.cover_solver.specs.declared.kept_tree.KeptTree.{KeptTree}
 use Rattle.cover_solver.specs.Found.{HasNumber, place_in, ArePlacesOf}
 use Rattle.cover_solver.specs.Kept.{KeptCover, Closed, Values, Hole, KeptCovers, NoKept, MoreKept, kept, kept_of, IsKeptAt, AreKeptAfter, IsKept}
-use Rattle.cover_solver.specs.Renumbered.{renumbered, renumbered_kept, renumbered_each_kept}
+use Rattle.cover_solver.specs.Renumbered.{renumbered_kept, renumbered_each_kept}
 use Rattle.cover_solver.proofs.Renumbering.{cover_renumbered}
 
 -- trees in memory, each of which has its other numbers

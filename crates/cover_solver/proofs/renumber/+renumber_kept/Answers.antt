@@ -1,9 +1,5 @@
-use Rattle.std.proofs.Common.{refl, rules, arith}
-use Rattle.cover_solver.specs.declared.kept_tree.KeptTree.TheViews.{the_lemmas}
-use Rattle.cover_solver.specs.declared.kept_tree.KeptTree.TheFolds.{fold_out-KeptTree}
+use Rattle.std.proofs.Common.{arith}
 use Rattle.cover_solver.specs.Found.{place_in}
-use Rattle.cover_solver.specs.Kept.{KeptCover, kept_node}
-use Rattle.cover_solver.specs.Renumbered.{renumbered_kept, renumbered_each_kept}
 use Rattle.cover_solver.proofs.KeptRenumbered.{each_kept_changed}
 use Rattle.cover_solver.proofs.renumber.+renumber_kept.Goals as goal
 
