@@ -12,4 +12,4 @@ returns c =
     let table = c.args.self.now in
     if_ok c.try_clone.result (λ shared. arc_value shared ≡ arc_value s.kept) (λ shared. IsKept table.question.program table.question.shown table.outcomes (kept (arc_value shared)))
     (λ shared same. subst (λ (t : Table). IsKept t.question.program t.question.shown t.outcomes (kept (arc_value shared))) c.self.view_is
-        (subst (λ (tree : KeptTree). IsKept s.program s.shown s.outcomes.items (kept tree)) (sym same) c.self.invariant.1)) c.try_clone.ensures
+    (subst (λ (tree : KeptTree). IsKept s.program s.shown s.outcomes.items (kept tree)) (sym same) c.self.invariant.1)) c.try_clone.ensures
