@@ -7,6 +7,8 @@ pub mod Growing
 pub mod ChangedTrees
 pub mod TighterTrees
 pub mod Renumbering
+pub mod KeptRenumbered
+pub mod AllListed
 pub mod Ends
 pub mod AccessesNamed
 pub mod Leaves
