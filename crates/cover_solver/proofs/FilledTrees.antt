@@ -1,5 +1,5 @@
 -- Trees in any mode, made of what is kept with no gap fenced.
-use Rattle.std.proofs.Common.{◌≡◌, ℕ, true, false, List, Option, Some, None, refl, sym, ap, ◌∙◌, subst, arith}
+use Rattle.std.proofs.Common.{◌≡◌, ℕ, true, false, List, Option, Some, None, sym, ap, ◌∙◌, arith}
 use Rattle.std.specs.FinSet as set
 use Rattle.std.specs.Ordering.{nat_cmp}
 use Rattle.std.specs.Option.{option_map_or}

@@ -1,21 +1,19 @@
 -- What is kept of a search with no gap fenced, and the trees that are made of it.
-use Rattle.std.proofs.Common.{◌≡◌, ℕ, zero, suc, ◌+◌, ◌<◌, ◌≤◌, List, [], ◌∷◌, ◌++◌, get_or, length, map, take, All, refl, sym, ap, ◌∙◌, subst, arith}
-use Rattle.std.specs.Prelude.{◌⊎◌}
+use Rattle.std.proofs.Common.{◌≡◌, ℕ, zero, suc, ◌+◌, ◌<◌, List, [], ◌∷◌, ◌++◌, get_or, length, map, take, refl, sym, ap, subst, arith}
 use Rattle.std.proofs.Common.{inl, inr}
 use Rattle.std.proofs.lemmas.List.{take_more}
 use Rattle.tso_program.specs.declared.outcome.Outcome.{Outcome}
 use Rattle.tso_program.specs.declared.shown.Shown.{Shown}
-use Rattle.candidate_executions.specs.Sketches.{IsWhole}
 use Rattle.exec_axioms.specs.ProgramSketches.{ProgramSketch, mode_in, with_chosen}
 use Rattle.exec_axioms.specs.Kept.{IsLawful}
-use Rattle.exec_axioms.specs.Sizes.{choice_count, most_choices, HaveAllRegisters}
+use Rattle.exec_axioms.specs.Sizes.{HaveAllRegisters}
 use Rattle.exec_axioms.proofs.ChoicesCounted.{choices_few}
-use Rattle.cert_forest.specs.Trees.{Cover, Value, covers_of}
+use Rattle.cert_forest.specs.Trees.{Cover}
 use Rattle.cover_judge.specs.declared.choice.Choice.{Choice}
 use Rattle.cover_judge.specs.Choices.{AreValueChoices, MayChoose, sketch_with}
 use Rattle.cover_judge.proofs.ChoicesJudged.{next_is_open, values_may}
 use Rattle.cover_solver.specs.declared.choices_left.OpenChoice.TheVariants as left
-use Rattle.cover_solver.specs.Covers.{IsCoverAt, AreCoversAfter}
+use Rattle.cover_solver.specs.Covers.{AreCoversAfter}
 use Rattle.cover_solver.specs.Found.{KeepsNumbers}
 use Rattle.cover_solver.specs.Kept.{KeptCover, Closed, Values, Hole, KeptCovers, NoKept, MoreKept, kept_of, IsJoined, IsKeptAt, AreKeptAfter}
 use Rattle.cover_solver.proofs.Growing.{still_valid}

@@ -6,13 +6,9 @@ use Rattle.tso_program.specs.declared.shown.Shown.{Shown}
 use Rattle.exec_axioms.specs.ProgramSketches.{ProgramSketch, with_chosen}
 use Rattle.exec_axioms.specs.Kept.{IsLawful}
 use Rattle.exec_axioms.specs.Sizes.{HaveAllRegisters}
-use Rattle.exec_axioms.proofs.ChoicesCounted.{choices_few}
-use Rattle.cert_forest.specs.Trees.{Cover, Value, covers_of}
 use Rattle.cover_judge.specs.declared.choice.Choice.{Choice}
 use Rattle.cover_judge.specs.declared.choice.Choice.TheVariants as choice
 use Rattle.cover_judge.specs.Choices.{AreValueChoices, sketch_with}
-use Rattle.cover_judge.proofs.ChoicesJudged.{next_is_open}
-use Rattle.cover_solver.specs.declared.choices_left.OpenChoice.TheVariants as left
 use Rattle.cover_solver.specs.declared.tally.Tally.{Tally}
 use Rattle.cover_solver.specs.declared.traces.TraceTree.{TraceTree}
 use Rattle.cover_solver.specs.Combined.{AreAlike, IsBase, with_root}

@@ -13,10 +13,7 @@ pub(crate) enum KeptTree {
     /// A tree without a hole.
     Closed(CoverTree),
     /// What is kept for each value of the thread's next read. One of them has a hole.
-    Values {
-        thread: u8,
-        children: Vec<KeptTree>,
-    },
+    Values { thread: u8, children: Vec<KeptTree> },
     /// Each read has its value, and with no gap fenced there is a run whose outcome is not in the list.
     Hole,
 }

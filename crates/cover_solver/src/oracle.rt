@@ -126,7 +126,7 @@ impl Solver {
             program,
             shown: self.shown,
             set: *set,
-            tree,
+            tree: Arc::new(self.alloc, tree)?,
         }))
     }
 

@@ -4,7 +4,6 @@ use Rattle.tso_program.specs.Shown.{asked}
 use Rattle.candidate_executions.specs.Sketches.{IsWhole}
 use Rattle.exec_axioms.specs.ProgramSketches.{ProgramSketch, mode_in, with_chosen}
 use Rattle.cert_forest.specs.declared.tree.CoverTree.{CoverTree}
-use Rattle.cert_forest.specs.Trees.{Cover}
 use Rattle.cert_forest.specs.Views.{cover}
 use Rattle.tso_machine.specs.declared.mode.Mode as own
 use Rattle.tso_machine.specs.Modes.{machine_mode}

@@ -83,4 +83,4 @@ returns-after-loop-next-clause-tree t c =
     let past = subst (λ (xs : List TraceTree). length xs ≤ i) c.deref-next-items.ensures.value c.loop-next-test.false in
     if_ok c.over.result (λ made. IsJoined c.args.t children (kept made)) (λ made. IsKeptAt (with_root c.args.t s x) shown outcomes (kept made))
     (λ made joined. node_kept_at s c.args.t c.args.others.now c.requires.base c.program.ensures.lawful c.in-Read.own c.program-in-Read.ensures.lawful choices after x is c.requires.tree c.requires.alike
-        shown i past outcomes children (kept made) c.program.ensures.registers c.loop-next.invariant.1 joined) c.over.ensures
+    shown i past outcomes children (kept made) c.program.ensures.registers c.loop-next.invariant.1 joined) c.over.ensures

@@ -2,7 +2,6 @@ use Rattle.std.proofs.Common.{List, [], ◌∷◌, ◌∙◌, get_or, map, take,
 use Rattle.std.proofs.lemmas.List.{map-append}
 use Rattle.tso_program.specs.Shown.{asked}
 use Rattle.exec_axioms.specs.ProgramSketches.{ProgramSketch}
-use Rattle.cover_judge.specs.declared.choice.Choice.{Choice}
 use Rattle.cover_judge.specs.declared.choice.Choice.TheVariants as choice
 use Rattle.cover_judge.specs.Choices.{MayChooseEach}
 use Rattle.cover_judge.proofs.Answered.{if_ok}
