@@ -9,6 +9,8 @@ pub mod SameMachine
 pub mod ChangedTrees
 pub mod TighterTrees
 pub mod Renumbering
+pub mod KeptRenumbered
+pub mod AllListed
 pub mod Ends
 pub mod AccessesNamed
 pub mod Leaves
@@ -18,6 +20,9 @@ pub mod Tallied
 pub mod TraceTrees
 pub mod CombinedSketches
 pub mod CombinedCovers
+pub mod ClosedTrees
+pub mod KeptTrees
+pub mod FilledTrees
 pub mod TraceNodes
 pub mod Planned
 pub mod Neat

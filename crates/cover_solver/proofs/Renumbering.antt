@@ -3,14 +3,16 @@ use Rattle.std.proofs.Common.{◌≡◌, ℕ, suc, ◌<◌, List, [], ◌∷◌,
 use Rattle.std.specs.Prelude.{◌^◌, max}
 use Rattle.std.proofs.lemmas.Option.{slice_get_within}
 use Rattle.tso_program.specs.declared.outcome.Outcome.{Outcome}
-use Rattle.tso_program.specs.Shown.{Question}
+use Rattle.tso_program.specs.declared.shown.Shown.{Shown}
+use Rattle.tso_program.specs.Shown.{Question, asked}
 use Rattle.tso_machine.specs.Machine.{Mode}
 use Rattle.candidate_executions.specs.Sketches.{Sketch, empty_sketch, with_value, with_source, with_pair}
+use Rattle.exec_axioms.specs.ProgramSketches.{ProgramSketch, mode_in}
 use Rattle.cert_forest.specs.Trees.{Cover, Value, Source, Order, Cycle, Known, Covers, NoCover, MoreCovers}
 use Rattle.cert_forest.specs.Texts.{count_covers}
 use Rattle.cert_forest.specs.Limits.{cover_depth, covers_depth}
 use Rattle.tree_laws.specs.CoverTrees.{event_of, IsValidCover, AreValidCovers}
-use Rattle.cover_solver.specs.Covers.{IsNeat, AreNeat, IsWholeCover}
+use Rattle.cover_solver.specs.Covers.{IsNeat, AreNeat, IsCoverAt, IsWholeCover}
 use Rattle.cover_solver.specs.Found.{HasNumber}
 use Rattle.cover_solver.specs.Renumbered.{renumbered, renumbered_each}
 
@@ -79,3 +81,10 @@ module _ (q : Question) (mode : Mode) (old new : List Outcome) (place : ℕ → 
   whole_renumbered tree is =
       let made = fits tree (empty_sketch q.program) is.valid is.neat in
       record { valid = made.valid; neat = made.neat; shallow = (let same = made.depth in let below = is.shallow in omega arith) }
+
+-- and of a tree at any sketch
+pub cover_renumbered : (s : ProgramSketch) (shown : Shown) (old new : List Outcome) (place : ℕ → ℕ) → length new < 2 ^ 64 → ((n : ℕ) (o : Outcome) → HasNumber old n o → HasNumber new (place n) o) →
+    (tree : Cover) → IsCoverAt s shown old tree → IsCoverAt s shown new (renumbered place tree)
+cover_renumbered s shown old new place few moves tree is =
+    let made = fits (asked s.program shown) (mode_in s) old new place few moves tree s.chosen is.valid is.neat in
+    record { valid = made.valid; neat = made.neat; shallow = (let same = made.depth in let below = is.shallow in omega arith) }

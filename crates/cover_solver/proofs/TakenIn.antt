@@ -1,5 +1,5 @@
 -- What a sketch reads and writes, taken in access by access.
-use Rattle.std.proofs.Common.{◌≡◌, ◌⊎◌, ℕ, List, [], ◌∷◌, ◌++◌, Option, None, Some, IsSome, All, Contains, refl, sym, ap, ◌∙◌, subst, ◌<◌, length, inl, inr, arith}
+use Rattle.std.proofs.Common.{◌≡◌, ◌⊎◌, ℕ, List, [], ◌∷◌, ◌++◌, None, Some, IsSome, All, refl, sym, ap, ◌∙◌, subst, ◌<◌, length, inl, inr, arith}
 use Rattle.std.proofs.lemmas.List.Elements.{All-push, Contains-append_left, Contains-push}
 use Rattle.std.proofs.lemmas.Bool.{cases_lt}
 use Rattle.std.proofs.lemmas.Option.{same_Some}

@@ -6,21 +6,17 @@ use Rattle.tso_program.specs.declared.shown.Shown.{Shown}
 use Rattle.exec_axioms.specs.ProgramSketches.{ProgramSketch, with_chosen}
 use Rattle.exec_axioms.specs.Kept.{IsLawful}
 use Rattle.exec_axioms.specs.Sizes.{HaveAllRegisters}
-use Rattle.exec_axioms.proofs.ChoicesCounted.{choices_few}
-use Rattle.cert_forest.specs.Trees.{Cover, Value, covers_of}
 use Rattle.cover_judge.specs.declared.choice.Choice.{Choice}
 use Rattle.cover_judge.specs.declared.choice.Choice.TheVariants as choice
 use Rattle.cover_judge.specs.Choices.{AreValueChoices, sketch_with}
-use Rattle.cover_judge.proofs.ChoicesJudged.{next_is_open}
-use Rattle.cover_solver.specs.declared.choices_left.OpenChoice.TheVariants as left
 use Rattle.cover_solver.specs.declared.tally.Tally.{Tally}
 use Rattle.cover_solver.specs.declared.traces.TraceTree.{TraceTree}
 use Rattle.cover_solver.specs.Combined.{AreAlike, IsBase, with_root}
-use Rattle.cover_solver.specs.Covers.{IsCoverAt, AreCoversAfter}
+use Rattle.cover_solver.specs.Kept.{KeptCover, kept_of, IsJoined, IsKeptAt, AreKeptAfter}
 use Rattle.cover_solver.specs.Traces.{Traces, Read, traces, trees_of, root, first_choices, IsTraceTree}
-use Rattle.cover_solver.proofs.CombinedCovers.{child_alike, child_cover}
+use Rattle.cover_solver.proofs.CombinedCovers.{child_alike, child_parts}
 use Rattle.cover_solver.proofs.CombinedSketches.{lawful_merged, values_merged}
-use Rattle.cover_solver.proofs.Nodes.{covers_none, covers_more, node_cover}
+use Rattle.cover_solver.proofs.KeptTrees.{kept_more, node_kept}
 use Rattle.cover_solver.proofs.TraceTrees.{as_many_trees, child_tree}
 
 module _ (s : ProgramSketch) (t : ℕ) (others : Tally) (base : IsBase t s others) (lawful : IsLawful s) (u : ProgramSketch) (own : IsLawful u) (choices : List Choice) (after : List TraceTree)
@@ -60,28 +56,28 @@ module _ (s : ProgramSketch) (t : ℕ) (others : Tally) (base : IsBase t s other
     pub child_meets : IsTraceTree t (traces item) × AreAlike (root (traces item)) s
     child_meets = (child.1, child_alike s u t lawful base.alone base.there own alike choices tree.0 i (choice.Value 0 0) below (traces item) child.0)
 
-    -- a cover tree of it
-    pub one_cover_more : (outcomes : List Outcome) (covers more : List Cover) (made : Cover) → more ≡ covers ++ made ∷ [] → AreCoversAfter (with_root t s x) shown outcomes (take i (first_choices x)) covers →
-        IsCoverAt (with_root t s (traces item)) shown outcomes made → AreCoversAfter (with_root t s x) shown outcomes (take (i + 1) (first_choices x)) more
-    one_cover_more outcomes covers more made pushed before cover =
-        let next = child_cover s u t lawful base.alone base.there own alike choices tree.0 i (choice.Value 0 0) below (traces item) child.0 shown outcomes made cover in
-        subst (λ (y : Traces). AreCoversAfter (with_root t s y) shown outcomes (take (i + 1) (first_choices y)) more) (sym is)
-        (covers_more merged shown outcomes lawful_here choices covers more i (choice.Value 0 0) made below pushed
-        (subst (λ (y : Traces). AreCoversAfter (with_root t s y) shown outcomes (take i (first_choices y)) covers) is before) next)
+    -- what is kept of it
+    pub one_kept_more : (outcomes : List Outcome) (children more : List KeptCover) (made : KeptCover) → more ≡ children ++ made ∷ [] →
+        AreKeptAfter (with_root t s x) shown outcomes (kept_of children) (take i (first_choices x)) → IsKeptAt (with_root t s (traces item)) shown outcomes made →
+        AreKeptAfter (with_root t s x) shown outcomes (kept_of more) (take (i + 1) (first_choices x))
+    one_kept_more outcomes children more made pushed before made_is =
+        let next = subst (λ (n : ProgramSketch). IsKeptAt n shown outcomes made) (child_parts s u t lawful base.alone base.there own alike choices tree.0 i (choice.Value 0 0) below (traces item) child.0) made_is in
+        subst (λ (y : Traces). AreKeptAfter (with_root t s y) shown outcomes (kept_of more) (take (i + 1) (first_choices y))) (sym is)
+        (kept_more merged shown outcomes choices children more i (choice.Value 0 0) made below pushed
+        (subst (λ (y : Traces). AreKeptAfter (with_root t s y) shown outcomes (kept_of children) (take i (first_choices y))) is before) next)
 
   -- none yet
-  pub no_covers : (outcomes : List Outcome) → AreCoversAfter (with_root t s x) shown outcomes (take 0 (first_choices x)) []
-  no_covers outcomes = subst (λ (y : Traces). AreCoversAfter (with_root t s y) shown outcomes (take 0 (first_choices y)) []) (sym is) (covers_none merged shown outcomes lawful_here (choices_few merged lawful_here))
+  pub none_kept : (outcomes : List Outcome) → AreKeptAfter (with_root t s x) shown outcomes (kept_of []) (take 0 (first_choices x))
+  none_kept outcomes = tt
 
   module _ (i : ℕ) (past : length after ≤ i) where
     past_choices : length choices ≤ i
     past_choices = (let many = as_many in omega arith)
 
     -- the node over all of them
-    pub node_covered : (outcomes : List Outcome) (covers : List Cover) → HaveAllRegisters s.program.threads → AreCoversAfter (with_root t s x) shown outcomes (take i (first_choices x)) covers →
-        IsCoverAt (with_root t s x) shown outcomes (Value t (covers_of covers))
-    node_covered outcomes covers six before =
-        let each = subst (λ (y : Traces). AreCoversAfter (with_root t s y) shown outcomes (take i (first_choices y)) covers) is before in
-        let all = subst (λ (cs : List Choice). AreCoversAfter merged shown outcomes cs covers) (take_all i choices past_choices) each in
-        subst (λ (y : Traces). IsCoverAt (with_root t s y) shown outcomes (Value t (covers_of covers))) (sym is)
-        (node_cover merged shown outcomes lawful_here (left.Value t) choices covers six (next_is_open merged t are.values are.next) are all)
+    pub node_kept_at : (outcomes : List Outcome) (children : List KeptCover) (made : KeptCover) → HaveAllRegisters s.program.threads →
+        AreKeptAfter (with_root t s x) shown outcomes (kept_of children) (take i (first_choices x)) → IsJoined t children made → IsKeptAt (with_root t s x) shown outcomes made
+    node_kept_at outcomes children made six before joined =
+        let each = subst (λ (y : Traces). AreKeptAfter (with_root t s y) shown outcomes (kept_of children) (take i (first_choices y))) is before in
+        let all = subst (AreKeptAfter merged shown outcomes (kept_of children)) (take_all i choices past_choices) each in
+        subst (λ (y : Traces). IsKeptAt (with_root t s y) shown outcomes made) (sym is) (node_kept merged shown outcomes lawful_here t choices children made six are all joined)

@@ -1,14 +1,15 @@
 //! The search for all outcomes.
 ghost use Rattle.std.specs.Prelude.{◌≡◌, ◌↔◌, IfOk, IfErr, OnOk, Contains};
 ghost use Rattle.tso_program.specs.declared.outcome.Outcome.{Outcome};
-ghost use Rattle.tso_program.specs.Shown.{asked};
+ghost use Rattle.tso_program.specs.Shown.{Question, asked};
 ghost use Rattle.tso_machine.specs.Outcomes.{AllowsShown};
 ghost use Rattle.tso_machine.specs.Modes.{machine_mode};
 ghost use Rattle.cert_forest.specs.Views.{cover};
 ghost use Rattle.cover_solver.specs.Covers.{IsWholeCover};
 ghost use Rattle.cover_solver.specs.Found.{IsInOrder, AreRunsOf};
 ghost use Rattle.cover_solver.specs.Kept.{kept, IsKept};
-ghost use Rattle.cover_solver.specs.Listed.{listed, AreInOrder, Grows, StopIs};
+ghost use Rattle.cover_solver.specs.Listed.{listed, AreInOrder, HasRunOfEach, Grows, StopIs};
+ghost use Rattle.cover_solver.specs.declared.listed.Listed.TheVariants.{Open};
 
 use crate::fault::Stop;
 use crate::filled::filled;
@@ -59,10 +60,7 @@ pub(crate) fn all_outcomes(
 {
     // For the proof alone: what holds of every program is known where its threads are read.
     let _ = program.threads();
-    let mut outcomes = Listed::Open {
-        found: Found::none(alloc),
-        mode,
-    };
+    let mut outcomes = none_of(alloc, &mode);
     let kept = kept_all(alloc, program, shown, &mut outcomes)?;
     let tree = match cover_all(alloc, program, mode, &kept, shown, &mut outcomes) {
         Ok(tree) => tree,
@@ -71,6 +69,18 @@ pub(crate) fn all_outcomes(
     match outcomes {
         Listed::Open { found, .. } => Ok(Covered { found, kept, tree }),
         _ => unreachable!(),
+    }
+}
+
+/// No outcome of a mode yet.
+fn none_of<'a>(alloc: Global, mode: &Mode) -> Listed<'a>
+    ensures in_order { AreInOrder result }
+    ensures runs { (q : Question) → HasRunOfEach q result }
+    ensures open { (found : Found) × (result ≡ Open found mode.now) }
+{
+    Listed::Open {
+        found: Found::none(alloc),
+        mode: *mode,
     }
 }
 
@@ -97,16 +107,16 @@ pub(crate) fn cover_all(
     alloc: Global,
     program: &Program,
     mode: Mode,
-    kept: &KeptTree,
+    tree: &KeptTree,
     shown: &Shown,
     outcomes: &mut Listed,
 ) -> Result<CoverTree, Stop>
     requires in_order { AreInOrder outcomes.old }
-    requires kept { IsKept program.now shown.now (listed outcomes.old) (kept kept.now) }
+    requires kept { IsKept program.now shown.now (listed outcomes.old) (kept tree.now) }
     ensures grows { OnOk result (Grows (asked program.now shown.now) outcomes.old outcomes.new) }
     ensures tree { IfOk result (λ tree. IsWholeCover (asked program.now shown.now) (machine_mode program.now mode) (listed outcomes.new) (cover tree)) }
     ensures stop { IfErr result (StopIs (asked program.now shown.now) (machine_mode program.now mode) outcomes.old) }
 {
     let sketch = Sketch::new(alloc, program, mode)?;
-    filled(alloc, kept, &sketch, shown, outcomes)
+    filled(alloc, tree, &sketch, shown, outcomes)
 }

@@ -1,5 +1,5 @@
 //! Cover trees in one mode, made of what is kept with no gap fenced.
-ghost use Rattle.std.specs.Prelude.{◌≡◌, IfOk, IfErr, OnOk, map};
+ghost use Rattle.std.specs.Prelude.{◌≡◌, IfOk, IfErr, OnOk, map, length};
 ghost use Rattle.tso_program.specs.Shown.{asked};
 ghost use Rattle.exec_axioms.specs.ProgramSketches.{mode_in};
 ghost use Rattle.tso_program.specs.declared.listing.Listing.{Listing};
@@ -15,9 +15,9 @@ use crate::branch::choices_of;
 use crate::choices_left::OpenChoice;
 use crate::cover::{cover_whole, node_over};
 use crate::fault::Stop;
+use crate::in_sequence::in_sequence;
 use crate::kept_tree::KeptTree;
 use crate::listed::Listed;
-use crate::in_sequence::in_sequence;
 use cert_forest::CoverTree;
 use cover_judge::{Choice, sketch_with};
 use exec_axioms::{Mode, Sketch};
@@ -64,6 +64,7 @@ fn filled_each(
     outcomes: &mut Listed,
 ) -> Result<Vec<CoverTree>, Stop>
     requires in_order { AreInOrder outcomes.old }
+    requires many { length trees.now ≡ length choices.now }
     requires may { MayChooseEach sketch.now choices.now }
     requires kept { AreKeptAfter (unfenced sketch.now) shown.now (listed outcomes.old) (kept_of (map kept trees.now)) choices.now }
     ensures grows { OnOk result (Grows (asked sketch.now.program shown.now) outcomes.old outcomes.new) }
@@ -73,9 +74,9 @@ fn filled_each(
     // For the proof alone: what holds of every sketch is known where its program is read.
     let _ = sketch.program();
     let mut made = Vec::with_capacity(alloc, trees.len())?;
-    for (tree, choice) in trees.iter().zip(choices) {
-        let next = sketch_with(sketch, *choice)?;
-        made.push(filled(alloc, tree, &next, shown, outcomes)?)?;
+    for i in 0..choices.len() {
+        let next = sketch_with(sketch, choices[i])?;
+        made.push(filled(alloc, &trees[i], &next, shown, outcomes)?)?;
     }
     Ok(made)
 }

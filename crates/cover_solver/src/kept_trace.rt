@@ -52,9 +52,7 @@ pub(crate) fn kept_trace(
             }
             KeptTree::over(alloc, t, children)
         }
-        TraceTree::Full(trace) => {
-            kept_full(alloc, sketch, others, t, trace, shown, outcomes)
-        }
+        TraceTree::Full(trace) => { kept_full(alloc, sketch, others, t, trace, shown, outcomes) }
     }
 }
 

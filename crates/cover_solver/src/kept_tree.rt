@@ -2,7 +2,7 @@
 //! gaps fenced, and in the sequential machine, since a tighter machine only has more known edges.
 ghost use Rattle.std.specs.Prelude.{◌≡◌, IsTrue, IfOk, map};
 ghost use Rattle.cert_forest.specs.Views.{cover};
-ghost use Rattle.cover_solver.specs.Kept.{kept, Closed, AreClosed, IsJoined};
+ghost use Rattle.cover_solver.specs.Kept.{kept, Closed, IsClosed, AreClosed, IsJoined};
 
 use cert_forest::CoverTree;
 use std::alloc::{AllocError, Global};
@@ -13,10 +13,7 @@ pub(crate) enum KeptTree {
     /// A tree without a hole.
     Closed(CoverTree),
     /// What is kept for each value of the thread's next read. One of them has a hole.
-    Values {
-        thread: u8,
-        children: Vec<KeptTree>,
-    },
+    Values { thread: u8, children: Vec<KeptTree> },
     /// Each read has its value, and with no gap fenced there is a run whose outcome is not in the list.
     Hole,
 }
@@ -36,6 +33,13 @@ impl KeptTree {
         let children = closed_trees(alloc, children)?;
         Ok(KeptTree::Closed(CoverTree::Value { thread, children }))
     }
+
+    /// Whether it has no hole.
+    fn is_closed(&self) -> bool
+        ensures { IsTrue result → IsClosed (kept self.now) }
+    {
+        matches!(self, KeptTree::Closed(_))
+    }
 }
 
 /// Whether none of the trees has a hole.
@@ -43,7 +47,7 @@ fn are_closed(trees: &[KeptTree]) -> bool
     ensures { IsTrue result → AreClosed (map kept trees.now) }
 {
     for tree in trees {
-        if !matches!(tree, KeptTree::Closed(_)) {
+        if !tree.is_closed() {
             return false;
         }
     }
@@ -51,15 +55,16 @@ fn are_closed(trees: &[KeptTree]) -> bool
 }
 
 /// The trees, none of which has a hole.
-fn closed_trees(alloc: Global, kept: Vec<KeptTree>) -> Result<Vec<CoverTree>, AllocError>
-    requires { AreClosed (map kept kept.items) }
-    ensures { IfOk result (λ trees. map kept kept.items ≡ map Closed (map cover trees.items)) }
+fn closed_trees(alloc: Global, children: Vec<KeptTree>) -> Result<Vec<CoverTree>, AllocError>
+    requires { AreClosed (map kept children.items) }
+    ensures { IfOk result (λ trees. map kept children.items ≡ map Closed (map cover trees.items)) }
 {
-    let mut trees = Vec::with_capacity(alloc, kept.len())?;
-    for tree in kept {
-        match tree {
+    let mut trees = Vec::with_capacity(alloc, children.len())?;
+    for child in children {
+        match child {
             KeptTree::Closed(tree) => trees.push(tree)?,
-            _ => unreachable!(),
+            KeptTree::Values { .. } => unreachable!(),
+            KeptTree::Hole => unreachable!(),
         }
     }
     Ok(trees)

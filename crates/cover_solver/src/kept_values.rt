@@ -89,13 +89,5 @@ fn kept_last(
     let _ = sketch.program();
     let t = plan.last.thread;
     let others = Tally::of_others(alloc, sketch, t)?;
-    kept_trace(
-        alloc,
-        sketch,
-        &others,
-        t,
-        &plan.last.tree,
-        shown,
-        outcomes,
-    )
+    kept_trace(alloc, sketch, &others, t, &plan.last.tree, shown, outcomes)
 }

@@ -71,10 +71,12 @@ impl marker::Model for Solver {
     ghost coded = { Prim.hlevel (codes, names.the_row.coded) };
 
     ghost use Rattle.tso_program.specs.Shown.{asked};
+    ghost use Rattle.std.specs.Arc.{arc_value};
+    ghost use Rattle.cover_solver.specs.Kept.{IsKept, kept as kept_cover};
 
     ghost view = { λ s. record { question = asked s.program s.shown; outcomes = s.outcomes.items } };
 
-    ghost invariant = { λ s. IsListOf (asked s.program s.shown) s.outcomes.items };
+    ghost invariant = { λ s. IsListOf (asked s.program s.shown) s.outcomes.items × IsKept s.program s.shown s.outcomes.items (kept_cover (arc_value s.kept)) };
 }
 
 impl Solver {
@@ -124,7 +126,7 @@ impl Solver {
             program,
             shown: self.shown,
             set: *set,
-            tree,
+            tree: Arc::new(self.alloc, tree)?,
         }))
     }
 

@@ -5,8 +5,9 @@ ghost use Rattle.cover_solver.specs.Facts.{IsServing};
 
 use cert_forest::CoverTree;
 use gap_sets::GapSet;
-use std::alloc::{AllocError, Global};
+use std::alloc::AllocError;
 use std::marker::Model;
+use std::sync::Arc;
 use tso_program::{Program, Shown};
 
 /// A set of gaps that serves, with a cover tree that shows it.
@@ -15,7 +16,7 @@ pub struct Served {
     pub(crate) program: Program,
     pub(crate) shown: Shown,
     pub(crate) set: GapSet,
-    pub(crate) tree: CoverTree,
+    pub(crate) tree: Arc<CoverTree>,
 }
 
 impl Model for Served {
@@ -32,10 +33,11 @@ impl Model for Served {
     ghost use Rattle.cert_forest.specs.Views.{cover};
     ghost use Rattle.cover_solver.specs.Facts.{IsServing};
     ghost use Rattle.tso_program.specs.Shown.{asked};
+    ghost use Rattle.std.specs.Arc.{arc_value};
 
-    ghost view = { λ s. record { question = asked s.program s.shown; gaps = s.set; tree = cover s.tree } };
+    ghost view = { λ s. record { question = asked s.program s.shown; gaps = s.set; tree = cover (arc_value s.tree) } };
 
-    ghost invariant = { λ s. IsServing (record { question = asked s.program s.shown; gaps = s.set; tree = cover s.tree }) };
+    ghost invariant = { λ s. IsServing (record { question = asked s.program s.shown; gaps = s.set; tree = cover (arc_value s.tree) }) };
 }
 
 impl Served {
@@ -69,15 +71,15 @@ impl Served {
         &self.tree
     }
 
-    /// An equal value.
-    pub fn copy(&self, alloc: Global) -> Result<Served, AllocError>
+    /// An equal value, which shares the tree.
+    pub fn copy(&self) -> Result<Served, AllocError>
         ensures { IfOk result (λ other. other ≡ self.now) }
     {
         Ok(Served {
             program: self.program.copy()?,
             shown: self.shown,
             set: self.set,
-            tree: self.tree.copy(alloc)?,
+            tree: Arc::try_clone(&self.tree)?,
         })
     }
 }

@@ -1,11 +1,13 @@
 //! The sequential outcomes of a program.
 ghost use Rattle.std.specs.Prelude.{◌≡◌, ◌↔◌, IfOk, IfErr, IsTrue};
+ghost use Rattle.std.specs.Arc.{arc_value};
 ghost use Rattle.tso_program.specs.Shown.{asked};
 ghost use Rattle.tso_machine.specs.Outcomes.{IsSequentialOutcome};
 ghost use Rattle.cert_forest.specs.Views.{cover};
 ghost use Rattle.cover_solver.specs.Facts.{IsSequentialTable};
+ghost use Rattle.cover_solver.specs.Kept.{kept, IsKept};
 
-use crate::all_outcomes::all_outcomes;
+use crate::all_outcomes::{Covered, all_outcomes};
 use crate::fault::SolveFault;
 use crate::kept_tree::KeptTree;
 use crate::ordered::place_of;
@@ -44,10 +46,12 @@ impl Model for SeqTable {
     ghost use Rattle.cert_forest.specs.Views.{cover};
     ghost use Rattle.cover_solver.specs.Facts.{IsSequentialTable};
     ghost use Rattle.tso_program.specs.Shown.{asked};
+    ghost use Rattle.std.specs.Arc.{arc_value};
+    ghost use Rattle.cover_solver.specs.Kept.{IsKept, kept as kept_cover};
 
     ghost view = { λ t. record { question = asked t.program t.shown; outcomes = t.outcomes.items; runs = t.runs; tree = cover t.tree } };
 
-    ghost invariant = { λ t. IsSequentialTable (record { question = asked t.program t.shown; outcomes = t.outcomes.items; runs = t.runs; tree = cover t.tree }) };
+    ghost invariant = { λ t. IsSequentialTable (record { question = asked t.program t.shown; outcomes = t.outcomes.items; runs = t.runs; tree = cover t.tree }) × IsKept t.program t.shown t.outcomes.items (kept_cover (arc_value t.kept)) };
 }
 
 /// The sequential outcomes of a program, as far as they are shown. The search finds them in some order, and
@@ -58,16 +62,19 @@ pub fn sequential(alloc: Global, program: &Program, shown: &Shown) -> Result<Seq
     ensures fault { IfErr result (λ fault. fault ≡ SolveFault.OutOfMemory) }
 {
     let all = all_outcomes(alloc, program, shown, Mode::Sequential)?;
-    let places = all.found.places(alloc)?;
-    let mut tree = all.tree;
+    let Covered {
+        found,
+        mut kept,
+        mut tree,
+    } = all;
+    let places = found.places(alloc)?;
     renumber(&mut tree, &places);
-    let mut kept = all.kept;
     renumber_kept(&mut kept, &places);
     Ok(SeqTable {
         program: program.copy()?,
         shown: *shown,
-        outcomes: all.found.outcomes,
-        runs: all.found.runs,
+        outcomes: found.outcomes,
+        runs: found.runs,
         tree,
         kept: Arc::new(alloc, kept)?,
     })
@@ -113,7 +120,7 @@ impl SeqTable {
 
     /// What the search for the tree keeps, shared.
     pub(crate) fn kept(&self) -> Result<Arc<KeptTree>, AllocError>
-        ensures { IfOk result (λ shared. IsKept self.now.question.program self.now.question.shown self.now.outcomes (kept shared.now)) }
+        ensures { IfOk result (λ shared. IsKept self.now.question.program self.now.question.shown self.now.outcomes (kept (arc_value shared))) }
     {
         Arc::try_clone(&self.kept)
     }

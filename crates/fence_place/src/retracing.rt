@@ -18,7 +18,6 @@ use std::alloc::{AllocError, Global};
 /// Of one set it knows that it serves, and it has no run.
 #[derive(Drop)]
 struct Answered<'a> {
-    alloc: Global,
     served: &'a Served,
 }
 
@@ -31,7 +30,7 @@ impl Oracle for Answered<'_> {
         if !self.served.set().same(set) {
             return Err(SolveFault::NoRun);
         }
-        Ok(Verdict::Serves(self.served.copy(self.alloc)?))
+        Ok(Verdict::Serves(self.served.copy()?))
     }
 }
 
@@ -73,7 +72,6 @@ fn search_by_its_runs(
 {
     let runs = runs_of(alloc, finished)?;
     let answered = Answered {
-        alloc,
         served: finished.served(),
     };
     search(alloc, &answered, table, costs, runs)

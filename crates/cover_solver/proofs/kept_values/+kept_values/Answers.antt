@@ -1,19 +1,18 @@
 use Rattle.std.proofs.Common.{List, [], ◌∷◌, ◌∙◌, get_or, map, take, sym, ap, subst, arith}
 use Rattle.std.proofs.lemmas.List.{map-append}
 use Rattle.tso_program.specs.Shown.{asked}
-use Rattle.exec_axioms.specs.ProgramSketches.{mode_in}
-use Rattle.cert_forest.specs.Views.{cover}
-use Rattle.cover_judge.specs.declared.choice.Choice.{Choice}
+use Rattle.exec_axioms.specs.ProgramSketches.{ProgramSketch}
 use Rattle.cover_judge.specs.declared.choice.Choice.TheVariants as choice
 use Rattle.cover_judge.specs.Choices.{MayChooseEach}
-use Rattle.cover_solver.specs.declared.choices_left.OpenChoice.TheVariants as left
-use Rattle.cover_solver.specs.Covers.{IsCoverAt, AreCoversAfter}
+use Rattle.cover_judge.proofs.Answered.{if_ok}
+use Rattle.cover_solver.specs.declared.kept_tree.KeptTree.{KeptTree}
+use Rattle.cover_solver.specs.Kept.{kept, kept_of, IsJoined, IsKeptAt, AreKeptAfter}
 use Rattle.cover_solver.specs.Listed.{listed}
 use Rattle.cover_solver.specs.Plans.{AreOfOthers}
 use Rattle.cover_solver.proofs.CombinedCovers.{before_next, of_others}
-use Rattle.cover_solver.proofs.Growing.{grows_twice, grows_after, covers_still}
+use Rattle.cover_solver.proofs.Growing.{grows_none, grows_twice, grows_after}
+use Rattle.cover_solver.proofs.KeptTrees.{each_still, kept_more, node_kept}
 use Rattle.cover_solver.proofs.Rounds.{fewer_rounds}
-use Rattle.cover_solver.proofs.Nodes.{cover_next, covers_more, node_cover}
 use Rattle.cover_solver.proofs.kept_values.+kept_values.Goals as goal
 
 pub kept_each_value-kept_values-requires : goal.kept_each_value-kept_values-requires
@@ -33,19 +32,18 @@ kept_each_value-loop-choice-preserved t c =
     let shown = c.args.shown.now in
     let mid = c.loop-choice.outcomes in
     let new = c.kept_values.new.outcomes in
-    let lawful = c.program.ensures.lawful in
     let i = c.loop-choice.choice-index in
     let d = choice.Value 0 0 in
     let ch = get_or c.args.choices.now i d in
     let tree = c.in_ok-kept_values.field-0 in
-    let trees = map cover c.loop-choice.trees.items in
+    let before = c.loop-choice.trees.items in
     let next = c.in_ok-next.next in
     let grows = grows_after s next shown ch c.in_ok-next.ensures mid new c.in_ok-kept_values.ensures.grows in (
-      grows_twice (asked s.program shown) (mode_in s) c.args.outcomes.now mid new c.loop-choice.invariant.0 grows,
-      covers_more s shown (listed new) lawful c.args.choices.now trees (map cover c.push.new.self.items) i d (cover tree) c.loop-choice-test.true
-          (ap (map cover) c.in_ok-push.ensures.items ∙ map-append cover c.loop-choice.trees.items (tree ∷ []))
-          (covers_still s shown (listed mid) (listed new) (take i c.args.choices.now) trees grows.keeps c.loop-choice.invariant.1)
-          (cover_next s shown (listed new) lawful next ch (cover tree) (c.requires.may.each i d c.loop-choice-test.true) c.in_ok-next.ensures c.in_ok-kept_values.ensures.tree),
+      grows_twice (asked s.program shown) c.args.outcomes.now mid new c.loop-choice.invariant.0 grows,
+      kept_more s shown (listed new) c.args.choices.now (map kept before) (map kept c.push.new.self.items) i d (kept tree) c.loop-choice-test.true
+          (ap (map kept) c.in_ok-push.ensures.items ∙ map-append kept before (tree ∷ []))
+          (each_still shown (listed mid) (listed new) grows.keeps s (kept_of (map kept before)) (take i c.args.choices.now) c.loop-choice.invariant.1)
+          (subst (λ (n : ProgramSketch). IsKeptAt n shown (listed new) (kept tree)) c.in_ok-next.ensures c.in_ok-kept_values.ensures.tree),
     )
 
 pub kept_values-kept_each_value-requires : goal.kept_values-kept_each_value-requires
@@ -64,13 +62,22 @@ kept_values-kept_each_value-requires t c =
       ),
     )
 
-pub kept_values-returns-in_ok-node_over-in-Some-clause-tree : goal.kept_values-returns-in_ok-node_over-in-Some-clause-tree
-kept_values-returns-in_ok-node_over-in-Some-clause-tree t c =
+pub kept_each_value-loop-choice-init : goal.kept_each_value-loop-choice-init
+kept_each_value-loop-choice-init t c =
+    let s = c.args.sketch.now in
+    let shown = c.args.shown.now in
+    let outcomes = c.args.outcomes.now in (
+      grows_none (asked s.program shown) outcomes c.requires.in_order,
+      subst (λ (xs : List KeptTree). AreKeptAfter s shown (listed outcomes) (kept_of (map kept xs)) (take 0 c.args.choices.now)) (sym c.new-trees.ensures.items) tt,
+    )
+
+pub kept_values-returns-in_ok-trees-in-Some-clause-tree : goal.kept_values-returns-in_ok-trees-in-Some-clause-tree
+kept_values-returns-in_ok-trees-in-Some-clause-tree t c =
     let s = c.args.sketch.now in
     let shown = c.args.shown.now in
     let outcomes = listed c.kept_each_value.new.outcomes in
-    let trees = map cover c.in_ok-trees-in-Some.trees.items in
+    let children = map kept c.in_ok-trees-in-Some.trees.items in
     let choices = c.in_ok-choices-in-Some.choices.items in
-    let are = subst (λ (cs : List Choice). AreCoversAfter s shown outcomes cs trees) c.deref.ensures.value c.in_ok-trees-in-Some.ensures.trees in
-    subst (IsCoverAt s shown outcomes) (sym c.in_ok-node_over-in-Some.ensures)
-    (node_cover s shown outcomes c.program.ensures.lawful (left.Value c.in-Some.t) choices trees c.program.ensures.registers c.in-Some.ensures.1 c.in_ok-choices-in-Some.ensures.choices are)
+    let after = subst (AreKeptAfter s shown outcomes (kept_of children)) c.deref.ensures.value c.in_ok-trees-in-Some.ensures.trees in
+    if_ok c.over.result (λ made. IsJoined c.in-Some.t children (kept made)) (λ made. IsKeptAt s shown outcomes (kept made))
+    (λ made joined. node_kept s shown outcomes c.program.ensures.lawful c.in-Some.t choices children (kept made) c.program.ensures.registers c.in_ok-choices-in-Some.ensures.choices after joined) c.over.ensures

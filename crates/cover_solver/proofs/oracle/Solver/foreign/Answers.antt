@@ -16,7 +16,7 @@ of-requires-clause-foreign c =
     let shown = c.self.inside.shown in
     let found = c.in-Ok.ended.outcome in
     let question = ap (λ (a : Asked). a.question) c.self.view_is in
-    let list = subst (λ (a : Asked). IsListOf a.question a.outcomes) c.self.view_is c.self.invariant in
+    let list = subst (λ (a : Asked). IsListOf a.question a.outcomes) c.self.view_is c.self.invariant.0 in
     let again = subst (λ (q : Question). IsShownRun q (Fenced no_gaps) labels found) question
     (subst (λ ls. IsShownRun (asked c.self.inside.program shown) (Fenced no_gaps) ls found) c.deref.ensures.value c.in-Ok.ensures.replay.is_run) in
     subst (λ (q : Question). IsForeignRun q labels found) (sym (ap (λ p. asked p shown) c.in_ok-program-in-Ok.ensures ∙ question))
@@ -36,7 +36,7 @@ returns-in_ok-program-in-Ok c =
     let found = c.in-Ok.ended.outcome in
     let passed = c.in-Ok.ended.passed in
     let question = ap (λ (a : Asked). a.question) c.self.view_is in
-    let list = subst (λ (a : Asked). IsListOf a.question a.outcomes) c.self.view_is c.self.invariant in
+    let list = subst (λ (a : Asked). IsListOf a.question a.outcomes) c.self.view_is c.self.invariant.0 in
     let again = subst (λ (q : Question). IsShownRun q (Fenced no_gaps) labels found) question
     (subst (λ ls. IsShownRun (asked c.self.inside.program shown) (Fenced no_gaps) ls found) c.deref.ensures.value c.in-Ok.ensures.replay.is_run) in
     let are = subst (λ (q : Question). ArePassed q.program (Fenced no_gaps) labels passed) question

@@ -13,5 +13,5 @@ returns c =
     let found = found_by c.self.inside.outcomes.items o c.place_of.result c.is_ok.result
     (subst (λ (os : List Outcome). IfOk c.place_of.result (λ n. slice_get os n ≡ Some o)) c.deref.ensures.value c.place_of.ensures.there)
     (subst (λ (os : List Outcome). IfErr c.place_of.result (BelongsAt os o)) c.deref.ensures.value c.place_of.ensures.belongs) c.is_ok.ensures.value in
-    let exact = c.self.invariant.listed.exact o in
+    let exact = c.self.invariant.0.listed.exact o in
     subst (λ q. IsTrue c.is_ok.result ↔ IsSequentialOutcome q o) (ap (λ (t : Table). t.question) c.self.view_is) ((λ yes. exact.0 (found.0 yes)), (λ sequential. found.1 (exact.1 sequential)))
