@@ -64,7 +64,8 @@ pub(crate) fn all_outcomes(
     let kept = kept_all(alloc, program, shown, &mut outcomes)?;
     let tree = match cover_all(alloc, program, mode, &kept, shown, &mut outcomes) {
         Ok(tree) => tree,
-        Err(_) => return Err(AllocError),
+        Err(Stop::OutOfMemory) => return Err(AllocError),
+        Err(Stop::New(_)) => unreachable!(),
     };
     match outcomes {
         Listed::Open { found, .. } => Ok(Covered { found, kept, tree }),

@@ -8,8 +8,8 @@ use Rattle.cert_forest.specs.Views.{cover}
 use Rattle.cover_solver.specs.declared.listed.Listed.{Listed}
 use Rattle.cover_solver.specs.Covers.{IsWholeCover}
 use Rattle.cover_solver.specs.Kept.{kept, IsKept}
-use Rattle.cover_solver.specs.Listed.{listed, AreInOrder}
-use Rattle.cover_solver.proofs.AllListed.{runs_found}
+use Rattle.cover_solver.specs.Listed.{listed, AreInOrder, StopIs}
+use Rattle.cover_solver.proofs.AllListed.{runs_found, never_new}
 use Rattle.cover_solver.proofs.Growing.{grows_twice}
 use Rattle.cover_solver.proofs.KeptTrees.{kept_still}
 use Rattle.cover_solver.proofs.Listing.{exactly_allowed}
@@ -41,3 +41,11 @@ returns-clause-exact c =
     let in_order = subst AreInOrder c.in-Open.is c.in-Ok.ensures.grows.in_order in
     let whole = subst (λ (outcomes : Listed). IsWholeCover q mode (listed outcomes) tree) c.in-Open.is c.in-Ok.ensures.tree in
     exactly_allowed q mode found.runs found.outcomes.items found.listed.items tree c.threads.ensures.within.shared.forward_jumps (returns-clause-runs c) in_order.all whole.valid
+
+pub unreachable-requires : goal.unreachable-requires
+unreachable-requires c =
+    let q = asked c.args.program.now c.args.shown.now in
+    let p = c.args.program.now in
+    let mid = c.kept_all.new.outcomes in
+    never_new q c.args.mode c.none_of-outcomes.ensures.open.0 c.none_of-outcomes.result mid c.in-Err-New.field-0-0 c.none_of-outcomes.ensures.open.1 c.in_ok-kept.ensures.grows.stays
+    (subst (StopIs q (machine_mode p c.args.mode) mid) c.in-Err-New.field-0-is c.in-Err-New.ensures.stop)
