@@ -21,15 +21,18 @@ use Rattle.hunt_board.proofs.word.CeilingWord.TheSendSync as word
 use Rattle.hunt_board.specs.contracts.hunt.Hunt as hunt
 use Rattle.hunt_board.specs.contracts.hunt.Hunt.TheInside as inside
 
-cover_send : IsSend (cover_tree.the_field).row
+cover_send : IsSend cover_tree.the_row
 cover_send = search (crosses, knot.crosses, sendable) depth 60 fits 20000
+
+cover_sync : IsSync cover_tree.the_row
+cover_sync = search (crosses, knot.crosses, sendable) depth 60 fits 20000
 
 served_send : IsSend served.the_row
 served_send =
     view_send served_inside.the_row _ _ _ _
     (recorded_send (served_inside.the_field).row _ _ (served_inside.the_type).to_one
     (struct_send (shape served_inside.the_type)
-    (program.the_send, (shown.the_field_send, (gaps.the_send, (cover_send, tt))))))
+    (program.the_send, (shown.the_field_send, (gaps.the_send, (search (crosses, sendable, cover_send, cover_sync), tt))))))
 
 tree_send : IsSend search_tree.the_row
 tree_send =
