@@ -6,6 +6,7 @@ ghost use Rattle.cover_solver.specs.Kept.{kept, Closed, IsClosed, AreClosed, IsJ
 
 use cert_forest::CoverTree;
 use std::alloc::{AllocError, Global};
+use tso_machine::Label;
 
 /// A cover tree over the values of all reads with no gap fenced, but for its holes.
 #[derive(Drop)]
@@ -14,8 +15,8 @@ pub(crate) enum KeptTree {
     Closed(CoverTree),
     /// What is kept for each value of the thread's next read. One of them has a hole.
     Values { thread: u8, children: Vec<KeptTree> },
-    /// Each read has its value, and with no gap fenced there is a run whose outcome is not in the list.
-    Hole,
+    /// Each read has its value, and with no gap fenced there is a run whose outcome was not in the list: this one.
+    Hole(Vec<Label>),
 }
 
 impl KeptTree {
@@ -64,7 +65,7 @@ fn closed_trees(alloc: Global, children: Vec<KeptTree>) -> Result<Vec<CoverTree>
         match child {
             KeptTree::Closed(tree) => trees.push(tree)?,
             KeptTree::Values { .. } => unreachable!(),
-            KeptTree::Hole => unreachable!(),
+            KeptTree::Hole(_) => unreachable!(),
         }
     }
     Ok(trees)

@@ -29,7 +29,7 @@ pub(crate) fn kept_whole(
 {
     match cover_whole(alloc, sketch, shown, outcomes) {
         Ok(tree) => Ok(KeptTree::Closed(tree)),
-        Err(Stop::New(_)) => Ok(KeptTree::Hole),
+        Err(Stop::New(run)) => Ok(KeptTree::Hole(run.labels)),
         Err(Stop::OutOfMemory) => Err(AllocError),
     }
 }

@@ -15,6 +15,7 @@ mod filled;
 mod foreign;
 mod found;
 mod in_sequence;
+mod kept_runs;
 mod kept_trace;
 mod kept_tree;
 mod kept_values;

@@ -1,16 +1,18 @@
 //! Who says of a set of gaps whether it serves.
-ghost use Rattle.std.specs.Prelude.{◌≡◌, Bool, true, false, IfOk, IfErr, Contains};
+ghost use Rattle.std.specs.Prelude.{◌≡◌, Bool, true, false, IfOk, IfErr, IfSome, Contains};
 ghost use Rattle.tso_program.specs.Shown.{Question};
 ghost use Rattle.tso_program.specs.Fences.{gaps_in};
 ghost use Rattle.tso_machine.specs.Machine.{Fenced};
 ghost use Rattle.tso_machine.specs.Outcomes.{IsShownRun, AreGapsOf};
 ghost use Rattle.cert_forest.specs.Views.{cover};
 ghost use Rattle.cover_solver.specs.Covers.{IsWholeCover};
-ghost use Rattle.cover_solver.specs.Verdicts.{IsVerdictOf};
+ghost use Rattle.cover_solver.specs.Facts.{IsForeignValue};
+ghost use Rattle.cover_solver.specs.Verdicts.{IsVerdictOf, PassesNoneOf};
 
 use crate::all_outcomes::cover_all;
 use crate::fault::{SolveFault, Stop};
 use crate::foreign::ForeignRun;
+use crate::kept_runs::kept_runs;
 use crate::kept_tree::KeptTree;
 use crate::listed::Listed;
 use crate::ordered::copies;
@@ -49,7 +51,8 @@ pub trait Oracle: Sync {
         ensures fault { IfErr result (λ fault. fault ≡ SolveFault.NoRun → may_lack_runs self.now ≡ true) };
 }
 
-/// Answers by a search through candidate executions.
+/// Answers by a run that the search for the sequential outcomes came upon, or else by a search through candidate
+/// executions.
 #[derive(Drop)]
 pub struct Solver {
     alloc: Global,
@@ -58,10 +61,12 @@ pub struct Solver {
     outcomes: Vec<Outcome>,
     /// What the search for the sequential outcomes kept.
     kept: Arc<KeptTree>,
+    /// The foreign runs that it came upon, those first that pass the fewest gaps.
+    runs: Vec<ForeignRun>,
 }
 
 impl marker::Model for Solver {
-    ghost use Rattle.cover_solver.specs.Facts.{Asked, IsListOf};
+    ghost use Rattle.cover_solver.specs.Facts.{AreOf, Asked, IsListOf};
 
     ghost Value = { Asked };
 
@@ -76,7 +81,7 @@ impl marker::Model for Solver {
 
     ghost view = { λ s. record { question = asked s.program s.shown; outcomes = s.outcomes.items } };
 
-    ghost invariant = { λ s. IsListOf (asked s.program s.shown) s.outcomes.items × IsKept s.program s.shown s.outcomes.items (kept_cover (arc_value s.kept)) };
+    ghost invariant = { λ s. IsListOf (asked s.program s.shown) s.outcomes.items × IsKept s.program s.shown s.outcomes.items (kept_cover (arc_value s.kept)) × AreOf (asked s.program s.shown) s.runs.items };
 }
 
 impl Solver {
@@ -88,15 +93,33 @@ impl Solver {
     {
         // For the proof alone: what holds of every table is known where its program is read.
         let _ = table.program();
+        let kept = table.kept()?;
+        let runs = kept_runs(alloc, table, &kept)?;
         Ok(Solver {
             alloc,
             program: program.copy()?,
             shown: *table.shown(),
             outcomes: copies(alloc, table.outcomes())?,
-            kept: table.kept()?,
+            kept,
+            runs,
         })
     }
 
+    /// A copy of the first of the runs at hand that passes no gap of the set.
+    fn run_at_hand(&self, set: &GapSet) -> Result<Option<ForeignRun>, AllocError>
+        ensures { IfOk result (λ found. IfSome found (λ run. (run.question ≡ self.now.question) × IsForeignValue run × PassesNoneOf set.now run)) }
+    {
+        for run in &self.runs {
+            if !run.passed().meets(set) {
+                // For the proof alone: what holds of every run is known where its program is read.
+                let _ = run.program();
+                return Ok(Some(run.copy(self.alloc)?));
+            }
+        }
+        Ok(None)
+    }
+
+    /// What a search says of the set.
     fn searched(&self, set: &GapSet) -> Result<Verdict, AllocError>
         ensures { IfOk result (IsVerdictOf self.now.question set.now) }
     {
@@ -166,6 +189,9 @@ impl Oracle for Solver {
     ghost may_lack_runs = { λ s. false };
 
     fn ask(&self, set: &GapSet) -> Result<Verdict, SolveFault> {
-        Ok(self.searched(set)?)
+        match self.run_at_hand(set)? {
+            Some(run) => Ok(Verdict::Foreign(run)),
+            None => Ok(self.searched(set)?),
+        }
     }
 }

@@ -6,7 +6,8 @@
 ghost use Rattle.std.specs.Prelude.{◌≡◌, true, IfOk, OnOk, length};
 ghost use Rattle.tso_program.specs.Shown.{Question};
 ghost use Rattle.tso_program.specs.Listings.{gap_count};
-ghost use Rattle.fence_place.specs.Internal.Searches.{AreOf, IsOfQuestion};
+ghost use Rattle.cover_solver.specs.Facts.{AreOf};
+ghost use Rattle.fence_place.specs.Internal.Searches.{IsOfQuestion};
 
 use crate::PlaceFault;
 use crate::searching::search;

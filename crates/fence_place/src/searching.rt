@@ -7,12 +7,13 @@
 ghost use Rattle.std.specs.Prelude.{◌≡◌, ◌<◌, true, false, IfOk, IfErr, OnOk, length};
 ghost use Rattle.tso_program.specs.Listings.{gap_count};
 ghost use Rattle.tso_machine.specs.Outcomes.{AreGapsOf};
+ghost use Rattle.cover_solver.specs.Facts.{AreOf};
 ghost use Rattle.cover_solver.specs.Verdicts.{PassesNoneOf};
 ghost use Rattle.search_core.specs.Events.{IsSettling};
 ghost use Rattle.search_core.specs.States.{IsDone, HoldsOnly, IsSameSearch};
 ghost use Rattle.search_core.specs.Work.{work_left};
 ghost use Rattle.fence_place.specs.Faults.{MaySearchFail};
-ghost use Rattle.fence_place.specs.Internal.Searches.{AreOf, NothingIsHeld};
+ghost use Rattle.fence_place.specs.Internal.Searches.{NothingIsHeld};
 
 use crate::PlaceFault;
 use crate::known::known_run;

@@ -1,12 +1,11 @@
 //! One worker of a hunt.
 ghost use Rattle.std.specs.Prelude.{◌≡◌, ◌⊎◌, ◌++◌, ◌∷◌, [], Some, None, ℕ, IfErr, IfOk, IfSome, IsTrue, OnErr, OnOk, slice_get};
 ghost use Rattle.tso_machine.specs.Outcomes.{AreGapsOf};
-ghost use Rattle.cover_solver.specs.Facts.{IsForeignValue};
+ghost use Rattle.cover_solver.specs.Facts.{AreOf, IsForeignValue};
 ghost use Rattle.cover_solver.specs.Verdicts.{IsVerdictOf, PassesNoneOf};
 ghost use Rattle.search_core.specs.Events.{IsBeatenBy};
 ghost use Rattle.hunt_board.specs.Seats.{IsOf};
 ghost use Rattle.hunt_board.specs.Settlings.{IsLawful, MaySettle};
-ghost use Rattle.fence_place.specs.Internal.Searches.{AreOf};
 ghost use Rattle.fence_place.specs.Internal.Workers.{IsAt, IsReady, HasEnded, MayStop, lacks_run};
 
 use crate::known::known_run;

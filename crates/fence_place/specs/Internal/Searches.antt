@@ -1,16 +1,11 @@
 -- What a search with an oracle needs and answers.
-use Rattle.std.specs.Prelude.{◌≡◌, ℕ, false, List, Some, slice_get, All}
+use Rattle.std.specs.Prelude.{◌≡◌, ℕ, false, Some, slice_get}
 use Rattle.tso_program.specs.Shown.{Question}
 use Rattle.search_core.specs.declared.entry.Entry.{Entry}
 use Rattle.search_core.specs.Entries.{is_held_status}
 use Rattle.search_core.specs.States.{SearchState}
 use Rattle.search_core.specs.declared.finished.Event.{Event}
 use Rattle.search_core.specs.declared.finished.Event.TheVariants as event
-use Rattle.cover_solver.specs.Facts.{Foreign}
-
--- the runs are of the question
-abbrev pub AreOf : Question → List Foreign → Type 0
-AreOf q runs = All (λ run. run.question ≡ q) runs
 
 -- no seat holds a node
 abbrev pub NothingIsHeld : SearchState → Type 0

@@ -1,13 +1,13 @@
 -- Workers of a hunt.
 use Rattle.std.specs.Prelude.{◌≡◌, Bool, true, false, ℕ, List, Option, Some, None, IfSome, slice_get}
 use Rattle.gap_sets.specs.declared.region.Region.{Region}
+use Rattle.cover_solver.specs.Facts.{AreOf}
 use Rattle.hunt_board.specs.Seats.{HuntView, IsOf}
 use Rattle.fence_place.specs.declared.fault.PlaceFault.{PlaceFault}
 use Rattle.fence_place.specs.declared.fault.PlaceFault.TheVariants as fault
 use Rattle.fence_place.specs.declared.worker.Stop.{Stop}
 use Rattle.fence_place.specs.declared.worker.Stop.TheVariants.{Later, Beaten, NoRun, OutOfMemory}
 use Rattle.fence_place.specs.declared.worker.Worker.{Worker}
-use Rattle.fence_place.specs.Internal.Searches.{AreOf}
 
 -- the worker's seat is of the hunt and holds this node or none, and the runs that it knows are of the hunt's question
 pub record IsAt (h : HuntView) (w : Worker) (node : Option Region) : Type 0 where

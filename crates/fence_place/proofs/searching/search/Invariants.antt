@@ -1,6 +1,7 @@
 use Rattle.std.proofs.Common.{◌≡◌, ◌<◌}
 use Rattle.search_core.specs.Work.{work_left}
-use Rattle.fence_place.specs.Internal.Searches.{AreOf, NothingIsHeld}
+use Rattle.cover_solver.specs.Facts.{AreOf}
+use Rattle.fence_place.specs.Internal.Searches.{NothingIsHeld}
 use Rattle.fence_place.proofs.searching.search.Given as goal
 
 -- no seat holds a node between two of them

@@ -1,0 +1,96 @@
+//! Foreign runs that the search for the sequential outcomes came upon.
+//!
+//! Each hole of what that search kept has a run with no gap fenced, and most of these runs are foreign. A foreign
+//! run answers the question about each set of which it passes no gap, without a search.
+ghost use Rattle.std.specs.Prelude.{◌≤◌, IfOk, OnOk, length};
+ghost use Rattle.cover_solver.specs.Facts.{AreOf};
+
+use crate::fault::ForeignFault;
+use crate::foreign::ForeignRun;
+use crate::kept_tree::KeptTree;
+use crate::table::SeqTable;
+use gap_sets::GapSet;
+use std::alloc::{AllocError, Global};
+use tso_machine::Label;
+
+/// Foreign runs of the holes, those first that pass the fewest gaps. Of runs that pass the same gaps there is
+/// one.
+pub(crate) fn kept_runs(
+    alloc: Global,
+    table: &SeqTable,
+    tree: &KeptTree,
+) -> Result<Vec<ForeignRun>, AllocError>
+    ensures { IfOk result (λ runs. AreOf table.now.question runs.items) }
+{
+    let mut runs = Vec::new(alloc);
+    add_runs(alloc, table, tree, &mut runs)?;
+    Ok(runs)
+}
+
+/// Adds foreign runs of the tree's holes.
+fn add_runs(
+    alloc: Global,
+    table: &SeqTable,
+    tree: &KeptTree,
+    runs: &mut Vec<ForeignRun>,
+) -> Result<(), AllocError>
+    requires { AreOf table.now.question runs.old.items }
+    ensures { OnOk result (AreOf table.now.question runs.new.items) }
+{
+    match tree {
+        KeptTree::Closed(_) => Ok(()),
+        KeptTree::Values { children, .. } => {
+            for child in children {
+                add_runs(alloc, table, child, runs)?;
+            }
+            Ok(())
+        }
+        KeptTree::Hole(labels) => add_run(alloc, table, labels, runs),
+    }
+}
+
+/// Adds the run of a hole. Adds nothing if its outcome is sequential, which another candidate execution may
+/// have shown after the hole was made, or if one of the runs passes some of its gaps and no others.
+fn add_run(
+    alloc: Global,
+    table: &SeqTable,
+    labels: &[Label],
+    runs: &mut Vec<ForeignRun>,
+) -> Result<(), AllocError>
+    requires { AreOf table.now.question runs.old.items }
+    ensures { OnOk result (AreOf table.now.question runs.new.items) }
+{
+    let run = match ForeignRun::new(alloc, table, labels) {
+        Ok(run) => run,
+        Err(ForeignFault::OutOfMemory) => return Err(AllocError),
+        Err(_) => return Ok(()),
+    };
+    let passed = run.passed();
+    if one_passes_no_others(runs, &passed) {
+        return Ok(());
+    }
+    runs.insert(place_for(runs, &passed), run)?;
+    Ok(())
+}
+
+/// Whether one of the runs passes no gap that is not in the set.
+fn one_passes_no_others(runs: &[ForeignRun], set: &GapSet) -> bool {
+    for run in runs {
+        if set.holds_all(&run.passed()) {
+            return true;
+        }
+    }
+    false
+}
+
+/// The place of the first of the runs that passes more gaps than the set has, or the place after all.
+fn place_for(runs: &[ForeignRun], set: &GapSet) -> usize
+    ensures { result ≤ length runs.now }
+{
+    for (place, run) in runs.iter().enumerate() {
+        if set.len() < run.passed().len() {
+            return place;
+        }
+    }
+    runs.len()
+}
