@@ -105,8 +105,8 @@ impl Solver {
         })
     }
 
-    /// A copy of the first of the runs at hand that passes no gap of the set.
-    fn run_at_hand(&self, set: &GapSet) -> Result<Option<ForeignRun>, AllocError>
+    /// A copy of the first of the runs that passes no gap of the set.
+    fn kept_run(&self, set: &GapSet) -> Result<Option<ForeignRun>, AllocError>
         ensures { IfOk result (λ found. IfSome found (λ run. (run.question ≡ self.now.question) × IsForeignValue run × PassesNoneOf set.now run)) }
     {
         for run in &self.runs {
@@ -189,7 +189,7 @@ impl Oracle for Solver {
     ghost may_lack_runs = { λ s. false };
 
     fn ask(&self, set: &GapSet) -> Result<Verdict, SolveFault> {
-        match self.run_at_hand(set)? {
+        match self.kept_run(set)? {
             Some(run) => Ok(Verdict::Foreign(run)),
             None => Ok(self.searched(set)?),
         }
