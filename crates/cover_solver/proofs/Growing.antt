@@ -49,7 +49,7 @@ module _ (q : Question) where
 
 -- an open list that found more stops for what it did before
 stops_open : (q : Question) (machine : Mode) (mode : own.Mode) (old new : Found) (why : Stop) → StopIs q machine (Open new mode) why → StopIs q machine (Open old mode) why
-stops_open q machine mode old new (stop.New run) is = is
+stops_open q machine mode old new (stop.New run sketch) is = is
 stops_open q machine mode old new stop.OutOfMemory is = tt
 
 -- an open list that found more
@@ -59,7 +59,7 @@ module _ (q : Question) (mode : own.Mode) (old new : Found) (in_order : IsInOrde
   grows_open = record { in_order = in_order; keeps = keeps; runs = runs; stays = (new, refl); stops = λ machine why is. stops_open q machine mode old new why is }
 
 stopped : (T U : Type 0) (why : Stop) (P Q : Type 0) → (P → Q) → OnTold {T = T} (Err why) P → OnTold {T = U} (Err why) Q
-stopped T U (stop.New run) P Q follows part = follows part
+stopped T U (stop.New run sketch) P Q follows part = follows part
 stopped T U stop.OutOfMemory P Q follows part = tt
 
 -- a search that stops as a part of it did

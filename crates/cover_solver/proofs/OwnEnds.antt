@@ -32,7 +32,7 @@ shown_in s same shown mode program is_mode (Some run) made =
     (subst (λ (p : Listing). IsShownRun (asked p shown) (machine_mode p same.mode) run.labels.items run.outcome) program made.is_run)
 
 -- why the search stops at a sketch without a cycle whose outcome the list lacks
-pub stops_new : (s : ProgramSketch) (shown : Shown) (outcomes : Listed) (run : MadeRun) → HasNoCycle s → IsEndNotListed s shown (listed outcomes) → HasOwnEnd s shown outcomes → IsShownRunOf s shown run →
-    StopIs (asked s.program shown) (mode_in s) outcomes (stop.New run)
-stops_new s shown (Closed outcomes) run acyclic lacks own is = (is.is_run, λ here. lacks acyclic run.outcome is.must_end (subst (Contains outcomes.now) (sym is.as_shown) here))
-stops_new s shown (Open found mode) run acyclic lacks own is = λ same. let (o, must_end, here) = own same in lacks acyclic o must_end here
+pub stops_new : (s : ProgramSketch) (shown : Shown) (outcomes : Listed) (run : MadeRun) (other : ProgramSketch) → HasNoCycle s → IsEndNotListed s shown (listed outcomes) → HasOwnEnd s shown outcomes → IsShownRunOf s shown run →
+    StopIs (asked s.program shown) (mode_in s) outcomes (stop.New run other)
+stops_new s shown (Closed outcomes) run other acyclic lacks own is = (is.is_run, λ here. lacks acyclic run.outcome is.must_end (subst (Contains outcomes.now) (sym is.as_shown) here))
+stops_new s shown (Open found mode) run other acyclic lacks own is = λ same. let (o, must_end, here) = own same in lacks acyclic o must_end here

@@ -35,7 +35,7 @@ kept_of (t ∷ ts) = MoreKept t (kept_of ts)
 abbrev pub kept_node : k.KeptTree-F KeptCover → KeptCover
 kept_node (k.Closed tree) = Closed (cover tree)
 kept_node (k.Values thread children) = Values thread (kept_of children.items)
-kept_node (k.Hole run) = Hole
+kept_node (k.Hole labels sketch) = Hole
 
 abbrev pub kept : KeptTree → KeptCover
 kept = fold-KeptTree KeptCover kept_node

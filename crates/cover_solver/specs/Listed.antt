@@ -38,9 +38,9 @@ HasOwnEnd s shown (Open found mode) = machine_mode s.program mode ≡ mode_in s 
 
 -- why no tree is found in a mode: a closed list lacks the outcome of a run, and an open list is open for another mode
 abbrev pub StopIs : Question → Mode → Listed → Stop → Type 0
-StopIs q mode (Closed outcomes) (stop.New run) = IsShownRun q mode run.labels.items run.outcome × (Contains outcomes.now run.outcome → ⊥)
+StopIs q mode (Closed outcomes) (stop.New run sketch) = IsShownRun q mode run.labels.items run.outcome × (Contains outcomes.now run.outcome → ⊥)
 StopIs q mode (Closed outcomes) stop.OutOfMemory = Unit {0}
-StopIs q mode (Open found of) (stop.New run) = machine_mode q.program of ≡ mode → ⊥
+StopIs q mode (Open found of) (stop.New run sketch) = machine_mode q.program of ≡ mode → ⊥
 StopIs q mode (Open found of) stop.OutOfMemory = Unit {0}
 
 -- a closed list is what it was, and an open one is open for the mode that it was
@@ -59,5 +59,5 @@ pub record Grows (q : Question) (old new : Listed) : Type 0 where
 -- this holds unless memory is out
 abbrev pub OnTold : {T : Type 0} → Result T Stop → Type 0 → Type 0
 OnTold (Ok made) P = P
-OnTold (Err (stop.New run)) P = P
+OnTold (Err (stop.New run sketch)) P = P
 OnTold (Err stop.OutOfMemory) P = Unit {0}

@@ -65,7 +65,7 @@ pub(crate) fn all_outcomes(
     let tree = match cover_all(alloc, program, mode, &kept, shown, &mut outcomes) {
         Ok(tree) => tree,
         Err(Stop::OutOfMemory) => return Err(AllocError),
-        Err(Stop::New(_)) => unreachable!(),
+        Err(Stop::New { .. }) => unreachable!(),
     };
     match outcomes {
         Listed::Open { found, .. } => Ok(Covered { found, kept, tree }),

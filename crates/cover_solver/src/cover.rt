@@ -103,7 +103,10 @@ fn end(
     outcomes.add(alloc, sketch, accesses, shown)?;
     match known(sketch, shown, outcomes)? {
         Some(number) => Ok(CoverTree::Known { run: number as u64 }),
-        None => Err(Stop::New(shown_run(alloc, sketch, shown)?)),
+        None => Err(Stop::New {
+            run: shown_run(alloc, sketch, shown)?,
+            sketch: sketch.copy()?,
+        }),
     }
 }
 

@@ -4,6 +4,7 @@ ghost use Rattle.cover_solver.specs.declared.fault.SolveFault.TheVariants as sol
 ghost use Rattle.cover_solver.specs.declared.fault.ForeignFault.TheVariants as foreign;
 ghost use Rattle.cover_solver.specs.declared.fault.Stop.TheVariants as stop;
 
+use exec_axioms::Sketch;
 use run_maker::MadeRun;
 use std::alloc::{AllocError, AllocFailed};
 use thiserror::Error;
@@ -65,10 +66,10 @@ impl<T: Drop> From<AllocFailed<T>> for ForeignFault {
 }
 
 /// Why a search for a tree ends without one.
-#[derive(Debug, Drop)]
+#[derive(Drop)]
 pub(crate) enum Stop {
-    /// A run has an outcome that is not in the list.
-    New(MadeRun),
+    /// A run has an outcome that is not in the list. The sketch is that of its candidate execution.
+    New { run: MadeRun, sketch: Sketch },
     OutOfMemory,
 }
 

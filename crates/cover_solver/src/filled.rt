@@ -49,7 +49,7 @@ pub(crate) fn filled(
             let trees = filled_each(alloc, children, &choices, sketch, shown, outcomes)?;
             Ok(node_over(alloc, next, trees)?)
         }
-        KeptTree::Hole(_) => cover_whole(alloc, &mut sketch.copy()?, shown, outcomes),
+        KeptTree::Hole { .. } => cover_whole(alloc, &mut sketch.copy()?, shown, outcomes),
     }
 }
 

@@ -9,9 +9,12 @@ use crate::fault::ForeignFault;
 use crate::foreign::ForeignRun;
 use crate::kept_tree::KeptTree;
 use crate::table::SeqTable;
+use exec_axioms::Sketch;
 use gap_sets::GapSet;
+use run_maker::{MakeFault, make_run_for};
 use std::alloc::{AllocError, Global};
 use tso_machine::Label;
+use tso_program::MAX_THREADS;
 
 /// Foreign runs of the holes, those first that pass the fewest gaps. Of runs that pass the same gaps there is
 /// one.
@@ -45,32 +48,61 @@ fn add_runs(
             }
             Ok(())
         }
-        KeptTree::Hole(labels) => add_run(alloc, table, labels, runs),
+        KeptTree::Hole { labels, sketch } => {
+            if add_run(alloc, table, labels, runs)? {
+                add_others(alloc, table, sketch, runs)?;
+            }
+            Ok(())
+        }
     }
 }
 
-/// Adds the run of a hole. Adds nothing if its outcome is sequential, which another candidate execution may
-/// have shown after the hole was made, or if one of the runs passes some of its gaps and no others.
+/// Adds other runs of a candidate execution, which pass other gaps: one for each thread.
+fn add_others(
+    alloc: Global,
+    table: &SeqTable,
+    sketch: &Sketch,
+    runs: &mut Vec<ForeignRun>,
+) -> Result<(), AllocError>
+    requires { AreOf table.now.question runs.old.items }
+    ensures { OnOk result (AreOf table.now.question runs.new.items) }
+{
+    // The sketch of a hole is complete and has no cycle, which no clause says.
+    if sketch.find_cycle()?.is_some() {
+        return Ok(());
+    }
+    for thread in 0..MAX_THREADS as u8 {
+        match make_run_for(alloc, sketch, thread) {
+            Ok(run) => add_run(alloc, table, &run.labels, runs)?,
+            Err(MakeFault::OutOfMemory) => return Err(AllocError),
+            Err(_) => false,
+        };
+    }
+    Ok(())
+}
+
+/// Adds the run of these labels, and answers whether it did. It adds nothing if the outcome is sequential, which
+/// another candidate execution may have shown after the hole was made, or if one of the runs passes no other gaps.
 fn add_run(
     alloc: Global,
     table: &SeqTable,
     labels: &[Label],
     runs: &mut Vec<ForeignRun>,
-) -> Result<(), AllocError>
+) -> Result<bool, AllocError>
     requires { AreOf table.now.question runs.old.items }
     ensures { OnOk result (AreOf table.now.question runs.new.items) }
 {
     let run = match ForeignRun::new(alloc, table, labels) {
         Ok(run) => run,
         Err(ForeignFault::OutOfMemory) => return Err(AllocError),
-        Err(_) => return Ok(()),
+        Err(_) => return Ok(false),
     };
     let passed = run.passed();
     if one_passes_no_others(runs, &passed) {
-        return Ok(());
+        return Ok(false);
     }
     runs.insert(place_for(runs, &passed), run)?;
-    Ok(())
+    Ok(true)
 }
 
 /// Whether one of the runs passes no gap that is not in the set.

@@ -5,6 +5,7 @@ ghost use Rattle.cert_forest.specs.Views.{cover};
 ghost use Rattle.cover_solver.specs.Kept.{kept, Closed, IsClosed, AreClosed, IsJoined};
 
 use cert_forest::CoverTree;
+use exec_axioms::Sketch;
 use std::alloc::{AllocError, Global};
 use tso_machine::Label;
 
@@ -15,8 +16,9 @@ pub(crate) enum KeptTree {
     Closed(CoverTree),
     /// What is kept for each value of the thread's next read. One of them has a hole.
     Values { thread: u8, children: Vec<KeptTree> },
-    /// Each read has its value, and with no gap fenced there is a run whose outcome was not in the list: this one.
-    Hole(Vec<Label>),
+    /// Each read has its value, and with no gap fenced there is a run whose outcome was not in the list: this one,
+    /// of the candidate execution that the sketch has become.
+    Hole { labels: Vec<Label>, sketch: Sketch },
 }
 
 impl KeptTree {
@@ -65,7 +67,7 @@ fn closed_trees(alloc: Global, children: Vec<KeptTree>) -> Result<Vec<CoverTree>
         match child {
             KeptTree::Closed(tree) => trees.push(tree)?,
             KeptTree::Values { .. } => unreachable!(),
-            KeptTree::Hole(_) => unreachable!(),
+            KeptTree::Hole { .. } => unreachable!(),
         }
     }
     Ok(trees)

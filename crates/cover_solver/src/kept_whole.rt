@@ -29,7 +29,10 @@ pub(crate) fn kept_whole(
 {
     match cover_whole(alloc, sketch, shown, outcomes) {
         Ok(tree) => Ok(KeptTree::Closed(tree)),
-        Err(Stop::New(run)) => Ok(KeptTree::Hole(run.labels)),
+        Err(Stop::New { run, sketch }) => Ok(KeptTree::Hole {
+            labels: run.labels,
+            sketch,
+        }),
         Err(Stop::OutOfMemory) => Err(AllocError),
     }
 }

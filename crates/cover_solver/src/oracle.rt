@@ -132,7 +132,7 @@ impl Solver {
             &mut Listed::Closed(&self.outcomes),
         ) {
             Ok(tree) => self.serves(set, tree),
-            Err(Stop::New(run)) => self.foreign(set, run),
+            Err(Stop::New { run, .. }) => self.foreign(set, run),
             Err(Stop::OutOfMemory) => Err(AllocError),
         }
     }

@@ -55,7 +55,7 @@ pub(crate) fn renumber_kept(tree: &mut KeptTree, places: &[usize])
     match tree {
         KeptTree::Closed(tree) => renumber(tree, places),
         KeptTree::Values { children, .. } => renumber_each_kept(children, places),
-        KeptTree::Hole(_) => {}
+        KeptTree::Hole { .. } => {}
     }
 }
 

@@ -7,20 +7,29 @@ use tso_program::MAX_ACCESSES;
 
 /// The events, listed by thread and index, in an order that turns round as few pairs of a thread as it
 /// can: a run passes the gaps between a store and a later load that comes before it. Each two events of
-/// a thread keep their order where no edge forbids it, first those that are furthest apart, since most
-/// gaps lie between them.
+/// a thread keep their order where no edge forbids it, those of the thread that is named before all others.
 pub(crate) fn settled(
     alloc: Global,
     sketch: &Sketch,
     kind: Kind,
     events: &[Event],
+    first: Option<u8>,
 ) -> Result<Vec<Event>, AllocError> {
     let mut rows = known_rows(alloc, sketch, kind, events)?;
     close(rows.as_mut_slice());
-    for distance in (1..events.len()).rev() {
-        settle(rows.as_mut_slice(), events, distance);
+    if first.is_some() {
+        settle_pairs(rows.as_mut_slice(), events, first);
     }
+    settle_pairs(rows.as_mut_slice(), events, None);
     by_count(alloc, rows.as_slice(), events)
+}
+
+/// Each two events of one thread, or of that which is named, keep their order where they can: first those that
+/// are furthest apart, since most gaps lie between them.
+fn settle_pairs(rows: &mut [u32], events: &[Event], thread: Option<u8>) {
+    for distance in (1..events.len()).rev() {
+        settle(rows, events, distance, thread);
+    }
 }
 
 /// A row for each event: itself, and those from which an edge leads to it.
@@ -65,12 +74,14 @@ fn spread(rows: &mut [u32], first: usize, second: usize) {
     }
 }
 
-/// Each two events of a thread at this distance keep their order, unless that of `second` and `first`
-/// is settled.
-fn settle(rows: &mut [u32], events: &[Event], distance: usize) {
+/// Each two events of one thread, or of that which is named, at this distance keep their order, unless that of
+/// `second` and `first` is settled.
+fn settle(rows: &mut [u32], events: &[Event], distance: usize, thread: Option<u8>) {
     for second in distance..events.len() {
         let first = second - distance;
-        if is_one_thread(events[first], events[second]) && row_at(rows, first) & bit(second) == 0 {
+        if are_of_thread(events[first], events[second], thread)
+            && row_at(rows, first) & bit(second) == 0
+        {
             spread(rows, first, second);
         }
     }
@@ -110,10 +121,10 @@ fn bit(place: usize) -> u32 {
     if place < MAX_ACCESSES { 1 << place } else { 0 }
 }
 
-/// Whether both are accesses of one thread.
-fn is_one_thread(a: Event, b: Event) -> bool {
+/// Whether both are accesses of one thread, of that which is named if there is one.
+fn are_of_thread(a: Event, b: Event, thread: Option<u8>) -> bool {
     match (a, b) {
-        (Event::Access(t, _), Event::Access(u, _)) => t == u,
+        (Event::Access(t, _), Event::Access(u, _)) => t == u && thread.is_none_or(|it| it == t),
         _ => false,
     }
 }

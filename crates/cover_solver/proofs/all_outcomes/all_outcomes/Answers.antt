@@ -47,5 +47,5 @@ unreachable-requires c =
     let q = asked c.args.program.now c.args.shown.now in
     let p = c.args.program.now in
     let mid = c.kept_all.new.outcomes in
-    never_new q c.args.mode c.none_of-outcomes.ensures.open.0 c.none_of-outcomes.result mid c.in-Err-New.field-0-0 c.none_of-outcomes.ensures.open.1 c.in_ok-kept.ensures.grows.stays
+    never_new q c.args.mode c.none_of-outcomes.ensures.open.0 c.none_of-outcomes.result mid c.in-Err-New.field-0-0 c.in-Err-New.field-0-1 c.none_of-outcomes.ensures.open.1 c.in_ok-kept.ensures.grows.stays
     (subst (StopIs q (machine_mode p c.args.mode) mid) c.in-Err-New.field-0-is c.in-Err-New.ensures.stop)
