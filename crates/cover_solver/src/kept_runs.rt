@@ -14,7 +14,6 @@ use gap_sets::GapSet;
 use run_maker::{MakeFault, make_run_for};
 use std::alloc::{AllocError, Global};
 use tso_machine::Label;
-use tso_program::MAX_THREADS;
 
 /// Foreign runs of the holes, those first that pass the fewest gaps. Of runs that pass the same gaps there is
 /// one.
@@ -71,7 +70,7 @@ fn add_others(
     if sketch.find_cycle()?.is_some() {
         return Ok(());
     }
-    for thread in 0..MAX_THREADS as u8 {
+    for thread in 0..table.program().threads().len() as u8 {
         match make_run_for(alloc, sketch, thread) {
             Ok(run) => add_run(alloc, table, &run.labels, runs)?,
             Err(MakeFault::OutOfMemory) => return Err(AllocError),

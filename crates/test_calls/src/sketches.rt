@@ -9,8 +9,10 @@ use crate::input::{
 };
 use crate::machines::{outcome_of, push_outcome};
 use crate::refusal::Refusal;
+use crate::sets::push_gaps;
 use exec_axioms::{Event, Kind, Mode, Sketch};
-use run_maker::{MadeRun, make_run};
+use gap_sets::GapSet;
+use run_maker::{MadeRun, make_run, make_run_for};
 use std::alloc::{AllocError, Global};
 use tso_machine::replay;
 use tso_program::{Outcome, Program, Shown};
@@ -25,6 +27,7 @@ enum Step {
     Copy,
     FindCycle,
     Run,
+    RunFor,
     Give,
     MustEnd,
     OfNumber(Number),
@@ -59,7 +62,7 @@ enum Two {
     Before,
 }
 
-const STEPS: [(&[u8], Step); 21] = [
+const STEPS: [(&[u8], Step); 22] = [
     (b"new", Step::New),
     (b"memory", Step::Memory),
     (b"mode", Step::Mode),
@@ -67,6 +70,7 @@ const STEPS: [(&[u8], Step); 21] = [
     (b"copy", Step::Copy),
     (b"find-cycle", Step::FindCycle),
     (b"run", Step::Run),
+    (b"run-for", Step::RunFor),
     (b"give", Step::Give),
     (b"must-end", Step::MustEnd),
     (b"next", Step::OfNumber(Number::Next)),
@@ -148,13 +152,13 @@ fn push_cycle(sketch: &Sketch, printed: &mut String) -> Result<(), AllocError> {
     write!(printed, "{kind:?} {is_cycle}")
 }
 
-/// The outcome of the run that is made of a sketch, if the run is replayed to it.
+/// The outcome of the run that is made of a sketch, if the run is replayed to it. Answers the gaps that it passes.
 fn push_replayed(
     alloc: Global,
     sketch: &Sketch,
     made: &MadeRun,
     printed: &mut String,
-) -> Result<(), Refusal> {
+) -> Result<GapSet, Refusal> {
     let (model, gaps) = sketch.mode().model_and_gaps();
     let ended = replay(
         alloc,
@@ -164,22 +168,40 @@ fn push_replayed(
         made.labels.as_slice(),
     )?;
     if ended.outcome != made.outcome {
-        return Ok(printed.push_str("other")?);
+        printed.push_str("other")?;
+        return Ok(ended.passed);
     }
-    Ok(push_outcome(&made.outcome, printed)?)
+    push_outcome(&made.outcome, printed)?;
+    Ok(ended.passed)
 }
 
-fn push_made(alloc: Global, sketch: &Sketch, printed: &mut String) -> Result<(), Refusal>
+/// The run that is made for a thread, with the gaps that it passes, or where none is named the run that is made.
+fn push_made(
+    alloc: Global,
+    sketch: &Sketch,
+    thread: Option<u8>,
+    printed: &mut String,
+) -> Result<(), Refusal>
     requires { HasNoCycle sketch.now }
 {
-    let made = make_run(alloc, sketch)?;
-    push_replayed(alloc, sketch, &made, printed)
+    let Some(t) = thread else {
+        push_replayed(alloc, sketch, &make_run(alloc, sketch)?, printed)?;
+        return Ok(());
+    };
+    let passed = push_replayed(alloc, sketch, &make_run_for(alloc, sketch, t)?, printed)?;
+    printed.push_str("\npassed ")?;
+    Ok(push_gaps(alloc, &passed, printed)?)
 }
 
-fn push_run(alloc: Global, sketch: &Sketch, printed: &mut String) -> Result<(), Refusal> {
+fn push_run(
+    alloc: Global,
+    sketch: &Sketch,
+    thread: Option<u8>,
+    printed: &mut String,
+) -> Result<(), Refusal> {
     match sketch.find_cycle()? {
         Some(_) => Ok(printed.push_str("cycle")?),
-        None => push_made(alloc, sketch, printed),
+        None => push_made(alloc, sketch, thread, printed),
     }
 }
 
@@ -296,7 +318,8 @@ fn push_step(
         Step::Whole => Ok(write!(printed, "{}", sketch.is_whole())?),
         Step::Copy => Ok(replace(sketch)?),
         Step::FindCycle => Ok(push_cycle(sketch, printed)?),
-        Step::Run => push_run(alloc, sketch, printed),
+        Step::Run => push_run(alloc, sketch, None, printed),
+        Step::RunFor => push_run(alloc, sketch, Some(byte_at(words, 0)?), printed),
         Step::Give => push_give(sketch, words, printed),
         Step::MustEnd => push_must_end(alloc, sketch, words, printed),
         Step::OfNumber(step) => Ok(push_of_number(sketch, step, byte_at(words, 0)?, printed)?),

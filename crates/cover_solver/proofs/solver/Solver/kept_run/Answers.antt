@@ -3,7 +3,7 @@ use Rattle.std.specs.FinSet as set
 use Rattle.tso_program.specs.Shown.{asked}
 use Rattle.exec_axioms.proofs.KnownParts.{not_by}
 use Rattle.cover_solver.specs.Facts.{AreOf, Asked, Foreign, IsForeignValue}
-use Rattle.cover_solver.proofs.oracle.Solver.kept_run.Goals as goal
+use Rattle.cover_solver.proofs.solver.Solver.kept_run.Goals as goal
 
 pub returns-then-not-meets : goal.returns-then-not-meets
 returns-then-not-meets c =

@@ -7,7 +7,7 @@ use Rattle.tso_machine.specs.Modes.{machine_mode}
 use Rattle.cover_solver.specs.Facts.{Asked}
 use Rattle.cover_solver.specs.Kept.{kept, IsKept}
 use Rattle.cover_solver.proofs.AllListed.{not_listed}
-use Rattle.cover_solver.proofs.oracle.Solver.searched.Goals as goal
+use Rattle.cover_solver.proofs.solver.Solver.searched.Goals as goal
 
 pub cover_all-requires-clause-kept : goal.cover_all-requires-clause-kept
 cover_all-requires-clause-kept c =

@@ -7,7 +7,7 @@ use Rattle.tso_machine.specs.Modes.{ArePassed}
 use Rattle.tso_machine.specs.Outcomes.{IsShownRun, IsForeignRun}
 use Rattle.cover_solver.specs.Facts.{Asked, IsListOf}
 use Rattle.cover_solver.proofs.Tables.{foreign_again, passes_none, replays_unfenced}
-use Rattle.cover_solver.proofs.oracle.Solver.foreign.Goals as goal
+use Rattle.cover_solver.proofs.solver.Solver.foreign.Goals as goal
 
 pub of-requires-clause-foreign : goal.of-requires-clause-foreign
 of-requires-clause-foreign c =
