@@ -15,7 +15,7 @@ ghost use Rattle.cover_solver.specs.Ordered.{Ascend};
 use crate::found::Found;
 use crate::ordered::place_of;
 use crate::reads_writes::WholeAccesses;
-use crate::run::shown_run;
+use crate::run::{run_if_complete, shown_run};
 use crate::same_machine::have_same_machine;
 use crate::sketch_in::sketch_in;
 use exec_axioms::{Mode, Sketch};
@@ -110,12 +110,9 @@ fn run_in(
 fn run_of(alloc: Global, sketch: &Sketch, shown: &Shown) -> Result<Option<MadeRun>, AllocError>
     ensures { IfOk result (λ found. IfSome found (IsShownRunOf sketch.now shown.now)) }
 {
-    if !sketch.is_complete() {
-        return Ok(None);
-    }
     match sketch.find_cycle()? {
         Some(_) => Ok(None),
-        None => Ok(Some(shown_run(alloc, sketch, shown)?)),
+        None => run_if_complete(alloc, sketch, shown),
     }
 }
 

@@ -1,5 +1,5 @@
 //! Runs of complete sketches, as far as their outcomes are shown.
-ghost use Rattle.std.specs.Prelude.{◌≡◌, IfOk};
+ghost use Rattle.std.specs.Prelude.{◌≡◌, IfOk, MatchOption};
 ghost use Rattle.exec_axioms.specs.Known.{HasNoCycle};
 ghost use Rattle.exec_axioms.specs.Complete.{IsComplete};
 ghost use Rattle.tso_program.specs.Shown.{show};
@@ -20,10 +20,26 @@ pub(crate) fn shown_run(
     requires acyclic { HasNoCycle sketch.now }
     ensures { IfOk result (IsShownRunOf sketch.now shown.now) }
 {
+    match run_if_complete(alloc, sketch, shown)? {
+        Some(run) => Ok(run),
+        None => unreachable!(),
+    }
+}
+
+/// The same of a sketch that need not be complete. `None` if it is not.
+pub(crate) fn run_if_complete(
+    alloc: Global,
+    sketch: &Sketch,
+    shown: &Shown,
+) -> Result<Option<MadeRun>, AllocError>
+    requires acyclic { HasNoCycle sketch.now }
+    ensures { IfOk result (λ found. MatchOption found (IsComplete sketch.now → ⊥) (IsShownRunOf sketch.now shown.now)) }
+{
     match make_run(alloc, sketch) {
-        Ok(run) => Ok(as_shown(run, shown)),
+        Ok(run) => Ok(Some(as_shown(run, shown))),
+        Err(MakeFault::NotComplete) => Ok(None),
         Err(MakeFault::OutOfMemory) => Err(AllocError),
-        Err(_) => unreachable!(),
+        Err(MakeFault::NoRun) => unreachable!(),
     }
 }
 
