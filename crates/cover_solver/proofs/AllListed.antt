@@ -1,11 +1,11 @@
 -- What is found of all outcomes in one mode.
-use Rattle.std.proofs.Common.{◌≡◌, List, Contains, Bor, refl, sym, ◌∙◌, subst}
+use Rattle.std.proofs.Common.{◌≡◌, List, Contains, Bor, Box, Global, refl, sym, ◌∙◌, subst}
 use Rattle.tso_program.specs.declared.outcome.Outcome.{Outcome}
 use Rattle.tso_machine.specs.declared.mode.Mode as own
 use Rattle.tso_machine.specs.Machine.{Mode}
 use Rattle.tso_machine.specs.Modes.{machine_mode}
 use Rattle.tso_program.specs.Shown.{Question}
-use Rattle.exec_axioms.specs.ProgramSketches.{ProgramSketch}
+use Rattle.exec_axioms.specs.declared.sketch.Sketch.{Sketch}
 use Rattle.run_maker.specs.declared.run.MadeRun.{MadeRun}
 use Rattle.cover_solver.specs.declared.fault.Stop.{Stop}
 use Rattle.cover_solver.specs.declared.fault.Stop.TheVariants as stop
@@ -28,12 +28,12 @@ runs_found q mode last found other old new first stays is runs =
     subst (HasRunsIn q mode) (sym same ∙ is) (subst (HasRunOfEach q) same runs)
 
 -- and a search in that mode does not stop at a run
-pub never_new : (q : Question) (mode : own.Mode) (found : Found) (old new : Listed) (run : MadeRun) (sketch : ProgramSketch) → old ≡ Open found mode → StaysOf old new → StopIs q (machine_mode q.program mode) new (stop.New run sketch) → ⊥
+pub never_new : (q : Question) (mode : own.Mode) (found : Found) (old new : Listed) (run : MadeRun) (sketch : Box Sketch Global) → old ≡ Open found mode → StaysOf old new → StopIs q (machine_mode q.program mode) new (stop.New run sketch) → ⊥
 never_new q mode found old new run sketch first stays is =
     let (middle, same) = subst (λ (o : Listed). StaysOf o new) first stays in
     (subst (λ (o : Listed). StopIs q (machine_mode q.program mode) o (stop.New run sketch)) same is) refl
 
 -- a search by a closed list stops at a run whose outcome is not in it
-pub not_listed : (q : Question) (machine : Mode) (outcomes : Bor (List Outcome)) (why : Stop) (run : MadeRun) (sketch : ProgramSketch) → why ≡ stop.New run sketch → StopIs q machine (Closed outcomes) why →
+pub not_listed : (q : Question) (machine : Mode) (outcomes : Bor (List Outcome)) (why : Stop) (run : MadeRun) (sketch : Box Sketch Global) → why ≡ stop.New run sketch → StopIs q machine (Closed outcomes) why →
     Contains outcomes.now run.outcome → ⊥
 not_listed q machine outcomes why run sketch same is = (subst (StopIs q machine (Closed outcomes)) same is).1

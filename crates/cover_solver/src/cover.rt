@@ -105,7 +105,7 @@ fn end(
         Some(number) => Ok(CoverTree::Known { run: number as u64 }),
         None => Err(Stop::New {
             run: shown_run(alloc, sketch, shown)?,
-            sketch: sketch.copy()?,
+            sketch: Box::new(alloc, sketch.copy()?)?,
         }),
     }
 }

@@ -68,8 +68,8 @@ impl<T: Drop> From<AllocFailed<T>> for ForeignFault {
 /// Why a search for a tree ends without one.
 #[derive(Drop)]
 pub(crate) enum Stop {
-    /// A run has an outcome that is not in the list. The sketch is that of its candidate execution.
-    New { run: MadeRun, sketch: Sketch },
+    /// A run has an outcome that is not in the list. The sketch is complete, and the run is one of it.
+    New { run: MadeRun, sketch: Box<Sketch> },
     OutOfMemory,
 }
 

@@ -1,7 +1,7 @@
-//! Foreign runs that the search for the sequential outcomes came upon.
+//! Foreign runs of the candidate executions at which the search for the sequential outcomes left holes.
 //!
-//! Each hole of what that search kept has a run with no gap fenced, and most of these runs are foreign. A foreign
-//! run answers the question about each set of which it passes no gap, without a search.
+//! Each hole has a run with no gap fenced, and most of these runs are foreign. A foreign run answers the question
+//! about each set of which it passes no gap, without a search.
 ghost use Rattle.std.specs.Prelude.{◌≤◌, IfOk, OnOk, length};
 ghost use Rattle.cover_solver.specs.Facts.{AreOf};
 
@@ -15,8 +15,7 @@ use run_maker::{MakeFault, make_run_for};
 use std::alloc::{AllocError, Global};
 use tso_machine::Label;
 
-/// Foreign runs of the holes, those first that pass the fewest gaps. Of runs that pass the same gaps there is
-/// one.
+/// Foreign runs of the holes, those first that pass the fewest gaps. Of runs that pass the same gaps there is one.
 pub(crate) fn kept_runs(
     alloc: Global,
     table: &SeqTable,
@@ -29,7 +28,8 @@ pub(crate) fn kept_runs(
     Ok(runs)
 }
 
-/// Adds foreign runs of the tree's holes.
+/// Adds foreign runs of the tree's holes. Of a candidate execution whose own run is not added no other is tried:
+/// holes are many, and most of their runs pass the gaps of one that is there.
 fn add_runs(
     alloc: Global,
     table: &SeqTable,
@@ -56,7 +56,7 @@ fn add_runs(
     }
 }
 
-/// Adds other runs of a candidate execution, which pass other gaps: one for each thread.
+/// Tries one more run of a candidate execution for each thread. It may pass other gaps.
 fn add_others(
     alloc: Global,
     table: &SeqTable,
@@ -66,7 +66,7 @@ fn add_others(
     requires { AreOf table.now.question runs.old.items }
     ensures { OnOk result (AreOf table.now.question runs.new.items) }
 {
-    // The sketch of a hole is complete and has no cycle, which no clause says.
+    // The sketch of a hole is complete and has no cycle. No clause says so.
     if sketch.find_cycle()?.is_some() {
         return Ok(());
     }
@@ -74,14 +74,15 @@ fn add_others(
         match make_run_for(alloc, sketch, thread) {
             Ok(run) => add_run(alloc, table, &run.labels, runs)?,
             Err(MakeFault::OutOfMemory) => return Err(AllocError),
-            Err(_) => false,
+            Err(MakeFault::NotComplete | MakeFault::NoRun) => false,
         };
     }
     Ok(())
 }
 
-/// Adds the run of these labels, and answers whether it did. It adds nothing if the outcome is sequential, which
-/// another candidate execution may have shown after the hole was made, or if one of the runs passes no other gaps.
+/// Adds the run of these labels, and answers whether it did. It adds nothing if the outcome is sequential: another
+/// candidate execution may have shown that after the hole was made. Nor does it if a run that is there passes none
+/// but gaps that this one passes too.
 fn add_run(
     alloc: Global,
     table: &SeqTable,
@@ -94,18 +95,18 @@ fn add_run(
     let run = match ForeignRun::new(alloc, table, labels) {
         Ok(run) => run,
         Err(ForeignFault::OutOfMemory) => return Err(AllocError),
-        Err(_) => return Ok(false),
+        Err(ForeignFault::Sequential | ForeignFault::Replay(_)) => return Ok(false),
     };
     let passed = run.passed();
-    if one_passes_no_others(runs, &passed) {
+    if one_passes_only(runs, &passed) {
         return Ok(false);
     }
     runs.insert(place_for(runs, &passed), run)?;
     Ok(true)
 }
 
-/// Whether one of the runs passes no gap that is not in the set.
-fn one_passes_no_others(runs: &[ForeignRun], set: &GapSet) -> bool {
+/// Whether one of the runs passes only gaps of the set.
+fn one_passes_only(runs: &[ForeignRun], set: &GapSet) -> bool {
     for run in runs {
         if set.holds_all(&run.passed()) {
             return true;

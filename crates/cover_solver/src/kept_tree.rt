@@ -15,10 +15,16 @@ pub(crate) enum KeptTree {
     /// A tree without a hole.
     Closed(CoverTree),
     /// What is kept for each value of the thread's next read. One of them has a hole.
-    Values { thread: u8, children: Vec<KeptTree> },
-    /// Each read has its value, and with no gap fenced there is a run whose outcome was not in the list: this one,
-    /// of the candidate execution that the sketch has become.
-    Hole { labels: Vec<Label>, sketch: Sketch },
+    Values {
+        thread: u8,
+        children: Vec<KeptTree>,
+    },
+    /// Each read has its value. The labels are a run with no gap fenced whose outcome was not in the list. The
+    /// sketch is complete, and the run is one of it. The tree says neither, and whoever reads them judges them.
+    Hole {
+        labels: Vec<Label>,
+        sketch: Box<Sketch>,
+    },
 }
 
 impl KeptTree {

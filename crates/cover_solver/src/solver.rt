@@ -1,4 +1,4 @@
-//! The oracle that knows the sequential outcomes and searches.
+//! The solver: an oracle that answers by kept runs, or else by a search.
 ghost use Rattle.std.specs.Prelude.{◌≡◌, false, IfOk, IfSome, Contains};
 ghost use Rattle.tso_program.specs.Fences.{gaps_in};
 ghost use Rattle.tso_machine.specs.Machine.{Fenced};
@@ -28,8 +28,8 @@ use std::sync::Arc;
 use tso_machine::{Model, ReplayFault, replay_shown};
 use tso_program::{Outcome, Program, Shown};
 
-/// Answers by a run that the search for the sequential outcomes came upon, or else by a search through candidate
-/// executions.
+/// Answers by a run of a candidate execution at which the search for the sequential outcomes left a hole, or else
+/// by a search through candidate executions.
 #[derive(Drop)]
 pub struct Solver {
     alloc: Global,
@@ -38,7 +38,7 @@ pub struct Solver {
     outcomes: Vec<Outcome>,
     /// What the search for the sequential outcomes kept.
     kept: Arc<KeptTree>,
-    /// The foreign runs that it came upon, those first that pass the fewest gaps.
+    /// Foreign runs of its holes, those first that pass the fewest gaps.
     runs: Vec<ForeignRun>,
 }
 

@@ -7,18 +7,18 @@ use tso_program::MAX_ACCESSES;
 
 /// The events, listed by thread and index, in an order that turns round as few pairs of a thread as it
 /// can: a run passes the gaps between a store and a later load that comes before it. Each two events of
-/// a thread keep their order where no edge forbids it, those of the thread that is named before all others.
+/// a thread keep their order where no edge forbids it. If a thread is named, its pairs are settled first.
 pub(crate) fn settled(
     alloc: Global,
     sketch: &Sketch,
     kind: Kind,
     events: &[Event],
-    first: Option<u8>,
+    thread: Option<u8>,
 ) -> Result<Vec<Event>, AllocError> {
     let mut rows = known_rows(alloc, sketch, kind, events)?;
     close(rows.as_mut_slice());
-    if first.is_some() {
-        settle_pairs(rows.as_mut_slice(), events, first);
+    if thread.is_some() {
+        settle_pairs(rows.as_mut_slice(), events, thread);
     }
     settle_pairs(rows.as_mut_slice(), events, None);
     by_count(alloc, rows.as_slice(), events)

@@ -175,7 +175,7 @@ fn push_replayed(
     Ok(ended.passed)
 }
 
-/// The run that is made for a thread, with the gaps that it passes, or where none is named the run that is made.
+/// The run that is made for a thread, with the gaps that it passes. If no thread is named, the run that is made.
 fn push_made(
     alloc: Global,
     sketch: &Sketch,
