@@ -20,8 +20,33 @@ pub struct Placement {
     pub workers: u8,
     /// The file to which the certificate is written.
     pub certificate: Option<String>,
+    /// The file to which the fenced program is written.
+    pub output: Option<String>,
     /// Tell apart only what the condition and `locations` name.
     pub observed: bool,
+    /// Report by the status whether the answer has a gap.
+    pub check: bool,
+    pub litmus: String,
+}
+
+/// A list of outcomes that is asked for. The file is given by its name.
+#[derive(Debug, Drop)]
+pub struct OutcomeQuery {
+    pub model: Model,
+    /// Show only what the condition and `locations` name.
+    pub observed: bool,
+    /// Report by the status whether the condition fails.
+    pub check: bool,
+    pub litmus: String,
+}
+
+/// A list of gaps that is asked for. Files are given by their names.
+#[derive(Debug, Drop)]
+pub struct GapQuery {
+    /// The file of the gaps' costs; without one each gap costs 1.
+    pub costs: Option<String>,
+    /// Print a cost file in place of the list.
+    pub template: bool,
     pub litmus: String,
 }
 
@@ -37,18 +62,15 @@ pub enum Job {
         graph: Option<String>,
     },
     /// List the outcomes of the program of a litmus file.
-    Outcomes {
-        model: Model,
-        /// Show only what the condition and `locations` name.
-        observed: bool,
-        litmus: String,
-    },
+    Outcomes(OutcomeQuery),
     /// Place fences in the program of a litmus file.
     Place(Placement),
-    /// Show for each fence of a placement, which writes no certificate, why it is needed.
+    /// Show for each fence of a placement, which writes nothing itself, why it is needed.
     Why {
         placement: Placement,
         /// The file to which the graphs of the runs are written.
         graphs: Option<String>,
     },
+    /// List the gaps of the program of a litmus file.
+    Gaps(GapQuery),
 }

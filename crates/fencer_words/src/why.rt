@@ -44,7 +44,9 @@ pub fn why_job(alloc: Global, matches: &ArgMatches<'_>) -> Result<Job, AllocErro
         costs: text_given(alloc, matches, "costs")?,
         workers: workers_of(value_in(matches, "workers")),
         certificate: None,
+        output: None,
         observed: is_flagged(matches, "observed"),
+        check: false,
         litmus: text_in(alloc, matches, "litmus")?,
     };
     Ok(Job::Why {
