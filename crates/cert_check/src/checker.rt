@@ -7,7 +7,7 @@ ghost use Rattle.tso_program.specs.declared.listing.Listing.{Listing};
 ghost use Rattle.tso_program.specs.declared.outcome.Outcome.{Outcome};
 ghost use Rattle.tso_program.specs.Shown.{Question, asked};
 ghost use Rattle.tso_program.specs.Fences.{gaps_in};
-ghost use Rattle.tso_machine.specs.Machine.{Sequential, Fenced};
+ghost use Rattle.tso_machine.specs.Machine.{SequentialMachine, StoreBufferMachine};
 ghost use Rattle.tso_machine.specs.Outcomes.{Headline, IsTheAnswer};
 ghost use Rattle.candidate_executions.specs.Sketches.{empty_sketch};
 ghost use Rattle.tree_laws.specs.CoverTrees.{IsValidCover};
@@ -144,7 +144,7 @@ fn sequential_list(
     certificate: &Certificate,
 ) -> Result<Vec<Outcome>, CheckFault>
     ensures replayed { IfOk result (λ listed. AreSequentialRuns (asked program.now shown.now) certificate.now.seq_runs listed.items) }
-    ensures sequential { IfOk result (λ listed. IsValidCover (asked program.now shown.now) Sequential listed.items certificate.now.seq_tree (empty_sketch program.now)) }
+    ensures sequential { IfOk result (λ listed. IsValidCover (asked program.now shown.now) SequentialMachine listed.items certificate.now.seq_tree (empty_sketch program.now)) }
     ensures fault { (costs : List ℕ) → HasHead (asked program.now shown.now) costs certificate.now
         → IfErr result (CheckFaultIs (asked program.now shown.now) costs certificate.now) }
 {
@@ -206,7 +206,7 @@ fn check_fenced(
     certificate: &Certificate,
     listed: &[Outcome],
 ) -> Result<(), CheckFault>
-    ensures fenced { OnOk result (IsValidCover (asked program.now shown.now) (Fenced (gaps_in program.now certificate.now.gaps)) listed.now certificate.now.fenced_tree (empty_sketch program.now)) }
+    ensures fenced { OnOk result (IsValidCover (asked program.now shown.now) (StoreBufferMachine (gaps_in program.now certificate.now.gaps)) listed.now certificate.now.fenced_tree (empty_sketch program.now)) }
     ensures fault { (costs : List ℕ) → HasForeignRuns (asked program.now shown.now) costs certificate.now listed.now
         → IfErr result (CheckFaultIs (asked program.now shown.now) costs certificate.now) }
 {

@@ -119,7 +119,7 @@ impl Names {
     /// These and the register or location at a place: register r of thread t is at `REGISTERS * t + r`, location l
     /// at `REGISTER_PLACES + l`.
     pub fn with_place(self, place: u8) -> Names
-        requires { place < 56 }
+        requires { place < PLACES }
         ensures { result ≡ set.insert self place }
     {
         Names {
