@@ -10,10 +10,14 @@ ghost use Rattle.fencecheck.specs.Internal.Names.{file_names_of};
 use crate::judge::{judge, refusal_line};
 use crate::parts::{CERTIFICATE_LIMIT, read_joined};
 use program_streams::{
-    FileFault, FileStore, TEXT_LIMIT, bytes_if_named, file_line, named_bytes, print,
+    FileFault, FileStore, TEXT_LIMIT, asks_version, bytes_if_named, file_line, named_bytes, print,
+    version_line,
 };
 use std::alloc::{AllocError, Global};
 use std::io::{Read, Write};
+
+/// The program's name.
+const NAME: &str = "fencecheck";
 
 const USAGE: &[u8] = b"\
 usage: fencecheck LITMUS CERTIFICATE [COSTS]
@@ -150,6 +154,9 @@ pub fn run_command<S: FileStore, R: Read, W: Write>(
     // With no words no more is read than shows that a part of the input is too long.
     ensures read { words.now ≡ [] → ReadsEnough (R.remaining input.old) (R.remaining input.new) }
 {
+    if asks_version(words) {
+        return print(output, version_line(alloc, NAME), 0);
+    }
     if is_misused(words) {
         return print(output, usage_text(alloc), 2);
     }

@@ -2,10 +2,14 @@
 #![tactic(auto)]
 
 mod command;
+mod delivery;
+mod gaps;
 mod outcomes;
 mod place;
 mod refusals;
 mod replays;
+mod status;
+mod texts;
 mod traces;
 mod whys;
 

@@ -2,16 +2,17 @@
 
 ghost use Rattle.std.specs.Prelude.{◌≡◌, IfOk, IfErr};
 ghost use Rattle.program_streams.specs.Streams.{Prints};
-ghost use Rattle.fencer.specs.Outcomes.{list_text, PrintsOutcomes, HasNoList, AreOutcomes};
+ghost use Rattle.fencer.specs.Outcomes.{list_text, list_status, PrintsOutcomes, HasNoList, AreOutcomes};
 
-use crate::refusals::{Refusal, print_answer};
+use crate::refusals::{Refusal, Reply, print_answer};
+use crate::status::check_status;
 use cover_solver::{SolveFault, outcomes};
+use fencer_words::OutcomeQuery;
 use litmus_text::{Litmus, read_litmus};
 use program_streams::{FileStore, TEXT_LIMIT, file_line, named_bytes, print};
-use report::{condition_line, observation_line, outcome_line};
+use report::{condition_line, is_true_of, observation_line, outcome_line};
 use std::alloc::{AllocError, Global};
 use std::io::{Read, Write};
-use tso_machine::Model;
 use tso_program::{Outcome, Program, Shown};
 
 /// How many outcomes there are, each of them as far as it is shown, and what they show of the condition.
@@ -34,21 +35,24 @@ fn list_lines(
     Ok(lines)
 }
 
-/// The lines of the outcomes of the program that a text spells.
-fn outcomes_lines(
-    alloc: Global,
-    bytes: &[u8],
-    model: Model,
-    observed: bool,
-) -> Result<Vec<u8>, Refusal>
-    ensures list { IfOk result (λ lines. PrintsOutcomes model observed bytes.now lines.items) }
+/// The status of a list: with a check 3 where the condition fails.
+fn list_status(check: bool, litmus: &Litmus<Program>, outcomes: &[Outcome]) -> u8
+    ensures { result ≡ list_status check litmus.now outcomes.now }
+{
+    check_status(check, !is_true_of(&litmus.condition, outcomes))
+}
+
+/// The lines of the outcomes of the program that a text spells, with their status.
+fn outcomes_reply(alloc: Global, bytes: &[u8], asked: &OutcomeQuery) -> Result<Reply, Refusal>
+    ensures list { IfOk result (λ reply. PrintsOutcomes asked.now.model asked.now.observed asked.now.check bytes.now reply.status reply.lines.items) }
     ensures refused { IfErr result (HasNoList bytes.now) }
 {
     let litmus = read_litmus(alloc, bytes)?;
-    let shown = litmus.shown_as(observed);
-    let list = outcomes(alloc, &litmus.program, model, &shown)?;
+    let shown = litmus.shown_as(asked.observed);
+    let list = outcomes(alloc, &litmus.program, asked.model, &shown)?;
+    let status = list_status(asked.check, &litmus, &list);
     match list_lines(alloc, &litmus, &shown, &list) {
-        Ok(lines) => Ok(lines),
+        Ok(lines) => Ok(Reply { lines, status }),
         Err(_) => Err(Refusal::Solve(SolveFault::OutOfMemory)),
     }
 }
@@ -57,20 +61,14 @@ fn outcomes_lines(
 pub fn run_outcomes<S: FileStore, R: Read, W: Write>(
     alloc: Global,
     files: &S,
-    model: Model,
-    observed: bool,
-    litmus: &str,
+    asked: &OutcomeQuery,
     input: &mut R,
     output: &mut W,
 ) -> u8
-    ensures { Prints (AreOutcomes model observed litmus.now (R.remaining input.old) (S.held files.now)) (W.contents output.old) (W.contents output.new) result }
+    ensures { Prints (AreOutcomes asked.now (R.remaining input.old) (S.held files.now)) (W.contents output.old) (W.contents output.new) result }
 {
-    match named_bytes(alloc, files, litmus, input, TEXT_LIMIT) {
-        Ok(bytes) => print_answer(
-            alloc,
-            outcomes_lines(alloc, &bytes, model, observed),
-            output,
-        ),
+    match named_bytes(alloc, files, asked.litmus.as_str(), input, TEXT_LIMIT) {
+        Ok(bytes) => print_answer(alloc, outcomes_reply(alloc, &bytes, asked), output),
         Err(fault) => print(output, file_line(alloc, fault), 1),
     }
 }

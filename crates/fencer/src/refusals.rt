@@ -80,12 +80,19 @@ pub(crate) fn refusal_line(alloc: Global, why: Refusal) -> Result<Vec<u8>, Alloc
     }
 }
 
+/// The lines of an answer, with their status.
+#[derive(Debug, Drop)]
+pub struct Reply {
+    pub lines: Vec<u8>,
+    pub status: u8,
+}
+
 /// Prints the lines of an answer, or why there is no answer, and returns the status.
-pub fn print_answer<W: Write>(alloc: Global, answer: Result<Vec<u8>, Refusal>, output: &mut W) -> u8
+pub fn print_answer<W: Write>(alloc: Global, answer: Result<Reply, Refusal>, output: &mut W) -> u8
     ensures { Prints (IsTold answer) (W.contents output.old) (W.contents output.new) result }
 {
     match answer {
-        Ok(lines) => print(output, Ok(lines), 0),
+        Ok(reply) => print(output, Ok(reply.lines), reply.status),
         Err(why) => print(output, refusal_line(alloc, why), 1),
     }
 }

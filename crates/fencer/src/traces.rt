@@ -1,17 +1,17 @@
 //! Traces: the table of a run with its lines, or why there is no run.
 
-ghost use Rattle.std.specs.Prelude.{◌≡◌, ◌++◌, IfOk, IfErr, option_map};
+ghost use Rattle.std.specs.Prelude.{◌≡◌, ◌++◌, None, IfOk, IfErr, option_map};
 ghost use Rattle.tso_program.specs.declared.shown.Shown.TheVariants.{All};
 ghost use Rattle.std.specs.FinSet as set;
 ghost use Rattle.tso_machine.specs.Faults.{ReplayFaultIs};
 ghost use Rattle.tso_machine.specs.Modes.{machine_of_model};
 ghost use Rattle.report.specs.Answers.{outcome_line, passed_line};
 ghost use Rattle.program_streams.specs.Streams.{Prints};
-ghost use Rattle.fencer.specs.Placements.{KeepFiles};
+ghost use Rattle.fencer.specs.Deliveries.{KeepFilesBut};
 ghost use Rattle.fencer.specs.Replays.{label_words_text, HasNoRun};
 ghost use Rattle.fencer.specs.Traces.{PrintsTrace, IsTrace, IsTraceOf};
 
-use crate::place::{Answer, deliver};
+use crate::delivery::{Answer, deliver};
 use crate::refusals::{Refusal, refusal_line};
 use crate::replays::{ended_lines, steps_of};
 use fencer_words::Run;
@@ -84,6 +84,7 @@ fn trace_answer(
     labels: &[String],
 ) -> Result<Answer, Refusal>
     ensures run { IfOk result (λ answer. PrintsTrace model (label_words_text labels.now) bytes.now answer.lines.items) }
+    ensures ends { IfOk result (λ answer. answer.status ≡ 0) }
     ensures refused { IfErr result (HasNoRun model (label_words_text labels.now) bytes.now) }
 {
     let litmus = read_litmus(alloc, bytes)?;
@@ -94,7 +95,9 @@ fn trace_answer(
     match traced_lines(alloc, table, &litmus, &ended) {
         Ok(lines) => Ok(Answer {
             lines,
-            written: graph,
+            status: 0,
+            first: Vec::new(alloc),
+            second: graph,
         }),
         Err(_) => Err(Refusal::Replay(ReplayFault::OutOfMemory)),
     }
@@ -110,10 +113,10 @@ fn trace_text<S: WritableFileStore, W: Write>(
     output: &mut W,
 ) -> u8
     ensures told { Prints (IsTraceOf asked.now (option_map (λ name. name.now) graph.entry) bytes.now (S.held files.old) (S.held files.new)) (W.contents output.old) (W.contents output.new) result }
-    ensures others { KeepFiles (option_map (λ name. name.now) graph.entry) (S.held files.old) (S.held files.new) }
+    ensures others { KeepFilesBut None (option_map (λ name. name.now) graph.entry) (S.held files.old) (S.held files.new) }
 {
     match trace_answer(alloc, bytes, asked.model, asked.labels.as_slice()) {
-        Ok(answer) => deliver(alloc, files, graph, answer, output),
+        Ok(answer) => deliver(alloc, files, None, graph, answer, output),
         Err(why) => print(output, refusal_line(alloc, why), 1),
     }
 }
@@ -129,7 +132,7 @@ pub fn run_trace<S: WritableFileStore, R: Read, W: Write>(
     output: &mut W,
 ) -> u8
     ensures told { Prints (IsTrace asked.now (option_map (λ name. name.now) graph.entry) (R.remaining input.old) (S.held files.old) (S.held files.new)) (W.contents output.old) (W.contents output.new) result }
-    ensures others { KeepFiles (option_map (λ name. name.now) graph.entry) (S.held files.old) (S.held files.new) }
+    ensures others { KeepFilesBut None (option_map (λ name. name.now) graph.entry) (S.held files.old) (S.held files.new) }
 {
     match named_bytes(alloc, &*files, asked.litmus.as_str(), input, TEXT_LIMIT) {
         Ok(bytes) => trace_text(alloc, files, asked, graph, &bytes, output),

@@ -1,12 +1,14 @@
 //! Reasons: a run for each fence of a placement that shows why the fence is needed, or why there is no answer.
 
-ghost use Rattle.std.specs.Prelude.{IfErr, IfOk, option_map};
+ghost use Rattle.std.specs.Prelude.{IfErr, IfOk, None, option_map};
 ghost use Rattle.program_streams.specs.Streams.{Prints};
 ghost use Rattle.placed_text.specs.TextFaults.{HasNoPlacedText};
-ghost use Rattle.fencer.specs.Placements.{KeepFiles};
+ghost use Rattle.fencer.specs.Deliveries.{KeepFilesBut};
 ghost use Rattle.fencer.specs.Whys.{IsExplained, IsExplainedText};
 
-use crate::place::{Answer, Texts, deliver, read_texts, text_fault_line};
+use crate::delivery::{Answer, deliver};
+use crate::place::text_fault_line;
+use crate::texts::{Texts, read_texts};
 use fencer_words::Placement;
 use program_streams::{WritableFileStore, file_line, print};
 use std::alloc::Global;
@@ -27,7 +29,7 @@ fn explain_texts<T: Threads + Sync, U: Wait + Sync, S: WritableFileStore, W: Wri
     output: &mut W,
 ) -> u8
     ensures told { Prints (IsExplainedText asked.now (option_map (λ name. name.now) graphs.entry) texts.now.litmus.items (option_map (λ text. text.items) texts.now.costs) (S.held files.old) (S.held files.new)) (W.contents output.old) (W.contents output.new) result }
-    ensures others { KeepFiles (option_map (λ name. name.now) graphs.entry) (S.held files.old) (S.held files.new) }
+    ensures others { KeepFilesBut None (option_map (λ name. name.now) graphs.entry) (S.held files.old) (S.held files.new) }
 {
     let costs = texts.costs.as_deref();
     match why_text(
@@ -43,9 +45,11 @@ fn explain_texts<T: Threads + Sync, U: Wait + Sync, S: WritableFileStore, W: Wri
             let WhyText { lines, graph } = reasons;
             let answer = Answer {
                 lines,
-                written: graph,
+                status: 0,
+                first: Vec::new(alloc),
+                second: graph,
             };
-            deliver(alloc, files, graphs, answer, output)
+            deliver(alloc, files, None, graphs, answer, output)
         }
         Err(fault) => print(output, text_fault_line(alloc, fault), 1),
     }
@@ -64,9 +68,10 @@ pub fn run_why<T: Threads + Sync, U: Wait + Sync, S: WritableFileStore, R: Read,
     output: &mut W,
 ) -> u8
     ensures told { Prints (IsExplained asked.now (option_map (λ name. name.now) graphs.entry) (R.remaining input.old) (S.held files.old) (S.held files.new)) (W.contents output.old) (W.contents output.new) result }
-    ensures others { KeepFiles (option_map (λ name. name.now) graphs.entry) (S.held files.old) (S.held files.new) }
+    ensures others { KeepFilesBut None (option_map (λ name. name.now) graphs.entry) (S.held files.old) (S.held files.new) }
 {
-    match read_texts(alloc, &*files, asked, input) {
+    let costs = asked.costs.as_deref();
+    match read_texts(alloc, &*files, asked.litmus.as_str(), costs, input) {
         Ok(texts) => explain_texts(rt, wait, alloc, files, asked, graphs, &texts, output),
         Err(fault) => print(output, file_line(alloc, fault), 1),
     }

@@ -5,9 +5,7 @@ ghost use Rattle.clap.specs.Words.{found_of, rows_of};
 ghost use Rattle.fencer_words.specs.CommandLines.{gaps_app, IsJobOf};
 ghost use Rattle.fencer_words.specs.Commands.{IsBuiltAs};
 
-use crate::arguments::{
-    described_command, flag_arg, is_flagged, litmus_arg, text_given, text_in,
-};
+use crate::arguments::{described_command, flag_arg, is_flagged, litmus_arg, text_given, text_in};
 use crate::job::{GapQuery, Job};
 use crate::place::{COSTS_HELP, file_arg};
 use clap::{ArgMatches, Command};

@@ -6,8 +6,7 @@ ghost use Rattle.fencer_words.specs.CommandLines.{outcomes_app, IsJobOf};
 ghost use Rattle.fencer_words.specs.Commands.{IsBuiltAs};
 
 use crate::arguments::{
-    described_command, flag_arg, is_flagged, litmus_arg, model_arg, model_in, observed_arg,
-    text_in,
+    described_command, flag_arg, is_flagged, litmus_arg, model_arg, model_in, observed_arg, text_in,
 };
 use crate::job::{Job, OutcomeQuery};
 use clap::{ArgMatches, Command};

@@ -44,6 +44,7 @@ module _ (litmus : List ℕ) (costs : Option (List ℕ)) where
       claims = is.same_set;
       valid = is.proof.valid;
     };
+    set = written.set;
   }
 
   module _ (workers : ℕ) where

@@ -28,7 +28,7 @@ pub record IsCertificateOf (q : Question) (costs : List ℕ) (gaps : SetOfGaps) 
 
 -- What the texts tell: the litmus text stands for this program, its gaps have these costs, these gaps are the answer, so that
 -- the headline holds of them; the program's text is the canonical one with an MFENCE in each of them, and is read as that
--- program; the line is made of them and of their total, and the certificate is one of them.
+-- program; the line is made of them and of their total, the certificate is one of them, and the set has them.
 pub record IsPlacedText (litmus : List ℕ) (costs : Option (List ℕ)) (observed : Bool) (texts : PlacedText) : Type 0 where
   pub source : Litmus Listing
   pub of_text : IsLitmus litmus source
@@ -41,6 +41,7 @@ pub record IsPlacedText (litmus : List ℕ) (costs : Option (List ℕ)) (observe
   pub again : IsFencedLitmus texts.program.items (litmus_fenced_at gaps source)
   pub line : texts.answer.items ≡ answer_line source.program (shown_as source observed) gaps (total gap_costs gaps)
   pub certificate : IsCertificateOf (question_of source observed) gap_costs gaps texts.certificate.items
+  pub set : texts.gaps ≡ gaps
 
 -- the texts of what is placed
 pub record AreWrittenTexts (source : Litmus Listing) (shown : Shown) (placed : Placed) (texts : PlacedText) : Type 0 where
@@ -48,3 +49,4 @@ pub record AreWrittenTexts (source : Litmus Listing) (shown : Shown) (placed : P
   pub again : (text : List ℕ) → IsLitmus text source → IsFencedLitmus texts.program.items (litmus_fenced_at placed.set source)
   pub line : texts.answer.items ≡ answer_line source.program shown placed.set placed.cost
   pub certificate : texts.certificate.items ≡ certificate_text placed.certificate
+  pub set : texts.gaps ≡ placed.set

@@ -5,6 +5,7 @@ ghost use Rattle.placed_text.specs.PlacedTexts.{AreWrittenTexts};
 
 use cert_forest::write_cert;
 use fence_place::Placed;
+use gap_sets::GapSet;
 use litmus_text::{Litmus, write_litmus};
 use report::answer_line;
 use std::alloc::{AllocError, Global};
@@ -19,6 +20,8 @@ pub struct PlacedText {
     pub answer: Vec<u8>,
     /// The certificate of the answer.
     pub certificate: Vec<u8>,
+    /// The gaps of the answer.
+    pub gaps: GapSet,
 }
 
 /// Writes what is placed.
@@ -40,5 +43,6 @@ pub(crate) fn write_placed(
         program,
         answer: answer_line(alloc, &litmus.program, shown, placed.set, placed.cost)?,
         certificate: write_cert(alloc, &placed.certificate)?,
+        gaps: placed.set,
     })
 }

@@ -35,7 +35,7 @@ fn frequency(condition: &Condition, outcomes: &[Outcome]) -> &'static str
 }
 
 /// Whether the condition holds of the outcomes.
-fn is_true_of(condition: &Condition, outcomes: &[Outcome]) -> bool
+pub fn is_true_of(condition: &Condition, outcomes: &[Outcome]) -> bool
     ensures { result ≡ is_true_of condition.now.quantifier condition.now.formula outcomes.now }
 {
     match condition.quantifier {

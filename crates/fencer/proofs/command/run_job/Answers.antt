@@ -10,7 +10,7 @@ pub returns-in-Trace-clause-others : goal.returns-in-Trace-clause-others
 returns-in-Trace-clause-others g c = rw c.in-Trace.is (rw c.as_deref.ensures.value at c.run_trace.ensures.others)
 
 pub returns-in-Outcomes-clause-told : goal.returns-in-Outcomes-clause-told
-returns-in-Outcomes-clause-told g c = rw c.in-Outcomes.is (rw c.as_str.ensures.value at c.run_outcomes.ensures)
+returns-in-Outcomes-clause-told g c = rw c.in-Outcomes.is c.run_outcomes.ensures
 
 pub returns-in-Place-clause-told : goal.returns-in-Place-clause-told
 returns-in-Place-clause-told g c = rw c.in-Place.is c.run_place.ensures.told
@@ -23,3 +23,6 @@ returns-in-Why-clause-told g c = rw c.in-Why.is (rw c.as_deref-in-Why.ensures.va
 
 pub returns-in-Why-clause-others : goal.returns-in-Why-clause-others
 returns-in-Why-clause-others g c = rw c.in-Why.is (rw c.as_deref-in-Why.ensures.value at c.run_why.ensures.others)
+
+pub returns-in-Gaps-clause-told : goal.returns-in-Gaps-clause-told
+returns-in-Gaps-clause-told g c = rw c.in-Gaps.is c.run_gaps.ensures

@@ -6,7 +6,7 @@ use Rattle.fencer.proofs.traces.trace_text.Goals as goal
 
 pub returns-in-Ok-clause-told : goal.returns-in-Ok-clause-told
 returns-in-Ok-clause-told g c =
-    prints_more _ _ _ _ c.deliver.result (λ status text is. traced c.in-Ok.answer.lines.items c.in-Ok.answer.written.items status text (rw c.as_slice.ensures.value at c.in-Ok.ensures.run) is) c.deliver.ensures.told
+    prints_more _ _ _ _ c.deliver.result (λ status text is. traced c.in-Ok.answer status text (rw c.as_slice.ensures.value at c.in-Ok.ensures.run) c.in-Ok.ensures.ends is) c.deliver.ensures.told
 
 pub returns-in-Err-clause-told : goal.returns-in-Err-clause-told
 returns-in-Err-clause-told g c =

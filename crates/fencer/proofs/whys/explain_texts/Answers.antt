@@ -7,7 +7,7 @@ use Rattle.fencer.proofs.whys.explain_texts.Goals as goal
 pub returns-in-Ok-clause-told : goal.returns-in-Ok-clause-told
 returns-in-Ok-clause-told g c =
     prints_more _ _ _ _ c.deliver.result
-    (λ status text is. explained c.in-Ok.reasons.lines.items c.in-Ok.reasons.graph.items status text (rw (c.deref.ensures.value, c.as_deref-costs.ensures.value) at c.in-Ok.ensures.told) is) c.deliver.ensures.told
+    (λ status text is. explained _ status text (rw (c.deref.ensures.value, c.as_deref-costs.ensures.value) at c.in-Ok.ensures.told) refl is) c.deliver.ensures.told
 
 pub returns-in-Err-clause-told : goal.returns-in-Err-clause-told
 returns-in-Err-clause-told g c =

@@ -1,0 +1,31 @@
+//! The texts of a program and of its costs.
+
+ghost use Rattle.std.specs.Prelude.{IfErr, IfOk, option_map};
+ghost use Rattle.fencer.specs.InputTexts.{AreTexts, HasNoTexts};
+
+use program_streams::{FileFault, FileStore, TEXT_LIMIT, bytes_if_named, named_bytes};
+use std::alloc::Global;
+use std::io::Read;
+
+/// What the files hold that are read.
+#[derive(Debug, Drop)]
+pub(crate) struct Texts {
+    pub(crate) litmus: Vec<u8>,
+    pub(crate) costs: Option<Vec<u8>>,
+}
+
+/// The texts of a litmus file, which is read first, and of a cost file, where one is named.
+pub(crate) fn read_texts<S: FileStore, R: Read>(
+    alloc: Global,
+    files: &S,
+    litmus: &str,
+    costs: Option<&str>,
+    input: &mut R,
+) -> Result<Texts, FileFault>
+    ensures texts { IfOk result (λ texts. AreTexts litmus.now (option_map (λ name. name.now) costs.entry) (R.remaining input.old) (S.held files.now) texts.litmus.items (option_map (λ text. text.items) texts.costs)) }
+    ensures err { IfErr result (HasNoTexts litmus.now (option_map (λ name. name.now) costs.entry) (R.remaining input.old) (S.held files.now)) }
+{
+    let litmus = named_bytes(alloc, files, litmus, input, TEXT_LIMIT)?;
+    let costs = bytes_if_named(alloc, files, costs, TEXT_LIMIT)?;
+    Ok(Texts { litmus, costs })
+}
