@@ -1,0 +1,50 @@
+-- Values of JSON, and which texts are JSON. Numbers are whole and below 2 ^ 64.
+use Rattle.std.specs.Prelude.{◌≡◌, ℕ, ◌<◌, ◌^◌, Bool, List, [], ◌∷◌}
+use Rattle.std.specs.Fmt.{decimal}
+use Rattle.json_text.specs.Texts.{Field, quoted, array_text, object_text, null_text, truth_text}
+
+mutual
+  pub data Json : Type 0 where
+    Null : Json
+    Truth : Bool → Json
+    Number : (n : ℕ) → n < 2 ^ 64 → Json
+    Text : List ℕ → Json
+    Array : Items → Json
+    Object : Fields → Json
+
+  pub data Items : Type 0 where
+    NoItem : Items
+    MoreItems : Json → Items → Items
+
+  -- each with its name
+  pub data Fields : Type 0 where
+    NoField : Fields
+    MoreFields : List ℕ → Json → Fields → Fields
+
+abbrev mutual
+  pub written : Json → List ℕ
+  written Null = null_text
+  written (Truth value) = truth_text value
+  written (Number n small) = decimal n
+  written (Text bytes) = quoted bytes
+  written (Array items) = array_text (items_written items)
+  written (Object fields) = object_text (fields_written fields)
+
+  pub items_written : Items → List (List ℕ)
+  items_written NoItem = []
+  items_written (MoreItems value items) = written value ∷ items_written items
+
+  pub fields_written : Fields → List Field
+  fields_written NoField = []
+  fields_written (MoreFields name value fields) = (name, written value) ∷ fields_written fields
+
+-- the text is that of a value
+abbrev pub IsJson : List ℕ → Type 0
+IsJson text = (value : Json) × (text ≡ written value)
+
+-- the texts are those of values
+abbrev pub AreJson : List (List ℕ) → Type 0
+AreJson texts = (items : Items) × (texts ≡ items_written items)
+
+abbrev pub AreFields : List Field → Type 0
+AreFields texts = (fields : Fields) × (texts ≡ fields_written fields)
