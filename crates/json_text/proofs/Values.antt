@@ -1,14 +1,13 @@
 -- Texts of values, one more.
 use Rattle.std.proofs.Common.{◌≡◌, ◌∙◌, ℕ, List, [], ◌∷◌, ◌++◌, refl, sym, ap}
-use Rattle.json_text.specs.Texts.{Field}
-use Rattle.json_text.specs.Values.{Json, Items, NoItem, MoreItems, Fields, NoField, MoreFields, written, items_written, fields_written, IsJson, AreJson, AreFields}
+use Rattle.json_text.specs.Texts.{member}
+use Rattle.json_text.specs.Values.{Json, Items, NoItem, MoreItems, Fields, NoField, MoreFields, written, items_written, members_written, IsJson, AreJson, AreMembers}
 
-with_item : Items → Json → Items
+abbrev with_item : Items → Json → Items
 with_item NoItem value = MoreItems value NoItem
 with_item (MoreItems first items) value = MoreItems first (with_item items value)
 
 items_more : (items : Items) (value : Json) → items_written (with_item items value) ≡ items_written items ++ written value ∷ []
-unfolding with_item
 items_more NoItem value = refl
 items_more (MoreItems first items) value = ap (λ (ts : List (List ℕ)). written first ∷ ts) (items_more items value)
 
@@ -16,15 +15,14 @@ pub one_more_item : (texts : List (List ℕ)) (text : List ℕ) → AreJson text
 one_more_item texts text (items, are) (value, is) =
     (with_item items value, ap (λ (ts : List (List ℕ)). ts ++ text ∷ []) are ∙ ap (λ (t : List ℕ). items_written items ++ t ∷ []) is ∙ sym (items_more items value))
 
-with_field : Fields → List ℕ → Json → Fields
+abbrev with_field : Fields → List ℕ → Json → Fields
 with_field NoField name value = MoreFields name value NoField
 with_field (MoreFields first text fields) name value = MoreFields first text (with_field fields name value)
 
-fields_more : (fields : Fields) (name : List ℕ) (value : Json) → fields_written (with_field fields name value) ≡ fields_written fields ++ (name, written value) ∷ []
-unfolding with_field
-fields_more NoField name value = refl
-fields_more (MoreFields first text fields) name value = ap (λ (ts : List Field). (first, written text) ∷ ts) (fields_more fields name value)
+members_more : (fields : Fields) (name : List ℕ) (value : Json) → members_written (with_field fields name value) ≡ members_written fields ++ member name (written value) ∷ []
+members_more NoField name value = refl
+members_more (MoreFields first text fields) name value = ap (λ (ts : List (List ℕ)). member first (written text) ∷ ts) (members_more fields name value)
 
-pub one_more_field : (texts : List Field) (name text : List ℕ) → AreFields texts → IsJson text → AreFields (texts ++ (name, text) ∷ [])
-one_more_field texts name text (fields, are) (value, is) =
-    (with_field fields name value, ap (λ (ts : List Field). ts ++ (name, text) ∷ []) are ∙ ap (λ (t : List ℕ). fields_written fields ++ (name, t) ∷ []) is ∙ sym (fields_more fields name value))
+pub one_more_member : (texts : List (List ℕ)) (name text : List ℕ) → AreMembers texts → IsJson text → AreMembers (texts ++ member name text ∷ [])
+one_more_member texts name text (fields, are) (value, is) =
+    (with_field fields name value, ap (λ (ts : List (List ℕ)). ts ++ member name text ∷ []) are ∙ ap (λ (t : List ℕ). members_written fields ++ member name t ∷ []) is ∙ sym (members_more fields name value))

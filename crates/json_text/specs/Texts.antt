@@ -1,5 +1,5 @@
 -- How JSON is written: without a space, and with `\` escapes for what a string may not hold, and for `<`.
-use Rattle.std.specs.Prelude.{ℕ, ◌+◌, ◌/◌, ◌%◌, ◌==◌, ◌||◌, Bool, true, false, List, [], ◌∷◌, ◌++◌, codes, map, nat_lt, if◌then◌else◌}
+use Rattle.std.specs.Prelude.{ℕ, ◌+◌, ◌/◌, ◌%◌, ◌==◌, ◌||◌, Bool, true, false, List, [], ◌∷◌, ◌++◌, codes, nat_lt, if◌then◌else◌}
 use Rattle.std.specs.List.{flat_map}
 
 -- ---- strings
@@ -37,18 +37,19 @@ abbrev pub listed : List (List ℕ) → List ℕ
 listed [] = []
 listed (text ∷ texts) = text ++ flat_map after_comma texts
 
+-- between two bytes
+abbrev pub enclosed : ℕ → List (List ℕ) → ℕ → List ℕ
+enclosed opening texts closing = opening ∷ (listed texts ++ closing ∷ [])
+
 abbrev pub array_text : List (List ℕ) → List ℕ
-array_text items = 91 ∷ (listed items ++ 93 ∷ [])
+array_text items = enclosed 91 items 93
 
 -- a name of an object, and the text of its value
-abbrev pub Field : Type 0
-Field = List ℕ × List ℕ
+abbrev pub member : List ℕ → List ℕ → List ℕ
+member name value = quoted name ++ 58 ∷ value
 
-abbrev pub field_text : Field → List ℕ
-field_text field = quoted field.0 ++ 58 ∷ field.1
-
-abbrev pub object_text : List Field → List ℕ
-object_text fields = 123 ∷ (listed (map field_text fields) ++ 125 ∷ [])
+abbrev pub object_text : List (List ℕ) → List ℕ
+object_text members = enclosed 123 members 125
 
 -- ---- the rest
 

@@ -1,7 +1,7 @@
 -- Values of JSON, and which texts are JSON. Numbers are whole and below 2 ^ 64.
 use Rattle.std.specs.Prelude.{◌≡◌, ℕ, ◌<◌, ◌^◌, Bool, List, [], ◌∷◌}
 use Rattle.std.specs.Fmt.{decimal}
-use Rattle.json_text.specs.Texts.{Field, quoted, array_text, object_text, null_text, truth_text}
+use Rattle.json_text.specs.Texts.{quoted, array_text, member, object_text, null_text, truth_text}
 
 mutual
   pub data Json : Type 0 where
@@ -28,15 +28,15 @@ abbrev mutual
   written (Number n small) = decimal n
   written (Text bytes) = quoted bytes
   written (Array items) = array_text (items_written items)
-  written (Object fields) = object_text (fields_written fields)
+  written (Object fields) = object_text (members_written fields)
 
   pub items_written : Items → List (List ℕ)
   items_written NoItem = []
   items_written (MoreItems value items) = written value ∷ items_written items
 
-  pub fields_written : Fields → List Field
-  fields_written NoField = []
-  fields_written (MoreFields name value fields) = (name, written value) ∷ fields_written fields
+  pub members_written : Fields → List (List ℕ)
+  members_written NoField = []
+  members_written (MoreFields name value fields) = member name (written value) ∷ members_written fields
 
 -- the text is that of a value
 abbrev pub IsJson : List ℕ → Type 0
@@ -46,5 +46,6 @@ IsJson text = (value : Json) × (text ≡ written value)
 abbrev pub AreJson : List (List ℕ) → Type 0
 AreJson texts = (items : Items) × (texts ≡ items_written items)
 
-abbrev pub AreFields : List Field → Type 0
-AreFields texts = (fields : Fields) × (texts ≡ fields_written fields)
+-- the texts are those of an object's members
+abbrev pub AreMembers : List (List ℕ) → Type 0
+AreMembers texts = (fields : Fields) × (texts ≡ members_written fields)

@@ -2,7 +2,12 @@
 //! element as it is.
 #![tactic(auto)]
 
+mod array;
 mod escape;
 mod json;
+mod listed;
+mod object;
 
+pub use array::JsonArray;
 pub use json::JsonText;
+pub use object::JsonObject;
