@@ -40,11 +40,13 @@ pub(crate) fn located(
 pub(crate) fn gap_name(alloc: Global, program: &Program, gap: u8) -> Result<JsonText, AllocError>
     ensures { IfOk result (λ json. json ≡ quoted (gap_name program.now.threads gap)) }
 {
-    let mut name = String::new(alloc);
-    if let Some((thread, k)) = program.gap_place(gap) {
-        write!(name, "{thread}:{k}")?;
+    match program.gap_place(gap) {
+        Some((thread, k)) => {
+            let name = format!(in alloc; "{thread}:{k}")?;
+            JsonText::string(alloc, name.as_bytes())
+        }
+        None => JsonText::string(alloc, b""),
     }
-    JsonText::string(alloc, name.as_bytes())
 }
 
 /// Gaps by their places, ascending.

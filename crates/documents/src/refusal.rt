@@ -1,5 +1,5 @@
 //! Refusals.
-ghost use Rattle.std.specs.Prelude.{IfOk};
+ghost use Rattle.std.specs.Prelude.{◌≡◌, ◌∷◌, ◌++◌, [], ℕ, List, IfOk, codes};
 ghost use Rattle.json_text.specs.Safe.{IsSafe};
 ghost use Rattle.documents.specs.Documents.{IsRefusalDocument};
 
@@ -38,6 +38,16 @@ fn string_or_null(alloc: Global, text: &[u8]) -> Result<JsonText, AllocError> {
     }
 }
 
+/// What a line of standard output says after `refused `, without its end.
+fn reason_of(line: &[u8]) -> &[u8]
+    ensures { (reason : List ℕ) → line.now ≡ codes "refused " ++ (reason ++ 10 ∷ []) → result.now ≡ reason }
+{
+    match line.strip_prefix(b"refused ") {
+        Some([reason @ .., b'\n']) => reason,
+        _ => line,
+    }
+}
+
 /// The document of a refusal: the line of standard output without `refused ` and its end, and the parts of what is said about it.
 pub fn refusal_document(
     alloc: Global,
@@ -49,7 +59,7 @@ pub fn refusal_document(
 {
     let mut object = JsonObject::new(alloc);
     add_format(alloc, &mut object)?;
-    object.add("refused", JsonText::string(alloc, line)?)?;
+    object.add("refused", JsonText::string(alloc, reason_of(line))?)?;
     object.add("file", string_or_null(alloc, message.file)?)?;
     object.add("line", number_or_null(alloc, message.line)?)?;
     object.add("column", number_or_null(alloc, message.column)?)?;

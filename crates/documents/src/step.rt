@@ -1,8 +1,8 @@
 //! The steps of a run.
-ghost use Rattle.std.specs.Prelude.{◌≡◌, IfOk};
+ghost use Rattle.std.specs.Prelude.{◌≡◌, IfOk, map};
 ghost use Rattle.json_text.specs.Texts.{quoted};
 ghost use Rattle.tso_machine.specs.RunTexts.{spelling};
-ghost use Rattle.documents.specs.Runs.{step_text, IsStep, AreSteps};
+ghost use Rattle.documents.specs.Runs.{step_text, HasLabel, TellsSteps};
 
 use crate::named::located;
 use crate::program::{register_values, values};
@@ -112,7 +112,7 @@ fn step_part(
     step: &Step,
     memory: &[u32],
 ) -> Result<StepPart, AllocError>
-    ensures { IfOk result (IsStep step.now) }
+    ensures { IfOk result (HasLabel step.now.label) }
 {
     let names = &litmus.names;
     let after = &step.after;
@@ -170,7 +170,7 @@ pub(crate) fn steps_array(
     litmus: &Litmus<Program>,
     steps: &[Step],
 ) -> Result<JsonText, AllocError>
-    ensures { IfOk result (AreSteps steps.now) }
+    ensures { IfOk result (TellsSteps (map (λ step. step.label) steps.now)) }
 {
     let mut memory = Vec::from_slice(alloc, litmus.program.memory())?;
     let mut array = JsonArray::new(alloc);

@@ -12,8 +12,10 @@ items_more NoItem value = refl
 items_more (MoreItems first items) value = ap (λ (ts : List (List ℕ)). written first ∷ ts) (items_more items value)
 
 pub one_more_item : (texts : List (List ℕ)) (text : List ℕ) → AreJson texts → IsJson text → AreJson (texts ++ text ∷ [])
-one_more_item texts text (items, are) (value, is) =
-    (with_item items value, ap (λ (ts : List (List ℕ)). ts ++ text ∷ []) are ∙ ap (λ (t : List ℕ). items_written items ++ t ∷ []) is ∙ sym (items_more items value))
+one_more_item texts text some one =
+    let items = some.items in
+    let value = one.value in
+    record { items = with_item items value; are = ap (λ (ts : List (List ℕ)). ts ++ text ∷ []) some.are ∙ ap (λ (t : List ℕ). items_written items ++ t ∷ []) one.is ∙ sym (items_more items value) }
 
 abbrev with_field : Fields → List ℕ → Json → Fields
 with_field NoField name value = MoreFields name value NoField
@@ -24,5 +26,7 @@ members_more NoField name value = refl
 members_more (MoreFields first text fields) name value = ap (λ (ts : List (List ℕ)). member first (written text) ∷ ts) (members_more fields name value)
 
 pub one_more_member : (texts : List (List ℕ)) (name text : List ℕ) → AreMembers texts → IsJson text → AreMembers (texts ++ member name text ∷ [])
-one_more_member texts name text (fields, are) (value, is) =
-    (with_field fields name value, ap (λ (ts : List (List ℕ)). ts ++ member name text ∷ []) are ∙ ap (λ (t : List ℕ). members_written fields ++ member name t ∷ []) is ∙ sym (members_more fields name value))
+one_more_member texts name text some one =
+    let fields = some.fields in
+    let value = one.value in
+    record { fields = with_field fields name value; are = ap (λ (ts : List (List ℕ)). ts ++ member name text ∷ []) some.are ∙ ap (λ (t : List ℕ). members_written fields ++ member name t ∷ []) one.is ∙ sym (members_more fields name value) }

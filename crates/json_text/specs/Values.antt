@@ -39,13 +39,16 @@ abbrev mutual
   members_written (MoreFields name value fields) = member name (written value) ∷ members_written fields
 
 -- the text is that of a value
-abbrev pub IsJson : List ℕ → Type 0
-IsJson text = (value : Json) × (text ≡ written value)
+pub record IsJson (text : List ℕ) : Type 0 where
+  pub value : Json
+  pub is : text ≡ written value
 
 -- the texts are those of values
-abbrev pub AreJson : List (List ℕ) → Type 0
-AreJson texts = (items : Items) × (texts ≡ items_written items)
+pub record AreJson (texts : List (List ℕ)) : Type 0 where
+  pub items : Items
+  pub are : texts ≡ items_written items
 
 -- the texts are those of an object's members
-abbrev pub AreMembers : List (List ℕ) → Type 0
-AreMembers texts = (fields : Fields) × (texts ≡ members_written fields)
+pub record AreMembers (texts : List (List ℕ)) : Type 0 where
+  pub fields : Fields
+  pub are : texts ≡ members_written fields

@@ -26,6 +26,29 @@ impl Model for JsonText {
     ghost invariant = { λ text. IsJson text.bytes.items };
 }
 
+/// A word.
+fn word(value: bool) -> &'static [u8]
+    ensures { result.now ≡ truth_text value }
+{
+    if value { b"true" } else { b"false" }
+}
+
+/// The digits of a number.
+fn digits(alloc: Global, value: u64) -> Result<Vec<u8>, AllocError>
+    ensures { IfOk result (λ text. text.items ≡ decimal value) }
+{
+    Ok(format!(in alloc; "{value}")?.into_bytes())
+}
+
+/// A string.
+fn string(alloc: Global, text: &[u8]) -> Result<Vec<u8>, AllocError>
+    ensures { IfOk result (λ out. out.items ≡ quoted text.now) }
+{
+    let mut out = Vec::new(alloc);
+    push_quoted(&mut out, text)?;
+    Ok(out)
+}
+
 impl JsonText {
     /// The value that says that there is none.
     pub fn null(alloc: Global) -> Result<JsonText, AllocError>
@@ -39,8 +62,7 @@ impl JsonText {
     pub fn truth(alloc: Global, value: bool) -> Result<JsonText, AllocError>
         ensures { IfOk result (λ text. text ≡ truth_text value) }
     {
-        let word = if value { "true" } else { "false" };
-        let bytes = Vec::from_slice(alloc, word.as_bytes())?;
+        let bytes = Vec::from_slice(alloc, word(value))?;
         Ok(JsonText { bytes })
     }
 
@@ -48,7 +70,7 @@ impl JsonText {
     pub fn number(alloc: Global, value: u64) -> Result<JsonText, AllocError>
         ensures { IfOk result (λ text. text ≡ decimal value) }
     {
-        let bytes = format!(in alloc; "{value}")?.into_bytes();
+        let bytes = digits(alloc, value)?;
         Ok(JsonText { bytes })
     }
 
@@ -56,8 +78,7 @@ impl JsonText {
     pub fn string(alloc: Global, text: &[u8]) -> Result<JsonText, AllocError>
         ensures { IfOk result (λ json. json ≡ quoted text.now) }
     {
-        let mut bytes = Vec::new(alloc);
-        push_quoted(&mut bytes, text)?;
+        let bytes = string(alloc, text)?;
         Ok(JsonText { bytes })
     }
 
