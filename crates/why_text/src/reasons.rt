@@ -3,7 +3,6 @@ ghost use Rattle.std.specs.Prelude.{◌≡◌, ◌<◌, true, IfOk, length, map}
 ghost use Rattle.std.specs.FinSet as set;
 ghost use Rattle.gap_sets.specs.declared.gap_set.TheConstants.{MAX_GAPS};
 ghost use Rattle.tso_program.specs.Shown.{asked};
-ghost use Rattle.conditions.specs.Truth.{truth};
 ghost use Rattle.tso_machine.specs.Outcomes.{IsTheAnswer};
 ghost use Rattle.cover_solver.specs.Facts as facts;
 ghost use Rattle.cover_solver.specs.Verdicts.{PassesNoneOf};
@@ -22,7 +21,7 @@ use run_graph::RunGraph;
 use run_table::run_table;
 use std::alloc::{AllocError, Global};
 use tso_machine::{Ended, Label, Model, Step, steps, write_run};
-use tso_program::{Outcome, Program, Shown};
+use tso_program::{Program, Shown};
 
 /// Why a gap is needed.
 #[derive(Drop)]
@@ -113,17 +112,14 @@ fn told(
     run_value(alloc, litmus, shown, Setting::Without(gap), steps, &ended)
 }
 
-/// Whether an outcome meets the condition's formula, as a sentence.
-fn met_line(alloc: Global, litmus: &Litmus<Program>, outcome: &Outcome) -> Result<Vec<u8>, AllocError>
-    ensures { IfOk result (λ line. line.items ≡ met_line (truth outcome.now litmus.now.condition.formula)) }
+/// Whether a run's outcome meets the condition's formula, as a sentence.
+fn met_line(meets: bool) -> &'static [u8]
+    ensures { result.now ≡ met_line meets }
 {
-    if holds(&litmus.condition, outcome) {
-        Vec::from_slice(alloc, b"The outcome is what the condition asks for.\n")
+    if meets {
+        b"The outcome is what the condition asks for.\n"
     } else {
-        Vec::from_slice(
-            alloc,
-            b"The condition is not met by this run; registers or memory end as they sequentially cannot.\n",
-        )
+        b"The condition is not met by this run; registers or memory end as they sequentially cannot.\n"
     }
 }
 
@@ -148,7 +144,7 @@ fn lines_with(
     lines.extend_from_slice(&outcome)?;
     lines.extend_from_slice(&passed)?;
     lines.extend_from_slice(b"No sequential run has this outcome.\n")?;
-    lines.extend_from_slice(&met_line(alloc, litmus, run.outcome())?)?;
+    lines.extend_from_slice(met_line(holds(&litmus.condition, run.outcome())))?;
     Ok(lines)
 }
 
@@ -168,10 +164,11 @@ pub(crate) fn reason_of(
     requires gap { gap < MAX_GAPS }
     ensures { IfOk result (λ reason. IsReason litmus.now shown.now gaps.now gap (reason.lines.items, reason.run)) }
 {
-    let steps = steps_of(alloc, gaps, gap, run)?;
-    push_graph(alloc, graph, litmus, gap, &steps)?;
-    let table = run_table(alloc, litmus, &steps)?;
-    let lines = lines_with(alloc, litmus, shown, gap, run, &table)?;
-    let run = told(alloc, litmus, shown, gap, run, &steps)?;
-    Ok(Reason { lines, run })
+    let all = steps_of(alloc, gaps, gap, run)?;
+    let steps = all.as_slice();
+    push_graph(alloc, graph, litmus, gap, steps)?;
+    let table = run_table(alloc, litmus, steps)?;
+    let lines = lines_with(alloc, litmus, shown, gap, run, table.as_slice())?;
+    let said = told(alloc, litmus, shown, gap, run, steps)?;
+    Ok(Reason { lines, run: said })
 }
