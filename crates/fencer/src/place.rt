@@ -55,6 +55,7 @@ fn joined(texts: PlacedText, check: bool) -> Result<Answer, TextFault>
         answer,
         certificate,
         gaps,
+        document,
     } = texts;
     let mut lines = answer;
     match lines.extend_from_slice(&program) {
