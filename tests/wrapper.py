@@ -214,7 +214,7 @@ def compiled_cases(tell, programs):
         lines = text_of(clone.calls).splitlines()
         tell("a try, a probe, a compilation and a link", [line.split()[0] for line in lines] == ["try", "clang", "clang", "link"], lines)
         words = lines[2].split()
-        tell("what is compiled is optimized", "-O1" in words and "-O0" not in words and "-fsanitize=address" not in words, words)
+        tell("what is compiled is optimized", "-Os" in words and "-O0" not in words and "-fsanitize=address" not in words, words)
         linked = [word for word in lines[-1].split() if word.endswith((".a", ".o"))]
         tell("what is linked", [os.path.basename(it) for it in linked] == ["program.o", "libos_c.a", "liblibc_c.a"], linked)
 
@@ -234,7 +234,7 @@ def other_toolchain_cases(tell, programs):
             called_cases(tell, clone, f"toolchain {kind}")
             tell(f"nothing is left, toolchain {kind}", clone.left() == [], clone.left())
     with cloned(programs) as clone:
-        clone.call("fencer", "--help", given={"FAULTY": "-O1"})
+        clone.call("fencer", "--help", given={"FAULTY": "-Os"})
         status, found, said = clone.call("fencer", "place", "SB.litmus")
         tell("a compiler that refuses the level", (status, said) == (0, "") and found.startswith("answer "), (status, found, said))
     with cloned(programs) as clone:
