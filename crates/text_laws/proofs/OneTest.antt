@@ -10,7 +10,7 @@ use Rattle.litmus_lines.specs.SkippedLines.{AreSkipped}
 use Rattle.litmus_syntax.specs.Views.{PlaceView, BodyView, EndingView}
 use Rattle.litmus_syntax.specs.Grammar.{IsEnding}
 use Rattle.litmus_reader.specs.declared.litmus.Litmus.{Litmus}
-use Rattle.litmus_reader.specs.Names.{Names, number_in}
+use Rattle.litmus_reader.specs.Names.{TextNames, number_in}
 use Rattle.litmus_reader.specs.Places.{names_of}
 use Rattle.litmus_reader.specs.Labels.{all_labels}
 use Rattle.litmus_reader.specs.Meaning.{listing_of, sign_of, condition_of, observed_of}
@@ -38,9 +38,9 @@ test_of name body ending formula =
 
 is_test_of : (tokens : List Tok) (litmus : Litmus Listing) (m : Means tokens litmus) → litmus ≡ test_of litmus.name m.body m.ending m.formula
 is_test_of tokens litmus m =
-    let program = m.program ∙ ap (λ (n : Names). listing_of n.locations m.body) m.names in
-    let condition = m.condition ∙ ap (λ (n : Names). condition_of (number_in n.locations) m.ending.quantifier m.formula) m.names in
-    let observed = m.observed ∙ ap (λ (n : Names). map (observed_of (number_in n.locations)) m.ending.observed) m.names in
+    let program = m.program ∙ ap (λ (n : TextNames). listing_of n.locations m.body) m.names in
+    let condition = m.condition ∙ ap (λ (n : TextNames). condition_of (number_in n.locations) m.ending.quantifier m.formula) m.names in
+    let observed = m.observed ∙ ap (λ (n : TextNames). map (observed_of (number_in n.locations)) m.ending.observed) m.names in
     λ i. record { name = litmus.name; program = program i; names = m.names i; condition = condition i; observed = observed i; labels = m.labels i }
 
 -- tokens have one body, one ending and one formula
