@@ -55,7 +55,7 @@ others : (x : ℕ) (xs : List ℕ) → AllPairs (λ a b. a < b) (x ∷ xs) → A
 others x xs up i j d h l = up (suc i) (suc j) d (omega arith) (omega arith)
 
 -- a set in the region of a child is in that of its parent
-in_parent : (n : Region) (gaps : List ℕ) (i : ℕ) (c : Region) (gaps_in : SetOfGaps) → slice_get (children_of n gaps) i ≡ Some c → IsInRegion c gaps_in → IsInRegion n gaps_in
+in_parent : (n : Region) (gaps : List ℕ) (i : ℕ) (c : Region) (other : SetOfGaps) → slice_get (children_of n gaps) i ≡ Some c → IsInRegion c other → IsInRegion n other
 in_parent n [] i c other e inside = absurd (none-some c e)
 in_parent n (gap ∷ gaps) zero c other e inside =
     let here : IsInRegion (with_gap n gap) other = subst (λ (d : Region). IsInRegion d other) (sym (same_Some (with_gap n gap) c e)) inside in
@@ -124,27 +124,27 @@ module _ (o : Outcome) (is : IsOutcome o) where
 
   module _ (place : ℕ) (n : Region) (c : IsChildAt o.entries place n) where
     earlier : c.parent < place
-    earlier = let later = (facts.split c.parent c.entry c.run c.first c.there c.split).later in let at = c.at in omega arith
+    earlier = let later = (facts.split c.parent c.above c.run c.first c.there c.split).later in let at = c.at in omega arith
 
     -- the walk for a set of the node goes from the parent to it
     goes_there : (m : Region) → IsInRegion n m.must → child_of o.entries c.parent m ≡ Some place
     goes_there m inside =
-        let number = is_first c.entry.node (open_gaps c.run.passed c.entry.node.never) c.number n m.must 0 c.is_child inside in
-        ap (λ (x : Option Entry). child_in x m) c.there ∙ ap (λ (x : Status). child_by x c.entry.node.never m.must) c.split
+        let number = is_first c.above.node (open_gaps c.run.passed c.above.node.never) c.number n m.must 0 c.is_child inside in
+        ap (λ (x : Option Entry). child_in x m) c.there ∙ ap (λ (x : Status). child_by x c.above.node.never m.must) c.split
         ∙ ap (option_map (λ (k : ℕ). c.first + k)) number ∙ ap (λ (k : ℕ). Some k) (let at = c.at in omega arith)
 
-    holds_there : IsInRegion c.entry.node c.entry.node.must → IsInRegion n n.must
+    holds_there : IsInRegion c.above.node c.above.node.must → IsInRegion n n.must
     holds_there holds =
-        let gaps = open_gaps c.run.passed c.entry.node.never in
-        child_holds c.entry.node gaps c.number n c.is_child (AllPairs-from_increasing gaps (open_ascending c.run.passed c.entry.node.never))
-        (none_must c.parent c.entry c.run c.first c.there c.split) (none_never c.parent c.entry c.run c.first c.there c.split) holds
+        let gaps = open_gaps c.run.passed c.above.node.never in
+        child_holds c.above.node gaps c.number n c.is_child (AllPairs-from_increasing gaps (open_ascending c.run.passed c.above.node.never))
+        (none_must c.parent c.above c.run c.first c.there c.split) (none_never c.parent c.above c.run c.first c.there c.split) holds
 
   -- what the sets of a node must have is in its region
   holds : (bound place : ℕ) → place < bound → (e : Entry) → slice_get o.entries place ≡ Some e → IsInRegion e.node e.node.must
   holds zero place below e there = absurd (omega arith)
   holds (suc bound) place below e there = elim (parents place e there) [
     | inl root ↦ subst (λ (n : Region). IsInRegion n n.must) (sym root.1) (in_root all_sets.must)
-    | inr c ↦ holds_there place e.node c (holds bound c.parent (let h = earlier place e.node c in omega arith) c.entry c.there)
+    | inr c ↦ holds_there place e.node c (holds bound c.parent (let h = earlier place e.node c in omega arith) c.above c.there)
   ]
 
   -- the walk for a set of a node comes to it
@@ -152,8 +152,8 @@ module _ (o : Outcome) (is : IsOutcome o) where
   comes zero place below e there m end inside rest = absurd (omega arith)
   comes (suc bound) place below e there m end inside rest = elim (parents place e there) [
     | inl root ↦ subst (λ (k : ℕ). Leads o.entries m k end) root.0 rest
-    | inr c ↦ comes bound c.parent (let h = earlier place e.node c in omega arith) c.entry c.there m end
-        (in_parent c.entry.node (open_gaps c.run.passed c.entry.node.never) c.number e.node m.must c.is_child inside)
+    | inr c ↦ comes bound c.parent (let h = earlier place e.node c in omega arith) c.above c.there m end
+        (in_parent c.above.node (open_gaps c.run.passed c.above.node.never) c.number e.node m.must c.is_child inside)
         (goes c.parent place end (goes_there place e.node c m inside) rest)
   ]
 

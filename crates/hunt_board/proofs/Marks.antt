@@ -142,7 +142,7 @@ module _ (entries : List Entry) (receipts : List Receipt) (marks : List Bool) (c
 
   -- all of them are
   all_stand : length receipts ≤ count → StandApart entries receipts
-  all_stand whole = stand_so_far receipts (λ i r e. (let h = slice_get_within receipts i r e in omega arith, e))
+  all_stand whole = stand_so_far receipts (λ i r e. ((let h = slice_get_within receipts i r e in omega arith), e))
 
   -- all are marked, and as many as the nodes
   pub all_named : length receipts ≤ count → length receipts ≡ length entries → NameAll entries receipts

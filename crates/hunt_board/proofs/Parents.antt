@@ -5,7 +5,7 @@ use Rattle.std.proofs.lemmas.Option.{same_Some, none-some}
 use native.Mathlib.Decide.{ℕ_discrete}
 use Rattle.gap_sets.specs.Regions.{all_sets}
 use Rattle.gap_sets.specs.declared.region.Region.{Region}
-use Rattle.cover_solver.specs.Facts.{Foreign}
+use Rattle.cover_solver.specs.Facts.{Foreign, Serving}
 use Rattle.search_core.specs.declared.entry.Entry.{Entry}
 use Rattle.search_core.specs.declared.entry.Status.{Status}
 use Rattle.search_core.specs.declared.entry.Status.TheVariants.{Open, Held, Split, Cut, Confirmed}
@@ -20,14 +20,14 @@ use Rattle.search_core.proofs.Changes.{changed, is_there}
 -- the node is the child of this number of one that was split
 pub record IsChildAt (es : List Entry) (place : ℕ) (n : Region) : Type 0 where
   pub parent : ℕ
-  pub entry : Entry
-  pub there : slice_get es parent ≡ Some entry
+  pub above : Entry
+  pub there : slice_get es parent ≡ Some above
   pub run : Foreign
   pub first : ℕ
-  pub split : entry.status ≡ Split run first
+  pub split : above.status ≡ Split run first
   pub number : ℕ
   pub at : first + number ≡ place
-  pub is_child : slice_get (children entry.node run.passed) number ≡ Some n
+  pub is_child : slice_get (children above.node run.passed) number ≡ Some n
 
 abbrev pub HasParent : List Entry → ℕ → Region → Type 0
 HasParent es place n = ((place ≡ 0) × (n ≡ all_sets)) ⊎ IsChildAt es place n
@@ -76,8 +76,8 @@ module _ (es : List Entry) (place : ℕ) (e x : Entry) (there : slice_get es pla
     parent_stays k n (inl root) = inl root
     parent_stays k n (inr c) = inr (record {
       parent = c.parent;
-      entry = c.entry;
-      there = split_stays c.parent c.entry c.run c.first c.there c.split;
+      above = c.above;
+      there = split_stays c.parent c.above c.run c.first c.there c.split;
       run = c.run;
       first = c.first;
       split = c.split;
@@ -105,7 +105,7 @@ module _ (es : List Entry) (place : ℕ) (e x : Entry) (there : slice_get es pla
       let more = open_entries seat (children x.node f.passed) in
       parents_stay more (λ j y at. inr (record {
         parent = place;
-        entry = x;
+        above = x;
         there = is_there es place e x there same more;
         run = f;
         first = length es;
@@ -134,7 +134,7 @@ module _ (s after : SearchState) (seat : ℕ) (parents : HaveParents s.entries) 
       subst (λ (z : SearchState). HaveParents z.entries) (sym t.is_after)
       (by_status s.entries t.place e (entry t.node seat Cut) t.there.there (sym t.there.is_node) (held_live e.status _ t.there.held_there) parents)
 
-  confirmed : (b : _) → Confirms s after seat b → HaveParents after.entries
+  confirmed : (b : Serving) → Confirms s after seat b → HaveParents after.entries
   confirmed b t =
       let e = t.there.before in
       subst (λ (z : SearchState). HaveParents z.entries) (sym t.is_after)
