@@ -15,7 +15,7 @@ ATextStandsForOneTest = (text : List ℕ) (one other : Litmus Listing) → Stand
 abbrev pub ATextIsOfOneProgram : Type 0
 ATextIsOfOneProgram = (text : List ℕ) (one other : Litmus Listing) → IsLitmus text one → IsLitmus text other → one ≡ other
 
--- and of one program within those of a fenced one, the same as without its fences' limits
+-- and of one program within the limits of a fenced one
 abbrev pub ATextIsOfOneFencedProgram : Type 0
 ATextIsOfOneFencedProgram = (text : List ℕ) (one other : Litmus Listing) → IsFencedLitmus text one → IsFencedLitmus text other → one ≡ other
 
