@@ -156,7 +156,7 @@ class Graph {
     const y = (top + GRAPH.height + this.spots.get(edge.to).y) / 2;
     return [
       svg("line", { class: "cut", x1: x + 6, x2: x + this.width - 6, y1: y, y2: y }),
-      svg("text", { x: x + this.width / 2 - 8, y: y - 5, "text-anchor": "end", class: "tag red" }, "no fence"),
+      svg("text", { x: x + this.width / 2 - 8, y: y - 6, "text-anchor": "end", class: "tag red" }, "no fence"),
     ];
   }
 
@@ -190,6 +190,6 @@ class Graph {
       role: "img", "aria-label": label, width: this.wide, height, viewBox: `0 0 ${this.wide} ${height}`,
       style: `min-width: ${Math.round(this.wide * 0.8)}px`,
     }, svg("defs", {}, arrowHead("red", "--bad", 11), arrowHead("grey", "--soft", 11)),
-    edges.map(edge => edge.line), nodes, edges.map(edge => edge.tag), this.drawGap(), heads);
+    edges.map(edge => edge.line), this.drawGap(), nodes, edges.map(edge => edge.tag), heads);
   }
 }

@@ -3,8 +3,8 @@
 const main = document.getElementById("page");
 
 const introduction = [
-  "On x86 a store first waits in the store buffer of its thread's processor. Until it reaches memory no other thread ",
-  "sees it, and later loads of its thread do not wait for it. An MFENCE makes its thread wait until its buffer is empty.",
+  "On x86 a store first waits in its thread's store buffer. Until it reaches memory no other thread sees it, and the ",
+  "thread's later loads do not wait for it. An MFENCE makes its thread wait until the buffer is empty.",
 ];
 
 // What the outcomes are compared by.
@@ -24,7 +24,7 @@ function answerWords(gaps) {
     : listed(fencesByThread(gaps));
   const fences = isOne ? "an MFENCE " : gaps.length <= 3 ? "MFENCEs " : `${gaps.length} MFENCEs, `;
   const cost = `${isOne ? "It costs" : "Together they cost"} ${given.answer.cost}`;
-  return ["The cheapest answer: ", fences, ...places, `. ${cost}; no cheaper set is enough.`];
+  return ["A cheapest answer: ", fences, ...places, `. ${cost}; no cheaper set is enough.`];
 }
 
 function showNoFence() {
@@ -44,9 +44,9 @@ function showAnswer(gaps) {
   main.replaceChildren(
     html("h1", {}, `Why ${given.test} needs ${isOne ? "a fence" : gaps.length + " fences"}`),
     html("p", { class: "lead" }, answerWords(gaps)),
-    html("p", { class: "soft" }, introduction, ` With ${isOne ? "this fence" : "these fences"} the program has exactly `
-      + "the outcomes that it has where each instruction takes effect at once, in the order of its thread "
-      + `(sequentially)${observedWords()}.`),
+    html("p", { class: "soft" }, introduction, " In a sequential run there are no store buffers: each instruction takes "
+      + `effect at once. With ${isOne ? "this fence" : "these fences"} the program has exactly the outcomes of its `
+      + `sequential runs${observedWords()}.`),
     html("p", { class: "choice" }, isOne
       ? "Without it, this run becomes possible, and no sequential run has its outcome:"
       : "Leave out one of them, and a run becomes possible whose outcome no sequential run has:"));

@@ -58,7 +58,7 @@ class Player {
   panel() {
     const buttons = [this.first, this.back, this.play, this.forward, this.final];
     const bar = html("section", { class: "card bar player", "aria-label": "player" },
-      html("div", { class: "controls" }, buttons, this.slider, this.count), this.say);
+      html("div", { class: "controls" }, buttons, html("div", { class: "place" }, this.slider, this.count)), this.say);
     const machine = html("div", { class: "right" }, bar, region("machine", "the machine", this.machine.stage));
     const duo = html("div", { class: "duo" }, this.momentBox(), machine, this.table);
     return html("div", { class: given.threads.length < 4 ? "panel side" : "panel" }, duo, this.graphBox());
@@ -66,7 +66,7 @@ class Player {
 
   // The moments that matter, each with buttons to its steps.
   momentBox() {
-    const end = { steps: [this.run.last], isBad: true, say: ["The run ends with ", ...verdictWords(this.run)] };
+    const end = { steps: [this.run.last], say: ["The run ends with ", ...verdictWords(this.run)] };
     const lines = [...this.run.moments, end].map(({ steps, isBad, say }) => html("li", { class: isBad ? "bad" : "" },
       html("span", { class: "where" }, steps.map(step => this.stepButton(step))), html("span", {}, say)));
     const title = this.run.gap === null ? "How the run ends" : "What goes wrong without this fence";

@@ -146,7 +146,7 @@ function cycleWords(run) {
   const name = event => [threadName(run.threads[event]) + "'s ", code(run.text(event))];
   const edges = run.cycle();
   return edges.map(({ relation, from, to }, i) => {
-    const last = i === edges.length - 1 ? ", which was the first." : ".";
+    const last = i === edges.length - 1 ? ": back at the first access." : ".";
     return html("li", {}, name(from), " ", edgeWords(run, relation, from, name(to), to), " (",
       html("b", {}, relation), ")", last);
   });

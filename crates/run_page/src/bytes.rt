@@ -95,7 +95,8 @@ button[aria-disabled=true] { color: var(--soft); cursor: default; border-style: 
 .bar { position: sticky; top: 0; z-index: 3; }\n\
 .controls { display: flex; flex-wrap: wrap; gap: 0.4rem; align-items: center; }\n\
 .controls button { padding: 0.3rem 0.6rem; }\n\
-.controls input { flex: 1 1 9rem; accent-color: var(--now); height: 2.2rem; margin: 0; min-width: 8rem; }\n\
+.place { display: flex; flex: 1 1 18rem; gap: 0.6rem; align-items: center; }\n\
+.place input { flex: 1; accent-color: var(--now); height: 2.2rem; margin: 0; min-width: 8rem; }\n\
 .count { min-width: 6.5rem; }\n\
 .say { margin: 0.5rem 0 0; min-height: 4.5em; max-width: none; }\n\
 \n\
@@ -616,7 +617,7 @@ function cycleWords(run) {\n\
 \x20 const name = event => [threadName(run.threads[event]) + \"'s \", code(run.text(event))];\n\
 \x20 const edges = run.cycle();\n\
 \x20 return edges.map(({ relation, from, to }, i) => {\n\
-\x20   const last = i === edges.length - 1 ? \", which was the first.\" : \".\";\n\
+\x20   const last = i === edges.length - 1 ? \": back at the first access.\" : \".\";\n\
 \x20   return html(\"li\", {}, name(from), \" \", edgeWords(run, relation, from, name(to), to), \" (\",\n\
 \x20     html(\"b\", {}, relation), \")\", last);\n\
 \x20 });\n\
@@ -1036,7 +1037,7 @@ class Graph {\n\
 \x20   const y = (top + GRAPH.height + this.spots.get(edge.to).y) / 2;\n\
 \x20   return [\n\
 \x20     svg(\"line\", { class: \"cut\", x1: x + 6, x2: x + this.width - 6, y1: y, y2: y }),\n\
-\x20     svg(\"text\", { x: x + this.width / 2 - 8, y: y - 5, \"text-anchor\": \"end\", class: \"tag red\" }, \"no fence\"),\n\
+\x20     svg(\"text\", { x: x + this.width / 2 - 8, y: y - 6, \"text-anchor\": \"end\", class: \"tag red\" }, \"no fence\"),\n\
 \x20   ];\n\
 \x20 }\n\
 \n\
@@ -1070,7 +1071,7 @@ class Graph {\n\
 \x20     role: \"img\", \"aria-label\": label, width: this.wide, height, viewBox: `0 0 ${this.wide} ${height}`,\n\
 \x20     style: `min-width: ${Math.round(this.wide * 0.8)}px`,\n\
 \x20   }, svg(\"defs\", {}, arrowHead(\"red\", \"--bad\", 11), arrowHead(\"grey\", \"--soft\", 11)),\n\
-\x20   edges.map(edge => edge.line), nodes, edges.map(edge => edge.tag), this.drawGap(), heads);\n\
+\x20   edges.map(edge => edge.line), this.drawGap(), nodes, edges.map(edge => edge.tag), heads);\n\
 \x20 }\n\
 }\n\
 // The player: a run that a reader steps through, with what goes wrong in it, the machine, the table and the graph.\n\
@@ -1133,7 +1134,7 @@ class Player {\n\
 \x20 panel() {\n\
 \x20   const buttons = [this.first, this.back, this.play, this.forward, this.final];\n\
 \x20   const bar = html(\"section\", { class: \"card bar player\", \"aria-label\": \"player\" },\n\
-\x20     html(\"div\", { class: \"controls\" }, buttons, this.slider, this.count), this.say);\n\
+\x20     html(\"div\", { class: \"controls\" }, buttons, html(\"div\", { class: \"place\" }, this.slider, this.count)), this.say);\n\
 \x20   const machine = html(\"div\", { class: \"right\" }, bar, region(\"machine\", \"the machine\", this.machine.stage));\n\
 \x20   const duo = html(\"div\", { class: \"duo\" }, this.momentBox(), machine, this.table);\n\
 \x20   return html(\"div\", { class: given.threads.length < 4 ? \"panel side\" : \"panel\" }, duo, this.graphBox());\n\
@@ -1141,7 +1142,7 @@ class Player {\n\
 \n\
 \x20 // The moments that matter, each with buttons to its steps.\n\
 \x20 momentBox() {\n\
-\x20   const end = { steps: [this.run.last], isBad: true, say: [\"The run ends with \", ...verdictWords(this.run)] };\n\
+\x20   const end = { steps: [this.run.last], say: [\"The run ends with \", ...verdictWords(this.run)] };\n\
 \x20   const lines = [...this.run.moments, end].map(({ steps, isBad, say }) => html(\"li\", { class: isBad ? \"bad\" : \"\" },\n\
 \x20     html(\"span\", { class: \"where\" }, steps.map(step => this.stepButton(step))), html(\"span\", {}, say)));\n\
 \x20   const title = this.run.gap === null ? \"How the run ends\" : \"What goes wrong without this fence\";\n\
@@ -1308,8 +1309,8 @@ function addressLater(gap, steps) {\n\
 const main = document.getElementById(\"page\");\n\
 \n\
 const introduction = [\n\
-\x20 \"On x86 a store first waits in the store buffer of its thread's processor. Until it reaches memory no other thread \",\n\
-\x20 \"sees it, and later loads of its thread do not wait for it. An MFENCE makes its thread wait until its buffer is empty.\",\n\
+\x20 \"On x86 a store first waits in its thread's store buffer. Until it reaches memory no other thread sees it, and the \",\n\
+\x20 \"thread's later loads do not wait for it. An MFENCE makes its thread wait until the buffer is empty.\",\n\
 ];\n\
 \n\
 // What the outcomes are compared by.\n\
@@ -1329,7 +1330,7 @@ function answerWords(gaps) {\n\
 \x20   : listed(fencesByThread(gaps));\n\
 \x20 const fences = isOne ? \"an MFENCE \" : gaps.length <= 3 ? \"MFENCEs \" : `${gaps.length} MFENCEs, `;\n\
 \x20 const cost = `${isOne ? \"It costs\" : \"Together they cost\"} ${given.answer.cost}`;\n\
-\x20 return [\"The cheapest answer: \", fences, ...places, `. ${cost}; no cheaper set is enough.`];\n\
+\x20 return [\"A cheapest answer: \", fences, ...places, `. ${cost}; no cheaper set is enough.`];\n\
 }\n\
 \n\
 function showNoFence() {\n\
@@ -1349,9 +1350,9 @@ function showAnswer(gaps) {\n\
 \x20 main.replaceChildren(\n\
 \x20   html(\"h1\", {}, `Why ${given.test} needs ${isOne ? \"a fence\" : gaps.length + \" fences\"}`),\n\
 \x20   html(\"p\", { class: \"lead\" }, answerWords(gaps)),\n\
-\x20   html(\"p\", { class: \"soft\" }, introduction, ` With ${isOne ? \"this fence\" : \"these fences\"} the program has exactly `\n\
-\x20     + \"the outcomes that it has where each instruction takes effect at once, in the order of its thread \"\n\
-\x20     + `(sequentially)${observedWords()}.`),\n\
+\x20   html(\"p\", { class: \"soft\" }, introduction, \" In a sequential run there are no store buffers: each instruction takes \"\n\
+\x20     + `effect at once. With ${isOne ? \"this fence\" : \"these fences\"} the program has exactly the outcomes of its `\n\
+\x20     + `sequential runs${observedWords()}.`),\n\
 \x20   html(\"p\", { class: \"choice\" }, isOne\n\
 \x20     ? \"Without it, this run becomes possible, and no sequential run has its outcome:\"\n\
 \x20     : \"Leave out one of them, and a run becomes possible whose outcome no sequential run has:\"));\n\
