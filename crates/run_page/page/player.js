@@ -124,7 +124,7 @@ class Player {
     }
     const close = this.run.gap === null
       ? "sequential run has these reads and writes. Another sequential run may still have the same outcome."
-      : "sequential run has these reads and writes, and no other sequential run has this outcome.";
+      : "sequential run has these reads and writes. No other sequential run has this outcome either: fencer has checked.";
     const isOver = this.run.gap === null || this.run.cycle().some(({ from, to }) => this.run.isAroundGap(from, to));
     return [
       html("p", {}, "Suppose that the accesses took effect one after the other, each thread's in program order. Then:"),

@@ -244,7 +244,8 @@ tr.later td { color: var(--soft); }\n\
 \n\
 /* The candidate execution */\n\
 .split { display: flex; flex-wrap: wrap; gap: 0.9rem; align-items: flex-start; }\n\
-.split > * { flex: 1 1 27rem; min-width: 0; }\n\
+.split > * { flex: 1 1 24rem; min-width: 0; }\n\
+.split > .scroll { flex: 1 1 auto; max-width: 100%; } /* a wide graph has a row of its own */\n\
 .graph svg { display: block; max-width: 100%; height: auto; }\n\
 .graph text { font-size: 12.5px; fill: var(--ink); }\n\
 .graph .node { fill: var(--card); stroke: var(--line); stroke-width: 1.5; }\n\
@@ -1200,7 +1201,7 @@ class Player {\n\
 \x20   }\n\
 \x20   const close = this.run.gap === null\n\
 \x20     ? \"sequential run has these reads and writes. Another sequential run may still have the same outcome.\"\n\
-\x20     : \"sequential run has these reads and writes, and no other sequential run has this outcome.\";\n\
+\x20     : \"sequential run has these reads and writes. No other sequential run has this outcome either: fencer has checked.\";\n\
 \x20   const isOver = this.run.gap === null || this.run.cycle().some(({ from, to }) => this.run.isAroundGap(from, to));\n\
 \x20   return [\n\
 \x20     html(\"p\", {}, \"Suppose that the accesses took effect one after the other, each thread's in program order. Then:\"),\n\
@@ -1328,9 +1329,9 @@ function answerWords(gaps) {\n\
 \x20 const isOne = gaps.length === 1;\n\
 \x20 const places = gaps.length <= 3 ? listed(gaps.map(gap => html(\"span\", {}, \"before \", ...placeOf(gap))))\n\
 \x20   : listed(fencesByThread(gaps));\n\
-\x20 const fences = isOne ? \"an MFENCE \" : gaps.length <= 3 ? \"MFENCEs \" : `${gaps.length} MFENCEs, `;\n\
+\x20 const fences = isOne ? \"an MFENCE \" : gaps.length <= 3 ? \"MFENCE \" : `${gaps.length} MFENCEs, `;\n\
 \x20 const cost = `${isOne ? \"It costs\" : \"Together they cost\"} ${given.answer.cost}`;\n\
-\x20 return [\"A cheapest answer: \", fences, ...places, `. ${cost}; no cheaper set is enough.`];\n\
+\x20 return [\"A cheapest set of fences: \", fences, ...places, `. ${cost}; no cheaper set is enough.`];\n\
 }\n\
 \n\
 function showNoFence() {\n\
