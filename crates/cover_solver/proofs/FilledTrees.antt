@@ -11,7 +11,7 @@ use Rattle.tso_program.specs.Shown.{asked}
 use Rattle.tso_program.specs.Listings.{gap_number}
 use Rattle.tso_machine.specs.declared.mode.Mode as own
 use Rattle.tso_machine.specs.declared.mode.Mode.TheVariants as modes
-use Rattle.tso_machine.specs.Modes.{machine_mode}
+use Rattle.tso_machine.specs.Modes.{machine_of_mode}
 use Rattle.candidate_executions.specs.Sketches.{IsWhole}
 use Rattle.exec_axioms.specs.ProgramSketches.{ProgramSketch, mode_in}
 use Rattle.cert_forest.specs.Trees.{Cover}
@@ -32,7 +32,7 @@ no_gap more None here = here
 no_gap more (Some gap) here = absurd (let no = set.contains-empty nat_cmp gap in let yes : true ≡ false = sym here ∙ no in cc)
 
 -- no mode is looser than that with no gap fenced
-pub no_looser : (p : Listing) (mode : own.Mode) → IsNoLooser (machine_mode p (modes.Fenced set.empty)) (machine_mode p mode)
+pub no_looser : (p : Listing) (mode : own.Mode) → IsNoLooser (machine_of_mode p (modes.Fenced set.empty)) (machine_of_mode p mode)
 no_looser p modes.Sequential = tt
 no_looser p (modes.Fenced gaps) = λ t i. no_gap gaps (gap_number p.threads t i)
 

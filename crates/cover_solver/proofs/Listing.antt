@@ -6,7 +6,7 @@ use Rattle.tso_program.specs.declared.outcome.Outcome.{Outcome}
 use Rattle.tso_program.specs.Shown.{Question}
 use Rattle.tso_program.specs.Limits.{JumpForward}
 use Rattle.tso_machine.specs.declared.label.Label.{Label}
-use Rattle.tso_machine.specs.Machine.{Mode}
+use Rattle.tso_machine.specs.Machine.{Machine}
 use Rattle.tso_machine.specs.Outcomes.{IsShownRun, AllowsShown}
 use Rattle.candidate_executions.specs.Sketches.{empty_sketch}
 use Rattle.candidate_executions.proofs.Sketches.Choices.{empty_is_a_sketch}
@@ -24,7 +24,7 @@ zip_at_right R (a ∷ xs) (b ∷ ys) zero y all e = (a, refl, subst (R a) (same_
 zip_at_right R (a ∷ xs) (b ∷ ys) (suc n) y all e = zip_at_right R xs ys n y all.1 e
 
 -- a list with a run of each outcome, and with each outcome of another over which a tree is valid, has exactly what the mode's machine allows
-module _ (q : Question) (mode : Mode) (runs : List (List Label)) (outcomes known : List Outcome) (tree : Cover) (forward : JumpForward q.program.threads) (are : AreRunsOf q mode runs outcomes) (keeps : Keeps known outcomes)
+module _ (q : Question) (mode : Machine) (runs : List (List Label)) (outcomes known : List Outcome) (tree : Cover) (forward : JumpForward q.program.threads) (are : AreRunsOf q mode runs outcomes) (keeps : Keeps known outcomes)
     (valid : IsValidCover q mode known tree (empty_sketch q.program)) where
   allowed : (o : Outcome) → Contains outcomes o → AllowsShown q mode o
   allowed o (k, h, e) =

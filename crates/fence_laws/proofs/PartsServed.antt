@@ -11,7 +11,7 @@ use Rattle.tso_program.specs.Fences.{gaps_in}
 use Rattle.tso_program.specs.Laws.{IsPartOf}
 use Rattle.tso_program.proofs.PartsShown.{part_of_all}
 use Rattle.tso_program.proofs.Kept.{shown_within}
-use Rattle.tso_machine.specs.Machine.{Mode, Sequential, Fenced}
+use Rattle.tso_machine.specs.Machine.{Machine, SequentialMachine, StoreBufferMachine}
 use Rattle.tso_machine.specs.Outcomes.{AllowsShown, LeavesOutcome}
 use Rattle.fence_laws.specs.Laws.{WhatServesServesEachPart, WhatServesForAllServes, AnObservedAnswerCostsNoMore}
 
@@ -21,7 +21,7 @@ module _ (p : Listing) (small large : Shown) (part : IsPartOf small large) where
   alike_in_part whole other e = sym (shown_within small large whole part) ∙ ap (show small) e ∙ shown_within small large other part
 
   -- where one machine shows no more than another, it shows no more of a part
-  pub parts_allowed : (mode other : Mode) → ((o : Outcome) → AllowsShown (asked p large) mode o → AllowsShown (asked p large) other o) →
+  pub parts_allowed : (mode other : Machine) → ((o : Outcome) → AllowsShown (asked p large) mode o → AllowsShown (asked p large) other o) →
       (o : Outcome) → AllowsShown (asked p small) mode o → AllowsShown (asked p small) other o
   parts_allowed mode other each o (labels, (whole, is_run, e)) = from (each (show large whole) (labels, (whole, is_run, refl)))
     where
@@ -30,8 +30,8 @@ module _ (p : Listing) (small large : Shown) (part : IsPartOf small large) where
 
 pub part_served : WhatServesServesEachPart
 part_served p small large gaps part serves o = (
-  parts_allowed p small large part (Fenced (gaps_in p gaps)) Sequential (λ shown. (serves shown).0) o,
-  parts_allowed p small large part Sequential (Fenced (gaps_in p gaps)) (λ shown. (serves shown).1) o,
+  parts_allowed p small large part (StoreBufferMachine (gaps_in p gaps)) SequentialMachine (λ shown. (serves shown).0) o,
+  parts_allowed p small large part SequentialMachine (StoreBufferMachine (gaps_in p gaps)) (λ shown. (serves shown).1) o,
 )
 
 pub all_served : WhatServesForAllServes

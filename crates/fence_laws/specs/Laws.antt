@@ -13,7 +13,7 @@ use Rattle.tso_program.specs.Listings.{gap_count}
 use Rattle.tso_program.specs.Limits.{JumpForward, IsWithinLimits}
 use Rattle.tso_program.specs.Fences.{Gaps, gaps_in}
 use Rattle.tso_machine.specs.declared.label.Label.{Label}
-use Rattle.tso_machine.specs.Machine.{Fenced, no_gaps, start, IsRun}
+use Rattle.tso_machine.specs.Machine.{StoreBufferMachine, no_gaps, start, IsRun}
 use Rattle.tso_machine.specs.Modes.{Passes, ArePassed}
 use Rattle.tso_machine.specs.Outcomes.{IsShownRun, IsSequentialOutcome, IsStoreBufferOutcome, Serves, IsTheAnswer, fenced_at, Headline}
 
@@ -23,11 +23,11 @@ ProgramsJumpForward = (p : Listing) → IsWithinLimits p.threads p.memory → Ju
 
 -- the labels pass no gap of the program, where none is fenced
 abbrev pub PassesNoGap : Listing → List Label → Type 0
-PassesNoGap p labels = (gap : ℕ) → ¬ Passes p (Fenced no_gaps) (start p) labels gap
+PassesNoGap p labels = (gap : ℕ) → ¬ Passes p (StoreBufferMachine no_gaps) (start p) labels gap
 
 -- the labels pass no gap of the set, where none is fenced
 abbrev pub PassesNoGapOf : Listing → SetOfGaps → List Label → Type 0
-PassesNoGapOf p gaps labels = (gap : ℕ) → set.contains gaps gap ≡ true → ¬ Passes p (Fenced no_gaps) (start p) labels gap
+PassesNoGapOf p gaps labels = (gap : ℕ) → set.contains gaps gap ≡ true → ¬ Passes p (StoreBufferMachine no_gaps) (start p) labels gap
 
 -- the set has every gap of the program
 abbrev pub HasEveryGapOf : Listing → SetOfGaps → Type 0
@@ -40,13 +40,13 @@ SequentialRunsAreAllowed = (q : Question) (gaps : Gaps) (o : Outcome) → IsSequ
 -- the runs with a set fenced are those with no gap fenced that pass no gap of the set, with the same outcomes
 abbrev pub FencedRunsPassNoGapOfTheSet : Type 0
 FencedRunsPassNoGapOfTheSet = (p : Listing) (gaps : SetOfGaps) (labels : List Label) (o : Outcome) →
-    IsRun p (Fenced (gaps_in p gaps)) labels o ↔ (IsRun p (Fenced no_gaps) labels o × PassesNoGapOf p gaps labels)
+    IsRun p (StoreBufferMachine (gaps_in p gaps)) labels o ↔ (IsRun p (StoreBufferMachine no_gaps) labels o × PassesNoGapOf p gaps labels)
 
 -- so a run is a run with a set fenced exactly where no gap that it passes is in the set
 abbrev pub PassedGapsTellTheFencedRuns : Type 0
 PassedGapsTellTheFencedRuns = (p : Listing) (gaps passed : SetOfGaps) (labels : List Label) (o : Outcome) →
-    IsRun p (Fenced no_gaps) labels o → ArePassed p (Fenced no_gaps) labels passed →
-    IsRun p (Fenced (gaps_in p gaps)) labels o ↔ ((gap : ℕ) → set.contains passed gap ≡ true → ¬ (set.contains gaps gap ≡ true))
+    IsRun p (StoreBufferMachine no_gaps) labels o → ArePassed p (StoreBufferMachine no_gaps) labels passed →
+    IsRun p (StoreBufferMachine (gaps_in p gaps)) labels o ↔ ((gap : ℕ) → set.contains passed gap ≡ true → ¬ (set.contains gaps gap ≡ true))
 
 -- with the empty set fenced no gap is
 abbrev pub TheEmptySetFencesNothing : Type 0
@@ -55,12 +55,12 @@ TheEmptySetFencesNothing = (p : Listing) → gaps_in p set.empty ≡ no_gaps
 -- a run that passes no gap has a sequential outcome
 abbrev pub ARunThatPassesNothingIsSequential : Type 0
 ARunThatPassesNothingIsSequential = (q : Question) (labels : List Label) (o : Outcome) → JumpForward q.program.threads →
-    IsShownRun q (Fenced no_gaps) labels o → PassesNoGap q.program labels → IsSequentialOutcome q o
+    IsShownRun q (StoreBufferMachine no_gaps) labels o → PassesNoGap q.program labels → IsSequentialOutcome q o
 
 -- the same of a run whose passed gaps are the empty set
 abbrev pub ARunWithNothingPassedIsSequential : Type 0
 ARunWithNothingPassedIsSequential = (q : Question) (labels : List Label) (o : Outcome) → JumpForward q.program.threads →
-    IsShownRun q (Fenced no_gaps) labels o → ArePassed q.program (Fenced no_gaps) labels set.empty → IsSequentialOutcome q o
+    IsShownRun q (StoreBufferMachine no_gaps) labels o → ArePassed q.program (StoreBufferMachine no_gaps) labels set.empty → IsSequentialOutcome q o
 
 -- a set that has every gap of the program serves
 abbrev pub AllGapsServe : Type 0

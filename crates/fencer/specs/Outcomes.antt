@@ -8,8 +8,8 @@ use Rattle.tso_program.specs.declared.outcome.Outcome.{Outcome}
 use Rattle.tso_program.specs.declared.shown.Shown.{Shown}
 use Rattle.tso_program.specs.Shown.{Question}
 use Rattle.tso_machine.specs.declared.label.Model.{Model}
-use Rattle.tso_machine.specs.Machine.{Mode}
-use Rattle.tso_machine.specs.Modes.{mode_of}
+use Rattle.tso_machine.specs.Machine.{Machine}
+use Rattle.tso_machine.specs.Modes.{machine_of_model}
 use Rattle.tso_machine.specs.Outcomes.{AllowsShown}
 use Rattle.litmus_reader.specs.declared.litmus.Litmus.{Litmus}
 use Rattle.litmus_reader.specs.Texts.{IsLitmus, IsNoLitmus}
@@ -23,7 +23,7 @@ use Rattle.fencer.specs.declared.refusals.Refusal.TheVariants as refusal
 use Rattle.fencer.specs.TextAnswers.{IsAnswerTo}
 
 -- the list ascends, and has exactly the outcomes that the machine of the mode allows, as far as they are shown
-pub record ListsOutcomes (q : Question) (mode : Mode) (outcomes : List Outcome) : Type 0 where
+pub record ListsOutcomes (q : Question) (mode : Machine) (outcomes : List Outcome) : Type 0 where
   pub ascend : Ascend outcomes
   pub exact : (o : Outcome) → Contains outcomes o ↔ AllowsShown q mode o
 
@@ -40,7 +40,7 @@ pub record PrintsOutcomes (model : Model) (observed : Bool) (bytes lines : List 
   pub litmus : Litmus Listing
   pub spelled : IsLitmus bytes litmus
   pub outcomes : List Outcome
-  pub listed : ListsOutcomes (question_of litmus observed) (mode_of litmus.program set.empty model) outcomes
+  pub listed : ListsOutcomes (question_of litmus observed) (machine_of_model litmus.program set.empty model) outcomes
   pub printed : lines ≡ list_text litmus (shown_as litmus observed) outcomes
 
 -- why there is no list: the text is no litmus text, or memory was wanting

@@ -4,7 +4,7 @@ ghost use Rattle.std.specs.Prelude.{◌≡◌, ◌++◌, IfOk, IfErr, option_map
 ghost use Rattle.tso_program.specs.declared.shown.Shown.TheVariants.{All};
 ghost use Rattle.std.specs.FinSet as set;
 ghost use Rattle.tso_machine.specs.Faults.{ReplayFaultIs};
-ghost use Rattle.tso_machine.specs.Modes.{mode_of};
+ghost use Rattle.tso_machine.specs.Modes.{machine_of_model};
 ghost use Rattle.report.specs.Answers.{outcome_line, passed_line};
 ghost use Rattle.program_streams.specs.Streams.{Prints};
 ghost use Rattle.fencer.specs.Placements.{KeepFiles};
@@ -48,7 +48,7 @@ fn drawings_of(
     model: Model,
     labels: &[Label],
 ) -> Result<Drawings, ReplayFault>
-    ensures { IfErr result (ReplayFaultIs litmus.now.program (mode_of litmus.now.program set.empty model) labels.now) }
+    ensures { IfErr result (ReplayFaultIs litmus.now.program (machine_of_model litmus.now.program set.empty model) labels.now) }
 {
     let steps = match steps(alloc, &litmus.program, &GapSet::empty(), model, labels) {
         Ok(steps) => steps,

@@ -6,7 +6,7 @@ use Rattle.tso_program.specs.declared.listing.Listing.{Listing}
 use Rattle.tso_program.specs.declared.outcome.Outcome.{Outcome}
 use Rattle.tso_program.specs.declared.shown.Shown.{Shown}
 use Rattle.tso_program.specs.declared.shown.Shown.TheVariants.{All, Only}
-use Rattle.litmus_reader.specs.Names.{Names}
+use Rattle.litmus_reader.specs.Names.{TextNames}
 use Rattle.litmus_reader.specs.Outcomes.{outcome_text}
 use Rattle.report.specs.Places.{gap_text, gaps_text}
 
@@ -15,7 +15,7 @@ abbrev pub after_space : List ℕ → List ℕ
 after_space [] = []
 after_space (b ∷ bs) = 32 ∷ b ∷ bs
 
-abbrev pub outcome_line : Names → Shown → Outcome → List ℕ
+abbrev pub outcome_line : TextNames → Shown → Outcome → List ℕ
 outcome_line names shown outcome = codes "outcome:" ++ after_space (outcome_text names shown outcome) ++ 10 ∷ []
 
 -- the gaps by their places, ascending

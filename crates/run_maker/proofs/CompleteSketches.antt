@@ -12,7 +12,7 @@ use Rattle.tso_program.specs.declared.shown.Shown.{Shown}
 use Rattle.tso_program.specs.declared.shown.Shown.TheVariants.{All}
 use Rattle.tso_program.specs.Shown.{shown_value, asked}
 use Rattle.tso_program.specs.Listings.{action, start_of, code_of}
-use Rattle.tso_machine.specs.Machine.{Mode, Sequential, Fenced, IsRun}
+use Rattle.tso_machine.specs.Machine.{Machine, SequentialMachine, StoreBufferMachine, IsRun}
 use Rattle.candidate_executions.specs.declared.access.Access.{Access}
 use Rattle.candidate_executions.specs.declared.event.Event.{Event}
 use Rattle.candidate_executions.specs.declared.event.Event.TheVariants.{Initial, Access as At}
@@ -45,15 +45,15 @@ use Rattle.run_maker.specs.Internal.Orders.{IsKnownOrder}
 use Rattle.exec_axioms.proofs.Completeness.{first_there, second_there}
 use Rattle.run_maker.proofs.PlacesInOrder.{place, place_before, place_same, chosen, chosen_is}
 
-consistent_by : (p : Listing) (m : Mode) (c : Candidate) → ((kind : Kind) → IsOfMode m kind → IsAcyclic (Edge p m c kind)) → IsConsistent p m c
-consistent_by p Sequential c each = each union.Sequential tt
-consistent_by p (Fenced gaps) c each = (each union.Location tt, each union.Global tt)
+consistent_by : (p : Listing) (m : Machine) (c : Candidate) → ((kind : Kind) → IsOfMode m kind → IsAcyclic (Edge p m c kind)) → IsConsistent p m c
+consistent_by p SequentialMachine c each = each union.Sequential tt
+consistent_by p (StoreBufferMachine gaps) c each = (each union.Location tt, each union.Global tt)
 
 module _ (s : ProgramSketch) (lawful : IsLawful s) (whole : IsComplete s) (acyclic : HasNoCycle s) (order : List Event) (is : IsKnownOrder s order) where
   abbrev p : Listing
   p = s.program
 
-  abbrev mode : Mode
+  abbrev mode : Machine
   mode = mode_in s
 
   abbrev R : Event → Event → Type 0

@@ -95,7 +95,7 @@ const KINDS: [(&[u8], Kind); 3] = [
 ];
 
 /// `sequential`, or the gaps that are fenced.
-fn mode_of(alloc: Global, word: &[u8]) -> Result<Mode, Refusal> {
+fn machine_of_model(alloc: Global, word: &[u8]) -> Result<Mode, Refusal> {
     if word == b"sequential".as_slice() {
         return Ok(Mode::Sequential);
     }
@@ -387,7 +387,7 @@ pub fn push_sketch(
     program: &Program,
     printed: &mut String,
 ) -> Result<(), Refusal> {
-    let mode = mode_of(alloc, word_at(words, 0)?)?;
+    let mode = machine_of_model(alloc, word_at(words, 0)?)?;
     let mut sketch = Sketch::new(alloc, program, mode)?;
     push_answers(alloc, &mut sketch, words, printed)
 }

@@ -7,7 +7,7 @@ use Rattle.std.proofs.lemmas.List.FromFn.{fill_by_all, get_or-map-range_with_len
 use Rattle.tso_program.specs.declared.outcome.Outcome.{Outcome}
 use Rattle.tso_program.specs.declared.shown.Shown.{Shown}
 use Rattle.tso_program.specs.declared.shown.Shown.TheVariants.{All, Only}
-use Rattle.tso_program.specs.Laws.{IsPartOf, register_in, value_in, WhatIsShownIsAlike, ShownRegistersAreKept, ShownLocationsAreKept, OtherRegistersAreZero, OtherLocationsAreZero, APartIsShownOfTheWhole, ShowingTwiceIsShowingOnce, EverythingShownIsTheOutcome}
+use Rattle.tso_program.specs.Laws.{IsPartOf, register_in, location_in, WhatIsShownIsAlike, ShownRegistersAreKept, ShownLocationsAreKept, OtherRegistersAreZero, OtherLocationsAreZero, APartIsShownOfTheWhole, ShowingTwiceIsShowingOnce, EverythingShownIsTheOutcome}
 use Rattle.tso_program.specs.Shown.{shows_register, shows_location, value_if, shown_registers, shown_value, show_registers, show_memory, show}
 use Rattle.tso_program.proofs.PartsShown.{any_register, part_of_itself}
 
@@ -139,7 +139,7 @@ register_kept shown o t r = ap (λ (held : List ℕ). get_or held r 0) (thread_k
           ∙ sym (ap (value_if (shows_register shown t r)) (get_or_past held r 0 h) ∙ hidden (shows_register shown t r))
     ]
 
-value_kept : (shown : Shown) (o : Outcome) (l : ℕ) → value_in (show shown o) l ≡ value_if (shows_location shown l) (value_in o l)
+value_kept : (shown : Shown) (o : Outcome) (l : ℕ) → location_in (show shown o) l ≡ value_if (shows_location shown l) (location_in o l)
 value_kept shown o l = elim (cases_lt l (length o.memory)) [
   | inl h ↦ value_at shown o.memory l h
   | inr h ↦ let long = memory_long shown o.memory in
@@ -158,10 +158,10 @@ pub registers_kept : ShownRegistersAreKept
 registers_kept shown o t r h = register_kept shown o t r ∙ ap (λ (b : Bool). value_if b (register_in o t r)) h
 
 pub locations_kept : ShownLocationsAreKept
-locations_kept shown o l h = value_kept shown o l ∙ ap (λ (b : Bool). value_if b (value_in o l)) h
+locations_kept shown o l h = value_kept shown o l ∙ ap (λ (b : Bool). value_if b (location_in o l)) h
 
 pub other_registers : OtherRegistersAreZero
 other_registers shown o t r h = register_kept shown o t r ∙ ap (λ (b : Bool). value_if b (register_in o t r)) h
 
 pub other_locations : OtherLocationsAreZero
-other_locations shown o l h = value_kept shown o l ∙ ap (λ (b : Bool). value_if b (value_in o l)) h
+other_locations shown o l h = value_kept shown o l ∙ ap (λ (b : Bool). value_if b (location_in o l)) h

@@ -7,6 +7,7 @@ use Rattle.tso_program.specs.Names.{register_place, location_place}
 use Rattle.tso_program.specs.Shown.{shows_register, shows_location, show}
 use Rattle.tso_program.specs.declared.instruction.TheConstants.{REGISTERS}
 use Rattle.tso_program.specs.declared.limits.TheConstants.{MAX_THREADS, MAX_LOCATIONS}
+use Rattle.tso_program.specs.declared.shown.TheConstants.{PLACES}
 
 -- no two registers have one place
 abbrev pub RegisterPlacesAreDistinct : Type 0
@@ -34,16 +35,16 @@ pub record IsLocationPlace (place : ℕ) : Type 0 where
   pub few_locations : location < MAX_LOCATIONS
   pub value : place ≡ location_place location
 
--- each place below 56 is a register's or a location's
+-- each place below `PLACES` is a register's or a location's
 abbrev pub EachPlaceIsNamed : Type 0
-EachPlaceIsNamed = (place : ℕ) → place < 56 → IsRegisterPlace place ⊎ IsLocationPlace place
+EachPlaceIsNamed = (place : ℕ) → place < PLACES → IsRegisterPlace place ⊎ IsLocationPlace place
 
 -- register r of thread t in an outcome, and a location's value; 0 where there is no such value
 abbrev pub register_in : Outcome → ℕ → ℕ → ℕ
 register_in o t r = slice_index (slice_index_or o.registers t []) r
 
-abbrev pub value_in : Outcome → ℕ → ℕ
-value_in o l = slice_index o.memory l
+abbrev pub location_in : Outcome → ℕ → ℕ
+location_in o l = slice_index o.memory l
 
 -- two outcomes have as many threads, as many registers of each thread, and as many locations
 pub record AreAlike (o other : Outcome) : Type 0 where
@@ -60,14 +61,14 @@ abbrev pub ShownRegistersAreKept : Type 0
 ShownRegistersAreKept = (shown : Shown) (o : Outcome) (t r : ℕ) → shows_register shown t r ≡ true → register_in (show shown o) t r ≡ register_in o t r
 
 abbrev pub ShownLocationsAreKept : Type 0
-ShownLocationsAreKept = (shown : Shown) (o : Outcome) (l : ℕ) → shows_location shown l ≡ true → value_in (show shown o) l ≡ value_in o l
+ShownLocationsAreKept = (shown : Shown) (o : Outcome) (l : ℕ) → shows_location shown l ≡ true → location_in (show shown o) l ≡ location_in o l
 
 -- each other register and each other location is 0
 abbrev pub OtherRegistersAreZero : Type 0
 OtherRegistersAreZero = (shown : Shown) (o : Outcome) (t r : ℕ) → shows_register shown t r ≡ false → register_in (show shown o) t r ≡ 0
 
 abbrev pub OtherLocationsAreZero : Type 0
-OtherLocationsAreZero = (shown : Shown) (o : Outcome) (l : ℕ) → shows_location shown l ≡ false → value_in (show shown o) l ≡ 0
+OtherLocationsAreZero = (shown : Shown) (o : Outcome) (l : ℕ) → shows_location shown l ≡ false → location_in (show shown o) l ≡ 0
 
 -- each register and each location that the one shows, the other shows
 pub record IsPartOf (small large : Shown) : Type 0 where

@@ -2,7 +2,7 @@
 //! nothing.
 ghost use Rattle.tso_program.specs.Laws.{RegisterPlacesAreDistinct, LocationPlacesAreDistinct, RegistersLieApartFromLocations, EachPlaceIsNamed, WhatIsShownIsAlike, ShownRegistersAreKept, ShownLocationsAreKept, OtherRegistersAreZero, OtherLocationsAreZero, EachIsPartOfAll, APartIsShownOfTheWhole, ShowingTwiceIsShowingOnce, EverythingShownIsTheOutcome};
 
-/// No two registers or locations have one place, and each place below 56 is a register's or a location's.
+/// No two registers or locations have one place, and each place below `PLACES` is a register's or a location's.
 pub fn places_are_distinct()
     ensures registers { RegisterPlacesAreDistinct }
     ensures locations { LocationPlacesAreDistinct }

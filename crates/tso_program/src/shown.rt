@@ -6,6 +6,7 @@ ghost use Rattle.gap_sets.specs.Gaps.{numbers_of_set};
 ghost use Rattle.tso_program.specs.Names.{register_place, location_place, ArePlaces};
 ghost use Rattle.tso_program.specs.declared.instruction.TheConstants.{REGISTERS};
 ghost use Rattle.tso_program.specs.declared.limits.TheConstants.{MAX_THREADS, MAX_LOCATIONS};
+ghost use Rattle.tso_program.specs.declared.shown.TheConstants.{PLACES};
 ghost use Rattle.tso_program.specs.Shown.{shows_register, shows_location, value_if, shown_registers, shown_value};
 
 use crate::{MAX_LOCATIONS, MAX_THREADS, REGISTERS, Reg};
@@ -119,7 +120,7 @@ impl Names {
     /// These and the register or location at a place: register r of thread t is at `REGISTERS * t + r`, location l
     /// at `REGISTER_PLACES + l`.
     pub fn with_place(self, place: u8) -> Names
-        requires { place < 56 }
+        requires { place < PLACES }
         ensures { result ≡ set.insert self place }
     {
         Names {

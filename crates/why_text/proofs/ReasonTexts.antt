@@ -11,7 +11,7 @@ use Rattle.tso_program.specs.declared.listing.Listing.{Listing}
 use Rattle.tso_program.specs.declared.shown.Shown.{Shown}
 use Rattle.tso_program.specs.Fences.{gaps_in}
 use Rattle.tso_program.specs.Shown.{asked, Question}
-use Rattle.tso_machine.specs.Machine.{Fenced, no_gaps}
+use Rattle.tso_machine.specs.Machine.{StoreBufferMachine, no_gaps}
 use Rattle.tso_machine.specs.Modes.{ArePassed}
 use Rattle.tso_machine.specs.Outcomes.{IsForeignRun, IsShownRun}
 use Rattle.litmus_reader.specs.declared.litmus.Litmus.{Litmus}
@@ -21,7 +21,7 @@ use Rattle.cover_solver.specs.Verdicts.{PassesNoneOf}
 use Rattle.why_text.specs.WhyTexts.{IsReason, AreReasons, TellsReasons, TellsWhy, all_sequential, reason_text, reasons_or_none}
 
 -- a foreign run that passes none of some gaps is a run with these gaps fenced
-pub runs_fenced : (run : facts.Foreign) (gaps : SetOfGaps) → facts.IsForeignValue run → PassesNoneOf gaps run → IsShownRun run.question (Fenced (gaps_in run.question.program gaps)) run.labels run.outcome
+pub runs_fenced : (run : facts.Foreign) (gaps : SetOfGaps) → facts.IsForeignValue run → PassesNoneOf gaps run → IsShownRun run.question (StoreBufferMachine (gaps_in run.question.program gaps)) run.labels run.outcome
 runs_fenced run gaps is none =
     let (whole, is_run, shows) = is.foreign.is_run in
     (whole, (passed_gaps_tell run.question.program gaps run.passed run.labels whole is_run is.passed).1 none, shows)
@@ -35,9 +35,9 @@ reason_of source shown gaps gap run table text of_question is none printed =
       labels = run.labels;
       outcome = run.outcome;
       foreign = subst (λ (q : Question). IsForeignRun q run.labels run.outcome) of_question is.foreign;
-      fenced = subst (λ (q : Question). IsShownRun q (Fenced (gaps_in q.program (set.remove gaps gap))) run.labels run.outcome) of_question fenced;
+      fenced = subst (λ (q : Question). IsShownRun q (StoreBufferMachine (gaps_in q.program (set.remove gaps gap))) run.labels run.outcome) of_question fenced;
       passed = run.passed;
-      passes = subst (λ (q : Question). ArePassed q.program (Fenced no_gaps) run.labels run.passed) of_question is.passed;
+      passes = subst (λ (q : Question). ArePassed q.program (StoreBufferMachine no_gaps) run.labels run.passed) of_question is.passed;
       table = table;
       printed = printed;
     }

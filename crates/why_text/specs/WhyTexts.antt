@@ -10,7 +10,7 @@ use Rattle.tso_program.specs.declared.shown.Shown.{Shown}
 use Rattle.tso_program.specs.Fences.{gaps_in}
 use Rattle.tso_program.specs.Shown.{asked}
 use Rattle.tso_machine.specs.declared.label.Label.{Label}
-use Rattle.tso_machine.specs.Machine.{Fenced, no_gaps}
+use Rattle.tso_machine.specs.Machine.{StoreBufferMachine, no_gaps}
 use Rattle.tso_machine.specs.Modes.{ArePassed}
 use Rattle.tso_machine.specs.Outcomes.{IsForeignRun, IsShownRun, IsTheAnswer}
 use Rattle.tso_machine.specs.RunTexts.{run_text}
@@ -42,9 +42,9 @@ pub record IsReason (source : Litmus Listing) (shown : Shown) (gaps : SetOfGaps)
   pub labels : List Label
   pub outcome : Outcome
   pub foreign : IsForeignRun (asked source.program shown) labels outcome
-  pub fenced : IsShownRun (asked source.program shown) (Fenced (gaps_in source.program (set.remove gaps gap))) labels outcome
+  pub fenced : IsShownRun (asked source.program shown) (StoreBufferMachine (gaps_in source.program (set.remove gaps gap))) labels outcome
   pub passed : SetOfGaps
-  pub passes : ArePassed source.program (Fenced no_gaps) labels passed
+  pub passes : ArePassed source.program (StoreBufferMachine no_gaps) labels passed
   pub table : List ℕ
   pub printed : text ≡ reason_text source shown gap labels table outcome passed
 

@@ -8,7 +8,7 @@ use Rattle.tso_program.specs.declared.action.Action.TheVariants.{Stop}
 use Rattle.tso_program.specs.declared.listing.Listing.{Listing}
 use Rattle.tso_program.specs.Listings.{action, start_of, code_of}
 use Rattle.tso_program.specs.Limits.{JumpForward}
-use Rattle.tso_machine.specs.Machine.{Mode}
+use Rattle.tso_machine.specs.Machine.{Machine}
 use Rattle.candidate_executions.specs.declared.access.Access.{Access}
 use Rattle.candidate_executions.specs.declared.event.Event.{Event}
 use Rattle.candidate_executions.specs.declared.event.Event.TheVariants.{Initial, Access as At}
@@ -27,14 +27,14 @@ only x y (zero, h, e) = e
 only x y (suc k, h, e) = absurd (omega arith)
 
 -- events keep what they read and write when values are added
-pub keeps : (p : Listing) (mode : Mode) (given more : ℕ → List ℕ) → ((t : ℕ) → IsPrefixOf (given t) (more t)) → (e : Event) (x : Access) →
+pub keeps : (p : Listing) (mode : Machine) (given more : ℕ → List ℕ) → ((t : ℕ) → IsPrefixOf (given t) (more t)) → (e : Event) (x : Access) →
     access_by p mode given e ≡ Some x → access_by p mode more e ≡ Some x
 keeps p mode given more h (Initial l) x a = a
 keeps p mode given more h (At t i) x a = let (rest, q) = h t in
     subst (λ g. slice_get (trace (action p.threads t) (fenced_gaps mode t) (length (code_of p.threads t)) 0 (start_of p.threads t) g).accesses i ≡ Some x) q
     (trace_more (action p.threads t) (fenced_gaps mode t) (length (code_of p.threads t)) 0 (start_of p.threads t) (given t) rest i x a)
 
-pub keeps_writes : (p : Listing) (mode : Mode) (given more : ℕ → List ℕ) → ((t : ℕ) → IsPrefixOf (given t) (more t)) → (e : Event) (l v : ℕ) →
+pub keeps_writes : (p : Listing) (mode : Machine) (given more : ℕ → List ℕ) → ((t : ℕ) → IsPrefixOf (given t) (more t)) → (e : Event) (l v : ℕ) →
     Writes (access_by p mode given) e l v → Writes (access_by p mode more) e l v
 keeps_writes p mode given more h e l v w = (w.0, keeps p mode given more h e w.0 w.1, w.2, w.3)
 
@@ -47,7 +47,7 @@ empty_is_a_sketch p mode = record {
 }
 
 -- a thread with a next read has its given values
-there_by : (p : Listing) (mode : Mode) (k : Sketch) → IsSketch p mode k → (t l : ℕ) → next_read p mode k t ≡ Some l → t < length k.given
+there_by : (p : Listing) (mode : Machine) (k : Sketch) → IsSketch p mode k → (t l : ℕ) → next_read p mode k t ≡ Some l → t < length k.given
 there_by p mode k fits t l next = let h = reads_there p mode k t l next in let many = fits.each_thread in omega arith
 
 pub a_value_keeps_a_sketch : AValueKeepsASketch
@@ -89,7 +89,7 @@ a_pair_keeps_a_sketch p mode k d e fits is = record {
   ];
 }
 
-module _ (p : Listing) (mode : Mode) (k : Sketch) (c : Candidate) (fits : IsSketch p mode k) (is : IsCandidate p mode c) (completes : Completes k c) where
+module _ (p : Listing) (mode : Machine) (k : Sketch) (c : Candidate) (fits : IsSketch p mode k) (is : IsCandidate p mode c) (completes : Completes k c) where
   -- one source more
   more_sources : (e s : Event) → c.source e ≡ s → Completes (with_source k e s) c
   more_sources e s q = record {

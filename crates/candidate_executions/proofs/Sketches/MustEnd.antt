@@ -8,7 +8,7 @@ use Rattle.tso_program.specs.declared.outcome.Outcome.{Outcome}
 use Rattle.tso_program.specs.Shown.{Question, shown_value, show_registers, show_memory}
 use Rattle.tso_program.proofs.Kept.{same_memory}
 use Rattle.tso_program.specs.Limits.{JumpForward}
-use Rattle.tso_machine.specs.Machine.{Mode}
+use Rattle.tso_machine.specs.Machine.{Machine}
 use Rattle.candidate_executions.specs.declared.access.Access.{Access}
 use Rattle.candidate_executions.specs.declared.event.Event.{Event}
 use Rattle.candidate_executions.specs.declared.event.Event.TheVariants.{Initial}
@@ -20,7 +20,7 @@ use Rattle.candidate_executions.proofs.Sketches.Choices.{all_given, keeps_writes
 use Rattle.candidate_executions.proofs.Candidates.LastWrites.{ends_with}
 use Rattle.candidate_executions.proofs.Candidates.EdgesAreDecidable.{same_event}
 
-module _ (q : Question) (mode : Mode) (k : Sketch) (c : Candidate) (o : Outcome) (forward : JumpForward q.program.threads) (fits : IsSketch q.program mode k)
+module _ (q : Question) (mode : Machine) (k : Sketch) (c : Candidate) (o : Outcome) (forward : JumpForward q.program.threads) (fits : IsSketch q.program mode k)
     (is : IsCandidate q.program mode c) (completes : Completes k c) (must : MustEndAs q mode k o) where
   abbrev p : Listing
   p = q.program

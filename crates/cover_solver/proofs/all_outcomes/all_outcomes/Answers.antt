@@ -2,7 +2,7 @@ use Rattle.std.proofs.Common.{subst}
 use Rattle.std.specs.FinSet as set
 use Rattle.tso_program.specs.Shown.{asked}
 use Rattle.tso_machine.specs.declared.mode.Mode.TheVariants as modes
-use Rattle.tso_machine.specs.Modes.{machine_mode}
+use Rattle.tso_machine.specs.Modes.{machine_of_mode}
 use Rattle.exec_axioms.specs.ProgramSketches.{nothing_chosen}
 use Rattle.cert_forest.specs.Views.{cover}
 use Rattle.cover_solver.specs.declared.listed.Listed.{Listed}
@@ -35,7 +35,7 @@ pub returns-clause-exact : goal.returns-clause-exact
 returns-clause-exact c =
     let p = c.args.program.now in
     let q = asked p c.args.shown.now in
-    let mode = machine_mode p c.args.mode in
+    let mode = machine_of_mode p c.args.mode in
     let found = c.in-Open.found in
     let tree = cover c.in-Ok.tree in
     let in_order = subst AreInOrder c.in-Open.is c.in-Ok.ensures.grows.in_order in
@@ -48,4 +48,4 @@ unreachable-requires c =
     let p = c.args.program.now in
     let mid = c.kept_all.new.outcomes in
     never_new q c.args.mode c.none_of-outcomes.ensures.open.0 c.none_of-outcomes.result mid c.in-Err-New.field-0-0 c.in-Err-New.field-0-1 c.none_of-outcomes.ensures.open.1 c.in_ok-kept.ensures.grows.stays
-    (subst (StopIs q (machine_mode p c.args.mode) mid) c.in-Err-New.field-0-is c.in-Err-New.ensures.stop)
+    (subst (StopIs q (machine_of_mode p c.args.mode) mid) c.in-Err-New.field-0-is c.in-Err-New.ensures.stop)

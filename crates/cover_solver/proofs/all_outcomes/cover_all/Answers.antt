@@ -1,6 +1,6 @@
 use Rattle.std.proofs.Common.{sym, subst}
 use Rattle.tso_program.specs.Shown.{asked}
-use Rattle.tso_machine.specs.Modes.{machine_mode}
+use Rattle.tso_machine.specs.Modes.{machine_of_mode}
 use Rattle.exec_axioms.specs.ProgramSketches.{ProgramSketch}
 use Rattle.cert_forest.specs.Views.{cover}
 use Rattle.cover_judge.proofs.Answered.{if_ok}
@@ -19,5 +19,5 @@ returns-clause-tree c =
     let p = c.args.program.now in
     let shown = c.args.shown.now in
     let outcomes = listed c.filled.new.outcomes in
-    if_ok c.filled.result (λ tree. IsCoverAt c.in_ok-sketch.sketch shown outcomes (cover tree)) (λ tree. IsWholeCover (asked p shown) (machine_mode p c.args.mode) outcomes (cover tree))
+    if_ok c.filled.result (λ tree. IsCoverAt c.in_ok-sketch.sketch shown outcomes (cover tree)) (λ tree. IsWholeCover (asked p shown) (machine_of_mode p c.args.mode) outcomes (cover tree))
     (λ tree is. cover_first p c.args.mode c.in_ok-sketch.sketch shown outcomes (cover tree) c.in_ok-sketch.ensures.empty is) c.filled.ensures.tree

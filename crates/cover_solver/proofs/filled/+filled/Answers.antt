@@ -6,7 +6,7 @@ use Rattle.exec_axioms.specs.ProgramSketches.{ProgramSketch, mode_in, with_chose
 use Rattle.cert_forest.specs.declared.tree.CoverTree.{CoverTree}
 use Rattle.cert_forest.specs.Views.{cover}
 use Rattle.tso_machine.specs.declared.mode.Mode as own
-use Rattle.tso_machine.specs.Modes.{machine_mode}
+use Rattle.tso_machine.specs.Modes.{machine_of_mode}
 use Rattle.tree_laws.specs.TighterModes.{in_mode}
 use Rattle.cover_judge.specs.declared.choice.Choice.{Choice}
 use Rattle.cover_judge.specs.declared.choice.Choice.TheVariants as choice
@@ -79,7 +79,7 @@ filled-returns-in_ok-copy_in-in-Closed-clause-tree t c =
     let tree = cover c.in-Closed.tree in
     let is : kept c.args.tree.now ≡ Closed (cover c.in-Closed.tree) = search (rules, views.the_lemmas, fold-roll-KeptTree KeptCover kept_node, fold_out-KeptTree KeptCover kept_node) in
     let at = subst (IsKeptAt (unfenced s) shown outcomes) is c.requires.kept in
-    let same = c.in_ok-copy_in-in-Closed.ensures s.program ∙ ap (λ (mode : own.Mode). in_mode (machine_mode s.program mode) tree) c.mode.ensures in
+    let same = c.in_ok-copy_in-in-Closed.ensures s.program ∙ ap (λ (mode : own.Mode). in_mode (machine_of_mode s.program mode) tree) c.mode.ensures in
     subst (IsCoverAt s shown outcomes) (sym same) (kept_cover s shown outcomes tree at)
 
 pub filled-returns-in_ok-node_over-in-Values-clause-tree : goal.filled-returns-in_ok-node_over-in-Values-clause-tree

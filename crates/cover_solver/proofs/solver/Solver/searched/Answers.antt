@@ -3,7 +3,7 @@ use Rattle.tso_program.specs.declared.outcome.Outcome.{Outcome}
 use Rattle.cover_solver.specs.declared.kept_tree.KeptTree.{KeptTree}
 use Rattle.tso_program.specs.Shown.{asked}
 use Rattle.tso_machine.specs.declared.mode.Mode.TheVariants as own
-use Rattle.tso_machine.specs.Modes.{machine_mode}
+use Rattle.tso_machine.specs.Modes.{machine_of_mode}
 use Rattle.cover_solver.specs.Facts.{Asked}
 use Rattle.cover_solver.specs.Kept.{kept, IsKept}
 use Rattle.cover_solver.proofs.AllListed.{not_listed}
@@ -20,5 +20,5 @@ foreign-requires-clause-new c here =
     let s = c.self.inside in
     let run = c.in-Err-New.run' in
     let outcomes = c.deref-2.ensures.value ∙ ap (λ (a : Asked). a.outcomes) c.self.view_is in
-    not_listed (asked s.program s.shown) (machine_mode s.program (own.Fenced c.args.set.now)) c.deref-2.result c.in-Err-New.field-0 run c.in-Err-New.field-0-1 c.in-Err-New.field-0-is c.in-Err-New.ensures.stop
+    not_listed (asked s.program s.shown) (machine_of_mode s.program (own.Fenced c.args.set.now)) c.deref-2.result c.in-Err-New.field-0 run c.in-Err-New.field-0-1 c.in-Err-New.field-0-is c.in-Err-New.ensures.stop
     (subst (λ (os : List Outcome). Contains os run.outcome) (sym outcomes) here)
