@@ -2,10 +2,11 @@
 
 ghost use Rattle.std.specs.Prelude.{IfOk, map, string_bytes};
 ghost use Rattle.program_streams.specs.Streams.{Prints};
+ghost use Rattle.program_streams.specs.Files.{ReadsOfInput};
 ghost use Rattle.fencer.specs.Lines.{EndsLine};
 ghost use Rattle.fencer_words.specs.CommandFiles.{files_of};
 ghost use Rattle.fencer.specs.Deliveries.{KeepFilesBut};
-ghost use Rattle.fencer.specs.Answers.{IsAnswer, IsReply, IsOutput, KeepFilesOf, KeepOtherFiles};
+ghost use Rattle.fencer.specs.Answers.{litmus_of, IsAnswer, IsReply, IsOutput, KeepFilesOf, KeepOtherFiles, ReadsForWords, ReadsFor};
 
 use crate::gaps::run_gaps;
 use crate::outcomes::run_outcomes;
@@ -50,6 +51,7 @@ fn run_job<T: Threads + Sync, U: Wait + Sync, S: WritableFileStore, R: Read, W: 
 ) -> u8
     ensures told { Prints (IsAnswer job.now (R.remaining input.old) (S.held files.old) (S.held files.new)) (W.contents output.old) (W.contents output.new) result }
     ensures others { KeepFilesBut (files_of job.now).first (files_of job.now).second (S.held files.old) (S.held files.new) }
+    ensures read { ReadsOfInput TEXT_LIMIT (litmus_of job.now) (R.remaining input.old) (R.remaining input.new) }
 {
     match job {
         Job::Replay(asked) => run_replay(alloc, &*files, asked, input, output),
@@ -82,6 +84,7 @@ fn run_words<T: Threads + Sync, U: Wait + Sync, S: WritableFileStore, R: Read, W
 ) -> u8
     ensures told { Prints (IsReply (map string_bytes words.now) (R.remaining input.old) (S.held files.old) (S.held files.new)) (W.contents output.old) (W.contents output.new) result }
     ensures others { KeepFilesOf (map string_bytes words.now) (S.held files.old) (S.held files.new) }
+    ensures read { ReadsForWords (map string_bytes words.now) (R.remaining input.old) (R.remaining input.new) }
 {
     if asks_version(words) {
         return print(output, version_line(alloc, NAME), 0);
@@ -96,7 +99,8 @@ fn run_words<T: Threads + Sync, U: Wait + Sync, S: WritableFileStore, R: Read, W
 }
 
 /// The program: it does what the words after its name ask for, and answers its status. With no words
-/// they are those of the input's first line, separated by spaces, and the rest of the input is `-`.
+/// they are those of the input's first line, separated by spaces, and the rest of the input is `-`. It reads no more of
+/// the input than shows that the line or the litmus file is too long.
 ///
 /// Wherever any of a placement's answer is printed, the files that the arguments name hold its certificate and the fenced program;
 /// no file is changed but these, and the one that they name for a graph. With `rt` the workers of a placement start threads, and with
@@ -116,6 +120,7 @@ pub fn run_command<T: Threads + Sync, U: Wait + Sync, S: WritableFileStore, R: R
 ) -> u8
     ensures told { Prints (IsOutput (map string_bytes words.now) (R.remaining input.old) (S.held files.old) (S.held files.new)) (W.contents output.old) (W.contents output.new) result }
     ensures others { KeepOtherFiles (map string_bytes words.now) (R.remaining input.old) (S.held files.old) (S.held files.new) }
+    ensures read { ReadsFor (map string_bytes words.now) (R.remaining input.old) (R.remaining input.new) }
 {
     if !words.is_empty() {
         return run_words(rt, wait, alloc, files, words, input, output);

@@ -1,8 +1,9 @@
 //! Gaps: the list of a program's gaps or the cost file of all of them, or why there is none.
 
-ghost use Rattle.std.specs.Prelude.{◌≡◌, IfErr, IfOk, length, option_map};
+ghost use Rattle.std.specs.Prelude.{◌≡◌, IfErr, IfOk, length, option_map, string_bytes};
 ghost use Rattle.program_streams.specs.Streams.{Prints};
 ghost use Rattle.tso_program.specs.Listings.{gap_count};
+ghost use Rattle.program_streams.specs.Files.{ReadsOfInput};
 ghost use Rattle.fencer.specs.GapTexts.{AreGaps, AreGapsOfTexts, HasNoGaps, IsGapText, PrintsGaps, costs_shown};
 
 use crate::place::text_fault_line;
@@ -12,7 +13,7 @@ use gap_list::{cost_file, gap_list};
 use gap_sets::Costs;
 use litmus_text::Litmus;
 use placed_text::{TextFault, read_gap_costs, read_program};
-use program_streams::{FileStore, file_line, print};
+use program_streams::{FileStore, TEXT_LIMIT, file_line, print};
 use std::alloc::{AllocError, Global};
 use std::io::{Read, Write};
 use tso_program::Program;
@@ -77,7 +78,8 @@ pub fn run_gaps<S: FileStore, R: Read, W: Write>(
     input: &mut R,
     output: &mut W,
 ) -> u8
-    ensures { Prints (AreGaps asked.now (R.remaining input.old) (S.held files.now)) (W.contents output.old) (W.contents output.new) result }
+    ensures told { Prints (AreGaps asked.now (R.remaining input.old) (S.held files.now)) (W.contents output.old) (W.contents output.new) result }
+    ensures read { ReadsOfInput TEXT_LIMIT (string_bytes asked.now.litmus) (R.remaining input.old) (R.remaining input.new) }
 {
     let costs = asked.costs.as_deref();
     match read_texts(alloc, files, asked.litmus.as_str(), costs, input) {

@@ -1,7 +1,8 @@
 //! Outcomes: the lines of a program's list, or why there is no list.
 
-ghost use Rattle.std.specs.Prelude.{◌≡◌, IfOk, IfErr};
+ghost use Rattle.std.specs.Prelude.{◌≡◌, IfOk, IfErr, string_bytes};
 ghost use Rattle.program_streams.specs.Streams.{Prints};
+ghost use Rattle.program_streams.specs.Files.{ReadsOfInput};
 ghost use Rattle.fencer.specs.Outcomes.{list_text, list_status, PrintsOutcomes, HasNoList, AreOutcomes};
 
 use crate::refusals::{Refusal, Reply, print_answer};
@@ -65,7 +66,8 @@ pub fn run_outcomes<S: FileStore, R: Read, W: Write>(
     input: &mut R,
     output: &mut W,
 ) -> u8
-    ensures { Prints (AreOutcomes asked.now (R.remaining input.old) (S.held files.now)) (W.contents output.old) (W.contents output.new) result }
+    ensures told { Prints (AreOutcomes asked.now (R.remaining input.old) (S.held files.now)) (W.contents output.old) (W.contents output.new) result }
+    ensures read { ReadsOfInput TEXT_LIMIT (string_bytes asked.now.litmus) (R.remaining input.old) (R.remaining input.new) }
 {
     match named_bytes(alloc, files, asked.litmus.as_str(), input, TEXT_LIMIT) {
         Ok(bytes) => print_answer(alloc, outcomes_reply(alloc, &bytes, asked), output),

@@ -1,7 +1,8 @@
 //! Placements: the answer of a program and its text with fences, or why there is no answer.
 
-ghost use Rattle.std.specs.Prelude.{◌≡◌, IfErr, IfOk, IsOkUnless, option_map};
+ghost use Rattle.std.specs.Prelude.{◌≡◌, IfErr, IfOk, IsOkUnless, option_map, string_bytes};
 ghost use Rattle.program_streams.specs.Streams.{Prints};
+ghost use Rattle.program_streams.specs.Files.{ReadsOfInput};
 ghost use Rattle.placed_text.specs.TextFaults.{HasNoPlacedText};
 ghost use Rattle.fencer_words.specs.CommandFiles.{name_of};
 ghost use Rattle.fencer.specs.Deliveries.{KeepFilesBut};
@@ -13,7 +14,7 @@ use crate::texts::{Texts, read_texts};
 use fence_place::PlaceFault;
 use fencer_words::Placement;
 use placed_text::{PlacedText, TextFault, place_text};
-use program_streams::{WritableFileStore, file_line, print};
+use program_streams::{TEXT_LIMIT, WritableFileStore, file_line, print};
 use report::{costs_line, litmus_line};
 use std::alloc::{AllocError, Global};
 use std::io::{Read, Write};
@@ -127,6 +128,7 @@ pub fn run_place<T: Threads + Sync, U: Wait + Sync, S: WritableFileStore, R: Rea
 ) -> u8
     ensures told { Prints (IsPlaced asked.now (R.remaining input.old) (S.held files.old) (S.held files.new)) (W.contents output.old) (W.contents output.new) result }
     ensures others { KeepFilesBut (name_of asked.now.output) (name_of asked.now.certificate) (S.held files.old) (S.held files.new) }
+    ensures read { ReadsOfInput TEXT_LIMIT (string_bytes asked.now.litmus) (R.remaining input.old) (R.remaining input.new) }
 {
     let costs = asked.costs.as_deref();
     match read_texts(alloc, &*files, asked.litmus.as_str(), costs, input) {

@@ -1,6 +1,7 @@
 //! The texts of a program and of its costs.
 
 ghost use Rattle.std.specs.Prelude.{IfErr, IfOk, option_map};
+ghost use Rattle.program_streams.specs.Files.{ReadsOfInput};
 ghost use Rattle.fencer.specs.InputTexts.{AreTexts, HasNoTexts};
 
 use program_streams::{FileFault, FileStore, TEXT_LIMIT, bytes_if_named, named_bytes};
@@ -24,6 +25,7 @@ pub(crate) fn read_texts<S: FileStore, R: Read>(
 ) -> Result<Texts, FileFault>
     ensures texts { IfOk result (λ texts. AreTexts litmus.now (option_map (λ name. name.now) costs.entry) (R.remaining input.old) (S.held files.now) texts.litmus.items (option_map (λ text. text.items) texts.costs)) }
     ensures err { IfErr result (HasNoTexts litmus.now (option_map (λ name. name.now) costs.entry) (R.remaining input.old) (S.held files.now)) }
+    ensures read { ReadsOfInput TEXT_LIMIT litmus.now (R.remaining input.old) (R.remaining input.new) }
 {
     let litmus = named_bytes(alloc, files, litmus, input, TEXT_LIMIT)?;
     let costs = bytes_if_named(alloc, files, costs, TEXT_LIMIT)?;

@@ -1,7 +1,8 @@
 //! Reasons: a run for each fence of a placement that shows why the fence is needed, or why there is no answer.
 
-ghost use Rattle.std.specs.Prelude.{IfErr, IfOk, None, option_map};
+ghost use Rattle.std.specs.Prelude.{IfErr, IfOk, None, option_map, string_bytes};
 ghost use Rattle.program_streams.specs.Streams.{Prints};
+ghost use Rattle.program_streams.specs.Files.{ReadsOfInput};
 ghost use Rattle.placed_text.specs.TextFaults.{HasNoPlacedText};
 ghost use Rattle.fencer.specs.Deliveries.{KeepFilesBut};
 ghost use Rattle.fencer.specs.Whys.{IsExplained, IsExplainedText};
@@ -10,7 +11,7 @@ use crate::delivery::{Answer, deliver};
 use crate::place::text_fault_line;
 use crate::texts::{Texts, read_texts};
 use fencer_words::Placement;
-use program_streams::{WritableFileStore, file_line, print};
+use program_streams::{TEXT_LIMIT, WritableFileStore, file_line, print};
 use std::alloc::Global;
 use std::io::{Read, Write};
 use std::sync::Wait;
@@ -69,6 +70,7 @@ pub fn run_why<T: Threads + Sync, U: Wait + Sync, S: WritableFileStore, R: Read,
 ) -> u8
     ensures told { Prints (IsExplained asked.now (option_map (λ name. name.now) graphs.entry) (R.remaining input.old) (S.held files.old) (S.held files.new)) (W.contents output.old) (W.contents output.new) result }
     ensures others { KeepFilesBut None (option_map (λ name. name.now) graphs.entry) (S.held files.old) (S.held files.new) }
+    ensures read { ReadsOfInput TEXT_LIMIT (string_bytes asked.now.litmus) (R.remaining input.old) (R.remaining input.new) }
 {
     let costs = asked.costs.as_deref();
     match read_texts(alloc, &*files, asked.litmus.as_str(), costs, input) {

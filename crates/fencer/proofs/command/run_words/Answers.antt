@@ -1,8 +1,8 @@
-use Rattle.std.proofs.Common.{◌∙◌, inl, inr, sym}
+use Rattle.std.proofs.Common.{◌∙◌, inl, inr, refl, sym}
 use Rattle.std.specs.Prelude.{codes}
 use Rattle.program_streams.specs.Versions.{version_line}
 use Rattle.std.proofs.lemmas.Result.{IfOk-weaker}
-use Rattle.fencer.specs.Answers.{answer, no_command, version}
+use Rattle.fencer.specs.Answers.{answer, no_command, of_job, nothing, version}
 use Rattle.program_streams.proofs.Printed.{prints_line, prints_made, prints_more, prints_nothing}
 use Rattle.fencer.proofs.Served.{other}
 use Rattle.fencer.proofs.command.run_words.Goals as goal
@@ -29,3 +29,15 @@ returns-clause-told g c =
     let refused = other c.in-Err.ensures.refused (λ memory. c.in_default.not-OutOfMemory (c.kind.ensures ∙ memory)) in
     prints_made c.error_text.result 2 _ _ _ c.print.result
     (IfOk-weaker c.error_text.result _ _ (λ text ends. no_command text.items (sym c.asks_version.ensures ∙ c.if-asks_version.false) refused ends) c.error_text.ensures) c.print.ensures
+
+pub returns-in-Ok-clause-read : goal.returns-in-Ok-clause-read
+returns-in-Ok-clause-read g c = of_job c.in-Ok.job c.in-Ok.ensures.job c.run_job.ensures.read
+
+pub returns-in-OutOfMemory-clause-read : goal.returns-in-OutOfMemory-clause-read
+returns-in-OutOfMemory-clause-read g c = nothing refl
+
+pub returns-clause-read : goal.returns-clause-read
+returns-clause-read g c = nothing refl
+
+pub returns-then-asks_version-clause-read : goal.returns-then-asks_version-clause-read
+returns-then-asks_version-clause-read g c = nothing refl

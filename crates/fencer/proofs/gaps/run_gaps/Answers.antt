@@ -4,10 +4,10 @@ use Rattle.program_streams.specs.FileLines.{file_line}
 use Rattle.fencer.specs.GapTexts.{of_texts, no_texts}
 use Rattle.fencer.proofs.gaps.run_gaps.Goals as goal
 
-pub returns-in-Ok : goal.returns-in-Ok
-returns-in-Ok g c =
+pub returns-in-Ok-clause-told : goal.returns-in-Ok-clause-told
+returns-in-Ok-clause-told g c =
     prints_more _ _ _ _ c.gaps_of_texts.result (λ status text is. of_texts c.in-Ok.texts.litmus.items (option_map (λ text. text.items) c.in-Ok.texts.costs) status text (rw (c.as_str.ensures.value, c.as_deref-costs.ensures.value) at c.in-Ok.ensures.texts) is) c.gaps_of_texts.ensures
 
-pub returns-in-Err : goal.returns-in-Err
-returns-in-Err g c =
+pub returns-in-Err-clause-told : goal.returns-in-Err-clause-told
+returns-in-Err-clause-told g c =
     prints_line c.file_line.result 1 (file_line c.in-Err.fault) _ _ _ c.print.result (no_texts c.in-Err.fault (rw (c.as_str.ensures.value, c.as_deref-costs.ensures.value) at c.in-Err.ensures.err)) c.file_line.ensures c.print.ensures

@@ -9,3 +9,12 @@ returns-in_err-costs-clause-err g c =
     let p = err_from_is_err_and c.from_residual-in_err-costs.result c.from_residual-in_err-costs.ensures.1 in
     rw p.1 (subst (HasNoTexts c.args.litmus.now (option_map (λ name. name.now) c.args.costs) (g.R.Read.remaining c.args.input.now) (g.S.FileStore.held c.args.files.now)) (sym p.2)
     (no_costs c.in_ok-litmus.litmus.items c.in_ok-litmus.ensures.whole c.in_err-costs.ensures.err))
+
+pub returns-in_err-litmus-clause-read : goal.returns-in_err-litmus-clause-read
+returns-in_err-litmus-clause-read g c = c.named_bytes.ensures.read
+
+pub returns-in_err-costs-clause-read : goal.returns-in_err-costs-clause-read
+returns-in_err-costs-clause-read g c = c.named_bytes.ensures.read
+
+pub returns-clause-read : goal.returns-clause-read
+returns-clause-read g c = c.named_bytes.ensures.read
