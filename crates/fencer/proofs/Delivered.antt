@@ -10,10 +10,10 @@ use Rattle.fencer.specs.Deliveries.{AreApart, HoldsFile, KeepFiles, KeepFilesBut
 use Rattle.fencer.specs.Placements.{DeliversTexts, PrintsPlacement}
 
 -- the lines that were joined are those of the texts
-pub delivered_texts : (litmus : List ℕ) (costs : Option (List ℕ)) (observed check : Bool) (texts : PlacedText) (r : Result Answer TextFault) → IsPlacedText litmus costs observed texts
-    → IfOk r (DeliversTexts texts check) → IfOk r (PrintsPlacement litmus costs observed check)
-delivered_texts litmus costs observed check texts (Ok answer) placed delivered = record { texts = texts; placed = placed; delivered = delivered }
-delivered_texts litmus costs observed check texts (Err why) placed delivered = tt
+pub delivered_texts : (litmus : List ℕ) (costs : Option (List ℕ)) (observed check json : Bool) (texts : PlacedText) (r : Result Answer TextFault) → IsPlacedText litmus costs observed texts
+    → IfOk r (DeliversTexts texts check json) → IfOk r (PrintsPlacement litmus costs observed check json)
+delivered_texts litmus costs observed check json texts (Ok answer) placed delivered = record { texts = texts; placed = placed; delivered = delivered }
+delivered_texts litmus costs observed check json texts (Err why) placed delivered = tt
 
 -- a file holds what was written to it, if it is not the one that is written next
 pub still_held : (first second : Option (List ℕ)) (left next : List ℕ → Option (List ℕ)) (text : List ℕ) → HoldsFile first left text → KeepFiles second left next → AreApart first second → HoldsFile first next text

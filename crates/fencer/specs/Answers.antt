@@ -11,7 +11,7 @@ use Rattle.program_streams.specs.FileLines.{file_line}
 use Rattle.program_streams.specs.Versions.{asks_version, version_line}
 use Rattle.fencer_words.specs.declared.job.Job.{Job}
 use Rattle.fencer_words.specs.declared.job.Job.TheVariants.{Replay, Trace, Outcomes, Place, Why, Gaps}
-use Rattle.fencer_words.specs.CommandFiles.{files_of, name_of}
+use Rattle.fencer_words.specs.CommandFiles.{files_of}
 use Rattle.fencer_words.specs.CommandLines.{AsksFor, IsNoCommand}
 use Rattle.fencer.specs.Lines.{EndsLine}
 use Rattle.fencer.specs.Outcomes.{AreOutcomes}
@@ -26,10 +26,10 @@ use Rattle.fencer.specs.Whys.{IsExplained}
 -- the answer to a job
 abbrev pub IsAnswer : Job → Option (List ℕ) → (List ℕ → Option (List ℕ)) → (List ℕ → Option (List ℕ)) → ℕ → List ℕ → Type 0
 IsAnswer (Replay asked) input files left = IsReplay asked.model (label_words_text asked.labels.items) (string_bytes asked.litmus) input files
-IsAnswer (Trace run graph) input files left = IsTrace run (name_of graph) input files left
+IsAnswer (Trace asked) input files left = IsTrace asked input files left
 IsAnswer (Outcomes asked) input files left = AreOutcomes asked input files
 IsAnswer (Place asked) input files left = IsPlaced asked input files left
-IsAnswer (Why asked graphs) input files left = IsExplained asked (name_of graphs) input files left
+IsAnswer (Why asked) input files left = IsExplained asked input files left
 IsAnswer (Gaps asked) input files left = AreGaps asked input files
 
 -- the first line of the input has more bytes than the limit
@@ -58,10 +58,10 @@ IsOutput (word ∷ words) input files left = IsReply (word ∷ words) input file
 -- the litmus file of a job
 abbrev pub litmus_of : Job → List ℕ
 litmus_of (Replay asked) = string_bytes asked.litmus
-litmus_of (Trace run graph) = string_bytes run.litmus
+litmus_of (Trace asked) = string_bytes asked.run.litmus
 litmus_of (Outcomes asked) = string_bytes asked.litmus
 litmus_of (Place asked) = string_bytes asked.litmus
-litmus_of (Why asked graphs) = string_bytes asked.litmus
+litmus_of (Why asked) = string_bytes asked.placement.litmus
 litmus_of (Gaps asked) = string_bytes asked.litmus
 
 -- for words: nothing; or, where they ask for a job, no more than shows that its litmus file is too long

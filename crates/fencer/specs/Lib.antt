@@ -4,6 +4,7 @@ pub mod Refusals
 pub mod TextAnswers
 pub mod InputTexts
 pub mod Deliveries
+pub mod Documented
 pub mod Replays
 pub mod Traces
 pub mod Outcomes

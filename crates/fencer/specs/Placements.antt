@@ -16,6 +16,7 @@ use Rattle.placed_text.specs.TextFaults.{HasNoPlacedText}
 use Rattle.report.specs.Faults.{refused, litmus_line, costs_line}
 use Rattle.fencer.specs.declared.delivery.Answer.{Answer}
 use Rattle.fencer.specs.Deliveries.{IsDelivered, KeepAllFiles}
+use Rattle.fencer.specs.Documented.{printed as either}
 use Rattle.fencer.specs.InputTexts.{AreTexts, HasNoTexts}
 use Rattle.fencer.specs.Statuses.{check_status}
 
@@ -35,25 +36,26 @@ text_fault_line (fault.CostText why) = costs_line why
 text_fault_line (fault.Place why) = place_line why
 text_fault_line fault.OutOfMemory = place_line place.OutOfMemory
 
--- What is delivered of what is placed: the lines are the answer and the program with its fences; the first file that is written has
--- the program, the second the certificate; with a check the status is 3 where the answer has a gap.
-pub record DeliversTexts (texts : PlacedText) (check : Bool) (answer : Answer) : Type 0 where
-  pub printed : answer.lines.items ≡ texts.answer.items ++ texts.program.items
+-- What is delivered of what is placed: the lines are the answer and the program with its fences, or the document in their place;
+-- the first file that is written has the program, the second the certificate; with a check the status is 3 where the answer has a
+-- gap.
+pub record DeliversTexts (texts : PlacedText) (check json : Bool) (answer : Answer) : Type 0 where
+  pub printed : answer.lines.items ≡ either json (texts.answer.items ++ texts.program.items) texts.document.items
   pub ends : answer.status ≡ check_status check (nat_lt 0 (set.len texts.gaps))
   pub program : answer.first.items ≡ texts.program.items
   pub proof : answer.second.items ≡ texts.certificate.items
 
 -- what is delivered of what is placed in the program of a litmus text
-pub record PrintsPlacement (litmus : List ℕ) (costs : Option (List ℕ)) (observed check : Bool) (answer : Answer) : Type 0 where
+pub record PrintsPlacement (litmus : List ℕ) (costs : Option (List ℕ)) (observed check json : Bool) (answer : Answer) : Type 0 where
   pub texts : PlacedText
   pub placed : IsPlacedText litmus costs observed texts
-  pub delivered : DeliversTexts texts check answer
+  pub delivered : DeliversTexts texts check json answer
 
 -- ---- answers, each with its status
 
 -- the answer to texts; or why there is no answer, and then no file is changed
 pub data IsJudged (q : Placement) (litmus : List ℕ) (costs : Option (List ℕ)) (files left : List ℕ → Option (List ℕ)) : ℕ → List ℕ → Type 0 where
-  placed : (answer : Answer) (status : ℕ) (text : List ℕ) → PrintsPlacement litmus costs q.observed q.check answer
+  placed : (answer : Answer) (status : ℕ) (text : List ℕ) → PrintsPlacement litmus costs q.observed q.check q.json answer
       → IsDelivered (name_of q.output) (name_of q.certificate) left answer status text → IsJudged q litmus costs files left status text
   refused_for : (why : TextFault) → HasNoPlacedText litmus costs q.workers why → KeepAllFiles files left → IsJudged q litmus costs files left 1 (text_fault_line why)
 

@@ -55,19 +55,10 @@ fn run_job<T: Threads + Sync, U: Wait + Sync, S: WritableFileStore, R: Read, W: 
 {
     match job {
         Job::Replay(asked) => run_replay(alloc, &*files, asked, input, output),
-        Job::Trace { run, graph } => run_trace(alloc, files, run, graph.as_deref(), input, output),
+        Job::Trace(asked) => run_trace(alloc, files, asked, input, output),
         Job::Outcomes(asked) => run_outcomes(alloc, &*files, asked, input, output),
         Job::Place(asked) => run_place(rt, wait, alloc, files, asked, input, output),
-        Job::Why { placement, graphs } => run_why(
-            rt,
-            wait,
-            alloc,
-            files,
-            placement,
-            graphs.as_deref(),
-            input,
-            output,
-        ),
+        Job::Why(asked) => run_why(rt, wait, alloc, files, asked, input, output),
         Job::Gaps(asked) => run_gaps(alloc, &*files, asked, input, output),
     }
 }
@@ -103,7 +94,7 @@ fn run_words<T: Threads + Sync, U: Wait + Sync, S: WritableFileStore, R: Read, W
 /// the input than shows that the line or the litmus file is too long.
 ///
 /// Wherever any of a placement's answer is printed, the files that the arguments name hold its certificate and the fenced program;
-/// no file is changed but these, and the one that they name for a graph. With `rt` the workers of a placement start threads, and with
+/// no file is changed but these, and those that they name for a page or for graphs. With `rt` the workers of a placement start threads, and with
 /// `wait` they wait for one another; nothing else does either.
 ///
 /// Status 0 means that the whole answer is written, and status 3 that it is and that a check which is asked for finds a fault. Status 1

@@ -3,6 +3,7 @@
 
 mod command;
 mod delivery;
+mod documented;
 mod gaps;
 mod outcomes;
 mod place;

@@ -3,11 +3,12 @@
 ghost use Rattle.std.specs.Prelude.{◌≡◌, IfOk, IfErr, string_bytes};
 ghost use Rattle.program_streams.specs.Streams.{Prints};
 ghost use Rattle.program_streams.specs.Files.{ReadsOfInput};
-ghost use Rattle.fencer.specs.Outcomes.{list_text, list_status, PrintsOutcomes, HasNoList, AreOutcomes};
+ghost use Rattle.fencer.specs.Outcomes.{list_text as lines_of_list, list_status, PrintsOutcomes, HasNoList, AreOutcomes, TellsOutcomes};
 
 use crate::refusals::{Refusal, Reply, print_answer};
 use crate::status::check_status;
 use cover_solver::{SolveFault, outcomes};
+use documents::outcomes_document;
 use fencer_words::OutcomeQuery;
 use litmus_text::{Litmus, read_litmus};
 use program_streams::{FileStore, TEXT_LIMIT, file_line, named_bytes, print};
@@ -23,7 +24,7 @@ fn list_lines(
     shown: &Shown,
     outcomes: &[Outcome],
 ) -> Result<Vec<u8>, AllocError>
-    ensures { IfOk result (λ lines. lines.items ≡ list_text litmus.now shown.now outcomes.now) }
+    ensures { IfOk result (λ lines. lines.items ≡ lines_of_list litmus.now shown.now outcomes.now) }
 {
     let count = outcomes.len();
     let mut lines = format!(in alloc; "outcomes {count}\n")?.into_bytes();
@@ -36,6 +37,23 @@ fn list_lines(
     Ok(lines)
 }
 
+/// The list of outcomes, or its document.
+fn list_text(
+    alloc: Global,
+    asked: &OutcomeQuery,
+    litmus: &Litmus<Program>,
+    shown: &Shown,
+    outcomes: &[Outcome],
+) -> Result<Vec<u8>, AllocError>
+    ensures { IfOk result (λ lines. TellsOutcomes asked.now.json asked.now.model litmus.now shown.now outcomes.now lines.items) }
+{
+    if asked.json {
+        outcomes_document(alloc, litmus, shown, asked.model, outcomes)
+    } else {
+        list_lines(alloc, litmus, shown, outcomes)
+    }
+}
+
 /// The status of a list: with a check 3 where the condition fails.
 fn list_status(check: bool, litmus: &Litmus<Program>, outcomes: &[Outcome]) -> u8
     ensures { result ≡ list_status check litmus.now outcomes.now }
@@ -45,14 +63,14 @@ fn list_status(check: bool, litmus: &Litmus<Program>, outcomes: &[Outcome]) -> u
 
 /// The lines of the outcomes of the program that a text spells, with their status.
 fn outcomes_reply(alloc: Global, bytes: &[u8], asked: &OutcomeQuery) -> Result<Reply, Refusal>
-    ensures list { IfOk result (λ reply. PrintsOutcomes asked.now.model asked.now.observed asked.now.check bytes.now reply.status reply.lines.items) }
+    ensures list { IfOk result (λ reply. PrintsOutcomes asked.now bytes.now reply.status reply.lines.items) }
     ensures refused { IfErr result (HasNoList bytes.now) }
 {
     let litmus = read_litmus(alloc, bytes)?;
     let shown = litmus.shown_as(asked.observed);
     let list = outcomes(alloc, &litmus.program, asked.model, &shown)?;
     let status = list_status(asked.check, &litmus, &list);
-    match list_lines(alloc, &litmus, &shown, &list) {
+    match list_text(alloc, asked, &litmus, &shown, &list) {
         Ok(lines) => Ok(Reply { lines, status }),
         Err(_) => Err(Refusal::Solve(SolveFault::OutOfMemory)),
     }

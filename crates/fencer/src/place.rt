@@ -9,6 +9,7 @@ ghost use Rattle.fencer.specs.Deliveries.{KeepFilesBut};
 ghost use Rattle.fencer.specs.Placements.{place_line, text_fault_line, DeliversTexts, IsJudged, IsPlaced, PrintsPlacement};
 
 use crate::delivery::{Answer, deliver};
+use crate::documented::printed;
 use crate::status::check_status;
 use crate::texts::{Texts, read_texts};
 use fence_place::PlaceFault;
@@ -46,9 +47,10 @@ pub(crate) fn text_fault_line(alloc: Global, fault: TextFault) -> Result<Vec<u8>
     }
 }
 
-/// The answer line, followed by the program's text; with a check the status says whether the answer has a gap.
-fn joined(texts: PlacedText, check: bool) -> Result<Answer, TextFault>
-    ensures answer { IfOk result (DeliversTexts texts check) }
+/// The answer line, followed by the program's text, or the document; with a check the status says whether the answer has
+/// a gap.
+fn joined(texts: PlacedText, check: bool, json: bool) -> Result<Answer, TextFault>
+    ensures answer { IfOk result (DeliversTexts texts check json) }
     ensures err { IsOkUnless result TextFault.OutOfMemory }
 {
     let PlacedText {
@@ -61,7 +63,7 @@ fn joined(texts: PlacedText, check: bool) -> Result<Answer, TextFault>
     let mut lines = answer;
     match lines.extend_from_slice(&program) {
         Ok(()) => Ok(Answer {
-            lines,
+            lines: printed(json, lines, document),
             status: check_status(check, gaps.len() > 0),
             first: program,
             second: certificate,
@@ -78,7 +80,7 @@ fn answer_of<T: Threads + Sync, U: Wait + Sync>(
     asked: &Placement,
     texts: &Texts,
 ) -> Result<Answer, TextFault>
-    ensures placed { IfOk result (λ answer. PrintsPlacement texts.now.litmus.items (option_map (λ text. text.items) texts.now.costs) asked.now.observed asked.now.check answer) }
+    ensures placed { IfOk result (λ answer. PrintsPlacement texts.now.litmus.items (option_map (λ text. text.items) texts.now.costs) asked.now.observed asked.now.check asked.now.json answer) }
     ensures fault { IfErr result (HasNoPlacedText texts.now.litmus.items (option_map (λ text. text.items) texts.now.costs) asked.now.workers) }
 {
     let costs = texts.costs.as_deref();
@@ -91,7 +93,7 @@ fn answer_of<T: Threads + Sync, U: Wait + Sync>(
         asked.observed,
         asked.workers,
     )?;
-    joined(placed, asked.check)
+    joined(placed, asked.check, asked.json)
 }
 
 /// Judges texts, prints what is placed, and returns the status.

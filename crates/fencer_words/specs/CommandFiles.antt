@@ -20,13 +20,13 @@ pub record FileNames : Type 0 where
   pub first : Option (List ℕ)
   pub second : Option (List ℕ)
 
--- of a job: the first file that is written has the fenced program, the second the certificate or the graphs
+-- of a job: the first file that is written has the fenced program or the page, the second the certificate or the graphs
 abbrev pub files_of : Job → FileNames
 files_of (Replay asked) = record { litmus = file_of_litmus (string_bytes asked.litmus); costs = None; first = None; second = None }
-files_of (Trace run graph) = record { litmus = file_of_litmus (string_bytes run.litmus); costs = None; first = None; second = name_of graph }
+files_of (Trace asked) = record { litmus = file_of_litmus (string_bytes asked.run.litmus); costs = None; first = name_of asked.page; second = name_of asked.graph }
 files_of (Outcomes asked) = record { litmus = file_of_litmus (string_bytes asked.litmus); costs = None; first = None; second = None }
 files_of (Place asked) = record { litmus = file_of_litmus (string_bytes asked.litmus); costs = name_of asked.costs; first = name_of asked.output; second = name_of asked.certificate }
-files_of (Why asked graphs) = record { litmus = file_of_litmus (string_bytes asked.litmus); costs = name_of asked.costs; first = None; second = name_of graphs }
+files_of (Why asked) = record { litmus = file_of_litmus (string_bytes asked.placement.litmus); costs = name_of asked.placement.costs; first = name_of asked.page; second = name_of asked.graphs }
 files_of (Gaps asked) = record { litmus = file_of_litmus (string_bytes asked.litmus); costs = name_of asked.costs; first = None; second = None }
 
 -- both names are given, and are the same

@@ -73,21 +73,21 @@ workers_rule = record (named_rule (codes "workers")) {
 abbrev pub replay_app : ModelNames → App
 replay_app models = with_rule (with_rule (with_rule (new_app (codes "replay")) (model_rule models)) litmus_rule) label_rule
 
--- `outcomes [--model MODEL] [--observed] [--check] LITMUS`
+-- `outcomes [--model MODEL] [--observed] [--check] [--json] LITMUS`
 abbrev pub outcomes_app : ModelNames → App
-outcomes_app models = with_rule (with_rule (with_rule (with_rule (new_app (codes "outcomes")) (model_rule models)) (flag_rule (codes "observed"))) (flag_rule (codes "check"))) litmus_rule
+outcomes_app models = with_rule (with_rule (with_rule (with_rule (with_rule (new_app (codes "outcomes")) (model_rule models)) (flag_rule (codes "observed"))) (flag_rule (codes "check"))) (flag_rule (codes "json"))) litmus_rule
 
--- `place [--costs FILE] [--workers N] [--certificate FILE] [--output FILE] [--observed] [--check] LITMUS`
+-- `place [--costs FILE] [--workers N] [--certificate FILE] [--output FILE] [--observed] [--check] [--json] LITMUS`
 abbrev pub place_app : App
-place_app = with_rule (with_rule (with_rule (with_rule (with_rule (with_rule (with_rule (new_app (codes "place")) (file_rule (codes "costs"))) workers_rule) (file_rule (codes "certificate"))) (file_rule (codes "output"))) (flag_rule (codes "observed"))) (flag_rule (codes "check"))) litmus_rule
+place_app = with_rule (with_rule (with_rule (with_rule (with_rule (with_rule (with_rule (with_rule (new_app (codes "place")) (file_rule (codes "costs"))) workers_rule) (file_rule (codes "certificate"))) (file_rule (codes "output"))) (flag_rule (codes "observed"))) (flag_rule (codes "check"))) (flag_rule (codes "json"))) litmus_rule
 
--- `trace [--model MODEL] [--dot FILE] LITMUS [LABEL..]`
+-- `trace [--model MODEL] [--dot FILE] [--html FILE] [--json] LITMUS [LABEL..]`
 abbrev pub trace_app : ModelNames → App
-trace_app models = with_rule (with_rule (with_rule (with_rule (new_app (codes "trace")) (model_rule models)) (file_rule (codes "dot"))) litmus_rule) label_rule
+trace_app models = with_rule (with_rule (with_rule (with_rule (with_rule (with_rule (new_app (codes "trace")) (model_rule models)) (file_rule (codes "dot"))) (file_rule (codes "html"))) (flag_rule (codes "json"))) litmus_rule) label_rule
 
--- `why [--costs FILE] [--workers N] [--dot FILE] [--observed] LITMUS`
+-- `why [--costs FILE] [--workers N] [--dot FILE] [--html FILE] [--observed] [--json] LITMUS`
 abbrev pub why_app : App
-why_app = with_rule (with_rule (with_rule (with_rule (with_rule (new_app (codes "why")) (file_rule (codes "costs"))) workers_rule) (file_rule (codes "dot"))) (flag_rule (codes "observed"))) litmus_rule
+why_app = with_rule (with_rule (with_rule (with_rule (with_rule (with_rule (with_rule (new_app (codes "why")) (file_rule (codes "costs"))) workers_rule) (file_rule (codes "dot"))) (file_rule (codes "html"))) (flag_rule (codes "observed"))) (flag_rule (codes "json"))) litmus_rule
 
 -- `gaps [--costs FILE] [--template] LITMUS`
 abbrev pub gaps_app : App
@@ -144,12 +144,18 @@ pub record IsRunOf (rows : List Row) (asked : Run) : Type 0 where
 -- the job that the command of this name asks for, by the rows of its values
 abbrev pub IsJobOf : Text → List Row → Job → Type 0
 IsJobOf name rows (Replay asked) = (name ≡ codes "replay") × IsRunOf rows asked
-IsJobOf name rows (Trace run graph) = (name ≡ codes "trace") × IsRunOf rows run × (option_map string_bytes graph ≡ first_of (codes "dot") rows)
+IsJobOf name rows (Trace asked) =
+    (name ≡ codes "trace")
+    × IsRunOf rows asked.run
+    × (option_map string_bytes asked.graph ≡ first_of (codes "dot") rows)
+    × (option_map string_bytes asked.page ≡ first_of (codes "html") rows)
+    × (asked.json ≡ is_flagged (codes "json") rows)
 IsJobOf name rows (Outcomes asked) =
     (name ≡ codes "outcomes")
     × (asked.model ≡ model_in rows)
     × (asked.observed ≡ is_flagged (codes "observed") rows)
     × (asked.check ≡ is_flagged (codes "check") rows)
+    × (asked.json ≡ is_flagged (codes "json") rows)
     × (string_bytes asked.litmus ≡ text_in (codes "litmus") rows)
 IsJobOf name rows (Place asked) =
     (name ≡ codes "place")
@@ -159,17 +165,20 @@ IsJobOf name rows (Place asked) =
     × (option_map string_bytes asked.output ≡ first_of (codes "output") rows)
     × (asked.observed ≡ is_flagged (codes "observed") rows)
     × (asked.check ≡ is_flagged (codes "check") rows)
+    × (asked.json ≡ is_flagged (codes "json") rows)
     × (string_bytes asked.litmus ≡ text_in (codes "litmus") rows)
-IsJobOf name rows (Why asked graphs) =
+IsJobOf name rows (Why asked) =
     (name ≡ codes "why")
-    × (option_map string_bytes asked.costs ≡ first_of (codes "costs") rows)
-    × AreWorkers (text_in (codes "workers") rows) asked.workers
-    × (asked.certificate ≡ None)
-    × (asked.output ≡ None)
-    × (asked.observed ≡ is_flagged (codes "observed") rows)
-    × (asked.check ≡ false)
-    × (string_bytes asked.litmus ≡ text_in (codes "litmus") rows)
-    × (option_map string_bytes graphs ≡ first_of (codes "dot") rows)
+    × (option_map string_bytes asked.placement.costs ≡ first_of (codes "costs") rows)
+    × AreWorkers (text_in (codes "workers") rows) asked.placement.workers
+    × (asked.placement.certificate ≡ None)
+    × (asked.placement.output ≡ None)
+    × (asked.placement.observed ≡ is_flagged (codes "observed") rows)
+    × (asked.placement.check ≡ false)
+    × (asked.placement.json ≡ is_flagged (codes "json") rows)
+    × (string_bytes asked.placement.litmus ≡ text_in (codes "litmus") rows)
+    × (option_map string_bytes asked.graphs ≡ first_of (codes "dot") rows)
+    × (option_map string_bytes asked.page ≡ first_of (codes "html") rows)
 IsJobOf name rows (Gaps asked) =
     (name ≡ codes "gaps")
     × (option_map string_bytes asked.costs ≡ first_of (codes "costs") rows)

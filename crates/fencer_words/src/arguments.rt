@@ -147,3 +147,11 @@ pub fn model_in(matches: &ArgMatches<'_>) -> Model
         Model::Buffered
     }
 }
+
+/// `--json`
+pub fn json_arg<'a>(alloc: Global) -> Arg<'a>
+    ensures rule { rule_of result ≡ flag_rule (codes "json") }
+    ensures own { result.global ≡ false }
+{
+    flag_arg(alloc, "json", "Print a JSON document in place of the text")
+}

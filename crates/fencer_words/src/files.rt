@@ -28,7 +28,12 @@ pub(crate) fn files_of(job: &Job) -> FileNames<'_>
 {
     let (litmus, costs, first, second) = match job {
         Job::Replay(run) => (&run.litmus, None, None, None),
-        Job::Trace { run, graph } => (&run.litmus, None, None, graph.as_deref()),
+        Job::Trace(query) => (
+            &query.run.litmus,
+            None,
+            query.page.as_deref(),
+            query.graph.as_deref(),
+        ),
         Job::Outcomes(query) => (&query.litmus, None, None, None),
         Job::Place(asked) => (
             &asked.litmus,
@@ -36,11 +41,11 @@ pub(crate) fn files_of(job: &Job) -> FileNames<'_>
             asked.output.as_deref(),
             asked.certificate.as_deref(),
         ),
-        Job::Why { placement, graphs } => (
-            &placement.litmus,
-            placement.costs.as_deref(),
-            None,
-            graphs.as_deref(),
+        Job::Why(query) => (
+            &query.placement.litmus,
+            query.placement.costs.as_deref(),
+            query.page.as_deref(),
+            query.graphs.as_deref(),
         ),
         Job::Gaps(query) => (&query.litmus, query.costs.as_deref(), None, None),
     };

@@ -26,7 +26,32 @@ pub struct Placement {
     pub observed: bool,
     /// Report by the status whether the answer has a gap.
     pub check: bool,
+    /// Print the document in place of the text.
+    pub json: bool,
     pub litmus: String,
+}
+
+/// Reasons that are asked for: a run for each fence of a placement, which itself writes nothing. Files are given by their
+/// names.
+#[derive(Debug, Drop)]
+pub struct WhyQuery {
+    pub placement: Placement,
+    /// The file to which the graphs of the runs are written.
+    pub graphs: Option<String>,
+    /// The file to which the page of the document is written.
+    pub page: Option<String>,
+}
+
+/// A table of a run that is asked for. Files are given by their names.
+#[derive(Debug, Drop)]
+pub struct TraceQuery {
+    pub run: Run,
+    /// The file to which the run's graph is written.
+    pub graph: Option<String>,
+    /// The file to which the page of the document is written.
+    pub page: Option<String>,
+    /// Print the document in place of the text.
+    pub json: bool,
 }
 
 /// A list of outcomes that is asked for. The file is given by its name.
@@ -37,6 +62,8 @@ pub struct OutcomeQuery {
     pub observed: bool,
     /// Report by the status whether the condition fails.
     pub check: bool,
+    /// Print the document in place of the text.
+    pub json: bool,
     pub litmus: String,
 }
 
@@ -56,21 +83,13 @@ pub enum Job {
     /// Replay labels on the program of a litmus file.
     Replay(Run),
     /// Show the steps of labels on the program of a litmus file as a table.
-    Trace {
-        run: Run,
-        /// The file to which the run's graph is written.
-        graph: Option<String>,
-    },
+    Trace(TraceQuery),
     /// List the outcomes of the program of a litmus file.
     Outcomes(OutcomeQuery),
     /// Place fences in the program of a litmus file.
     Place(Placement),
-    /// Show for each fence of a placement, which writes nothing itself, why it is needed.
-    Why {
-        placement: Placement,
-        /// The file to which the graphs of the runs are written.
-        graphs: Option<String>,
-    },
+    /// Show for each fence of a placement why it is needed.
+    Why(WhyQuery),
     /// List the gaps of the program of a litmus file.
     Gaps(GapQuery),
 }

@@ -12,5 +12,5 @@ mod trace;
 mod why;
 mod words;
 
-pub use job::{GapQuery, Job, OutcomeQuery, Placement, Run};
+pub use job::{GapQuery, Job, OutcomeQuery, Placement, Run, TraceQuery, WhyQuery};
 pub use words::read_words;

@@ -1,4 +1,4 @@
-//! `outcomes [--model MODEL] [--observed] [--check] LITMUS`
+//! `outcomes [--model MODEL] [--observed] [--check] [--json] LITMUS`
 
 ghost use Rattle.std.specs.Prelude.{IfOk, codes};
 ghost use Rattle.clap.specs.Words.{found_of, rows_of};
@@ -6,7 +6,8 @@ ghost use Rattle.fencer_words.specs.CommandLines.{outcomes_app, IsJobOf};
 ghost use Rattle.fencer_words.specs.Commands.{IsBuiltAs};
 
 use crate::arguments::{
-    described_command, flag_arg, is_flagged, litmus_arg, model_arg, model_in, observed_arg, text_in,
+    described_command, flag_arg, is_flagged, json_arg, litmus_arg, model_arg, model_in,
+    observed_arg, text_in,
 };
 use crate::job::{Job, OutcomeQuery};
 use clap::{ArgMatches, Command};
@@ -31,6 +32,7 @@ pub fn outcomes_command<'a>(alloc: Global, models: &'a [&'a str]) -> Result<Comm
         .arg(model_arg(alloc, models))?
         .arg(observed_arg(alloc))?
         .arg(flag_arg(alloc, "check", CHECK_HELP))?
+        .arg(json_arg(alloc))?
         .arg(litmus_arg(alloc))
 }
 
@@ -41,6 +43,7 @@ pub fn outcomes_job(alloc: Global, matches: &ArgMatches<'_>) -> Result<Job, Allo
         model: model_in(matches),
         observed: is_flagged(matches, "observed"),
         check: is_flagged(matches, "check"),
+        json: is_flagged(matches, "json"),
         litmus: text_in(alloc, matches, "litmus")?,
     }))
 }

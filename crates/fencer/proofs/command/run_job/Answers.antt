@@ -7,10 +7,10 @@ pub returns-in-Replay-clause-read : goal.returns-in-Replay-clause-read
 returns-in-Replay-clause-read g c = rw c.in-Replay.is c.run_replay.ensures.read
 
 pub returns-in-Trace-clause-told : goal.returns-in-Trace-clause-told
-returns-in-Trace-clause-told g c = rw c.in-Trace.is (rw c.as_deref.ensures.value at c.run_trace.ensures.told)
+returns-in-Trace-clause-told g c = rw c.in-Trace.is c.run_trace.ensures.told
 
 pub returns-in-Trace-clause-others : goal.returns-in-Trace-clause-others
-returns-in-Trace-clause-others g c = rw c.in-Trace.is (rw c.as_deref.ensures.value at c.run_trace.ensures.others)
+returns-in-Trace-clause-others g c = rw c.in-Trace.is c.run_trace.ensures.others
 
 pub returns-in-Trace-clause-read : goal.returns-in-Trace-clause-read
 returns-in-Trace-clause-read g c = rw c.in-Trace.is c.run_trace.ensures.read
@@ -31,10 +31,10 @@ pub returns-in-Place-clause-read : goal.returns-in-Place-clause-read
 returns-in-Place-clause-read g c = rw c.in-Place.is c.run_place.ensures.read
 
 pub returns-in-Why-clause-told : goal.returns-in-Why-clause-told
-returns-in-Why-clause-told g c = rw c.in-Why.is (rw c.as_deref-in-Why.ensures.value at c.run_why.ensures.told)
+returns-in-Why-clause-told g c = rw c.in-Why.is c.run_why.ensures.told
 
 pub returns-in-Why-clause-others : goal.returns-in-Why-clause-others
-returns-in-Why-clause-others g c = rw c.in-Why.is (rw c.as_deref-in-Why.ensures.value at c.run_why.ensures.others)
+returns-in-Why-clause-others g c = rw c.in-Why.is c.run_why.ensures.others
 
 pub returns-in-Why-clause-read : goal.returns-in-Why-clause-read
 returns-in-Why-clause-read g c = rw c.in-Why.is c.run_why.ensures.read

@@ -13,6 +13,8 @@ returns c =
           ∙ ap₂ with_rule (template.shape c.flag_arg.ensures.own
           ∙ ap₂ with_rule (costs.shape c.file_arg.ensures.own ∙ ap₂ with_rule c.described_command.ensures.app c.file_arg.ensures.rule) c.flag_arg.ensures.rule) c.litmus_arg.ensures.rule;
       no_globals = neither _ _ _ h.globals
-          (neither _ _ _ template.globals (neither _ _ _ costs.globals c.described_command.ensures.local c.file_arg.ensures.own) c.flag_arg.ensures.own)
+          (neither _ _ _ template.globals
+          (neither _ _ _ costs.globals c.described_command.ensures.local c.file_arg.ensures.own)
+          c.flag_arg.ensures.own)
           c.litmus_arg.ensures.own;
     }) c.arg-3.ensures

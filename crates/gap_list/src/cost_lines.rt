@@ -36,7 +36,7 @@ pub fn cost_file(alloc: Global, program: &Program, costs: &Costs) -> Result<Vec<
     ensures read { IfOk result (λ text. IsCostText text.items program.now.threads costs.now) }
 {
     // For the proof alone: the costs and the program are within their limits.
-    let _ = (costs.len(), program.threads());
+    let _ = (costs.len(), program.threads().len());
     let mut out = Vec::new(alloc);
     for gap in 0..program.gaps() {
         push_entry(alloc, &mut out, program, costs, gap)?;
