@@ -113,9 +113,15 @@ pub fn outcomes_document(
     let mut object = begun(alloc, "outcomes", litmus)?;
     add_model(alloc, &mut object, model)?;
     object.add("observed", JsonText::truth(alloc, is_observed(shown))?)?;
-    object.add("outcomes", outcomes_array(alloc, &litmus.names, shown, outcomes)?)?;
+    object.add(
+        "outcomes",
+        outcomes_array(alloc, &litmus.names, shown, outcomes)?,
+    )?;
     let often = frequency(condition, outcomes);
     object.add("observation", JsonText::string(alloc, often.as_bytes())?)?;
-    object.add("holds", JsonText::truth(alloc, is_true_of(condition, outcomes))?)?;
+    object.add(
+        "holds",
+        JsonText::truth(alloc, is_true_of(condition, outcomes))?,
+    )?;
     document_of(object)
 }

@@ -168,7 +168,10 @@ fn thread_value(
         None => &[],
     };
     let mut object = JsonObject::new(alloc);
-    object.add("instructions", instructions(alloc, litmus, labels, thread, count)?)?;
+    object.add(
+        "instructions",
+        instructions(alloc, litmus, labels, thread, count)?,
+    )?;
     object.add("end", labels_at(alloc, labels, count)?)?;
     object.into_json()
 }

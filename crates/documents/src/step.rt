@@ -88,9 +88,7 @@ fn reaches(
     store: Option<Pending>,
 ) -> Result<JsonText, AllocError> {
     match store {
-        Some(store) => {
-            located(alloc, names, store.location as usize, store.value)?.into_json()
-        }
+        Some(store) => { located(alloc, names, store.location as usize, store.value)?.into_json() }
         None => JsonText::null(alloc),
     }
 }
