@@ -83,3 +83,7 @@ mutual
 
 pub json_is_safe : (text : List ℕ) → IsJson text → IsSafe text
 json_is_safe text is = subst IsSafe (sym is.is) (written_is_safe is.value)
+
+-- nor has it as a line
+pub safe_line : (text : List ℕ) → IsSafe text → IsSafe (text ++ 10 ∷ [])
+safe_line text is = safe_append text (10 ∷ []) is (omega arith, tt)
