@@ -238,5 +238,6 @@ pub(crate) fn add_program(
     ensures { OnOk result (TellsProgram litmus.now object.old object.new) }
 {
     let part = program_part(alloc, litmus)?;
-    add_part(object, part)
+    add_part(object, part)?;
+    Ok(())
 }
