@@ -61,6 +61,11 @@ IsOutcomesDocument source shown model outcomes =
     ∷ member (codes "outcomes") (outcomes_array source.names shown outcomes) ∷ member (codes "observation") (quoted (frequency source.condition.formula outcomes))
     ∷ member (codes "holds") (truth_text (is_true_of source.condition.quantifier source.condition.formula outcomes)) ∷ [])
 
+-- the second members are the first and more
+pub record AddsMembers (before after : List (List ℕ)) : Type 0 where
+  pub members : List (List ℕ)
+  pub added : after ≡ before ++ members
+
 -- of a refusal, with the reason that the line of standard output gives
 pub record IsRefusalDocument (line text : List ℕ) : Type 0 where
   pub members : List (List ℕ)

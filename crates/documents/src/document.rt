@@ -1,7 +1,7 @@
 //! The documents of the commands.
-ghost use Rattle.std.specs.Prelude.{◌≡◌, ◌++◌, ◌≤◌, IfOk, OnOk, length, map};
+ghost use Rattle.std.specs.Prelude.{◌≡◌, ◌∷◌, ◌++◌, [], IfOk, OnOk, map};
 ghost use Rattle.json_text.specs.Safe.{IsSafe};
-ghost use Rattle.documents.specs.Documents.{heading, document_of, IsWhyDocument, IsPlacedDocument, IsTraceDocument, IsOutcomesDocument, TellsHeading};
+ghost use Rattle.documents.specs.Documents.{document_of, format_member, IsWhyDocument, IsPlacedDocument, IsTraceDocument, IsOutcomesDocument, TellsHeading};
 
 use crate::answer::{add_answer, is_observed};
 use crate::outcome::outcomes_array;
@@ -15,12 +15,12 @@ use std::alloc::{AllocError, Global};
 use tso_machine::{Ended, Model, Step};
 use tso_program::{Outcome, Program, Shown};
 
-/// The version of the documents: it changes where a field changes its meaning or goes away.
-const FORMAT: &str = "fencer 1";
-
-/// The beginning of each document.
-pub(crate) fn add_format(alloc: Global, object: &mut JsonObject) -> Result<(), AllocError> {
-    object.add("format", JsonText::string(alloc, FORMAT.as_bytes())?)
+/// The beginning of each document. The version changes where a field changes its meaning or goes away.
+pub(crate) fn add_format(alloc: Global, object: &mut JsonObject) -> Result<(), AllocError>
+    ensures { OnOk result (object.new ≡ object.old ++ format_member ∷ []) }
+{
+    let format = JsonText::string(alloc, b"fencer 1")?;
+    object.add("format", format)
 }
 
 /// A document's object up to what is said of the program.
@@ -29,7 +29,8 @@ fn begun(alloc: Global, command: &str, litmus: &Litmus<Program>) -> Result<JsonO
 {
     let mut object = JsonObject::new(alloc);
     add_format(alloc, &mut object)?;
-    object.add("command", JsonText::string(alloc, command.as_bytes())?)?;
+    let name = JsonText::string(alloc, command.as_bytes())?;
+    object.add("command", name)?;
     add_program(alloc, &mut object, litmus)?;
     Ok(object)
 }
@@ -39,7 +40,8 @@ pub(crate) fn document_of(object: JsonObject) -> Result<Vec<u8>, AllocError>
     ensures text { IfOk result (λ document. document.items ≡ document_of object) }
     ensures safe { IfOk result (λ document. IsSafe document.items) }
 {
-    let mut document = object.into_json()?.into_bytes();
+    let text = object.into_json()?;
+    let mut document = text.into_bytes();
     document.push(b'\n')?;
     Ok(document)
 }
@@ -58,7 +60,8 @@ pub fn placed_document(
 {
     let mut object = begun(alloc, "place", litmus)?;
     add_answer(alloc, &mut object, litmus, shown, costs, set)?;
-    object.add("fenced", JsonText::string(alloc, fenced)?)?;
+    let text = JsonText::string(alloc, fenced)?;
+    object.add("fenced", text)?;
     document_of(object)
 }
 
@@ -76,7 +79,8 @@ pub fn why_document(
 {
     let mut object = begun(alloc, "why", litmus)?;
     add_answer(alloc, &mut object, litmus, shown, costs, set)?;
-    object.add("runs", runs.into_json()?)?;
+    let runs = runs.into_json()?;
+    object.add("runs", runs)?;
     document_of(object)
 }
 
@@ -110,12 +114,15 @@ pub fn outcomes_document(
     ensures safe { IfOk result (λ document. IsSafe document.items) }
 {
     let condition = &litmus.condition;
+    let observed = JsonText::truth(alloc, is_observed(shown))?;
+    let list = outcomes_array(alloc, &litmus.names, shown, outcomes)?;
+    let often = JsonText::string(alloc, frequency(condition, outcomes).as_bytes())?;
+    let holds = JsonText::truth(alloc, is_true_of(condition, outcomes))?;
     let mut object = begun(alloc, "outcomes", litmus)?;
     add_model(alloc, &mut object, model)?;
-    object.add("observed", JsonText::truth(alloc, is_observed(shown))?)?;
-    object.add("outcomes", outcomes_array(alloc, &litmus.names, shown, outcomes)?)?;
-    let often = frequency(condition, outcomes);
-    object.add("observation", JsonText::string(alloc, often.as_bytes())?)?;
-    object.add("holds", JsonText::truth(alloc, is_true_of(condition, outcomes))?)?;
+    object.add("observed", observed)?;
+    object.add("outcomes", list)?;
+    object.add("observation", often)?;
+    object.add("holds", holds)?;
     document_of(object)
 }

@@ -1,5 +1,5 @@
 //! Values with the names of a text.
-ghost use Rattle.std.specs.Prelude.{◌≡◌, IfOk};
+ghost use Rattle.std.specs.Prelude.{◌≡◌, [], IfOk, slice_index_or};
 ghost use Rattle.json_text.specs.Texts.{quoted};
 ghost use Rattle.documents.specs.Parts.{gap_name, gaps_array};
 
@@ -19,7 +19,9 @@ pub(crate) fn location(
     alloc: Global,
     names: &NameTable,
     location: usize,
-) -> Result<JsonText, AllocError> {
+) -> Result<JsonText, AllocError>
+    ensures { IfOk result (λ json. json ≡ quoted (slice_index_or names.now.locations location [])) }
+{
     JsonText::string(alloc, location_name(names, location))
 }
 

@@ -118,7 +118,13 @@ pub(crate) fn outcome_array(
     ensures { IfOk result (λ json. json ≡ outcome_array names.now shown.now outcome.now) }
 {
     let mut array = JsonArray::new(alloc);
-    add_threads(alloc, &mut array, names, shown, outcome.registers.as_slice())?;
+    add_threads(
+        alloc,
+        &mut array,
+        names,
+        shown,
+        outcome.registers.as_slice(),
+    )?;
     add_locations(alloc, &mut array, names, shown, outcome.memory.as_slice())?;
     array.into_json()
 }

@@ -1,5 +1,6 @@
 //! The program, as it is written.
-ghost use Rattle.std.specs.Prelude.{◌≡◌, ◌++◌, IfOk, OnOk};
+ghost use Rattle.std.specs.Prelude.{◌≡◌, ◌++◌, IfOk, OnOk, map};
+ghost use Rattle.json_text.specs.Texts.{quoted, array_text};
 ghost use Rattle.documents.specs.Parts.{program_members, IsProgram, TellsProgram};
 
 use crate::named::location;
@@ -28,7 +29,9 @@ fn condition_text(alloc: Global, litmus: &Litmus<Program>) -> Result<JsonText, A
 }
 
 /// The names of the locations, by number.
-fn location_names(alloc: Global, names: &NameTable) -> Result<JsonText, AllocError> {
+fn location_names(alloc: Global, names: &NameTable) -> Result<JsonText, AllocError>
+    ensures { IfOk result (λ json. json ≡ array_text (map quoted names.now.locations)) }
+{
     let mut array = JsonArray::new(alloc);
     for number in 0..names.locations() {
         array.add(location(alloc, names, number)?)?;
@@ -168,7 +171,10 @@ fn thread_value(
         None => &[],
     };
     let mut object = JsonObject::new(alloc);
-    object.add("instructions", instructions(alloc, litmus, labels, thread, count)?)?;
+    object.add(
+        "instructions",
+        instructions(alloc, litmus, labels, thread, count)?,
+    )?;
     object.add("end", labels_at(alloc, labels, count)?)?;
     object.into_json()
 }
@@ -186,13 +192,20 @@ fn program_part(alloc: Global, litmus: &Litmus<Program>) -> Result<ProgramPart, 
     ensures { IfOk result (IsProgram litmus.now) }
 {
     let names = &litmus.names;
+    let threads = litmus.program.threads().len();
+    let test = JsonText::string(alloc, litmus.name.as_slice())?;
+    let condition = condition_text(alloc, litmus)?;
+    let locations = location_names(alloc, names)?;
+    let registers = all_register_names(alloc, names, threads)?;
+    let initial = initial_values(alloc, litmus)?;
+    let threads = thread_values(alloc, litmus)?;
     Ok(ProgramPart {
-        test: JsonText::string(alloc, litmus.name.as_slice())?,
-        condition: condition_text(alloc, litmus)?,
-        locations: location_names(alloc, names)?,
-        registers: all_register_names(alloc, names, litmus.program.threads().len())?,
-        initial: initial_values(alloc, litmus)?,
-        threads: thread_values(alloc, litmus)?,
+        test,
+        condition,
+        locations,
+        registers,
+        initial,
+        threads,
     })
 }
 
@@ -225,5 +238,6 @@ pub(crate) fn add_program(
     ensures { OnOk result (TellsProgram litmus.now object.old object.new) }
 {
     let part = program_part(alloc, litmus)?;
-    add_part(object, part)
+    add_part(object, part)?;
+    Ok(())
 }

@@ -1,7 +1,7 @@
 //! Refusals.
 ghost use Rattle.std.specs.Prelude.{◌≡◌, ◌∷◌, ◌++◌, [], ℕ, List, IfOk, codes};
 ghost use Rattle.json_text.specs.Safe.{IsSafe};
-ghost use Rattle.documents.specs.Documents.{IsRefusalDocument};
+ghost use Rattle.documents.specs.Documents.{AddsMembers, IsRefusalDocument};
 
 use crate::document::{add_format, document_of};
 use json_text::{JsonObject, JsonText};
@@ -48,6 +48,27 @@ fn reason_of(line: &[u8]) -> &[u8]
     }
 }
 
+/// Adds what is said about a refusal.
+fn add_message(
+    alloc: Global,
+    object: &mut JsonObject,
+    message: &Message<'_>,
+) -> Result<(), AllocError>
+    ensures { OnOk result (AddsMembers object.old object.new) }
+{
+    let file = string_or_null(alloc, message.file)?;
+    let line = number_or_null(alloc, message.line)?;
+    let column = number_or_null(alloc, message.column)?;
+    let word = string_or_null(alloc, message.word)?;
+    let text = string_or_null(alloc, message.text)?;
+    object.add("file", file)?;
+    object.add("line", line)?;
+    object.add("column", column)?;
+    object.add("word", word)?;
+    object.add("message", text)?;
+    Ok(())
+}
+
 /// The document of a refusal: the line of standard output without `refused ` and its end, and the parts of what is said about it.
 pub fn refusal_document(
     alloc: Global,
@@ -59,11 +80,8 @@ pub fn refusal_document(
 {
     let mut object = JsonObject::new(alloc);
     add_format(alloc, &mut object)?;
-    object.add("refused", JsonText::string(alloc, reason_of(line))?)?;
-    object.add("file", string_or_null(alloc, message.file)?)?;
-    object.add("line", number_or_null(alloc, message.line)?)?;
-    object.add("column", number_or_null(alloc, message.column)?)?;
-    object.add("word", string_or_null(alloc, message.word)?)?;
-    object.add("message", string_or_null(alloc, message.text)?)?;
+    let reason = JsonText::string(alloc, reason_of(line))?;
+    object.add("refused", reason)?;
+    add_message(alloc, &mut object, message)?;
     document_of(object)
 }

@@ -81,15 +81,17 @@ pub fn run_value(
 ) -> Result<JsonText, AllocError>
     ensures { IfOk result (TellsRun litmus.now shown.now setting (map (λ step. step.label) steps.now) ended.now.outcome ended.now.passed) }
 {
+    let each = steps_array(alloc, litmus, steps)?;
+    let outcome = outcome_array(alloc, &litmus.names, shown, &ended.outcome)?;
+    let meets = JsonText::truth(alloc, holds(&litmus.condition, &ended.outcome))?;
+    let passed = gap_names(alloc, &litmus.program, &ended.passed)?;
+    let execution = execution_value(alloc, litmus, steps, setting.gap())?;
     let mut object = JsonObject::new(alloc);
     add_setting(alloc, &mut object, &litmus.program, setting)?;
-    object.add("steps", steps_array(alloc, litmus, steps)?)?;
-    let outcome = outcome_array(alloc, &litmus.names, shown, &ended.outcome)?;
+    object.add("steps", each)?;
     object.add("outcome", outcome)?;
-    let meets = holds(&litmus.condition, &ended.outcome);
-    object.add("meets_condition", JsonText::truth(alloc, meets)?)?;
-    object.add("passed", gap_names(alloc, &litmus.program, &ended.passed)?)?;
-    let execution = execution_value(alloc, litmus, steps, setting.gap())?;
+    object.add("meets_condition", meets)?;
+    object.add("passed", passed)?;
     object.add("execution", execution)?;
     object.into_json()
 }

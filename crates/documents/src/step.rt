@@ -88,9 +88,7 @@ fn reaches(
     store: Option<Pending>,
 ) -> Result<JsonText, AllocError> {
     match store {
-        Some(store) => {
-            located(alloc, names, store.location as usize, store.value)?.into_json()
-        }
+        Some(store) => { located(alloc, names, store.location as usize, store.value)?.into_json() }
         None => JsonText::null(alloc),
     }
 }
@@ -117,15 +115,23 @@ fn step_part(
     let names = &litmus.names;
     let after = &step.after;
     let thread = step.label.thread() as usize;
+    let label = label(alloc, step)?;
+    let instruction = instruction(alloc, step)?;
+    let reads = reads(alloc, litmus, step)?;
+    let stores = stores(alloc, litmus, step)?;
+    let reaches = reaches(alloc, names, written(&litmus.program, step))?;
+    let buffer = buffer(alloc, names, after.waiting.as_slice())?;
+    let memory = values(alloc, memory)?;
+    let registers = register_values(alloc, names, thread, after.local.registers)?;
     Ok(StepPart {
-        label: label(alloc, step)?,
-        instruction: instruction(alloc, step)?,
-        reads: reads(alloc, litmus, step)?,
-        stores: stores(alloc, litmus, step)?,
-        reaches: reaches(alloc, names, written(&litmus.program, step))?,
-        buffer: buffer(alloc, names, after.waiting.as_slice())?,
-        memory: values(alloc, memory)?,
-        registers: register_values(alloc, names, thread, after.local.registers)?,
+        label,
+        instruction,
+        reads,
+        stores,
+        reaches,
+        buffer,
+        memory,
+        registers,
     })
 }
 

@@ -10,9 +10,9 @@ use Rattle.json_text.specs.Safe.{IsSafe}
 use Rattle.json_text.specs.Texts.{hex_digit, unicode_escape, needs_backslash, needs_number, escaped, quoted, after_comma, listed, enclosed, member}
 use Rattle.json_text.specs.Values.{Json, Null, Truth, Number, Text, Array, Object, Items, NoItem, MoreItems, Fields, NoField, MoreFields, written, items_written, members_written, IsJson}
 
-safe_append : (as bs : List ℕ) → IsSafe as → IsSafe bs → IsSafe (as ++ bs)
-safe_append [] bs first second = second
-safe_append (a ∷ as) bs (other, first) second = (other, safe_append as bs first second)
+safe_append : (xs ys : List ℕ) → IsSafe xs → IsSafe ys → IsSafe (xs ++ ys)
+safe_append [] ys first second = second
+safe_append (x ∷ xs) ys (other, first) second = (other, safe_append xs ys first second)
 
 -- ---- strings
 
@@ -83,3 +83,7 @@ mutual
 
 pub json_is_safe : (text : List ℕ) → IsJson text → IsSafe text
 json_is_safe text is = subst IsSafe (sym is.is) (written_is_safe is.value)
+
+-- nor has it as a line
+pub safe_line : (text : List ℕ) → IsSafe text → IsSafe (text ++ 10 ∷ [])
+safe_line text is = safe_append text (10 ∷ []) is (omega arith, tt)

@@ -18,18 +18,18 @@ fn push_comma(out: &mut Vec<u8>, before: usize) -> Result<(), AllocError>
 /// Texts with commas between them, and a byte before and after them.
 pub(crate) fn enclosed(
     alloc: Global,
-    open: u8,
+    first: u8,
     items: &[Vec<u8>],
-    close: u8,
+    last: u8,
 ) -> Result<Vec<u8>, AllocError>
-    ensures { IfOk result (λ text. text.items ≡ enclosed open (texts items.now) close) }
+    ensures { IfOk result (λ text. text.items ≡ enclosed first (texts items.now) last) }
 {
     let mut out = Vec::new(alloc);
-    out.push(open)?;
+    out.push(first)?;
     for (i, item) in items.iter().enumerate() {
         push_comma(&mut out, i)?;
         out.extend_from_slice(item.as_slice())?;
     }
-    out.push(close)?;
+    out.push(last)?;
     Ok(out)
 }

@@ -5,4 +5,4 @@ use Rattle.json_text.proofs.listed.enclosed.Given as goal
 
 -- the texts so far
 abbrev pub invariant-loop-i : goal.invariant-loop-i
-invariant-loop-i l = l.out.items ≡ l.open ∷ listed (take l.i (texts l.items))
+invariant-loop-i l = l.out.items ≡ l.first ∷ listed (take l.i (texts l.items))
