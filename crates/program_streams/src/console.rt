@@ -1,7 +1,9 @@
 //! Standard output, with standard error beside it.
 
 ghost use Rattle.std.specs.Prelude.{◌≡◌};
+ghost use Rattle.program_streams.specs.Streams.{IsMade, Prints};
 
+use crate::output::print;
 use crate::streams::write_bytes;
 use std::alloc::AllocError;
 use std::io::{self, Write};
@@ -46,4 +48,17 @@ impl<W: Write, E: Write> Console for Outputs<W, E> {
             let _ = write_bytes(&mut self.messages, &message);
         }
     }
+}
+
+/// Prints the line of a refusal as [`print`] does, then tells its message, and returns the status, which is 1.
+pub fn refuse<W: Console>(
+    output: &mut W,
+    line: Result<Vec<u8>, AllocError>,
+    message: Result<Vec<u8>, AllocError>,
+) -> u8
+    ensures { Prints (IsMade line 1) (W.contents output.old) (W.contents output.new) result }
+{
+    let status = print(output, line, 1);
+    output.tell(message);
+    status
 }

@@ -10,8 +10,8 @@ mod streams;
 mod words;
 
 pub use command_line::given_words;
-pub use console::{Console, Outputs};
-pub use fault::{FileFault, file_line};
+pub use console::{Console, Outputs, refuse};
+pub use fault::{FileFault, UnreadFile, file_line};
 pub use files::{
     FileStore, Obstacle, SystemFiles, TEXT_LIMIT, WritableFileStore, bytes_if_named, named_bytes,
 };
