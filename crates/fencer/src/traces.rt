@@ -144,7 +144,11 @@ pub fn run_trace<S: WritableFileStore, R: Read, W: Console>(
     match named_bytes(alloc, &*files, asked.litmus.as_str(), input, TEXT_LIMIT) {
         Ok(bytes) => trace_text(alloc, files, asked, graph, &bytes, output),
         Err(fault) => {
-            let message = unread_advice(alloc, &*files, unread_litmus(asked.litmus.as_str(), fault));
+            let message = unread_advice(
+                alloc,
+                &*files,
+                unread_litmus(asked.litmus.as_str(), fault),
+            );
             refuse(output, file_line(alloc, fault), message)
         }
     }
