@@ -43,9 +43,10 @@ pub struct Accepted {
 
 /// Judges a certificate for a program, what is shown of its outcomes, and the costs of its gaps.
 ///
-/// Where it accepts, the program with the set's gaps fenced has under x86-TSO exactly its sequentially
-/// consistent outcomes, as far as they are shown, and each better set of gaps leaves an outcome that no
-/// sequential run has.
+/// Where it answers, the program with an MFENCE in each gap of the set has under x86-TSO exactly the source's
+/// sequentially consistent outcomes, as far as they are shown; with an MFENCE in each gap of any better set
+/// (cheaper, or as cheap and earlier in gap order) it leaves an outcome that no sequentially consistent run of
+/// the source has.
 pub fn check(
     alloc: Global,
     program: &Program,
@@ -54,13 +55,15 @@ pub fn check(
     certificate: &Certificate,
 ) -> Result<Accepted, CheckFault>
     ensures headline { IfOk result (λ accepted. Headline (asked program.now shown.now) costs.now accepted.set) }
-    ensures answer { IfOk result (λ accepted. IsTheAnswer (asked program.now shown.now) costs.now accepted.set) }
     ensures cost { IfOk result (λ accepted. accepted.cost ≡ total costs.now accepted.set) }
-    ensures set { IfOk result (λ accepted. accepted.set ≡ certificate.now.gaps) }
 
     // There is always an answer, which a definition computes: the set is that one, at the least cost.
     ensures best { IfOk result (λ accepted. accepted.set ≡ the_answer (asked program.now shown.now) costs.now) }
     ensures least { IfOk result (λ accepted. accepted.cost ≡ least_cost (asked program.now shown.now) costs.now) }
+    ensures answer { IfOk result (λ accepted. IsTheAnswer (asked program.now shown.now) costs.now accepted.set) }
+
+    // The certificate's set is accepted.
+    ensures set { IfOk result (λ accepted. accepted.set ≡ certificate.now.gaps) }
 
     // A valid certificate is accepted if memory is there, any other is refused by its first fault.
     ensures valid { OnOk result (IsValidCertificate (asked program.now shown.now) costs.now certificate.now) }

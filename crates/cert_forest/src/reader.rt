@@ -19,7 +19,7 @@ use crate::gap_tree::gap_line;
 use crate::runs::runs;
 use crate::shown::head;
 use cert_words::{
-    Refusal, Stop, Wrong, begins_word, can_become, end, name, number, refused_unless_cut,
+    Refusal, Stop, Wrong, begins_word, can_become, end, name, number, refused, refused_unless_cut,
 };
 use gap_sets::{GapSet, MAX_GAPS};
 use std::alloc::Global;
@@ -47,9 +47,25 @@ fn gap_number(bytes: &[u8]) -> Result<(u8, &[u8]), Refusal>
     Ok((gap as u8, rest))
 }
 
+/// A gap's number, where the least that may stand there is this one. Where none may, and the bytes end after the
+/// space, the space can't stand there.
+fn next_gap(least: u8, bytes: &[u8]) -> Result<(u8, &[u8]), Refusal>
+    ensures gives { Gives (λ x. (x.0, x.1.now)) result (gap_number_at bytes.now) }
+    ensures below { IfOk result (λ x. x.0 < MAX_GAPS) }
+{
+    match gap_number(bytes) {
+        Ok(gap) => Ok(gap),
+        Err(refusal) => Err(if least == MAX_GAPS && bytes.len() == 1 {
+            refused(Wrong::Token, bytes.len())
+        } else {
+            refusal
+        }),
+    }
+}
+
 /// What is wrong with a word after `MAX_GAPS` gaps.
 fn after_all(bytes: &[u8]) -> Refusal {
-    match gap_number(bytes) {
+    match next_gap(MAX_GAPS, bytes) {
         Ok((gap, rest)) => below_least(gap, MAX_GAPS, bytes, rest),
         Err(refusal) => refusal,
     }
@@ -66,7 +82,7 @@ fn gaps(bytes: &[u8]) -> Result<(GapSet, &[u8]), Refusal>
         if !begins_word(rest) {
             return Ok((found, rest));
         }
-        let (gap, after) = gap_number(rest)?;
+        let (gap, after) = next_gap(least, rest)?;
         if gap < least {
             return Err(below_least(gap, least, rest, after));
         }

@@ -73,10 +73,9 @@ fn place_of(word: &[u8]) -> Option<u8>
     }
 }
 
-/// Whether a word that is cut can become that of a place from the least on.
+/// Whether a word that is cut, of at least one byte, can become that of a place from the least on.
 fn could_go_on(word: &[u8], least: u8) -> bool {
     match word {
-        [] => true,
         [b'l'] => least < MAX_PLACES,
         [b'r'] => least < MAX_REGISTERS,
         [b'r', thread] | [b'r', thread, b'.'] => match digit_of(LAST_THREAD, *thread) {
@@ -124,6 +123,15 @@ fn is_register(names: &[u8], is_cut: bool) -> bool {
     }
 }
 
+/// What is wrong where the bytes end after a space: the space can't stand where no place may follow.
+fn after_space(least: u8) -> Refusal {
+    if least < MAX_PLACES {
+        refused(Wrong::Ended, 0)
+    } else {
+        refused(Wrong::Token, 1)
+    }
+}
+
 /// A space, and the word of a place, which is to be the least or a later one.
 #[tactic(auto, unfolding(crate::specs::Internal::Reading::place_word_at))]
 fn place(least: u8, bytes: &[u8]) -> Result<(u8, &[u8]), Refusal>
@@ -134,6 +142,9 @@ fn place(least: u8, bytes: &[u8]) -> Result<(u8, &[u8]), Refusal>
     match place_of(word) {
         Some(place) => Ok((place, rest)),
         None => {
+            if bytes.len() == 1 {
+                return Err(after_space(least));
+            }
             let wrong = fault_of(word, rest.is_empty());
             Err(refused_unless_cut(wrong, could_go_on(word, least), bytes, rest))
         }

@@ -1,10 +1,11 @@
 //! A whole run of the program, over a reader and a writer.
 
-ghost use Rattle.std.specs.Prelude.{◌≡◌, ◌==◌, ◌||◌, [], IfOk, IfErr, ⊤, length, map, nat_lt, option_map, string_bytes};
+ghost use Rattle.std.specs.Prelude.{◌≡◌, ◌==◌, ◌||◌, IfOk, IfErr, ⊤, length, map, nat_lt, option_map, string_bytes};
 ghost use Rattle.program_streams.specs.Streams.{Prints};
+ghost use Rattle.program_streams.specs.Files.{ReadsOfInput};
 ghost use Rattle.fencecheck.specs.Verdicts.{IsVerdict};
 ghost use Rattle.fencecheck.specs.Replies.{usage_text, AreOfFiles, IsFilesFault, IsReplyToInput, IsReplyToFiles, IsOutput};
-ghost use Rattle.fencecheck.specs.Inputs.{ReadsEnough};
+ghost use Rattle.fencecheck.specs.Inputs.{ReadsEnough, ReadsFor};
 ghost use Rattle.fencecheck.specs.Internal.Names.{file_names_of};
 
 use crate::advice::{Subject, refusal_advice, unread, unread_advice, unread_input_advice};
@@ -110,6 +111,7 @@ fn texts_of<'a, S: FileStore, R: Read>(
 ) -> Result<Texts, UnreadFile<'a>>
     ensures texts { IfOk result (λ texts. AreOfFiles (file_names_of names.entry) (R.remaining input.old) (S.held files.now) texts.litmus.items texts.certificate.items (option_map (λ text. text.items) texts.costs)) }
     ensures err { IfErr result (λ file. IsFilesFault (file_names_of names.entry) (R.remaining input.old) (S.held files.now) file.fault) }
+    ensures read { ReadsOfInput TEXT_LIMIT (file_names_of names.entry).litmus (R.remaining input.old) (R.remaining input.new) }
 {
     let litmus = match named_bytes(alloc, files, names.litmus, input, TEXT_LIMIT) {
         Ok(bytes) => bytes,
@@ -152,7 +154,8 @@ fn run_files<S: FileStore, R: Read, W: Console>(
     input: &mut R,
     output: &mut W,
 ) -> u8
-    ensures { Prints (IsReplyToFiles (file_names_of names.entry) (R.remaining input.old) (S.held files.now)) (W.contents output.old) (W.contents output.new) result }
+    ensures printed { Prints (IsReplyToFiles (file_names_of names.entry) (R.remaining input.old) (S.held files.now)) (W.contents output.old) (W.contents output.new) result }
+    ensures read { ReadsOfInput TEXT_LIMIT (file_names_of names.entry).litmus (R.remaining input.old) (R.remaining input.new) }
 {
     match texts_of(alloc, files, names, input) {
         Ok(texts) => tell_texts(alloc, names, &texts, output),
@@ -171,7 +174,8 @@ fn is_misused(words: &[String]) -> bool
 }
 
 /// The program: it judges the certificate of the files that the words name, prints the verdict on one line, and
-/// returns its status. With no words it judges what the reader gives.
+/// returns its status. With no words it judges what the reader gives. It reads no more of the reader than shows that a
+/// part of it is too long.
 ///
 /// Status 0 means that the certificate is accepted and the line is written. Status 1 is a refusal, reported on one
 /// line, a writer that fails or takes no byte, or out of memory for that line, with nothing written. Status 2 is a
@@ -184,8 +188,7 @@ pub fn run_command<S: FileStore, R: Read, W: Console>(
     output: &mut W,
 ) -> u8
     ensures printed { Prints (IsOutput (map string_bytes words.now) (R.remaining input.old) (S.held files.now)) (W.contents output.old) (W.contents output.new) result }
-    // With no words no more is read than shows that a part of the input is too long.
-    ensures read { words.now ≡ [] → ReadsEnough (R.remaining input.old) (R.remaining input.new) }
+    ensures read { ReadsFor (map string_bytes words.now) (R.remaining input.old) (R.remaining input.new) }
 {
     if is_misused(words) {
         return print(output, usage_text(alloc), 2);

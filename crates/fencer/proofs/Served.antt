@@ -9,7 +9,7 @@ use Rattle.program_streams.specs.declared.files.TheConstants.{TEXT_LIMIT}
 use Rattle.fencer_words.specs.CommandLines.{IsNoCommand}
 use Rattle.program_streams.specs.Streams.{IsReadFault, TakesOfLine}
 use Rattle.program_streams.specs.Words.{IsUtf8Refusal}
-use Rattle.fencer.specs.Answers.{HasTooLongLine, IsReply, IsReplyToInput, IsOutput, KeepFilesOf, KeepOtherFiles, LineAsksToWrite, no_command}
+use Rattle.fencer.specs.Answers.{HasTooLongLine, IsReply, IsReplyToInput, IsOutput, KeepFilesOf, KeepOtherFiles, LineAsksToWrite, ReadsForWords, ReadsForInput, ReadsFor, no_command}
 
 not_zero : (n : ℕ) → (suc n == 0) ≡ true → ⊥
 not_zero n e = grind (arith, nat_tests)
@@ -38,6 +38,16 @@ module _ {W : Type 0} (text : W → Text) (input : Option (List ℕ)) (files lef
   pub kept_by_input : (words : List W) → (length words == 0) ≡ true → ((name : List ℕ) → (LineAsksToWrite input name → ⊥) → left name ≡ files name) → KeepOtherFiles (map text words) input files left
   kept_by_input [] none kept = kept
   kept_by_input (word ∷ words) none kept = absurd (not_zero (length words) none)
+
+-- what is read for words and for an input is what is read for the words after the program's name
+module _ {W : Type 0} (text : W → Text) (old new : Option (List ℕ)) where
+  pub read_for_words : (words : List W) → (length words == 0) ≡ false → ReadsForWords (map text words) old new → ReadsFor (map text words) old new
+  read_for_words [] some reads = absurd (zero_is some)
+  read_for_words (word ∷ words) some reads = reads
+
+  pub read_for_input : (words : List W) → (length words == 0) ≡ true → ReadsForInput old new → ReadsFor (map text words) old new
+  read_for_input [] none reads = reads
+  read_for_input (word ∷ words) none reads = absurd (not_zero (length words) none)
 
 -- one of two, where the first is not
 pub other : {P Q : Type 0} → P ⊎ Q → (P → ⊥) → Q

@@ -4,7 +4,8 @@ use Rattle.std.specs.Prelude.{◌≡◌, ℕ, ◌+◌, ◌≤◌, List, [], ◌�
 use Rattle.clap.specs.Words.{Text}
 use Rattle.program_streams.specs.declared.fault.FileFault.{FileFault}
 use Rattle.program_streams.specs.declared.files.TheConstants.{TEXT_LIMIT}
-use Rattle.program_streams.specs.Streams.{IsReadFault, TakesLine, TakesOfLine}
+use Rattle.program_streams.specs.Files.{ReadsOfInput}
+use Rattle.program_streams.specs.Streams.{IsReadFault, TakesLine, TakesOfLine, TakesUpTo}
 use Rattle.program_streams.specs.Words.{words_of}
 use Rattle.program_streams.specs.FileLines.{file_line}
 use Rattle.fencer_words.specs.declared.job.Job.{Job}
@@ -45,6 +46,31 @@ pub data IsReplyToInput (input : Option (List ℕ)) (files left : List ℕ → O
 abbrev pub IsOutput : List Text → Option (List ℕ) → (List ℕ → Option (List ℕ)) → (List ℕ → Option (List ℕ)) → ℕ → List ℕ → Type 0
 IsOutput [] input files left = IsReplyToInput input files left
 IsOutput (word ∷ words) input files left = IsReply (word ∷ words) input files left
+
+-- ---- what is read of the input
+
+-- the litmus file of a job
+abbrev pub litmus_of : Job → List ℕ
+litmus_of (Replay asked) = string_bytes asked.litmus
+litmus_of (Trace run graph) = string_bytes run.litmus
+litmus_of (Outcomes model observed litmus) = string_bytes litmus
+litmus_of (Place asked) = string_bytes asked.litmus
+litmus_of (Why asked graphs) = string_bytes asked.litmus
+
+-- for words: nothing; or, where they ask for a job, no more than shows that its litmus file is too long
+pub data ReadsForWords (words : List Text) (old new : Option (List ℕ)) : Type 0 where
+  nothing : new ≡ old → ReadsForWords words old new
+  of_job : (job : Job) → AsksFor words job → ReadsOfInput TEXT_LIMIT (litmus_of job) old new → ReadsForWords words old new
+
+-- for an input alone: no more than shows that its first line is too long; or that line, and after it what is read for its words
+pub data ReadsForInput (old new : Option (List ℕ)) : Type 0 where
+  line_alone : TakesUpTo old new (TEXT_LIMIT + 1) → ReadsForInput old new
+  after_line : (line : List ℕ) (rest : Option (List ℕ)) → TakesLine old rest line → length line ≤ TEXT_LIMIT → ReadsForWords (words_of line) rest new → ReadsForInput old new
+
+-- for the words after the program's name
+abbrev pub ReadsFor : List Text → Option (List ℕ) → Option (List ℕ) → Type 0
+ReadsFor [] old new = ReadsForInput old new
+ReadsFor (word ∷ words) old new = ReadsForWords (word ∷ words) old new
 
 -- ---- what is written
 

@@ -2,9 +2,10 @@
 
 ghost use Rattle.std.specs.Prelude.{IfOk, map, string_bytes};
 ghost use Rattle.program_streams.specs.Streams.{Prints};
+ghost use Rattle.program_streams.specs.Files.{ReadsOfInput};
 ghost use Rattle.fencer.specs.Lines.{EndsLine};
 ghost use Rattle.fencer.specs.Placements.{KeepFiles};
-ghost use Rattle.fencer.specs.Answers.{written_by, IsAnswer, IsReply, IsOutput, KeepFilesOf, KeepOtherFiles};
+ghost use Rattle.fencer.specs.Answers.{litmus_of, written_by, IsAnswer, IsReply, IsOutput, KeepFilesOf, KeepOtherFiles, ReadsForWords, ReadsFor};
 
 use crate::advice::{unread_advice, unread_litmus};
 use crate::outcomes::run_outcomes;
@@ -46,6 +47,7 @@ fn run_job<T: Threads + Sync, U: Wait + Sync, S: WritableFileStore, R: Read, W: 
 ) -> u8
     ensures told { Prints (IsAnswer job.now (R.remaining input.old) (S.held files.old) (S.held files.new)) (W.contents output.old) (W.contents output.new) result }
     ensures others { KeepFiles (written_by job.now) (S.held files.old) (S.held files.new) }
+    ensures read { ReadsOfInput TEXT_LIMIT (litmus_of job.now) (R.remaining input.old) (R.remaining input.new) }
 {
     match job {
         Job::Replay(asked) => run_replay(alloc, &*files, asked, input, output),
@@ -89,6 +91,7 @@ fn run_words<T: Threads + Sync, U: Wait + Sync, S: WritableFileStore, R: Read, W
 ) -> u8
     ensures told { Prints (IsReply (map string_bytes words.now) (R.remaining input.old) (S.held files.old) (S.held files.new)) (W.contents output.old) (W.contents output.new) result }
     ensures others { KeepFilesOf (map string_bytes words.now) (S.held files.old) (S.held files.new) }
+    ensures read { ReadsForWords (map string_bytes words.now) (R.remaining input.old) (R.remaining input.new) }
 {
     match read_words(alloc, words) {
         Ok(job) => run_job(rt, wait, alloc, files, &job, input, output),
@@ -100,7 +103,8 @@ fn run_words<T: Threads + Sync, U: Wait + Sync, S: WritableFileStore, R: Read, W
 }
 
 /// The program: it does what the words after its name ask for, and answers its status. With no words
-/// they are those of the input's first line, separated by spaces, and the rest of the input is `-`.
+/// they are those of the input's first line, separated by spaces, and the rest of the input is `-`. It reads no more of
+/// the input than shows that the line or the litmus file is too long.
 ///
 /// Wherever any of a placement's answer is printed, the file that the words name holds its certificate; no file is
 /// changed but that one, and the one that they name for a graph. With `rt` the workers of a placement start threads, and with `wait`
@@ -120,6 +124,7 @@ pub fn run_command<T: Threads + Sync, U: Wait + Sync, S: WritableFileStore, R: R
 ) -> u8
     ensures told { Prints (IsOutput (map string_bytes words.now) (R.remaining input.old) (S.held files.old) (S.held files.new)) (W.contents output.old) (W.contents output.new) result }
     ensures others { KeepOtherFiles (map string_bytes words.now) (R.remaining input.old) (S.held files.old) (S.held files.new) }
+    ensures read { ReadsFor (map string_bytes words.now) (R.remaining input.old) (R.remaining input.new) }
 {
     if !words.is_empty() {
         return run_words(rt, wait, alloc, files, words, input, output);

@@ -2,6 +2,7 @@
 
 ghost use Rattle.std.specs.Prelude.{◌≡◌, IfOk, IfErr};
 ghost use Rattle.program_streams.specs.Streams.{Prints};
+ghost use Rattle.program_streams.specs.Files.{ReadsOfInput};
 ghost use Rattle.fencer.specs.Outcomes.{list_text, PrintsOutcomes, HasNoList, AreOutcomes};
 
 use crate::advice::{Subject, unread_advice, unread_litmus};
@@ -65,7 +66,8 @@ pub fn run_outcomes<S: FileStore, R: Read, W: Console>(
     input: &mut R,
     output: &mut W,
 ) -> u8
-    ensures { Prints (AreOutcomes model observed litmus.now (R.remaining input.old) (S.held files.now)) (W.contents output.old) (W.contents output.new) result }
+    ensures told { Prints (AreOutcomes model observed litmus.now (R.remaining input.old) (S.held files.now)) (W.contents output.old) (W.contents output.new) result }
+    ensures read { ReadsOfInput TEXT_LIMIT litmus.now (R.remaining input.old) (R.remaining input.new) }
 {
     match named_bytes(alloc, files, litmus, input, TEXT_LIMIT) {
         Ok(bytes) => print_answer(

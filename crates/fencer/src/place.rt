@@ -1,7 +1,8 @@
 //! Placements: the answer of a program and its text with fences, or why there is no answer.
 
-ghost use Rattle.std.specs.Prelude.{◌≡◌, ◌++◌, IfErr, IfOk, IsOkUnless, IsSome, OnErr, OnOk, option_map};
+ghost use Rattle.std.specs.Prelude.{◌≡◌, ◌++◌, IfErr, IfOk, IsOkUnless, IsSome, OnErr, OnOk, option_map, string_bytes};
 ghost use Rattle.program_streams.specs.Streams.{Prints};
+ghost use Rattle.program_streams.specs.Files.{ReadsOfInput};
 ghost use Rattle.placed_text.specs.TextFaults.{HasNoPlacedText};
 ghost use Rattle.fencer.specs.Placements.{name_of, place_line, text_fault_line, PrintsPlacement, HoldsFile, KeepFiles, IsDelivered, IsJudged, AreTexts, HasNoTexts, IsPlaced};
 
@@ -69,6 +70,7 @@ pub(crate) fn read_texts<'a, S: FileStore, R: Read>(
 ) -> Result<Texts, UnreadFile<'a>>
     ensures texts { IfOk result (λ texts. AreTexts asked.now (R.remaining input.old) (S.held files.now) texts.litmus.items (option_map (λ text. text.items) texts.costs)) }
     ensures err { IfErr result (λ file. HasNoTexts asked.now (R.remaining input.old) (S.held files.now) file.fault) }
+    ensures read { ReadsOfInput TEXT_LIMIT (string_bytes asked.now.litmus) (R.remaining input.old) (R.remaining input.new) }
 {
     let name = asked.litmus.as_str();
     let litmus = match named_bytes(alloc, files, name, input, TEXT_LIMIT) {
@@ -200,6 +202,7 @@ pub fn run_place<T: Threads + Sync, U: Wait + Sync, S: WritableFileStore, R: Rea
 ) -> u8
     ensures told { Prints (IsPlaced asked.now (R.remaining input.old) (S.held files.old) (S.held files.new)) (W.contents output.old) (W.contents output.new) result }
     ensures others { KeepFiles (name_of asked.now.certificate) (S.held files.old) (S.held files.new) }
+    ensures read { ReadsOfInput TEXT_LIMIT (string_bytes asked.now.litmus) (R.remaining input.old) (R.remaining input.new) }
 {
     match read_texts(alloc, &*files, asked, input) {
         Ok(texts) => place_texts(rt, wait, alloc, files, asked, &texts, output),

@@ -4,6 +4,7 @@ ghost use Rattle.std.specs.Prelude.{◌≡◌, ◌++◌, IfOk, IfErr, string_byt
 ghost use Rattle.tso_machine.specs.RunTexts.{IsRunText, RunFaultIs};
 ghost use Rattle.report.specs.Answers.{outcome_line, passed_line};
 ghost use Rattle.program_streams.specs.Streams.{Prints};
+ghost use Rattle.program_streams.specs.Files.{ReadsOfInput};
 ghost use Rattle.fencer.specs.Replays.{label_words_text, PrintsRun, HasNoRun, IsReplay};
 
 use crate::advice::{Subject, unread_advice, unread_litmus};
@@ -84,7 +85,8 @@ pub fn run_replay<S: FileStore, R: Read, W: Console>(
     input: &mut R,
     output: &mut W,
 ) -> u8
-    ensures { Prints (IsReplay asked.now.model (label_words_text asked.now.labels.items) (string_bytes asked.now.litmus) (R.remaining input.old) (S.held files.now)) (W.contents output.old) (W.contents output.new) result }
+    ensures told { Prints (IsReplay asked.now.model (label_words_text asked.now.labels.items) (string_bytes asked.now.litmus) (R.remaining input.old) (S.held files.now)) (W.contents output.old) (W.contents output.new) result }
+    ensures read { ReadsOfInput TEXT_LIMIT (string_bytes asked.now.litmus) (R.remaining input.old) (R.remaining input.new) }
 {
     match named_bytes(alloc, files, asked.litmus.as_str(), input, TEXT_LIMIT) {
         Ok(bytes) => print_answer(

@@ -1,12 +1,13 @@
 //! Traces: the table of a run with its lines, or why there is no run.
 
-ghost use Rattle.std.specs.Prelude.{◌≡◌, ◌++◌, IfOk, IfErr, option_map};
+ghost use Rattle.std.specs.Prelude.{◌≡◌, ◌++◌, IfOk, IfErr, option_map, string_bytes};
 ghost use Rattle.tso_program.specs.declared.shown.Shown.TheVariants.{All};
 ghost use Rattle.std.specs.FinSet as set;
 ghost use Rattle.tso_machine.specs.Faults.{ReplayFaultIs};
 ghost use Rattle.tso_machine.specs.Modes.{machine_of_model};
 ghost use Rattle.report.specs.Answers.{outcome_line, passed_line};
 ghost use Rattle.program_streams.specs.Streams.{Prints};
+ghost use Rattle.program_streams.specs.Files.{ReadsOfInput};
 ghost use Rattle.fencer.specs.Placements.{KeepFiles};
 ghost use Rattle.fencer.specs.Replays.{label_words_text, HasNoRun};
 ghost use Rattle.fencer.specs.Traces.{PrintsTrace, IsTrace, IsTraceOf};
@@ -140,6 +141,7 @@ pub fn run_trace<S: WritableFileStore, R: Read, W: Console>(
 ) -> u8
     ensures told { Prints (IsTrace asked.now (option_map (λ name. name.now) graph.entry) (R.remaining input.old) (S.held files.old) (S.held files.new)) (W.contents output.old) (W.contents output.new) result }
     ensures others { KeepFiles (option_map (λ name. name.now) graph.entry) (S.held files.old) (S.held files.new) }
+    ensures read { ReadsOfInput TEXT_LIMIT (string_bytes asked.now.litmus) (R.remaining input.old) (R.remaining input.new) }
 {
     match named_bytes(alloc, &*files, asked.litmus.as_str(), input, TEXT_LIMIT) {
         Ok(bytes) => trace_text(alloc, files, asked, graph, &bytes, output),

@@ -1,7 +1,8 @@
 //! Reasons: a run for each fence of a placement that shows why the fence is needed, or why there is no answer.
 
-ghost use Rattle.std.specs.Prelude.{IfErr, IfOk, option_map};
+ghost use Rattle.std.specs.Prelude.{IfErr, IfOk, option_map, string_bytes};
 ghost use Rattle.program_streams.specs.Streams.{Prints};
+ghost use Rattle.program_streams.specs.Files.{ReadsOfInput};
 ghost use Rattle.placed_text.specs.TextFaults.{HasNoPlacedText};
 ghost use Rattle.fencer.specs.Placements.{KeepFiles};
 ghost use Rattle.fencer.specs.Whys.{IsExplained, IsExplainedText};
@@ -9,7 +10,7 @@ ghost use Rattle.fencer.specs.Whys.{IsExplained, IsExplainedText};
 use crate::advice::{text_fault_advice, unread_advice};
 use crate::place::{Answer, Texts, deliver, read_texts, text_fault_line};
 use fencer_words::Placement;
-use program_streams::{Console, WritableFileStore, file_line, refuse};
+use program_streams::{Console, TEXT_LIMIT, WritableFileStore, file_line, refuse};
 use std::alloc::Global;
 use std::io::Read;
 use std::sync::Wait;
@@ -69,6 +70,7 @@ pub fn run_why<T: Threads + Sync, U: Wait + Sync, S: WritableFileStore, R: Read,
 ) -> u8
     ensures told { Prints (IsExplained asked.now (option_map (λ name. name.now) graphs.entry) (R.remaining input.old) (S.held files.old) (S.held files.new)) (W.contents output.old) (W.contents output.new) result }
     ensures others { KeepFiles (option_map (λ name. name.now) graphs.entry) (S.held files.old) (S.held files.new) }
+    ensures read { ReadsOfInput TEXT_LIMIT (string_bytes asked.now.litmus) (R.remaining input.old) (R.remaining input.new) }
 {
     match read_texts(alloc, &*files, asked, input) {
         Ok(texts) => explain_texts(rt, wait, alloc, files, asked, graphs, &texts, output),

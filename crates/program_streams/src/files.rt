@@ -2,7 +2,7 @@
 
 ghost use Rattle.std.specs.Prelude.{◌≡◌, ◌+◌, ◌<◌, ◌^◌, ℕ, List, Option, None, IfOk, IfErr, OnOk, option_map};
 ghost use Rattle.program_streams.specs.Streams.{HoldsBytes, IsReadFault};
-ghost use Rattle.program_streams.specs.Files.{AreWithin, IsTooLong, AreOfFile, IsFileFault, AreOfFileIfNamed, IsNamedFileFault, KeepOthers};
+ghost use Rattle.program_streams.specs.Files.{AreWithin, IsTooLong, AreOfFile, IsFileFault, AreOfFileIfNamed, IsNamedFileFault, KeepOthers, ReadsOfInput};
 
 use crate::fault::FileFault;
 use crate::streams::read_up_to;
@@ -124,6 +124,7 @@ pub fn named_bytes<S: FileStore, R: Read>(
     requires { limit + 1 < 2 ^ 64 }
     ensures whole { IfOk result (λ bytes. AreOfFile limit name.now (R.remaining input.old) (S.held files.now) bytes.items) }
     ensures err { IfErr result (IsFileFault limit name.now (R.remaining input.old) (S.held files.now)) }
+    ensures read { ReadsOfInput limit name.now (R.remaining input.old) (R.remaining input.new) }
 {
     if name == "-" {
         read_up_to(alloc, input, limit)

@@ -1,8 +1,8 @@
-use Rattle.std.proofs.Common.{◌≡◌, ◌∙◌, ◌==◌, ◌||◌, true, false, length, map, refl, sym, ap}
-use Rattle.std.specs.Prelude.{nat_lt, string_bytes}
+use Rattle.std.proofs.Common.{◌∙◌, map, refl, sym}
+use Rattle.std.specs.Prelude.{string_bytes}
 use Rattle.program_streams.proofs.Printed.{prints_more, prints_line}
 use Rattle.fencecheck.specs.Replies.{IsOutput, IsUsage, usage_text}
-use Rattle.fencecheck.proofs.Usage.{usage_output}
+use Rattle.fencecheck.proofs.Usage.{usage_output, usage_reads}
 use Rattle.fencecheck.proofs.command.run_command.Goals as goal
 
 pub returns-then-is_misused-clause-printed : goal.returns-then-is_misused-clause-printed
@@ -14,5 +14,5 @@ returns-then-is_misused-clause-printed g c =
     (prints_line c.usage_text.result 2 usage_text IsUsage _ _ c.print.result (refl, refl) c.usage_text.ensures c.print.ensures)
 
 pub returns-then-is_misused-clause-read : goal.returns-then-is_misused-clause-read
-returns-then-is_misused-clause-read g c none =
-    let used : true ≡ false = sym c.if-is_misused.true ∙ c.is_misused.ensures ∙ ap (λ words. length words == 1 || nat_lt 3 (length words)) none in cc
+returns-then-is_misused-clause-read g c =
+    usage_reads string_bytes c.args.words.now (g.R.Read.remaining c.args.input.now) (sym c.is_misused.ensures ∙ c.if-is_misused.true)

@@ -3,9 +3,9 @@ use Rattle.std.specs.Prelude.{string_bytes}
 use Rattle.program_streams.specs.FileLines.{file_line}
 use Rattle.program_streams.specs.Words.{words_of, IsUtf8Refusal}
 use Rattle.fencer_words.specs.CommandLines.{no_utf8}
-use Rattle.fencer.specs.Answers.{IsOutput, by_line, no_line}
+use Rattle.fencer.specs.Answers.{IsOutput, by_line, no_line, line_alone, after_line}
 use Rattle.program_streams.proofs.Printed.{prints_line, prints_more, prints_nothing}
-use Rattle.fencer.proofs.Served.{of_words, of_input, kept_by_words, kept_by_input, line_fault, utf8_reply}
+use Rattle.fencer.proofs.Served.{of_words, of_input, kept_by_words, kept_by_input, read_for_words, read_for_input, line_fault, utf8_reply}
 use Rattle.fencer.proofs.command.run_command.Goals as goal
 
 pub returns-then-not-is_empty-clause-told : goal.returns-then-not-is_empty-clause-told
@@ -51,3 +51,26 @@ returns-in-Err-NotUtf8-clause-told g c =
 
 pub returns-clause-told : goal.returns-clause-told
 returns-clause-told g c = prints_nothing _ _
+
+pub returns-then-not-is_empty-clause-read : goal.returns-then-not-is_empty-clause-read
+returns-then-not-is_empty-clause-read g c =
+    read_for_words string_bytes (g.R.Read.remaining c.args.input.now) (g.R.Read.remaining c.run_words.new.input) c.args.words.now (sym c.is_empty.ensures ∙ c.if-not-is_empty.true) c.run_words.ensures.read
+
+pub returns-in-Err-clause-read : goal.returns-in-Err-clause-read
+returns-in-Err-clause-read g c =
+    read_for_input string_bytes (g.R.Read.remaining c.args.input.now) (g.R.Read.remaining c.read_line_up_to.new.input) c.args.words.now (sym c.is_empty.ensures ∙ c.if-not-is_empty.false) (line_alone c.read_line_up_to.ensures.taken)
+
+pub returns-in-Ok-line_words-clause-read : goal.returns-in-Ok-line_words-clause-read
+returns-in-Ok-line_words-clause-read g c =
+    let line = c.in-Ok.line in
+    let reads = rw (c.as_slice.ensures.value, c.in-Ok-line_words.ensures.words, c.deref.ensures.value) at c.run_words-in-Ok-line_words.ensures.read in
+    read_for_input string_bytes (g.R.Read.remaining c.args.input.now) (g.R.Read.remaining c.run_words-in-Ok-line_words.new.input) c.args.words.now (sym c.is_empty.ensures ∙ c.if-not-is_empty.false)
+    (after_line line.items (g.R.Read.remaining c.read_line_up_to.new.input) c.in-Ok.ensures.line (omega (arith, c.in-Ok.ensures.within, line.ok.0)) reads)
+
+pub returns-in-Err-NotUtf8-clause-read : goal.returns-in-Err-NotUtf8-clause-read
+returns-in-Err-NotUtf8-clause-read g c =
+    read_for_input string_bytes (g.R.Read.remaining c.args.input.now) (g.R.Read.remaining c.read_line_up_to.new.input) c.args.words.now (sym c.is_empty.ensures ∙ c.if-not-is_empty.false) (line_alone c.read_line_up_to.ensures.taken)
+
+pub returns-clause-read : goal.returns-clause-read
+returns-clause-read g c =
+    read_for_input string_bytes (g.R.Read.remaining c.args.input.now) (g.R.Read.remaining c.read_line_up_to.new.input) c.args.words.now (sym c.is_empty.ensures ∙ c.if-not-is_empty.false) (line_alone c.read_line_up_to.ensures.taken)

@@ -1,6 +1,6 @@
-use Rattle.std.proofs.Common.{◌∙◌}
+use Rattle.std.proofs.Common.{◌∙◌, refl}
 use Rattle.std.proofs.lemmas.Result.{IfOk-weaker}
-use Rattle.fencer.specs.Answers.{answer, no_command}
+use Rattle.fencer.specs.Answers.{answer, no_command, of_job, nothing}
 use Rattle.program_streams.proofs.Printed.{prints_made, prints_more, prints_nothing}
 use Rattle.fencer.proofs.Served.{other}
 use Rattle.fencer.proofs.command.run_words.Goals as goal
@@ -21,3 +21,12 @@ returns-clause-told g c =
     let refused = other c.in-Err.ensures.refused (λ memory. c.in_default.not-OutOfMemory (c.kind.ensures ∙ memory)) in
     prints_made c.error_text.result 2 _ _ _ c.print.result
     (IfOk-weaker c.error_text.result _ _ (λ text ends. no_command text.items refused ends) c.error_text.ensures) c.print.ensures
+
+pub returns-in-Ok-clause-read : goal.returns-in-Ok-clause-read
+returns-in-Ok-clause-read g c = of_job c.in-Ok.job c.in-Ok.ensures.job c.run_job.ensures.read
+
+pub returns-in-OutOfMemory-clause-read : goal.returns-in-OutOfMemory-clause-read
+returns-in-OutOfMemory-clause-read g c = nothing refl
+
+pub returns-clause-read : goal.returns-clause-read
+returns-clause-read g c = nothing refl

@@ -6,8 +6,8 @@ use Rattle.fencer.specs.TextAnswers.{no_file}
 use Rattle.fencer.proofs.Told.{told_answer}
 use Rattle.fencer.proofs.outcomes.run_outcomes.Goals as goal
 
-pub returns-in-Ok : goal.returns-in-Ok
-returns-in-Ok g c =
+pub returns-in-Ok-clause-told : goal.returns-in-Ok-clause-told
+returns-in-Ok-clause-told g c =
     let input = g.R.Read.remaining c.args.input.now in
     let files = g.S.FileStore.held c.args.files.now in
     prints_more (IsTold c.outcomes_lines.result) (AreOutcomes c.args.model c.args.observed c.args.litmus.now input files) _ _ c.print_answer.result
@@ -15,7 +15,7 @@ returns-in-Ok g c =
     (rw c.deref.ensures.value at c.outcomes_lines.ensures.list) (rw c.deref.ensures.value at c.outcomes_lines.ensures.refused))
     c.print_answer.ensures
 
-pub returns-in-Err : goal.returns-in-Err
-returns-in-Err g c =
+pub returns-in-Err-clause-told : goal.returns-in-Err-clause-told
+returns-in-Err-clause-told g c =
     prints_line c.file_line.result 1 (file_line c.in-Err.fault) (AreOutcomes c.args.model c.args.observed c.args.litmus.now (g.R.Read.remaining c.args.input.now) (g.S.FileStore.held c.args.files.now)) _ _ c.print.result
     (no_file c.in-Err.fault c.in-Err.ensures.err) c.file_line.ensures c.print.ensures

@@ -7,8 +7,8 @@ use Rattle.fencer.specs.TextAnswers.{no_file}
 use Rattle.fencer.proofs.Told.{told_answer}
 use Rattle.fencer.proofs.replays.run_replay.Goals as goal
 
-pub returns-in-Ok : goal.returns-in-Ok
-returns-in-Ok g c =
+pub returns-in-Ok-clause-told : goal.returns-in-Ok-clause-told
+returns-in-Ok-clause-told g c =
     let labels = label_words_text c.args.asked.now.labels.items in
     let input = g.R.Read.remaining c.args.input.now in
     let files = g.S.FileStore.held c.args.files.now in
@@ -17,7 +17,13 @@ returns-in-Ok g c =
     (rw (c.deref.ensures.value, c.as_slice.ensures.value) at c.replay_lines.ensures.run) (rw (c.deref.ensures.value, c.as_slice.ensures.value) at c.replay_lines.ensures.refused))
     c.print_answer.ensures
 
-pub returns-in-Err : goal.returns-in-Err
-returns-in-Err g c =
+pub returns-in-Err-clause-told : goal.returns-in-Err-clause-told
+returns-in-Err-clause-told g c =
     prints_line c.file_line.result 1 (file_line c.in-Err.fault) (IsReplay c.args.asked.now.model (label_words_text c.args.asked.now.labels.items) (string_bytes c.args.asked.now.litmus) (g.R.Read.remaining c.args.input.now) (g.S.FileStore.held c.args.files.now)) _ _ c.print.result
     (no_file c.in-Err.fault (rw c.as_str.ensures.value at c.in-Err.ensures.err)) c.file_line.ensures c.print.ensures
+
+pub returns-in-Ok-clause-read : goal.returns-in-Ok-clause-read
+returns-in-Ok-clause-read g c = rw c.as_str.ensures.value at c.named_bytes.ensures.read
+
+pub returns-in-Err-clause-read : goal.returns-in-Err-clause-read
+returns-in-Err-clause-read g c = rw c.as_str.ensures.value at c.named_bytes.ensures.read

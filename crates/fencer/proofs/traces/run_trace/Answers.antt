@@ -11,3 +11,9 @@ returns-in-Ok-clause-told g c =
 pub returns-in-Err-clause-told : goal.returns-in-Err-clause-told
 returns-in-Err-clause-told g c =
     prints_line c.file_line.result 1 (file_line c.in-Err.fault) _ _ _ c.print.result (no_text c.in-Err.fault (rw c.as_str.ensures.value at c.in-Err.ensures.err) (λ name. refl)) c.file_line.ensures c.print.ensures
+
+pub returns-in-Ok-clause-read : goal.returns-in-Ok-clause-read
+returns-in-Ok-clause-read g c = rw c.as_str.ensures.value at c.named_bytes.ensures.read
+
+pub returns-in-Err-clause-read : goal.returns-in-Err-clause-read
+returns-in-Err-clause-read g c = rw c.as_str.ensures.value at c.named_bytes.ensures.read
