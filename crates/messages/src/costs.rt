@@ -45,15 +45,17 @@ fn is_number(bytes: &[u8]) -> bool {
 }
 
 /// What is said of a line that is not of the form of a cost line.
-fn line_message(
-    alloc: Global,
-    source: Source<'_>,
-    pieces: Pieces,
-) -> Result<Message, AllocError> {
+fn line_message(alloc: Global, source: Source<'_>, pieces: Pieces) -> Result<Message, AllocError> {
     let (offset, said) = if !is_gap(source.piece(pieces.gap)) {
-        (pieces.gap, "is no gap; a line is a gap and its cost, as `0:1 5`")
+        (
+            pieces.gap,
+            "is no gap; a line is a gap and its cost, as `0:1 5`",
+        )
     } else if !is_number(source.piece(pieces.cost)) {
-        (pieces.cost, "is no cost; a line is a gap and its cost, as `0:1 5`")
+        (
+            pieces.cost,
+            "is no cost; a line is a gap and its cost, as `0:1 5`",
+        )
     } else {
         (pieces.more, "cannot stand after a cost")
     };

@@ -23,9 +23,18 @@ const FIRST_LINES: &[(&str, &str)] = &[
         "(*",
         "begins a comment, which cannot stand before the first line, `X86` and a name",
     ),
-    ("X86_64", "is not read; write X86, with registers of 32 bits"),
-    ("X86 ", "is followed by one name without spaces, and nothing else"),
-    ("X86\t", "is followed by one name without spaces, and nothing else"),
+    (
+        "X86_64",
+        "is not read; write X86, with registers of 32 bits",
+    ),
+    (
+        "X86 ",
+        "is followed by one name without spaces, and nothing else",
+    ),
+    (
+        "X86\t",
+        "is followed by one name without spaces, and nothing else",
+    ),
     ("x86", "is written X86"),
 ];
 
@@ -170,7 +179,9 @@ fn backward_message(
     let left = left.saturating_sub(1);
     let label = spot_of(rest, tokens, Refusal { part, left }, offset);
     let name = shown_word(alloc, label.word)?;
-    let said = format!(in alloc; "{name} jumps back; loops are not read, write a fixed number of tries (docs/guide.md)")?;
+    let said = format!(in alloc;
+        "{name} jumps back; loops are not read, write a fixed number of tries (docs/guide.md)"
+    )?;
     Message::at_word(alloc, source, jump.offset, jump.word, said.as_str())
 }
 

@@ -72,7 +72,10 @@ impl Message {
     /// The message as one line: `FILE:LINE:COLUMN: TEXT`, without what is not known.
     pub fn written(&self, alloc: Global) -> Result<Vec<u8>, AllocError> {
         let Message {
-            file, line, column, ..
+            file,
+            line,
+            column,
+            ..
         } = self;
         let text = self.text.as_str();
         let written = match (line, column) {

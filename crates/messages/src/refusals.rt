@@ -105,11 +105,7 @@ fn add_labels(
     Some(())
 }
 
-fn add_row(
-    alloc: Global,
-    labels: &mut IndexSet<(usize, Vec<u8>)>,
-    row: &[Cell<'_>],
-) -> Option<()> {
+fn add_row(alloc: Global, labels: &mut IndexSet<(usize, Vec<u8>)>, row: &[Cell<'_>]) -> Option<()> {
     for (thread, cell) in row.iter().enumerate() {
         add_labels(alloc, labels, thread, cell)?;
     }

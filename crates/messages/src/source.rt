@@ -77,7 +77,10 @@ pub(crate) fn from(text: &[u8], offset: usize) -> &[u8] {
 
 /// The bytes up to white space.
 pub(crate) fn piece_of(text: &[u8]) -> &[u8] {
-    let len = text.iter().take_while(|byte| !is_white_space(**byte)).count();
+    let len = text
+        .iter()
+        .take_while(|byte| !is_white_space(**byte))
+        .count();
     text.split_at(len.min(text.len())).0
 }
 

@@ -2,9 +2,7 @@
 
 use crate::source::{continues_character, from};
 use litmus_syntax::{Part, Refusal};
-use text_tokens::{
-    Bad, Token, after_space, are_digits, digits_len, is_white_space, is_word_byte,
-};
+use text_tokens::{Bad, Token, after_space, are_digits, digits_len, is_white_space, is_word_byte};
 
 /// A token that can't stand where it does.
 #[derive(Clone, Copy, Debug)]
@@ -34,8 +32,18 @@ pub(crate) fn spot_of<'t>(
         part: refusal.part,
         offset: offset.saturating_add(text.len().saturating_sub(rest.len())),
         word,
-        before: word_at(from_token(text, tokens, index.saturating_sub(1))),
+        before: token_before(text, tokens, index),
         kind: kind_of(tokens.get(index), word),
+    }
+}
+
+/// The bytes of the token before the one with this index.
+fn token_before<'t>(text: &'t [u8], tokens: &[Token], index: usize) -> &'t [u8] {
+    let before = index.saturating_sub(1);
+    let rest = from_token(text, tokens, before);
+    match tokens.get(before) {
+        Some(token) => rest.split_at(token_len(token, rest).min(rest.len())).0,
+        None => b"",
     }
 }
 
@@ -64,7 +72,10 @@ fn without_space(text: &[u8]) -> &[u8] {
     match after_space(text) {
         Some(rest) => rest,
         None => {
-            let len = text.iter().take_while(|byte| is_white_space(**byte)).count();
+            let len = text
+                .iter()
+                .take_while(|byte| is_white_space(**byte))
+                .count();
             from(text, len)
         }
     }
@@ -79,7 +90,8 @@ pub(crate) fn word_at(text: &[u8]) -> &[u8] {
     } else {
         signs
     };
-    text.split_at(len.max(character_len(text)).min(text.len())).0
+    text.split_at(len.max(character_len(text)).min(text.len()))
+        .0
 }
 
 fn is_sign(byte: u8) -> bool {
