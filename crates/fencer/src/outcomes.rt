@@ -5,13 +5,15 @@ ghost use Rattle.program_streams.specs.Streams.{Prints};
 ghost use Rattle.program_streams.specs.Files.{ReadsOfInput};
 ghost use Rattle.fencer.specs.Outcomes.{list_text, PrintsOutcomes, HasNoList, AreOutcomes};
 
+use crate::advice::{Subject, unread_advice, unread_litmus};
 use crate::refusals::{Refusal, print_answer};
 use cover_solver::{SolveFault, outcomes};
 use litmus_text::{Litmus, read_litmus};
-use program_streams::{FileStore, TEXT_LIMIT, file_line, named_bytes, print};
+use messages::file_or_input;
+use program_streams::{Console, FileStore, TEXT_LIMIT, file_line, named_bytes, refuse};
 use report::{condition_line, observation_line, outcome_line};
 use std::alloc::{AllocError, Global};
-use std::io::{Read, Write};
+use std::io::Read;
 use tso_machine::Model;
 use tso_program::{Outcome, Program, Shown};
 
@@ -55,7 +57,7 @@ fn outcomes_lines(
 }
 
 /// Lists the outcomes of the program of a litmus file, prints the answer, and returns the status.
-pub fn run_outcomes<S: FileStore, R: Read, W: Write>(
+pub fn run_outcomes<S: FileStore, R: Read, W: Console>(
     alloc: Global,
     files: &S,
     model: Model,
@@ -70,9 +72,17 @@ pub fn run_outcomes<S: FileStore, R: Read, W: Write>(
     match named_bytes(alloc, files, litmus, input, TEXT_LIMIT) {
         Ok(bytes) => print_answer(
             alloc,
+            Subject {
+                name: file_or_input(litmus),
+                text: &bytes,
+                labels: &[],
+            },
             outcomes_lines(alloc, &bytes, model, observed),
             output,
         ),
-        Err(fault) => print(output, file_line(alloc, fault), 1),
+        Err(fault) => {
+            let message = unread_advice(alloc, files, unread_litmus(litmus, fault));
+            refuse(output, file_line(alloc, fault), message)
+        }
     }
 }

@@ -6,16 +6,19 @@ ghost use Rattle.program_streams.specs.Files.{ReadsOfInput};
 ghost use Rattle.placed_text.specs.TextFaults.{HasNoPlacedText};
 ghost use Rattle.fencer.specs.Placements.{name_of, place_line, text_fault_line, PrintsPlacement, HoldsFile, KeepFiles, IsDelivered, IsJudged, AreTexts, HasNoTexts, IsPlaced};
 
+use crate::advice::{
+    text_fault_advice, unread_advice, unread_litmus, unread_text, unwritten_advice,
+};
 use fence_place::PlaceFault;
 use fencer_words::Placement;
 use placed_text::{PlacedText, TextFault, place_text};
 use program_streams::{
-    FileFault, FileStore, TEXT_LIMIT, WritableFileStore, bytes_if_named, file_line, named_bytes,
-    print,
+    Console, FileFault, FileStore, TEXT_LIMIT, UnreadFile, WritableFileStore, bytes_if_named,
+    file_line, named_bytes, print, refuse,
 };
 use report::{costs_line, litmus_line};
 use std::alloc::{AllocError, Global};
-use std::io::{Read, Write};
+use std::io::Read;
 use std::sync::Wait;
 use std::thread::Threads;
 
@@ -59,19 +62,26 @@ pub(crate) fn text_fault_line(alloc: Global, fault: TextFault) -> Result<Vec<u8>
 }
 
 /// The texts of a litmus file, which is read first, and of a cost file, where one is named.
-pub(crate) fn read_texts<S: FileStore, R: Read>(
+pub(crate) fn read_texts<'a, S: FileStore, R: Read>(
     alloc: Global,
     files: &S,
-    asked: &Placement,
+    asked: &'a Placement,
     input: &mut R,
-) -> Result<Texts, FileFault>
+) -> Result<Texts, UnreadFile<'a>>
     ensures texts { IfOk result (λ texts. AreTexts asked.now (R.remaining input.old) (S.held files.now) texts.litmus.items (option_map (λ text. text.items) texts.costs)) }
-    ensures err { IfErr result (HasNoTexts asked.now (R.remaining input.old) (S.held files.now)) }
+    ensures err { IfErr result (λ file. HasNoTexts asked.now (R.remaining input.old) (S.held files.now) file.fault) }
     ensures read { ReadsOfInput TEXT_LIMIT (string_bytes asked.now.litmus) (R.remaining input.old) (R.remaining input.new) }
 {
-    let litmus = named_bytes(alloc, files, asked.litmus.as_str(), input, TEXT_LIMIT)?;
-    let costs = bytes_if_named(alloc, files, asked.costs.as_deref(), TEXT_LIMIT)?;
-    Ok(Texts { litmus, costs })
+    let name = asked.litmus.as_str();
+    let litmus = match named_bytes(alloc, files, name, input, TEXT_LIMIT) {
+        Ok(bytes) => bytes,
+        Err(fault) => return Err(unread_litmus(name, fault)),
+    };
+    let name = asked.costs.as_deref();
+    match bytes_if_named(alloc, files, name, TEXT_LIMIT) {
+        Ok(costs) => Ok(Texts { litmus, costs }),
+        Err(fault) => Err(unread_text(name.unwrap_or(""), fault)),
+    }
 }
 
 /// The answer line, followed by the program's text.
@@ -137,7 +147,7 @@ fn keep_file<S: WritableFileStore>(
 }
 
 /// Writes what is written to a file, then prints the lines, and returns the status.
-pub(crate) fn deliver<S: WritableFileStore, W: Write>(
+pub(crate) fn deliver<S: WritableFileStore, W: Console>(
     alloc: Global,
     files: &mut S,
     name: Option<&str>,
@@ -150,12 +160,15 @@ pub(crate) fn deliver<S: WritableFileStore, W: Write>(
     let Answer { lines, written } = answer;
     match keep_file(files, name, &written) {
         Ok(()) => print(output, Ok(lines), 0),
-        Err(fault) => print(output, file_line(alloc, fault), 1),
+        Err(fault) => {
+            let message = unwritten_advice(alloc, name);
+            refuse(output, file_line(alloc, fault), message)
+        }
     }
 }
 
 /// Judges texts, prints what is placed, and returns the status.
-fn place_texts<T: Threads + Sync, U: Wait + Sync, S: WritableFileStore, W: Write>(
+fn place_texts<T: Threads + Sync, U: Wait + Sync, S: WritableFileStore, W: Console>(
     rt: &T,
     wait: &U,
     alloc: Global,
@@ -169,13 +182,16 @@ fn place_texts<T: Threads + Sync, U: Wait + Sync, S: WritableFileStore, W: Write
 {
     match answer_of(rt, wait, alloc, asked, texts) {
         Ok(answer) => deliver(alloc, files, asked.certificate.as_deref(), answer, output),
-        Err(fault) => print(output, text_fault_line(alloc, fault), 1),
+        Err(fault) => {
+            let message = text_fault_advice(alloc, asked, texts, fault);
+            refuse(output, text_fault_line(alloc, fault), message)
+        }
     }
 }
 
 /// Places fences in the program of a litmus file, writes the certificate, prints the answer, and
 /// returns the status.
-pub fn run_place<T: Threads + Sync, U: Wait + Sync, S: WritableFileStore, R: Read, W: Write>(
+pub fn run_place<T: Threads + Sync, U: Wait + Sync, S: WritableFileStore, R: Read, W: Console>(
     rt: &T,
     wait: &U,
     alloc: Global,
@@ -190,6 +206,9 @@ pub fn run_place<T: Threads + Sync, U: Wait + Sync, S: WritableFileStore, R: Rea
 {
     match read_texts(alloc, &*files, asked, input) {
         Ok(texts) => place_texts(rt, wait, alloc, files, asked, &texts, output),
-        Err(fault) => print(output, file_line(alloc, fault), 1),
+        Err(file) => {
+            let message = unread_advice(alloc, &*files, file);
+            refuse(output, file_line(alloc, file.fault), message)
+        }
     }
 }

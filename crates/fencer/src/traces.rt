@@ -12,17 +12,19 @@ ghost use Rattle.fencer.specs.Placements.{KeepFiles};
 ghost use Rattle.fencer.specs.Replays.{label_words_text, HasNoRun};
 ghost use Rattle.fencer.specs.Traces.{PrintsTrace, IsTrace, IsTraceOf};
 
+use crate::advice::{Subject, refusal_advice, unread_advice, unread_litmus};
 use crate::place::{Answer, deliver};
 use crate::refusals::{Refusal, refusal_line};
 use crate::replays::{ended_lines, steps_of};
 use fencer_words::Run;
 use gap_sets::GapSet;
 use litmus_text::{Litmus, read_litmus};
-use program_streams::{TEXT_LIMIT, WritableFileStore, file_line, named_bytes, print};
+use messages::file_or_input;
+use program_streams::{Console, TEXT_LIMIT, WritableFileStore, file_line, named_bytes, refuse};
 use run_graph::RunGraph;
 use run_table::run_table;
 use std::alloc::{AllocError, Global};
-use std::io::{Read, Write};
+use std::io::Read;
 use tso_machine::{Ended, Label, Model, ReplayFault, Step, replay, steps};
 use tso_program::Program;
 
@@ -102,7 +104,7 @@ fn trace_answer(
 }
 
 /// Judges a text, writes the graph, prints the lines, and returns the status.
-fn trace_text<S: WritableFileStore, W: Write>(
+fn trace_text<S: WritableFileStore, W: Console>(
     alloc: Global,
     files: &mut S,
     asked: &Run,
@@ -115,13 +117,21 @@ fn trace_text<S: WritableFileStore, W: Write>(
 {
     match trace_answer(alloc, bytes, asked.model, asked.labels.as_slice()) {
         Ok(answer) => deliver(alloc, files, graph, answer, output),
-        Err(why) => print(output, refusal_line(alloc, why), 1),
+        Err(why) => {
+            let subject = Subject {
+                name: file_or_input(asked.litmus.as_str()),
+                text: bytes,
+                labels: asked.labels.as_slice(),
+            };
+            let message = refusal_advice(alloc, subject, why);
+            refuse(output, refusal_line(alloc, why), message)
+        }
     }
 }
 
 /// Shows the steps of label words on the program of a litmus file as a table, writes their graph to a file if one is
 /// named, prints the answer, and returns the status.
-pub fn run_trace<S: WritableFileStore, R: Read, W: Write>(
+pub fn run_trace<S: WritableFileStore, R: Read, W: Console>(
     alloc: Global,
     files: &mut S,
     asked: &Run,
@@ -135,6 +145,13 @@ pub fn run_trace<S: WritableFileStore, R: Read, W: Write>(
 {
     match named_bytes(alloc, &*files, asked.litmus.as_str(), input, TEXT_LIMIT) {
         Ok(bytes) => trace_text(alloc, files, asked, graph, &bytes, output),
-        Err(fault) => print(output, file_line(alloc, fault), 1),
+        Err(fault) => {
+            let message = unread_advice(
+                alloc,
+                &*files,
+                unread_litmus(asked.litmus.as_str(), fault),
+            );
+            refuse(output, file_line(alloc, fault), message)
+        }
     }
 }

@@ -7,17 +7,18 @@ ghost use Rattle.placed_text.specs.TextFaults.{HasNoPlacedText};
 ghost use Rattle.fencer.specs.Placements.{KeepFiles};
 ghost use Rattle.fencer.specs.Whys.{IsExplained, IsExplainedText};
 
+use crate::advice::{text_fault_advice, unread_advice};
 use crate::place::{Answer, Texts, deliver, read_texts, text_fault_line};
 use fencer_words::Placement;
-use program_streams::{TEXT_LIMIT, WritableFileStore, file_line, print};
+use program_streams::{Console, TEXT_LIMIT, WritableFileStore, file_line, refuse};
 use std::alloc::Global;
-use std::io::{Read, Write};
+use std::io::Read;
 use std::sync::Wait;
 use std::thread::Threads;
 use why_text::{WhyText, why_text};
 
 /// Judges texts, writes the graphs, prints why each fence of the answer is needed, and returns the status.
-fn explain_texts<T: Threads + Sync, U: Wait + Sync, S: WritableFileStore, W: Write>(
+fn explain_texts<T: Threads + Sync, U: Wait + Sync, S: WritableFileStore, W: Console>(
     rt: &T,
     wait: &U,
     alloc: Global,
@@ -48,13 +49,16 @@ fn explain_texts<T: Threads + Sync, U: Wait + Sync, S: WritableFileStore, W: Wri
             };
             deliver(alloc, files, graphs, answer, output)
         }
-        Err(fault) => print(output, text_fault_line(alloc, fault), 1),
+        Err(fault) => {
+            let message = text_fault_advice(alloc, asked, texts, fault);
+            refuse(output, text_fault_line(alloc, fault), message)
+        }
     }
 }
 
 /// Shows for each fence of a placement in the program of a litmus file why it is needed, writes the graphs to a file if
 /// one is named, prints the answer, and returns the status.
-pub fn run_why<T: Threads + Sync, U: Wait + Sync, S: WritableFileStore, R: Read, W: Write>(
+pub fn run_why<T: Threads + Sync, U: Wait + Sync, S: WritableFileStore, R: Read, W: Console>(
     rt: &T,
     wait: &U,
     alloc: Global,
@@ -70,6 +74,9 @@ pub fn run_why<T: Threads + Sync, U: Wait + Sync, S: WritableFileStore, R: Read,
 {
     match read_texts(alloc, &*files, asked, input) {
         Ok(texts) => explain_texts(rt, wait, alloc, files, asked, graphs, &texts, output),
-        Err(fault) => print(output, file_line(alloc, fault), 1),
+        Err(file) => {
+            let message = unread_advice(alloc, &*files, file);
+            refuse(output, file_line(alloc, file.fault), message)
+        }
     }
 }

@@ -22,9 +22,9 @@ function answerWords(gaps) {
   const isOne = gaps.length === 1;
   const places = gaps.length <= 3 ? listed(gaps.map(gap => html("span", {}, "before ", ...placeOf(gap))))
     : listed(fencesByThread(gaps));
-  const fences = isOne ? "an MFENCE " : gaps.length <= 3 ? "MFENCEs " : `${gaps.length} MFENCEs, `;
+  const fences = isOne ? "an MFENCE " : gaps.length <= 3 ? "MFENCE " : `${gaps.length} MFENCEs, `;
   const cost = `${isOne ? "It costs" : "Together they cost"} ${given.answer.cost}`;
-  return ["A cheapest answer: ", fences, ...places, `. ${cost}; no cheaper set is enough.`];
+  return ["A cheapest set of fences: ", fences, ...places, `. ${cost}; no cheaper set is enough.`];
 }
 
 function showNoFence() {

@@ -73,5 +73,4 @@ pub ending_once : (threads : ℕ) (ts : List Tok) (e d : EndingView) → IsEndin
 ending_once threads ts e d h g =
     let observed = only_one (IsObserved threads) (observed_once threads) e.observed ts h.0 h.1 in
     let quantifier = quantifier_is_read e.quantifier h.0 h.2.0 h.2.1 in
-    let signs = (h.2.2, λ zs i. signs_once threads h.2.0 zs e.signs i h.2.2) in
-    sym ((ending_is_read threads ts h.0 h.2.0 e.observed e.quantifier e.signs observed quantifier signs).1 d g)
+    sym ((ending_is_read threads ts h.0 h.2.0 e.observed e.quantifier e.signs observed quantifier (h.2.2, λ zs i. signs_once threads h.2.0 zs e.signs i h.2.2)).1 d g)
