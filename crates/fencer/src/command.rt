@@ -8,6 +8,7 @@ ghost use Rattle.fencer_words.specs.CommandFiles.{files_of};
 ghost use Rattle.fencer.specs.Deliveries.{KeepFilesBut};
 ghost use Rattle.fencer.specs.Answers.{litmus_of, IsAnswer, IsReply, IsOutput, KeepFilesOf, KeepOtherFiles, ReadsForWords, ReadsFor};
 
+use crate::advice::{unread_advice, unread_litmus};
 use crate::gaps::run_gaps;
 use crate::outcomes::run_outcomes;
 use crate::place::run_place;
@@ -18,11 +19,11 @@ use clap::Error;
 use clap::error::ErrorKind;
 use fencer_words::{Job, read_words};
 use program_streams::{
-    LineFault, TEXT_LIMIT, WritableFileStore, asks_version, file_line, line_words, print,
-    read_line_up_to, refuse_words, version_line,
+    Console, LineFault, TEXT_LIMIT, WritableFileStore, asks_version, file_line, line_words, print,
+    read_line_up_to, refuse, refuse_words, version_line,
 };
 use std::alloc::{AllocError, Global};
-use std::io::{Read, Write};
+use std::io::Read;
 use std::sync::Wait;
 use std::thread::Threads;
 
@@ -40,7 +41,7 @@ fn error_text(alloc: Global, error: &Error) -> Result<Vec<u8>, AllocError>
 }
 
 /// Does a job, and answers the status.
-fn run_job<T: Threads + Sync, U: Wait + Sync, S: WritableFileStore, R: Read, W: Write>(
+fn run_job<T: Threads + Sync, U: Wait + Sync, S: WritableFileStore, R: Read, W: Console>(
     rt: &T,
     wait: &U,
     alloc: Global,
@@ -64,7 +65,7 @@ fn run_job<T: Threads + Sync, U: Wait + Sync, S: WritableFileStore, R: Read, W: 
 }
 
 /// Does what words ask for, and answers the status.
-fn run_words<T: Threads + Sync, U: Wait + Sync, S: WritableFileStore, R: Read, W: Write>(
+fn run_words<T: Threads + Sync, U: Wait + Sync, S: WritableFileStore, R: Read, W: Console>(
     rt: &T,
     wait: &U,
     alloc: Global,
@@ -100,7 +101,7 @@ fn run_words<T: Threads + Sync, U: Wait + Sync, S: WritableFileStore, R: Read, W
 /// Status 0 means that the whole answer is written, and status 3 that it is and that a check which is asked for finds a fault. Status 1
 /// is a refusal, reported by one line, a writer that fails or takes no byte, and out of memory for the words or for that line, with
 /// nothing written. Status 2 is a bad command line or a call for help, reported on the writer too.
-pub fn run_command<T: Threads + Sync, U: Wait + Sync, S: WritableFileStore, R: Read, W: Write>(
+pub fn run_command<T: Threads + Sync, U: Wait + Sync, S: WritableFileStore, R: Read, W: Console>(
     rt: &T,
     wait: &U,
     alloc: Global,
@@ -118,7 +119,10 @@ pub fn run_command<T: Threads + Sync, U: Wait + Sync, S: WritableFileStore, R: R
     }
     let line = match read_line_up_to(alloc, input, TEXT_LIMIT) {
         Ok(line) => line,
-        Err(fault) => return print(output, file_line(alloc, fault), 1),
+        Err(fault) => {
+            let message = unread_advice(alloc, &*files, unread_litmus("-", fault));
+            return refuse(output, file_line(alloc, fault), message);
+        }
     };
     match line_words(alloc, &line) {
         Ok(words) => run_words(rt, wait, alloc, files, words.as_slice(), input, output),

@@ -4,9 +4,9 @@ ghost use Rattle.std.specs.Prelude.{◌≡◌, ◌⊎◌, IfErr, IsSome, OnErr, 
 ghost use Rattle.program_streams.specs.Streams.{Prints};
 ghost use Rattle.fencer.specs.Deliveries.{HoldsFile, HoldsFiles, KeepFiles, KeepFilesBut, IsDelivered};
 
-use program_streams::{FileFault, WritableFileStore, file_line, print};
+use crate::advice::unwritten_advice;
+use program_streams::{Console, FileFault, WritableFileStore, file_line, print, refuse};
 use std::alloc::Global;
-use std::io::Write;
 
 /// What is printed, with its status, and what is written to each of two files, where it is named.
 #[derive(Debug, Drop)]
@@ -34,26 +34,28 @@ fn keep_file<S: WritableFileStore>(
     }
 }
 
-/// Writes two texts to their files, where these are named.
-fn keep_files<S: WritableFileStore>(
+/// Writes two texts to their files, where these are named. The error is the name of a file that can't be written.
+fn keep_files<'a, S: WritableFileStore>(
     files: &mut S,
-    first: Option<&str>,
-    second: Option<&str>,
+    first: Option<&'a str>,
+    second: Option<&'a str>,
     answer: &Answer,
-) -> Result<(), FileFault>
+) -> Result<(), Option<&'a str>>
     ensures kept { OnOk result (HoldsFiles (option_map (λ name. name.now) first.entry) (option_map (λ name. name.now) second.entry) (S.held files.new) answer.now) }
     ensures others { KeepFilesBut (option_map (λ name. name.now) first.entry) (option_map (λ name. name.now) second.entry) (S.held files.old) (S.held files.new) }
     ensures named { OnErr result (IsSome (option_map (λ name. name.now) first.entry) ⊎ IsSome (option_map (λ name. name.now) second.entry)) }
-    ensures fault { IfErr result (λ fault. fault ≡ FileFault.Write) }
 {
     match keep_file(files, first, &answer.first) {
-        Ok(()) => keep_file(files, second, &answer.second),
-        Err(fault) => Err(fault),
+        Ok(()) => match keep_file(files, second, &answer.second) {
+            Ok(()) => Ok(()),
+            Err(_) => Err(second),
+        },
+        Err(_) => Err(first),
     }
 }
 
 /// Writes what is written to files, then prints the lines, and returns the status.
-pub(crate) fn deliver<S: WritableFileStore, W: Write>(
+pub(crate) fn deliver<S: WritableFileStore, W: Console>(
     alloc: Global,
     files: &mut S,
     first: Option<&str>,
@@ -69,6 +71,9 @@ pub(crate) fn deliver<S: WritableFileStore, W: Write>(
             let Answer { lines, status, .. } = answer;
             print(output, Ok(lines), status)
         }
-        Err(fault) => print(output, file_line(alloc, fault), 1),
+        Err(name) => {
+            let message = unwritten_advice(alloc, name);
+            refuse(output, file_line(alloc, FileFault::Write), message)
+        }
     }
 }

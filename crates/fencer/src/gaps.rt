@@ -6,6 +6,7 @@ ghost use Rattle.tso_program.specs.Listings.{gap_count};
 ghost use Rattle.program_streams.specs.Files.{ReadsOfInput};
 ghost use Rattle.fencer.specs.GapTexts.{AreGaps, AreGapsOfTexts, HasNoGaps, IsGapText, PrintsGaps, costs_shown};
 
+use crate::advice::{text_fault_advice, unread_advice};
 use crate::place::text_fault_line;
 use crate::texts::{Texts, read_texts};
 use fencer_words::GapQuery;
@@ -13,9 +14,9 @@ use gap_list::{cost_file, gap_list};
 use gap_sets::Costs;
 use litmus_text::Litmus;
 use placed_text::{TextFault, read_gap_costs, read_program};
-use program_streams::{FileStore, TEXT_LIMIT, file_line, print};
+use program_streams::{Console, FileStore, TEXT_LIMIT, file_line, print, refuse};
 use std::alloc::{AllocError, Global};
-use std::io::{Read, Write};
+use std::io::Read;
 use tso_program::Program;
 
 /// The costs, where a text of them is given.
@@ -61,17 +62,26 @@ fn gap_lines(alloc: Global, template: bool, texts: &Texts) -> Result<Vec<u8>, Te
 }
 
 /// Judges texts, prints what is asked of their gaps, and returns the status.
-fn gaps_of_texts<W: Write>(alloc: Global, template: bool, texts: &Texts, output: &mut W) -> u8
-    ensures { Prints (AreGapsOfTexts template texts.now.litmus.items (option_map (λ text. text.items) texts.now.costs)) (W.contents output.old) (W.contents output.new) result }
+fn gaps_of_texts<W: Console>(
+    alloc: Global,
+    asked: &GapQuery,
+    texts: &Texts,
+    output: &mut W,
+) -> u8
+    ensures { Prints (AreGapsOfTexts asked.now.template texts.now.litmus.items (option_map (λ text. text.items) texts.now.costs)) (W.contents output.old) (W.contents output.new) result }
 {
-    match gap_lines(alloc, template, texts) {
+    match gap_lines(alloc, asked.template, texts) {
         Ok(lines) => print(output, Ok(lines), 0),
-        Err(fault) => print(output, text_fault_line(alloc, fault), 1),
+        Err(fault) => {
+            let named = (asked.litmus.as_str(), asked.costs.as_deref());
+            let message = text_fault_advice(alloc, named, texts, fault);
+            refuse(output, text_fault_line(alloc, fault), message)
+        }
     }
 }
 
 /// Lists the gaps of the program of a litmus file, or prints a cost file of all of them, and returns the status.
-pub fn run_gaps<S: FileStore, R: Read, W: Write>(
+pub fn run_gaps<S: FileStore, R: Read, W: Console>(
     alloc: Global,
     files: &S,
     asked: &GapQuery,
@@ -83,7 +93,10 @@ pub fn run_gaps<S: FileStore, R: Read, W: Write>(
 {
     let costs = asked.costs.as_deref();
     match read_texts(alloc, files, asked.litmus.as_str(), costs, input) {
-        Ok(texts) => gaps_of_texts(alloc, asked.template, &texts, output),
-        Err(fault) => print(output, file_line(alloc, fault), 1),
+        Ok(texts) => gaps_of_texts(alloc, asked, &texts, output),
+        Err(file) => {
+            let message = unread_advice(alloc, files, file);
+            refuse(output, file_line(alloc, file.fault), message)
+        }
     }
 }

@@ -5,16 +5,18 @@ ghost use Rattle.program_streams.specs.Streams.{Prints};
 ghost use Rattle.program_streams.specs.Files.{ReadsOfInput};
 ghost use Rattle.fencer.specs.Outcomes.{list_text as lines_of_list, list_status, PrintsOutcomes, HasNoList, AreOutcomes, TellsOutcomes};
 
+use crate::advice::{Subject, unread_advice, unread_litmus};
 use crate::refusals::{Refusal, Reply, print_answer};
 use crate::status::check_status;
 use cover_solver::{SolveFault, outcomes};
 use documents::outcomes_document;
 use fencer_words::OutcomeQuery;
 use litmus_text::{Litmus, read_litmus};
-use program_streams::{FileStore, TEXT_LIMIT, file_line, named_bytes, print};
+use messages::file_or_input;
+use program_streams::{Console, FileStore, TEXT_LIMIT, file_line, named_bytes, refuse};
 use report::{condition_line, is_true_of, observation_line, outcome_line};
 use std::alloc::{AllocError, Global};
-use std::io::{Read, Write};
+use std::io::Read;
 use tso_program::{Outcome, Program, Shown};
 
 /// How many outcomes there are, each of them as far as it is shown, and what they show of the condition.
@@ -77,7 +79,7 @@ fn outcomes_reply(alloc: Global, bytes: &[u8], asked: &OutcomeQuery) -> Result<R
 }
 
 /// Lists the outcomes of the program of a litmus file, prints the answer, and returns the status.
-pub fn run_outcomes<S: FileStore, R: Read, W: Write>(
+pub fn run_outcomes<S: FileStore, R: Read, W: Console>(
     alloc: Global,
     files: &S,
     asked: &OutcomeQuery,
@@ -87,8 +89,20 @@ pub fn run_outcomes<S: FileStore, R: Read, W: Write>(
     ensures told { Prints (AreOutcomes asked.now (R.remaining input.old) (S.held files.now)) (W.contents output.old) (W.contents output.new) result }
     ensures read { ReadsOfInput TEXT_LIMIT (string_bytes asked.now.litmus) (R.remaining input.old) (R.remaining input.new) }
 {
-    match named_bytes(alloc, files, asked.litmus.as_str(), input, TEXT_LIMIT) {
-        Ok(bytes) => print_answer(alloc, outcomes_reply(alloc, &bytes, asked), output),
-        Err(fault) => print(output, file_line(alloc, fault), 1),
+    let litmus = asked.litmus.as_str();
+    match named_bytes(alloc, files, litmus, input, TEXT_LIMIT) {
+        Ok(bytes) => {
+            let subject = Subject {
+                name: file_or_input(litmus),
+                text: &bytes,
+                labels: &[],
+            };
+            let reply = outcomes_reply(alloc, &bytes, asked);
+            print_answer(alloc, subject, reply, output)
+        }
+        Err(fault) => {
+            let message = unread_advice(alloc, files, unread_litmus(litmus, fault));
+            refuse(output, file_line(alloc, fault), message)
+        }
     }
 }

@@ -8,6 +8,7 @@ ghost use Rattle.fencer_words.specs.CommandFiles.{name_of};
 ghost use Rattle.fencer.specs.Deliveries.{KeepFilesBut};
 ghost use Rattle.fencer.specs.Placements.{place_line, text_fault_line, DeliversTexts, IsJudged, IsPlaced, PrintsPlacement};
 
+use crate::advice::{text_fault_advice, unread_advice};
 use crate::delivery::{Answer, deliver};
 use crate::documented::printed;
 use crate::status::check_status;
@@ -15,10 +16,10 @@ use crate::texts::{Texts, read_texts};
 use fence_place::PlaceFault;
 use fencer_words::Placement;
 use placed_text::{PlacedText, TextFault, place_text};
-use program_streams::{TEXT_LIMIT, WritableFileStore, file_line, print};
+use program_streams::{Console, TEXT_LIMIT, WritableFileStore, file_line, refuse};
 use report::{costs_line, litmus_line};
 use std::alloc::{AllocError, Global};
-use std::io::{Read, Write};
+use std::io::Read;
 use std::sync::Wait;
 use std::thread::Threads;
 
@@ -97,7 +98,7 @@ fn answer_of<T: Threads + Sync, U: Wait + Sync>(
 }
 
 /// Judges texts, prints what is placed, and returns the status.
-fn place_texts<T: Threads + Sync, U: Wait + Sync, S: WritableFileStore, W: Write>(
+fn place_texts<T: Threads + Sync, U: Wait + Sync, S: WritableFileStore, W: Console>(
     rt: &T,
     wait: &U,
     alloc: Global,
@@ -113,13 +114,17 @@ fn place_texts<T: Threads + Sync, U: Wait + Sync, S: WritableFileStore, W: Write
     let certificate = asked.certificate.as_deref();
     match answer_of(rt, wait, alloc, asked, texts) {
         Ok(answer) => deliver(alloc, files, program, certificate, answer, output),
-        Err(fault) => print(output, text_fault_line(alloc, fault), 1),
+        Err(fault) => {
+            let named = (asked.litmus.as_str(), asked.costs.as_deref());
+            let message = text_fault_advice(alloc, named, texts, fault);
+            refuse(output, text_fault_line(alloc, fault), message)
+        }
     }
 }
 
 /// Places fences in the program of a litmus file, writes the fenced program and the certificate, prints the answer, and
 /// returns the status.
-pub fn run_place<T: Threads + Sync, U: Wait + Sync, S: WritableFileStore, R: Read, W: Write>(
+pub fn run_place<T: Threads + Sync, U: Wait + Sync, S: WritableFileStore, R: Read, W: Console>(
     rt: &T,
     wait: &U,
     alloc: Global,
@@ -135,6 +140,9 @@ pub fn run_place<T: Threads + Sync, U: Wait + Sync, S: WritableFileStore, R: Rea
     let costs = asked.costs.as_deref();
     match read_texts(alloc, &*files, asked.litmus.as_str(), costs, input) {
         Ok(texts) => place_texts(rt, wait, alloc, files, asked, &texts, output),
-        Err(fault) => print(output, file_line(alloc, fault), 1),
+        Err(file) => {
+            let message = unread_advice(alloc, &*files, file);
+            refuse(output, file_line(alloc, file.fault), message)
+        }
     }
 }

@@ -7,14 +7,16 @@ ghost use Rattle.program_streams.specs.Streams.{Prints};
 ghost use Rattle.program_streams.specs.Files.{ReadsOfInput};
 ghost use Rattle.fencer.specs.Replays.{label_words_text, HasNoRun, IsReplay, ShowsRun};
 
+use crate::advice::{Subject, unread_advice, unread_litmus};
 use crate::refusals::{Refusal, Reply, print_answer};
 use fencer_words::Run;
 use gap_sets::GapSet;
 use litmus_text::{Litmus, read_litmus};
-use program_streams::{FileStore, TEXT_LIMIT, file_line, named_bytes, print};
+use messages::file_or_input;
+use program_streams::{Console, FileStore, TEXT_LIMIT, file_line, named_bytes, refuse};
 use report::{outcome_line, passed_line};
 use std::alloc::{AllocError, Global};
-use std::io::{Read, Write};
+use std::io::Read;
 use tso_machine::{Ended, Label, Model, ReplayFault, RunFault, read_run, replay};
 use tso_program::{Program, Shown};
 
@@ -76,7 +78,7 @@ fn replay_lines(
 }
 
 /// Replays label words on the program of a litmus file, prints the answer, and returns the status.
-pub fn run_replay<S: FileStore, R: Read, W: Write>(
+pub fn run_replay<S: FileStore, R: Read, W: Console>(
     alloc: Global,
     files: &S,
     asked: &Run,
@@ -89,9 +91,17 @@ pub fn run_replay<S: FileStore, R: Read, W: Write>(
     match named_bytes(alloc, files, asked.litmus.as_str(), input, TEXT_LIMIT) {
         Ok(bytes) => print_answer(
             alloc,
+            Subject {
+                name: file_or_input(asked.litmus.as_str()),
+                text: &bytes,
+                labels: asked.labels.as_slice(),
+            },
             replay_lines(alloc, &bytes, asked.model, asked.labels.as_slice()),
             output,
         ),
-        Err(fault) => print(output, file_line(alloc, fault), 1),
+        Err(fault) => {
+            let message = unread_advice(alloc, files, unread_litmus(asked.litmus.as_str(), fault));
+            refuse(output, file_line(alloc, fault), message)
+        }
     }
 }

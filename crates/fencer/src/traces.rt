@@ -14,6 +14,7 @@ ghost use Rattle.documents.specs.Documents.{IsTraceDocument};
 ghost use Rattle.fencer_words.specs.CommandFiles.{name_of};
 ghost use Rattle.fencer.specs.Traces.{DeliversTrace, PrintsTrace, IsTrace, IsTraceOf};
 
+use crate::advice::{Subject, refusal_advice, unread_advice, unread_litmus};
 use crate::delivery::{Answer, deliver};
 use crate::documented::documented;
 use crate::refusals::{Refusal, refusal_line};
@@ -22,11 +23,12 @@ use documents::trace_document;
 use fencer_words::{Run, TraceQuery};
 use gap_sets::GapSet;
 use litmus_text::{Litmus, read_litmus};
-use program_streams::{TEXT_LIMIT, WritableFileStore, file_line, named_bytes, print};
+use messages::file_or_input;
+use program_streams::{Console, TEXT_LIMIT, WritableFileStore, file_line, named_bytes, refuse};
 use run_graph::RunGraph;
 use run_table::run_table;
 use std::alloc::{AllocError, Global};
-use std::io::{Read, Write};
+use std::io::Read;
 use tso_machine::{Ended, Label, Model, ReplayFault, Step, replay, steps};
 use tso_program::Program;
 
@@ -147,7 +149,7 @@ fn trace_answer(alloc: Global, bytes: &[u8], asked: &TraceQuery) -> Result<Answe
 }
 
 /// Judges a text, writes the page and the graph, prints the lines, and returns the status.
-fn trace_text<S: WritableFileStore, W: Write>(
+fn trace_text<S: WritableFileStore, W: Console>(
     alloc: Global,
     files: &mut S,
     asked: &TraceQuery,
@@ -161,13 +163,21 @@ fn trace_text<S: WritableFileStore, W: Write>(
     let graph = asked.graph.as_deref();
     match trace_answer(alloc, bytes, asked) {
         Ok(answer) => deliver(alloc, files, page, graph, answer, output),
-        Err(why) => print(output, refusal_line(alloc, why), 1),
+        Err(why) => {
+            let subject = Subject {
+                name: file_or_input(asked.run.litmus.as_str()),
+                text: bytes,
+                labels: asked.run.labels.as_slice(),
+            };
+            let message = refusal_advice(alloc, subject, why);
+            refuse(output, refusal_line(alloc, why), message)
+        }
     }
 }
 
 /// Shows the steps of label words on the program of a litmus file as a table, writes their page and their graph to files if
 /// they are named, prints the answer, and returns the status.
-pub fn run_trace<S: WritableFileStore, R: Read, W: Write>(
+pub fn run_trace<S: WritableFileStore, R: Read, W: Console>(
     alloc: Global,
     files: &mut S,
     asked: &TraceQuery,
@@ -178,8 +188,12 @@ pub fn run_trace<S: WritableFileStore, R: Read, W: Write>(
     ensures others { KeepFilesBut (name_of asked.now.page) (name_of asked.now.graph) (S.held files.old) (S.held files.new) }
     ensures read { ReadsOfInput TEXT_LIMIT (string_bytes asked.now.run.litmus) (R.remaining input.old) (R.remaining input.new) }
 {
-    match named_bytes(alloc, &*files, asked.run.litmus.as_str(), input, TEXT_LIMIT) {
+    let litmus = asked.run.litmus.as_str();
+    match named_bytes(alloc, &*files, litmus, input, TEXT_LIMIT) {
         Ok(bytes) => trace_text(alloc, files, asked, &bytes, output),
-        Err(fault) => print(output, file_line(alloc, fault), 1),
+        Err(fault) => {
+            let message = unread_advice(alloc, &*files, unread_litmus(litmus, fault));
+            refuse(output, file_line(alloc, fault), message)
+        }
     }
 }

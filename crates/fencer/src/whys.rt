@@ -8,15 +8,16 @@ ghost use Rattle.fencer.specs.Deliveries.{KeepFilesBut};
 ghost use Rattle.fencer_words.specs.CommandFiles.{name_of};
 ghost use Rattle.fencer.specs.Whys.{Explains, IsExplained, IsExplainedText};
 
+use crate::advice::{text_fault_advice, unread_advice};
 use crate::delivery::{Answer, deliver};
 use crate::documented::documented;
 use crate::place::text_fault_line;
 use crate::texts::{Texts, read_texts};
 use fencer_words::{Placement, WhyQuery};
 use placed_text::TextFault;
-use program_streams::{TEXT_LIMIT, WritableFileStore, file_line, print};
+use program_streams::{Console, TEXT_LIMIT, WritableFileStore, file_line, refuse};
 use std::alloc::Global;
-use std::io::{Read, Write};
+use std::io::Read;
 use std::sync::Wait;
 use std::thread::Threads;
 use why_text::{WhyText, why_text};
@@ -52,7 +53,7 @@ fn explained<T: Threads + Sync, U: Wait + Sync>(
 }
 
 /// Judges texts, writes the page and the graphs, prints why each fence of the answer is needed, and returns the status.
-fn explain_texts<T: Threads + Sync, U: Wait + Sync, S: WritableFileStore, W: Write>(
+fn explain_texts<T: Threads + Sync, U: Wait + Sync, S: WritableFileStore, W: Console>(
     rt: &T,
     wait: &U,
     alloc: Global,
@@ -68,13 +69,18 @@ fn explain_texts<T: Threads + Sync, U: Wait + Sync, S: WritableFileStore, W: Wri
     let graphs = asked.graphs.as_deref();
     match explained(rt, wait, alloc, asked, texts) {
         Ok(answer) => deliver(alloc, files, page, graphs, answer, output),
-        Err(fault) => print(output, text_fault_line(alloc, fault), 1),
+        Err(fault) => {
+            let Placement { litmus, costs, .. } = &asked.placement;
+            let named = (litmus.as_str(), costs.as_deref());
+            let message = text_fault_advice(alloc, named, texts, fault);
+            refuse(output, text_fault_line(alloc, fault), message)
+        }
     }
 }
 
 /// Shows for each fence of a placement in the program of a litmus file why it is needed, writes the page and the graphs to
 /// files if they are named, prints the answer, and returns the status.
-pub fn run_why<T: Threads + Sync, U: Wait + Sync, S: WritableFileStore, R: Read, W: Write>(
+pub fn run_why<T: Threads + Sync, U: Wait + Sync, S: WritableFileStore, R: Read, W: Console>(
     rt: &T,
     wait: &U,
     alloc: Global,
@@ -91,6 +97,9 @@ pub fn run_why<T: Threads + Sync, U: Wait + Sync, S: WritableFileStore, R: Read,
     let costs = asked.placement.costs.as_deref();
     match read_texts(alloc, &*files, litmus, costs, input) {
         Ok(texts) => explain_texts(rt, wait, alloc, files, asked, &texts, output),
-        Err(fault) => print(output, file_line(alloc, fault), 1),
+        Err(file) => {
+            let message = unread_advice(alloc, &*files, file);
+            refuse(output, file_line(alloc, file.fault), message)
+        }
     }
 }
