@@ -51,6 +51,14 @@ const threadColumns = run =>
   html("div", { class: "threads", style: `grid-template-columns: repeat(${given.threads.length}, minmax(9.4rem, 1fr))` },
     given.threads.map((program, thread) => threadColumn(program, thread, run)));
 
+// Whether the columns have room in half the page: up to this many characters, with the numbers of the lines.
+const HALF_PAGE = 68;
+
+function isNarrow() {
+  const texts = given.threads.flatMap(({ instructions }) => instructions.map(({ text }) => text.length + 4));
+  return given.threads.length * Math.max(0, ...texts) <= HALF_PAGE;
+}
+
 // The register that a load or an exchange puts its value in: the operand that is no location.
 function loadedRegister(run, i) {
   const operands = run.text(i).split(" ")[1].split(",");

@@ -54,14 +54,14 @@ class Player {
     this.say = html("p", { class: "say", "aria-live": "polite" });
   }
 
-  // The parts in the order in which they are read. Up to three threads the machine stands beside the texts.
+  // The parts in the order in which they are read. Where it is narrow, the machine stands beside the texts.
   panel() {
     const buttons = [this.first, this.back, this.play, this.forward, this.final];
     const bar = html("section", { class: "card bar player", "aria-label": "player" },
       html("div", { class: "controls" }, buttons, html("div", { class: "place" }, this.slider, this.count)), this.say);
     const machine = html("div", { class: "right" }, bar, region("machine", "the machine", this.machine.stage));
     const duo = html("div", { class: "duo" }, this.momentBox(), machine, this.table);
-    return html("div", { class: given.threads.length < 4 ? "panel side" : "panel" }, duo, this.graphBox());
+    return html("div", { class: isNarrow() ? "panel side" : "panel" }, duo, this.graphBox());
   }
 
   // The moments that matter, each with buttons to its steps.

@@ -100,7 +100,7 @@ button[aria-disabled=true] { color: var(--soft); cursor: default; border-style: 
 .count { min-width: 6.5rem; }\n\
 .say { margin: 0.5rem 0 0; min-height: 4.5em; max-width: none; }\n\
 \n\
-/* The panel: one column, and where there is room the texts left and the machine right */\n\
+/* The panel: one column, or the texts left and the machine right */\n\
 .panel, .duo, .right { min-width: 0; }\n\
 @media screen and (min-width: 62rem) {\n\
 \x20 .side .duo {\n\
@@ -692,6 +692,14 @@ const threadColumns = run =>\n\
 \x20 html(\"div\", { class: \"threads\", style: `grid-template-columns: repeat(${given.threads.length}, minmax(9.4rem, 1fr))` },\n\
 \x20   given.threads.map((program, thread) => threadColumn(program, thread, run)));\n\
 \n\
+// Whether the columns have room in half the page: up to this many characters, with the numbers of the lines.\n\
+const HALF_PAGE = 68;\n\
+\n\
+function isNarrow() {\n\
+\x20 const texts = given.threads.flatMap(({ instructions }) => instructions.map(({ text }) => text.length + 4));\n\
+\x20 return given.threads.length * Math.max(0, ...texts) <= HALF_PAGE;\n\
+}\n\
+\n\
 // The register that a load or an exchange puts its value in: the operand that is no location.\n\
 function loadedRegister(run, i) {\n\
 \x20 const operands = run.text(i).split(\" \")[1].split(\",\");\n\
@@ -842,15 +850,22 @@ function drawMove(machine, move, isFirstOfTwo, flies) {\n\
 \x20 const label = assignment(move.value);\n\
 \x20 machine.arrows.append(line);\n\
 \x20 if (Math.abs(y2 - y1) > LABEL_HEIGHT) {\n\
-\x20   const { x, y } = labelSpot(machine, line, move, isFirstOfTwo);\n\
-\x20   const width = label.length * 8 + 12;\n\
-\x20   machine.arrows.append(\n\
-\x20     svg(\"rect\", { x: x - width / 2, y: y - 10, width, height: 20, rx: 10 }),\n\
-\x20     svg(\"text\", { x, y: y + 4, \"text-anchor\": \"middle\" }, label));\n\
+\x20   drawLabel(machine.arrows, label, labelSpot(machine, line, move, isFirstOfTwo));\n\
 \x20 }\n\
 \x20 if (flies && !calm.matches) {\n\
 \x20   fly(machine.stage, path, label);\n\
 \x20 }\n\
+}\n\
+\n\
+// Draws a label, above those that are there.\n\
+function drawLabel(arrows, label, { x, y }) {\n\
+\x20 const width = label.length * 8 + 12;\n\
+\x20 const isInTheWay = box => Math.abs(box.x.baseVal.value + box.width.baseVal.value / 2 - x) < (box.width.baseVal.value + width) / 2\n\
+\x20   && Math.abs(box.y.baseVal.value + 10 - y) < 20;\n\
+\x20 const height = all(arrows, \"rect\").some(isInTheWay) ? y - 22 : y;\n\
+\x20 arrows.append(\n\
+\x20   svg(\"rect\", { x: x - width / 2, y: height - 10, width, height: 20, rx: 10 }),\n\
+\x20   svg(\"text\", { x, y: height + 4, \"text-anchor\": \"middle\" }, label));\n\
 }\n\
 \n\
 function fly(stage, path, label) {\n\
@@ -1131,14 +1146,14 @@ class Player {\n\
 \x20   this.say = html(\"p\", { class: \"say\", \"aria-live\": \"polite\" });\n\
 \x20 }\n\
 \n\
-\x20 // The parts in the order in which they are read. Up to three threads the machine stands beside the texts.\n\
+\x20 // The parts in the order in which they are read. Where it is narrow, the machine stands beside the texts.\n\
 \x20 panel() {\n\
 \x20   const buttons = [this.first, this.back, this.play, this.forward, this.final];\n\
 \x20   const bar = html(\"section\", { class: \"card bar player\", \"aria-label\": \"player\" },\n\
 \x20     html(\"div\", { class: \"controls\" }, buttons, html(\"div\", { class: \"place\" }, this.slider, this.count)), this.say);\n\
 \x20   const machine = html(\"div\", { class: \"right\" }, bar, region(\"machine\", \"the machine\", this.machine.stage));\n\
 \x20   const duo = html(\"div\", { class: \"duo\" }, this.momentBox(), machine, this.table);\n\
-\x20   return html(\"div\", { class: given.threads.length < 4 ? \"panel side\" : \"panel\" }, duo, this.graphBox());\n\
+\x20   return html(\"div\", { class: isNarrow() ? \"panel side\" : \"panel\" }, duo, this.graphBox());\n\
 \x20 }\n\
 \n\
 \x20 // The moments that matter, each with buttons to its steps.\n\
