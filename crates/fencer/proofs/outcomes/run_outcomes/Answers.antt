@@ -17,5 +17,5 @@ returns-in-Ok-clause-told g c =
 
 pub returns-in-Err-clause-told : goal.returns-in-Err-clause-told
 returns-in-Err-clause-told g c =
-    prints_line c.file_line.result 1 (file_line c.in-Err.fault) (AreOutcomes c.args.model c.args.observed c.args.litmus.now (g.R.Read.remaining c.args.input.now) (g.S.FileStore.held c.args.files.now)) _ _ c.print.result
-    (no_file c.in-Err.fault c.in-Err.ensures.err) c.file_line.ensures c.print.ensures
+    prints_line c.file_line.result 1 (file_line c.in-Err.fault) (AreOutcomes c.args.model c.args.observed c.args.litmus.now (g.R.Read.remaining c.args.input.now) (g.S.FileStore.held c.args.files.now)) _ _ c.refuse.result
+    (no_file c.in-Err.fault c.in-Err.ensures.err) c.file_line.ensures c.refuse.ensures

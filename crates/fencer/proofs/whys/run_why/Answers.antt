@@ -11,4 +11,4 @@ returns-in-Ok-clause-told g c =
 
 pub returns-in-Err-clause-told : goal.returns-in-Err-clause-told
 returns-in-Err-clause-told g c =
-    prints_line c.file_line.result 1 (file_line c.in-Err.fault) _ _ _ c.print.result (no_texts c.in-Err.fault c.in-Err.ensures.err (λ name. refl)) c.file_line.ensures c.print.ensures
+    prints_line c.file_line.result 1 (file_line c.in-Err.file.fault) _ _ _ c.refuse.result (no_texts c.in-Err.file.fault c.in-Err.ensures.err (λ name. refl)) c.file_line.ensures c.refuse.ensures
