@@ -62,12 +62,7 @@ fn gap_lines(alloc: Global, template: bool, texts: &Texts) -> Result<Vec<u8>, Te
 }
 
 /// Judges texts, prints what is asked of their gaps, and returns the status.
-fn gaps_of_texts<W: Console>(
-    alloc: Global,
-    asked: &GapQuery,
-    texts: &Texts,
-    output: &mut W,
-) -> u8
+fn gaps_of_texts<W: Console>(alloc: Global, asked: &GapQuery, texts: &Texts, output: &mut W) -> u8
     ensures { Prints (AreGapsOfTexts asked.now.template texts.now.litmus.items (option_map (λ text. text.items) texts.now.costs)) (W.contents output.old) (W.contents output.new) result }
 {
     match gap_lines(alloc, asked.template, texts) {

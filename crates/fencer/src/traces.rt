@@ -142,7 +142,14 @@ fn trace_answer(alloc: Global, bytes: &[u8], asked: &TraceQuery) -> Result<Answe
         document,
         graph,
     } = said;
-    match documented(alloc, asked.json, asked.page.as_deref(), lines, document, graph) {
+    match documented(
+        alloc,
+        asked.json,
+        asked.page.as_deref(),
+        lines,
+        document,
+        graph,
+    ) {
         Ok(answer) => Ok(answer),
         Err(_) => Err(Refusal::Replay(ReplayFault::OutOfMemory)),
     }
