@@ -9,10 +9,10 @@ ghost use Rattle.fencer.specs.Deliveries.{KeepFilesBut};
 ghost use Rattle.fencer.specs.Answers.{litmus_of, IsAnswer, IsReply, IsOutput, KeepFilesOf, KeepOtherFiles, ReadsForWords, ReadsFor};
 
 use crate::advice::{unread_advice, unread_litmus};
-use crate::refused::tell_refusal;
 use crate::gaps::run_gaps;
 use crate::outcomes::run_outcomes;
 use crate::place::run_place;
+use crate::refused::tell_refusal;
 use crate::replays::run_replay;
 use crate::traces::run_trace;
 use crate::whys::run_why;

@@ -76,7 +76,13 @@ pub(crate) fn deliver<S: WritableFileStore, W: Console>(
         }
         Err(name) => {
             let message = unwritten_advice(alloc, name);
-            tell_refusal(alloc, answer.json, file_line(alloc, FileFault::Write), message, output)
+            tell_refusal(
+                alloc,
+                answer.json,
+                file_line(alloc, FileFault::Write),
+                message,
+                output,
+            )
         }
     }
 }

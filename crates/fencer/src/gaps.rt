@@ -7,8 +7,8 @@ ghost use Rattle.program_streams.specs.Files.{ReadsOfInput};
 ghost use Rattle.fencer.specs.GapTexts.{AreGaps, AreGapsOfTexts, HasNoGaps, IsGapText, PrintsGaps, costs_shown};
 
 use crate::advice::{text_fault_advice, unread_advice};
-use crate::refused::tell_refusal;
 use crate::place::text_fault_line;
+use crate::refused::tell_refusal;
 use crate::texts::{Texts, read_texts};
 use fencer_words::GapQuery;
 use gap_list::{cost_file, gap_list};

@@ -6,8 +6,8 @@ ghost use Rattle.program_streams.specs.Files.{ReadsOfInput};
 ghost use Rattle.fencer.specs.Outcomes.{list_text as lines_of_list, list_status, PrintsOutcomes, HasNoList, AreOutcomes, TellsOutcomes};
 
 use crate::advice::{Subject, unread_advice, unread_litmus};
-use crate::refused::tell_refusal;
 use crate::refusals::{Refusal, Reply, print_answer};
+use crate::refused::tell_refusal;
 use crate::status::check_status;
 use cover_solver::{SolveFault, outcomes};
 use documents::outcomes_document;

@@ -9,9 +9,9 @@ ghost use Rattle.fencer.specs.Deliveries.{KeepFilesBut};
 ghost use Rattle.fencer.specs.Placements.{place_line, text_fault_line, DeliversTexts, IsJudged, IsPlaced, PrintsPlacement};
 
 use crate::advice::{text_fault_advice, unread_advice};
-use crate::refused::tell_refusal;
 use crate::delivery::{Answer, deliver};
 use crate::documented::printed;
+use crate::refused::tell_refusal;
 use crate::status::check_status;
 use crate::texts::{Texts, read_texts};
 use fence_place::PlaceFault;
@@ -119,7 +119,13 @@ fn place_texts<T: Threads + Sync, U: Wait + Sync, S: WritableFileStore, W: Conso
         Err(fault) => {
             let named = (asked.litmus.as_str(), asked.costs.as_deref());
             let message = text_fault_advice(alloc, named, texts, fault);
-            tell_refusal(alloc, asked.json, text_fault_line(alloc, fault), message, output)
+            tell_refusal(
+                alloc,
+                asked.json,
+                text_fault_line(alloc, fault),
+                message,
+                output,
+            )
         }
     }
 }
@@ -144,7 +150,13 @@ pub fn run_place<T: Threads + Sync, U: Wait + Sync, S: WritableFileStore, R: Rea
         Ok(texts) => place_texts(rt, wait, alloc, files, asked, &texts, output),
         Err(file) => {
             let message = unread_advice(alloc, &*files, file);
-            tell_refusal(alloc, asked.json, file_line(alloc, file.fault), message, output)
+            tell_refusal(
+                alloc,
+                asked.json,
+                file_line(alloc, file.fault),
+                message,
+                output,
+            )
         }
     }
 }

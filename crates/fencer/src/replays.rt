@@ -8,8 +8,8 @@ ghost use Rattle.program_streams.specs.Files.{ReadsOfInput};
 ghost use Rattle.fencer.specs.Replays.{label_words_text, HasNoRun, IsReplay, ShowsRun};
 
 use crate::advice::{Subject, unread_advice, unread_litmus};
-use crate::refused::tell_refusal;
 use crate::refusals::{Refusal, Reply, print_answer};
+use crate::refused::tell_refusal;
 use fencer_words::Run;
 use gap_sets::GapSet;
 use litmus_text::{Litmus, read_litmus};

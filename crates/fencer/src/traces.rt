@@ -15,10 +15,10 @@ ghost use Rattle.fencer_words.specs.CommandFiles.{name_of};
 ghost use Rattle.fencer.specs.Traces.{DeliversTrace, PrintsTrace, IsTrace, IsTraceOf};
 
 use crate::advice::{Subject, refusal_advice, unread_advice, unread_litmus};
-use crate::refused::tell_refusal;
 use crate::delivery::{Answer, deliver};
 use crate::documented::documented;
 use crate::refusals::{Refusal, refusal_line};
+use crate::refused::tell_refusal;
 use crate::replays::{ended_lines, steps_of};
 use documents::trace_document;
 use fencer_words::{Run, TraceQuery};

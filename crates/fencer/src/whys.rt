@@ -9,10 +9,10 @@ ghost use Rattle.fencer_words.specs.CommandFiles.{name_of};
 ghost use Rattle.fencer.specs.Whys.{Explains, IsExplained, IsExplainedText};
 
 use crate::advice::{text_fault_advice, unread_advice};
-use crate::refused::tell_refusal;
 use crate::delivery::{Answer, deliver};
 use crate::documented::documented;
 use crate::place::text_fault_line;
+use crate::refused::tell_refusal;
 use crate::texts::{Texts, read_texts};
 use fencer_words::{Placement, WhyQuery};
 use placed_text::TextFault;
@@ -74,7 +74,13 @@ fn explain_texts<T: Threads + Sync, U: Wait + Sync, S: WritableFileStore, W: Con
             let Placement { litmus, costs, .. } = &asked.placement;
             let named = (litmus.as_str(), costs.as_deref());
             let message = text_fault_advice(alloc, named, texts, fault);
-            tell_refusal(alloc, asked.placement.json, text_fault_line(alloc, fault), message, output)
+            tell_refusal(
+                alloc,
+                asked.placement.json,
+                text_fault_line(alloc, fault),
+                message,
+                output,
+            )
         }
     }
 }
@@ -100,7 +106,13 @@ pub fn run_why<T: Threads + Sync, U: Wait + Sync, S: WritableFileStore, R: Read,
         Ok(texts) => explain_texts(rt, wait, alloc, files, asked, &texts, output),
         Err(file) => {
             let message = unread_advice(alloc, &*files, file);
-            tell_refusal(alloc, asked.placement.json, file_line(alloc, file.fault), message, output)
+            tell_refusal(
+                alloc,
+                asked.placement.json,
+                file_line(alloc, file.fault),
+                message,
+                output,
+            )
         }
     }
 }
