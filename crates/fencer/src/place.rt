@@ -94,6 +94,7 @@ fn joined(texts: PlacedText) -> Result<Answer, TextFault>
         program,
         answer,
         certificate,
+        ..
     } = texts;
     let mut lines = answer;
     match lines.extend_from_slice(&program) {

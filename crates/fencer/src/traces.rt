@@ -39,7 +39,7 @@ struct Drawings {
 fn drawn(alloc: Global, litmus: &Litmus<Program>, steps: &[Step]) -> Result<Drawings, AllocError> {
     let table = run_table(alloc, litmus, steps)?;
     let mut graph = RunGraph::new(alloc)?;
-    graph.push_run(alloc, litmus, litmus.name.as_slice(), steps)?;
+    graph.push_run(alloc, litmus, litmus.name.as_slice(), steps, None)?;
     let graph = graph.into_text()?;
     Ok(Drawings { table, graph })
 }

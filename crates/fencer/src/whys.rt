@@ -42,7 +42,7 @@ fn explain_texts<T: Threads + Sync, U: Wait + Sync, S: WritableFileStore, W: Con
         asked.workers,
     ) {
         Ok(reasons) => {
-            let WhyText { lines, graph } = reasons;
+            let WhyText { lines, graph, .. } = reasons;
             let answer = Answer {
                 lines,
                 written: graph,
