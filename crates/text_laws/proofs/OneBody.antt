@@ -25,7 +25,7 @@ initial_once : One IsInitial
 initial_once ts es fs rest other h g =
     let inside : h.0.0 ≡ g.0.0 = mark_once the.OpenBrace ts h.0.0 g.0.0 h.0.1 g.0.1 in
     let items = items_once IsEntryItem (mark the.CloseBrace) (mark the.CloseBrace) (one_read IsEntryItem entry_at entries_are_read.again) entries_apart entries_apart g.0.0 es fs rest other
-        (subst (λ (z : List Tok). Items IsEntryItem (mark the.CloseBrace) es z rest) inside h.0.2) g.0.2 in
+    (subst (λ (z : List Tok). Items IsEntryItem (mark the.CloseBrace) es z rest) inside h.0.2) g.0.2 in
     (items.0, mark_once the.CloseBrace items.1.0 rest other items.1.1 items.1.2)
 
 -- ---- the header row
@@ -92,8 +92,7 @@ cells_once ts (c ∷ cs) [] rest other h g = absurd g
 cells_once ts (c ∷ cs) (d ∷ ds) rest other h g =
     let first = cell_once ts c d h.0 g.0 h.1 g.1 in
     let more = items_once IsNextCell (mark the.Semicolon) (mark the.Semicolon) next_cell_once cells_apart cells_apart g.0 cs ds rest other
-        (subst (λ (z : List Tok). Items IsNextCell (mark the.Semicolon) cs z rest) first.1 h.2) g.2 in
-    (
+    (subst (λ (z : List Tok). Items IsNextCell (mark the.Semicolon) cs z rest) first.1 h.2) g.2 in (
       ap (λ (z : CellView). z ∷ cs) first.0 ∙ ap (λ (z : List CellView). d ∷ z) more.0,
       mark_once the.Semicolon more.1.0 rest other more.1.1 more.1.2,
     )

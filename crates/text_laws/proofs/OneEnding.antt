@@ -40,7 +40,7 @@ observed_once threads ts ps qs rest other (inl h) (inl g) =
     let first : h.0 ≡ g.0 = ap rest_of (sym h.1 ∙ g.1) in
     let second : h.2.0 ≡ g.2.0 = ap rest_of (sym h.2.1 ∙ first ∙ g.2.1) in
     let items = items_once (IsObservedItem threads) (mark the.CloseBracket) (mark the.CloseBracket) (observed_item_once threads) (observed_apart threads) (observed_apart threads) g.2.0 ps qs rest other
-        (subst (λ (z : List Tok). Items (IsObservedItem threads) (mark the.CloseBracket) ps z rest) second h.2.2) g.2.2 in
+    (subst (λ (z : List Tok). Items (IsObservedItem threads) (mark the.CloseBracket) ps z rest) second h.2.2) g.2.2 in
     (items.0, mark_once the.CloseBracket items.1.0 rest other items.1.1 items.1.2)
 observed_once threads ts ps qs rest other (inl h) (inr g) = let bad = sym g.1.1 ∙ begins_word_again (codes "locations") ts h.0 h.1 in absurd cc
 observed_once threads ts ps qs rest other (inr h) (inl g) = let bad = sym h.1.1 ∙ begins_word_again (codes "locations") ts g.0 g.1 in absurd cc
