@@ -1,7 +1,7 @@
 //! Cost files that can't be read.
 
 use crate::message::{Message, shown_word};
-use crate::source::{Source, from, line_of, line_start};
+use crate::source::{Source, from, line_start};
 use cost_text::CostTextFault;
 use gap_sets::CostFault;
 use litmus_reader::read_litmus;
@@ -59,7 +59,8 @@ fn line_message(alloc: Global, source: Source<'_>, pieces: Pieces) -> Result<Mes
     } else {
         (pieces.more, "cannot stand after a cost")
     };
-    let word = line_of(source.piece(offset));
+    let piece = source.piece(offset);
+    let word = if piece.is_empty() { b"\n" } else { piece };
     Message::at_word(alloc, source, offset, word, said)
 }
 

@@ -1,0 +1,89 @@
+-- No text of a value has `<`.
+use Rattle.std.proofs.Common.{◌≡◌, ◌≢◌, ℕ, ◌+◌, ◌<◌, ◌≤◌, ◌^◌, ◌/◌, ◌%◌, Bool, true, false, List, [], ◌∷◌, ◌++◌, arith, refl, sym, subst}
+use Rattle.std.specs.Prelude.{nat_lt, ◌==◌, ◌||◌, if◌then◌else◌}
+use Rattle.std.specs.Fmt.{decimal}
+use Rattle.std.specs.List.{flat_map}
+use Rattle.std.specs.Str.Parse.{AllDigits, digit_value}
+use Rattle.std.proofs.lemmas.Bool.Decides.{nat_tests}
+use Rattle.std.proofs.lemmas.Fmt.{decimal_is_IsNumeral}
+use Rattle.json_text.specs.Safe.{IsSafe}
+use Rattle.json_text.specs.Texts.{hex_digit, unicode_escape, needs_backslash, needs_number, escaped, quoted, after_comma, listed, enclosed, member}
+use Rattle.json_text.specs.Values.{Json, Null, Truth, Number, Text, Array, Object, Items, NoItem, MoreItems, Fields, NoField, MoreFields, written, items_written, members_written, IsJson}
+
+safe_append : (xs ys : List ℕ) → IsSafe xs → IsSafe ys → IsSafe (xs ++ ys)
+safe_append [] ys first second = second
+safe_append (x ∷ xs) ys (other, first) second = (other, safe_append xs ys first second)
+
+-- ---- strings
+
+digit_is_other : (n : ℕ) → 48 + n ≡ 60 → n < 10 → ⊥
+digit_is_other n e small = absurd (omega (arith, e, small))
+
+hex_is_safe : (n : ℕ) → n < 16 → hex_digit n ≢ 60
+hex_is_safe n small = ?
+
+escaped_is_safe : (byte : ℕ) → IsSafe (escaped byte)
+escaped_is_safe byte = ?
+
+escapes_are_safe : (bytes : List ℕ) → IsSafe (flat_map escaped bytes)
+escapes_are_safe [] = tt
+escapes_are_safe (byte ∷ bytes) = safe_append (escaped byte) (flat_map escaped bytes) (escaped_is_safe byte) (escapes_are_safe bytes)
+
+quoted_is_safe : (bytes : List ℕ) → IsSafe (quoted bytes)
+quoted_is_safe bytes = (omega arith, safe_append (flat_map escaped bytes) (34 ∷ []) (escapes_are_safe bytes) (omega arith, tt))
+
+-- ---- numbers
+
+digits_are_safe : (ds : List ℕ) → AllDigits 10 ds → IsSafe ds
+digits_are_safe [] all = tt
+digits_are_safe (d ∷ ds) all = (?, digits_are_safe ds all.1)
+
+number_is_safe : (n : ℕ) → n < 2 ^ 64 → IsSafe (decimal n)
+number_is_safe n small = digits_are_safe (decimal n) (decimal_is_IsNumeral n small).0.1
+
+-- ---- lists of texts
+
+abbrev AreSafe : List (List ℕ) → Type 0
+AreSafe [] = Unit {0}
+AreSafe (text ∷ texts) = IsSafe text × AreSafe texts
+
+rest_is_safe : (texts : List (List ℕ)) → AreSafe texts → IsSafe (flat_map after_comma texts)
+rest_is_safe [] are = tt
+rest_is_safe (text ∷ texts) are = safe_append (after_comma text) (flat_map after_comma texts) (omega arith, are.0) (rest_is_safe texts are.1)
+
+listed_is_safe : (texts : List (List ℕ)) → AreSafe texts → IsSafe (listed texts)
+listed_is_safe [] are = tt
+listed_is_safe (text ∷ texts) are = safe_append text (flat_map after_comma texts) are.0 (rest_is_safe texts are.1)
+
+enclosed_is_safe : (opening : ℕ) (texts : List (List ℕ)) (closing : ℕ) → opening ≢ 60 → closing ≢ 60 → AreSafe texts → IsSafe (enclosed opening texts closing)
+enclosed_is_safe opening texts closing first last are = (first, safe_append (listed texts) (closing ∷ []) (listed_is_safe texts are) (last, tt))
+
+member_is_safe : (name text : List ℕ) → IsSafe text → IsSafe (member name text)
+member_is_safe name text is = safe_append (quoted name) (58 ∷ text) (quoted_is_safe name) (omega arith, is)
+
+-- ---- values
+
+mutual
+  written_is_safe : (value : Json) → IsSafe (written value)
+  written_is_safe Null = (omega arith, omega arith, omega arith, omega arith, tt)
+  written_is_safe (Truth true) = (omega arith, omega arith, omega arith, omega arith, tt)
+  written_is_safe (Truth false) = (omega arith, omega arith, omega arith, omega arith, omega arith, tt)
+  written_is_safe (Number n small) = number_is_safe n small
+  written_is_safe (Text bytes) = quoted_is_safe bytes
+  written_is_safe (Array items) = enclosed_is_safe 91 (items_written items) 93 (omega arith) (omega arith) (items_are_safe items)
+  written_is_safe (Object fields) = enclosed_is_safe 123 (members_written fields) 125 (omega arith) (omega arith) (members_are_safe fields)
+
+  items_are_safe : (items : Items) → AreSafe (items_written items)
+  items_are_safe NoItem = tt
+  items_are_safe (MoreItems value items) = (written_is_safe value, items_are_safe items)
+
+  members_are_safe : (fields : Fields) → AreSafe (members_written fields)
+  members_are_safe NoField = tt
+  members_are_safe (MoreFields name value fields) = (member_is_safe name (written value) (written_is_safe value), members_are_safe fields)
+
+pub json_is_safe : (text : List ℕ) → IsJson text → IsSafe text
+json_is_safe text is = subst IsSafe (sym is.is) (written_is_safe is.value)
+
+-- nor has it as a line
+pub safe_line : (text : List ℕ) → IsSafe text → IsSafe (text ++ 10 ∷ [])
+safe_line text is = safe_append text (10 ∷ []) is (omega arith, tt)
