@@ -13,11 +13,14 @@ use crate::judge::{judge, refusal_line};
 use crate::parts::{CERTIFICATE_LIMIT, read_joined};
 use messages::{STDIN, file_or_input};
 use program_streams::{
-    Console, FileStore, TEXT_LIMIT, UnreadFile, bytes_if_named, file_line, named_bytes, print,
-    refuse,
+    Console, FileStore, TEXT_LIMIT, UnreadFile, asks_version, bytes_if_named, file_line,
+    named_bytes, print, refuse, version_line,
 };
 use std::alloc::{AllocError, Global};
 use std::io::Read;
+
+/// The program's name.
+const NAME: &str = "fencecheck";
 
 const USAGE: &[u8] = b"\
 usage: fencecheck LITMUS CERTIFICATE [COSTS]
@@ -190,6 +193,9 @@ pub fn run_command<S: FileStore, R: Read, W: Console>(
     ensures printed { Prints (IsOutput (map string_bytes words.now) (R.remaining input.old) (S.held files.now)) (W.contents output.old) (W.contents output.new) result }
     ensures read { ReadsFor (map string_bytes words.now) (R.remaining input.old) (R.remaining input.new) }
 {
+    if asks_version(words) {
+        return print(output, version_line(alloc, NAME), 0);
+    }
     if is_misused(words) {
         return print(output, usage_text(alloc), 2);
     }

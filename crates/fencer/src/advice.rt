@@ -2,9 +2,8 @@
 
 ghost use Rattle.std.specs.Prelude.{◌≡◌};
 
-use crate::place::Texts;
 use crate::refusals::Refusal;
-use fencer_words::Placement;
+use crate::texts::Texts;
 use messages::{
     Message, Source, costs_message, file_or_input, litmus_message, replay_message, run_message,
     unread_message, unwritten_message,
@@ -46,8 +45,8 @@ pub(crate) fn unread_advice<S: FileStore>(
 }
 
 /// That a file is not written.
-pub(crate) fn unwritten_advice(alloc: Global, name: Option<&str>) -> Result<Vec<u8>, AllocError> {
-    unwritten_message(alloc, name.unwrap_or(""))?.written(alloc)
+pub(crate) fn unwritten_advice(alloc: Global, name: &str) -> Result<Vec<u8>, AllocError> {
+    unwritten_message(alloc, name)?.written(alloc)
 }
 
 fn refusal_message(
@@ -78,16 +77,17 @@ pub(crate) fn refusal_advice(
 
 fn text_fault_message(
     alloc: Global,
-    asked: &Placement,
+    litmus: &str,
+    costs: Option<&str>,
     texts: &Texts,
     fault: TextFault,
 ) -> Result<Message, AllocError> {
-    let name = file_or_input(asked.litmus.as_str());
+    let name = file_or_input(litmus);
     match fault {
         TextFault::Read(why) => litmus_message(alloc, Source::new(name, &texts.litmus), why),
         TextFault::CostText(why) => {
-            let costs = texts.costs.as_deref().unwrap_or(b"");
-            let source = Source::new(asked.costs.as_deref().unwrap_or(""), costs);
+            let text = texts.costs.as_deref().unwrap_or(b"");
+            let source = Source::new(costs.unwrap_or(""), text);
             costs_message(alloc, source, why, &texts.litmus)
         }
         TextFault::Place(_) | TextFault::OutOfMemory => {
@@ -97,12 +97,13 @@ fn text_fault_message(
     }
 }
 
-/// Why nothing is placed.
+/// Why texts, of files of these names, are refused.
 pub(crate) fn text_fault_advice(
     alloc: Global,
-    asked: &Placement,
+    litmus: &str,
+    costs: Option<&str>,
     texts: &Texts,
     fault: TextFault,
 ) -> Result<Vec<u8>, AllocError> {
-    text_fault_message(alloc, asked, texts, fault)?.written(alloc)
+    text_fault_message(alloc, litmus, costs, texts, fault)?.written(alloc)
 }

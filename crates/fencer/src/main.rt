@@ -3,10 +3,15 @@
 
 mod advice;
 mod command;
+mod delivery;
+mod documented;
+mod gaps;
 mod outcomes;
 mod place;
 mod refusals;
 mod replays;
+mod status;
+mod texts;
 mod traces;
 mod whys;
 

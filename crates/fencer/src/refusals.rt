@@ -80,17 +80,24 @@ pub(crate) fn refusal_line(alloc: Global, why: Refusal) -> Result<Vec<u8>, Alloc
     }
 }
 
+/// The lines of an answer, with their status.
+#[derive(Debug, Drop)]
+pub struct Reply {
+    pub lines: Vec<u8>,
+    pub status: u8,
+}
+
 /// Prints the lines of an answer to what is asked, or why there is no answer, and returns the status.
 pub fn print_answer<W: Console>(
     alloc: Global,
     subject: Subject<'_>,
-    answer: Result<Vec<u8>, Refusal>,
+    answer: Result<Reply, Refusal>,
     output: &mut W,
 ) -> u8
     ensures { Prints (IsTold answer) (W.contents output.old) (W.contents output.new) result }
 {
     match answer {
-        Ok(lines) => print(output, Ok(lines), 0),
+        Ok(reply) => print(output, Ok(reply.lines), reply.status),
         Err(why) => {
             let message = refusal_advice(alloc, subject, why);
             refuse(output, refusal_line(alloc, why), message)

@@ -5,10 +5,10 @@ ghost use Rattle.tso_machine.specs.RunTexts.{IsRunText, RunFaultIs};
 ghost use Rattle.report.specs.Answers.{outcome_line, passed_line};
 ghost use Rattle.program_streams.specs.Streams.{Prints};
 ghost use Rattle.program_streams.specs.Files.{ReadsOfInput};
-ghost use Rattle.fencer.specs.Replays.{label_words_text, PrintsRun, HasNoRun, IsReplay};
+ghost use Rattle.fencer.specs.Replays.{label_words_text, HasNoRun, IsReplay, ShowsRun};
 
 use crate::advice::{Subject, unread_advice, unread_litmus};
-use crate::refusals::{Refusal, print_answer};
+use crate::refusals::{Refusal, Reply, print_answer};
 use fencer_words::Run;
 use gap_sets::GapSet;
 use litmus_text::{Litmus, read_litmus};
@@ -64,15 +64,15 @@ fn replay_lines(
     bytes: &[u8],
     model: Model,
     labels: &[String],
-) -> Result<Vec<u8>, Refusal>
-    ensures run { IfOk result (λ lines. PrintsRun model (label_words_text labels.now) bytes.now lines.items) }
+) -> Result<Reply, Refusal>
+    ensures run { IfOk result (λ reply. ShowsRun model (label_words_text labels.now) bytes.now reply.status reply.lines.items) }
     ensures refused { IfErr result (HasNoRun model (label_words_text labels.now) bytes.now) }
 {
     let litmus = read_litmus(alloc, bytes)?;
     let steps = steps_of(alloc, labels)?;
     let ended = replay(alloc, &litmus.program, &GapSet::empty(), model, &steps)?;
     match ended_lines(alloc, &litmus, &ended) {
-        Ok(lines) => Ok(lines),
+        Ok(lines) => Ok(Reply { lines, status: 0 }),
         Err(_) => Err(Refusal::Replay(ReplayFault::OutOfMemory)),
     }
 }

@@ -7,6 +7,7 @@ mod fault;
 mod files;
 mod output;
 mod streams;
+mod version;
 mod words;
 
 pub use command_line::given_words;
@@ -17,4 +18,5 @@ pub use files::{
 };
 pub use output::{print, refuse_words};
 pub use streams::{read_line_up_to, read_on, read_rest_up_to, read_up_to, write_bytes};
+pub use version::{VERSION, asks_version, version_line};
 pub use words::{LineFault, line_words};

@@ -5,7 +5,7 @@ use Rattle.program_streams.specs.Words.{words_of, IsUtf8Refusal}
 use Rattle.fencer_words.specs.CommandLines.{no_utf8}
 use Rattle.fencer.specs.Answers.{IsOutput, by_line, no_line, line_alone, after_line}
 use Rattle.program_streams.proofs.Printed.{prints_line, prints_more, prints_nothing}
-use Rattle.fencer.proofs.Served.{of_words, of_input, kept_by_words, kept_by_input, read_for_words, read_for_input, line_fault, utf8_reply}
+use Rattle.fencer.proofs.Served.{of_words, of_input, kept_by_words, kept_by_input, read_for_words, read_for_input, line_fault, no_version, utf8_reply}
 use Rattle.fencer.proofs.command.run_command.Goals as goal
 
 pub returns-then-not-is_empty-clause-told : goal.returns-then-not-is_empty-clause-told
@@ -47,7 +47,7 @@ returns-in-Err-NotUtf8-clause-told g c =
     let refused = rw c.deref.ensures.value at (c.in-Err-NotUtf8.ensures.refused c.in-Err-NotUtf8.field-0-is) in
     prints_more IsUtf8Refusal _ _ _ c.refuse_words.result
     (λ status out is. of_input string_bytes _ _ _ status out c.args.words.now (sym c.is_empty.ensures ∙ c.if-not-is_empty.false)
-    (by_line line.items rest status out c.in-Ok.ensures.line (omega (arith, c.in-Ok.ensures.within, line.ok.0)) (utf8_reply (words_of line.items) rest _ _ status out (no_utf8 refused.word refused.there refused.no_utf8) is))) c.refuse_words.ensures
+    (by_line line.items rest status out c.in-Ok.ensures.line (omega (arith, c.in-Ok.ensures.within, line.ok.0)) (utf8_reply (words_of line.items) rest _ _ status out (no_version (words_of line.items) refused.word refused.there refused.no_utf8) (no_utf8 refused.word refused.there refused.no_utf8) is))) c.refuse_words.ensures
 
 pub returns-clause-told : goal.returns-clause-told
 returns-clause-told g c = prints_nothing _ _

@@ -6,7 +6,7 @@ use Rattle.fencer.proofs.refusals.print_answer.Goals as goal
 
 pub returns-in-Ok : goal.returns-in-Ok
 returns-in-Ok g c =
-    prints_made {E = AllocError} (Ok c.in-Ok.lines) 0 (IsTold c.args.answer) _ _ c.print.result (rw c.in-Ok.is (refl, refl)) c.print.ensures
+    prints_made {E = AllocError} (Ok c.in-Ok.reply.lines) c.in-Ok.reply.status (IsTold c.args.answer) _ _ c.print.result (rw c.in-Ok.is (refl, refl)) c.print.ensures
 
 pub returns-in-Err : goal.returns-in-Err
 returns-in-Err g c =

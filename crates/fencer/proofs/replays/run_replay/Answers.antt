@@ -1,7 +1,7 @@
 use Rattle.std.specs.Prelude.{string_bytes}
 use Rattle.program_streams.specs.FileLines.{file_line}
 use Rattle.program_streams.proofs.Printed.{prints_line, prints_more}
-use Rattle.fencer.specs.Replays.{label_words_text, HasNoRun, IsReplay, PrintsRun}
+use Rattle.fencer.specs.Replays.{label_words_text, HasNoRun, IsReplay, ShowsRun}
 use Rattle.fencer.specs.Refusals.{IsTold}
 use Rattle.fencer.specs.TextAnswers.{no_file}
 use Rattle.fencer.proofs.Told.{told_answer}
@@ -13,7 +13,7 @@ returns-in-Ok-clause-told g c =
     let input = g.R.Read.remaining c.args.input.now in
     let files = g.S.FileStore.held c.args.files.now in
     prints_more (IsTold c.replay_lines.result) (IsReplay c.args.asked.now.model labels (string_bytes c.args.asked.now.litmus) input files) _ _ c.print_answer.result
-    (told_answer (PrintsRun c.args.asked.now.model labels) (HasNoRun c.args.asked.now.model labels) (string_bytes c.args.asked.now.litmus) input files c.in-Ok.bytes.items (rw c.as_str.ensures.value at c.in-Ok.ensures.whole) c.replay_lines.result
+    (told_answer (ShowsRun c.args.asked.now.model labels) (HasNoRun c.args.asked.now.model labels) (string_bytes c.args.asked.now.litmus) input files c.in-Ok.bytes.items (rw c.as_str.ensures.value at c.in-Ok.ensures.whole) c.replay_lines.result
     (rw (c.deref.ensures.value, c.as_slice.ensures.value) at c.replay_lines.ensures.run) (rw (c.deref.ensures.value, c.as_slice.ensures.value) at c.replay_lines.ensures.refused))
     c.print_answer.ensures
 

@@ -4,12 +4,12 @@ use Rattle.program_streams.specs.declared.fault.FileFault.{FileFault}
 use Rattle.program_streams.specs.declared.fault.FileFault.TheVariants as file
 use Rattle.program_streams.proofs.Printed.{prints_line, prints_made}
 use Rattle.program_streams.specs.FileLines.{file_line}
-use Rattle.fencer.specs.Placements.{kept, not_kept}
-use Rattle.fencer.proofs.place.deliver.Goals as goal
+use Rattle.fencer.specs.Deliveries.{kept, not_kept}
+use Rattle.fencer.proofs.delivery.deliver.Goals as goal
 
 pub returns-in-Ok-clause-told : goal.returns-in-Ok-clause-told
 returns-in-Ok-clause-told g c =
-    prints_made {E = AllocError} (Ok c.args.answer.lines) 0 _ _ _ c.print.result (kept (rw c.deref.ensures.value at c.in-Ok.ensures.kept)) c.print.ensures
+    prints_made {E = AllocError} (Ok c.args.answer.lines) c.args.answer.status _ _ _ c.print.result (kept c.in-Ok.ensures.kept) c.print.ensures
 
 pub returns-in-Err-clause-told : goal.returns-in-Err-clause-told
 returns-in-Err-clause-told g c =

@@ -8,7 +8,7 @@ use Rattle.fencer_words.specs.CommandLines.{IsNoCommand}
 use Rattle.fencer_words.specs.Commands.{IsJobMet, MeetsNoCommand}
 use Rattle.fencer_words.specs.declared.job.Job.{Job}
 use Rattle.fencer_words.proofs.Faultless.{no_command, no_fault, reads, meets_one}
-use Rattle.fencer_words.proofs.words.read_words.Goals as goal
+use Rattle.fencer_words.proofs.words.job_named.Goals as goal
 
 pub returns-in_err-matches-clause-refused : goal.returns-in_err-matches-clause-refused
 returns-in_err-matches-clause-refused c =
