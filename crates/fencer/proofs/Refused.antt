@@ -1,5 +1,5 @@
 -- What is printed of a refusal.
-use Rattle.std.proofs.Common.{◌≡◌, ℕ, Bool, true, false, List, Option, Result, Ok, Err, IfOk, IsOkAnd, sym, subst}
+use Rattle.std.proofs.Common.{◌≡◌, ℕ, Bool, false, List, Option, Result, Ok, Err, IfOk, IsOkAnd, sym, subst}
 use Rattle.std.specs.Global.{Vec}
 use Rattle.program_streams.specs.Streams.{Prints}
 use Rattle.program_streams.proofs.Printed.{prints_more}
