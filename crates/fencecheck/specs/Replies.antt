@@ -17,7 +17,7 @@ usage_text =
     ++ (codes "Judges whether a certificate proves which gaps of a program are its cheapest places for MFENCE.\n"
     ++ (codes "Prints `accepted cost N set T:K ..` with status 0, or a refusal in one line with status 1.\n"
     ++ (codes "LITMUS is a litmus file, or - for standard input; COSTS says what gaps cost, 1 each without it.\n"
-    ++ (codes "With no words the litmus text, and the certificate after it, are read from standard input.\n"
+    ++ (codes "Without arguments the litmus text, and the certificate after it, are read from standard input.\n"
     ++ (codes "Refusals are explained in docs/formats.md.\n"
     ++ (codes "Example: fencecheck examples/SB.litmus examples/SB.cert\n"))))))
 

@@ -1,4 +1,4 @@
-//! What people are told of a refusal, on standard error.
+//! What is said to people of a refusal, on standard error.
 
 ghost use Rattle.std.specs.Prelude.{◌≡◌};
 

@@ -27,7 +27,7 @@ usage: fencecheck LITMUS CERTIFICATE [COSTS]
 Judges whether a certificate proves which gaps of a program are its cheapest places for MFENCE.
 Prints `accepted cost N set T:K ..` with status 0, or a refusal in one line with status 1.
 LITMUS is a litmus file, or - for standard input; COSTS says what gaps cost, 1 each without it.
-With no words the litmus text, and the certificate after it, are read from standard input.
+Without arguments the litmus text, and the certificate after it, are read from standard input.
 Refusals are explained in docs/formats.md.
 Example: fencecheck examples/SB.litmus examples/SB.cert
 ";

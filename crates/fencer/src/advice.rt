@@ -1,4 +1,4 @@
-//! What people are told of a refusal, on standard error.
+//! What is said to people of a refusal, on standard error.
 
 ghost use Rattle.std.specs.Prelude.{◌≡◌};
 
@@ -45,8 +45,8 @@ pub(crate) fn unread_advice<S: FileStore>(
 }
 
 /// That a file is not written.
-pub(crate) fn unwritten_advice(alloc: Global, name: &str) -> Result<Vec<u8>, AllocError> {
-    unwritten_message(alloc, name)?.written(alloc)
+pub(crate) fn unwritten_advice(alloc: Global, name: Option<&str>) -> Result<Vec<u8>, AllocError> {
+    unwritten_message(alloc, name.unwrap_or(""))?.written(alloc)
 }
 
 fn refusal_message(
@@ -77,17 +77,17 @@ pub(crate) fn refusal_advice(
 
 fn text_fault_message(
     alloc: Global,
-    litmus: &str,
-    costs: Option<&str>,
+    named: (&str, Option<&str>),
     texts: &Texts,
     fault: TextFault,
 ) -> Result<Message, AllocError> {
+    let (litmus, cost_file) = named;
     let name = file_or_input(litmus);
     match fault {
         TextFault::Read(why) => litmus_message(alloc, Source::new(name, &texts.litmus), why),
         TextFault::CostText(why) => {
-            let text = texts.costs.as_deref().unwrap_or(b"");
-            let source = Source::new(costs.unwrap_or(""), text);
+            let costs = texts.costs.as_deref().unwrap_or(b"");
+            let source = Source::new(cost_file.unwrap_or(""), costs);
             costs_message(alloc, source, why, &texts.litmus)
         }
         TextFault::Place(_) | TextFault::OutOfMemory => {
@@ -97,13 +97,12 @@ fn text_fault_message(
     }
 }
 
-/// Why texts, of files of these names, are refused.
+/// Why a litmus text or a text of costs, of files of these names, has no answer.
 pub(crate) fn text_fault_advice(
     alloc: Global,
-    litmus: &str,
-    costs: Option<&str>,
+    named: (&str, Option<&str>),
     texts: &Texts,
     fault: TextFault,
 ) -> Result<Vec<u8>, AllocError> {
-    text_fault_message(alloc, litmus, costs, texts, fault)?.written(alloc)
+    text_fault_message(alloc, named, texts, fault)?.written(alloc)
 }

@@ -17,39 +17,40 @@ pub(crate) struct Answer {
     pub(crate) second: Vec<u8>,
 }
 
-/// Writes a text to its file, where one is named. A file that can't be written is reported by its name.
-fn keep_file<'a, S: WritableFileStore>(
+/// Writes a text to its file, where one is named.
+fn keep_file<S: WritableFileStore>(
     files: &mut S,
-    name: Option<&'a str>,
+    name: Option<&str>,
     text: &[u8],
-) -> Result<(), &'a str>
+) -> Result<(), FileFault>
     ensures kept { OnOk result (HoldsFile (option_map (λ name. name.now) name.entry) (S.held files.new) text.now) }
     ensures others { KeepFiles (option_map (λ name. name.now) name.entry) (S.held files.old) (S.held files.new) }
     ensures named { OnErr result (IsSome (option_map (λ name. name.now) name.entry)) }
+    ensures fault { IfErr result (λ fault. fault ≡ FileFault.Write) }
 {
     match name {
-        Some(name) => match files.write_file(name, text) {
-            Ok(()) => Ok(()),
-            Err(_) => Err(name),
-        },
+        Some(name) => files.write_file(name, text),
         None => Ok(()),
     }
 }
 
-/// Writes two texts to their files, where these are named. The first file that can't be written is reported by its name.
+/// Writes two texts to their files, where these are named. The error is the name of a file that can't be written.
 fn keep_files<'a, S: WritableFileStore>(
     files: &mut S,
     first: Option<&'a str>,
     second: Option<&'a str>,
     answer: &Answer,
-) -> Result<(), &'a str>
+) -> Result<(), Option<&'a str>>
     ensures kept { OnOk result (HoldsFiles (option_map (λ name. name.now) first.entry) (option_map (λ name. name.now) second.entry) (S.held files.new) answer.now) }
     ensures others { KeepFilesBut (option_map (λ name. name.now) first.entry) (option_map (λ name. name.now) second.entry) (S.held files.old) (S.held files.new) }
     ensures named { OnErr result (IsSome (option_map (λ name. name.now) first.entry) ⊎ IsSome (option_map (λ name. name.now) second.entry)) }
 {
     match keep_file(files, first, &answer.first) {
-        Ok(()) => keep_file(files, second, &answer.second),
-        Err(name) => Err(name),
+        Ok(()) => match keep_file(files, second, &answer.second) {
+            Ok(()) => Ok(()),
+            Err(_) => Err(second),
+        },
+        Err(_) => Err(first),
     }
 }
 

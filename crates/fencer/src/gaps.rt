@@ -68,8 +68,8 @@ fn gaps_of_texts<W: Console>(alloc: Global, asked: &GapQuery, texts: &Texts, out
     match gap_lines(alloc, asked.template, texts) {
         Ok(lines) => print(output, Ok(lines), 0),
         Err(fault) => {
-            let costs = asked.costs.as_deref();
-            let message = text_fault_advice(alloc, asked.litmus.as_str(), costs, texts, fault);
+            let named = (asked.litmus.as_str(), asked.costs.as_deref());
+            let message = text_fault_advice(alloc, named, texts, fault);
             refuse(output, text_fault_line(alloc, fault), message)
         }
     }

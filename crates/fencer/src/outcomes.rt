@@ -89,20 +89,19 @@ pub fn run_outcomes<S: FileStore, R: Read, W: Console>(
     ensures told { Prints (AreOutcomes asked.now (R.remaining input.old) (S.held files.now)) (W.contents output.old) (W.contents output.new) result }
     ensures read { ReadsOfInput TEXT_LIMIT (string_bytes asked.now.litmus) (R.remaining input.old) (R.remaining input.new) }
 {
-    let name = asked.litmus.as_str();
-    match named_bytes(alloc, files, name, input, TEXT_LIMIT) {
-        Ok(bytes) => print_answer(
-            alloc,
-            Subject {
-                name: file_or_input(name),
+    let litmus = asked.litmus.as_str();
+    match named_bytes(alloc, files, litmus, input, TEXT_LIMIT) {
+        Ok(bytes) => {
+            let subject = Subject {
+                name: file_or_input(litmus),
                 text: &bytes,
                 labels: &[],
-            },
-            outcomes_reply(alloc, &bytes, asked),
-            output,
-        ),
+            };
+            let reply = outcomes_reply(alloc, &bytes, asked);
+            print_answer(alloc, subject, reply, output)
+        }
         Err(fault) => {
-            let message = unread_advice(alloc, files, unread_litmus(name, fault));
+            let message = unread_advice(alloc, files, unread_litmus(litmus, fault));
             refuse(output, file_line(alloc, fault), message)
         }
     }

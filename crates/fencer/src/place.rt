@@ -115,8 +115,8 @@ fn place_texts<T: Threads + Sync, U: Wait + Sync, S: WritableFileStore, W: Conso
     match answer_of(rt, wait, alloc, asked, texts) {
         Ok(answer) => deliver(alloc, files, program, certificate, answer, output),
         Err(fault) => {
-            let costs = asked.costs.as_deref();
-            let message = text_fault_advice(alloc, asked.litmus.as_str(), costs, texts, fault);
+            let named = (asked.litmus.as_str(), asked.costs.as_deref());
+            let message = text_fault_advice(alloc, named, texts, fault);
             refuse(output, text_fault_line(alloc, fault), message)
         }
     }

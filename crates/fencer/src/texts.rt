@@ -28,12 +28,15 @@ pub(crate) fn read_texts<'a, S: FileStore, R: Read>(
     ensures err { IfErr result (λ file. HasNoTexts litmus.now (option_map (λ name. name.now) costs.entry) (R.remaining input.old) (S.held files.now) file.fault) }
     ensures read { ReadsOfInput TEXT_LIMIT litmus.now (R.remaining input.old) (R.remaining input.new) }
 {
-    let litmus = match named_bytes(alloc, files, litmus, input, TEXT_LIMIT) {
+    let text = match named_bytes(alloc, files, litmus, input, TEXT_LIMIT) {
         Ok(bytes) => bytes,
         Err(fault) => return Err(unread_litmus(litmus, fault)),
     };
     match bytes_if_named(alloc, files, costs, TEXT_LIMIT) {
-        Ok(costs) => Ok(Texts { litmus, costs }),
+        Ok(bytes) => Ok(Texts {
+            litmus: text,
+            costs: bytes,
+        }),
         Err(fault) => Err(unread_text(costs.unwrap_or(""), fault)),
     }
 }

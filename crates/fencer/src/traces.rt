@@ -195,11 +195,11 @@ pub fn run_trace<S: WritableFileStore, R: Read, W: Console>(
     ensures others { KeepFilesBut (name_of asked.now.page) (name_of asked.now.graph) (S.held files.old) (S.held files.new) }
     ensures read { ReadsOfInput TEXT_LIMIT (string_bytes asked.now.run.litmus) (R.remaining input.old) (R.remaining input.new) }
 {
-    let name = asked.run.litmus.as_str();
-    match named_bytes(alloc, &*files, name, input, TEXT_LIMIT) {
+    let litmus = asked.run.litmus.as_str();
+    match named_bytes(alloc, &*files, litmus, input, TEXT_LIMIT) {
         Ok(bytes) => trace_text(alloc, files, asked, &bytes, output),
         Err(fault) => {
-            let message = unread_advice(alloc, &*files, unread_litmus(name, fault));
+            let message = unread_advice(alloc, &*files, unread_litmus(litmus, fault));
             refuse(output, file_line(alloc, fault), message)
         }
     }

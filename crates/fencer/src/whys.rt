@@ -70,9 +70,9 @@ fn explain_texts<T: Threads + Sync, U: Wait + Sync, S: WritableFileStore, W: Con
     match explained(rt, wait, alloc, asked, texts) {
         Ok(answer) => deliver(alloc, files, page, graphs, answer, output),
         Err(fault) => {
-            let litmus = asked.placement.litmus.as_str();
-            let costs = asked.placement.costs.as_deref();
-            let message = text_fault_advice(alloc, litmus, costs, texts, fault);
+            let Placement { litmus, costs, .. } = &asked.placement;
+            let named = (litmus.as_str(), costs.as_deref());
+            let message = text_fault_advice(alloc, named, texts, fault);
             refuse(output, text_fault_line(alloc, fault), message)
         }
     }

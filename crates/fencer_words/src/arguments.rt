@@ -74,7 +74,7 @@ pub fn observed_arg<'a>(alloc: Global) -> Arg<'a>
     flag_arg(
         alloc,
         "observed",
-        "Compare outcomes by what the condition and `locations` name, and by nothing else",
+        "Compare outcomes by what the condition and `locations` name alone",
     )
 }
 

@@ -11,18 +11,19 @@ use crate::place::{COSTS_HELP, file_arg};
 use clap::{ArgMatches, Command};
 use std::alloc::{AllocError, Global};
 
-const FIRST: &str = "Lists the gaps of a program, where a fence can stand";
+const FIRST: &str = "Lists the gaps of a program: the places where a fence can stand";
 
 const LAST: &str = "\
-Prints for each gap `T:K line L INSTRUCTION`, with status 0: the gap lies before this instruction,
-which is number K of thread T, both counted from 0, and stands in line L of the text. With --costs
-the gap's cost follows. With --template it prints a cost file of all gaps instead, to be edited. A
-refusal has status 1, a bad command line and this help have status 2. docs/formats.md explains
-refusals.
+Prints `T:K line L INSTRUCTION` for each gap. It lies before this instruction, which is number K
+of thread T, both counted from 0, and begins in line L of the text. With --costs the gap's cost
+follows.
+
+The status is 0 for an answer, 1 for a refusal (docs/formats.md explains each), 2 for a bad
+command line or this help.
 
 Example: fencer gaps examples/SB.litmus";
 
-const TEMPLATE_HELP: &str = "Print a cost file of all gaps instead, 1 each without --costs";
+const TEMPLATE_HELP: &str = "Print a cost file of all gaps instead; a gap costs 1 without --costs";
 
 pub fn gaps_command<'a>(alloc: Global) -> Result<Command<'a>, AllocError>
     ensures { IfOk result (IsBuiltAs gaps_app) }

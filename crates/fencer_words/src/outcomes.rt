@@ -18,8 +18,10 @@ const FIRST: &str =
 
 const LAST: &str = "\
 Prints `outcomes N`, a line `outcome: ..` for each in ascending order, `observation ..` and
-`condition ..`, with status 0; a refusal with status 1; what is wrong with the command line, or
-this help, with status 2. Refusals are explained in docs/formats.md.
+`condition ..`.
+
+The status is 0 for an answer, 1 for a refusal (docs/formats.md explains each), 2 for a bad
+command line or this help, 3 with --check for a condition that fails.
 
 Example: fencer outcomes --model sequential examples/SB.litmus";
 

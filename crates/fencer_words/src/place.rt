@@ -19,10 +19,12 @@ const FIRST: &str =
     "Places the cheapest fences with which a program behaves as under sequential consistency";
 
 const LAST: &str = "\
-Prints `answer cost N set T:K ..`, where T:K lies before instruction K of thread T, and the
-program with an MFENCE in each of these gaps, with status 0; a refusal with status 1; what is
-wrong with the command line, or this help, with status 2. Refusals are explained in
-docs/formats.md.
+Prints `answer cost N set T:K ..`, and the program with an MFENCE in each of these gaps. The gap
+T:K lies before instruction K of thread T, both counted from 0; `fencer gaps` lists the gaps. A
+file that is written is replaced; it may not be one that is read.
+
+The status is 0 for an answer, 1 for a refusal (docs/formats.md explains each), 2 for a bad
+command line or this help, 3 with --check for an answer with a gap.
 
 Example: fencer place --certificate SB.cert examples/SB.litmus";
 

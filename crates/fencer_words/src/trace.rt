@@ -19,9 +19,11 @@ const FIRST: &str = "Shows a run of a program as a table, a line a step";
 
 const LAST: &str = "\
 Prints for each step its thread, its instruction, what it reads and from where, what it stores,
-which stores then wait in the thread's buffer and what reaches memory; then the two lines of
-`fencer replay`, with status 0; a refusal with status 1; what is wrong with the command line, or
-this help, with status 2. Refusals are explained in docs/formats.md.
+which stores then wait in the thread's buffer, and what reaches memory; then the two lines of
+`fencer replay`.
+
+The status is 0 for an answer, 1 for a refusal (docs/formats.md explains each), 2 for a bad
+command line or this help.
 
 Example: fencer trace examples/SB.litmus e0 e1 e0 e1 f0 f1";
 

@@ -18,12 +18,14 @@ const FIRST: &str = "Shows for each fence of the answer a run that it prevents";
 
 const LAST: &str = "\
 Prints the answer line of `fencer place`, and for each of its gaps a run with the other gaps
-fenced: `without T:K`, `run LABEL ..`, the run as a table, `outcome: ..`, `passed T:K ..`, and that
-no sequential run has this outcome. Without a gap it prints that every store buffer outcome is
-sequential. The status is 0; 1 for a refusal; 2 for a bad command line or this help. Refusals are
-explained in docs/formats.md.
+fenced: `without T:K`, `run LABEL ..`, the run as a table, `outcome: ..`, `passed T:K ..`, and
+that no sequential run has this outcome. Without a gap it prints that every store buffer outcome
+is sequential.
 
-Example: fencer why examples/SB.litmus";
+The status is 0 for an answer, 1 for a refusal (docs/formats.md explains each), 2 for a bad
+command line or this help.
+
+Example: fencer why --html SB.html examples/SB.litmus";
 
 const DOT_HELP: &str = "Write the candidate execution of each run there, as graphs for Graphviz";
 

@@ -21,14 +21,17 @@ use std::alloc::{AllocError, Global};
 
 const FIRST: &str = "\
 Finds the cheapest places for MFENCE with which a small x86 program behaves as on a sequentially
-consistent machine, shows why each is needed, replays the program's runs and lists its outcomes";
+consistent machine. Shows why each is needed, replays the program's runs, and lists its outcomes
+and its gaps.";
 
 const LAST: &str = "\
-`fencer COMMAND --help` explains a command, `fencer --version` prints the version. Without arguments
-they are read from the first line of standard input; where LITMUS there is -, the litmus text is the
-rest. The status is 0 for an answer, 1 for a refusal, which is one line, 2 for a bad command line or
-this help, and 3 where --check finds a fault. docs/guide.md explains the commands, docs/formats.md
-each refusal.
+`fencer COMMAND --help` explains a command, `fencer --version` prints the version. Without
+arguments fencer reads them from the first line of standard input. LITMUS may be - for standard
+input, or for what follows that line.
+
+The status is 0 for an answer, 1 for a refusal (docs/formats.md explains each), 2 for a bad
+command line or this help, 3 for an answer where --check finds a fault. docs/guide.md explains the
+commands.
 
 Example: fencer place examples/SB.litmus";
 

@@ -181,7 +181,7 @@ module _ (threads : List Thread) (costs : List ℕ) where
       let entries = map entry_at (range_with_len 0 n) in
       ext_get_or 0 costs (costs_of n entries) (one_each ∙ sym (length-map-range_with_len (λ gap. unwrap_or (said_of entries gap) 1) 0 n))
       (λ i lt. sym (get_or-map-range_with_len (λ gap. unwrap_or (said_of entries gap) 1) 0 n i i 0 (omega (arith, one_each)) (omega arith)
-          ∙ ap (λ (c : Option ℕ). unwrap_or c 1) (said_there 0 n i (omega arith) (omega (arith, one_each)))))
+      ∙ ap (λ (c : Option ℕ). unwrap_or c 1) (said_there 0 n i (omega arith) (omega (arith, one_each)))))
 
   -- the text gives the gaps these costs
   pub is_cost_text : IsCostList costs → length costs ≡ gap_count threads → AllByRecursion (IsCosted threads costs) (range_with_len 0 (gap_count threads)) → IsCostText (cost_file_text threads costs) threads costs

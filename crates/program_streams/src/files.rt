@@ -80,17 +80,20 @@ impl<F: Files> FileStore for SystemFiles<'_, F> {
     }
 
     fn obstacle(&self, name: &str) -> Obstacle {
-        let mut byte = [0u8; 1];
-        match File::open(self.files, name) {
-            Ok(file) => {
-                let mut file = file;
-                match file.read(&mut byte) {
-                    Ok(_) => Obstacle::Unknown,
-                    Err(error) => obstacle_of(error.kind()),
-                }
-            }
+        match fs::metadata(self.files, name) {
+            Ok(found) if found.is_dir() => Obstacle::Directory,
+            Ok(found) if found.is_file() => obstacle_at(self.files, name),
+            Ok(_) => Obstacle::Unknown,
             Err(error) => obstacle_of(error.kind()),
         }
+    }
+}
+
+/// What stands in the way of opening a file that is there, and is no pipe: opening one may wait.
+fn obstacle_at<F: Files>(files: &F, name: &str) -> Obstacle {
+    match File::open(files, name) {
+        Ok(_) => Obstacle::Unknown,
+        Err(error) => obstacle_of(error.kind()),
     }
 }
 

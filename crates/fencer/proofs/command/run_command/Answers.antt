@@ -22,9 +22,9 @@ returns-in-Err-clause-told g c =
     let input = g.R.Read.remaining c.args.input.now in
     let why = c.in-Err.fault in
     let files = g.S.FileStore.held c.args.files.now in
-    prints_line c.file_line.result 1 (file_line why) (IsOutput (map string_bytes c.args.words.now) input files files) _ _ c.print.result
+    prints_line c.file_line.result 1 (file_line why) (IsOutput (map string_bytes c.args.words.now) input files files) _ _ c.refuse.result
     (of_input string_bytes input files files 1 (file_line why) c.args.words.now (sym c.is_empty.ensures ∙ c.if-not-is_empty.false) (no_line why (line_fault input (g.R.Read.remaining c.read_line_up_to.new.input) why c.in-Err.ensures.err)))
-    c.file_line.ensures c.print.ensures
+    c.file_line.ensures c.refuse.ensures
 
 pub returns-in-Ok-line_words-clause-told : goal.returns-in-Ok-line_words-clause-told
 returns-in-Ok-line_words-clause-told g c =

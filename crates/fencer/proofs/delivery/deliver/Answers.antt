@@ -1,6 +1,5 @@
-use Rattle.std.proofs.Common.{◌≡◌, IfOk, Ok, subst}
+use Rattle.std.proofs.Common.{Ok}
 use Rattle.std.specs.declared.alloc.AllocError.{AllocError}
-use Rattle.program_streams.specs.declared.fault.FileFault.{FileFault}
 use Rattle.program_streams.specs.declared.fault.FileFault.TheVariants as file
 use Rattle.program_streams.proofs.Printed.{prints_line, prints_made}
 use Rattle.program_streams.specs.FileLines.{file_line}
@@ -13,5 +12,4 @@ returns-in-Ok-clause-told g c =
 
 pub returns-in-Err-clause-told : goal.returns-in-Err-clause-told
 returns-in-Err-clause-told g c =
-    prints_line c.file_line.result 1 (file_line file.Write) _ _ _ c.print-in-Err.result (not_kept c.in-Err.ensures.named)
-    (subst (λ (why : FileFault). IfOk c.file_line.result (λ line. line.items ≡ file_line why)) c.in-Err.ensures.fault c.file_line.ensures) c.print-in-Err.ensures
+    prints_line c.file_line.result 1 (file_line file.Write) _ _ _ c.refuse.result (not_kept c.in-Err.ensures.named) c.file_line.ensures c.refuse.ensures

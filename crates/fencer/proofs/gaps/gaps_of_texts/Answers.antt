@@ -11,4 +11,4 @@ returns-in-Ok g c =
 
 pub returns-in-Err : goal.returns-in-Err
 returns-in-Err g c =
-    prints_line c.text_fault_line.result 1 (text_fault_line c.in-Err.fault) _ _ _ c.print-in-Err.result (refused_for c.in-Err.fault c.in-Err.ensures.fault) c.text_fault_line.ensures c.print-in-Err.ensures
+    prints_line c.text_fault_line.result 1 (text_fault_line c.in-Err.fault) _ _ _ c.refuse.result (refused_for c.in-Err.fault c.in-Err.ensures.fault) c.text_fault_line.ensures c.refuse.ensures

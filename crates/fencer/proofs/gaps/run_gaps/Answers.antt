@@ -10,7 +10,7 @@ returns-in-Ok-clause-told g c =
 
 pub returns-in-Err-clause-told : goal.returns-in-Err-clause-told
 returns-in-Err-clause-told g c =
-    prints_line c.file_line.result 1 (file_line c.in-Err.fault) _ _ _ c.print.result (no_texts c.in-Err.fault (rw (c.as_str.ensures.value, c.as_deref-costs.ensures.value) at c.in-Err.ensures.err)) c.file_line.ensures c.print.ensures
+    prints_line c.file_line.result 1 (file_line c.in-Err.file.fault) _ _ _ c.refuse.result (no_texts c.in-Err.file.fault (rw (c.as_str.ensures.value, c.as_deref-costs.ensures.value) at c.in-Err.ensures.err)) c.file_line.ensures c.refuse.ensures
 
 pub returns-in-Ok-clause-read : goal.returns-in-Ok-clause-read
 returns-in-Ok-clause-read g c = rw c.as_str.ensures.value at c.read_texts.ensures.read

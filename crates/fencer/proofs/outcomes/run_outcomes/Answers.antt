@@ -13,17 +13,17 @@ returns-in-Ok-clause-told g c =
     let files = g.S.FileStore.held c.args.files.now in
     let asked = c.args.asked.now in
     prints_more (IsTold c.outcomes_reply.result) (AreOutcomes asked input files) _ _ c.print_answer.result
-    (told_answer (PrintsOutcomes asked) HasNoList (string_bytes asked.litmus) input files c.in-Ok.bytes.items (rw c.as_str.ensures.value at c.in-Ok.ensures.whole) c.outcomes_reply.result
+    (told_answer (PrintsOutcomes asked) HasNoList (string_bytes asked.litmus) input files c.in-Ok.bytes.items (rw c.as_str-litmus.ensures.value at c.in-Ok.ensures.whole) c.outcomes_reply.result
     (rw c.deref.ensures.value at c.outcomes_reply.ensures.list) (rw c.deref.ensures.value at c.outcomes_reply.ensures.refused))
     c.print_answer.ensures
 
 pub returns-in-Err-clause-told : goal.returns-in-Err-clause-told
 returns-in-Err-clause-told g c =
-    prints_line c.file_line.result 1 (file_line c.in-Err.fault) (AreOutcomes c.args.asked.now (g.R.Read.remaining c.args.input.now) (g.S.FileStore.held c.args.files.now)) _ _ c.print.result
-    (no_file c.in-Err.fault (rw c.as_str.ensures.value at c.in-Err.ensures.err)) c.file_line.ensures c.print.ensures
+    prints_line c.file_line.result 1 (file_line c.in-Err.fault) (AreOutcomes c.args.asked.now (g.R.Read.remaining c.args.input.now) (g.S.FileStore.held c.args.files.now)) _ _ c.refuse.result
+    (no_file c.in-Err.fault (rw c.as_str-litmus.ensures.value at c.in-Err.ensures.err)) c.file_line.ensures c.refuse.ensures
 
 pub returns-in-Ok-clause-read : goal.returns-in-Ok-clause-read
-returns-in-Ok-clause-read g c = rw c.as_str.ensures.value at c.named_bytes.ensures.read
+returns-in-Ok-clause-read g c = rw c.as_str-litmus.ensures.value at c.named_bytes.ensures.read
 
 pub returns-in-Err-clause-read : goal.returns-in-Err-clause-read
-returns-in-Err-clause-read g c = rw c.as_str.ensures.value at c.named_bytes.ensures.read
+returns-in-Err-clause-read g c = rw c.as_str-litmus.ensures.value at c.named_bytes.ensures.read

@@ -10,4 +10,4 @@ returns-in-Ok g c =
 
 pub returns-in-Err : goal.returns-in-Err
 returns-in-Err g c =
-    prints_line c.refusal_line.result 1 (refusal_line c.in-Err.why) (IsTold c.args.answer) _ _ c.print-in-Err.result (rw c.in-Err.is (refl, refl)) c.refusal_line.ensures c.print-in-Err.ensures
+    prints_line c.refusal_line.result 1 (refusal_line c.in-Err.why) (IsTold c.args.answer) _ _ c.refuse.result (rw c.in-Err.is (refl, refl)) c.refusal_line.ensures c.refuse.ensures

@@ -19,8 +19,8 @@ returns-in-Ok-clause-told g c =
 
 pub returns-in-Err-clause-told : goal.returns-in-Err-clause-told
 returns-in-Err-clause-told g c =
-    prints_line c.file_line.result 1 (file_line c.in-Err.fault) (IsReplay c.args.asked.now.model (label_words_text c.args.asked.now.labels.items) (string_bytes c.args.asked.now.litmus) (g.R.Read.remaining c.args.input.now) (g.S.FileStore.held c.args.files.now)) _ _ c.print.result
-    (no_file c.in-Err.fault (rw c.as_str.ensures.value at c.in-Err.ensures.err)) c.file_line.ensures c.print.ensures
+    prints_line c.file_line.result 1 (file_line c.in-Err.fault) (IsReplay c.args.asked.now.model (label_words_text c.args.asked.now.labels.items) (string_bytes c.args.asked.now.litmus) (g.R.Read.remaining c.args.input.now) (g.S.FileStore.held c.args.files.now)) _ _ c.refuse.result
+    (no_file c.in-Err.fault (rw c.as_str.ensures.value at c.in-Err.ensures.err)) c.file_line.ensures c.refuse.ensures
 
 pub returns-in-Ok-clause-read : goal.returns-in-Ok-clause-read
 returns-in-Ok-clause-read g c = rw c.as_str.ensures.value at c.named_bytes.ensures.read

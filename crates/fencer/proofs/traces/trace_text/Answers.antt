@@ -10,4 +10,4 @@ returns-in-Ok-clause-told g c =
 
 pub returns-in-Err-clause-told : goal.returns-in-Err-clause-told
 returns-in-Err-clause-told g c =
-    prints_line c.refusal_line.result 1 (refusal_line c.in-Err.why) _ _ _ c.print.result (refused_for c.in-Err.why c.in-Err.ensures.refused (λ name. refl)) c.refusal_line.ensures c.print.ensures
+    prints_line c.refusal_line.result 1 (refusal_line c.in-Err.why) _ _ _ c.refuse.result (refused_for c.in-Err.why c.in-Err.ensures.refused (λ name. refl)) c.refusal_line.ensures c.refuse.ensures

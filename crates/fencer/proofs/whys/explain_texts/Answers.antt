@@ -10,4 +10,4 @@ returns-in-Ok-clause-told g c =
 
 pub returns-in-Err-clause-told : goal.returns-in-Err-clause-told
 returns-in-Err-clause-told g c =
-    prints_line c.text_fault_line.result 1 (text_fault_line c.in-Err.fault) _ _ _ c.print.result (refused_for c.in-Err.fault c.in-Err.ensures.fault (λ name. refl)) c.text_fault_line.ensures c.print.ensures
+    prints_line c.text_fault_line.result 1 (text_fault_line c.in-Err.fault) _ _ _ c.refuse.result (refused_for c.in-Err.fault c.in-Err.ensures.fault (λ name. refl)) c.text_fault_line.ensures c.refuse.ensures
