@@ -7,9 +7,9 @@ use Rattle.program_streams.specs.FileLines.{file_line}
 use Rattle.fencer.specs.declared.refusals.Refusal.{Refusal}
 use Rattle.fencer.specs.Refusals.{refusal_line}
 
--- The answer, with its status, where `Answers` says which lines answer a text, and `Refuses` why none may: such lines, or
--- the line of such a refusal, or why the file isn't read.
-pub data IsAnswerTo (Answers : List ℕ → List ℕ → Type 0) (Refuses : List ℕ → Refusal → Type 0) (path : List ℕ) (input : Option (List ℕ)) (files : List ℕ → Option (List ℕ)) : ℕ → List ℕ → Type 0 where
-  answered : (bytes lines : List ℕ) → AreOfFile TEXT_LIMIT path input files bytes → Answers bytes lines → IsAnswerTo Answers Refuses path input files 0 lines
+-- The answer, with its status, where `Answers` says with which status which lines answer a text, and `Refuses` why none may: such
+-- lines, or the line of such a refusal, or why the file isn't read.
+pub data IsAnswerTo (Answers : List ℕ → ℕ → List ℕ → Type 0) (Refuses : List ℕ → Refusal → Type 0) (path : List ℕ) (input : Option (List ℕ)) (files : List ℕ → Option (List ℕ)) : ℕ → List ℕ → Type 0 where
+  answered : (bytes : List ℕ) (status : ℕ) (lines : List ℕ) → AreOfFile TEXT_LIMIT path input files bytes → Answers bytes status lines → IsAnswerTo Answers Refuses path input files status lines
   refused : (bytes : List ℕ) (why : Refusal) → AreOfFile TEXT_LIMIT path input files bytes → Refuses bytes why → IsAnswerTo Answers Refuses path input files 1 (refusal_line why)
   no_file : (why : FileFault) → IsFileFault TEXT_LIMIT path input files why → IsAnswerTo Answers Refuses path input files 1 (file_line why)

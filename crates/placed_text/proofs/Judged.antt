@@ -45,6 +45,7 @@ module _ (litmus : List ℕ) (costs : Option (List ℕ)) where
       valid = is.proof.valid;
     };
     document = written.document;
+    set = written.set;
   }
 
   module _ (workers : ℕ) where

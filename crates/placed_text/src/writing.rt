@@ -6,7 +6,7 @@ ghost use Rattle.placed_text.specs.PlacedTexts.{AreWrittenTexts};
 use cert_forest::write_cert;
 use documents::placed_document;
 use fence_place::Placed;
-use gap_sets::Costs;
+use gap_sets::{Costs, GapSet};
 use litmus_text::{Litmus, write_litmus};
 use report::answer_line;
 use std::alloc::{AllocError, Global};
@@ -23,6 +23,8 @@ pub struct PlacedText {
     pub certificate: Vec<u8>,
     /// What is said of the answer, as JSON.
     pub document: Vec<u8>,
+    /// The gaps of the answer.
+    pub gaps: GapSet,
 }
 
 /// Writes what is placed.
@@ -47,5 +49,6 @@ pub(crate) fn write_placed(
         answer: answer_line(alloc, &litmus.program, shown, placed.set, placed.cost)?,
         certificate: write_cert(alloc, &placed.certificate)?,
         document,
+        gaps: placed.set,
     })
 }

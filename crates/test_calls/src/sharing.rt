@@ -75,7 +75,7 @@ fn run_from(
 }
 
 /// Which word is `then`.
-fn place_of_then(words: &[&[u8]]) -> Result<usize, Refusal>
+pub fn place_of_then(words: &[&[u8]]) -> Result<usize, Refusal>
     ensures { IfOk result (λ place. place < length words.now) }
 {
     for (place, word) in words.iter().enumerate() {

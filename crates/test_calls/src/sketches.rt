@@ -131,8 +131,10 @@ fn give(sketch: &mut Sketch, t: u8, value: u32) -> Result<bool, Refusal> {
 fn push_give(sketch: &mut Sketch, words: &[&[u8]], printed: &mut String) -> Result<(), Refusal> {
     let t = byte_at(words, 0)?;
     let value = number_of(word_at(words, 1)?)?;
-    let is_given = give(sketch, t, value)?;
-    Ok(write!(printed, "{is_given}")?)
+    match give(sketch, t, value) {
+        Ok(is_given) => Ok(write!(printed, "{is_given}")?),
+        Err(refusal) => Ok(write!(printed, "refused {refusal}")?),
+    }
 }
 
 fn push_values(sketch: &Sketch, location: u8, printed: &mut String) -> Result<(), AllocError> {

@@ -6,9 +6,9 @@ use crate::hunts::push_hunted;
 use crate::lacking::push_lacking;
 use crate::lines::{push_foreign_run, push_serving, push_table};
 use crate::machines::labels_from;
-use crate::placing::push_placed;
+use crate::placing::{push_hunted_with, push_placed};
 use crate::refusal::Refusal;
-use crate::search::push_searched;
+use crate::search::{push_records, push_searched};
 use crate::sharing::push_shared;
 use cover_solver::{ForeignRun, Oracle, SeqTable, Solver, Verdict, sequential};
 use litmus_text::{Litmus, NameTable};
@@ -81,7 +81,9 @@ fn push_of_table<R: Threads + Sync, W: Wait + Sync>(
         SolverCall::Ask => push_asked(alloc, names, table, words, printed),
         SolverCall::Foreign => push_foreign(alloc, names, table, words, printed),
         SolverCall::Search => push_searched(alloc, table, words, printed),
+        SolverCall::Records => push_records(alloc, table, words, printed),
         SolverCall::Hunt => push_hunted(wait, alloc, table, words, printed),
+        SolverCall::HuntWith => push_hunted_with(rt, wait, alloc, table, words, printed),
         SolverCall::Place => push_placed(rt, wait, alloc, table, words, printed),
         SolverCall::Gated(call) => push_gated(rt, wait, alloc, call, table, words, printed),
         SolverCall::Shared(call) => push_shared(rt, wait, alloc, call, table, words, printed),

@@ -1,10 +1,11 @@
 //! Why the fences of a placement in the program of a text are needed.
-ghost use Rattle.std.specs.Prelude.{◌≡◌, IfErr, IfOk, length, option_map};
+ghost use Rattle.std.specs.Prelude.{◌≡◌, IfErr, IfOk, OnOk, length, option_map};
 ghost use Rattle.gap_sets.specs.Gaps.{numbers_of_set};
 ghost use Rattle.tso_program.specs.Listings.{gap_count};
 ghost use Rattle.tso_program.specs.Shown.{asked};
 ghost use Rattle.tso_machine.specs.Outcomes.{IsTheAnswer};
 ghost use Rattle.report.specs.Answers.{answer_line};
+ghost use Rattle.fence_place.specs.Faults.{AreTooFewOrMany};
 ghost use Rattle.placed_text.specs.TextFaults.{HasNoPlacedText};
 ghost use Rattle.why_text.specs.WhyTexts.{reasons_or_none, IsWhyText, TellsReasons, TellsWhy};
 
@@ -125,6 +126,7 @@ pub fn why_text<R: Threads + Sync, W: Wait + Sync>(
     workers: u8,
 ) -> Result<WhyText, TextFault>
     ensures told { IfOk result (λ reasons. IsWhyText litmus.now (option_map (λ text. text.now) costs.entry) observed reasons.lines.items reasons.document.items) }
+    ensures workers { OnOk result (¬ AreTooFewOrMany workers) }
     ensures fault { IfErr result (HasNoPlacedText litmus.now (option_map (λ text. text.now) costs.entry) workers) }
 {
     let source = read_program(alloc, litmus)?;

@@ -6,8 +6,8 @@ use Rattle.fencer.proofs.refusals.print_answer.Goals as goal
 
 pub returns-in-Ok : goal.returns-in-Ok
 returns-in-Ok g c =
-    prints_made {E = AllocError} (Ok c.in-Ok.lines) 0 (IsTold c.args.answer) _ _ c.print.result (rw c.in-Ok.is (refl, refl)) c.print.ensures
+    prints_made {E = AllocError} (Ok c.in-Ok.reply.lines) c.in-Ok.reply.status (IsTold c.args.answer) _ _ c.print.result (rw c.in-Ok.is (refl, refl)) c.print.ensures
 
 pub returns-in-Err : goal.returns-in-Err
 returns-in-Err g c =
-    prints_line c.refusal_line.result 1 (refusal_line c.in-Err.why) (IsTold c.args.answer) _ _ c.print-in-Err.result (rw c.in-Err.is (refl, refl)) c.refusal_line.ensures c.print-in-Err.ensures
+    prints_line c.refusal_line.result 1 (refusal_line c.in-Err.why) (IsTold c.args.answer) _ _ c.refuse.result (rw c.in-Err.is (refl, refl)) c.refusal_line.ensures c.refuse.ensures

@@ -6,10 +6,8 @@ use Rattle.fencer.proofs.whys.explain_texts.Goals as goal
 
 pub returns-in-Ok-clause-told : goal.returns-in-Ok-clause-told
 returns-in-Ok-clause-told g c =
-    prints_more _ _ _ _ c.deliver.result
-    (λ status text is. explained c.in-Ok.reasons.lines.items c.in-Ok.reasons.graph.items status text (rw (c.deref.ensures.value, c.as_deref-costs.ensures.value) at c.in-Ok.ensures.told) is) c.deliver.ensures.told
+    prints_more _ _ _ _ c.deliver.result (λ status text is. explained c.in-Ok.answer status text c.in-Ok.ensures.told is) (rw (c.as_deref-page.ensures.value, c.as_deref-graphs.ensures.value) at c.deliver.ensures.told)
 
 pub returns-in-Err-clause-told : goal.returns-in-Err-clause-told
 returns-in-Err-clause-told g c =
-    prints_line c.text_fault_line.result 1 (text_fault_line c.in-Err.fault) _ _ _ c.print.result
-    (refused_for c.in-Err.fault (rw (c.deref.ensures.value, c.as_deref-costs.ensures.value) at c.in-Err.ensures.fault) (λ name. refl)) c.text_fault_line.ensures c.print.ensures
+    prints_line c.text_fault_line.result 1 (text_fault_line c.in-Err.fault) _ _ _ c.refuse.result (refused_for c.in-Err.fault c.in-Err.ensures.fault (λ name. refl)) c.text_fault_line.ensures c.refuse.ensures

@@ -1,0 +1,79 @@
+//! Ways to settle the node of a hunt's seat that a script asks for by a word of their own.
+ghost use Rattle.std.specs.Prelude.{◌≡◌, ◌<◌, IfSome, MatchOption, None};
+ghost use Rattle.gap_sets.specs.Order.{total};
+ghost use Rattle.search_core.specs.Ceilings.{IsCeilingOf};
+ghost use Rattle.hunt_board.specs.Seats.{HuntView, SeatView, IsOf};
+ghost use Rattle.test_calls.specs.Hunts.{IsSound};
+
+use crate::hunts::{Hand, held, keep_receipt, run_past};
+use crate::refusal::Refusal;
+use cover_solver::{SeqTable, Verdict};
+use gap_sets::Region;
+use hunt_board::{Hunt, HuntSeat, Settling};
+use search_core::Ceiling;
+use std::alloc::Global;
+use std::sync::Wait;
+
+/// The hunt's ceiling, where what the node's sets must have costs more.
+fn ceiling_below(hunt: &Hunt, seat: &mut HuntSeat, node: &Region) -> Result<Ceiling, Refusal>
+    requires { IsOf hunt.now seat.old }
+    ensures of { IsOf hunt.now seat.new }
+    ensures same { (seat.new.node ≡ seat.old.node) × (seat.new.best ≡ seat.old.best) }
+    ensures ceiling { IfOk result (IsCeilingOf hunt.now.question hunt.now.costs) }
+    ensures below { IfOk result (λ c. MatchOption c ⊥ (λ bound. bound.cost < total hunt.now.costs node.now.must)) }
+{
+    let ceiling = hunt.ceiling(seat);
+    match ceiling.cost() {
+        Some(cost) if cost < hunt.costs().total(&node.must) => Ok(ceiling),
+        _ => Err(Refusal::Call),
+    }
+}
+
+/// Cuts the seat's node, where what its sets must have costs more than the ceiling.
+pub fn cut<W: Wait>(
+    wait: &W,
+    hunt: &Hunt,
+    hand: &mut Hand,
+    printed: &mut String,
+) -> Result<(), Refusal>
+    requires { IsSound hunt.now hand.old }
+    ensures { IsSound hunt.now hand.new }
+{
+    let node = held(&hand.seat)?;
+    let ceiling = ceiling_below(hunt, &mut hand.seat, &node)?;
+    let receipt = hunt.settle(wait, &mut hand.seat, Settling::Cut(ceiling))?;
+    keep_receipt(&mut hand.receipts, receipt, printed)
+}
+
+/// Settles the seat's node by the run of these labels. Where memory is refused for it, that is told, and it is settled by
+/// a copy of the run that was made before.
+pub fn settle_again<W: Wait>(
+    wait: &W,
+    alloc: Global,
+    table: &SeqTable,
+    hunt: &Hunt,
+    hand: &mut Hand,
+    labels: &[u8],
+    printed: &mut String,
+) -> Result<(), Refusal>
+    requires of_table { hunt.now.question ≡ table.now.question }
+    requires sound { IsSound hunt.now hand.old }
+    ensures { IsSound hunt.now hand.new }
+{
+    let node = held(&hand.seat)?;
+    let run = run_past(alloc, table, &node, labels)?;
+    let copy = run.copy(alloc)?;
+    let settling = Settling::Asked(Verdict::Foreign(run));
+    let receipt = match hunt.settle(wait, &mut hand.seat, settling) {
+        Ok(receipt) => receipt,
+        Err(_) => {
+            printed.push_str("refused settle\n")?;
+            hunt.settle(
+                wait,
+                &mut hand.seat,
+                Settling::Asked(Verdict::Foreign(copy)),
+            )?
+        }
+    };
+    keep_receipt(&mut hand.receipts, receipt, printed)
+}

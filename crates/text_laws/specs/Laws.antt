@@ -1,0 +1,28 @@
+-- What texts stand for is determined.
+use Rattle.std.specs.Prelude.{◌≡◌, ℕ, List, Option}
+use Rattle.tso_program.specs.declared.listing.Thread.{Thread}
+use Rattle.tso_program.specs.declared.listing.Listing.{Listing}
+use Rattle.litmus_reader.specs.declared.litmus.Litmus.{Litmus}
+use Rattle.litmus_reader.specs.Texts.{StandsFor, IsLitmus, IsFencedLitmus}
+use Rattle.cost_text.specs.CostTexts.{IsCostText}
+use Rattle.cost_text.specs.GivenCosts.{AreGiven}
+
+-- a litmus text stands for one test, whatever the size of its program
+abbrev pub ATextStandsForOneTest : Type 0
+ATextStandsForOneTest = (text : List ℕ) (one other : Litmus Listing) → StandsFor text one → StandsFor text other → one ≡ other
+
+-- so it is the text of one program within the limits
+abbrev pub ATextIsOfOneProgram : Type 0
+ATextIsOfOneProgram = (text : List ℕ) (one other : Litmus Listing) → IsLitmus text one → IsLitmus text other → one ≡ other
+
+-- and of one program within the limits of a fenced one
+abbrev pub ATextIsOfOneFencedProgram : Type 0
+ATextIsOfOneFencedProgram = (text : List ℕ) (one other : Litmus Listing) → IsFencedLitmus text one → IsFencedLitmus text other → one ≡ other
+
+-- a cost text gives the gaps of these threads one list of costs
+abbrev pub ATextGivesOneListOfCosts : Type 0
+ATextGivesOneListOfCosts = (text : List ℕ) (threads : List Thread) (one other : List ℕ) → IsCostText text threads one → IsCostText text threads other → one ≡ other
+
+-- so does a text that may be missing: each gap costs 1 without it
+abbrev pub TheCostsAreOneList : Type 0
+TheCostsAreOneList = (p : Listing) (text : Option (List ℕ)) (one other : List ℕ) → AreGiven p text one → AreGiven p text other → one ≡ other
