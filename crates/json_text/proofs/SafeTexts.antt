@@ -31,8 +31,8 @@ true_false : true ≡ false → ⊥
 true_false e = absurd cc
 
 by_tests : (byte : ℕ) (first second : Bool) → needs_backslash byte ≡ first → needs_number byte ≡ second → IsSafe (if first then 92 ∷ byte ∷ [] else if second then unicode_escape byte else byte ∷ [])
-by_tests byte true second is other = (omega arith, (λ e. false_true (subst (λ (n : ℕ). needs_backslash n ≡ true) e is)), tt)
-by_tests byte false true is other = (omega arith, omega arith, omega arith, omega arith, hex_is_safe (byte / 16), hex_is_safe (byte % 16), tt)
+by_tests byte true second is other = (omega arith, ((λ e. false_true (subst (λ (n : ℕ). needs_backslash n ≡ true) e is)), tt))
+by_tests byte false true is other = (omega arith, (omega arith, (omega arith, (omega arith, (hex_is_safe (byte / 16), (hex_is_safe (byte % 16), tt))))))
 by_tests byte false false is other = ((λ e. true_false (subst (λ (n : ℕ). needs_number n ≡ false) e other)), tt)
 
 escaped_is_safe : (byte : ℕ) → IsSafe (escaped byte)
@@ -79,9 +79,9 @@ member_is_safe name text is = safe_append (quoted name) (58 ∷ text) (quoted_is
 
 mutual
   written_is_safe : (value : Json) → IsSafe (written value)
-  written_is_safe Null = (omega arith, omega arith, omega arith, omega arith, tt)
-  written_is_safe (Truth true) = (omega arith, omega arith, omega arith, omega arith, tt)
-  written_is_safe (Truth false) = (omega arith, omega arith, omega arith, omega arith, omega arith, tt)
+  written_is_safe Null = (omega arith, (omega arith, (omega arith, (omega arith, tt))))
+  written_is_safe (Truth true) = (omega arith, (omega arith, (omega arith, (omega arith, tt))))
+  written_is_safe (Truth false) = (omega arith, (omega arith, (omega arith, (omega arith, (omega arith, tt)))))
   written_is_safe (Number n small) = number_is_safe n small
   written_is_safe (Text bytes) = quoted_is_safe bytes
   written_is_safe (Array items) = enclosed_is_safe 91 (elements_written items) 93 (omega arith) (omega arith) (items_are_safe items)
