@@ -5,7 +5,7 @@ use Rattle.std.proofs.lemmas.List.{get_or-map, length-map}
 use Rattle.json_text.specs.Internal.Lists.{bytes_of_each}
 use Rattle.json_text.specs.Texts.{with_commas}
 use Rattle.json_text.proofs.Lists.{added_at}
-use Rattle.json_text.proofs.with_commas.enclosed.Goals as goal
+use Rattle.json_text.proofs.listed.enclosed.Goals as goal
 
 pub loop-i-preserved : goal.loop-i-preserved
 loop-i-preserved c =

@@ -1,7 +1,7 @@
 use Rattle.std.proofs.Common.{◌≡◌, ◌∷◌, take}
 use Rattle.json_text.specs.Internal.Lists.{bytes_of_each}
 use Rattle.json_text.specs.Texts.{with_commas}
-use Rattle.json_text.proofs.with_commas.enclosed.Given as goal
+use Rattle.json_text.proofs.listed.enclosed.Given as goal
 
 -- the texts so far
 abbrev pub invariant-loop-i : goal.invariant-loop-i
