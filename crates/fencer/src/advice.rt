@@ -16,9 +16,17 @@ use std::alloc::{AllocError, Global};
 /// What an answer is asked about: the text of a litmus file, and labels where there are any.
 #[derive(Clone, Copy, Debug)]
 pub(crate) struct Subject<'a> {
-    pub(crate) name: &'a str,
-    pub(crate) text: &'a [u8],
-    pub(crate) labels: &'a [String],
+    name: &'a str,
+    text: &'a [u8],
+    labels: &'a [String],
+}
+
+impl<'a> Subject<'a> {
+    /// A text of a litmus file of this name, or of the input, and labels.
+    pub(crate) fn new(litmus: &'a str, text: &'a [u8], labels: &'a [String]) -> Self {
+        let name = file_or_input(litmus);
+        Subject { name, text, labels }
+    }
 }
 
 /// A text that is not read.

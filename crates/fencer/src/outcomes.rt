@@ -9,7 +9,6 @@ use crate::advice::{Subject, unread_advice, unread_litmus};
 use crate::refusals::{Refusal, print_answer};
 use cover_solver::{SolveFault, outcomes};
 use litmus_text::{Litmus, read_litmus};
-use messages::file_or_input;
 use program_streams::{Console, FileStore, TEXT_LIMIT, file_line, named_bytes, refuse};
 use report::{condition_line, observation_line, outcome_line};
 use std::alloc::{AllocError, Global};
@@ -70,16 +69,11 @@ pub fn run_outcomes<S: FileStore, R: Read, W: Console>(
     ensures read { ReadsOfInput TEXT_LIMIT litmus.now (R.remaining input.old) (R.remaining input.new) }
 {
     match named_bytes(alloc, files, litmus, input, TEXT_LIMIT) {
-        Ok(bytes) => print_answer(
-            alloc,
-            Subject {
-                name: file_or_input(litmus),
-                text: &bytes,
-                labels: &[],
-            },
-            outcomes_lines(alloc, &bytes, model, observed),
-            output,
-        ),
+        Ok(bytes) => {
+            let text = bytes.as_slice();
+            let answer = outcomes_lines(alloc, text, model, observed);
+            print_answer(alloc, Subject::new(litmus, text, &[]), answer, output)
+        }
         Err(fault) => {
             let message = unread_advice(alloc, files, unread_litmus(litmus, fault));
             refuse(output, file_line(alloc, fault), message)

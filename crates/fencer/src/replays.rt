@@ -12,7 +12,6 @@ use crate::refusals::{Refusal, print_answer};
 use fencer_words::Run;
 use gap_sets::GapSet;
 use litmus_text::{Litmus, read_litmus};
-use messages::file_or_input;
 use program_streams::{Console, FileStore, TEXT_LIMIT, file_line, named_bytes, refuse};
 use report::{outcome_line, passed_line};
 use std::alloc::{AllocError, Global};
@@ -88,19 +87,16 @@ pub fn run_replay<S: FileStore, R: Read, W: Console>(
     ensures told { Prints (IsReplay asked.now.model (label_words_text asked.now.labels.items) (string_bytes asked.now.litmus) (R.remaining input.old) (S.held files.now)) (W.contents output.old) (W.contents output.new) result }
     ensures read { ReadsOfInput TEXT_LIMIT (string_bytes asked.now.litmus) (R.remaining input.old) (R.remaining input.new) }
 {
-    match named_bytes(alloc, files, asked.litmus.as_str(), input, TEXT_LIMIT) {
-        Ok(bytes) => print_answer(
-            alloc,
-            Subject {
-                name: file_or_input(asked.litmus.as_str()),
-                text: &bytes,
-                labels: asked.labels.as_slice(),
-            },
-            replay_lines(alloc, &bytes, asked.model, asked.labels.as_slice()),
-            output,
-        ),
+    let name = asked.litmus.as_str();
+    match named_bytes(alloc, files, name, input, TEXT_LIMIT) {
+        Ok(bytes) => {
+            let text = bytes.as_slice();
+            let labels = asked.labels.as_slice();
+            let answer = replay_lines(alloc, text, asked.model, labels);
+            print_answer(alloc, Subject::new(name, text, labels), answer, output)
+        }
         Err(fault) => {
-            let message = unread_advice(alloc, files, unread_litmus(asked.litmus.as_str(), fault));
+            let message = unread_advice(alloc, files, unread_litmus(name, fault));
             refuse(output, file_line(alloc, fault), message)
         }
     }

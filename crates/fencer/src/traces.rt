@@ -19,7 +19,6 @@ use crate::replays::{ended_lines, steps_of};
 use fencer_words::Run;
 use gap_sets::GapSet;
 use litmus_text::{Litmus, read_litmus};
-use messages::file_or_input;
 use program_streams::{Console, TEXT_LIMIT, WritableFileStore, file_line, named_bytes, refuse};
 use run_graph::RunGraph;
 use run_table::run_table;
@@ -115,14 +114,11 @@ fn trace_text<S: WritableFileStore, W: Console>(
     ensures told { Prints (IsTraceOf asked.now (option_map (λ name. name.now) graph.entry) bytes.now (S.held files.old) (S.held files.new)) (W.contents output.old) (W.contents output.new) result }
     ensures others { KeepFiles (option_map (λ name. name.now) graph.entry) (S.held files.old) (S.held files.new) }
 {
-    match trace_answer(alloc, bytes, asked.model, asked.labels.as_slice()) {
+    let labels = asked.labels.as_slice();
+    match trace_answer(alloc, bytes, asked.model, labels) {
         Ok(answer) => deliver(alloc, files, graph, answer, output),
         Err(why) => {
-            let subject = Subject {
-                name: file_or_input(asked.litmus.as_str()),
-                text: bytes,
-                labels: asked.labels.as_slice(),
-            };
+            let subject = Subject::new(asked.litmus.as_str(), bytes, labels);
             let message = refusal_advice(alloc, subject, why);
             refuse(output, refusal_line(alloc, why), message)
         }
@@ -143,14 +139,11 @@ pub fn run_trace<S: WritableFileStore, R: Read, W: Console>(
     ensures others { KeepFiles (option_map (λ name. name.now) graph.entry) (S.held files.old) (S.held files.new) }
     ensures read { ReadsOfInput TEXT_LIMIT (string_bytes asked.now.litmus) (R.remaining input.old) (R.remaining input.new) }
 {
-    match named_bytes(alloc, &*files, asked.litmus.as_str(), input, TEXT_LIMIT) {
+    let name = asked.litmus.as_str();
+    match named_bytes(alloc, &*files, name, input, TEXT_LIMIT) {
         Ok(bytes) => trace_text(alloc, files, asked, graph, &bytes, output),
         Err(fault) => {
-            let message = unread_advice(
-                alloc,
-                &*files,
-                unread_litmus(asked.litmus.as_str(), fault),
-            );
+            let message = unread_advice(alloc, &*files, unread_litmus(name, fault));
             refuse(output, file_line(alloc, fault), message)
         }
     }

@@ -10,9 +10,9 @@ pub returns-in-Ok-clause-told : goal.returns-in-Ok-clause-told
 returns-in-Ok-clause-told g c =
     let input = g.R.Read.remaining c.args.input.now in
     let files = g.S.FileStore.held c.args.files.now in
-    prints_more (IsTold c.outcomes_lines.result) (AreOutcomes c.args.model c.args.observed c.args.litmus.now input files) _ _ c.print_answer.result
-    (told_answer (PrintsOutcomes c.args.model c.args.observed) HasNoList c.args.litmus.now input files c.in-Ok.bytes.items c.in-Ok.ensures.whole c.outcomes_lines.result
-    (rw c.deref.ensures.value at c.outcomes_lines.ensures.list) (rw c.deref.ensures.value at c.outcomes_lines.ensures.refused))
+    prints_more (IsTold c.outcomes_lines-answer.result) (AreOutcomes c.args.model c.args.observed c.args.litmus.now input files) _ _ c.print_answer.result
+    (told_answer (PrintsOutcomes c.args.model c.args.observed) HasNoList c.args.litmus.now input files c.in-Ok.bytes.items c.in-Ok.ensures.whole c.outcomes_lines-answer.result
+    (rw c.as_slice-text.ensures.value at c.outcomes_lines-answer.ensures.list) (rw c.as_slice-text.ensures.value at c.outcomes_lines-answer.ensures.refused))
     c.print_answer.ensures
 
 pub returns-in-Err-clause-told : goal.returns-in-Err-clause-told
