@@ -20,13 +20,13 @@ abbrev pub format_member : List ℕ
 format_member = member (codes "format") (quoted (codes "fencer 1"))
 
 -- the members up to what is said of the answer, a run or outcomes
-abbrev pub heading : List ℕ → ProgramPart → List (List ℕ)
-heading command part = format_member ∷ member (codes "command") (quoted command) ∷ program_members part
+abbrev pub command_members : List ℕ → ProgramPart → List (List ℕ)
+command_members command part = format_member ∷ member (codes "command") (quoted command) ∷ program_members part
 
 pub record TellsHeading (source : Litmus Listing) (command : List ℕ) (members : List (List ℕ)) : Type 0 where
   pub part : ProgramPart
   pub is : IsProgram source part
-  pub printed : members ≡ heading command part
+  pub printed : members ≡ command_members command part
 
 -- one line
 abbrev pub document_of : List (List ℕ) → List ℕ
@@ -36,7 +36,7 @@ document_of members = object_text members ++ 10 ∷ []
 pub record IsDocument (source : Litmus Listing) (command : List ℕ) (members : List (List ℕ)) (text : List ℕ) : Type 0 where
   pub part : ProgramPart
   pub is : IsProgram source part
-  pub printed : text ≡ document_of (heading command part ++ members)
+  pub printed : text ≡ document_of (command_members command part ++ members)
 
 -- of a placement: the gaps with their costs, the answer, and the text of the fenced program
 abbrev pub IsPlacedDocument : Litmus Listing → Shown → List ℕ → SetOfGaps → List ℕ → List ℕ → Type 0

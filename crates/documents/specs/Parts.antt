@@ -39,33 +39,33 @@ gaps_array threads gaps = array_text (map (quoted_gap threads) (numbers_of_set g
 
 -- ---- what is shown of an outcome
 
-abbrev pub shown_value : List ℕ → ℕ → List ℕ
-shown_value name value = object_text (member (codes "name") (quoted name) ∷ member (codes "value") (decimal value) ∷ [])
+abbrev pub named_value : List ℕ → ℕ → List ℕ
+named_value name value = object_text (member (codes "name") (quoted name) ∷ member (codes "value") (decimal value) ∷ [])
 
 -- `t:REG`
 abbrev pub register_name_at : ℕ → Reg → List ℕ
 register_name_at t r = decimal t ++ (codes ":" ++ register_name r)
 
 -- a register with its value, where it is shown and the text names it
-abbrev pub shown_register : Names → Shown → ℕ → List ℕ → Reg → List (List ℕ)
-shown_register names shown t values r =
-    if shows_register shown t (number r) && is_named names t r then shown_value (register_name_at t r) (slice_index values (number r)) ∷ [] else []
+abbrev pub register_value : Names → Shown → ℕ → List ℕ → Reg → List (List ℕ)
+register_value names shown t values r =
+    if shows_register shown t (number r) && is_named names t r then named_value (register_name_at t r) (slice_index values (number r)) ∷ [] else []
 
 -- thread t's named registers with their values
 abbrev pub thread_values : Names → Shown → ℕ → List ℕ → List (List ℕ)
-thread_values names shown t values = flat_map (shown_register names shown t values) all_registers
+thread_values names shown t values = flat_map (register_value names shown t values) all_registers
 
 -- those of the first so many threads
 abbrev pub register_values : Names → Shown → List (List ℕ) → ℕ → List (List ℕ)
 register_values names shown registers threads = flat_map (λ t. thread_values names shown t (slice_index_or registers t [])) (range_with_len 0 threads)
 
 -- a location with its value, where it is shown
-abbrev pub shown_location : Names → Shown → ℕ → ℕ → List (List ℕ)
-shown_location names shown l value = if shows_location shown l then shown_value (slice_index_or names.locations l []) value ∷ [] else []
+abbrev pub location_value : Names → Shown → ℕ → ℕ → List (List ℕ)
+location_value names shown l value = if shows_location shown l then named_value (slice_index_or names.locations l []) value ∷ [] else []
 
 -- the first so many locations
 abbrev pub location_values : Names → Shown → List ℕ → ℕ → List (List ℕ)
-location_values names shown memory locations = flat_map (λ l. shown_location names shown l (slice_index memory l)) (range_with_len 0 locations)
+location_values names shown memory locations = flat_map (λ l. location_value names shown l (slice_index memory l)) (range_with_len 0 locations)
 
 -- each named register by thread and register order, then each location by number, as far as it is shown
 abbrev pub outcome_array : Names → Shown → Outcome → List ℕ

@@ -1,6 +1,6 @@
 //! Outcomes.
 ghost use Rattle.std.specs.Prelude.{◌≡◌, ◌++◌, IfOk, OnOk, length};
-ghost use Rattle.documents.specs.Parts.{shown_value, register_name_at, shown_register, thread_values, register_values, shown_location, location_values, outcome_array, outcomes_array};
+ghost use Rattle.documents.specs.Parts.{named_value, register_name_at, register_value, thread_values, register_values, location_value, location_values, outcome_array, outcomes_array};
 
 use json_text::{JsonArray, JsonObject, JsonText};
 use litmus_text::{NameTable, location_name, register_name};
@@ -8,8 +8,8 @@ use std::alloc::{AllocError, Global};
 use tso_program::{Outcome, Reg, Shown};
 
 /// What a register or a location holds at the end.
-fn shown_value(alloc: Global, name: &[u8], value: u32) -> Result<JsonText, AllocError>
-    ensures { IfOk result (λ json. json ≡ shown_value name.now value) }
+fn named_value(alloc: Global, name: &[u8], value: u32) -> Result<JsonText, AllocError>
+    ensures { IfOk result (λ json. json ≡ named_value name.now value) }
 {
     let mut object = JsonObject::new(alloc);
     object.add("name", JsonText::string(alloc, name)?)?;
@@ -35,11 +35,11 @@ fn add_register(
     values: [u32; 6],
     register: Reg,
 ) -> Result<(), AllocError>
-    ensures { OnOk result (array.new ≡ array.old ++ shown_register names.now shown.now thread values register) }
+    ensures { OnOk result (array.new ≡ array.old ++ register_value names.now shown.now thread values register) }
 {
     if shown.shows_register(thread, register.index()) && names.is_named(thread, register) {
         let name = register_name_at(alloc, thread, register)?;
-        array.add(shown_value(alloc, &name, values[register.index()])?)?;
+        array.add(named_value(alloc, &name, values[register.index()])?)?;
     }
     Ok(())
 }
@@ -85,10 +85,10 @@ fn add_location(
     location: usize,
     value: u32,
 ) -> Result<(), AllocError>
-    ensures { OnOk result (array.new ≡ array.old ++ shown_location names.now shown.now location value) }
+    ensures { OnOk result (array.new ≡ array.old ++ location_value names.now shown.now location value) }
 {
     if shown.shows_location(location) {
-        array.add(shown_value(alloc, location_name(names, location), value)?)?;
+        array.add(named_value(alloc, location_name(names, location), value)?)?;
     }
     Ok(())
 }

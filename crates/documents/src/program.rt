@@ -182,7 +182,8 @@ fn thread_value(
 fn thread_values(alloc: Global, litmus: &Litmus<Program>) -> Result<JsonText, AllocError> {
     let mut array = JsonArray::new(alloc);
     for (t, thread) in litmus.program.threads().iter().enumerate() {
-        array.add(thread_value(alloc, litmus, t as u8, thread.code.len())?)?;
+        let number = u8::try_from(t).unwrap_or(u8::MAX);
+        array.add(thread_value(alloc, litmus, number, thread.code.len())?)?;
     }
     array.into_json()
 }

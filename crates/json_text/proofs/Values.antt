@@ -1,21 +1,21 @@
 -- Texts of values, one more.
 use Rattle.std.proofs.Common.{◌≡◌, ◌∙◌, ℕ, List, [], ◌∷◌, ◌++◌, refl, sym, ap}
 use Rattle.json_text.specs.Texts.{member}
-use Rattle.json_text.specs.Values.{Json, Items, NoItem, MoreItems, Fields, NoField, MoreFields, written, items_written, members_written, IsJson, AreJson, AreMembers}
+use Rattle.json_text.specs.Values.{Json, Elements, NoElement, MoreElements, Fields, NoField, MoreFields, written, elements_written, members_written, IsJson, AreJson, AreMembers}
 
-abbrev with_item : Items → Json → Items
-with_item NoItem value = MoreItems value NoItem
-with_item (MoreItems first items) value = MoreItems first (with_item items value)
+abbrev with_item : Elements → Json → Elements
+with_item NoElement value = MoreElements value NoElement
+with_item (MoreElements first items) value = MoreElements first (with_item items value)
 
-items_more : (items : Items) (value : Json) → items_written (with_item items value) ≡ items_written items ++ written value ∷ []
-items_more NoItem value = refl
-items_more (MoreItems first items) value = ap (λ (ts : List (List ℕ)). written first ∷ ts) (items_more items value)
+items_more : (items : Elements) (value : Json) → elements_written (with_item items value) ≡ elements_written items ++ written value ∷ []
+items_more NoElement value = refl
+items_more (MoreElements first items) value = ap (λ (ts : List (List ℕ)). written first ∷ ts) (items_more items value)
 
 pub one_more_item : (texts : List (List ℕ)) (text : List ℕ) → AreJson texts → IsJson text → AreJson (texts ++ text ∷ [])
 one_more_item texts text some one =
     let items = some.items in
     let value = one.value in
-    record { items = with_item items value; are = ap (λ (ts : List (List ℕ)). ts ++ text ∷ []) some.are ∙ ap (λ (t : List ℕ). items_written items ++ t ∷ []) one.is ∙ sym (items_more items value) }
+    record { items = with_item items value; are = ap (λ (ts : List (List ℕ)). ts ++ text ∷ []) some.are ∙ ap (λ (t : List ℕ). elements_written items ++ t ∷ []) one.is ∙ sym (items_more items value) }
 
 abbrev with_field : Fields → List ℕ → Json → Fields
 with_field NoField name value = MoreFields name value NoField

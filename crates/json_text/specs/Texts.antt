@@ -33,13 +33,13 @@ abbrev pub after_comma : List ℕ → List ℕ
 after_comma text = 44 ∷ text
 
 -- texts with `,` between them
-abbrev pub listed : List (List ℕ) → List ℕ
-listed [] = []
-listed (text ∷ texts) = text ++ flat_map after_comma texts
+abbrev pub with_commas : List (List ℕ) → List ℕ
+with_commas [] = []
+with_commas (text ∷ texts) = text ++ flat_map after_comma texts
 
 -- between two bytes
 abbrev pub enclosed : ℕ → List (List ℕ) → ℕ → List ℕ
-enclosed opening texts closing = opening ∷ (listed texts ++ closing ∷ [])
+enclosed opening texts closing = opening ∷ (with_commas texts ++ closing ∷ [])
 
 abbrev pub array_text : List (List ℕ) → List ℕ
 array_text items = enclosed 91 items 93

@@ -9,12 +9,12 @@ mutual
     Truth : Bool → Json
     Number : (n : ℕ) → n < 2 ^ 64 → Json
     Text : List ℕ → Json
-    Array : Items → Json
+    Array : Elements → Json
     Object : Fields → Json
 
-  pub data Items : Type 0 where
-    NoItem : Items
-    MoreItems : Json → Items → Items
+  pub data Elements : Type 0 where
+    NoElement : Elements
+    MoreElements : Json → Elements → Elements
 
   -- each with its name
   pub data Fields : Type 0 where
@@ -27,12 +27,12 @@ abbrev mutual
   written (Truth value) = truth_text value
   written (Number n small) = decimal n
   written (Text bytes) = quoted bytes
-  written (Array items) = array_text (items_written items)
+  written (Array items) = array_text (elements_written items)
   written (Object fields) = object_text (members_written fields)
 
-  pub items_written : Items → List (List ℕ)
-  items_written NoItem = []
-  items_written (MoreItems value items) = written value ∷ items_written items
+  pub elements_written : Elements → List (List ℕ)
+  elements_written NoElement = []
+  elements_written (MoreElements value items) = written value ∷ elements_written items
 
   pub members_written : Fields → List (List ℕ)
   members_written NoField = []
@@ -45,8 +45,8 @@ pub record IsJson (text : List ℕ) : Type 0 where
 
 -- the texts are those of values
 pub record AreJson (texts : List (List ℕ)) : Type 0 where
-  pub items : Items
-  pub are : texts ≡ items_written items
+  pub items : Elements
+  pub are : texts ≡ elements_written items
 
 -- the texts are those of an object's members
 pub record AreMembers (texts : List (List ℕ)) : Type 0 where

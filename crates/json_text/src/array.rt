@@ -16,14 +16,14 @@ pub struct JsonArray {
 
 impl Model for JsonArray {
     ghost use Rattle.std.specs.Prelude.{ℕ, List};
-    ghost use Rattle.json_text.specs.Internal.Lists.{texts};
+    ghost use Rattle.json_text.specs.Internal.Lists.{bytes_of_each};
     ghost use Rattle.json_text.specs.Values.{AreJson};
 
     ghost Value = { List (List ℕ) };
 
-    ghost view = { λ array. texts array.items.items };
+    ghost view = { λ array. bytes_of_each array.items.items };
 
-    ghost invariant = { λ array. AreJson (texts array.items.items) };
+    ghost invariant = { λ array. AreJson (bytes_of_each array.items.items) };
 }
 
 impl JsonArray {

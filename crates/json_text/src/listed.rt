@@ -1,6 +1,6 @@
 //! Texts with commas between them.
 ghost use Rattle.std.specs.Prelude.{◌≡◌, ◌∷◌, ◌++◌, [], IfOk, OnOk, nat_lt, if◌then◌else◌};
-ghost use Rattle.json_text.specs.Internal.Lists.{texts};
+ghost use Rattle.json_text.specs.Internal.Lists.{bytes_of_each};
 ghost use Rattle.json_text.specs.Texts.{enclosed};
 
 use std::alloc::{AllocError, Global};
@@ -22,7 +22,7 @@ pub(crate) fn enclosed(
     items: &[Vec<u8>],
     last: u8,
 ) -> Result<Vec<u8>, AllocError>
-    ensures { IfOk result (λ text. text.items ≡ enclosed first (texts items.now) last) }
+    ensures { IfOk result (λ text. text.items ≡ enclosed first (bytes_of_each items.now) last) }
 {
     let mut out = Vec::new(alloc);
     out.push(first)?;

@@ -17,14 +17,14 @@ pub struct JsonObject {
 
 impl Model for JsonObject {
     ghost use Rattle.std.specs.Prelude.{ℕ, List};
-    ghost use Rattle.json_text.specs.Internal.Lists.{texts};
+    ghost use Rattle.json_text.specs.Internal.Lists.{bytes_of_each};
     ghost use Rattle.json_text.specs.Values.{AreMembers};
 
     ghost Value = { List (List ℕ) };
 
-    ghost view = { λ object. texts object.members.items };
+    ghost view = { λ object. bytes_of_each object.members.items };
 
-    ghost invariant = { λ object. AreMembers (texts object.members.items) };
+    ghost invariant = { λ object. AreMembers (bytes_of_each object.members.items) };
 }
 
 /// A name, and the text of its value.

@@ -22,7 +22,7 @@ loop-step-preserved c =
     let part = c.in_ok-part.part in
     let has : HasLabel (label (get_or steps i d)) part = subst (λ (s : Step). HasLabel s.label part) c.step-item.is c.in_ok-part.ensures in (
       parts ++ part ∷ [],
-      rw map_more label steps i d c.loop-step-test.true (one_more_step (map label (take i steps)) parts (label (get_or steps i d)) part c.loop-step.invariant.1 has),
+      rw (map_more label steps i d c.loop-step-test.true) (one_more_step (map label (take i steps)) parts (label (get_or steps i d)) part c.loop-step.invariant.1 has),
       c.in_ok-add.ensures ∙ ap (λ (json : List ℕ). c.loop-step.array ++ json ∷ []) c.in_ok-step_text.ensures
           ∙ ap (λ (texts : List (List ℕ)). texts ++ step_text part ∷ []) c.loop-step.invariant.2 ∙ sym (map-append step_text parts (part ∷ [])),
     )

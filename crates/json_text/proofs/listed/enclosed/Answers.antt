@@ -2,8 +2,8 @@ use Rattle.std.proofs.Common.{◌≡◌, ◌<◌, ◌∙◌, ℕ, List, [], ◌�
 use Rattle.std.specs.Global.{Vec}
 use Rattle.std.proofs.Math.Seq.{take-length}
 use Rattle.std.proofs.lemmas.List.{get_or-map, length-map}
-use Rattle.json_text.specs.Internal.Lists.{texts}
-use Rattle.json_text.specs.Texts.{listed}
+use Rattle.json_text.specs.Internal.Lists.{bytes_of_each}
+use Rattle.json_text.specs.Texts.{with_commas}
 use Rattle.json_text.proofs.Lists.{added_at}
 use Rattle.json_text.proofs.listed.enclosed.Goals as goal
 
@@ -12,14 +12,14 @@ loop-i-preserved c =
     let items = c.args.items.now in
     let i = c.loop-i.i in
     let d = c.index-items-i.result in
-    let below : i < length (texts items) = omega (arith, length-map items (λ (v : Vec ℕ). v.items), c.loop-i-test.true) in
+    let below : i < length (bytes_of_each items) = omega (arith, length-map items (λ (v : Vec ℕ). v.items), c.loop-i-test.true) in
     let item = c.as_slice.ensures.value ∙ ap (λ (v : Vec ℕ). v.items) c.index-items-i.is ∙ sym (get_or-map (λ (v : Vec ℕ). v.items) items i d d.items c.loop-i-test.true) in
-    added_at c.args.first (texts items) i d.items c.loop-i.out.items c.push_comma.new.out.items _ below c.loop-i.invariant c.in_ok-push_comma.ensures
+    added_at c.args.first (bytes_of_each items) i d.items c.loop-i.out.items c.push_comma.new.out.items _ below c.loop-i.invariant c.in_ok-push_comma.ensures
     (c.in_ok-extend_from_slice.ensures.items ∙ ap (λ (bs : List ℕ). c.push_comma.new.out.items ++ bs) item)
 
 pub returns : goal.returns
 returns c =
-    let items = texts c.args.items.now in
+    let items = bytes_of_each c.args.items.now in
     let all : c.loop-i.i ≡ length items = omega (arith, length-map c.args.items.now (λ (v : Vec ℕ). v.items)) in
     c.in_ok-push-2.ensures.items
-    ∙ ap (λ (bs : List ℕ). bs ++ c.args.last ∷ []) (c.loop-i.invariant ∙ ap (λ (ts : List (List ℕ)). c.args.first ∷ listed ts) (ap (λ (n : ℕ). take n items) all ∙ take-length items))
+    ∙ ap (λ (bs : List ℕ). bs ++ c.args.last ∷ []) (c.loop-i.invariant ∙ ap (λ (ts : List (List ℕ)). c.args.first ∷ with_commas ts) (ap (λ (n : ℕ). take n items) all ∙ take-length items))

@@ -1,4 +1,3 @@
-use Rattle.std.proofs.Common.{◌∙◌}
 use Rattle.json_text.specs.Values.{Null}
 use Rattle.json_text.proofs.json.JsonText.null.Goals as goal
 

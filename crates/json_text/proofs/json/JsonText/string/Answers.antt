@@ -1,4 +1,3 @@
-use Rattle.std.proofs.Common.{◌∙◌}
 use Rattle.json_text.specs.Values.{Text}
 use Rattle.json_text.proofs.json.JsonText.string.Goals as goal
 
