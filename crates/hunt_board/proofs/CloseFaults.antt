@@ -10,7 +10,7 @@ use Rattle.hunt_board.specs.Internal.Marks.{RecordFaultIs}
 
 -- against the record that the hunt has left
 pub of_record : (h : HuntView) (o : Outcome) (receipts : List Receipt) (why : CloseFault) → IsOutcome o → o.question ≡ h.question → o.costs ≡ h.costs → RecordFaultIs o.entries receipts why → CloseFaultIs h receipts why
-of_record h o receipts fault.NotDone is question costs no = absurd no
+of_record h o receipts fault.NotDone is question costs never = absurd never
 of_record h o receipts (fault.Receipt i) is question costs wrong = (o, record { outcome = is; question = question; costs = costs }, wrong)
 of_record h o receipts fault.Count is question costs few = (o, record { outcome = is; question = question; costs = costs }, few.0, few.1)
-of_record h o receipts fault.OutOfMemory is question costs no = tt
+of_record h o receipts fault.OutOfMemory is question costs any = tt
