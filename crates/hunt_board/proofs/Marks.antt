@@ -229,7 +229,7 @@ event_same Confirmed recorded.Confirmed event.Confirmed h g = tt
 
 -- what the record says of a node is what its receipt says
 module _ (e : Entry) (settled : Settled) (r : Receipt) (told : IsSettledAs e settled) where
-  receipt_of : SaysSame settled r → IsReceiptOf e r
+  pub receipt_of : SaysSame settled r → IsReceiptOf e r
   receipt_of says = record {
     node = says.node ∙ told.same_node;
     seat = says.seat ∙ told.same_seat;
@@ -244,7 +244,7 @@ module _ (e : Entry) (settled : Settled) (r : Receipt) (told : IsSettledAs e set
   }
 
 -- the mark of the receipt's node
-pub mark_of : (entries : List Entry) (r : Receipt) (marks : List Bool) (place : ℕ) (settled : Settled) (mark b : Bool) → Leads entries r.node 0 place →
+abbrev pub mark_of : (entries : List Entry) (r : Receipt) (marks : List Bool) (place : ℕ) (settled : Settled) (mark b : Bool) → Leads entries r.node 0 place →
     ((e : Entry) × (slice_get entries place ≡ Some e) × IsSettledAs e settled) → SaysSame settled r → length marks ≡ length entries → mark ≡ get_or marks place mark → mark ≡ b →
     HasMark entries r marks b
 mark_of entries r marks place settled mark b leads found says long read is = record {

@@ -53,7 +53,10 @@ fn mark(finished: &Finished, named: &mut Vec<bool>, receipt: &Receipt) -> bool
     let Some(settled) = finished.settled(place) else {
         return false;
     };
-    if !is_receipt_of(&settled, receipt) || named[place] {
+    if !is_receipt_of(&settled, receipt) {
+        return false;
+    }
+    if named[place] {
         return false;
     }
     named[place] = true;

@@ -12,6 +12,13 @@ returns-then-not-is_receipt_of c = record {
   same = refl;
 }
 
+pub returns-then-index : goal.returns-then-index
+returns-then-index c = record {
+  why = inr (mark_of c.args.finished.now.entries c.args.receipt.now c.args.named.now.items c.place_of-place.result c.in-Some.settled c.index.result.now _ c.place_of-place.ensures.leads c.in-Some.ensures
+      (c.is_receipt_of.ensures.0 c.if-not-is_receipt_of.false) c.requires c.index.ensures c.if-index.true);
+  same = refl;
+}
+
 pub returns : goal.returns
 returns c = record {
   unmarked = mark_of c.args.finished.now.entries c.args.receipt.now c.args.named.now.items c.place_of-place.result c.in-Some.settled c.index.result.now _ c.place_of-place.ensures.leads c.in-Some.ensures
