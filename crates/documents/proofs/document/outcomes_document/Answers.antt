@@ -1,4 +1,3 @@
-use Rattle.std.proofs.Common.{[]}
 use Rattle.std.proofs.lemmas.Result.{IfOk-weaker}
 use Rattle.documents.proofs.Told.{added, document_with}
 use Rattle.documents.proofs.document.outcomes_document.Goals as goal

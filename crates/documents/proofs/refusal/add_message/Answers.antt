@@ -1,4 +1,3 @@
-use Rattle.std.proofs.Common.{◌∙◌, [], ◌∷◌}
 use Rattle.documents.proofs.Told.{added}
 use Rattle.documents.proofs.refusal.add_message.Goals as goal
 
