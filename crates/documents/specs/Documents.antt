@@ -1,5 +1,5 @@
 -- The documents of the commands.
-use Rattle.std.specs.Prelude.{◌≡◌, ℕ, List, [], ◌∷◌, ◌++◌, codes}
+use Rattle.std.specs.Prelude.{◌≡◌, ℕ, ◌-◌, List, [], ◌∷◌, ◌++◌, codes, drop, length, min, take}
 use Rattle.gap_sets.specs.Gaps.{SetOfGaps}
 use Rattle.tso_program.specs.declared.listing.Listing.{Listing}
 use Rattle.tso_program.specs.declared.outcome.Outcome.{Outcome}
@@ -66,7 +66,14 @@ pub record AddsMembers (before after : List (List ℕ)) : Type 0 where
   pub members : List (List ℕ)
   pub added : after ≡ before ++ members
 
+-- what the line of a refusal says after `refused `, without its end
+abbrev pub after_refused : List ℕ → List ℕ
+after_refused line = drop (min (length line) 8) line
+
+abbrev pub reason_of : List ℕ → List ℕ
+reason_of line = take (length (after_refused line) - 1) (after_refused line)
+
 -- of a refusal, with the reason that the line of standard output gives
 pub record IsRefusalDocument (line text : List ℕ) : Type 0 where
   pub members : List (List ℕ)
-  pub printed : (reason : List ℕ) → line ≡ codes "refused " ++ (reason ++ 10 ∷ []) → text ≡ document_of (format_member ∷ member (codes "refused") (quoted reason) ∷ members)
+  pub printed : text ≡ document_of (format_member ∷ member (codes "refused") (quoted (reason_of line)) ∷ members)

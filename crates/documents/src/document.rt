@@ -24,12 +24,12 @@ pub(crate) fn add_format(alloc: Global, object: &mut JsonObject) -> Result<(), A
 }
 
 /// A document's object up to what is said of the program.
-fn begun(alloc: Global, command: &str, litmus: &Litmus<Program>) -> Result<JsonObject, AllocError>
+fn begun(alloc: Global, command: &[u8], litmus: &Litmus<Program>) -> Result<JsonObject, AllocError>
     ensures { IfOk result (TellsHeading litmus.now command.now) }
 {
     let mut object = JsonObject::new(alloc);
     add_format(alloc, &mut object)?;
-    let name = JsonText::string(alloc, command.as_bytes())?;
+    let name = JsonText::string(alloc, command)?;
     object.add("command", name)?;
     add_program(alloc, &mut object, litmus)?;
     Ok(object)
@@ -58,7 +58,7 @@ pub fn placed_document(
     ensures told { IfOk result (λ document. IsPlacedDocument litmus.now shown.now costs.now set.now fenced.now document.items) }
     ensures safe { IfOk result (λ document. IsSafe document.items) }
 {
-    let mut object = begun(alloc, "place", litmus)?;
+    let mut object = begun(alloc, b"place", litmus)?;
     add_answer(alloc, &mut object, litmus, shown, costs, set)?;
     let text = JsonText::string(alloc, fenced)?;
     object.add("fenced", text)?;
@@ -77,7 +77,7 @@ pub fn why_document(
     ensures told { IfOk result (λ document. IsWhyDocument litmus.now shown.now costs.now set.now runs document.items) }
     ensures safe { IfOk result (λ document. IsSafe document.items) }
 {
-    let mut object = begun(alloc, "why", litmus)?;
+    let mut object = begun(alloc, b"why", litmus)?;
     add_answer(alloc, &mut object, litmus, shown, costs, set)?;
     let runs = runs.into_json()?;
     object.add("runs", runs)?;
@@ -97,7 +97,7 @@ pub fn trace_document(
 {
     let setting = Setting::Machine(model);
     let run = run_value(alloc, litmus, &Shown::All, setting, steps, ended)?;
-    let mut object = begun(alloc, "trace", litmus)?;
+    let mut object = begun(alloc, b"trace", litmus)?;
     object.add("run", run)?;
     document_of(object)
 }
@@ -118,7 +118,7 @@ pub fn outcomes_document(
     let list = outcomes_array(alloc, &litmus.names, shown, outcomes)?;
     let often = JsonText::string(alloc, frequency(condition, outcomes).as_bytes())?;
     let holds = JsonText::truth(alloc, is_true_of(condition, outcomes))?;
-    let mut object = begun(alloc, "outcomes", litmus)?;
+    let mut object = begun(alloc, b"outcomes", litmus)?;
     add_model(alloc, &mut object, model)?;
     object.add("observed", observed)?;
     object.add("outcomes", list)?;

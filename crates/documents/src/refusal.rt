@@ -1,7 +1,7 @@
 //! Refusals.
-ghost use Rattle.std.specs.Prelude.{◌≡◌, ◌∷◌, ◌++◌, [], ℕ, List, IfOk, codes};
+ghost use Rattle.std.specs.Prelude.{◌≡◌, IfOk, OnOk};
 ghost use Rattle.json_text.specs.Safe.{IsSafe};
-ghost use Rattle.documents.specs.Documents.{AddsMembers, IsRefusalDocument};
+ghost use Rattle.documents.specs.Documents.{reason_of, AddsMembers, IsRefusalDocument};
 
 use crate::document::{add_format, document_of};
 use json_text::{JsonObject, JsonText};
@@ -39,14 +39,15 @@ fn string_or_null(alloc: Global, text: &[u8]) -> Result<JsonText, AllocError> {
     }
 }
 
-/// What a line of standard output says after `refused `, without its end.
+/// What the line of a refusal says after `refused `, without its end.
 fn reason_of(line: &[u8]) -> &[u8]
-    ensures { (reason : List ℕ) → line.now ≡ codes "refused " ++ (reason ++ 10 ∷ []) → result.now ≡ reason }
+    ensures { result.now ≡ reason_of line.now }
 {
-    match line.strip_prefix(b"refused ") {
-        Some([reason @ .., b'\n']) => reason,
-        _ => line,
-    }
+    let start = line.len().min(8);
+    let (_, rest) = line.split_at(start);
+    let end = rest.len().saturating_sub(1);
+    let (reason, _) = rest.split_at(end);
+    reason
 }
 
 /// Adds what is said about a refusal.

@@ -10,7 +10,7 @@ use json_text::{JsonArray, JsonObject, JsonText};
 use litmus_text::{Litmus, NameTable};
 use run_table::{action_of, waits, written};
 use std::alloc::{AllocError, Global};
-use tso_machine::{Label, Pending, Step, write_run};
+use tso_machine::{Label, Pending, Step};
 use tso_program::{Action, Program};
 
 /// What is said of a step.
@@ -30,8 +30,16 @@ pub(crate) struct StepPart {
 fn label(alloc: Global, step: &Step) -> Result<JsonText, AllocError>
     ensures { IfOk result (λ json. json ≡ quoted (spelling step.now.label)) }
 {
-    let text = write_run(alloc, &[step.label])?;
-    JsonText::string(alloc, &text)
+    match step.label {
+        Label::Exec(thread) => {
+            let text = format!(in alloc; "e{thread}")?;
+            JsonText::string(alloc, text.as_bytes())
+        }
+        Label::Flush(thread) => {
+            let text = format!(in alloc; "f{thread}")?;
+            JsonText::string(alloc, text.as_bytes())
+        }
+    }
 }
 
 /// The number of the instruction that a step executes, if it executes one.

@@ -8,5 +8,5 @@ returns-clause-told c =
     let more = c.in_ok-add_message.ensures in
     IfOk-weaker c.document_of.result _ _ (λ document is. record {
       members = more.members;
-      printed = λ reason line. is ∙ ap document_of (rw (c.in_ok-add.ensures, c.in_ok-reason.ensures, c.reason_of.ensures reason line, c.in_ok-add_format.ensures, c.new-object.ensures) at more.added);
+      printed = is ∙ ap document_of (rw (c.in_ok-add.ensures, c.in_ok-reason.ensures, c.reason_of.ensures, c.in_ok-add_format.ensures, c.new-object.ensures) at more.added);
     }) c.document_of.ensures.text
