@@ -8,6 +8,7 @@ use json_text::{JsonObject, JsonText};
 use std::alloc::{AllocError, Global};
 
 /// What is said about a refusal beside its line.
+#[derive(Clone, Copy, Debug)]
 pub struct Message<'a> {
     /// The file's name.
     pub file: &'a [u8],

@@ -1,5 +1,5 @@
 -- What is delivered: the files hold what is written to them.
-use Rattle.std.proofs.Common.{◌≡◌, ℕ, List, Option, Result, Ok, Err, IfOk, Some, None, refl, sym, subst, ◌∙◌}
+use Rattle.std.proofs.Common.{ℕ, List, Option, Result, Ok, Err, IfOk, Some, None, refl, sym, subst, ◌∙◌}
 use Rattle.program_streams.specs.Streams.{HoldsBytes}
 use Rattle.placed_text.specs.declared.fault.TextFault.{TextFault}
 use Rattle.placed_text.specs.declared.writing.PlacedText.{PlacedText}

@@ -5,6 +5,7 @@ use Rattle.program_streams.specs.declared.fault.FileFault.TheVariants as file
 use Rattle.program_streams.specs.FileLines.{file_line}
 use Rattle.program_streams.specs.Streams.{HoldsBytes}
 use Rattle.fencer.specs.declared.delivery.Answer.{Answer}
+use Rattle.fencer.specs.Refused.{RefusalSays}
 
 -- each file but the one of this name, where there is one, holds what it held
 abbrev pub KeepFiles : Option (List ℕ) → (List ℕ → Option (List ℕ)) → (List ℕ → Option (List ℕ)) → Type 0
@@ -35,4 +36,4 @@ pub record HoldsFiles (first second : Option (List ℕ)) (left : List ℕ → Op
 -- the lines with their status where the files that are named hold what is written to them; or that one can't be written
 pub data IsDelivered (first second : Option (List ℕ)) (left : List ℕ → Option (List ℕ)) (answer : Answer) : ℕ → List ℕ → Type 0 where
   kept : HoldsFiles first second left answer → IsDelivered first second left answer answer.status answer.lines.items
-  not_kept : IsSome first ⊎ IsSome second → IsDelivered first second left answer 1 (file_line file.Write)
+  not_kept : (text : List ℕ) → IsSome first ⊎ IsSome second → RefusalSays answer.json (file_line file.Write) text → IsDelivered first second left answer 1 text

@@ -17,4 +17,5 @@ IsPageFor (Some name) document page = page ≡ page_text document
 pub record DeliversDocument (json : Bool) (page : Option (List ℕ)) (text document : List ℕ) (answer : Answer) : Type 0 where
   pub lines : answer.lines.items ≡ printed json text document
   pub ends : answer.status ≡ 0
+  pub as_asked : answer.json ≡ json
   pub paged : IsPageFor page document answer.first.items

@@ -1,5 +1,6 @@
 pub mod Lines
 pub mod Statuses
+pub mod Refused
 pub mod Refusals
 pub mod TextAnswers
 pub mod InputTexts

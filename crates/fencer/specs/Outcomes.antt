@@ -65,4 +65,4 @@ HasNoList bytes (refusal.Solve fault) = (litmus : Litmus Listing) × IsLitmus by
 
 -- the answer to a question for outcomes, with its status: the lines of the list, or the line of a refusal
 abbrev pub AreOutcomes : OutcomeQuery → Option (List ℕ) → (List ℕ → Option (List ℕ)) → ℕ → List ℕ → Type 0
-AreOutcomes q = IsAnswerTo (PrintsOutcomes q) HasNoList (string_bytes q.litmus)
+AreOutcomes q = IsAnswerTo (PrintsOutcomes q) HasNoList q.json (string_bytes q.litmus)

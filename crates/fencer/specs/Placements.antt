@@ -18,6 +18,7 @@ use Rattle.fencer.specs.declared.delivery.Answer.{Answer}
 use Rattle.fencer.specs.Deliveries.{IsDelivered, KeepAllFiles}
 use Rattle.fencer.specs.Documented.{printed as either}
 use Rattle.fencer.specs.InputTexts.{AreTexts, HasNoTexts}
+use Rattle.fencer.specs.Refused.{RefusalSays}
 use Rattle.fencer.specs.Statuses.{check_status}
 
 -- ---- lines
@@ -42,6 +43,7 @@ text_fault_line fault.OutOfMemory = place_line place.OutOfMemory
 pub record DeliversTexts (texts : PlacedText) (check json : Bool) (answer : Answer) : Type 0 where
   pub printed : answer.lines.items ≡ either json (texts.answer.items ++ texts.program.items) texts.document.items
   pub ends : answer.status ≡ check_status check (nat_lt 0 (set.len texts.gaps))
+  pub as_asked : answer.json ≡ json
   pub program : answer.first.items ≡ texts.program.items
   pub proof : answer.second.items ≡ texts.certificate.items
 
@@ -57,10 +59,10 @@ pub record PrintsPlacement (litmus : List ℕ) (costs : Option (List ℕ)) (obse
 pub data IsJudged (q : Placement) (litmus : List ℕ) (costs : Option (List ℕ)) (files left : List ℕ → Option (List ℕ)) : ℕ → List ℕ → Type 0 where
   placed : (answer : Answer) (status : ℕ) (text : List ℕ) → PrintsPlacement litmus costs q.observed q.check q.json answer
       → IsDelivered (name_of q.output) (name_of q.certificate) left answer status text → IsJudged q litmus costs files left status text
-  refused_for : (why : TextFault) → HasNoPlacedText litmus costs q.workers why → KeepAllFiles files left → IsJudged q litmus costs files left 1 (text_fault_line why)
+  refused_for : (why : TextFault) (text : List ℕ) → HasNoPlacedText litmus costs q.workers why → RefusalSays q.json (text_fault_line why) text → KeepAllFiles files left → IsJudged q litmus costs files left 1 text
 
 -- the answer to what is asked; or why a file isn't read, and then no file is changed
 pub data IsPlaced (q : Placement) (input : Option (List ℕ)) (files left : List ℕ → Option (List ℕ)) : ℕ → List ℕ → Type 0 where
   of_texts : (litmus : List ℕ) (costs : Option (List ℕ)) (status : ℕ) (text : List ℕ) → AreTexts (string_bytes q.litmus) (name_of q.costs) input files litmus costs
       → IsJudged q litmus costs files left status text → IsPlaced q input files left status text
-  no_texts : (why : FileFault) → HasNoTexts (string_bytes q.litmus) (name_of q.costs) input files why → KeepAllFiles files left → IsPlaced q input files left 1 (file_line why)
+  no_texts : (why : FileFault) (text : List ℕ) → HasNoTexts (string_bytes q.litmus) (name_of q.costs) input files why → RefusalSays q.json (file_line why) text → KeepAllFiles files left → IsPlaced q input files left 1 text

@@ -13,6 +13,7 @@ use Rattle.fencer.specs.declared.refusals.Refusal.{Refusal}
 use Rattle.fencer.specs.Deliveries.{IsDelivered, KeepAllFiles}
 use Rattle.fencer.specs.Documented.{DeliversDocument}
 use Rattle.fencer.specs.Refusals.{refusal_line}
+use Rattle.fencer.specs.Refused.{RefusalSays}
 use Rattle.fencer.specs.Replays.{label_words_text, PrintsRun, HasNoRun}
 
 -- the lines end so
@@ -38,10 +39,10 @@ pub record DeliversTrace (q : TraceQuery) (bytes : List ℕ) (answer : Answer) :
 pub data IsTraceOf (q : TraceQuery) (bytes : List ℕ) (files left : List ℕ → Option (List ℕ)) : ℕ → List ℕ → Type 0 where
   traced : (answer : Answer) (status : ℕ) (text : List ℕ) → DeliversTrace q bytes answer
       → IsDelivered (name_of q.page) (name_of q.graph) left answer status text → IsTraceOf q bytes files left status text
-  refused_for : (why : Refusal) → HasNoRun q.run.model (label_words_text q.run.labels.items) bytes why → KeepAllFiles files left → IsTraceOf q bytes files left 1 (refusal_line why)
+  refused_for : (why : Refusal) (text : List ℕ) → HasNoRun q.run.model (label_words_text q.run.labels.items) bytes why → RefusalSays q.json (refusal_line why) text → KeepAllFiles files left → IsTraceOf q bytes files left 1 text
 
 -- the answer to a trace; or why its file isn't read, and then no file is changed
 pub data IsTrace (q : TraceQuery) (input : Option (List ℕ)) (files left : List ℕ → Option (List ℕ)) : ℕ → List ℕ → Type 0 where
   of_text : (bytes : List ℕ) (status : ℕ) (text : List ℕ) → AreOfFile TEXT_LIMIT (string_bytes q.run.litmus) input files bytes
       → IsTraceOf q bytes files left status text → IsTrace q input files left status text
-  no_text : (why : FileFault) → IsFileFault TEXT_LIMIT (string_bytes q.run.litmus) input files why → KeepAllFiles files left → IsTrace q input files left 1 (file_line why)
+  no_text : (why : FileFault) (text : List ℕ) → IsFileFault TEXT_LIMIT (string_bytes q.run.litmus) input files why → RefusalSays q.json (file_line why) text → KeepAllFiles files left → IsTrace q input files left 1 text

@@ -12,6 +12,7 @@ use Rattle.fencer.specs.Deliveries.{IsDelivered, KeepAllFiles}
 use Rattle.fencer.specs.Documented.{DeliversDocument}
 use Rattle.fencer.specs.InputTexts.{AreTexts, HasNoTexts}
 use Rattle.fencer.specs.Placements.{text_fault_line}
+use Rattle.fencer.specs.Refused.{RefusalSays}
 
 -- what is delivered: a text with a run for each gap of the answer, or its document, and the page of the document
 pub record Explains (q : WhyQuery) (litmus : List ℕ) (costs : Option (List ℕ)) (answer : Answer) : Type 0 where
@@ -25,10 +26,10 @@ pub record Explains (q : WhyQuery) (litmus : List ℕ) (costs : Option (List ℕ
 pub data IsExplainedText (q : WhyQuery) (litmus : List ℕ) (costs : Option (List ℕ)) (files left : List ℕ → Option (List ℕ)) : ℕ → List ℕ → Type 0 where
   explained : (answer : Answer) (status : ℕ) (text : List ℕ) → Explains q litmus costs answer
       → IsDelivered (name_of q.page) (name_of q.graphs) left answer status text → IsExplainedText q litmus costs files left status text
-  refused_for : (why : TextFault) → HasNoPlacedText litmus costs q.placement.workers why → KeepAllFiles files left → IsExplainedText q litmus costs files left 1 (text_fault_line why)
+  refused_for : (why : TextFault) (text : List ℕ) → HasNoPlacedText litmus costs q.placement.workers why → RefusalSays q.placement.json (text_fault_line why) text → KeepAllFiles files left → IsExplainedText q litmus costs files left 1 text
 
 -- the answer to what is asked; or why a file isn't read, and then no file is changed
 pub data IsExplained (q : WhyQuery) (input : Option (List ℕ)) (files left : List ℕ → Option (List ℕ)) : ℕ → List ℕ → Type 0 where
   of_texts : (litmus : List ℕ) (costs : Option (List ℕ)) (status : ℕ) (text : List ℕ) → AreTexts (string_bytes q.placement.litmus) (name_of q.placement.costs) input files litmus costs
       → IsExplainedText q litmus costs files left status text → IsExplained q input files left status text
-  no_texts : (why : FileFault) → HasNoTexts (string_bytes q.placement.litmus) (name_of q.placement.costs) input files why → KeepAllFiles files left → IsExplained q input files left 1 (file_line why)
+  no_texts : (why : FileFault) (text : List ℕ) → HasNoTexts (string_bytes q.placement.litmus) (name_of q.placement.costs) input files why → RefusalSays q.placement.json (file_line why) text → KeepAllFiles files left → IsExplained q input files left 1 text

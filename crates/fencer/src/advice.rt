@@ -40,16 +40,17 @@ pub(crate) fn unread_advice<S: FileStore>(
     alloc: Global,
     files: &S,
     file: UnreadFile<'_>,
-) -> Result<Vec<u8>, AllocError> {
-    unread_message(alloc, file, files.obstacle(file.name))?.written(alloc)
+) -> Result<Message, AllocError> {
+    unread_message(alloc, file, files.obstacle(file.name))
 }
 
 /// That a file is not written.
-pub(crate) fn unwritten_advice(alloc: Global, name: Option<&str>) -> Result<Vec<u8>, AllocError> {
-    unwritten_message(alloc, name.unwrap_or(""))?.written(alloc)
+pub(crate) fn unwritten_advice(alloc: Global, name: Option<&str>) -> Result<Message, AllocError> {
+    unwritten_message(alloc, name.unwrap_or(""))
 }
 
-fn refusal_message(
+/// Why there is no answer.
+pub(crate) fn refusal_advice(
     alloc: Global,
     subject: Subject<'_>,
     why: Refusal,
@@ -66,16 +67,8 @@ fn refusal_message(
     }
 }
 
-/// Why there is no answer.
-pub(crate) fn refusal_advice(
-    alloc: Global,
-    subject: Subject<'_>,
-    why: Refusal,
-) -> Result<Vec<u8>, AllocError> {
-    refusal_message(alloc, subject, why)?.written(alloc)
-}
-
-fn text_fault_message(
+/// Why a litmus text or a text of costs, of files of these names, has no answer.
+pub(crate) fn text_fault_advice(
     alloc: Global,
     named: (&str, Option<&str>),
     texts: &Texts,
@@ -95,14 +88,4 @@ fn text_fault_message(
             Message::of_file(alloc, name, text.as_str())
         }
     }
-}
-
-/// Why a litmus text or a text of costs, of files of these names, has no answer.
-pub(crate) fn text_fault_advice(
-    alloc: Global,
-    named: (&str, Option<&str>),
-    texts: &Texts,
-    fault: TextFault,
-) -> Result<Vec<u8>, AllocError> {
-    text_fault_message(alloc, named, texts, fault)?.written(alloc)
 }

@@ -12,6 +12,7 @@ use crate::advice::{unread_advice, unread_litmus};
 use crate::gaps::run_gaps;
 use crate::outcomes::run_outcomes;
 use crate::place::run_place;
+use crate::refused::tell_refusal;
 use crate::replays::run_replay;
 use crate::traces::run_trace;
 use crate::whys::run_why;
@@ -20,7 +21,7 @@ use clap::error::ErrorKind;
 use fencer_words::{Job, read_words};
 use program_streams::{
     Console, LineFault, TEXT_LIMIT, WritableFileStore, asks_version, file_line, line_words, print,
-    read_line_up_to, refuse, refuse_words, version_line,
+    read_line_up_to, refuse_words, version_line,
 };
 use std::alloc::{AllocError, Global};
 use std::io::Read;
@@ -121,7 +122,7 @@ pub fn run_command<T: Threads + Sync, U: Wait + Sync, S: WritableFileStore, R: R
         Ok(line) => line,
         Err(fault) => {
             let message = unread_advice(alloc, &*files, unread_litmus("-", fault));
-            return refuse(output, file_line(alloc, fault), message);
+            return tell_refusal(alloc, false, file_line(alloc, fault), message, output);
         }
     };
     match line_words(alloc, &line) {

@@ -5,14 +5,17 @@ ghost use Rattle.program_streams.specs.Streams.{Prints};
 ghost use Rattle.fencer.specs.Deliveries.{HoldsFile, HoldsFiles, KeepFiles, KeepFilesBut, IsDelivered};
 
 use crate::advice::unwritten_advice;
-use program_streams::{Console, FileFault, WritableFileStore, file_line, print, refuse};
+use crate::refused::tell_refusal;
+use program_streams::{Console, FileFault, WritableFileStore, file_line, print};
 use std::alloc::Global;
 
-/// What is printed, with its status, and what is written to each of two files, where it is named.
+/// What is printed, with its status, and what is written to each of two files, where it is named. Where one can't be
+/// written, that is reported as a line or as a document.
 #[derive(Debug, Drop)]
 pub(crate) struct Answer {
     pub(crate) lines: Vec<u8>,
     pub(crate) status: u8,
+    pub(crate) json: bool,
     pub(crate) first: Vec<u8>,
     pub(crate) second: Vec<u8>,
 }
@@ -73,7 +76,13 @@ pub(crate) fn deliver<S: WritableFileStore, W: Console>(
         }
         Err(name) => {
             let message = unwritten_advice(alloc, name);
-            refuse(output, file_line(alloc, FileFault::Write), message)
+            tell_refusal(
+                alloc,
+                answer.json,
+                file_line(alloc, FileFault::Write),
+                message,
+                output,
+            )
         }
     }
 }

@@ -39,6 +39,7 @@ pub(crate) fn documented(
     Ok(Answer {
         lines: printed(json, text, document),
         status: 0,
+        json,
         first,
         second: graph,
     })

@@ -8,13 +8,14 @@ ghost use Rattle.fencer.specs.GapTexts.{AreGaps, AreGapsOfTexts, HasNoGaps, IsGa
 
 use crate::advice::{text_fault_advice, unread_advice};
 use crate::place::text_fault_line;
+use crate::refused::tell_refusal;
 use crate::texts::{Texts, read_texts};
 use fencer_words::GapQuery;
 use gap_list::{cost_file, gap_list};
 use gap_sets::Costs;
 use litmus_text::Litmus;
 use placed_text::{TextFault, read_gap_costs, read_program};
-use program_streams::{Console, FileStore, TEXT_LIMIT, file_line, print, refuse};
+use program_streams::{Console, FileStore, TEXT_LIMIT, file_line, print};
 use std::alloc::{AllocError, Global};
 use std::io::Read;
 use tso_program::Program;
@@ -70,7 +71,7 @@ fn gaps_of_texts<W: Console>(alloc: Global, asked: &GapQuery, texts: &Texts, out
         Err(fault) => {
             let named = (asked.litmus.as_str(), asked.costs.as_deref());
             let message = text_fault_advice(alloc, named, texts, fault);
-            refuse(output, text_fault_line(alloc, fault), message)
+            tell_refusal(alloc, false, text_fault_line(alloc, fault), message, output)
         }
     }
 }
@@ -91,7 +92,7 @@ pub fn run_gaps<S: FileStore, R: Read, W: Console>(
         Ok(texts) => gaps_of_texts(alloc, asked, &texts, output),
         Err(file) => {
             let message = unread_advice(alloc, files, file);
-            refuse(output, file_line(alloc, file.fault), message)
+            tell_refusal(alloc, false, file_line(alloc, file.fault), message, output)
         }
     }
 }

@@ -9,6 +9,7 @@ mod gaps;
 mod outcomes;
 mod place;
 mod refusals;
+mod refused;
 mod replays;
 mod status;
 mod texts;

@@ -7,13 +7,14 @@ ghost use Rattle.fencer.specs.Outcomes.{list_text as lines_of_list, list_status,
 
 use crate::advice::{Subject, unread_advice, unread_litmus};
 use crate::refusals::{Refusal, Reply, print_answer};
+use crate::refused::tell_refusal;
 use crate::status::check_status;
 use cover_solver::{SolveFault, outcomes};
 use documents::outcomes_document;
 use fencer_words::OutcomeQuery;
 use litmus_text::{Litmus, read_litmus};
 use messages::file_or_input;
-use program_streams::{Console, FileStore, TEXT_LIMIT, file_line, named_bytes, refuse};
+use program_streams::{Console, FileStore, TEXT_LIMIT, file_line, named_bytes};
 use report::{condition_line, is_true_of, observation_line, outcome_line};
 use std::alloc::{AllocError, Global};
 use std::io::Read;
@@ -98,11 +99,11 @@ pub fn run_outcomes<S: FileStore, R: Read, W: Console>(
                 labels: &[],
             };
             let reply = outcomes_reply(alloc, &bytes, asked);
-            print_answer(alloc, subject, reply, output)
+            print_answer(alloc, asked.json, subject, reply, output)
         }
         Err(fault) => {
             let message = unread_advice(alloc, files, unread_litmus(litmus, fault));
-            refuse(output, file_line(alloc, fault), message)
+            tell_refusal(alloc, asked.json, file_line(alloc, fault), message, output)
         }
     }
 }

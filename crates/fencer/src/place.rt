@@ -11,12 +11,13 @@ ghost use Rattle.fencer.specs.Placements.{place_line, text_fault_line, DeliversT
 use crate::advice::{text_fault_advice, unread_advice};
 use crate::delivery::{Answer, deliver};
 use crate::documented::printed;
+use crate::refused::tell_refusal;
 use crate::status::check_status;
 use crate::texts::{Texts, read_texts};
 use fence_place::PlaceFault;
 use fencer_words::Placement;
 use placed_text::{PlacedText, TextFault, place_text};
-use program_streams::{Console, TEXT_LIMIT, WritableFileStore, file_line, refuse};
+use program_streams::{Console, TEXT_LIMIT, WritableFileStore, file_line};
 use report::{costs_line, litmus_line};
 use std::alloc::{AllocError, Global};
 use std::io::Read;
@@ -66,6 +67,7 @@ fn joined(texts: PlacedText, check: bool, json: bool) -> Result<Answer, TextFaul
         Ok(()) => Ok(Answer {
             lines: printed(json, lines, document),
             status: check_status(check, gaps.len() > 0),
+            json,
             first: program,
             second: certificate,
         }),
@@ -117,7 +119,13 @@ fn place_texts<T: Threads + Sync, U: Wait + Sync, S: WritableFileStore, W: Conso
         Err(fault) => {
             let named = (asked.litmus.as_str(), asked.costs.as_deref());
             let message = text_fault_advice(alloc, named, texts, fault);
-            refuse(output, text_fault_line(alloc, fault), message)
+            tell_refusal(
+                alloc,
+                asked.json,
+                text_fault_line(alloc, fault),
+                message,
+                output,
+            )
         }
     }
 }
@@ -142,7 +150,13 @@ pub fn run_place<T: Threads + Sync, U: Wait + Sync, S: WritableFileStore, R: Rea
         Ok(texts) => place_texts(rt, wait, alloc, files, asked, &texts, output),
         Err(file) => {
             let message = unread_advice(alloc, &*files, file);
-            refuse(output, file_line(alloc, file.fault), message)
+            tell_refusal(
+                alloc,
+                asked.json,
+                file_line(alloc, file.fault),
+                message,
+                output,
+            )
         }
     }
 }

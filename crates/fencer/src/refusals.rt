@@ -6,9 +6,10 @@ ghost use Rattle.fencer.specs.declared.refusals.Refusal.TheVariants as refusal;
 ghost use Rattle.fencer.specs.Refusals.{refusal_line, solve_line, IsTold};
 
 use crate::advice::{Subject, refusal_advice};
+use crate::refused::tell_refusal;
 use cover_solver::SolveFault;
 use litmus_text::ReadFault;
-use program_streams::{Console, print, refuse};
+use program_streams::{Console, print};
 use report::{litmus_line, replay_line, run_line};
 use std::alloc::{AllocError, Global};
 use tso_machine::{ReplayFault, RunFault};
@@ -87,20 +88,22 @@ pub struct Reply {
     pub status: u8,
 }
 
-/// Prints the lines of an answer to what is asked, or why there is no answer, and returns the status.
+/// Prints the lines of an answer to what is asked, or why there is no answer, as a document where that is asked for, and
+/// returns the status.
 pub fn print_answer<W: Console>(
     alloc: Global,
+    json: bool,
     subject: Subject<'_>,
     answer: Result<Reply, Refusal>,
     output: &mut W,
 ) -> u8
-    ensures { Prints (IsTold answer) (W.contents output.old) (W.contents output.new) result }
+    ensures { Prints (IsTold json answer) (W.contents output.old) (W.contents output.new) result }
 {
     match answer {
         Ok(reply) => print(output, Ok(reply.lines), reply.status),
         Err(why) => {
             let message = refusal_advice(alloc, subject, why);
-            refuse(output, refusal_line(alloc, why), message)
+            tell_refusal(alloc, json, refusal_line(alloc, why), message, output)
         }
     }
 }

@@ -9,11 +9,12 @@ ghost use Rattle.fencer.specs.Replays.{label_words_text, HasNoRun, IsReplay, Sho
 
 use crate::advice::{Subject, unread_advice, unread_litmus};
 use crate::refusals::{Refusal, Reply, print_answer};
+use crate::refused::tell_refusal;
 use fencer_words::Run;
 use gap_sets::GapSet;
 use litmus_text::{Litmus, read_litmus};
 use messages::file_or_input;
-use program_streams::{Console, FileStore, TEXT_LIMIT, file_line, named_bytes, refuse};
+use program_streams::{Console, FileStore, TEXT_LIMIT, file_line, named_bytes};
 use report::{outcome_line, passed_line};
 use std::alloc::{AllocError, Global};
 use std::io::Read;
@@ -91,6 +92,7 @@ pub fn run_replay<S: FileStore, R: Read, W: Console>(
     match named_bytes(alloc, files, asked.litmus.as_str(), input, TEXT_LIMIT) {
         Ok(bytes) => print_answer(
             alloc,
+            false,
             Subject {
                 name: file_or_input(asked.litmus.as_str()),
                 text: &bytes,
@@ -101,7 +103,7 @@ pub fn run_replay<S: FileStore, R: Read, W: Console>(
         ),
         Err(fault) => {
             let message = unread_advice(alloc, files, unread_litmus(asked.litmus.as_str(), fault));
-            refuse(output, file_line(alloc, fault), message)
+            tell_refusal(alloc, false, file_line(alloc, fault), message, output)
         }
     }
 }

@@ -18,13 +18,14 @@ use crate::advice::{Subject, refusal_advice, unread_advice, unread_litmus};
 use crate::delivery::{Answer, deliver};
 use crate::documented::documented;
 use crate::refusals::{Refusal, refusal_line};
+use crate::refused::tell_refusal;
 use crate::replays::{ended_lines, steps_of};
 use documents::trace_document;
 use fencer_words::{Run, TraceQuery};
 use gap_sets::GapSet;
 use litmus_text::{Litmus, read_litmus};
 use messages::file_or_input;
-use program_streams::{Console, TEXT_LIMIT, WritableFileStore, file_line, named_bytes, refuse};
+use program_streams::{Console, TEXT_LIMIT, WritableFileStore, file_line, named_bytes};
 use run_graph::RunGraph;
 use run_table::run_table;
 use std::alloc::{AllocError, Global};
@@ -177,7 +178,7 @@ fn trace_text<S: WritableFileStore, W: Console>(
                 labels: asked.run.labels.as_slice(),
             };
             let message = refusal_advice(alloc, subject, why);
-            refuse(output, refusal_line(alloc, why), message)
+            tell_refusal(alloc, asked.json, refusal_line(alloc, why), message, output)
         }
     }
 }
@@ -200,7 +201,7 @@ pub fn run_trace<S: WritableFileStore, R: Read, W: Console>(
         Ok(bytes) => trace_text(alloc, files, asked, &bytes, output),
         Err(fault) => {
             let message = unread_advice(alloc, &*files, unread_litmus(litmus, fault));
-            refuse(output, file_line(alloc, fault), message)
+            tell_refusal(alloc, asked.json, file_line(alloc, fault), message, output)
         }
     }
 }

@@ -12,10 +12,11 @@ use crate::advice::{text_fault_advice, unread_advice};
 use crate::delivery::{Answer, deliver};
 use crate::documented::documented;
 use crate::place::text_fault_line;
+use crate::refused::tell_refusal;
 use crate::texts::{Texts, read_texts};
 use fencer_words::{Placement, WhyQuery};
 use placed_text::TextFault;
-use program_streams::{Console, TEXT_LIMIT, WritableFileStore, file_line, refuse};
+use program_streams::{Console, TEXT_LIMIT, WritableFileStore, file_line};
 use std::alloc::Global;
 use std::io::Read;
 use std::sync::Wait;
@@ -73,7 +74,13 @@ fn explain_texts<T: Threads + Sync, U: Wait + Sync, S: WritableFileStore, W: Con
             let Placement { litmus, costs, .. } = &asked.placement;
             let named = (litmus.as_str(), costs.as_deref());
             let message = text_fault_advice(alloc, named, texts, fault);
-            refuse(output, text_fault_line(alloc, fault), message)
+            tell_refusal(
+                alloc,
+                asked.placement.json,
+                text_fault_line(alloc, fault),
+                message,
+                output,
+            )
         }
     }
 }
@@ -99,7 +106,13 @@ pub fn run_why<T: Threads + Sync, U: Wait + Sync, S: WritableFileStore, R: Read,
         Ok(texts) => explain_texts(rt, wait, alloc, files, asked, &texts, output),
         Err(file) => {
             let message = unread_advice(alloc, &*files, file);
-            refuse(output, file_line(alloc, file.fault), message)
+            tell_refusal(
+                alloc,
+                asked.placement.json,
+                file_line(alloc, file.fault),
+                message,
+                output,
+            )
         }
     }
 }

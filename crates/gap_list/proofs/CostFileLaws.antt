@@ -1,5 +1,5 @@
 -- The cost file of all gaps is read as their costs.
-use Rattle.std.proofs.Common.{◌≡◌, ◌==◌, ◌+◌, ◌^◌, ◌<◌, ◌≤◌, ℕ, zero, suc, Bool, true, false, List, [], ◌∷◌, ◌++◌, length, get_or, map, Option, Some, None, refl, sym, ap, ap₂, ◌∙◌, subst, arith, inl, inr, unwrap_or, nat_le}
+use Rattle.std.proofs.Common.{◌≡◌, ◌==◌, ◌+◌, ◌^◌, ◌<◌, ◌≤◌, ℕ, zero, suc, true, false, List, [], ◌∷◌, ◌++◌, length, get_or, map, Option, Some, None, refl, sym, ap, ap₂, ◌∙◌, subst, arith, inl, inr, unwrap_or, nat_le}
 use Rattle.std.specs.Prelude.{slice_get}
 use Rattle.std.specs.List.{All, AllByRecursion, flat_map, range_with_len}
 use Rattle.std.specs.Fmt.{decimal}
@@ -41,7 +41,7 @@ thread_there (x ∷ xs) zero k lt = omega arith
 thread_there (x ∷ xs) (suc t) k lt = omega (arith, thread_there xs t k lt)
 
 -- a gap with its place and its cost, whose numbers are small
-record IsCosted (threads : List Thread) (costs : List ℕ) (gap : ℕ) : Type 0 where
+pub record IsCosted (threads : List Thread) (costs : List ℕ) (gap : ℕ) : Type 0 where
   t : ℕ
   k : ℕ
   place : gap_place threads gap ≡ Some (t, k)
@@ -172,7 +172,7 @@ module _ (threads : List Thread) (costs : List ℕ) where
   said_there s (suc n) gap low high =
       elim (cases_Bool (s == gap)) [
         | inl y ↦ rw y (ap (λ (g : ℕ). Some (get_or costs g 0)) (same s gap y))
-        | inr no ↦ rw no (said_there (s + 1) n gap (unlike s gap no low) (omega arith))
+        | inr off ↦ rw off (said_there (s + 1) n gap (unlike s gap off low) (omega arith))
       ]
 
   costs_are : length costs ≡ gap_count threads → costs ≡ costs_of (gap_count threads) (map entry_at (range_with_len 0 (gap_count threads)))

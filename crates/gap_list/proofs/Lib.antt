@@ -1,1 +1,2 @@
 pub mod CostFileLaws
+pub mod Ranges

@@ -28,6 +28,17 @@ fn push_entry(
     Ok(())
 }
 
+/// A line for each gap.
+fn entries(alloc: Global, program: &Program, costs: &Costs) -> Result<Vec<u8>, AllocError>
+    ensures { IfOk result (λ text. text.items ≡ cost_file_text program.now.threads costs.now) }
+{
+    let mut out = Vec::new(alloc);
+    for gap in 0..program.gaps() {
+        push_entry(alloc, &mut out, program, costs, gap)?;
+    }
+    Ok(out)
+}
+
 /// The cost file that gives each gap of a program its cost, a line a gap.
 pub fn cost_file(alloc: Global, program: &Program, costs: &Costs) -> Result<Vec<u8>, AllocError>
     requires { length costs.now ≡ gap_count program.now.threads }
@@ -37,9 +48,5 @@ pub fn cost_file(alloc: Global, program: &Program, costs: &Costs) -> Result<Vec<
 {
     // For the proof alone: the costs and the program are within their limits.
     let _ = (costs.len(), program.threads().len());
-    let mut out = Vec::new(alloc);
-    for gap in 0..program.gaps() {
-        push_entry(alloc, &mut out, program, costs, gap)?;
-    }
-    Ok(out)
+    entries(alloc, program, costs)
 }

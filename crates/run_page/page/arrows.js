@@ -87,9 +87,9 @@ function drawMove(machine, move, isFirstOfTwo, flies) {
 // Draws a label, above those that are there.
 function drawLabel(arrows, label, { x, y }) {
   const width = label.length * 8 + 12;
-  const isInTheWay = box => Math.abs(box.x.baseVal.value + box.width.baseVal.value / 2 - x) < (box.width.baseVal.value + width) / 2
-    && Math.abs(box.y.baseVal.value + 10 - y) < 20;
-  const height = all(arrows, "rect").some(isInTheWay) ? y - 22 : y;
+  const isInTheWay = ({ x: left, y: top, width: size }) =>
+    Math.abs(left + size / 2 - x) < (size + width) / 2 && Math.abs(top + 10 - y) < 20;
+  const height = all(arrows, "rect").map(box => box.getBBox()).some(isInTheWay) ? y - 22 : y;
   arrows.append(
     svg("rect", { x: x - width / 2, y: height - 10, width, height: 20, rx: 10 }),
     svg("text", { x, y: height + 4, "text-anchor": "middle" }, label));

@@ -40,7 +40,8 @@ class Player {
   }
 
   makeControls() {
-    const button = (name, label, act) => html("button", { type: "button", "aria-label": name, on: { click: act } }, label);
+    const button = (name, label, act) =>
+      html("button", { type: "button", "aria-label": name, on: { click: act } }, label);
     this.first = button("Start", "Start", () => this.step(0));
     this.back = button("Back", "◀ Back", () => this.step(this.at - 1));
     this.play = html("button", { type: "button", on: { click: () => this.turnPlaying() } }, "▶ Play");
@@ -124,7 +125,7 @@ class Player {
     }
     const close = this.run.gap === null
       ? "sequential run has these reads and writes. Another sequential run may still have the same outcome."
-      : "sequential run has these reads and writes. No other sequential run has this outcome either: fencer has checked.";
+      : "sequential run has these reads and writes. fencer also checked that no other sequential run has this outcome.";
     const isOver = this.run.gap === null || this.run.cycle().some(({ from, to }) => this.run.isAroundGap(from, to));
     return [
       html("p", {}, "Suppose that the accesses took effect one after the other, each thread's in program order. Then:"),

@@ -4,7 +4,8 @@ use Rattle.program_streams.specs.FileLines.{file_line}
 use Rattle.program_streams.specs.Words.{words_of, IsUtf8Refusal}
 use Rattle.fencer_words.specs.CommandLines.{no_utf8}
 use Rattle.fencer.specs.Answers.{IsOutput, by_line, no_line, line_alone, after_line}
-use Rattle.program_streams.proofs.Printed.{prints_line, prints_more, prints_nothing}
+use Rattle.program_streams.proofs.Printed.{prints_more, prints_nothing}
+use Rattle.fencer.proofs.Refused.{prints_refused_line}
 use Rattle.fencer.proofs.Served.{of_words, of_input, kept_by_words, kept_by_input, read_for_words, read_for_input, line_fault, no_version, utf8_reply}
 use Rattle.fencer.proofs.command.run_command.Goals as goal
 
@@ -22,9 +23,9 @@ returns-in-Err-clause-told g c =
     let input = g.R.Read.remaining c.args.input.now in
     let why = c.in-Err.fault in
     let files = g.S.FileStore.held c.args.files.now in
-    prints_line c.file_line.result 1 (file_line why) (IsOutput (map string_bytes c.args.words.now) input files files) _ _ c.refuse.result
+    prints_refused_line c.file_line.result (file_line why) (IsOutput (map string_bytes c.args.words.now) input files files) _ _ c.tell_refusal.result
     (of_input string_bytes input files files 1 (file_line why) c.args.words.now (sym c.is_empty.ensures ∙ c.if-not-is_empty.false) (no_line why (line_fault input (g.R.Read.remaining c.read_line_up_to.new.input) why c.in-Err.ensures.err)))
-    c.file_line.ensures c.refuse.ensures
+    c.file_line.ensures c.tell_refusal.ensures
 
 pub returns-in-Ok-line_words-clause-told : goal.returns-in-Ok-line_words-clause-told
 returns-in-Ok-line_words-clause-told g c =

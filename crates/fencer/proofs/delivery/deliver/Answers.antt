@@ -1,7 +1,8 @@
 use Rattle.std.proofs.Common.{Ok}
 use Rattle.std.specs.declared.alloc.AllocError.{AllocError}
 use Rattle.program_streams.specs.declared.fault.FileFault.TheVariants as file
-use Rattle.program_streams.proofs.Printed.{prints_line, prints_made}
+use Rattle.program_streams.proofs.Printed.{prints_made}
+use Rattle.fencer.proofs.Refused.{prints_refusal}
 use Rattle.program_streams.specs.FileLines.{file_line}
 use Rattle.fencer.specs.Deliveries.{kept, not_kept}
 use Rattle.fencer.proofs.delivery.deliver.Goals as goal
@@ -12,4 +13,5 @@ returns-in-Ok-clause-told g c =
 
 pub returns-in-Err-clause-told : goal.returns-in-Err-clause-told
 returns-in-Err-clause-told g c =
-    prints_line c.file_line.result 1 (file_line file.Write) _ _ _ c.refuse.result (not_kept c.in-Err.ensures.named) c.file_line.ensures c.refuse.ensures
+    prints_refusal c.args.answer.json c.file_line.result (file_line file.Write) _ _ _ c.tell_refusal.result
+    (λ text says. not_kept text c.in-Err.ensures.named says) c.file_line.ensures c.tell_refusal.ensures

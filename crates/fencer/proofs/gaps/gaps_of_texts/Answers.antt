@@ -1,6 +1,7 @@
 use Rattle.std.proofs.Common.{Ok}
 use Rattle.std.specs.declared.alloc.AllocError.{AllocError}
-use Rattle.program_streams.proofs.Printed.{prints_line, prints_made}
+use Rattle.program_streams.proofs.Printed.{prints_made}
+use Rattle.fencer.proofs.Refused.{prints_refused_line}
 use Rattle.fencer.specs.GapTexts.{listed, refused_for}
 use Rattle.fencer.specs.Placements.{text_fault_line}
 use Rattle.fencer.proofs.gaps.gaps_of_texts.Goals as goal
@@ -11,4 +12,4 @@ returns-in-Ok g c =
 
 pub returns-in-Err : goal.returns-in-Err
 returns-in-Err g c =
-    prints_line c.text_fault_line.result 1 (text_fault_line c.in-Err.fault) _ _ _ c.refuse.result (refused_for c.in-Err.fault c.in-Err.ensures.fault) c.text_fault_line.ensures c.refuse.ensures
+    prints_refused_line c.text_fault_line.result (text_fault_line c.in-Err.fault) _ _ _ c.tell_refusal.result (refused_for c.in-Err.fault c.in-Err.ensures.fault) c.text_fault_line.ensures c.tell_refusal.ensures

@@ -1,5 +1,6 @@
 use Rattle.std.specs.Prelude.{option_map}
-use Rattle.program_streams.proofs.Printed.{prints_line, prints_more}
+use Rattle.program_streams.proofs.Printed.{prints_more}
+use Rattle.fencer.proofs.Refused.{prints_refused_line}
 use Rattle.program_streams.specs.FileLines.{file_line}
 use Rattle.fencer.specs.GapTexts.{of_texts, no_texts}
 use Rattle.fencer.proofs.gaps.run_gaps.Goals as goal
@@ -10,7 +11,7 @@ returns-in-Ok-clause-told g c =
 
 pub returns-in-Err-clause-told : goal.returns-in-Err-clause-told
 returns-in-Err-clause-told g c =
-    prints_line c.file_line.result 1 (file_line c.in-Err.file.fault) _ _ _ c.refuse.result (no_texts c.in-Err.file.fault (rw (c.as_str.ensures.value, c.as_deref-costs.ensures.value) at c.in-Err.ensures.err)) c.file_line.ensures c.refuse.ensures
+    prints_refused_line c.file_line.result (file_line c.in-Err.file.fault) _ _ _ c.tell_refusal.result (no_texts c.in-Err.file.fault (rw (c.as_str.ensures.value, c.as_deref-costs.ensures.value) at c.in-Err.ensures.err)) c.file_line.ensures c.tell_refusal.ensures
 
 pub returns-in-Ok-clause-read : goal.returns-in-Ok-clause-read
 returns-in-Ok-clause-read g c = rw c.as_str.ensures.value at c.read_texts.ensures.read

@@ -1,4 +1,4 @@
-use Rattle.std.proofs.Common.{List, map, subst}
+use Rattle.std.proofs.Common.{List, subst}
 use Rattle.std.specs.FinSet as set
 use Rattle.tso_machine.specs.declared.label.Label.{Label}
 use Rattle.tso_machine.specs.Machine as machine

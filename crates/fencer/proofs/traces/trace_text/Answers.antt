@@ -1,5 +1,6 @@
 use Rattle.std.proofs.Common.{refl}
-use Rattle.program_streams.proofs.Printed.{prints_line, prints_more}
+use Rattle.program_streams.proofs.Printed.{prints_more}
+use Rattle.fencer.proofs.Refused.{prints_refusal}
 use Rattle.fencer.specs.Refusals.{refusal_line}
 use Rattle.fencer.specs.Traces.{traced, refused_for}
 use Rattle.fencer.proofs.traces.trace_text.Goals as goal
@@ -10,4 +11,5 @@ returns-in-Ok-clause-told g c =
 
 pub returns-in-Err-clause-told : goal.returns-in-Err-clause-told
 returns-in-Err-clause-told g c =
-    prints_line c.refusal_line.result 1 (refusal_line c.in-Err.why) _ _ _ c.refuse.result (refused_for c.in-Err.why c.in-Err.ensures.refused (λ name. refl)) c.refusal_line.ensures c.refuse.ensures
+    prints_refusal c.args.asked.now.json c.refusal_line.result (refusal_line c.in-Err.why) _ _ _ c.tell_refusal.result
+    (λ text says. refused_for c.in-Err.why text c.in-Err.ensures.refused says (λ name. refl)) c.refusal_line.ensures c.tell_refusal.ensures

@@ -1,5 +1,6 @@
 use Rattle.std.proofs.Common.{refl}
-use Rattle.program_streams.proofs.Printed.{prints_line, prints_more}
+use Rattle.program_streams.proofs.Printed.{prints_more}
+use Rattle.fencer.proofs.Refused.{prints_refusal}
 use Rattle.fencer.specs.Placements.{text_fault_line}
 use Rattle.fencer.specs.Whys.{explained, refused_for}
 use Rattle.fencer.proofs.whys.explain_texts.Goals as goal
@@ -10,4 +11,5 @@ returns-in-Ok-clause-told g c =
 
 pub returns-in-Err-clause-told : goal.returns-in-Err-clause-told
 returns-in-Err-clause-told g c =
-    prints_line c.text_fault_line.result 1 (text_fault_line c.in-Err.fault) _ _ _ c.refuse.result (refused_for c.in-Err.fault c.in-Err.ensures.fault (λ name. refl)) c.text_fault_line.ensures c.refuse.ensures
+    prints_refusal c.args.asked.now.placement.json c.text_fault_line.result (text_fault_line c.in-Err.fault) _ _ _ c.tell_refusal.result
+    (λ text says. refused_for c.in-Err.fault text c.in-Err.ensures.fault says (λ name. refl)) c.text_fault_line.ensures c.tell_refusal.ensures

@@ -1,7 +1,7 @@
 use Rattle.std.proofs.Common.{◌≡◌}
 use Rattle.std.specs.List.{flat_map, range_with_len}
 use Rattle.gap_list.specs.CostFiles.{entry_text}
-use Rattle.gap_list.proofs.cost_lines.cost_file.Given as goal
+use Rattle.gap_list.proofs.cost_lines.entries.Given as goal
 
 -- the gaps so far have their lines
 abbrev pub invariant-loop-gap : goal.invariant-loop-gap
