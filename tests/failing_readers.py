@@ -4,7 +4,7 @@ import resource
 import subprocess
 import tempfile
 
-from harness import FENCECHECK, FENCER, TOP, bytes_of, example, preloaded, run, tell, watched
+from harness import FENCECHECK, FENCER, TOP, bytes_of, example, failing_in_turn, preloaded, run, tell, watched
 
 MOST_CALLS = 10_000
 # how many bytes a watched call moves at most
@@ -15,16 +15,14 @@ REPLAY = ["replay", "-", "e0", "e1", "e0", "e1", "f0", "f1"]
 def failing_stream(library, name, how, words, given, right, program=FENCER, named=0):
     """Each read or write failed in turn, until a run meets no failure. A call moves few bytes, so there are many; so many bytes are in named files."""
     moved = len(given) + named if how == "read" else len(right[1])
-    for nth in range(1, MOST_CALLS):
-        found, met = watched(library, nth, words, given, program, FAIL_IO=how)
+    for nth, found, met in failing_in_turn(library, words, given, program, FAIL_IO=how):
+        status, text = found
         if not met:
             tell(f"{name}, no {how} fails", found == right and nth > moved // FEW, f"at {nth}: found {found!r}")
             return
-        status, text = found
         begun = right[1].startswith(text) and len(text) < len(right[1])
         lawful = text == b"refused file 1 Read\n" if how == "read" else begun
         tell(f"{name}, {how} {nth} fails", status == 1 and lawful, f"found {found!r}")
-    tell(f"{name}: the failures of {how} end", False)
 
 
 def failing_certificate(library, how, certificate, litmus):
@@ -82,9 +80,9 @@ def writer_cases(library, folder):
             failing_stream(library, f"fencecheck {words}", how, words, given, right, FENCECHECK)
 
 
-def limits():
+def limits(memory=256 << 20):
     resource.setrlimit(resource.RLIMIT_CPU, (2, 2))
-    resource.setrlimit(resource.RLIMIT_AS, (256 << 20, 256 << 20))
+    resource.setrlimit(resource.RLIMIT_AS, (memory, memory))
 
 
 def told_of(program, words, front):
@@ -100,7 +98,7 @@ def told_of(program, words, front):
 
 
 def endless_cases(folder):
-    """Inputs without an end, with 2 seconds of a processor and 256 MiB: on standard input, after a whole text, and as a file that is named."""
+    """Inputs without an end, with 2 seconds of a processor and 256 MiB: on standard input, after a whole text, and as a file that is named. A certificate may be 1 GiB long, for which that is too little."""
     litmus, cert = (os.path.join(TOP, "examples", file) for file in ("SB.litmus", "SB.cert"))
     too_long = (1, b"refused file 3 TooLong\n")
     with_words = os.path.join(folder, "with-words")
@@ -117,10 +115,14 @@ def endless_cases(folder):
     for program, words in (
         (FENCER, ["replay", "/dev/zero", "e0"]), (FENCER, ["outcomes", "/dev/zero"]), (FENCER, ["place", "/dev/zero"]),
         (FENCER, ["place", "--costs", "/dev/zero", litmus]), (FENCER, ["why", "--costs", "/dev/zero", litmus]),
-        (FENCECHECK, ["/dev/zero", cert]), (FENCECHECK, [litmus, "/dev/zero"]), (FENCECHECK, [litmus, cert, "/dev/zero"]),
+        (FENCECHECK, ["/dev/zero", cert]), (FENCECHECK, [litmus, cert, "/dev/zero"]),
     ):
         found = run(words, b"", program, preexec_fn=limits)
         tell(f"{os.path.basename(program)} {words}, a file without an end", found == too_long, found)
+    found = run([litmus, "/dev/zero"], b"", FENCECHECK, preexec_fn=limits)
+    tell("a certificate without an end, for which there is too little memory", found == (1, b"refused file 1 Read\n"), found)
+    found = run([litmus, "/dev/zero"], b"", FENCECHECK, preexec_fn=lambda: limits(4 << 30))
+    tell("a certificate without an end", found == too_long, found)
 
 
 def cases():

@@ -1,4 +1,5 @@
 """What a reader of the documents does first: the commands that they show."""
+import fnmatch
 import os
 import re
 import shutil
@@ -44,13 +45,19 @@ def printed_by(command, folder):
 
 
 def command_cases(tell, programs):
-    """Each command that a document shows prints what the document shows."""
+    """Each command that a document shows prints what the document shows, and writes no file at the top that git shows."""
+    with open(os.path.join(TOP, ".gitignore"), encoding="utf-8") as file:
+        ignored = [line[1:] for line in file.read().splitlines() if line.startswith("/")]
     for path in documents():
+        name = os.path.relpath(path, TOP)
         with tempfile.TemporaryDirectory() as folder:
             programs_in(folder, programs)
+            before = set(os.listdir(folder))
             for command, wanted in shown_commands(path):
                 found = printed_by(command, folder)
-                tell(f"{os.path.relpath(path, TOP)}: {command}", found == wanted, f"wanted {wanted!r}\n  found  {found!r}")
+                tell(f"{name}: {command}", found == wanted, f"wanted {wanted!r}\n  found  {found!r}")
+            written = [file for file in set(os.listdir(folder)) - before if not any(fnmatch.fnmatch(file, it) for it in ignored)]
+            tell(f"{name}: its commands write no file that git shows", not written, written)
     shown = [command for command, _ in shown_commands(os.path.join(TOP, "README.md"))]
     tell("README.md shows how to begin", len(shown) >= 4, shown)
 

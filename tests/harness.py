@@ -1,8 +1,10 @@
 """What the cases of the whole programs share: the programs, what they print, and calls of the C library that fail in turn."""
+import itertools
 import os
 import re
 import shutil
 import subprocess
+from concurrent.futures import ThreadPoolExecutor
 
 HERE = os.path.dirname(os.path.abspath(__file__))
 TOP = os.path.dirname(HERE)
@@ -10,6 +12,8 @@ FENCER = os.path.join(TOP, "crates", "fencer", "out", "fencer")
 FENCECHECK = os.path.join(TOP, "crates", "fencecheck", "out", "fencecheck")
 TEST_CALLS = os.path.join(TOP, "crates", "test_calls", "out", "test_calls")
 LIMIT = 1_048_576
+# so many runs of a program go on side by side, or wait for it
+SIDE_BY_SIDE = 32
 counts = {"passed": 0, "failed": 0}
 
 
@@ -98,3 +102,14 @@ def watched(library, nth, words, given, program, **more):
     met = os.read(reads, 1) == b"x"
     os.close(reads)
     return found, met
+
+
+def failing_in_turn(library, words, given, program, **more):
+    """What a program prints where its first call of a kind fails, its second, and so on, and whether that call came: up to the first run in which none fails."""
+    with ThreadPoolExecutor() as pool:
+        for first in itertools.count(1, SIDE_BY_SIDE):
+            numbers = range(first, first + SIDE_BY_SIDE)
+            for nth, (found, met) in zip(numbers, pool.map(lambda nth: watched(library, nth, words, given, program, **more), numbers)):
+                yield nth, found, met
+                if not met:
+                    return

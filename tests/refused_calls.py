@@ -7,7 +7,7 @@ import re
 import tempfile
 from concurrent.futures import ThreadPoolExecutor
 
-from harness import FENCECHECK, FENCER, HERE, TEST_CALLS, TOP, bytes_of, called, example, expect, lines, preloaded, run, tell, watched
+from harness import FENCECHECK, FENCER, HERE, TEST_CALLS, TOP, bytes_of, called, example, expect, failing_in_turn, lines, preloaded, run, tell, watched
 
 MOST_ALLOCATIONS = 50_000
 MOST_REFUSED = 2_000
@@ -134,15 +134,12 @@ def refused_script(library, name, given, texts, told):
     """A call or a script of calls with each allocation refused in turn; some refusal leads to the line that is told."""
     right, *others = map(pattern, texts)
     lawful, found_told = "|".join((right, *others, REFUSED + "\n")), False
-    for nth in range(1, MOST_ALLOCATIONS):
-        (status, text), met = watched(library, nth, [], given, TEST_CALLS)
+    for nth, (status, text), met in failing_in_turn(library, [], given, TEST_CALLS):
         text = text.decode()
         is_lawful = re.fullmatch(lawful, text) if status == 0 else text == ""
         tell(f"{name}, allocation {nth} refused", is_lawful if met else status == 0 and re.fullmatch(right, text), (status, text))
         found_told = found_told or told in text.split("\n")
-        if not met:
-            break
-    tell(f"{name}: a refusal leads to {told}", found_told and not met)
+    tell(f"{name}: a refusal leads to {told}", found_told)
 
 
 def script_cases(library):

@@ -12,7 +12,7 @@ PROGRAMS = ("chromium", "chromium-browser", "google-chrome", "google-chrome-stab
 WORDS = ("--headless=new", "--no-sandbox", "--disable-gpu", "--remote-debugging-pipe", "--no-first-run", "--hide-scrollbars",
          "--disable-background-networking", "--disable-component-update", "--host-resolver-rules=MAP * ~NOTFOUND")
 KEYS = {"ArrowRight": 39, "ArrowLeft": 37, "Home": 36, "End": 35}
-LOADING = 20
+LOADING = 60
 
 
 def program():
@@ -35,12 +35,8 @@ class Browser:
         given, self.to = os.pipe()
         self.back, answers = os.pipe()
         held = [fcntl.fcntl(descriptor, fcntl.F_DUPFD_CLOEXEC, 10) for descriptor in (given, answers)]  # neither is 3 or 4
-
-        def wire():
-            os.dup2(held[0], 3)
-            os.dup2(held[1], 4)
-
-        self.process = subprocess.Popen(words, stderr=subprocess.DEVNULL, stdout=subprocess.DEVNULL, preexec_fn=wire, close_fds=False)
+        wired = 'exec "$@" 3<&{0} 4>&{1} {0}<&- {1}>&-'.format(*held)
+        self.process = subprocess.Popen(["bash", "-c", wired, "browser", *words], pass_fds=held, stdout=subprocess.DEVNULL, stderr=subprocess.DEVNULL)
         for descriptor in (given, answers, *held):
             os.close(descriptor)
 

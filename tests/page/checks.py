@@ -352,12 +352,10 @@ def check_address(browser, path, run):
 def check_looks(browser, path, run):
     """Contrast, width, motion, names for screen readers, and paper."""
     at, last = run.gap or "run", len(run.steps)
-    moving = "document.querySelectorAll('.token').length + document.getAnimations().length"
     for calm in (False, True):
         browser.open(path, at + "/0", calm=calm)
-        browser.key("ArrowRight")
         wanted = not calm and bool(run.steps[0]["stores"] or run.steps[0]["reads"])
-        same(browser.evaluate(moving) > 0, wanted, f"{run.where}: motion, unwanted {calm}")
+        same(shown(browser, "tokensOfStep()") > 0, wanted, f"{run.where}: motion, unwanted {calm}")
     for dark in (False, True):
         for width in WIDTHS:
             browser.open(path, f"{at}/0", width=width, dark=dark)

@@ -36,7 +36,7 @@ FAULTS = [
     ("a table without what waits", "player.js", 'buffer.map(assignment).join(" ") || "–"', '"–"'),
     ("a command of another run", "player.js", "this.run.steps.map(step => step.label).join", "this.run.steps.map(step => step.label).reverse().join"),
     ("a command of the other model", "player.js", '=== "sequential" ? "--model sequential "', '=== "buffered" ? "--model sequential "'),
-    ("Home does nothing", "page.js", "Home: inPlayer ? 0 : null,", ""),
+    ("Home does nothing", "page.js", "{ Home: 0, End: last }", "{ End: last }"),
     ("the address is not read", "page.js", "return [gap, Number(steps) || 0];", "return [gap, 0];"),
     ("the cost of one fence", "page.js", "${given.answer.cost}`;", "1`;"),
     ("an exception", "page.js", "\nshow();\n", "\nshow();\nnull.x;\n"),

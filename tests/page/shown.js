@@ -42,14 +42,23 @@ const stepShown = () => ({
   unused: found(document, ".controls button").map(button => button.getAttribute("aria-disabled") === "true"),
 });
 
+const pressRight = () =>
+  document.body.dispatchEvent(new KeyboardEvent("keydown", { key: "ArrowRight", bubbles: true, cancelable: true }));
+
 // What is shown at each step of a run, from the start on, stepped through by the right arrow key; once more at the end.
 function runShown(steps) {
   const shown = [stepShown()];
   for (let i = 0; i <= steps; i++) {
-    document.body.dispatchEvent(new KeyboardEvent("keydown", { key: "ArrowRight", bubbles: true, cancelable: true }));
+    pressRight();
     shown.push(stepShown());
   }
   return shown;
+}
+
+// How many tokens move in the next step.
+function tokensOfStep() {
+  pressRight();
+  return document.querySelectorAll(".token").length;
 }
 
 // Whether the texts of a box in the graph lie in it.

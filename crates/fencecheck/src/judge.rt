@@ -4,7 +4,6 @@ ghost use Rattle.std.specs.Prelude.{◌≡◌, IfOk, IfErr, OnOk, option_map};
 ghost use Rattle.gap_sets.specs.Order.{total};
 ghost use Rattle.tso_program.specs.Shown.{asked};
 ghost use Rattle.tso_machine.specs.Outcomes.{Headline};
-ghost use Rattle.cost_text.specs.GivenCosts.{AreGiven, AreNotGiven};
 ghost use Rattle.tree_laws.specs.Certificates.{IsValidCertificate};
 ghost use Rattle.cert_check.specs.Faults.{CheckFaultIs};
 ghost use Rattle.report.specs.Answers.{accepted_line};
@@ -44,17 +43,6 @@ pub fn refusal_line(alloc: Global, refusal: &Refusal) -> Result<Vec<u8>, AllocEr
     }
 }
 
-/// The costs that a text gives a program's gaps; 1 each without a text.
-fn costs_of(alloc: Global, program: &Program, text: Option<Vec<u8>>) -> Result<Costs, CostTextFault>
-    ensures costs { IfOk result (AreGiven program.now (option_map (λ text. text.items) text)) }
-    ensures none { IfErr result (AreNotGiven program.now (option_map (λ text. text.items) text)) }
-{
-    match text {
-        Some(text) => given_costs(alloc, Some(&text), program),
-        None => given_costs(alloc, None, program),
-    }
-}
-
 /// What is shown of outcomes: all, or what the litmus text names, as the certificate's version asks.
 fn handed_in(litmus: &Litmus<Program>, claimed: &Shown) -> Shown
     ensures { result ≡ handed_in litmus.now claimed.now }
@@ -91,10 +79,10 @@ pub fn judge(
     alloc: Global,
     litmus: &[u8],
     certificate: &[u8],
-    costs: Option<Vec<u8>>,
+    costs: Option<&[u8]>,
 ) -> Result<Vec<u8>, Refusal>
-    ensures accepted { IfOk result (λ line. IsAccepted litmus.now certificate.now (option_map (λ text. text.items) costs) line.items) }
-    ensures refused { IfErr result (IsRefused litmus.now certificate.now (option_map (λ text. text.items) costs)) }
+    ensures accepted { IfOk result (λ line. IsAccepted litmus.now certificate.now (option_map (λ text. text.now) costs.entry) line.items) }
+    ensures refused { IfErr result (IsRefused litmus.now certificate.now (option_map (λ text. text.now) costs.entry)) }
 {
     let litmus = match read_litmus(alloc, litmus) {
         Ok(litmus) => litmus,
@@ -104,7 +92,7 @@ pub fn judge(
         Ok(certificate) => certificate,
         Err(fault) => return Err(Refusal::Certificate(fault)),
     };
-    let costs = match costs_of(alloc, &litmus.program, costs) {
+    let costs = match given_costs(alloc, costs, &litmus.program) {
         Ok(costs) => costs,
         Err(fault) => return Err(Refusal::Costs(fault)),
     };

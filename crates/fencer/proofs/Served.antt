@@ -1,11 +1,15 @@
 -- What the program prints, with words and without.
-use Rattle.std.proofs.Common.{◌≡◌, ◌==◌, ℕ, ◌+◌, suc, true, false, List, [], ◌∷◌, ◌⊎◌, Option, length, map, arith, inl, inr, subst, sym}
+use Rattle.std.proofs.Common.{◌≡◌, ◌==◌, ℕ, ◌+◌, zero, suc, Bool, true, false, List, [], ◌∷◌, ◌⊎◌, Option, Contains, length, map, arith, inl, inr, refl, subst, sym}
 use Rattle.std.specs.Prelude.{codes}
+use Rattle.std.specs.Str.{IsUtf8, bytes_eq}
+use Rattle.std.proofs.lemmas.Str.{IsUtf8-from_ascii}
+use Rattle.std.proofs.lemmas.Slice.Eq.{bytes_eq-Decides}
 use Rattle.std.proofs.lemmas.Bool.Decides.{nat_tests}
 use Rattle.clap.specs.Words.{Text}
 use Rattle.program_streams.specs.declared.fault.FileFault.{FileFault}
 use Rattle.program_streams.specs.declared.fault.FileFault.TheVariants as file
 use Rattle.program_streams.specs.declared.files.TheConstants.{TEXT_LIMIT}
+use Rattle.program_streams.specs.Versions.{asks_version}
 use Rattle.fencer_words.specs.CommandLines.{IsNoCommand}
 use Rattle.program_streams.specs.Streams.{IsReadFault, TakesOfLine}
 use Rattle.program_streams.specs.Words.{IsUtf8Refusal}
@@ -61,5 +65,19 @@ line_fault old new file.Write is = absurd is
 line_fault old new file.TooLong is = (new, is)
 
 -- words that are not UTF-8 are reported as no command
-pub utf8_reply : (words : List Text) (input : Option (List ℕ)) (files left : List ℕ → Option (List ℕ)) (status : ℕ) (out : List ℕ) → IsNoCommand words → IsUtf8Refusal status out → IsReply words input files left status out
-utf8_reply words input files left status out refused is = subst (λ (s : ℕ). IsReply words input files left s out) (sym is.0) (no_command out refused (codes "error: the command line is not UTF-8", is.1))
+pub utf8_reply : (words : List Text) (input : Option (List ℕ)) (files left : List ℕ → Option (List ℕ)) (status : ℕ) (out : List ℕ) → asks_version words ≡ false → IsNoCommand words → IsUtf8Refusal status out → IsReply words input files left status out
+utf8_reply words input files left status out no_version refused is = subst (λ (s : ℕ). IsReply words input files left s out) (sym is.0) (no_command out no_version refused (codes "error: the command line is not UTF-8", is.1))
+
+-- a word that is not UTF-8 asks for no version
+version_is_utf8 : IsUtf8 (codes "--version")
+version_is_utf8 = IsUtf8-from_ascii (codes "--version") (search)
+
+of_word : (word : Text) → (IsUtf8 word → ⊥) → (b : Bool) → bytes_eq word (codes "--version") ≡ b → b ≡ false
+of_word word not_utf8 false is = refl
+of_word word not_utf8 true is = absurd (not_utf8 (subst IsUtf8 (sym (bytes_eq-Decides word (codes "--version")).0 is) version_is_utf8))
+
+pub no_version : (words : List Text) (word : Text) → Contains words word → (IsUtf8 word → ⊥) → asks_version words ≡ false
+no_version [] word there not_utf8 = refl
+no_version (first ∷ []) word (zero, lt, is) not_utf8 = of_word first (λ utf8. not_utf8 (subst IsUtf8 is utf8)) (bytes_eq first (codes "--version")) refl
+no_version (first ∷ []) word (suc i, lt, is) not_utf8 = absurd (omega arith)
+no_version (first ∷ (second ∷ words)) word there not_utf8 = refl

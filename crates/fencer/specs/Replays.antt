@@ -1,5 +1,5 @@
 -- What is printed for a replay.
-use Rattle.std.specs.Prelude.{◌≡◌, ℕ, List, ◌∷◌, ◌++◌, Option, string_bytes}
+use Rattle.std.specs.Prelude.{◌≡◌, ℕ, false, List, ◌∷◌, ◌++◌, Option, string_bytes}
 use Rattle.std.specs.List.{flat_map}
 use Rattle.std.specs.declared.string.String.{String}
 use Rattle.std.specs.FinSet as set
@@ -52,6 +52,10 @@ HasNoRun model labels bytes (refusal.Run fault) = (litmus : Litmus Listing) × I
 HasNoRun model labels bytes (refusal.Replay fault) = IsRefusedReplay model labels bytes fault
 HasNoRun model labels bytes (refusal.Solve fault) = ⊥
 
+-- the lines of a run, with status 0
+abbrev pub ShowsRun : Model → List ℕ → List ℕ → ℕ → List ℕ → Type 0
+ShowsRun model labels bytes status lines = (status ≡ 0) × PrintsRun model labels bytes lines
+
 -- the answer to a replay, with its status: the lines of the run, or the line of a refusal
 abbrev pub IsReplay : Model → List ℕ → List ℕ → Option (List ℕ) → (List ℕ → Option (List ℕ)) → ℕ → List ℕ → Type 0
-IsReplay model labels = IsAnswerTo (PrintsRun model labels) (HasNoRun model labels)
+IsReplay model labels = IsAnswerTo (ShowsRun model labels) (HasNoRun model labels) false

@@ -3,7 +3,7 @@
 ghost use Rattle.std.specs.Prelude.{◌≡◌, false, IfOk, codes, map, option_map, string_bytes, unwrap_or};
 ghost use Rattle.clap.specs.Words.{all_of, app_of, first_of, found_of, new_app, rows_of, rule_of};
 ghost use Rattle.clap.specs.declared.builder.command.Command.TheViews.{out-Command};
-ghost use Rattle.fencer_words.specs.CommandLines.{named_rule, model_rule, litmus_rule, observed_rule, has_value, is_flagged, model_in, text_in};
+ghost use Rattle.fencer_words.specs.CommandLines.{named_rule, model_rule, litmus_rule, flag_rule, has_value, is_flagged, model_in, text_in};
 
 use clap::{Arg, ArgAction, ArgMatches, Command};
 use std::alloc::{AllocError, Global};
@@ -55,15 +55,27 @@ pub fn litmus_arg<'a>(alloc: Global) -> Arg<'a>
     .required(true)
 }
 
-/// `--observed`
-pub fn observed_arg<'a>(alloc: Global) -> Arg<'a>
-    ensures rule { rule_of result ≡ observed_rule }
+/// `--NAME`
+pub fn flag_arg<'a>(alloc: Global, name: &'a str, help: &'a str) -> Arg<'a>
+    ensures rule { rule_of result ≡ flag_rule name.entry.now }
     ensures own { result.global ≡ false }
 {
-    Arg::new(alloc, "observed")
-        .help("Compare outcomes by what the condition and `locations` name, and by nothing else")
-        .long("observed")
+    Arg::new(alloc, name)
+        .help(help)
+        .long(name)
         .action(ArgAction::SetTrue)
+}
+
+/// `--observed`
+pub fn observed_arg<'a>(alloc: Global) -> Arg<'a>
+    ensures rule { rule_of result ≡ flag_rule (codes "observed") }
+    ensures own { result.global ≡ false }
+{
+    flag_arg(
+        alloc,
+        "observed",
+        "Compare outcomes by what the condition and `locations` name alone",
+    )
 }
 
 /// The first value of an argument.
@@ -134,4 +146,12 @@ pub fn model_in(matches: &ArgMatches<'_>) -> Model
     } else {
         Model::Buffered
     }
+}
+
+/// `--json`
+pub fn json_arg<'a>(alloc: Global) -> Arg<'a>
+    ensures rule { rule_of result ≡ flag_rule (codes "json") }
+    ensures own { result.global ≡ false }
+{
+    flag_arg(alloc, "json", "Print a JSON document in place of the text")
 }

@@ -26,7 +26,7 @@ one_each p (Some text) costs is = ap length is.costs_are ∙ length-map-range_wi
 
 module _ (litmus : List ℕ) (costs : Option (List ℕ)) where
   pub placed_text : (observed : Bool) (texts : PlacedText) (source : Litmus Listing) (gap_costs : List ℕ) (placed : Placed) → IsLitmus litmus source → AreGiven source.program costs gap_costs
-      → IsPlacement (question_of source observed) gap_costs placed → AreWrittenTexts source (shown_as source observed) placed texts → IsPlacedText litmus costs observed texts
+      → IsPlacement (question_of source observed) gap_costs placed → AreWrittenTexts source (shown_as source observed) gap_costs placed texts → IsPlacedText litmus costs observed texts
   placed_text observed texts source gap_costs placed of_text given is written = record {
     source = source;
     of_text = of_text;
@@ -44,6 +44,8 @@ module _ (litmus : List ℕ) (costs : Option (List ℕ)) where
       claims = is.same_set;
       valid = is.proof.valid;
     };
+    document = written.document;
+    set = written.set;
   }
 
   module _ (workers : ℕ) where

@@ -79,7 +79,7 @@ pub fn place_text<R: Threads + Sync, W: Wait + Sync>(
     let costs = read_gap_costs(alloc, costs, &source.program)?;
     let shown = source.shown_as(observed);
     let found = place_gaps(rt, wait, alloc, &source.program, &shown, &costs, workers)?;
-    match write_placed(alloc, &source, &shown, &found.placed) {
+    match write_placed(alloc, &source, &shown, &costs, &found.placed) {
         Ok(texts) => Ok(texts),
         Err(_) => Err(TextFault::OutOfMemory),
     }

@@ -16,4 +16,4 @@ pub use certificate::certificate_line;
 pub use check::check_line;
 pub use faults::{costs_line, litmus_line, replay_line, run_line};
 pub use laws::{observations_are_told, printed_places_are_the_gaps};
-pub use observations::{condition_line, observation_line};
+pub use observations::{condition_line, frequency, is_true_of, observation_line};

@@ -77,15 +77,22 @@ function drawMove(machine, move, isFirstOfTwo, flies) {
   const label = assignment(move.value);
   machine.arrows.append(line);
   if (Math.abs(y2 - y1) > LABEL_HEIGHT) {
-    const { x, y } = labelSpot(machine, line, move, isFirstOfTwo);
-    const width = label.length * 8 + 12;
-    machine.arrows.append(
-      svg("rect", { x: x - width / 2, y: y - 10, width, height: 20, rx: 10 }),
-      svg("text", { x, y: y + 4, "text-anchor": "middle" }, label));
+    drawLabel(machine.arrows, label, labelSpot(machine, line, move, isFirstOfTwo));
   }
   if (flies && !calm.matches) {
     fly(machine.stage, path, label);
   }
+}
+
+// Draws a label, above those that are there.
+function drawLabel(arrows, label, { x, y }) {
+  const width = label.length * 8 + 12;
+  const isInTheWay = ({ x: left, y: top, width: size }) =>
+    Math.abs(left + size / 2 - x) < (size + width) / 2 && Math.abs(top + 10 - y) < 20;
+  const height = all(arrows, "rect").map(box => box.getBBox()).some(isInTheWay) ? y - 22 : y;
+  arrows.append(
+    svg("rect", { x: x - width / 2, y: height - 10, width, height: 20, rx: 10 }),
+    svg("text", { x, y: height + 4, "text-anchor": "middle" }, label));
 }
 
 function fly(stage, path, label) {

@@ -13,7 +13,8 @@ class Graph {
   constructor(run, isWhole) {
     this.run = run;
     this.events = run.steps.map((_, i) => i).filter(i => run.isAccess(i));
-    this.width = 20 + 7.6 * Math.max(0, ...this.events.flatMap(i => [run.text(i).length, accessText(run.steps[i]).length]));
+    const texts = this.events.flatMap(i => [run.text(i), accessText(run.steps[i])]);
+    this.width = 20 + 7.6 * Math.max(0, ...texts.map(text => text.length));
     this.cycle = run.cycle();
     const inCycle = this.cycle.map(edge => run.threads[edge.from]);
     this.columns = given.threads.map((_, thread) => thread)
@@ -63,10 +64,10 @@ class Graph {
     const locations = this.initialLocations;
     const texts = locations.map(location => 7.8 * `W ${initialText(location)}`.length + 20);
     this.initialWidth = Math.max(90, ...texts);
-    const all = locations.length * (this.initialWidth + 14);
-    this.wide = Math.max(2 * GRAPH.left + (this.width + 90) * (this.columns.length - 1) + this.width, all);
+    const row = locations.length * (this.initialWidth + 14);
+    this.wide = Math.max(2 * GRAPH.left + (this.width + 90) * (this.columns.length - 1) + this.width, row);
     locations.forEach((location, i) => {
-      const x = (this.wide - all) / 2 + i * (this.initialWidth + 14) + 7;
+      const x = (this.wide - row) / 2 + i * (this.initialWidth + 14) + 7;
       this.spots.set(location, { thread: -1, column: -1, row: -1, x, y: 10 });
     });
   }
@@ -94,20 +95,23 @@ class Graph {
     const y = a.y + GRAPH.initialHeight;
     if (b.row === 0) {
       const end = b.x + this.width / 2 + shift * 2;
-      return { path: `M${x},${y} C${x},${y + 42} ${end},${b.y - 34} ${end},${b.y}`, x: (x + 3 * end) / 4, y: (y + 3 * b.y) / 4 - 6 };
+      const path = `M${x},${y} C${x},${y + 42} ${end},${b.y - 34} ${end},${b.y}`;
+      return { path, x: (x + 3 * end) / 4, y: (y + 3 * b.y) / 4 - 6 };
     }
     const isLeft = b.column < this.columns.length / 2;
     const end = isLeft ? b.x : b.x + this.width;
     const bow = isLeft ? -46 : 46;
     const height = b.y + GRAPH.height / 2 + shift;
-    return { path: `M${x},${y} C${x},${y + 42} ${end + bow},${height} ${end},${height}`, x: end + bow * 0.6, y: height - 9 };
+    const path = `M${x},${y} C${x},${y + 42} ${end + bow},${height} ${end},${height}`;
+    return { path, x: end + bow * 0.6, y: height - 9 };
   }
 
   routeInThread(a, b) {
     const bow = a.x - 26 - 9 * Math.abs(a.row - b.row);
     const from = a.y + GRAPH.height / 2 + 6;
     const to = b.y + GRAPH.height / 2 - 6;
-    return { path: `M${a.x},${from} C${bow},${from} ${bow},${to} ${a.x},${to}`, x: a.x + (bow - a.x) * 0.75, y: (from + to) / 2 };
+    const path = `M${a.x},${from} C${bow},${from} ${bow},${to} ${a.x},${to}`;
+    return { path, x: a.x + (bow - a.x) * 0.75, y: (from + to) / 2 };
   }
 
   routeAcross(a, b, shift) {
@@ -184,7 +188,7 @@ class Graph {
     });
     const height = this.bottom + GRAPH.lane * this.lanes;
     const label = this.cycle.length > 0
-      ? "The candidate execution; its forbidden cycle is told in the list beside it"
+      ? "The candidate execution; its forbidden cycle is in words in the list beside it"
       : "The candidate execution, which has no forbidden cycle";
     return svg("svg", {
       role: "img", "aria-label": label, width: this.wide, height, viewBox: `0 0 ${this.wide} ${height}`,

@@ -35,7 +35,8 @@ function bufferBox(thread, depth) {
 function registerBox(thread) {
   const names = given.registers[thread];
   return html("div", {}, html("h4", {}, "registers"),
-    names.length > 0 ? cellList(`registers of ${threadName(thread)}`, names) : html("p", { class: "soft none" }, "none"));
+    names.length > 0 ? cellList(`registers of ${threadName(thread)}`, names)
+      : html("p", { class: "soft none" }, "none"));
 }
 
 // A thread's column. Without a run it is the program alone.
@@ -47,9 +48,19 @@ function threadColumn(program, thread, run) {
     run ? html("div", { class: "low" }, registerBox(thread), bufferBox(thread, depth)) : "");
 }
 
-const threadColumns = run =>
-  html("div", { class: "threads", style: `grid-template-columns: repeat(${given.threads.length}, minmax(9.4rem, 1fr))` },
+function threadColumns(run) {
+  const style = `grid-template-columns: repeat(${given.threads.length}, minmax(9.4rem, 1fr))`;
+  return html("div", { class: "threads", style },
     given.threads.map((program, thread) => threadColumn(program, thread, run)));
+}
+
+// Whether the columns have room in half the page: up to this many characters, with the numbers of the lines.
+const HALF_PAGE = 68;
+
+function isNarrow() {
+  const texts = given.threads.flatMap(({ instructions }) => instructions.map(({ text }) => text.length + 4));
+  return given.threads.length * Math.max(0, ...texts) <= HALF_PAGE;
+}
 
 // The register that a load or an exchange puts its value in: the operand that is no location.
 function loadedRegister(run, i) {

@@ -22,9 +22,9 @@ function answerWords(gaps) {
   const isOne = gaps.length === 1;
   const places = gaps.length <= 3 ? listed(gaps.map(gap => html("span", {}, "before ", ...placeOf(gap))))
     : listed(fencesByThread(gaps));
-  const fences = isOne ? "an MFENCE " : gaps.length <= 3 ? "MFENCEs " : `${gaps.length} MFENCEs, `;
+  const fences = isOne ? "an MFENCE " : gaps.length <= 3 ? "MFENCE " : `${gaps.length} MFENCEs, `;
   const cost = `${isOne ? "It costs" : "Together they cost"} ${given.answer.cost}`;
-  return ["A cheapest answer: ", fences, ...places, `. ${cost}; no cheaper set is enough.`];
+  return ["A cheapest set of fences: ", fences, ...places, `. ${cost}; no cheaper set is enough.`];
 }
 
 function showNoFence() {
@@ -44,9 +44,9 @@ function showAnswer(gaps) {
   main.replaceChildren(
     html("h1", {}, `Why ${given.test} needs ${isOne ? "a fence" : gaps.length + " fences"}`),
     html("p", { class: "lead" }, answerWords(gaps)),
-    html("p", { class: "soft" }, introduction, " In a sequential run there are no store buffers: each instruction takes "
-      + `effect at once. With ${isOne ? "this fence" : "these fences"} the program has exactly the outcomes of its `
-      + `sequential runs${observedWords()}.`),
+    html("p", { class: "soft" }, introduction, " In a sequential run there are no store buffers: each instruction ",
+      `takes effect at once. With ${isOne ? "this fence" : "these fences"} the program has exactly the outcomes of its `,
+      `sequential runs${observedWords()}.`),
     html("p", { class: "choice" }, isOne
       ? "Without it, this run becomes possible, and no sequential run has its outcome:"
       : "Leave out one of them, and a run becomes possible whose outcome no sequential run has:"));
@@ -120,13 +120,15 @@ function address() {
 // its own for them.
 function listenToKeys(player) {
   document.addEventListener("keydown", event => {
-    if (event.altKey || event.ctrlKey || event.metaKey || event.target.matches("input[type=range], .scroll, [role=tab]")) {
+    const hasOwnUse = event.target.matches("input[type=range], .scroll, [role=tab]");
+    if (event.altKey || event.ctrlKey || event.metaKey || hasOwnUse) {
       return;
     }
     const { at, run: { last } } = player();
     const inPlayer = event.target.closest(".player, .moments") !== null;
-    const target = { ArrowRight: at + 1, ArrowLeft: at - 1, Home: inPlayer ? 0 : null, End: inPlayer ? last : null }[event.key];
-    if (target !== undefined && target !== null) {
+    const targets = { ArrowRight: at + 1, ArrowLeft: at - 1, ...(inPlayer ? { Home: 0, End: last } : {}) };
+    const target = targets[event.key];
+    if (target !== undefined) {
       event.preventDefault();
       player().step(target);
     }

@@ -40,7 +40,8 @@ class Player {
   }
 
   makeControls() {
-    const button = (name, label, act) => html("button", { type: "button", "aria-label": name, on: { click: act } }, label);
+    const button = (name, label, act) =>
+      html("button", { type: "button", "aria-label": name, on: { click: act } }, label);
     this.first = button("Start", "Start", () => this.step(0));
     this.back = button("Back", "◀ Back", () => this.step(this.at - 1));
     this.play = html("button", { type: "button", on: { click: () => this.turnPlaying() } }, "▶ Play");
@@ -54,14 +55,14 @@ class Player {
     this.say = html("p", { class: "say", "aria-live": "polite" });
   }
 
-  // The parts in the order in which they are read. Up to three threads the machine stands beside the texts.
+  // The parts in the order in which they are read. Where it is narrow, the machine stands beside the texts.
   panel() {
     const buttons = [this.first, this.back, this.play, this.forward, this.final];
     const bar = html("section", { class: "card bar player", "aria-label": "player" },
       html("div", { class: "controls" }, buttons, html("div", { class: "place" }, this.slider, this.count)), this.say);
     const machine = html("div", { class: "right" }, bar, region("machine", "the machine", this.machine.stage));
     const duo = html("div", { class: "duo" }, this.momentBox(), machine, this.table);
-    return html("div", { class: given.threads.length < 4 ? "panel side" : "panel" }, duo, this.graphBox());
+    return html("div", { class: isNarrow() ? "panel side" : "panel" }, duo, this.graphBox());
   }
 
   // The moments that matter, each with buttons to its steps.
@@ -124,7 +125,7 @@ class Player {
     }
     const close = this.run.gap === null
       ? "sequential run has these reads and writes. Another sequential run may still have the same outcome."
-      : "sequential run has these reads and writes, and no other sequential run has this outcome.";
+      : "sequential run has these reads and writes. fencer also checked that no other sequential run has this outcome.";
     const isOver = this.run.gap === null || this.run.cycle().some(({ from, to }) => this.run.isAroundGap(from, to));
     return [
       html("p", {}, "Suppose that the accesses took effect one after the other, each thread's in program order. Then:"),

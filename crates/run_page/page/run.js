@@ -45,7 +45,7 @@ class Run {
     return found ? found.instruction : given.threads[thread].instructions.length;
   }
 
-  // What a step does to memory, or null.
+  // Whether a step reads or stores.
   isAccess(i) {
     return this.steps[i].reads !== null || this.steps[i].stores !== null;
   }

@@ -77,8 +77,8 @@ function effectWords(run, i) {
   }
   if (stores) {
     const found = step.memory[given.locations.indexOf(stores.location)];
-    return [": ", code(assignment(stores)), " goes into its store buffer. No other thread sees it yet; memory still has ",
-      code(`${stores.location}=${found}`), "."];
+    return [": ", code(assignment(stores)), " goes into its store buffer. No other thread sees it yet; memory still ",
+      "has ", code(`${stores.location}=${found}`), "."];
   }
   return reads ? loadWords(run, i) : localWords(run, i);
 }
@@ -134,8 +134,8 @@ function conditionWords(run) {
 // How the run ends. That no sequential run has the outcome is said by `fencer why`, not by `fencer trace`.
 function verdictWords(run) {
   if (run.gap === null) {
-    return [code(outcomeText(run.run)), ...(run.run.meets_condition ? [" It meets the formula of the file's condition: "]
-      : [" It does not meet the formula of the file's condition: "]), code(given.condition), "."];
+    const meets = run.run.meets_condition ? " It meets" : " It does not meet";
+    return [code(outcomeText(run.run)), meets + " the formula of the file's condition: ", code(given.condition), "."];
   }
   return [code(outcomeText(run.run)), html("span", { class: "verdict" }, " No sequential run has this outcome. "),
     ...conditionWords(run.run)];

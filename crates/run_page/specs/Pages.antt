@@ -1,4 +1,4 @@
--- The page of a document.
+-- The page of a document. Its two parts are the bytes that page/make.py makes from the files of page/.
 use Rattle.std.specs.Prelude.{◌++◌, ℕ, List}
 use Rattle.run_page.specs.declared.bytes.TheConstants.{HEAD, TAIL}
 
@@ -10,6 +10,6 @@ page_head = HEAD.now
 unfoldable pub page_tail : List ℕ
 page_tail = TAIL.now
 
--- the page of a document: the page up to it, the document, and the rest
+-- the page up to the document, the document as it is, and the rest
 abbrev pub page_text : List ℕ → List ℕ
 page_text document = page_head ++ document ++ page_tail

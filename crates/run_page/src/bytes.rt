@@ -61,7 +61,11 @@ p { margin: 0 0 0.6rem; max-width: 95ch; }\n\
 .note { margin: 0.6rem 0 0; font-size: 0.9rem; }\n\
 .choice { margin: 0.9rem 0 0.3rem; font-weight: 600; }\n\
 .verdict { color: var(--bad); font-weight: 600; }\n\
-code, .code, table, .cell, .slot, svg text { font-family: var(--mono); font-size: 0.85em; font-variant-ligatures: none; }\n\
+code, .code, table, .cell, .slot, svg text {\n\
+\x20 font-family: var(--mono);\n\
+\x20 font-size: 0.85em;\n\
+\x20 font-variant-ligatures: none;\n\
+}\n\
 code { white-space: nowrap; }\n\
 .long { white-space: normal; }\n\
 .command { user-select: all; }\n\
@@ -100,7 +104,7 @@ button[aria-disabled=true] { color: var(--soft); cursor: default; border-style: 
 .count { min-width: 6.5rem; }\n\
 .say { margin: 0.5rem 0 0; min-height: 4.5em; max-width: none; }\n\
 \n\
-/* The panel: one column, and where there is room the texts left and the machine right */\n\
+/* The panel: one column, or the texts left and the machine right */\n\
 .panel, .duo, .right { min-width: 0; }\n\
 @media screen and (min-width: 62rem) {\n\
 \x20 .side .duo {\n\
@@ -137,7 +141,12 @@ button[aria-disabled=true] { color: var(--soft); cursor: default; border-style: 
 \x20 align-content: space-between;\n\
 }\n\
 .code { list-style: none; margin: 0.3rem 0 0; padding: 0; max-height: 27rem; overflow-y: auto; position: relative; }\n\
-.code li { padding: 0.12rem 0.3rem 0.12rem 1.7rem; position: relative; border-radius: 4px; border: 1px solid transparent; }\n\
+.code li {\n\
+\x20 padding: 0.12rem 0.3rem 0.12rem 1.7rem;\n\
+\x20 position: relative;\n\
+\x20 border-radius: 4px;\n\
+\x20 border: 1px solid transparent;\n\
+}\n\
 .code li[data-number]::before {\n\
 \x20 content: attr(data-number);\n\
 \x20 position: absolute;\n\
@@ -182,7 +191,13 @@ button[aria-disabled=true] { color: var(--soft); cursor: default; border-style: 
 \x20 border-bottom-style: dotted;\n\
 \x20 border-radius: 6px 6px 0 0;\n\
 }\n\
-.slot { border-radius: 4px; min-height: 1.75rem; padding: 0.15rem 0.4rem; border: 1px dashed var(--line); text-align: center; }\n\
+.slot {\n\
+\x20 border-radius: 4px;\n\
+\x20 min-height: 1.75rem;\n\
+\x20 padding: 0.15rem 0.4rem;\n\
+\x20 border: 1px dashed var(--line);\n\
+\x20 text-align: center;\n\
+}\n\
 .slot.full { background: var(--wait-bg); color: var(--wait); border: 1px solid var(--wait); font-weight: 600; }\n\
 .memory {\n\
 \x20 border: 2px solid var(--ink);\n\
@@ -244,7 +259,8 @@ tr.later td { color: var(--soft); }\n\
 \n\
 /* The candidate execution */\n\
 .split { display: flex; flex-wrap: wrap; gap: 0.9rem; align-items: flex-start; }\n\
-.split > * { flex: 1 1 27rem; min-width: 0; }\n\
+.split > * { flex: 1 1 24rem; min-width: 0; }\n\
+.split > .scroll { flex: 1 1 auto; max-width: 100%; } /* a wide graph has a row of its own */\n\
 .graph svg { display: block; max-width: 100%; height: auto; }\n\
 .graph text { font-size: 12.5px; fill: var(--ink); }\n\
 .graph .node { fill: var(--card); stroke: var(--line); stroke-width: 1.5; }\n\
@@ -283,7 +299,9 @@ tr.later td { color: var(--soft); }\n\
 </style>\n\
 </head>\n\
 <body>\n\
-<main id=\"page\"><noscript><p>This page draws itself with JavaScript, from the JSON document in its source.</p></noscript></main>\n\
+<main id=\"page\">\n\
+<noscript><p>This page draws itself with JavaScript, from the JSON document in its source.</p></noscript>\n\
+</main>\n\
 <script type=\"application/json\" id=\"data\">\n\
 ";
 
@@ -410,7 +428,7 @@ class Run {\n\
 \x20   return found ? found.instruction : given.threads[thread].instructions.length;\n\
 \x20 }\n\
 \n\
-\x20 // What a step does to memory, or null.\n\
+\x20 // Whether a step reads or stores.\n\
 \x20 isAccess(i) {\n\
 \x20   return this.steps[i].reads !== null || this.steps[i].stores !== null;\n\
 \x20 }\n\
@@ -548,8 +566,8 @@ function effectWords(run, i) {\n\
 \x20 }\n\
 \x20 if (stores) {\n\
 \x20   const found = step.memory[given.locations.indexOf(stores.location)];\n\
-\x20   return [\": \", code(assignment(stores)), \" goes into its store buffer. No other thread sees it yet; memory still has \",\n\
-\x20     code(`${stores.location}=${found}`), \".\"];\n\
+\x20   return [\": \", code(assignment(stores)), \" goes into its store buffer. No other thread sees it yet; memory still \",\n\
+\x20     \"has \", code(`${stores.location}=${found}`), \".\"];\n\
 \x20 }\n\
 \x20 return reads ? loadWords(run, i) : localWords(run, i);\n\
 }\n\
@@ -605,8 +623,8 @@ function conditionWords(run) {\n\
 // How the run ends. That no sequential run has the outcome is said by `fencer why`, not by `fencer trace`.\n\
 function verdictWords(run) {\n\
 \x20 if (run.gap === null) {\n\
-\x20   return [code(outcomeText(run.run)), ...(run.run.meets_condition ? [\" It meets the formula of the file's condition: \"]\n\
-\x20     : [\" It does not meet the formula of the file's condition: \"]), code(given.condition), \".\"];\n\
+\x20   const meets = run.run.meets_condition ? \" It meets\" : \" It does not meet\";\n\
+\x20   return [code(outcomeText(run.run)), meets + \" the formula of the file's condition: \", code(given.condition), \".\"];\n\
 \x20 }\n\
 \x20 return [code(outcomeText(run.run)), html(\"span\", { class: \"verdict\" }, \" No sequential run has this outcome. \"),\n\
 \x20   ...conditionWords(run.run)];\n\
@@ -675,7 +693,8 @@ function bufferBox(thread, depth) {\n\
 function registerBox(thread) {\n\
 \x20 const names = given.registers[thread];\n\
 \x20 return html(\"div\", {}, html(\"h4\", {}, \"registers\"),\n\
-\x20   names.length > 0 ? cellList(`registers of ${threadName(thread)}`, names) : html(\"p\", { class: \"soft none\" }, \"none\"));\n\
+\x20   names.length > 0 ? cellList(`registers of ${threadName(thread)}`, names)\n\
+\x20     : html(\"p\", { class: \"soft none\" }, \"none\"));\n\
 }\n\
 \n\
 // A thread's column. Without a run it is the program alone.\n\
@@ -687,9 +706,19 @@ function threadColumn(program, thread, run) {\n\
 \x20   run ? html(\"div\", { class: \"low\" }, registerBox(thread), bufferBox(thread, depth)) : \"\");\n\
 }\n\
 \n\
-const threadColumns = run =>\n\
-\x20 html(\"div\", { class: \"threads\", style: `grid-template-columns: repeat(${given.threads.length}, minmax(9.4rem, 1fr))` },\n\
+function threadColumns(run) {\n\
+\x20 const style = `grid-template-columns: repeat(${given.threads.length}, minmax(9.4rem, 1fr))`;\n\
+\x20 return html(\"div\", { class: \"threads\", style },\n\
 \x20   given.threads.map((program, thread) => threadColumn(program, thread, run)));\n\
+}\n\
+\n\
+// Whether the columns have room in half the page: up to this many characters, with the numbers of the lines.\n\
+const HALF_PAGE = 68;\n\
+\n\
+function isNarrow() {\n\
+\x20 const texts = given.threads.flatMap(({ instructions }) => instructions.map(({ text }) => text.length + 4));\n\
+\x20 return given.threads.length * Math.max(0, ...texts) <= HALF_PAGE;\n\
+}\n\
 \n\
 // The register that a load or an exchange puts its value in: the operand that is no location.\n\
 function loadedRegister(run, i) {\n\
@@ -841,15 +870,22 @@ function drawMove(machine, move, isFirstOfTwo, flies) {\n\
 \x20 const label = assignment(move.value);\n\
 \x20 machine.arrows.append(line);\n\
 \x20 if (Math.abs(y2 - y1) > LABEL_HEIGHT) {\n\
-\x20   const { x, y } = labelSpot(machine, line, move, isFirstOfTwo);\n\
-\x20   const width = label.length * 8 + 12;\n\
-\x20   machine.arrows.append(\n\
-\x20     svg(\"rect\", { x: x - width / 2, y: y - 10, width, height: 20, rx: 10 }),\n\
-\x20     svg(\"text\", { x, y: y + 4, \"text-anchor\": \"middle\" }, label));\n\
+\x20   drawLabel(machine.arrows, label, labelSpot(machine, line, move, isFirstOfTwo));\n\
 \x20 }\n\
 \x20 if (flies && !calm.matches) {\n\
 \x20   fly(machine.stage, path, label);\n\
 \x20 }\n\
+}\n\
+\n\
+// Draws a label, above those that are there.\n\
+function drawLabel(arrows, label, { x, y }) {\n\
+\x20 const width = label.length * 8 + 12;\n\
+\x20 const isInTheWay = ({ x: left, y: top, width: size }) =>\n\
+\x20   Math.abs(left + size / 2 - x) < (size + width) / 2 && Math.abs(top + 10 - y) < 20;\n\
+\x20 const height = all(arrows, \"rect\").map(box => box.getBBox()).some(isInTheWay) ? y - 22 : y;\n\
+\x20 arrows.append(\n\
+\x20   svg(\"rect\", { x: x - width / 2, y: height - 10, width, height: 20, rx: 10 }),\n\
+\x20   svg(\"text\", { x, y: height + 4, \"text-anchor\": \"middle\" }, label));\n\
 }\n\
 \n\
 function fly(stage, path, label) {\n\
@@ -894,7 +930,8 @@ class Graph {\n\
 \x20 constructor(run, isWhole) {\n\
 \x20   this.run = run;\n\
 \x20   this.events = run.steps.map((_, i) => i).filter(i => run.isAccess(i));\n\
-\x20   this.width = 20 + 7.6 * Math.max(0, ...this.events.flatMap(i => [run.text(i).length, accessText(run.steps[i]).length]));\n\
+\x20   const texts = this.events.flatMap(i => [run.text(i), accessText(run.steps[i])]);\n\
+\x20   this.width = 20 + 7.6 * Math.max(0, ...texts.map(text => text.length));\n\
 \x20   this.cycle = run.cycle();\n\
 \x20   const inCycle = this.cycle.map(edge => run.threads[edge.from]);\n\
 \x20   this.columns = given.threads.map((_, thread) => thread)\n\
@@ -944,10 +981,10 @@ class Graph {\n\
 \x20   const locations = this.initialLocations;\n\
 \x20   const texts = locations.map(location => 7.8 * `W ${initialText(location)}`.length + 20);\n\
 \x20   this.initialWidth = Math.max(90, ...texts);\n\
-\x20   const all = locations.length * (this.initialWidth + 14);\n\
-\x20   this.wide = Math.max(2 * GRAPH.left + (this.width + 90) * (this.columns.length - 1) + this.width, all);\n\
+\x20   const row = locations.length * (this.initialWidth + 14);\n\
+\x20   this.wide = Math.max(2 * GRAPH.left + (this.width + 90) * (this.columns.length - 1) + this.width, row);\n\
 \x20   locations.forEach((location, i) => {\n\
-\x20     const x = (this.wide - all) / 2 + i * (this.initialWidth + 14) + 7;\n\
+\x20     const x = (this.wide - row) / 2 + i * (this.initialWidth + 14) + 7;\n\
 \x20     this.spots.set(location, { thread: -1, column: -1, row: -1, x, y: 10 });\n\
 \x20   });\n\
 \x20 }\n\
@@ -975,20 +1012,23 @@ class Graph {\n\
 \x20   const y = a.y + GRAPH.initialHeight;\n\
 \x20   if (b.row === 0) {\n\
 \x20     const end = b.x + this.width / 2 + shift * 2;\n\
-\x20     return { path: `M${x},${y} C${x},${y + 42} ${end},${b.y - 34} ${end},${b.y}`, x: (x + 3 * end) / 4, y: (y + 3 * b.y) / 4 - 6 };\n\
+\x20     const path = `M${x},${y} C${x},${y + 42} ${end},${b.y - 34} ${end},${b.y}`;\n\
+\x20     return { path, x: (x + 3 * end) / 4, y: (y + 3 * b.y) / 4 - 6 };\n\
 \x20   }\n\
 \x20   const isLeft = b.column < this.columns.length / 2;\n\
 \x20   const end = isLeft ? b.x : b.x + this.width;\n\
 \x20   const bow = isLeft ? -46 : 46;\n\
 \x20   const height = b.y + GRAPH.height / 2 + shift;\n\
-\x20   return { path: `M${x},${y} C${x},${y + 42} ${end + bow},${height} ${end},${height}`, x: end + bow * 0.6, y: height - 9 };\n\
+\x20   const path = `M${x},${y} C${x},${y + 42} ${end + bow},${height} ${end},${height}`;\n\
+\x20   return { path, x: end + bow * 0.6, y: height - 9 };\n\
 \x20 }\n\
 \n\
 \x20 routeInThread(a, b) {\n\
 \x20   const bow = a.x - 26 - 9 * Math.abs(a.row - b.row);\n\
 \x20   const from = a.y + GRAPH.height / 2 + 6;\n\
 \x20   const to = b.y + GRAPH.height / 2 - 6;\n\
-\x20   return { path: `M${a.x},${from} C${bow},${from} ${bow},${to} ${a.x},${to}`, x: a.x + (bow - a.x) * 0.75, y: (from + to) / 2 };\n\
+\x20   const path = `M${a.x},${from} C${bow},${from} ${bow},${to} ${a.x},${to}`;\n\
+\x20   return { path, x: a.x + (bow - a.x) * 0.75, y: (from + to) / 2 };\n\
 \x20 }\n\
 \n\
 \x20 routeAcross(a, b, shift) {\n\
@@ -1065,7 +1105,7 @@ class Graph {\n\
 \x20   });\n\
 \x20   const height = this.bottom + GRAPH.lane * this.lanes;\n\
 \x20   const label = this.cycle.length > 0\n\
-\x20     ? \"The candidate execution; its forbidden cycle is told in the list beside it\"\n\
+\x20     ? \"The candidate execution; its forbidden cycle is in words in the list beside it\"\n\
 \x20     : \"The candidate execution, which has no forbidden cycle\";\n\
 \x20   return svg(\"svg\", {\n\
 \x20     role: \"img\", \"aria-label\": label, width: this.wide, height, viewBox: `0 0 ${this.wide} ${height}`,\n\
@@ -1116,7 +1156,8 @@ class Player {\n\
 \x20 }\n\
 \n\
 \x20 makeControls() {\n\
-\x20   const button = (name, label, act) => html(\"button\", { type: \"button\", \"aria-label\": name, on: { click: act } }, label);\n\
+\x20   const button = (name, label, act) =>\n\
+\x20     html(\"button\", { type: \"button\", \"aria-label\": name, on: { click: act } }, label);\n\
 \x20   this.first = button(\"Start\", \"Start\", () => this.step(0));\n\
 \x20   this.back = button(\"Back\", \"\xe2\x97\x80 Back\", () => this.step(this.at - 1));\n\
 \x20   this.play = html(\"button\", { type: \"button\", on: { click: () => this.turnPlaying() } }, \"\xe2\x96\xb6 Play\");\n\
@@ -1130,14 +1171,14 @@ class Player {\n\
 \x20   this.say = html(\"p\", { class: \"say\", \"aria-live\": \"polite\" });\n\
 \x20 }\n\
 \n\
-\x20 // The parts in the order in which they are read. Up to three threads the machine stands beside the texts.\n\
+\x20 // The parts in the order in which they are read. Where it is narrow, the machine stands beside the texts.\n\
 \x20 panel() {\n\
 \x20   const buttons = [this.first, this.back, this.play, this.forward, this.final];\n\
 \x20   const bar = html(\"section\", { class: \"card bar player\", \"aria-label\": \"player\" },\n\
 \x20     html(\"div\", { class: \"controls\" }, buttons, html(\"div\", { class: \"place\" }, this.slider, this.count)), this.say);\n\
 \x20   const machine = html(\"div\", { class: \"right\" }, bar, region(\"machine\", \"the machine\", this.machine.stage));\n\
 \x20   const duo = html(\"div\", { class: \"duo\" }, this.momentBox(), machine, this.table);\n\
-\x20   return html(\"div\", { class: given.threads.length < 4 ? \"panel side\" : \"panel\" }, duo, this.graphBox());\n\
+\x20   return html(\"div\", { class: isNarrow() ? \"panel side\" : \"panel\" }, duo, this.graphBox());\n\
 \x20 }\n\
 \n\
 \x20 // The moments that matter, each with buttons to its steps.\n\
@@ -1200,7 +1241,7 @@ class Player {\n\
 \x20   }\n\
 \x20   const close = this.run.gap === null\n\
 \x20     ? \"sequential run has these reads and writes. Another sequential run may still have the same outcome.\"\n\
-\x20     : \"sequential run has these reads and writes, and no other sequential run has this outcome.\";\n\
+\x20     : \"sequential run has these reads and writes. fencer also checked that no other sequential run has this outcome.\";\n\
 \x20   const isOver = this.run.gap === null || this.run.cycle().some(({ from, to }) => this.run.isAroundGap(from, to));\n\
 \x20   return [\n\
 \x20     html(\"p\", {}, \"Suppose that the accesses took effect one after the other, each thread's in program order. Then:\"),\n\
@@ -1328,9 +1369,9 @@ function answerWords(gaps) {\n\
 \x20 const isOne = gaps.length === 1;\n\
 \x20 const places = gaps.length <= 3 ? listed(gaps.map(gap => html(\"span\", {}, \"before \", ...placeOf(gap))))\n\
 \x20   : listed(fencesByThread(gaps));\n\
-\x20 const fences = isOne ? \"an MFENCE \" : gaps.length <= 3 ? \"MFENCEs \" : `${gaps.length} MFENCEs, `;\n\
+\x20 const fences = isOne ? \"an MFENCE \" : gaps.length <= 3 ? \"MFENCE \" : `${gaps.length} MFENCEs, `;\n\
 \x20 const cost = `${isOne ? \"It costs\" : \"Together they cost\"} ${given.answer.cost}`;\n\
-\x20 return [\"A cheapest answer: \", fences, ...places, `. ${cost}; no cheaper set is enough.`];\n\
+\x20 return [\"A cheapest set of fences: \", fences, ...places, `. ${cost}; no cheaper set is enough.`];\n\
 }\n\
 \n\
 function showNoFence() {\n\
@@ -1350,9 +1391,9 @@ function showAnswer(gaps) {\n\
 \x20 main.replaceChildren(\n\
 \x20   html(\"h1\", {}, `Why ${given.test} needs ${isOne ? \"a fence\" : gaps.length + \" fences\"}`),\n\
 \x20   html(\"p\", { class: \"lead\" }, answerWords(gaps)),\n\
-\x20   html(\"p\", { class: \"soft\" }, introduction, \" In a sequential run there are no store buffers: each instruction takes \"\n\
-\x20     + `effect at once. With ${isOne ? \"this fence\" : \"these fences\"} the program has exactly the outcomes of its `\n\
-\x20     + `sequential runs${observedWords()}.`),\n\
+\x20   html(\"p\", { class: \"soft\" }, introduction, \" In a sequential run there are no store buffers: each instruction \",\n\
+\x20     `takes effect at once. With ${isOne ? \"this fence\" : \"these fences\"} the program has exactly the outcomes of its `,\n\
+\x20     `sequential runs${observedWords()}.`),\n\
 \x20   html(\"p\", { class: \"choice\" }, isOne\n\
 \x20     ? \"Without it, this run becomes possible, and no sequential run has its outcome:\"\n\
 \x20     : \"Leave out one of them, and a run becomes possible whose outcome no sequential run has:\"));\n\
@@ -1426,13 +1467,15 @@ function address() {\n\
 // its own for them.\n\
 function listenToKeys(player) {\n\
 \x20 document.addEventListener(\"keydown\", event => {\n\
-\x20   if (event.altKey || event.ctrlKey || event.metaKey || event.target.matches(\"input[type=range], .scroll, [role=tab]\")) {\n\
+\x20   const hasOwnUse = event.target.matches(\"input[type=range], .scroll, [role=tab]\");\n\
+\x20   if (event.altKey || event.ctrlKey || event.metaKey || hasOwnUse) {\n\
 \x20     return;\n\
 \x20   }\n\
 \x20   const { at, run: { last } } = player();\n\
 \x20   const inPlayer = event.target.closest(\".player, .moments\") !== null;\n\
-\x20   const target = { ArrowRight: at + 1, ArrowLeft: at - 1, Home: inPlayer ? 0 : null, End: inPlayer ? last : null }[event.key];\n\
-\x20   if (target !== undefined && target !== null) {\n\
+\x20   const targets = { ArrowRight: at + 1, ArrowLeft: at - 1, ...(inPlayer ? { Home: 0, End: last } : {}) };\n\
+\x20   const target = targets[event.key];\n\
+\x20   if (target !== undefined) {\n\
 \x20     event.preventDefault();\n\
 \x20     player().step(target);\n\
 \x20   }\n\

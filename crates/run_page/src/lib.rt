@@ -1,4 +1,4 @@
-//! Pages that show documents.
+//! The page that shows why fences are needed, and what happens in a run: HTML around a document of `fencer`.
 #![tactic(auto)]
 
 mod bytes;

@@ -1,6 +1,7 @@
 //! A hunt of one seat by its calls, one for each word of a script, at whose end the hunt is closed.
 ghost use Rattle.std.specs.Prelude.{◌≡◌, IfOk, IsTrue, Some};
 ghost use Rattle.tso_machine.specs.Outcomes.{AreGapsOf};
+ghost use Rattle.cover_solver.specs.Facts.{IsForeignValue};
 ghost use Rattle.cover_solver.specs.Verdicts.{IsVerdictOf, PassesNoneOf};
 ghost use Rattle.search_core.specs.Events.{IsBeatenBy};
 ghost use Rattle.hunt_board.specs.Seats.{IsOf};
@@ -80,6 +81,7 @@ pub fn run_past(
     labels: &[u8],
 ) -> Result<ForeignRun, Refusal>
     ensures of { IfOk result (λ run. run.question ≡ table.now.question) }
+    ensures foreign { IfOk result IsForeignValue }
     ensures splits { IfOk result (PassesNoneOf node.now.must) }
 {
     let labels = labels_of(alloc, labels)?;

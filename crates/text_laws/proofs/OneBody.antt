@@ -1,13 +1,12 @@
 -- Initial values, the header row and the rows are spelled in one way.
-use Rattle.std.proofs.Common.{◌≡◌, ◌∙◌, ◌+◌, ℕ, true, List, [], ◌∷◌, sym, ap, subst, inl, inr, refl, Option, Some, None}
+use Rattle.std.proofs.Common.{◌≡◌, ◌∙◌, ◌+◌, ℕ, true, List, [], ◌∷◌, sym, ap, subst, refl, Option, Some, None}
 use Rattle.text_tokens.specs.declared.token.Mark.TheVariants as the
-use Rattle.text_tokens.specs.Tokens.{Tok, Word}
+use Rattle.text_tokens.specs.Tokens.{Tok}
 use Rattle.text_tokens.specs.Parts.{begins_with, rest_of}
 use Rattle.text_tokens.proofs.PartLaws.{begins_again}
-use Rattle.litmus_syntax.specs.Words.{column_name}
-use Rattle.litmus_syntax.specs.Views.{EntryView, CodeView, CellView, BodyView}
+use Rattle.litmus_syntax.specs.Views.{CodeView, CellView}
 use Rattle.litmus_syntax.specs.Phrases.{mark, Items, end, item}
-use Rattle.litmus_syntax.specs.Grammar.{IsEntryItem, IsInitial, MoreColumns, last, column, IsHeader, IsCode, IsLabelMark, ends_cell, IsContent, IsCell, IsNextCell, IsCells, IsRow, before_ending, IsRowList, IsRows, IsBody}
+use Rattle.litmus_syntax.specs.Grammar.{IsEntryItem, IsInitial, MoreColumns, last, column, IsHeader, IsCode, IsLabelMark, ends_cell, IsContent, IsCell, IsNextCell, IsCells, IsRow, IsRowList, IsRows, IsBody}
 use Rattle.litmus_syntax.specs.Reading.{entry_at, code_at, label_tokens_at}
 use Rattle.litmus_syntax.proofs.EntryLaws.{entries_are_read, no_entry}
 use Rattle.litmus_syntax.proofs.CodeLaws.{code_again, code_begins}
@@ -25,7 +24,7 @@ initial_once : One IsInitial
 initial_once ts es fs rest other h g =
     let inside : h.0.0 ≡ g.0.0 = mark_once the.OpenBrace ts h.0.0 g.0.0 h.0.1 g.0.1 in
     let items = items_once IsEntryItem (mark the.CloseBrace) (mark the.CloseBrace) (one_read IsEntryItem entry_at entries_are_read.again) entries_apart entries_apart g.0.0 es fs rest other
-        (subst (λ (z : List Tok). Items IsEntryItem (mark the.CloseBrace) es z rest) inside h.0.2) g.0.2 in
+    (subst (λ (z : List Tok). Items IsEntryItem (mark the.CloseBrace) es z rest) inside h.0.2) g.0.2 in
     (items.0, mark_once the.CloseBrace items.1.0 rest other items.1.1 items.1.2)
 
 -- ---- the header row
@@ -92,8 +91,7 @@ cells_once ts (c ∷ cs) [] rest other h g = absurd g
 cells_once ts (c ∷ cs) (d ∷ ds) rest other h g =
     let first = cell_once ts c d h.0 g.0 h.1 g.1 in
     let more = items_once IsNextCell (mark the.Semicolon) (mark the.Semicolon) next_cell_once cells_apart cells_apart g.0 cs ds rest other
-        (subst (λ (z : List Tok). Items IsNextCell (mark the.Semicolon) cs z rest) first.1 h.2) g.2 in
-    (
+    (subst (λ (z : List Tok). Items IsNextCell (mark the.Semicolon) cs z rest) first.1 h.2) g.2 in (
       ap (λ (z : CellView). z ∷ cs) first.0 ∙ ap (λ (z : List CellView). d ∷ z) more.0,
       mark_once the.Semicolon more.1.0 rest other more.1.1 more.1.2,
     )

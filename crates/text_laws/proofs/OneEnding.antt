@@ -1,5 +1,5 @@
 -- What is observed, the quantifier and the signs of a condition are spelled in one way.
-use Rattle.std.proofs.Common.{◌≡◌, ◌∙◌, ℕ, List, [], ◌∷◌, codes, sym, ap, subst, inl, inr, refl, Some, None, Option}
+use Rattle.std.proofs.Common.{◌≡◌, ◌∙◌, ℕ, List, [], codes, sym, ap, subst, inl, inr, refl, Some, None}
 use Rattle.std.proofs.lemmas.Option.{same_Some}
 use Rattle.text_tokens.specs.declared.token.Mark.TheVariants as the
 use Rattle.text_tokens.specs.Tokens.{Tok}
@@ -7,9 +7,9 @@ use Rattle.text_tokens.specs.Parts.{rest_of}
 use Rattle.conditions.specs.declared.condition.Quantifier.{Quantifier}
 use Rattle.conditions.specs.declared.condition.Quantifier.TheVariants.{Exists, NotExists, Forall}
 use Rattle.litmus_syntax.specs.Views.{PlaceView, Location, Register, SignView, EndingView}
-use Rattle.litmus_syntax.specs.Phrases.{◌▸◌, mark, Items, end, item}
+use Rattle.litmus_syntax.specs.Phrases.{mark, Items}
 use Rattle.litmus_syntax.specs.Grammar.{IsPlace, separator, IsObservedItem, IsObserved, IsQuantifier, IsSign, IsSigns, the_end, IsEnding}
-use Rattle.litmus_syntax.specs.Reading.{place_at, place_among_at, separator_at, quantifier_at, short_sign_at, atom_at, sign_at}
+use Rattle.litmus_syntax.specs.Reading.{place_at, place_among_at, quantifier_at, atom_at, sign_at}
 use Rattle.litmus_syntax.proofs.WordLaws.{begins_word_again, separator_again}
 use Rattle.litmus_syntax.proofs.PlaceLaws.{place_again}
 use Rattle.litmus_syntax.proofs.SignLaws.{signs_are_read}
@@ -40,7 +40,7 @@ observed_once threads ts ps qs rest other (inl h) (inl g) =
     let first : h.0 ≡ g.0 = ap rest_of (sym h.1 ∙ g.1) in
     let second : h.2.0 ≡ g.2.0 = ap rest_of (sym h.2.1 ∙ first ∙ g.2.1) in
     let items = items_once (IsObservedItem threads) (mark the.CloseBracket) (mark the.CloseBracket) (observed_item_once threads) (observed_apart threads) (observed_apart threads) g.2.0 ps qs rest other
-        (subst (λ (z : List Tok). Items (IsObservedItem threads) (mark the.CloseBracket) ps z rest) second h.2.2) g.2.2 in
+    (subst (λ (z : List Tok). Items (IsObservedItem threads) (mark the.CloseBracket) ps z rest) second h.2.2) g.2.2 in
     (items.0, mark_once the.CloseBracket items.1.0 rest other items.1.1 items.1.2)
 observed_once threads ts ps qs rest other (inl h) (inr g) = let bad = sym g.1.1 ∙ begins_word_again (codes "locations") ts h.0 h.1 in absurd cc
 observed_once threads ts ps qs rest other (inr h) (inl g) = let bad = sym h.1.1 ∙ begins_word_again (codes "locations") ts g.0 g.1 in absurd cc
@@ -73,5 +73,4 @@ pub ending_once : (threads : ℕ) (ts : List Tok) (e d : EndingView) → IsEndin
 ending_once threads ts e d h g =
     let observed = only_one (IsObserved threads) (observed_once threads) e.observed ts h.0 h.1 in
     let quantifier = quantifier_is_read e.quantifier h.0 h.2.0 h.2.1 in
-    let signs = (h.2.2, λ zs i. signs_once threads h.2.0 zs e.signs i h.2.2) in
-    sym ((ending_is_read threads ts h.0 h.2.0 e.observed e.quantifier e.signs observed quantifier signs).1 d g)
+    sym ((ending_is_read threads ts h.0 h.2.0 e.observed e.quantifier e.signs observed quantifier (h.2.2, λ zs i. signs_once threads h.2.0 zs e.signs i h.2.2)).1 d g)

@@ -1,5 +1,5 @@
 -- A cost text gives the gaps of a program one list of costs.
-use Rattle.std.proofs.Common.{◌≡◌, Some, None, sym, ◌∙◌}
+use Rattle.std.proofs.Common.{Some, None, sym, ◌∙◌}
 use Rattle.cost_text.proofs.TextLaws.{costs_once}
 use Rattle.text_laws.specs.Laws.{ATextGivesOneListOfCosts, TheCostsAreOneList}
 

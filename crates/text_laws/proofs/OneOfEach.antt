@@ -1,5 +1,5 @@
 -- Phrases that tokens begin with in one way, and lists of them.
-use Rattle.std.proofs.Common.{◌≡◌, ◌∙◌, sym, ap, subst, refl, List, [], ◌∷◌, Option, Some}
+use Rattle.std.proofs.Common.{◌≡◌, ◌∙◌, sym, ap, subst, refl, List, ◌∷◌, Option, Some}
 use Rattle.std.proofs.lemmas.Option.{same_Some}
 use Rattle.text_tokens.specs.declared.token.Mark.{Mark}
 use Rattle.text_tokens.specs.Tokens.{Tok}

@@ -14,7 +14,7 @@ use Rattle.litmus_reader.specs.Names.{TextNames, number_in}
 use Rattle.litmus_reader.specs.Places.{names_of}
 use Rattle.litmus_reader.specs.Labels.{all_labels}
 use Rattle.litmus_reader.specs.Meaning.{listing_of, sign_of, condition_of, observed_of}
-use Rattle.litmus_reader.specs.Texts.{AreParts, Means, StandsFor}
+use Rattle.litmus_reader.specs.Texts.{AreParts, Means}
 use Rattle.text_laws.specs.Laws.{ATextStandsForOneTest, ATextIsOfOneProgram, ATextIsOfOneFencedProgram}
 use Rattle.text_laws.proofs.OneBody.{body_once}
 use Rattle.text_laws.proofs.OneEnding.{ending_once}

@@ -9,9 +9,11 @@ ghost use Rattle.fence_place.specs.Faults.{AreTooFewOrMany};
 ghost use Rattle.placed_text.specs.TextFaults.{HasNoPlacedText};
 ghost use Rattle.why_text.specs.WhyTexts.{reasons_or_none, IsWhyText, TellsReasons, TellsWhy};
 
-use crate::reasons::{reason_lines, run_without};
+use crate::reasons::{reason_of, run_without};
 use cover_solver::Solver;
+use documents::why_document;
 use gap_sets::{Costs, GapSet};
+use json_text::JsonArray;
 use litmus_text::Litmus;
 use placed_text::{Found, TextFault, place_gaps, read_gap_costs, read_program};
 use report::answer_line;
@@ -28,6 +30,16 @@ pub struct WhyText {
     pub lines: Vec<u8>,
     /// The candidate executions of the runs, as a graph in Graphviz's language.
     pub graph: Vec<u8>,
+    /// The same, as JSON.
+    pub document: Vec<u8>,
+}
+
+/// Why gaps are needed, one after the other.
+#[derive(Drop)]
+struct Reasons {
+    lines: Vec<u8>,
+    graph: Vec<u8>,
+    runs: JsonArray,
 }
 
 /// Why each gap of the answer is needed.
@@ -38,23 +50,25 @@ fn reasons(
     costs: &Costs,
     solver: &Solver,
     set: &GapSet,
-) -> Result<WhyText, AllocError>
+) -> Result<Reasons, AllocError>
     requires question { solver.now.question ≡ asked litmus.now.program shown.now }
     requires answer { IsTheAnswer solver.now.question costs.now set.now }
     requires one_each { length costs.now ≡ gap_count solver.now.question.program.threads }
-    ensures { IfOk result (λ reasons. TellsReasons litmus.now shown.now set.now (numbers_of_set set.now) reasons.lines.items) }
+    ensures { IfOk result (λ reasons. TellsReasons litmus.now shown.now set.now (numbers_of_set set.now) reasons.lines.items reasons.runs) }
 {
     // For the proof alone: a set has gap numbers.
     let _ = set.len();
     let mut lines = Vec::new(alloc);
     let mut graph = RunGraph::new(alloc)?;
+    let mut runs = JsonArray::new(alloc);
     for gap in set.iter() {
         let run = run_without(solver, costs, set, gap)?;
-        let reason = reason_lines(alloc, &mut graph, litmus, shown, set, gap, &run)?;
-        lines.extend_from_slice(&reason)?;
+        let reason = reason_of(alloc, &mut graph, litmus, shown, set, gap, &run)?;
+        lines.extend_from_slice(&reason.lines)?;
+        runs.add(reason.run)?;
     }
     let graph = graph.into_text()?;
-    Ok(WhyText { lines, graph })
+    Ok(Reasons { lines, graph, runs })
 }
 
 /// The lines of reasons, or a line that no gap is needed.
@@ -79,20 +93,29 @@ fn explained(
     requires question { found.now.solver.question ≡ asked litmus.now.program shown.now }
     requires answer { IsTheAnswer found.now.solver.question costs.now found.now.placed.set }
     requires one_each { length costs.now ≡ gap_count found.now.solver.question.program.threads }
-    ensures { IfOk result (λ told. TellsWhy litmus.now shown.now found.now.placed.set (answer_line litmus.now.program shown.now found.now.placed.set found.now.placed.cost) told.lines.items) }
+    ensures { IfOk result (λ told. TellsWhy litmus.now shown.now costs.now found.now.placed.set (answer_line litmus.now.program shown.now found.now.placed.set found.now.placed.cost) told.lines.items told.document.items) }
 {
     let set = found.placed.set;
     let reasons = reasons(alloc, litmus, shown, costs, &found.solver, &set)?;
-    let WhyText { lines: each, graph } = reasons;
+    let Reasons {
+        lines: each,
+        graph,
+        runs,
+    } = reasons;
     let said = reasons_or_none(alloc, each)?;
+    let document = why_document(alloc, litmus, shown, costs, &set, runs)?;
     let mut lines = answer_line(alloc, &litmus.program, shown, set, found.placed.cost)?;
     lines.extend_from_slice(&said)?;
-    Ok(WhyText { lines, graph })
+    Ok(WhyText {
+        lines,
+        graph,
+        document,
+    })
 }
 
 /// Places fences in the program of a litmus text as [`placed_text::place_text`] does, and says why each of them is
 /// needed: after the answer line, for each gap of the answer a run with the other gaps fenced, whose outcome no
-/// sequential run has. The graph has these runs.
+/// sequential run has. The graph has these runs, and the document says what the lines say.
 pub fn why_text<R: Threads + Sync, W: Wait + Sync>(
     rt: &R,
     wait: &W,
@@ -102,7 +125,7 @@ pub fn why_text<R: Threads + Sync, W: Wait + Sync>(
     observed: bool,
     workers: u8,
 ) -> Result<WhyText, TextFault>
-    ensures told { IfOk result (λ reasons. IsWhyText litmus.now (option_map (λ text. text.now) costs.entry) observed reasons.lines.items) }
+    ensures told { IfOk result (λ reasons. IsWhyText litmus.now (option_map (λ text. text.now) costs.entry) observed reasons.lines.items reasons.document.items) }
     ensures workers { OnOk result (¬ AreTooFewOrMany workers) }
     ensures fault { IfErr result (HasNoPlacedText litmus.now (option_map (λ text. text.now) costs.entry) workers) }
 {

@@ -1,5 +1,5 @@
 //! Why a gap of the answer is needed.
-ghost use Rattle.std.specs.Prelude.{◌≡◌, ◌<◌, true, IfOk, length};
+ghost use Rattle.std.specs.Prelude.{◌≡◌, ◌<◌, true, IfOk, length, map};
 ghost use Rattle.std.specs.FinSet as set;
 ghost use Rattle.gap_sets.specs.declared.gap_set.TheConstants.{MAX_GAPS};
 ghost use Rattle.tso_program.specs.Shown.{asked};
@@ -7,17 +7,30 @@ ghost use Rattle.tso_machine.specs.Outcomes.{IsTheAnswer};
 ghost use Rattle.cover_solver.specs.Facts as facts;
 ghost use Rattle.cover_solver.specs.Verdicts.{PassesNoneOf};
 ghost use Rattle.tso_program.specs.Listings.{gap_count};
-ghost use Rattle.why_text.specs.WhyTexts.{labels_line, reason_text, IsReason};
+ghost use Rattle.documents.specs.declared.run.Setting.TheVariants.{Without};
+ghost use Rattle.documents.specs.Runs.{TellsRun};
+ghost use Rattle.why_text.specs.WhyTexts.{labels_line, met_line, reason_text, IsReason};
 
 use cover_solver::{ForeignRun, Oracle, Solver, Verdict};
+use documents::{Setting, run_value};
 use gap_sets::{Costs, GapSet};
-use litmus_text::Litmus;
+use json_text::JsonText;
+use litmus_text::{Litmus, holds};
 use report::{outcome_line, passed_line, without_line};
 use run_graph::RunGraph;
 use run_table::run_table;
 use std::alloc::{AllocError, Global};
-use tso_machine::{Label, Model, Step, steps, write_run};
+use tso_machine::{Ended, Label, Model, Step, steps, write_run};
 use tso_program::{Program, Shown};
+
+/// Why a gap is needed.
+#[derive(Drop)]
+pub(crate) struct Reason {
+    /// What is printed.
+    pub(crate) lines: Vec<u8>,
+    /// What the document says of the run.
+    pub(crate) run: JsonText,
+}
 
 /// The other gaps of the answer don't serve: a run that passes none of them.
 pub(crate) fn run_without(
@@ -62,31 +75,56 @@ fn push_graph(
     steps: &[Step],
 ) -> Result<(), AllocError> {
     let line = without_line(alloc, &litmus.program, gap)?;
-    graph.push_run(alloc, litmus, line.trim_ascii_end(), steps)
+    graph.push_run(alloc, litmus, line.trim_ascii_end(), steps, Some(gap))
 }
 
-/// The table of a run where the other gaps of the answer are fenced, which is added to a graph.
-fn table_of(
+/// The steps of a run, where the other gaps of the answer are fenced.
+fn steps_of(
     alloc: Global,
-    graph: &mut RunGraph,
-    litmus: &Litmus<Program>,
     gaps: &GapSet,
     gap: u8,
     run: &ForeignRun,
-) -> Result<Vec<u8>, AllocError>
+) -> Result<Vec<Step>, AllocError>
     requires gap { gap < MAX_GAPS }
+    ensures labels { IfOk result (λ steps. map (λ step. step.label) steps.items ≡ run.now.labels) }
 {
     let others = gaps.without(gap);
-    let steps = match steps(alloc, run.program(), &others, Model::Buffered, run.labels()) {
-        Ok(steps) => steps,
-        Err(_) => return Err(AllocError),
-    };
-    push_graph(alloc, graph, litmus, gap, &steps)?;
-    run_table(alloc, litmus, &steps)
+    match steps(alloc, run.program(), &others, Model::Buffered, run.labels()) {
+        Ok(steps) => Ok(steps),
+        Err(_) => Err(AllocError),
+    }
 }
 
-/// A gap, and a run: its labels, its table, what it leaves, the gaps that it passes, and that no sequential run leaves
-/// this.
+/// What the document says of a run, of which these are the steps.
+fn told(
+    alloc: Global,
+    litmus: &Litmus<Program>,
+    shown: &Shown,
+    gap: u8,
+    run: &ForeignRun,
+    steps: &[Step],
+) -> Result<JsonText, AllocError>
+    ensures { IfOk result (TellsRun litmus.now shown.now (Without gap) (map (λ step. step.label) steps.now) run.now.outcome run.now.passed) }
+{
+    let outcome = run.outcome().copy(alloc)?;
+    let passed = run.passed();
+    let ended = Ended { outcome, passed };
+    run_value(alloc, litmus, shown, Setting::Without(gap), steps, &ended)
+}
+
+/// Whether a run's outcome meets the condition's formula, as a sentence.
+fn met_line(meets: bool) -> &'static [u8]
+    ensures { result.now ≡ met_line meets }
+{
+    if meets {
+        b"The outcome is what the condition asks for.\n"
+    } else {
+        b"The condition is not met by this run; registers or memory end as they sequentially cannot.\n"
+    }
+}
+
+/// A gap, and a run: its labels, its table, what it leaves, the gaps that it passes, that no sequential run leaves this,
+/// and whether it meets the condition.
 fn lines_with(
     alloc: Global,
     litmus: &Litmus<Program>,
@@ -106,11 +144,12 @@ fn lines_with(
     lines.extend_from_slice(&outcome)?;
     lines.extend_from_slice(&passed)?;
     lines.extend_from_slice(b"No sequential run has this outcome.\n")?;
+    lines.extend_from_slice(met_line(holds(&litmus.condition, run.outcome())))?;
     Ok(lines)
 }
 
 /// Why a gap of the answer is needed, by a run that passes none of the others, and that is added to a graph.
-pub(crate) fn reason_lines(
+pub(crate) fn reason_of(
     alloc: Global,
     graph: &mut RunGraph,
     litmus: &Litmus<Program>,
@@ -118,13 +157,18 @@ pub(crate) fn reason_lines(
     gaps: &GapSet,
     gap: u8,
     run: &ForeignRun,
-) -> Result<Vec<u8>, AllocError>
+) -> Result<Reason, AllocError>
     requires question { run.now.question ≡ asked litmus.now.program shown.now }
     requires foreign { facts.IsForeignValue run.now }
     requires avoids { PassesNoneOf (set.remove gaps.now gap) run.now }
     requires gap { gap < MAX_GAPS }
-    ensures { IfOk result (λ lines. IsReason litmus.now shown.now gaps.now gap lines.items) }
+    ensures { IfOk result (λ reason. IsReason litmus.now shown.now gaps.now gap (reason.lines.items, reason.run)) }
 {
-    let table = table_of(alloc, graph, litmus, gaps, gap, run)?;
-    lines_with(alloc, litmus, shown, gap, run, &table)
+    let all = steps_of(alloc, gaps, gap, run)?;
+    let steps = all.as_slice();
+    push_graph(alloc, graph, litmus, gap, steps)?;
+    let table = run_table(alloc, litmus, steps)?;
+    let lines = lines_with(alloc, litmus, shown, gap, run, table.as_slice())?;
+    let said = told(alloc, litmus, shown, gap, run, steps)?;
+    Ok(Reason { lines, run: said })
 }

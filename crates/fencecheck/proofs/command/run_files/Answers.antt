@@ -14,6 +14,6 @@ returns-in-Ok-clause-printed g c =
 
 pub returns-in-Err-clause-printed : goal.returns-in-Err-clause-printed
 returns-in-Err-clause-printed g c =
-    let why = c.in-Err.fault in
-    prints_line c.file_line.result 1 (file_line why) (IsReplyToFiles (file_names_of c.args.names) (g.R.Read.remaining c.args.input.now) (g.S.FileStore.held c.args.files.now)) _ _ c.print.result
-    (no_file why c.in-Err.ensures.err) c.file_line.ensures c.print.ensures
+    let why = c.in-Err.file.fault in
+    prints_line c.file_line.result 1 (file_line why) (IsReplyToFiles (file_names_of c.args.names) (g.R.Read.remaining c.args.input.now) (g.S.FileStore.held c.args.files.now)) _ _ c.refuse.result
+    (no_file why c.in-Err.ensures.err) c.file_line.ensures c.refuse.ensures

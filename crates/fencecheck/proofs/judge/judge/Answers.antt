@@ -19,17 +19,17 @@ returns-in-Err-read_cert-clause-refused c =
     let why = c.in-Err-read_cert.ensures in
     (c.in-Ok.litmus, c.in-Ok.ensures.found, record { trailing = why.trailing; more = why.more; none = why.only })
 
-pub returns-in-Err-costs_of-clause-refused : goal.returns-in-Err-costs_of-clause-refused
-returns-in-Err-costs_of-clause-refused c =
-    (c.in-Ok.litmus, c.in-Ok-read_cert.certificate, record { of_program = c.in-Ok.ensures.found; of_certificate = c.in-Ok-read_cert.ensures.found }, c.in-Err-costs_of.ensures.none)
+pub returns-in-Err-given_costs-clause-refused : goal.returns-in-Err-given_costs-clause-refused
+returns-in-Err-given_costs-clause-refused c =
+    (c.in-Ok.litmus, c.in-Ok-read_cert.certificate, record { of_program = c.in-Ok.ensures.found; of_certificate = c.in-Ok-read_cert.ensures.found }, c.in-Err-given_costs.ensures.none)
 
 pub returns-in-Ok-checked_line-clause-accepted : goal.returns-in-Ok-checked_line-clause-accepted
 returns-in-Ok-checked_line-clause-accepted c = record {
   told = record {
     program = c.in-Ok.litmus;
     of_text = c.in-Ok.ensures.found;
-    gap_costs = c.in-Ok-costs_of.costs;
-    given = c.in-Ok-costs_of.ensures.costs;
+    gap_costs = c.in-Ok-given_costs.costs;
+    given = c.in-Ok-given_costs.ensures.costs;
     shown = c.handed_in-shown.result;
     as_asked = subst (λ shown. handed_in c.in-Ok.litmus shown ≡ shown) (sym c.handed_in-shown.ensures) (asked_once c.in-Ok.litmus c.certificate.inside.shown);
     gaps = c.in-Ok-read_cert.certificate.gaps;
@@ -46,8 +46,8 @@ pub returns-clause-refused : goal.returns-clause-refused
 returns-clause-refused c = (
   c.in-Ok.litmus,
   c.in-Ok-read_cert.certificate,
-  c.in-Ok-costs_of.costs,
+  c.in-Ok-given_costs.costs,
   record { of_program = c.in-Ok.ensures.found; of_certificate = c.in-Ok-read_cert.ensures.found },
-  c.in-Ok-costs_of.ensures.costs,
-  subst (λ shown. CheckFaultIs (asked c.in-Ok.litmus.program shown) c.in-Ok-costs_of.costs c.in-Ok-read_cert.certificate c.in-Err-checked_line.fault) (c.handed_in-shown.ensures ∙ ap (λ (claimed : Certificate). handed_in c.in-Ok.litmus claimed.shown) c.certificate.view_is) c.in-Err-checked_line.ensures.refused,
+  c.in-Ok-given_costs.ensures.costs,
+  subst (λ shown. CheckFaultIs (asked c.in-Ok.litmus.program shown) c.in-Ok-given_costs.costs c.in-Ok-read_cert.certificate c.in-Err-checked_line.fault) (c.handed_in-shown.ensures ∙ ap (λ (claimed : Certificate). handed_in c.in-Ok.litmus claimed.shown) c.certificate.view_is) c.in-Err-checked_line.ensures.refused,
 )

@@ -43,4 +43,4 @@ returns-in-Ok-clause-placed g c =
     let placed = c.in_ok-found.found.placed in
     placed_text c.args.litmus.now (option_map (λ text. text.now) c.args.costs) c.args.observed c.in-Ok.texts source c.in_ok-costs.costs placed c.in_ok-source.ensures.found c.in_ok-costs.ensures.given
     (subst (λ (shown : Shown). IsPlacement (asked source.program shown) c.in_ok-costs.costs placed) c.shown_as-shown.ensures c.in_ok-found.ensures.placed)
-    (subst (λ (shown : Shown). AreWrittenTexts source shown placed c.in-Ok.texts) c.shown_as-shown.ensures c.in-Ok.ensures)
+    (subst (λ (shown : Shown). AreWrittenTexts source shown c.in_ok-costs.costs placed c.in-Ok.texts) c.shown_as-shown.ensures c.in-Ok.ensures)

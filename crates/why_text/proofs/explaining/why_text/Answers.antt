@@ -21,6 +21,8 @@ returns-in-Ok-clause-told g c =
     let shown = shown_as source c.args.observed in
     let placed = c.in_ok-found.found.placed in
     let text = c.in-Ok.reasons.lines.items in
+    let document = c.in-Ok.reasons.document.items in
+    let costs = c.in_ok-costs.costs in
     let is : IsPlacement (question_of source c.args.observed) c.in_ok-costs.costs placed = subst (λ (s : Shown). IsPlacement (asked source.program s) c.in_ok-costs.costs placed) c.shown_as-shown.ensures c.in_ok-found.ensures.placed in
     record {
       source = source;
@@ -29,8 +31,8 @@ returns-in-Ok-clause-told g c =
       given = c.in_ok-costs.ensures.given;
       gaps = placed.set;
       answer = is.answer;
-      told = subst (λ (cost : ℕ). TellsWhy source shown placed.set (answer_line source.program shown placed.set cost) text) is.cost
-          (subst (λ (s : Shown). TellsWhy source s placed.set (answer_line source.program s placed.set placed.cost) text) c.shown_as-shown.ensures c.in-Ok.ensures);
+      told = subst (λ (cost : ℕ). TellsWhy source shown costs placed.set (answer_line source.program shown placed.set cost) text document) is.cost
+          (subst (λ (s : Shown). TellsWhy source s costs placed.set (answer_line source.program s placed.set placed.cost) text document) c.shown_as-shown.ensures c.in-Ok.ensures);
     }
 
 pub returns-in_err-source-clause-fault : goal.returns-in_err-source-clause-fault

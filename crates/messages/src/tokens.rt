@@ -1,0 +1,136 @@
+//! Tokens of a litmus text, as they lie in it.
+
+use crate::source::{continues_character, from};
+use litmus_syntax::{Part, Refusal};
+use text_tokens::{Bad, Token, after_space, are_digits, digits_len, is_white_space, is_word_byte};
+
+/// A token that can't stand where it does.
+#[derive(Clone, Copy, Debug)]
+pub(crate) struct Spot<'t> {
+    pub(crate) part: Part,
+    /// The offset of its first byte.
+    pub(crate) offset: usize,
+    /// Its bytes; none at the end of the text.
+    pub(crate) word: &'t [u8],
+    /// The bytes of the token before it.
+    pub(crate) before: &'t [u8],
+    /// What kind of token it is, in angle brackets.
+    pub(crate) kind: &'static [u8],
+}
+
+/// The refused one of the tokens of a text, which begins at an offset of the whole one.
+pub(crate) fn spot_of<'t>(
+    text: &'t [u8],
+    tokens: &[Token],
+    refusal: Refusal,
+    offset: usize,
+) -> Spot<'t> {
+    let index = tokens.len().saturating_sub(refusal.left);
+    let rest = from_token(text, tokens, index);
+    let word = word_at(rest);
+    Spot {
+        part: refusal.part,
+        offset: offset.saturating_add(text.len().saturating_sub(rest.len())),
+        word,
+        before: token_before(text, tokens, index),
+        kind: kind_of(tokens.get(index), word),
+    }
+}
+
+/// The bytes of the token before the one with this index.
+fn token_before<'t>(text: &'t [u8], tokens: &[Token], index: usize) -> &'t [u8] {
+    let before = index.saturating_sub(1);
+    let rest = from_token(text, tokens, before);
+    match tokens.get(before) {
+        Some(token) => rest.split_at(token_len(token, rest).min(rest.len())).0,
+        None => b"",
+    }
+}
+
+/// The text from the token with this index on.
+fn from_token<'t>(text: &'t [u8], tokens: &[Token], index: usize) -> &'t [u8] {
+    let mut rest = without_space(text);
+    for token in tokens.iter().take(index) {
+        rest = without_space(from(rest, token_len(token, rest)));
+    }
+    rest
+}
+
+/// How many bytes the token takes with which a text begins.
+fn token_len(token: &Token, text: &[u8]) -> usize {
+    match token {
+        Token::Word(word) => word.len(),
+        Token::Number(_) => digits_len(text),
+        Token::Mark(mark) => mark.text().len(),
+        Token::Bad(_) => 0,
+    }
+}
+
+/// The text after the white space and the comments at its front; after the white space alone where a comment does not
+/// end.
+fn without_space(text: &[u8]) -> &[u8] {
+    match after_space(text) {
+        Some(rest) => rest,
+        None => {
+            let len = text
+                .iter()
+                .take_while(|byte| is_white_space(**byte))
+                .count();
+            from(text, len)
+        }
+    }
+}
+
+/// The word with which a text begins: letters and digits, signs of comparison or of a connective, or one character.
+pub(crate) fn word_at(text: &[u8]) -> &[u8] {
+    let signs = text.iter().take_while(|byte| is_sign(**byte)).count();
+    let letters = letters_len(from(text, signs));
+    let len = if signs == 0 || text.starts_with(b"-") {
+        signs.saturating_add(letters)
+    } else {
+        signs
+    };
+    text.split_at(len.max(character_len(text)).min(text.len()))
+        .0
+}
+
+fn is_sign(byte: u8) -> bool {
+    b"!<>=&-/\\".contains(&byte)
+}
+
+fn letters_len(text: &[u8]) -> usize {
+    text.iter().take_while(|byte| is_word_byte(**byte)).count()
+}
+
+/// How many bytes the first character takes.
+fn character_len(text: &[u8]) -> usize {
+    let later = from(text, 1)
+        .iter()
+        .take_while(|byte| continues_character(**byte))
+        .count();
+    later.saturating_add(1)
+}
+
+fn kind_of(token: Option<&Token>, word: &[u8]) -> &'static [u8] {
+    match token {
+        None => b"<end>",
+        Some(Token::Word(_)) => b"<word>",
+        Some(Token::Number(_)) => b"<number>",
+        Some(Token::Mark(_)) => b"<mark>",
+        Some(Token::Bad(Bad::Number)) => number_kind(word),
+        Some(Token::Bad(Bad::Minus)) => b"<negative>",
+        Some(Token::Bad(Bad::Unfinished)) => b"<unfinished>",
+        Some(Token::Bad(Bad::Stray)) => b"<stray>",
+    }
+}
+
+/// What is wrong with a number.
+fn number_kind(word: &[u8]) -> &'static [u8] {
+    if word.starts_with(b"0x") || word.starts_with(b"0X") {
+        b"<hexadecimal>"
+    } else if are_digits(word) {
+        b"<large>"
+    } else {
+        b"<digits>"
+    }
+}
