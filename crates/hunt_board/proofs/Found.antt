@@ -1,5 +1,5 @@
 -- Each node of the record of a search that is done stands where the walk for its region ends.
-use Rattle.std.proofs.Common.{◌≡◌, ◌≢◌, ◌⊎◌, ℕ, zero, suc, ◌+◌, ◌<◌, Bool, true, false, true≢false, ◌||◌, List, [], ◌∷◌, Option, Some, None, Contains, cond, refl, sym, ap, ◌∙◌, subst, inl, inr, arith, length, get_or}
+use Rattle.std.proofs.Common.{◌≡◌, ◌≢◌, ℕ, zero, suc, ◌+◌, ◌<◌, Bool, true, false, true≢false, ◌||◌, List, [], ◌∷◌, Option, Some, None, Contains, cond, refl, sym, ap, ◌∙◌, subst, inl, inr, arith, get_or}
 use Rattle.std.specs.Prelude.{slice_get}
 use Rattle.std.specs.Option.{option_map}
 use Rattle.std.specs.List.{position_from, AllPairs}
@@ -25,7 +25,7 @@ use Rattle.search_core.specs.Records.{Outcome, IsOutcome, finished_state}
 use Rattle.search_core.proofs.Kept.{Facts, facts_of}
 use Rattle.search_core.proofs.Sets.{gap_set, passed_gaps}
 use Rattle.hunt_board.specs.Internal.Places.{Leads, StandsOnlyAt, ends, goes, child_by, child_in, child_of}
-use Rattle.hunt_board.proofs.Parents.{IsChildAt, HasParent, HaveParents, parents_of}
+use Rattle.hunt_board.proofs.Parents.{IsChildAt, HaveParents, parents_of}
 
 -- a walk ends at one place
 pub same_end : (entries : List Entry) (n : Region) (place a b : ℕ) → Leads entries n place a → Leads entries n place b → a ≡ b

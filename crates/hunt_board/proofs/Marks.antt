@@ -5,7 +5,6 @@ use Rattle.std.proofs.lemmas.Option.{same_Some, none-some, slice_get_within, sli
 use Rattle.std.proofs.lemmas.Bool.{cases_lt}
 use Rattle.std.proofs.lemmas.List.{get_or-replicate, length-replicate}
 use native.Mathlib.Decide.{ℕ_discrete}
-use Rattle.gap_sets.specs.declared.region.Region.{Region}
 use Rattle.search_core.specs.declared.entry.Entry.{Entry}
 use Rattle.cover_solver.specs.Facts.{Foreign}
 use Rattle.search_core.specs.declared.entry.Status.{Status}
