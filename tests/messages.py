@@ -34,7 +34,8 @@ def refused(tell, programs, words, files, line):
         given = files["SB.litmus"] + (b"" if len(words) > 1 else files["SB.cert"])
         status, printed, said = outputs(words, folder, given, programs)
         name = f"the message of {' '.join(words)}: {line[:80]}"
-        right = status == 1 and printed.startswith(b"refused ") and printed.count(b"\n") == 1
+        begun = b'{"format":' if "--json" in words else b"refused "
+        right = status == 1 and printed.startswith(begun) and printed.count(b"\n") == 1
         tell(name, right and said == line.encode() + b"\n", f"wanted {line}\n  found  {said!r} with {status} {printed!r}")
         with open("/dev/full", "wb") as full:
             without = outputs(words, folder, given, programs, full)[:2]

@@ -1,5 +1,5 @@
 -- Steps, one more; and the labels of the steps of a run.
-use Rattle.std.proofs.Common.{◌≡◌, ℕ, List, [], ◌∷◌, ◌++◌, map, refl, ap, sym, ◌∙◌}
+use Rattle.std.proofs.Common.{◌≡◌, List, [], ◌∷◌, ◌++◌, map, refl}
 use Rattle.tso_program.specs.declared.listing.Listing.{Listing}
 use Rattle.tso_machine.specs.declared.label.Label.{Label}
 use Rattle.tso_machine.specs.declared.stepping.Step.{Step}

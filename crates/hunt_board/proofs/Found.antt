@@ -1,5 +1,5 @@
 -- Each node of the record of a search that is done stands where the walk for its region ends.
-use Rattle.std.proofs.Common.{◌≡◌, ◌≢◌, ◌⊎◌, ℕ, zero, suc, ◌+◌, ◌<◌, Bool, true, false, true≢false, ◌||◌, List, [], ◌∷◌, Option, Some, None, Contains, cond, refl, sym, ap, ◌∙◌, subst, inl, inr, arith, length, get_or}
+use Rattle.std.proofs.Common.{◌≡◌, ◌≢◌, ℕ, zero, suc, ◌+◌, ◌<◌, Bool, true, false, true≢false, ◌||◌, List, [], ◌∷◌, Option, Some, None, Contains, cond, refl, sym, ap, ◌∙◌, subst, inl, inr, arith, get_or}
 use Rattle.std.specs.Prelude.{slice_get}
 use Rattle.std.specs.Option.{option_map}
 use Rattle.std.specs.List.{position_from, AllPairs}
@@ -24,8 +24,16 @@ use Rattle.search_core.specs.declared.entry.Status.TheVariants.{Open, Held, Spli
 use Rattle.search_core.specs.Records.{Outcome, IsOutcome, finished_state}
 use Rattle.search_core.proofs.Kept.{Facts, facts_of}
 use Rattle.search_core.proofs.Sets.{gap_set, passed_gaps}
-use Rattle.hunt_board.specs.Internal.Places.{Leads, ends, goes, child_by, child_in, child_of}
-use Rattle.hunt_board.proofs.Parents.{IsChildAt, HasParent, HaveParents, parents_of}
+use Rattle.hunt_board.specs.Internal.Places.{Leads, StandsOnlyAt, ends, goes, child_by, child_in, child_of}
+use Rattle.hunt_board.proofs.Parents.{IsChildAt, HaveParents, parents_of}
+
+-- a walk ends at one place
+pub same_end : (entries : List Entry) (n : Region) (place a b : ℕ) → Leads entries n place a → Leads entries n place b → a ≡ b
+same_end entries n place a b (ends _ none) (ends _ none') = refl
+same_end entries n place a b (ends _ none) (goes _ child _ some rest) = absurd (none-some child (sym none ∙ some))
+same_end entries n place a b (goes _ child _ some rest) (ends _ none) = absurd (none-some child (sym none ∙ some))
+same_end entries n place a b (goes _ child _ some rest) (goes _ child' _ some' rest') =
+    same_end entries n child a b rest (subst (λ k. Leads entries n k b) (sym (same_Some child child' (sym some ∙ some'))) rest')
 
 -- a set has what it had, and the new gap
 kept_old : (s : SetOfGaps) (gap q : ℕ) → set.contains s q ≡ true → set.contains (set.insert s gap) q ≡ true
@@ -36,7 +44,11 @@ kept_old s gap q h = set.contains-insert nat_cmp_total s gap q ∙ by_or (eq_by_
     by_or false b e = e
 
 has_new : (s : SetOfGaps) (gap : ℕ) → set.contains (set.insert s gap) gap ≡ true
-has_new s gap = set.contains-insert nat_cmp_total s gap gap ∙ ap (λ b. b || set.contains s gap) (grind (arith, nat_tests))
+has_new s gap = set.contains-insert nat_cmp_total s gap gap ∙ by_or (eq_by_cmp nat_cmp gap gap) (set.contains s gap) (grind (arith, nat_tests))
+  where
+    by_or : (a b : Bool) → a ≡ true → (a || b) ≡ true
+    by_or true b e = refl
+    by_or false b e = absurd (true≢false (sym e))
 
 -- a gap that is not there, and not the new one, is not there then
 still_missing : (s : SetOfGaps) (gap q : ℕ) → gap ≢ q → set.contains s q ≡ false → set.contains (set.insert s gap) q ≡ false
@@ -168,6 +180,9 @@ module _ (o : Outcome) (is : IsOutcome o) where
       by_status Cut h = refl
       by_status Confirmed h = refl
 
-  pub found : (place : ℕ) (e : Entry) → slice_get o.entries place ≡ Some e → Leads o.entries e.node 0 place
+  found : (place : ℕ) (e : Entry) → slice_get o.entries place ≡ Some e → Leads o.entries e.node 0 place
   found place e there =
       comes (suc place) place (omega arith) e there e.node place (holds (suc place) place (omega arith) e there) (ends place (ends_there place e there))
+
+  pub stands_only : (n : Region) (place : ℕ) → Leads o.entries n 0 place → StandsOnlyAt o.entries n place
+  stands_only n place leads p e there same = same_end o.entries n 0 p place (subst (λ (m : Region). Leads o.entries m 0 p) same (found p e there)) leads

@@ -5,7 +5,6 @@ use Rattle.std.proofs.lemmas.Option.{same_Some, none-some, slice_get_within, sli
 use Rattle.std.proofs.lemmas.Bool.{cases_lt}
 use Rattle.std.proofs.lemmas.List.{get_or-replicate, length-replicate}
 use native.Mathlib.Decide.{ℕ_discrete}
-use Rattle.gap_sets.specs.declared.region.Region.{Region}
 use Rattle.search_core.specs.declared.entry.Entry.{Entry}
 use Rattle.cover_solver.specs.Facts.{Foreign}
 use Rattle.search_core.specs.declared.entry.Status.{Status}
@@ -13,7 +12,7 @@ use Rattle.search_core.specs.declared.entry.Status.TheVariants.{Open, Held, Spli
 use Rattle.search_core.specs.declared.finished.Event.{Event as Recorded}
 use Rattle.search_core.specs.declared.finished.Event.TheVariants as recorded
 use Rattle.search_core.specs.declared.finished.Settled.{Settled}
-use Rattle.search_core.specs.Records.{Outcome, IsOutcome, IsEventOf, IsSettledAs}
+use Rattle.search_core.specs.Records.{IsEventOf, IsSettledAs}
 use Rattle.search_core.proofs.Places.{get_here, get_else, get_old}
 use Rattle.hunt_board.specs.declared.settling.Event.{Event}
 use Rattle.hunt_board.specs.declared.settling.Event.TheVariants as event
@@ -21,16 +20,8 @@ use Rattle.hunt_board.specs.declared.settling.Receipt.{Receipt}
 use Rattle.hunt_board.specs.Receipts.{IsEventOf as IsEventTold, IsReceiptOf, Stands, StandApart, NameAll, IsFirstWrong}
 use Rattle.hunt_board.specs.Internal.Settled.{IsSameEvent, SaysSame}
 use Rattle.hunt_board.specs.Internal.Marks.{HasMark, IsMarked, IsNotMarked}
-use Rattle.hunt_board.specs.Internal.Places.{Leads, ends, goes}
-use Rattle.hunt_board.proofs.Found.{found}
-
--- a walk ends at one place
-same_end : (entries : List Entry) (n : Region) (place a b : ℕ) → Leads entries n place a → Leads entries n place b → a ≡ b
-same_end entries n place a b (ends _ none) (ends _ none') = refl
-same_end entries n place a b (ends _ none) (goes _ child _ some rest) = absurd (none-some child (sym none ∙ some))
-same_end entries n place a b (goes _ child _ some rest) (ends _ none) = absurd (none-some child (sym none ∙ some))
-same_end entries n place a b (goes _ child _ some rest) (goes _ child' _ some' rest') =
-    same_end entries n child a b rest (subst (λ k. Leads entries n k b) (sym (same_Some child child' (sym some ∙ some'))) rest')
+use Rattle.hunt_board.specs.Internal.Places.{Leads, StandsOnlyAt}
+use Rattle.hunt_board.proofs.Found.{same_end}
 
 -- what is at a place of a list's front
 get_take : (n : ℕ) (l : List Receipt) (i : ℕ) (r : Receipt) → slice_get (take n l) i ≡ Some r → (i < n) × (slice_get l i ≡ Some r)
@@ -166,7 +157,7 @@ module _ (entries : List Entry) (receipts : List Receipt) (marks : List Bool) (c
     receipt = x;
     there = here;
     wrong = elim not.why [
-      | inl no ↦ inl no
+      | inl astray ↦ inl astray
       | inr has ↦ inr (let was = so.named has.place has.entry has.has has.there in (was.0, was.1, was.2, was.3, was.4.node ∙ sym has.is_receipt.node))
     ];
     before = stand_so_far (take count receipts) (get_take count receipts);
@@ -237,7 +228,7 @@ event_same Confirmed recorded.Confirmed event.Confirmed h g = tt
 
 -- what the record says of a node is what its receipt says
 module _ (e : Entry) (settled : Settled) (r : Receipt) (told : IsSettledAs e settled) where
-  receipt_of : SaysSame settled r → IsReceiptOf e r
+  pub receipt_of : SaysSame settled r → IsReceiptOf e r
   receipt_of says = record {
     node = says.node ∙ told.same_node;
     seat = says.seat ∙ told.same_seat;
@@ -252,32 +243,29 @@ module _ (e : Entry) (settled : Settled) (r : Receipt) (told : IsSettledAs e set
   }
 
 -- the mark of the receipt's node
-pub mark_of : (entries : List Entry) (r : Receipt) (marks : List Bool) (place : ℕ) (settled : Settled) (mark b : Bool) → Leads entries r.node 0 place →
+abbrev pub mark_of : (entries : List Entry) (r : Receipt) (marks : List Bool) (place : ℕ) (settled : Settled) (mark b : Bool) → Leads entries r.node 0 place →
     ((e : Entry) × (slice_get entries place ≡ Some e) × IsSettledAs e settled) → SaysSame settled r → length marks ≡ length entries → mark ≡ get_or marks place mark → mark ≡ b →
     HasMark entries r marks b
-mark_of entries r marks place settled mark b leads (e, there, told) says long read is = record {
+mark_of entries r marks place settled mark b leads found says long read is = record {
   place = place;
   leads = leads;
-  entry = e;
-  there = there;
-  is_receipt = receipt_of e settled r told says;
-  has = (let within = slice_get_within entries place e there in slice_get_read marks (length entries) place mark (sym long) within read) ∙ ap Some is;
+  entry = found.0;
+  there = found.1;
+  is_receipt = receipt_of found.0 settled r found.2 says;
+  has = (let within = slice_get_within entries place found.0 found.1 in slice_get_read marks (length entries) place mark (sym long) within read) ∙ ap Some is;
 }
 
--- a receipt that stands in the record of a search is of the node to which the walk leads
-module _ (o : Outcome) (is : IsOutcome o) (r : Receipt) (place : ℕ) (leads : Leads o.entries r.node 0 place) where
-  stands_there : Stands o.entries r → (e : Entry) × (slice_get o.entries place ≡ Some e) × IsReceiptOf e r
-  stands_there (p, e, there, receipt) =
-      let ends : Leads o.entries r.node 0 p = subst (λ (n : Region). Leads o.entries n 0 p) (sym receipt.node) (found o is p e there) in
-      let same : p ≡ place = same_end o.entries r.node 0 p place ends leads in
-      (e, ap (slice_get o.entries) (sym same) ∙ there, receipt)
+-- a receipt whose node stands at this place, or nowhere
+module _ (entries : List Entry) (r : Receipt) (place : ℕ) (only : StandsOnlyAt entries r.node place) where
+  stands_there : Stands entries r → (e : Entry) × (slice_get entries place ≡ Some e) × IsReceiptOf e r
+  stands_there (p, e, there, receipt) = (e, ap (slice_get entries) (sym (only p e there (sym receipt.node))) ∙ there, receipt)
 
-  -- none, where no node is there
-  pub stands_nowhere : slice_get o.entries place ≡ None → ¬ Stands o.entries r
+  -- nowhere, where no node is there
+  pub stands_nowhere : slice_get entries place ≡ None → ¬ Stands entries r
   stands_nowhere none stands = let there = stands_there stands in none-some there.0 (sym none ∙ there.1)
 
   -- nor where the record says another thing of the node
-  pub stands_not : (settled : Settled) → ((e : Entry) × (slice_get o.entries place ≡ Some e) × IsSettledAs e settled) → (¬ SaysSame settled r) → ¬ Stands o.entries r
+  pub stands_not : (settled : Settled) → ((e : Entry) × (slice_get entries place ≡ Some e) × IsSettledAs e settled) → (¬ SaysSame settled r) → ¬ Stands entries r
   stands_not settled (e, at, told) other stands =
       let there = stands_there stands in
       let same : there.0 ≡ e = same_Some there.0 e (sym there.1 ∙ at) in

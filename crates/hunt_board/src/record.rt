@@ -4,7 +4,7 @@ ghost use Rattle.std.specs.Bool.{MatchBool};
 ghost use Rattle.gap_sets.specs.Regions.{open_gaps};
 ghost use Rattle.hunt_board.specs.Receipts.{NameAll};
 ghost use Rattle.hunt_board.specs.Internal.Marks.{IsMarked, IsNotMarked, RecordFaultIs};
-ghost use Rattle.hunt_board.specs.Internal.Places.{Leads, child_of, number_of_child};
+ghost use Rattle.hunt_board.specs.Internal.Places.{Leads, StandsOnlyAt, child_of, number_of_child};
 ghost use Rattle.hunt_board.specs.Internal.Settled.{IsSameEvent, SaysSame};
 
 use crate::same::same_region;
@@ -49,13 +49,14 @@ fn mark(finished: &Finished, named: &mut Vec<bool>, receipt: &Receipt) -> bool
     ensures { MatchBool result (IsMarked finished.now.entries receipt.now named.old.items named.new.items)
         (IsNotMarked finished.now.entries receipt.now named.old.items named.new.items) }
 {
-    // For the proof alone: what holds of every record is known where its program is read.
-    let _ = finished.program();
     let place = place_of(finished, &receipt.node);
     let Some(settled) = finished.settled(place) else {
         return false;
     };
-    if !is_receipt_of(&settled, receipt) || named[place] {
+    if !is_receipt_of(&settled, receipt) {
+        return false;
+    }
+    if named[place] {
         return false;
     }
     named[place] = true;
@@ -86,8 +87,11 @@ fn is_same_event(recorded: search_core::Event<'_>, event: &Event) -> bool
 /// Where the node of this region stands in the record, if it stands there at all: a walk from the root, at
 /// each split to the child of the first gap that the node's sets must have.
 fn place_of(finished: &Finished, node: &Region) -> usize
-    ensures { Leads finished.now.entries node.now 0 result }
+    ensures leads { Leads finished.now.entries node.now 0 result }
+    ensures only { StandsOnlyAt finished.now.entries node.now result }
 {
+    // For the proof alone: what holds of every record is known where its program is read.
+    let _ = finished.program();
     let mut place = 0;
     while let Some(child) = child_of(finished, place, node) {
         place = child;

@@ -77,7 +77,7 @@ fn is_posted(hunt: &Hunt, hand: &mut Hand, run: ForeignRun) -> Result<bool, Fore
     }
 }
 
-/// The same. Where memory is refused for it, that is told, and the run that was handed back is posted.
+/// The same. Where memory is refused, it prints so and posts the run that was handed back.
 fn is_posted_again(
     hunt: &Hunt,
     hand: &mut Hand,

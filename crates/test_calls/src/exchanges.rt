@@ -1,6 +1,4 @@
 //! Two hunts, and a receipt of the one among those of the other.
-ghost use Rattle.std.specs.Prelude.{◌≡◌, IfOk};
-ghost use Rattle.test_calls.specs.Hunts.{IsSound};
 
 use crate::hunts::{Hand, hunt_by, push_end};
 use crate::input::split_at_byte;

@@ -135,7 +135,7 @@ fn push_event(
     Ok(printed.push_str(done)?)
 }
 
-/// Does what a word names: the event, the seat's number as its last digit, and labels after a colon.
+/// Does what a word names: the event, the seat's number as its last digit, and labels or gaps after a colon.
 fn push_step(
     alloc: Global,
     table: &SeqTable,

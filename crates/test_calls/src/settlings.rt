@@ -1,8 +1,8 @@
 //! Ways to settle the node of a hunt's seat that a script asks for by a word of their own.
-ghost use Rattle.std.specs.Prelude.{◌≡◌, ◌<◌, IfSome, MatchOption, None};
+ghost use Rattle.std.specs.Prelude.{◌≡◌, ◌<◌, IfOk, MatchOption};
 ghost use Rattle.gap_sets.specs.Order.{total};
 ghost use Rattle.search_core.specs.Ceilings.{IsCeilingOf};
-ghost use Rattle.hunt_board.specs.Seats.{HuntView, SeatView, IsOf};
+ghost use Rattle.hunt_board.specs.Seats.{IsOf};
 ghost use Rattle.test_calls.specs.Hunts.{IsSound};
 
 use crate::hunts::{Hand, held, keep_receipt, run_past};
@@ -45,8 +45,8 @@ pub fn cut<W: Wait>(
     keep_receipt(&mut hand.receipts, receipt, printed)
 }
 
-/// Settles the seat's node by the run of these labels. Where memory is refused for it, that is told, and it is settled by
-/// a copy of the run that was made before.
+/// Settles the seat's node by the run of these labels. Where memory is refused, it prints so and settles the node by a copy
+/// of the run that was made before.
 pub fn settle_again<W: Wait>(
     wait: &W,
     alloc: Global,

@@ -22,7 +22,7 @@ use Rattle.cover_solver.specs.Verdicts.{PassesNoneOf}
 use Rattle.documents.specs.declared.run.Setting.TheVariants.{Without}
 use Rattle.documents.specs.Documents.{IsWhyDocument}
 use Rattle.documents.specs.Runs.{TellsRun}
-use Rattle.why_text.specs.WhyTexts.{Told, IsReason, AreReasons, lines_of, runs_of, TellsReasons, TellsWhy, all_sequential, reason_text, reasons_or_none}
+use Rattle.why_text.specs.WhyTexts.{Told, IsReason, AreReasons, lines_of, TellsReasons, TellsWhy, all_sequential, reason_text, reasons_or_none}
 
 -- a foreign run that passes none of some gaps is a run with these gaps fenced
 pub runs_fenced : (run : facts.Foreign) (gaps : SetOfGaps) → facts.IsForeignValue run → PassesNoneOf gaps run → IsShownRun run.question (StoreBufferMachine (gaps_in run.question.program gaps)) run.labels run.outcome

@@ -33,3 +33,7 @@ child_of entries place n = child_in (slice_get entries place) n
 pub data Leads (entries : List Entry) (n : Region) : ℕ → ℕ → Type 0 where
   ends : (place : ℕ) → child_of entries place n ≡ None → Leads entries n place place
   goes : (place child end : ℕ) → child_of entries place n ≡ Some child → Leads entries n child end → Leads entries n place end
+
+-- the node stands at no other place
+abbrev pub StandsOnlyAt : List Entry → Region → ℕ → Type 0
+StandsOnlyAt entries n place = (p : ℕ) (e : Entry) → slice_get entries p ≡ Some e → e.node ≡ n → p ≡ place

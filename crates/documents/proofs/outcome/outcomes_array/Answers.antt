@@ -1,4 +1,4 @@
-use Rattle.std.proofs.Common.{◌∙◌, ◌≡◌, ℕ, List, [], ◌∷◌, ◌++◌, map, take, get_or, ap, sym}
+use Rattle.std.proofs.Common.{◌∙◌, ℕ, List, [], ◌∷◌, ◌++◌, get_or, ap, sym}
 use Rattle.std.proofs.lemmas.List.{map_more}
 use Rattle.documents.specs.Parts.{outcome_array}
 use Rattle.documents.proofs.outcome.outcomes_array.Goals as goal

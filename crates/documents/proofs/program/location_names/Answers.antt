@@ -1,7 +1,6 @@
-use Rattle.std.proofs.Common.{◌∙◌, ◌≡◌, ℕ, List, [], ◌∷◌, ◌++◌, length, map, take, get_or, ap, sym, arith}
-use Rattle.std.proofs.Math.Seq.{take-length}
+use Rattle.std.proofs.Common.{◌∙◌, ℕ, List, [], ◌∷◌, ◌++◌, get_or, ap, sym, arith}
 use Rattle.std.proofs.lemmas.List.{map_more}
-use Rattle.json_text.specs.Texts.{quoted, array_text}
+use Rattle.json_text.specs.Texts.{quoted}
 use Rattle.documents.proofs.program.location_names.Goals as goal
 
 pub loop-number-preserved : goal.loop-number-preserved
