@@ -122,7 +122,8 @@ def program_differs(document, canonical):
     labels = sorted(label for thread in document["threads"] for cell in [*thread["instructions"], {"labels": thread["end"]}] for label in cell["labels"])
     spelled = sorted(re.findall(r"(\w+):(?= |$)", "\n".join(line for line in rest if line.endswith(" ;"))))
     same = head == "X86 " + document["test"] and rest[-1] == document["condition"] and initial == values
-    return not same or said != [[cell for cell in column if cell] for column in written] or labels != spelled
+    columns = [[cell for cell in column if cell] for column in written] or [[] for _ in said]  # a text without rows has no columns
+    return not same or said != columns or labels != spelled
 
 
 def answer_differs(document, line):

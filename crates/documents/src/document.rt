@@ -1,6 +1,8 @@
 //! The documents of the commands.
 ghost use Rattle.std.specs.Prelude.{◌≡◌, ◌∷◌, ◌++◌, [], IfOk, OnOk, map};
 ghost use Rattle.json_text.specs.Safe.{IsSafe};
+ghost use Rattle.json_text.specs.Texts.{quoted};
+ghost use Rattle.report.specs.Observations.{frequency};
 ghost use Rattle.documents.specs.Documents.{document_of, format_member, IsWhyDocument, IsPlacedDocument, IsTraceDocument, IsOutcomesDocument, TellsHeading};
 
 use crate::answer::{add_answer, is_observed};
@@ -9,7 +11,7 @@ use crate::program::add_program;
 use crate::run::{Setting, add_model, run_value};
 use gap_sets::{Costs, GapSet};
 use json_text::{JsonArray, JsonObject, JsonText};
-use litmus_text::Litmus;
+use litmus_text::{Condition, Litmus};
 use report::{frequency, is_true_of};
 use std::alloc::{AllocError, Global};
 use tso_machine::{Ended, Model, Step};
@@ -96,10 +98,22 @@ pub fn trace_document(
     ensures safe { IfOk result (λ document. IsSafe document.items) }
 {
     let setting = Setting::Machine(model);
-    let run = run_value(alloc, litmus, &Shown::All, setting, steps, ended)?;
+    let told = run_value(alloc, litmus, &Shown::All, setting, steps, ended)?;
     let mut object = begun(alloc, b"trace", litmus)?;
-    object.add("run", run)?;
+    object.add("run", told)?;
     document_of(object)
+}
+
+/// How often the condition's formula is met.
+fn observation(
+    alloc: Global,
+    condition: &Condition,
+    outcomes: &[Outcome],
+) -> Result<JsonText, AllocError>
+    ensures { IfOk result (λ json. json ≡ quoted (frequency condition.now.formula outcomes.now)) }
+{
+    let word = frequency(condition, outcomes);
+    JsonText::string(alloc, word.as_bytes())
 }
 
 /// The document of a program's outcomes in a machine.
@@ -116,7 +130,7 @@ pub fn outcomes_document(
     let condition = &litmus.condition;
     let observed = JsonText::truth(alloc, is_observed(shown))?;
     let list = outcomes_array(alloc, &litmus.names, shown, outcomes)?;
-    let often = JsonText::string(alloc, frequency(condition, outcomes).as_bytes())?;
+    let often = observation(alloc, condition, outcomes)?;
     let holds = JsonText::truth(alloc, is_true_of(condition, outcomes))?;
     let mut object = begun(alloc, b"outcomes", litmus)?;
     add_model(alloc, &mut object, model)?;

@@ -227,7 +227,8 @@ fn add_part(object: &mut JsonObject, part: ProgramPart) -> Result<(), AllocError
     object.add("locations", locations)?;
     object.add("registers", registers)?;
     object.add("initial", initial)?;
-    object.add("threads", threads)
+    object.add("threads", threads)?;
+    Ok(())
 }
 
 /// Adds what is said of the program of a litmus text.

@@ -8,8 +8,8 @@ use Rattle.fencecheck.specs.Inputs.{ReadsFor}
 use Rattle.fencecheck.specs.Replies.{IsOutput, IsUsage, misused, version}
 
 both : (b : Bool) → b ≡ true → b ≡ false → ⊥
-both true yes is_not = absurd cc
-both false yes is_not = absurd cc
+both true is is_not = absurd cc
+both false is is_not = absurd cc
 
 -- the version, where the one word asks for it
 pub version_output : {W : Type 0} (text : W → List ℕ) (words : List W) (input : Option (List ℕ)) (files : List ℕ → Option (List ℕ)) → asks_version (map text words) ≡ true

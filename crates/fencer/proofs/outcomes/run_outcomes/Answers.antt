@@ -1,7 +1,7 @@
 use Rattle.std.specs.Prelude.{string_bytes}
 use Rattle.program_streams.specs.FileLines.{file_line}
 use Rattle.program_streams.proofs.Printed.{prints_more}
-use Rattle.fencer.proofs.Refused.{prints_refusal}
+use Rattle.fencer.proofs.PrintedRefusals.{prints_refusal}
 use Rattle.fencer.specs.Outcomes.{AreOutcomes, HasNoList, PrintsOutcomes}
 use Rattle.fencer.specs.Refusals.{IsTold}
 use Rattle.fencer.specs.TextAnswers.{no_file}

@@ -1,6 +1,6 @@
 use Rattle.std.proofs.Common.{refl}
 use Rattle.program_streams.proofs.Printed.{prints_more}
-use Rattle.fencer.proofs.Refused.{prints_refusal}
+use Rattle.fencer.proofs.PrintedRefusals.{prints_refusal}
 use Rattle.fencer.specs.Placements.{placed, refused_for, text_fault_line}
 use Rattle.fencer.proofs.place.place_texts.Goals as goal
 
