@@ -63,8 +63,9 @@ def limit_cases(tell, programs, files):
     threads = b"X86 t\n{ }\nP0|P1|P2|P3|P4|P5|P6|P7;\n" + b"MFENCE|MFENCE|MFENCE|MFENCE|MFENCE|MFENCE|MFENCE|MFENCE;\n" * 18 + b"exists (true)\n"
     refused(tell, programs, ["outcomes", "SB.litmus"], {**files, "SB.litmus": threads}, "SB.litmus:3: there are more than 128 gaps")
     long = {**files, "SB.litmus": files["SB.litmus"] + b" " * LIMIT}
-    for words, name in ((["outcomes", "SB.litmus"], "SB.litmus"), (["outcomes", "-"], "<stdin>"), (["fencecheck"], "<stdin>")):
+    for words, name in ((["outcomes", "SB.litmus"], "SB.litmus"), (["outcomes", "-"], "<stdin>"), (["fencecheck", "-", "SB.cert"], "<stdin>")):
         refused(tell, programs, words, long, f"{name}: has more than {LIMIT} bytes, the most that are read")
+    refused(tell, programs, ["fencecheck"], long, "<stdin>: has a litmus text or a certificate that is too long (docs/formats.md)")
     deep = files["SB.cert"].replace(b"tree V 0 2", b"tree " + b"V 0 1 " * 600 + b"V 0 2")
     line = f"SB.cert:8:{6 + 6 * 600}: V begins a node that is deeper than its tree may be"
     refused(tell, programs, ["fencecheck", "SB.litmus", "SB.cert"], {**files, "SB.cert": deep}, line)

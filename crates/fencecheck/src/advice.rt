@@ -8,7 +8,7 @@ use messages::{
     Message, STDIN, Source, certificate_message, check_message, costs_message, file_or_input,
     litmus_message, unread_message,
 };
-use program_streams::{FileFault, FileStore, Obstacle, TEXT_LIMIT, UnreadFile};
+use program_streams::{FileFault, FileStore, UnreadFile};
 use std::alloc::{AllocError, Global};
 
 /// The texts that are judged, with the names of their files.
@@ -36,10 +36,14 @@ pub(crate) fn unread_advice<S: FileStore>(
     unread_message(alloc, file, files.obstacle(file.name))?.written(alloc)
 }
 
-/// Why the input is not read, of which the litmus text is the part that is mostly too long.
+/// Why an input of a litmus text and a certificate is not read.
 pub(crate) fn unread_input_advice(alloc: Global, fault: FileFault) -> Result<Vec<u8>, AllocError> {
-    let file = unread(STDIN, TEXT_LIMIT, fault);
-    unread_message(alloc, file, Obstacle::Unknown)?.written(alloc)
+    let text = match fault {
+        FileFault::TooLong =>
+            "has a litmus text or a certificate that is too long (docs/formats.md)",
+        FileFault::Read | FileFault::Write => "cannot be read",
+    };
+    Message::of_file(alloc, STDIN, text)?.written(alloc)
 }
 
 /// The certificate; where it is read from the input it stands after the litmus text.
