@@ -22,8 +22,8 @@ RUN = ["steps", "outcome", "meets_condition", "passed", "execution"]
 STEP = ["label", "instruction", "reads", "stores", "reaches", "buffer", "memory", "registers"]
 REFUSAL = ["format", "refused", "file", "line", "column", "word", "message"]
 MET = {
-    True: "The outcome is what the condition asks for.",
-    False: "The condition is not met by this run; registers or memory end as they sequentially cannot.",
+    True: "This run meets the condition's formula.",
+    False: "This run does not meet the condition's formula; registers or memory end as they sequentially cannot.",
 }
 EXAMPLE = re.compile(r"^    \$ \./fencer (.* --json .*)\n    (\{.*\})\n", re.M)
 

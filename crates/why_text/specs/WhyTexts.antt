@@ -34,17 +34,21 @@ is_foreign = codes "No sequential run has this outcome." ++ 10 ∷ []
 
 -- what is said of an outcome that meets the condition's formula, and of one that does not
 abbrev pub met_line : Bool → List ℕ
-met_line true = codes "The outcome is what the condition asks for." ++ 10 ∷ []
-met_line false = codes "The condition is not met by this run; registers or memory end as they sequentially cannot." ++ 10 ∷ []
+met_line true = codes "This run meets the condition's formula." ++ 10 ∷ []
+met_line false = codes "This run does not meet the condition's formula; registers or memory end as they sequentially cannot." ++ 10 ∷ []
 
 abbrev pub all_sequential : List ℕ
 all_sequential = codes "Every store buffer outcome is sequential." ++ 10 ∷ []
 
--- the gap, and a run with its table, what it leaves, the gaps that it passes, and whether it meets the condition
+-- the gap, and a run with its table, what it leaves, the gaps that it passes, and that no sequential run leaves this
+abbrev pub run_lines : Litmus Listing → Shown → ℕ → List Label → List ℕ → Outcome → SetOfGaps → List ℕ
+run_lines source shown gap labels table outcome passed =
+    without_line source.program gap ++ labels_line labels ++ table ++ outcome_line source.names shown outcome ++ passed_line source.program passed ++ is_foreign
+
+-- the same, and whether the run meets the condition's formula
 abbrev pub reason_text : Litmus Listing → Shown → ℕ → List Label → List ℕ → Outcome → SetOfGaps → List ℕ
 reason_text source shown gap labels table outcome passed =
-    without_line source.program gap ++ labels_line labels ++ table ++ outcome_line source.names shown outcome ++ passed_line source.program passed ++ is_foreign
-    ++ met_line (truth outcome source.condition.formula)
+    run_lines source shown gap labels table outcome passed ++ met_line (truth outcome source.condition.formula)
 
 -- the lines of a reason, and what the document says of its run
 abbrev pub Told : Type 0

@@ -9,7 +9,7 @@ ghost use Rattle.cover_solver.specs.Verdicts.{PassesNoneOf};
 ghost use Rattle.tso_program.specs.Listings.{gap_count};
 ghost use Rattle.documents.specs.declared.run.Setting.TheVariants.{Without};
 ghost use Rattle.documents.specs.Runs.{TellsRun};
-ghost use Rattle.why_text.specs.WhyTexts.{labels_line, met_line, reason_text, IsReason};
+ghost use Rattle.why_text.specs.WhyTexts.{labels_line, met_line, reason_text, run_lines, IsReason};
 
 use cover_solver::{ForeignRun, Oracle, Solver, Verdict};
 use documents::{Setting, run_value};
@@ -117,15 +117,14 @@ fn met_line(meets: bool) -> &'static [u8]
     ensures { result.now ≡ met_line meets }
 {
     if meets {
-        b"The outcome is what the condition asks for.\n"
+        b"This run meets the condition's formula.\n"
     } else {
-        b"The condition is not met by this run; registers or memory end as they sequentially cannot.\n"
+        b"This run does not meet the condition's formula; registers or memory end as they sequentially cannot.\n"
     }
 }
 
-/// A gap, and a run: its labels, its table, what it leaves, the gaps that it passes, that no sequential run leaves this,
-/// and whether it meets the condition.
-fn lines_with(
+/// A gap, and a run: its labels, its table, what it leaves, the gaps that it passes, and that no sequential run leaves this.
+fn run_lines(
     alloc: Global,
     litmus: &Litmus<Program>,
     shown: &Shown,
@@ -133,7 +132,7 @@ fn lines_with(
     run: &ForeignRun,
     table: &[u8],
 ) -> Result<Vec<u8>, AllocError>
-    ensures { IfOk result (λ lines. lines.items ≡ reason_text litmus.now shown.now gap run.now.labels table.now run.now.outcome run.now.passed) }
+    ensures { IfOk result (λ lines. lines.items ≡ run_lines litmus.now shown.now gap run.now.labels table.now run.now.outcome run.now.passed) }
 {
     let labels = labels_line(alloc, run.labels())?;
     let outcome = outcome_line(alloc, &litmus.names, shown, run.outcome())?;
@@ -144,6 +143,21 @@ fn lines_with(
     lines.extend_from_slice(&outcome)?;
     lines.extend_from_slice(&passed)?;
     lines.extend_from_slice(b"No sequential run has this outcome.\n")?;
+    Ok(lines)
+}
+
+/// The same, and whether the run meets the condition's formula.
+fn lines_with(
+    alloc: Global,
+    litmus: &Litmus<Program>,
+    shown: &Shown,
+    gap: u8,
+    run: &ForeignRun,
+    table: &[u8],
+) -> Result<Vec<u8>, AllocError>
+    ensures { IfOk result (λ lines. lines.items ≡ reason_text litmus.now shown.now gap run.now.labels table.now run.now.outcome run.now.passed) }
+{
+    let mut lines = run_lines(alloc, litmus, shown, gap, run, table)?;
     lines.extend_from_slice(met_line(holds(&litmus.condition, run.outcome())))?;
     Ok(lines)
 }
