@@ -1,6 +1,6 @@
 //! Two hunts, and a receipt of the one among those of the other.
 
-use crate::hunts::{Hand, hunt_by, push_end};
+use crate::hunts::{hunt_by, push_end};
 use crate::input::split_at_byte;
 use crate::refusal::Refusal;
 use crate::sharing::place_of_then;

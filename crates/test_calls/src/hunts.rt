@@ -147,7 +147,7 @@ fn settling_of(
     Err(Refusal::Call)
 }
 
-fn push_receipt(receipt: &Receipt, printed: &mut String) -> Result<(), AllocError> {
+pub fn push_receipt(receipt: &Receipt, printed: &mut String) -> Result<(), AllocError> {
     write!(printed, "seat {} ", receipt.seat)?;
     match receipt.event {
         Event::Split(passed) => push_gaps_after("split passed", &passed, printed)?,
@@ -155,16 +155,6 @@ fn push_receipt(receipt: &Receipt, printed: &mut String) -> Result<(), AllocErro
         Event::Confirmed => printed.push_str("confirmed")?,
     }
     printed.push('\n')
-}
-
-/// Keeps a receipt, and prints it.
-pub fn keep_receipt(
-    receipts: &mut Vec<Receipt>,
-    receipt: Receipt,
-    printed: &mut String,
-) -> Result<(), Refusal> {
-    receipts.push(receipt)?;
-    Ok(push_receipt(&receipt, printed)?)
 }
 
 /// The seat takes a node, whose region is printed, where one is left.
@@ -218,7 +208,8 @@ fn settle<W: Wait>(
     let node = held(&hand.seat)?;
     let settling = settling_of(alloc, table, hunt, &hand.seat, &node, word)?;
     let receipt = hunt.settle(wait, &mut hand.seat, settling)?;
-    keep_receipt(&mut hand.receipts, receipt, printed)
+    hand.receipts.push(receipt)?;
+    Ok(push_receipt(&receipt, printed)?)
 }
 
 /// Does what a word names.

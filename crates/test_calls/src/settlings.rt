@@ -5,7 +5,7 @@ ghost use Rattle.search_core.specs.Ceilings.{IsCeilingOf};
 ghost use Rattle.hunt_board.specs.Seats.{IsOf};
 ghost use Rattle.test_calls.specs.Hunts.{IsSound};
 
-use crate::hunts::{Hand, held, keep_receipt, run_past};
+use crate::hunts::{Hand, held, push_receipt, run_past};
 use crate::refusal::Refusal;
 use cover_solver::{SeqTable, Verdict};
 use gap_sets::Region;
@@ -42,7 +42,8 @@ pub fn cut<W: Wait>(
     let node = held(&hand.seat)?;
     let ceiling = ceiling_below(hunt, &mut hand.seat, &node)?;
     let receipt = hunt.settle(wait, &mut hand.seat, Settling::Cut(ceiling))?;
-    keep_receipt(&mut hand.receipts, receipt, printed)
+    hand.receipts.push(receipt)?;
+    Ok(push_receipt(&receipt, printed)?)
 }
 
 /// Settles the seat's node by the run of these labels. Where memory is refused, it prints so and settles the node by a copy
@@ -75,5 +76,6 @@ pub fn settle_again<W: Wait>(
             )?
         }
     };
-    keep_receipt(&mut hand.receipts, receipt, printed)
+    hand.receipts.push(receipt)?;
+    Ok(push_receipt(&receipt, printed)?)
 }
