@@ -36,7 +36,7 @@ pub struct WhyText {
 
 /// Why gaps are needed, one after the other.
 #[derive(Drop)]
-struct Reasons {
+struct Explanation {
     lines: Vec<u8>,
     graph: Vec<u8>,
     runs: JsonArray,
@@ -50,7 +50,7 @@ fn reasons(
     costs: &Costs,
     solver: &Solver,
     set: &GapSet,
-) -> Result<Reasons, AllocError>
+) -> Result<Explanation, AllocError>
     requires question { solver.now.question ≡ asked litmus.now.program shown.now }
     requires answer { IsTheAnswer solver.now.question costs.now set.now }
     requires one_each { length costs.now ≡ gap_count solver.now.question.program.threads }
@@ -68,7 +68,7 @@ fn reasons(
         runs.add(reason.run)?;
     }
     let graph = graph.into_text()?;
-    Ok(Reasons { lines, graph, runs })
+    Ok(Explanation { lines, graph, runs })
 }
 
 /// The lines of reasons, or a line that no gap is needed.
@@ -97,7 +97,7 @@ fn explained(
 {
     let set = found.placed.set;
     let reasons = reasons(alloc, litmus, shown, costs, &found.solver, &set)?;
-    let Reasons {
+    let Explanation {
         lines: each,
         graph,
         runs,
