@@ -1,12 +1,11 @@
-//! Ceilings of a search, and cuts by them.
-ghost use Rattle.std.specs.Prelude.{◌≡◌, ◌<◌, IfOk};
+//! Ceilings of a search.
+ghost use Rattle.std.specs.Prelude.{◌≡◌, IfOk};
 ghost use Rattle.search_core.specs.Ceilings.{IsCeilingOf};
-ghost use Rattle.search_core.specs.States.{IsSameSearch};
 
 use crate::beside::served_by;
 use crate::refusal::Refusal;
 use cover_solver::SeqTable;
-use search_core::{Ceiling, Reason, SearchTree};
+use search_core::{Ceiling, SearchTree};
 use std::alloc::Global;
 
 /// How a ceiling is made.
@@ -47,8 +46,8 @@ fn at_cost_of(tree: &SearchTree, ceiling: &Ceiling) -> Ceiling
     Ceiling::at(tree.program(), tree.shown(), tree.costs(), cost)
 }
 
-/// A ceiling that is made in this way.
-fn made(
+/// A ceiling that is made in this way, of the set of these gaps where it is of one.
+pub fn made(
     alloc: Global,
     table: &SeqTable,
     tree: &SearchTree,
@@ -63,23 +62,4 @@ fn made(
         Making::Of => ceiling_of(alloc, table, tree, gaps),
         Making::At => Ok(at_cost_of(tree, &ceiling_of(alloc, table, tree, gaps)?)),
     }
-}
-
-/// The seat's node is cut by a ceiling, which is printed before.
-pub fn cut_by(
-    alloc: Global,
-    table: &SeqTable,
-    tree: &mut SearchTree,
-    seat: u8,
-    making: Making,
-    gaps: &[u8],
-    printed: &mut String,
-) -> Result<(), Refusal>
-    requires seat { seat < tree.old.seats }
-    requires of_table { tree.old.question ≡ table.now.question }
-    ensures { IsSameSearch tree.old tree.new }
-{
-    let ceiling = made(alloc, table, tree, making, gaps)?;
-    write!(printed, "ceiling {:?}\n", ceiling.cost())?;
-    Ok(tree.cut(seat, Reason::Ceiling(ceiling))?)
 }

@@ -2,7 +2,7 @@
 ghost use Rattle.std.specs.Prelude.{◌≡◌, ◌<◌};
 ghost use Rattle.search_core.specs.States.{IsSameSearch};
 
-use crate::ceilings::{Making, cut_by};
+use crate::ceilings::{Making, made};
 use crate::input::{named, parts_of, split_at_byte};
 use crate::lines::push_gaps_after;
 use crate::machines::labels_from;
@@ -120,7 +120,9 @@ fn push_event(
             "cut\n"
         }
         Event::CutBy(making) => {
-            cut_by(alloc, table, tree, seat, making, labels, printed)?;
+            let ceiling = made(alloc, table, tree, making, labels)?;
+            write!(printed, "ceiling {:?}\n", ceiling.cost())?;
+            tree.cut(seat, Reason::Ceiling(ceiling))?;
             "cut\n"
         }
         Event::Confirm => {
