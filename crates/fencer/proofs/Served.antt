@@ -1,8 +1,11 @@
 -- What the program prints, with words and without.
 use Rattle.std.proofs.Common.{◌≡◌, ◌==◌, ℕ, ◌+◌, zero, suc, Bool, true, false, List, [], ◌∷◌, ◌⊎◌, Option, Contains, length, map, arith, inl, inr, refl, subst, sym}
-use Rattle.std.specs.Prelude.{codes}
-use Rattle.std.specs.Str.{IsUtf8, bytes_eq}
+use Rattle.std.specs.Prelude.{◌&&◌, codes, nat_lt}
+use Rattle.std.specs.Str.{IsAscii, IsUtf8, bytes_eq}
+use Rattle.std.specs.List.{list_all}
 use Rattle.std.proofs.lemmas.Str.{IsUtf8-from_ascii}
+use Rattle.std.proofs.lemmas.Str.Ascii.{IsAscii-cons, IsAscii-nil}
+use Rattle.std.proofs.lemmas.Bool.{ltb-true}
 use Rattle.std.proofs.lemmas.Slice.Eq.{bytes_eq-Decides}
 use Rattle.std.proofs.lemmas.Bool.Decides.{nat_tests}
 use Rattle.clap.specs.Words.{Text}
@@ -69,12 +72,20 @@ pub utf8_reply : (words : List Text) (input : Option (List ℕ)) (files left : L
 utf8_reply words input files left status out no_version refused is = subst (λ (s : ℕ). IsReply words input files left s out) (sym is.0) (no_command out no_version refused (codes "error: the command line is not UTF-8", is.1))
 
 -- a word that is not UTF-8 asks for no version
+both : (a b : Bool) → (a && b) ≡ true → (a ≡ true) × (b ≡ true)
+both true b is = (refl, is)
+both false b is = absurd cc
+
+ascii_from : (bytes : List ℕ) → list_all (λ byte. nat_lt byte 128) bytes ≡ true → IsAscii bytes
+ascii_from [] small = IsAscii-nil
+ascii_from (byte ∷ bytes) small = let parts = both _ _ small in IsAscii-cons byte bytes (ltb-true byte 128 parts.0) (ascii_from bytes parts.1)
+
 version_is_utf8 : IsUtf8 (codes "--version")
-version_is_utf8 = IsUtf8-from_ascii (codes "--version") (search)
+version_is_utf8 = IsUtf8-from_ascii (codes "--version") (ascii_from (codes "--version") refl)
 
 of_word : (word : Text) → (IsUtf8 word → ⊥) → (b : Bool) → bytes_eq word (codes "--version") ≡ b → b ≡ false
 of_word word not_utf8 false is = refl
-of_word word not_utf8 true is = absurd (not_utf8 (subst IsUtf8 (sym (bytes_eq-Decides word (codes "--version")).0 is) version_is_utf8))
+of_word word not_utf8 true is = absurd (not_utf8 (subst IsUtf8 (sym ((bytes_eq-Decides word (codes "--version")).0 is)) version_is_utf8))
 
 pub no_version : (words : List Text) (word : Text) → Contains words word → (IsUtf8 word → ⊥) → asks_version words ≡ false
 no_version [] word there not_utf8 = refl

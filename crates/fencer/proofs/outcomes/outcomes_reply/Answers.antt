@@ -21,6 +21,6 @@ returns-in-Ok-clause-list c =
       outcomes = list;
       listed = subst (λ (s : Shown). ListsOutcomes (asked litmus.program s) (machine_of_model litmus.program set.empty c.args.asked.now.model) list) c.shown_as-shown.ensures found;
       printed = subst (λ (s : Shown). TellsOutcomes c.args.asked.now.json c.args.asked.now.model litmus s list c.in-Ok.lines.items) c.shown_as-shown.ensures
-          (subst (λ (all : List Outcome). TellsOutcomes c.args.asked.now.json c.args.asked.now.model litmus c.shown_as-shown.result all c.in-Ok.lines.items) c.deref.ensures.value c.in-Ok.ensures);
-      ends = rw c.deref-status.ensures.value at c.list_status-status.ensures;
+          (subst (λ (all : List Outcome). TellsOutcomes c.args.asked.now.json c.args.asked.now.model litmus c.shown_as-shown.result all c.in-Ok.lines.items) c.deref-2.ensures.value c.in-Ok.ensures);
+      ends = rw c.deref.ensures.value at c.list_status-status.ensures;
     }

@@ -13,9 +13,9 @@ returns-in-Ok-clause-told g c =
     let input = g.R.Read.remaining c.args.input.now in
     let files = g.S.FileStore.held c.args.files.now in
     let asked = c.args.asked.now in
-    prints_more (IsTold c.args.asked.now.json c.outcomes_reply.result) (AreOutcomes asked input files) _ _ c.print_answer.result
-    (told_answer (PrintsOutcomes asked) HasNoList asked.json (string_bytes asked.litmus) input files c.in-Ok.bytes.items (rw c.as_str-litmus.ensures.value at c.in-Ok.ensures.whole) c.outcomes_reply.result
-    (rw c.deref.ensures.value at c.outcomes_reply.ensures.list) (rw c.deref.ensures.value at c.outcomes_reply.ensures.refused))
+    prints_more (IsTold c.args.asked.now.json c.outcomes_reply-reply.result) (AreOutcomes asked input files) _ _ c.print_answer.result
+    (told_answer (PrintsOutcomes asked) HasNoList asked.json (string_bytes asked.litmus) input files c.in-Ok.bytes.items (rw c.as_str-litmus.ensures.value at c.in-Ok.ensures.whole) c.outcomes_reply-reply.result
+    (rw c.deref-in-Ok.ensures.value at c.outcomes_reply-reply.ensures.list) (rw c.deref-in-Ok.ensures.value at c.outcomes_reply-reply.ensures.refused))
     c.print_answer.ensures
 
 pub returns-in-Err-clause-told : goal.returns-in-Err-clause-told
