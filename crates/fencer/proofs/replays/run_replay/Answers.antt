@@ -16,7 +16,7 @@ returns-in-Ok-clause-told g c =
     let files = g.S.FileStore.held c.args.files.now in
     prints_more (IsTold false c.replay_lines.result) (IsReplay c.args.asked.now.model labels (string_bytes c.args.asked.now.litmus) input files) _ _ c.print_answer.result
     (told_answer (ShowsRun c.args.asked.now.model labels) (HasNoRun c.args.asked.now.model labels) false (string_bytes c.args.asked.now.litmus) input files c.in-Ok.bytes.items (rw c.as_str.ensures.value at c.in-Ok.ensures.whole) c.replay_lines.result
-    (rw (c.deref-2.ensures.value, c.as_slice-2.ensures.value) at c.replay_lines.ensures.run) (rw (c.deref-2.ensures.value, c.as_slice-2.ensures.value) at c.replay_lines.ensures.refused))
+    (rw (c.deref-in-Ok.ensures.value, c.as_slice-in-Ok.ensures.value) at c.replay_lines.ensures.run) (rw (c.deref-in-Ok.ensures.value, c.as_slice-in-Ok.ensures.value) at c.replay_lines.ensures.refused))
     c.print_answer.ensures
 
 pub returns-in-Err-clause-told : goal.returns-in-Err-clause-told

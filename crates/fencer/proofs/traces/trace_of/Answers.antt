@@ -18,5 +18,5 @@ returns-in-Ok-clause-run c = record {
     printed = refl;
   };
   printed = (c.in_ok-drawings.drawings.table.items, c.in-Ok.ensures);
-  told = rw c.deref.ensures.value at c.in_ok-drawings.ensures.told;
+  told = rw c.deref-2.ensures.value at c.in_ok-drawings.ensures.told;
 }
