@@ -213,6 +213,8 @@ fn push_script(
 ) -> Result<(), AllocError>
     requires seats { tree.old.seats ≡ 2 }
     requires of_table { tree.old.question ≡ table.now.question }
+    ensures seats { tree.new.seats ≡ 2 }
+    ensures of_table { tree.new.question ≡ table.now.question }
 {
     for word in script {
         push_word(alloc, table, tree, word, printed)?;

@@ -1,8 +1,9 @@
 //! Ways to settle the node of a hunt's seat that a script asks for by a word of their own.
-ghost use Rattle.std.specs.Prelude.{◌≡◌, ◌<◌, IfOk, MatchOption};
+ghost use Rattle.std.specs.Prelude.{◌≡◌, ◌<◌, false, IfOk, MatchOption};
 ghost use Rattle.gap_sets.specs.Order.{total};
 ghost use Rattle.search_core.specs.Ceilings.{IsCeilingOf};
 ghost use Rattle.hunt_board.specs.Seats.{IsOf};
+ghost use Rattle.hunt_board.specs.Settlings.{MaySettle};
 ghost use Rattle.test_calls.specs.Hunts.{IsSound};
 
 use crate::hunts::{Hand, held, push_receipt, run_past};
@@ -11,7 +12,7 @@ use cover_solver::{SeqTable, Verdict};
 use gap_sets::Region;
 use hunt_board::{Hunt, HuntSeat, Settling};
 use search_core::Ceiling;
-use std::alloc::Global;
+use std::alloc::{AllocError, Global};
 use std::sync::Wait;
 
 /// The hunt's ceiling, where what the node's sets must have costs more.
@@ -26,6 +27,29 @@ fn ceiling_below(hunt: &Hunt, seat: &mut HuntSeat, node: &Region) -> Result<Ceil
     match ceiling.cost() {
         Some(cost) if cost < hunt.costs().total(&node.must) => Ok(ceiling),
         _ => Err(Refusal::Call),
+    }
+}
+
+/// Settles the seat's node, keeps the receipt and prints it. Whether there was memory for it.
+fn is_settled<W: Wait>(
+    wait: &W,
+    hunt: &Hunt,
+    hand: &mut Hand,
+    settling: Settling,
+    printed: &mut String,
+) -> Result<bool, Refusal>
+    requires sound { IsSound hunt.now hand.old }
+    requires lawful { MaySettle hunt.now hand.old.seat settling }
+    ensures sound { IsSound hunt.now hand.new }
+    ensures refused { IfOk result (λ done. done ≡ false → hand.new.seat ≡ hand.old.seat) }
+{
+    match hunt.settle(wait, &mut hand.seat, settling) {
+        Ok(receipt) => {
+            hand.receipts.push(receipt)?;
+            push_receipt(&receipt, printed)?;
+            Ok(true)
+        }
+        Err(_) => Ok(false),
     }
 }
 
@@ -63,19 +87,15 @@ pub fn settle_again<W: Wait>(
 {
     let node = held(&hand.seat)?;
     let run = run_past(alloc, table, &node, labels)?;
-    let copy = run.copy(alloc)?;
+    let copy = Settling::Asked(Verdict::Foreign(run.copy(alloc)?));
     let settling = Settling::Asked(Verdict::Foreign(run));
-    let receipt = match hunt.settle(wait, &mut hand.seat, settling) {
-        Ok(receipt) => receipt,
-        Err(_) => {
-            printed.push_str("refused settle\n")?;
-            hunt.settle(
-                wait,
-                &mut hand.seat,
-                Settling::Asked(Verdict::Foreign(copy)),
-            )?
-        }
-    };
-    hand.receipts.push(receipt)?;
-    Ok(push_receipt(&receipt, printed)?)
+    if is_settled(wait, hunt, hand, settling, printed)? {
+        return Ok(());
+    }
+    printed.push_str("refused settle\n")?;
+    if is_settled(wait, hunt, hand, copy, printed)? {
+        Ok(())
+    } else {
+        Err(Refusal::Memory(AllocError))
+    }
 }
