@@ -275,6 +275,10 @@ def no_toolchain_cases(tell, programs):
 
 def interrupted_cases(tell, programs):
     """A build that is interrupted leaves no file and no process."""
+    # A caller may ignore these, as nohup does, and a child would inherit that.
+    signal.signal(signal.SIGINT, signal.default_int_handler)
+    signal.signal(signal.SIGTERM, signal.SIG_DFL)
+    signal.signal(signal.SIGHUP, signal.SIG_DFL)
     for number in (signal.SIGINT, signal.SIGTERM, signal.SIGHUP, signal.SIGKILL):
         with cloned(programs) as clone:
             hanging = os.path.join(clone.folder, "hanging")
@@ -284,7 +288,7 @@ def interrupted_cases(tell, programs):
                 os.killpg(child.pid, number)
             else:
                 child.send_signal(number)
-            child.communicate(timeout=20)
+            child.communicate(timeout=60)
             compiler = f"/proc/{text_of(hanging).strip() or 'none'}"
             name = f"a build that is interrupted by {number.name}"
             tell(f"{name} has begun and ends", started and child.returncode != 0, child.returncode)
