@@ -224,14 +224,17 @@ def place_words(document, gap):
 
 def condition_words(document, meets):
     """What is said of the run's outcome and the file's condition."""
-    return {
+    quantifier = document["condition"].split(" ")[0]
+    begins = {
         ("~exists", True): "It is what the file says must not happen: ",
         ("~exists", False): "What must not happen, ",
-        ("exists", True): "It is the outcome that the file asks for: ",
-        ("exists", False): "It is not the outcome that the file asks for, ",
+        ("exists", True): "It is what the file asks for: ",
+        ("exists", False): "It is not what the file asks for, ",
         ("forall", True): "The file's condition, ",
         ("forall", False): "It breaks the file's condition: ",
-    }[document["condition"].split(" ")[0], meets] + document["condition"]
+    }[quantifier, meets] + document["condition"]
+    ends = ". Sequential runs may do so too, with other final values." if meets == (quantifier != "forall") else ""
+    return begins + ends
 
 
 def check_run(run, page):

@@ -598,26 +598,29 @@ function localWords(run, i) {\n\
 \x20 return [next === run.steps[i].instruction + 1 ? \", and goes on with the next instruction.\" : \", and jumps ahead.\"];\n\
 }\n\
 \n\
+// An outcome is the final values of all that is compared, so a condition that names a part of it may be met elsewhere too.\n\
+const elsewhere = \". Sequential runs may do so too, with other final values.\";\n\
+\n\
 // Whether the run's outcome is what the file's condition is about.\n\
 function conditionWords(run) {\n\
 \x20 const condition = code(given.condition);\n\
 \x20 const quantifier = given.condition.split(\" \")[0];\n\
 \x20 if (quantifier === \"~exists\") {\n\
 \x20   return run.meets_condition\n\
-\x20     ? [\"It is what the file says must not happen: \", condition, \".\"]\n\
+\x20     ? [\"It is what the file says must not happen: \", condition, elsewhere]\n\
 \x20     : [\"What must not happen, \", condition, \", does not happen in this run; but registers or memory end as they \",\n\
 \x20       \"sequentially cannot.\"];\n\
 \x20 }\n\
 \x20 if (quantifier === \"exists\") {\n\
 \x20   return run.meets_condition\n\
-\x20     ? [\"It is the outcome that the file asks for: \", condition, \".\"]\n\
-\x20     : [\"It is not the outcome that the file asks for, \", condition, \"; but registers or memory end as they \",\n\
+\x20     ? [\"It is what the file asks for: \", condition, elsewhere]\n\
+\x20     : [\"It is not what the file asks for, \", condition, \"; but registers or memory end as they \",\n\
 \x20       \"sequentially cannot.\"];\n\
 \x20 }\n\
 \x20 return run.meets_condition\n\
 \x20   ? [\"The file's condition, \", condition, \", is met by this run; but registers or memory end as they sequentially \",\n\
 \x20     \"cannot.\"]\n\
-\x20   : [\"It breaks the file's condition: \", condition, \".\"];\n\
+\x20   : [\"It breaks the file's condition: \", condition, elsewhere];\n\
 }\n\
 \n\
 // How the run ends. That no sequential run has the outcome is said by `fencer why`, not by `fencer trace`.\n\
