@@ -73,21 +73,21 @@ workers_rule = record (named_rule (codes "workers")) {
 abbrev pub replay_app : ModelNames → App
 replay_app models = with_rule (with_rule (with_rule (new_app (codes "replay")) (model_rule models)) litmus_rule) label_rule
 
--- `outcomes [--model MODEL] [--observed] [--check] [--json] LITMUS`
+-- `outcomes [--model MODEL] [--observed] [--check] [--json] [--progress] LITMUS`
 abbrev pub outcomes_app : ModelNames → App
-outcomes_app models = with_rule (with_rule (with_rule (with_rule (with_rule (new_app (codes "outcomes")) (model_rule models)) (flag_rule (codes "observed"))) (flag_rule (codes "check"))) (flag_rule (codes "json"))) litmus_rule
+outcomes_app models = with_rule (with_rule (with_rule (with_rule (with_rule (with_rule (new_app (codes "outcomes")) (model_rule models)) (flag_rule (codes "observed"))) (flag_rule (codes "check"))) (flag_rule (codes "json"))) (flag_rule (codes "progress"))) litmus_rule
 
--- `place [--costs FILE] [--workers N] [--certificate FILE] [--output FILE] [--observed] [--check] [--json] LITMUS`
+-- `place [--costs FILE] [--workers N] [--certificate FILE] [--output FILE] [--observed] [--check] [--json] [--progress] LITMUS`
 abbrev pub place_app : App
-place_app = with_rule (with_rule (with_rule (with_rule (with_rule (with_rule (with_rule (with_rule (new_app (codes "place")) (file_rule (codes "costs"))) workers_rule) (file_rule (codes "certificate"))) (file_rule (codes "output"))) (flag_rule (codes "observed"))) (flag_rule (codes "check"))) (flag_rule (codes "json"))) litmus_rule
+place_app = with_rule (with_rule (with_rule (with_rule (with_rule (with_rule (with_rule (with_rule (with_rule (new_app (codes "place")) (file_rule (codes "costs"))) workers_rule) (file_rule (codes "certificate"))) (file_rule (codes "output"))) (flag_rule (codes "observed"))) (flag_rule (codes "check"))) (flag_rule (codes "json"))) (flag_rule (codes "progress"))) litmus_rule
 
 -- `trace [--model MODEL] [--dot FILE] [--html FILE] [--json] LITMUS [LABEL..]`
 abbrev pub trace_app : ModelNames → App
 trace_app models = with_rule (with_rule (with_rule (with_rule (with_rule (with_rule (new_app (codes "trace")) (model_rule models)) (file_rule (codes "dot"))) (file_rule (codes "html"))) (flag_rule (codes "json"))) litmus_rule) label_rule
 
--- `why [--costs FILE] [--workers N] [--dot FILE] [--html FILE] [--observed] [--json] LITMUS`
+-- `why [--costs FILE] [--workers N] [--dot FILE] [--html FILE] [--observed] [--json] [--progress] LITMUS`
 abbrev pub why_app : App
-why_app = with_rule (with_rule (with_rule (with_rule (with_rule (with_rule (with_rule (new_app (codes "why")) (file_rule (codes "costs"))) workers_rule) (file_rule (codes "dot"))) (file_rule (codes "html"))) (flag_rule (codes "observed"))) (flag_rule (codes "json"))) litmus_rule
+why_app = with_rule (with_rule (with_rule (with_rule (with_rule (with_rule (with_rule (with_rule (new_app (codes "why")) (file_rule (codes "costs"))) workers_rule) (file_rule (codes "dot"))) (file_rule (codes "html"))) (flag_rule (codes "observed"))) (flag_rule (codes "json"))) (flag_rule (codes "progress"))) litmus_rule
 
 -- `gaps [--costs FILE] [--template] LITMUS`
 abbrev pub gaps_app : App
@@ -156,6 +156,7 @@ IsJobOf name rows (Outcomes asked) =
     × (asked.observed ≡ is_flagged (codes "observed") rows)
     × (asked.check ≡ is_flagged (codes "check") rows)
     × (asked.json ≡ is_flagged (codes "json") rows)
+    × (asked.progress ≡ is_flagged (codes "progress") rows)
     × (string_bytes asked.litmus ≡ text_in (codes "litmus") rows)
 IsJobOf name rows (Place asked) =
     (name ≡ codes "place")
@@ -166,6 +167,7 @@ IsJobOf name rows (Place asked) =
     × (asked.observed ≡ is_flagged (codes "observed") rows)
     × (asked.check ≡ is_flagged (codes "check") rows)
     × (asked.json ≡ is_flagged (codes "json") rows)
+    × (asked.progress ≡ is_flagged (codes "progress") rows)
     × (string_bytes asked.litmus ≡ text_in (codes "litmus") rows)
 IsJobOf name rows (Why asked) =
     (name ≡ codes "why")
@@ -176,6 +178,7 @@ IsJobOf name rows (Why asked) =
     × (asked.placement.observed ≡ is_flagged (codes "observed") rows)
     × (asked.placement.check ≡ false)
     × (asked.placement.json ≡ is_flagged (codes "json") rows)
+    × (asked.placement.progress ≡ is_flagged (codes "progress") rows)
     × (string_bytes asked.placement.litmus ≡ text_in (codes "litmus") rows)
     × (option_map string_bytes asked.graphs ≡ first_of (codes "dot") rows)
     × (option_map string_bytes asked.page ≡ first_of (codes "html") rows)

@@ -148,6 +148,18 @@ pub fn model_in(matches: &ArgMatches<'_>) -> Model
     }
 }
 
+/// `--progress`
+pub fn progress_arg<'a>(alloc: Global) -> Arg<'a>
+    ensures rule { rule_of result ≡ flag_rule (codes "progress") }
+    ensures own { result.global ≡ false }
+{
+    flag_arg(
+        alloc,
+        "progress",
+        "Report on standard error how far it is; long searches do so on a terminal",
+    )
+}
+
 /// `--json`
 pub fn json_arg<'a>(alloc: Global) -> Arg<'a>
     ensures rule { rule_of result ≡ flag_rule (codes "json") }

@@ -28,6 +28,8 @@ pub struct Placement {
     pub check: bool,
     /// Print the document in place of the text.
     pub json: bool,
+    /// Report how far the search is, however short it is.
+    pub progress: bool,
     pub litmus: String,
 }
 
@@ -64,6 +66,8 @@ pub struct OutcomeQuery {
     pub check: bool,
     /// Print the document in place of the text.
     pub json: bool,
+    /// Report what lies ahead, however little that is.
+    pub progress: bool,
     pub litmus: String,
 }
 

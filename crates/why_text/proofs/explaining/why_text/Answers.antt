@@ -38,17 +38,17 @@ returns-in-Ok-clause-told g c =
 pub returns-in_err-source-clause-fault : goal.returns-in_err-source-clause-fault
 returns-in_err-source-clause-fault g c =
     let costs = option_map (λ text. text.now) c.args.costs in
-    err_up c.from_residual.result c.in_err-source.field-0.0 (HasNoPlacedText c.args.litmus.now costs c.args.workers) c.from_residual.ensures.1
-    (no_program c.args.litmus.now costs c.args.workers c.in_err-source.field-0.0 c.in_err-source.ensures.refused)
+    err_up c.from_residual.result c.in_err-source.field-0.0 (HasNoPlacedText c.args.litmus.now costs c.args.effort.workers) c.from_residual.ensures.1
+    (no_program c.args.litmus.now costs c.args.effort.workers c.in_err-source.field-0.0 c.in_err-source.ensures.refused)
 
 pub returns-in_err-costs-clause-fault : goal.returns-in_err-costs-clause-fault
 returns-in_err-costs-clause-fault g c =
     let costs = option_map (λ text. text.now) c.args.costs in
-    err_up c.from_residual-in_err-costs.result c.in_err-costs.field-0.0 (HasNoPlacedText c.args.litmus.now costs c.args.workers) c.from_residual-in_err-costs.ensures.1
-    (no_costs c.args.litmus.now costs c.args.workers c.in_ok-source.source c.in_err-costs.field-0.0 c.in_ok-source.ensures.found c.in_err-costs.ensures.refused)
+    err_up c.from_residual-in_err-costs.result c.in_err-costs.field-0.0 (HasNoPlacedText c.args.litmus.now costs c.args.effort.workers) c.from_residual-in_err-costs.ensures.1
+    (no_costs c.args.litmus.now costs c.args.effort.workers c.in_ok-source.source c.in_err-costs.field-0.0 c.in_ok-source.ensures.found c.in_err-costs.ensures.refused)
 
 pub returns-in_err-found-clause-fault : goal.returns-in_err-found-clause-fault
 returns-in_err-found-clause-fault g c =
     let costs = option_map (λ text. text.now) c.args.costs in
-    err_up c.from_residual-in_err-found.result c.in_err-found.field-0.0 (HasNoPlacedText c.args.litmus.now costs c.args.workers) c.from_residual-in_err-found.ensures.1
-    (no_placement c.args.litmus.now costs c.args.workers c.in_ok-source.source c.in_ok-costs.costs c.in_err-found.field-0.0 c.in_ok-source.ensures.found c.in_ok-costs.ensures.given c.in_err-found.ensures.fault)
+    err_up c.from_residual-in_err-found.result c.in_err-found.field-0.0 (HasNoPlacedText c.args.litmus.now costs c.args.effort.workers) c.from_residual-in_err-found.ensures.1
+    (no_placement c.args.litmus.now costs c.args.effort.workers c.in_ok-source.source c.in_ok-costs.costs c.in_err-found.field-0.0 c.in_ok-source.ensures.found c.in_ok-costs.ensures.given c.in_err-found.ensures.fault)
