@@ -1,13 +1,13 @@
 //! Truth by one walk over the nodes.
 ghost use Rattle.std.specs.Prelude.{◌≡◌, ◌+◌, ◌<◌, ◌^◌};
-ghost use Rattle.conditions.specs.Tree.{Tree};
-ghost use Rattle.conditions.specs.declared.atom.Atom.{Atom as AtomValue};
-ghost use Rattle.conditions.specs.Truth.{truth};
-ghost use Rattle.conditions.specs.Nodes.{nodes_of};
-ghost use Rattle.conditions.specs.Internal.Walk.{passed, seen};
+ghost use Rattle.tso_program.specs.Tree.{Tree};
+ghost use Rattle.tso_program.specs.declared.atom.Atom.{Atom as AtomValue};
+ghost use Rattle.tso_program.specs.Truth.{truth};
+ghost use Rattle.tso_program.specs.Nodes.{nodes_of};
+ghost use Rattle.tso_program.specs.Internal.Walk.{passed, seen};
 
+use crate::Outcome;
 use crate::node::Node;
-use tso_program::Outcome;
 
 /// How many `End`s are still to come, after a node that is passed over.
 fn passed(ends: usize, node: Node) -> usize
