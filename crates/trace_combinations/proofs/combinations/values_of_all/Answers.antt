@@ -18,10 +18,10 @@ loop-location-preserved c =
     let same = ap (λ (s : ProgramSketch). s.program) c.in_ok-sketch.ensures.empty in
     let exact = subst (λ (program : Listing). (v : ℕ) → Contains list.items v ↔ IsValueOf program n v) same c.in_ok-values_for.ensures.exact in
     let more = one_more lists list p (subst (λ (k : ℕ). AreFirstValues p k (values_at lists)) (sym is) c.loop-location.invariant.1)
-        (subst (λ (k : ℕ). (v : ℕ) → Contains list.items v ↔ IsValueOf p k v) (sym is) exact) c.in_ok-values_for.ensures.ascending in
+    (subst (λ (k : ℕ). (v : ℕ) → Contains list.items v ↔ IsValueOf p k v) (sym is) exact) c.in_ok-values_for.ensures.ascending in
     let first = subst (λ (k : ℕ). AreFirstValues p (k + 1) (values_at (lists ++ list ∷ []))) is more in
     subst (λ (xs : List (Vec ℕ)). (length xs ≡ n + 1) × AreFirstValues p (n + 1) (values_at xs)) (sym c.in_ok-push.ensures.items)
-        (length-append lists (list ∷ []) ∙ ap (λ (k : ℕ). k + 1) is, first)
+    (length-append lists (list ∷ []) ∙ ap (λ (k : ℕ). k + 1) is, first)
 
 pub returns : goal.returns
 returns c =
