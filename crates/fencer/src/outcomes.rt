@@ -3,7 +3,8 @@
 ghost use Rattle.std.specs.Prelude.{◌≡◌, IfOk, IfErr, string_bytes};
 ghost use Rattle.program_streams.specs.Streams.{Prints};
 ghost use Rattle.program_streams.specs.Files.{ReadsOfInput};
-ghost use Rattle.fencer.specs.Outcomes.{list_text as lines_of_list, list_status, PrintsOutcomes, HasNoList, AreOutcomes, TellsOutcomes};
+ghost use Rattle.litmus_reader.specs.Shown.{shown_as};
+ghost use Rattle.fencer.specs.Outcomes.{listed_kind, list_text as lines_of_list, list_status, PrintsOutcomes, HasNoList, AreOutcomes, TellsOutcomes};
 
 use crate::advice::{Subject, unread_advice, unread_litmus};
 use crate::refusals::{Refusal, Reply, print_answer};
@@ -65,6 +66,13 @@ fn list_status(check: bool, litmus: &Litmus<Program>, outcomes: &[Outcome]) -> u
     check_status(check, !is_true_of(&litmus.condition, outcomes))
 }
 
+/// What is shown of outcomes. It takes no memory.
+fn listed_shown(litmus: &Litmus<Program>, observed: bool) -> Shown
+    ensures { result ≡ shown_as litmus.now (listed_kind observed) }
+{
+    if observed { litmus.shown() } else { Shown::All }
+}
+
 /// The lines of the outcomes of the program that a text spells, with their status.
 fn outcomes_reply(
     alloc: Global,
@@ -76,7 +84,7 @@ fn outcomes_reply(
     ensures refused { IfErr result (HasNoList bytes.now) }
 {
     let litmus = read_litmus(alloc, bytes)?;
-    let shown = litmus.shown_as(asked.observed);
+    let shown = listed_shown(&litmus, asked.observed);
     let _ = report_ahead(alloc, &litmus.program, progress.asked(asked.progress));
     let list = outcomes(alloc, &litmus.program, asked.model, &shown)?;
     let status = list_status(asked.check, &litmus, &list);

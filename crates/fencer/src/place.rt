@@ -84,7 +84,7 @@ fn answer_of<T: Threads + Sync, U: Wait + Sync>(
     texts: &Texts,
     progress: Progress,
 ) -> Result<Answer, TextFault>
-    ensures placed { IfOk result (λ answer. PrintsPlacement texts.now.litmus.items (option_map (λ text. text.items) texts.now.costs) asked.now.observed asked.now.check asked.now.json answer) }
+    ensures placed { IfOk result (λ answer. PrintsPlacement texts.now.litmus.items (option_map (λ text. text.items) texts.now.costs) asked.now.kind asked.now.check asked.now.json answer) }
     ensures fault { IfErr result (HasNoPlacedText texts.now.litmus.items (option_map (λ text. text.items) texts.now.costs) asked.now.workers) }
 {
     let costs = texts.costs.as_deref();
@@ -92,15 +92,7 @@ fn answer_of<T: Threads + Sync, U: Wait + Sync>(
         workers: asked.workers,
         progress: progress.asked(asked.progress),
     };
-    let placed = place_text(
-        rt,
-        wait,
-        alloc,
-        &texts.litmus,
-        costs,
-        asked.observed,
-        effort,
-    )?;
+    let placed = place_text(rt, wait, alloc, &texts.litmus, costs, asked.kind, effort)?;
     joined(placed, asked.check, asked.json)
 }
 

@@ -36,7 +36,7 @@ fn explained<T: Threads + Sync, U: Wait + Sync>(
     ensures fault { IfErr result (HasNoPlacedText texts.now.litmus.items (option_map (λ text. text.items) texts.now.costs) asked.now.placement.workers) }
 {
     let Placement {
-        observed,
+        kind,
         workers,
         json,
         ..
@@ -46,7 +46,7 @@ fn explained<T: Threads + Sync, U: Wait + Sync>(
         progress: progress.asked(asked.placement.progress),
     };
     let costs = texts.costs.as_deref();
-    let reasons = why_text(rt, wait, alloc, &texts.litmus, costs, *observed, effort)?;
+    let reasons = why_text(rt, wait, alloc, &texts.litmus, costs, *kind, effort)?;
     let WhyText {
         lines,
         graph,

@@ -8,7 +8,7 @@ ghost use Rattle.placed_text.specs.PlacedTexts.{IsPlacedText};
 ghost use Rattle.placed_text.specs.TextFaults.{HasNoPlacement, HasNoPlacedText};
 
 use crate::TextFault;
-use crate::reading::{read_gap_costs, read_program};
+use crate::reading::{read_gap_costs, read_program, shown_of};
 use crate::watched::{Effort, Watched, report_ahead, report_outcomes};
 use crate::writing::{PlacedText, write_placed};
 use cover_solver::{SolveFault, Solver, sequential};
@@ -18,7 +18,7 @@ use std::alloc::Global;
 use std::sync::Wait;
 use std::sync::atomic::AtomicU64;
 use std::thread::Threads;
-use tso_program::{Program, Shown};
+use tso_program::{Program, Shown, ShownKind};
 
 /// What is placed in a program, and the solver that was asked.
 #[derive(Drop)]
@@ -73,26 +73,26 @@ pub fn place_gaps<R: Threads + Sync, W: Wait + Sync>(
 
 /// Places fences in the program of a litmus text, where its gaps cost what a text of costs says, and 1
 /// each without one: the best set of gaps after which the program has its sequential outcomes and no
-/// others. If `observed`, only what the condition and `locations` name tells outcomes apart.
+/// others. What is shown of outcomes, by its kind, tells them apart.
 ///
 /// The litmus text is judged first, then the costs, then the number of workers. With `rt` workers start threads, and
-/// with `wait` they wait for one another ([`fence_place::place`]). How far the search is is reported as [`Effort`] says.
+/// with `wait` they wait for one another ([`fence_place::place`]). [`Effort`] says where it reports how far it is.
 pub fn place_text<R: Threads + Sync, W: Wait + Sync>(
     rt: &R,
     wait: &W,
     alloc: Global,
     litmus: &[u8],
     costs: Option<&[u8]>,
-    observed: bool,
+    kind: ShownKind,
     effort: Effort,
 ) -> Result<PlacedText, TextFault>
-    ensures placed { IfOk result (IsPlacedText litmus.now (option_map (λ text. text.now) costs.entry) observed) }
+    ensures placed { IfOk result (IsPlacedText litmus.now (option_map (λ text. text.now) costs.entry) kind) }
     ensures workers { OnOk result (¬ AreTooFewOrMany effort.workers) }
     ensures fault { IfErr result (HasNoPlacedText litmus.now (option_map (λ text. text.now) costs.entry) effort.workers) }
 {
     let source = read_program(alloc, litmus)?;
     let costs = read_gap_costs(alloc, costs, &source.program)?;
-    let shown = source.shown_as(observed);
+    let shown = shown_of(&source, kind)?;
     let found = place_gaps(rt, wait, alloc, &source.program, &shown, &costs, effort)?;
     match write_placed(alloc, &source, &shown, &costs, &found.placed) {
         Ok(texts) => Ok(texts),

@@ -134,11 +134,21 @@ function conditionWords(run) {
     : ["It breaks the file's condition: ", condition, elsewhere];
 }
 
+// Whether the run meets the formula of the file's condition, as no sequential run does.
+function aloneWords(run) {
+  return run.meets_condition
+    ? " This run meets the formula of the file's condition, and no sequential run does: "
+    : " This run does not meet the formula of the file's condition, and each sequential run does: ";
+}
+
 // How the run ends. That no sequential run has the outcome is said by `fencer why`, not by `fencer trace`.
 function verdictWords(run) {
   if (run.gap === null) {
     const meets = run.run.meets_condition ? " It meets" : " It does not meet";
     return [code(outcomeText(run.run)), meets + " the formula of the file's condition: ", code(given.condition), "."];
+  }
+  if (given.answer.condition) {
+    return [code(outcomeText(run.run)), html("span", { class: "verdict" }, aloneWords(run.run)), code(given.condition), "."];
   }
   return [code(outcomeText(run.run)), html("span", { class: "verdict" }, " No sequential run has this outcome. "),
     ...conditionWords(run.run)];
