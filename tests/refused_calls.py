@@ -79,7 +79,7 @@ PLACED_LAWFULLY = lawful_lines("costs 5 OutOfMemory", "place 5 OutOfMemory", "fi
 def placement_cases(library, folder):
     """Placements, with costs too, and the reasons of an answer."""
     certificate = os.path.join(folder, "certificate")
-    for test, options in (("SB", []), ("n6", []), ("n6", ["--observed"]), ("SB", ["--progress"])):
+    for test, options in (("SB", []), ("n6", []), ("n6", ["--observed"]), ("SB", ["--condition"]), ("SB", ["--progress"])):
         given = example(test + ".litmus")
         right = run(["place", *options, "-"], given)
         tell(f"the placement of {test}", right[0] == 0, right)
@@ -96,7 +96,7 @@ def placement_cases(library, folder):
         tell(f"the placement of {file} with costs", right[0] == 0 and right[1].startswith(line), right)
         words = ["place", "--costs", costs, "--certificate", certificate, "-"]
         refused_allocations(library, f"the placement of {file} with costs", words, given, right, PLACED_LAWFULLY, certified=certificate, costs=[costs])
-    for test, options in (("n6", []), ("SB", ["--progress"])):
+    for test, options in (("n6", []), ("R", ["--condition"]), ("SB", ["--progress"])):
         given, words = example(test + ".litmus"), ["why", *options, "-"]
         right = run(words, given)
         tell(f"the reasons of {test}", right[0] == 0, right)
@@ -106,12 +106,12 @@ def placement_cases(library, folder):
 def certificate_cases(library, folder):
     """Certificates that are accepted, and one that is refused after its costs are read."""
     lawful = lawful_lines("certificate 8 OutOfMemory", "costs 5 OutOfMemory", "check 9 OutOfMemory")
-    for test, line in (
-        ("SB", b"accepted cost 2 set 0:1 1:1\n"), ("nothing", b"accepted cost 0 set\n"),
-        ("n6-observed", b"accepted observed cost 0 set\n"),
+    for test, kind, line in (
+        ("SB", "", b"accepted cost 2 set 0:1 1:1\n"), ("nothing", "", b"accepted cost 0 set\n"),
+        ("n6-observed", "", b"accepted observed cost 0 set\n"), ("Two-looks", "-condition", b"accepted condition cost 2 set 0:1 1:1\n"),
     ):
-        given = example(test + ".litmus") + example(test + ".cert")
-        refused_allocations(library, f"the certificate of {test}", [], given, (0, line), lawful, FENCECHECK)
+        given = example(test + ".litmus") + example(f"{test}{kind}.cert")
+        refused_allocations(library, f"the certificate of {test}{kind}", [], given, (0, line), lawful, FENCECHECK)
     costs = os.path.join(folder, "costs")
     with open(costs, "w", encoding="utf-8") as it:
         it.write("0:1 5\n1:1 2\n")
