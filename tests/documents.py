@@ -25,6 +25,10 @@ MET = {
     True: "This run meets the condition's formula.",
     False: "This run does not meet the condition's formula; registers or memory end as they sequentially cannot.",
 }
+ALONE = {
+    True: "This run meets the condition's formula, and no sequential run does.",
+    False: "This run does not meet the condition's formula, and each sequential run does.",
+}
 EXAMPLE = re.compile(r"^    \$ \./fencer (.* --json .*)\n    (\{.*\})\n", re.M)
 
 
@@ -130,9 +134,10 @@ def answer_differs(document, line):
     answer = document["answer"]
     costs = {gap["gap"]: gap["cost"] for gap in document["gaps"]}
     places = [f"{t}:{k}" for t, thread in enumerate(document["threads"]) for k in range(1, len(thread["instructions"]))]
-    observed = "observed " if answer["observed"] else ""
-    said = " ".join([f"answer {observed}cost {answer['cost']} set", *answer["set"]])
-    return said != line or list(costs) != places or answer["cost"] != sum(costs[gap] for gap in answer["set"])
+    kind = "condition " if "condition" in answer else "observed " if answer["observed"] else ""
+    said = " ".join([f"answer {kind}cost {answer['cost']} set", *answer["set"]])
+    told = list(answer) == ["set", "cost", "observed"] or list(answer.items())[2:] == [("observed", False), ("condition", True)]
+    return not told or said != line or list(costs) != places or answer["cost"] != sum(costs[gap] for gap in answer["set"])
 
 
 def run_differs(document, run, first, table, outcome, passed):
@@ -147,10 +152,12 @@ def why_differs(document, text, dot):
     if answer_differs(document, head.split("\n")[0]) or [run["without"] for run in document["runs"]] != document["answer"]["set"]:
         return True
     for run, reason, drawn in zip(document["runs"], reasons, graphs.read(dot), strict=True):
-        gap, labels, *table, outcome, passed, _, met, _ = reason.split("\n")
+        gap, labels, *told, last, _ = reason.split("\n")
+        said = ALONE if "condition" in document["answer"] else MET
+        *table, outcome, passed = told if said is ALONE else told[:-1]
         if run_differs(document, run, "without", table, outcome, passed) or graph_differs(run, drawn):
             return True
-        if run["without"] != gap or labels.split()[1:] != [step["label"] for step in run["steps"]] or met != MET[run["meets_condition"]]:
+        if run["without"] != gap or labels.split()[1:] != [step["label"] for step in run["steps"]] or last != said[run["meets_condition"]]:
             return True
     return False
 

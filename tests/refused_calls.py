@@ -66,7 +66,7 @@ def replay_cases(library):
     right = (1, b"refused replay 2 AtEnd step 2\n")
     refused_allocations(library, "a refusal", ["replay", "-", "e0", "e0", "e0"], given, right, lawful)
     lawful = lawful_lines("solve 2 OutOfMemory")
-    for test, words in (("SB", ["outcomes", "-"]), ("n6", ["outcomes", "--observed", "-"])):
+    for test, words in (("SB", ["outcomes", "-"]), ("n6", ["outcomes", "--observed", "-"]), ("SB", ["outcomes", "--progress", "-"])):
         given = example(test + ".litmus")
         right = run(words, given)
         tell(f"the outcomes of {test}", right[0] == 0, right)
@@ -79,7 +79,7 @@ PLACED_LAWFULLY = lawful_lines("costs 5 OutOfMemory", "place 5 OutOfMemory", "fi
 def placement_cases(library, folder):
     """Placements, with costs too, and the reasons of an answer."""
     certificate = os.path.join(folder, "certificate")
-    for test, options in (("SB", []), ("n6", []), ("n6", ["--observed"])):
+    for test, options in (("SB", []), ("n6", []), ("n6", ["--observed"]), ("SB", ["--condition"]), ("SB", ["--progress"])):
         given = example(test + ".litmus")
         right = run(["place", *options, "-"], given)
         tell(f"the placement of {test}", right[0] == 0, right)
@@ -96,21 +96,22 @@ def placement_cases(library, folder):
         tell(f"the placement of {file} with costs", right[0] == 0 and right[1].startswith(line), right)
         words = ["place", "--costs", costs, "--certificate", certificate, "-"]
         refused_allocations(library, f"the placement of {file} with costs", words, given, right, PLACED_LAWFULLY, certified=certificate, costs=[costs])
-    given = example("n6.litmus")
-    right = run(["why", "-"], given)
-    tell("the reasons of n6", right[0] == 0, right)
-    refused_allocations(library, "the reasons of n6", ["why", "-"], given, right, PLACED_LAWFULLY)
+    for test, options in (("n6", []), ("R", ["--condition"]), ("SB", ["--progress"])):
+        given, words = example(test + ".litmus"), ["why", *options, "-"]
+        right = run(words, given)
+        tell(f"the reasons of {test}", right[0] == 0, right)
+        refused_allocations(library, f"the reasons of {test}", words, given, right, PLACED_LAWFULLY)
 
 
 def certificate_cases(library, folder):
     """Certificates that are accepted, and one that is refused after its costs are read."""
     lawful = lawful_lines("certificate 8 OutOfMemory", "costs 5 OutOfMemory", "check 9 OutOfMemory")
-    for test, line in (
-        ("SB", b"accepted cost 2 set 0:1 1:1\n"), ("nothing", b"accepted cost 0 set\n"),
-        ("n6-observed", b"accepted observed cost 0 set\n"),
+    for test, kind, line in (
+        ("SB", "", b"accepted cost 2 set 0:1 1:1\n"), ("nothing", "", b"accepted cost 0 set\n"),
+        ("n6-observed", "", b"accepted observed cost 0 set\n"), ("Two-looks", "-condition", b"accepted condition cost 2 set 0:1 1:1\n"),
     ):
-        given = example(test + ".litmus") + example(test + ".cert")
-        refused_allocations(library, f"the certificate of {test}", [], given, (0, line), lawful, FENCECHECK)
+        given = example(test + ".litmus") + example(f"{test}{kind}.cert")
+        refused_allocations(library, f"the certificate of {test}{kind}", [], given, (0, line), lawful, FENCECHECK)
     costs = os.path.join(folder, "costs")
     with open(costs, "w", encoding="utf-8") as it:
         it.write("0:1 5\n1:1 2\n")

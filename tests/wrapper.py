@@ -101,6 +101,12 @@ class Clone:
         write(source, "")
         os.utime(source, (seconds, seconds))
 
+    def edit_proof(self, name, seconds):
+        """Gives a file of the crate's proofs this time."""
+        proof = os.path.join(self.top, "crates", name, "proofs", "Lib.antt")
+        write(proof, "")
+        os.utime(proof, (seconds, seconds))
+
     def proved(self, name):
         return os.path.join(self.top, "crates", name, "out", name)
 
@@ -194,10 +200,14 @@ def build_cases(tell, programs):
             tell(f"an unproved build of {name} is made", status == 2 and said.startswith(made), (status, said))
         _, _, said = clone.call("fencer", "place", "SB.litmus")
         tell("nothing is said of a build that is kept", said == "" and clone.tries() == 2, (clone.tries(), said))
+        clone.edit_proof("fencer", 4_000_000_000)
         called_cases(tell, clone, "unproved")
         tell("an unproved build is made once", clone.tries() == 2, clone.tries())
         for name in programs:
             clone.put(name, 2_000)
+        said = clone.call("fencer", "--version")[1]
+        tell("a proved build is older than a changed proof", ", unproved, since the proved build is older than its sources" in said and clone.tries() == 2, said)
+        clone.edit_proof("fencer", 1_000)
         called_cases(tell, clone, "proved")
         terminal_cases(tell, clone)
         clone.edit("fencer", 4_000_000_000)
@@ -264,7 +274,7 @@ def no_toolchain_cases(tell, programs):
         os.mkdir(tools)
         for tool in ("bash", "env", "dirname", "realpath", "sed", "find"):
             os.symlink(shutil.which(tool), os.path.join(tools, tool))
-        missing = ": rt is not on the path; it compiles and proves the programs. Install the toolchain rattle-kit-13f and add its folder bin to PATH\n"
+        missing = ": rt is not on the path; it compiles and proves the programs. Install the toolchain rattle-kit-13b and add its folder bin to PATH\n"
         for name in ("fencer", "fencecheck", "build"):
             found = clone.call(name, "--help", path=tools)
             tell(f"{name} without rt", found == (2, "", name + missing), found)

@@ -170,7 +170,7 @@ def check_thread(run, n, thread, column):
 def check_words(run, n, said):
     where = f"{run.where}, step {n}: sentence"
     last = n == len(run.steps)
-    same("No sequential run has this outcome." in said, bool(last and run.gap), where + ", verdict")
+    same(verdict(run) in said, bool(last and run.gap), where + ", verdict")
     same(f"The outcome is {run.outcome}" in said, last, where + ", outcome")
     same("the fence that is left out would have made" in said, bool(run.gap) and n - 1 == run.passing, where + ", the fence")
     if n == 0:
@@ -222,16 +222,28 @@ def place_words(document, gap):
     return f"before {document['threads'][thread]['instructions'][number]['text']} of P{thread}"
 
 
+def verdict(run):
+    """That no sequential run ends so."""
+    if "condition" not in run.document.get("answer", {}):
+        return "No sequential run has this outcome."
+    if run.run["meets_condition"]:
+        return "This run meets the formula of the file's condition, and no sequential run does: "
+    return "This run does not meet the formula of the file's condition, and each sequential run does: "
+
+
 def condition_words(document, meets):
     """What is said of the run's outcome and the file's condition."""
-    return {
+    quantifier = document["condition"].split(" ")[0]
+    begins = {
         ("~exists", True): "It is what the file says must not happen: ",
         ("~exists", False): "What must not happen, ",
-        ("exists", True): "It is the outcome that the file asks for: ",
-        ("exists", False): "It is not the outcome that the file asks for, ",
+        ("exists", True): "It is what the file asks for: ",
+        ("exists", False): "It is not what the file asks for, ",
         ("forall", True): "The file's condition, ",
         ("forall", False): "It breaks the file's condition: ",
-    }[document["condition"].split(" ")[0], meets] + document["condition"]
+    }[quantifier, meets] + document["condition"]
+    ends = ". Sequential runs may do so too, with other final values." if meets == (quantifier != "forall") else ""
+    return begins + ends
 
 
 def check_run(run, page):
@@ -257,7 +269,8 @@ def check_run(run, page):
     right(page["moments"][0].startswith(first), where + ": the first moment")
     reads = run.steps[run.passing]["reads"]
     right(not reads or f"and reads {assignment(reads)}." in page["moments"][0], where + ": what is read there")
-    said = f"{end}No sequential run has this outcome. {condition_words(document, run.run['meets_condition'])}"
+    alone = "condition" in document["answer"]
+    said = end + verdict(run) + (document["condition"] if alone else " " + condition_words(document, run.run["meets_condition"]))
     right(page["moments"][-1].startswith(said), where + ": condition")
     others = [f"{place_words(document, gap)} ({gap}, cost {cost[gap]})" for gap in run.run["passed"] if gap != run.gap]
     same(page["also"], [f"A fence {listed(others, ' or ')} would prevent this run too."] if others else [], where + ": other gaps")
@@ -330,6 +343,7 @@ def check_answer(browser, document):
     right(f"cost{'s' if some == 1 else ''} {document['answer']['cost']}; no cheaper" in page["lead"], "cost")
     same((page["scripts"], page["foreign"], page["panels"]), (2, 0, 1), "nothing of the document becomes markup")
     same("that the file's condition and its locations line name" in page["text"], document["answer"]["observed"], "what is observed")
+    same("as far as the file's condition tells them apart" in page["text"], "condition" in document["answer"], "what the condition tells apart")
 
 
 def check_tab_keys(browser, some):

@@ -15,6 +15,7 @@ FAULTS = [
     ("the cycle always leads over the gap", "run.js", "return this.gap !== null && this.threads[from] === this.gapThread && ", "return this.gap === null || "),
     ("each load reads from memory", "sentences.js", 'reads.from === "buffer" ? " from its own', 'reads.from === "disk" ? " from its own'),
     ("the condition turned", "sentences.js", 'return run.meets_condition\n      ? ["It is what', 'return !run.meets_condition\n      ? ["It is what'),
+    ("the truth of a condition turned", "sentences.js", 'return run.meets_condition\n    ? " This run meets', 'return !run.meets_condition\n    ? " This run meets'),
     ("no verdict", "sentences.js", '" No sequential run has this outcome. "', '""'),
     ("a relation by another name", "sentences.js", 'html("b", {}, relation)', 'html("b", {}, relation === "fr" ? "rf" : relation)'),
     ("each fence is left out", "machine.js", "gap === leftOut", "leftOut !== null"),

@@ -145,7 +145,7 @@ abbrev pub EachCompletionHasAnOrder : Type 0
 EachCompletionHasAnOrder = (p : Listing) (mode : Machine) (k : Sketch) (c : Candidate) (d e : Event) → IsSketch p mode k → IsCandidate p mode c →
     Completes k c → IsPair p mode k d e → Completes (with_pair k d e) c ⊎ Completes (with_pair k e d) c
 
--- where a sketch must end as an outcome, the same is shown of each completion's
+-- where a sketch must end as an outcome, it is shown of each completion's
 abbrev pub EachCompletionEndsSo : Type 0
 EachCompletionEndsSo = (q : Question) (mode : Machine) (k : Sketch) (c : Candidate) (o : Outcome) → JumpForward q.program.threads →
     IsSketch q.program mode k → IsCandidate q.program mode c → Completes k c → MustEndAs q mode k o → HasShownOutcome q mode c o

@@ -17,7 +17,7 @@ use Rattle.tso_program.specs.Limits.{IsWithinLimits}
 use Rattle.tso_program.specs.Fences.{Gaps, gaps_in, fence, fenced_threads}
 use Rattle.tso_program.proofs.FencedPlaces.{same_count}
 use Rattle.tso_program.proofs.FencedLimits.{fencing_stays_within_limits}
-use Rattle.conditions.specs.Tree.{Tree, tree_map}
+use Rattle.tso_program.specs.Tree.{Tree, tree_map}
 use Rattle.conditions.specs.Grammar.{Spells, Sum}
 use Rattle.conditions.specs.Canonical.{enclosed_signs_of}
 use Rattle.litmus_syntax.specs.Views.{PlaceView, Location, Register, EntryView, CellView, BodyView, SignView, EndingView}

@@ -6,9 +6,9 @@ use Rattle.tso_program.specs.declared.instruction.Instr.TheVariants.{StoreImm, L
 use Rattle.tso_program.specs.declared.listing.Thread.{Thread}
 use Rattle.tso_program.specs.declared.listing.Listing.{Listing}
 use Rattle.tso_program.specs.Fences.{fence}
-use Rattle.conditions.specs.declared.atom.Atom.TheVariants as atom
+use Rattle.tso_program.specs.declared.atom.Atom.TheVariants as atom
 use Rattle.conditions.specs.declared.condition.Quantifier.TheVariants.{Exists}
-use Rattle.conditions.specs.Tree as tree
+use Rattle.tso_program.specs.Tree as tree
 use Rattle.litmus_reader.specs.declared.litmus.Litmus.{Litmus}
 use Rattle.litmus_reader.specs.Names.{TextNames}
 use Rattle.canonical_text.specs.Canonical.{canonical_text}

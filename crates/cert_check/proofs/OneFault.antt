@@ -17,6 +17,7 @@ use Rattle.candidate_executions.specs.Sketches.{empty_sketch}
 use Rattle.cert_forest.specs.Trees.{Cover, Gap, Split, Bound, GapTrees, NoGap, MoreGaps}
 use Rattle.tree_laws.specs.CoverTrees.{IsValidCover}
 use Rattle.cert_forest.specs.Certificates.{Certificate}
+use Rattle.cert_forest.specs.Shows.{shows_of}
 use Rattle.tree_laws.specs.Certificates.{AreSequentialRuns, IsRunOutside}
 use Rattle.tree_laws.proofs.OneList.{one_list_of_gaps}
 use Rattle.cert_check.specs.declared.fault.CheckFault.{CheckFault}
@@ -157,7 +158,7 @@ module _ (q : Question) (costs : List ℕ) (c : Certificate) where
   OfSet why = OfPart (Unit {0}) (λ _. fault.Set) (λ _. AreGapsOf p c.gaps → ⊥) (AreGapsOf p c.gaps) OfCost why
 
   abbrev OfShown : CheckFault → Type 0
-  OfShown why = OfPart (Unit {0}) (λ _. fault.Shown) (λ _. c.shown ≡ q.shown → ⊥) (c.shown ≡ q.shown) OfSet why
+  OfShown why = OfPart (Unit {0}) (λ _. fault.Shown) (λ _. c.shown ≡ shows_of q.shown → ⊥) (c.shown ≡ shows_of q.shown) OfSet why
 
   -- in each part there is one
   one_of_gaps : IsOfOne OfGaps
@@ -192,7 +193,7 @@ module _ (q : Question) (costs : List ℕ) (c : Certificate) where
   one_of_set = one_of_part (Unit {0}) (λ _. fault.Set) (λ _. AreGapsOf p c.gaps → ⊥) (AreGapsOf p c.gaps) OfCost (λ x y wrong also. refl) (λ x wrong right. wrong right) one_of_cost
 
   one_of_shown : IsOfOne OfShown
-  one_of_shown = one_of_part (Unit {0}) (λ _. fault.Shown) (λ _. c.shown ≡ q.shown → ⊥) (c.shown ≡ q.shown) OfSet (λ x y wrong also. refl) (λ x wrong right. wrong right) one_of_set
+  one_of_shown = one_of_part (Unit {0}) (λ _. fault.Shown) (λ _. c.shown ≡ shows_of q.shown → ⊥) (c.shown ≡ shows_of q.shown) OfSet (λ x y wrong also. refl) (λ x wrong right. wrong right) one_of_set
 
   -- what holds before a part
   after_head : (why : CheckFault) → HasHead q costs c → OfSequential why → OfShown why

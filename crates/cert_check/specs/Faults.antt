@@ -13,6 +13,7 @@ use Rattle.tso_machine.specs.Outcomes.{AreGapsOf}
 use Rattle.candidate_executions.specs.Sketches.{empty_sketch}
 use Rattle.tree_laws.specs.CoverTrees.{IsValidCover}
 use Rattle.cert_forest.specs.Certificates.{Certificate}
+use Rattle.cert_forest.specs.Shows.{shows_of}
 use Rattle.tree_laws.specs.Certificates.{AreSequentialRuns, IsRunOutside}
 use Rattle.cert_check.specs.declared.fault.CheckFault.{CheckFault}
 use Rattle.cert_check.specs.declared.fault.CheckFault.TheVariants as fault
@@ -37,7 +38,7 @@ module _ (q : Question) (costs : List ℕ) (c : Certificate) where
 
   -- it is about what is shown, its set is one of the program's gaps, and its cost is the set's
   pub record HasHead : Type 0 where
-    pub shown : c.shown ≡ q.shown
+    pub shown : c.shown ≡ shows_of q.shown
     pub of_program : AreGapsOf q.program c.gaps
     pub cost : HasRightCost
 
@@ -70,9 +71,9 @@ module _ (q : Question) (costs : List ℕ) (c : Certificate) where
   -- The fault is the first in their order, in which what is shown comes before the set. `OutOfMemory` says that these, the set and the cost
   -- are right: they are judged without memory.
   abbrev pub CheckFaultIs : CheckFault → Type 0
-  CheckFaultIs fault.Shown = c.shown ≡ q.shown → ⊥
-  CheckFaultIs fault.Set = (c.shown ≡ q.shown) × (AreGapsOf q.program c.gaps → ⊥)
-  CheckFaultIs fault.Cost = (c.shown ≡ q.shown) × AreGapsOf q.program c.gaps × (HasRightCost → ⊥)
+  CheckFaultIs fault.Shown = c.shown ≡ shows_of q.shown → ⊥
+  CheckFaultIs fault.Set = (c.shown ≡ shows_of q.shown) × (AreGapsOf q.program c.gaps → ⊥)
+  CheckFaultIs fault.Cost = (c.shown ≡ shows_of q.shown) × AreGapsOf q.program c.gaps × (HasRightCost → ⊥)
   CheckFaultIs (fault.SequentialRun number) = HasHead × IsFirstWithout (IsRunOf q.program SequentialMachine) c.seq_runs number
   CheckFaultIs (fault.SequentialTree path) = (outcomes : List Outcome) × HasOutcomes outcomes × FirstWrongCover q SequentialMachine outcomes c.seq_tree (empty_sketch q.program) path
   CheckFaultIs (fault.Run number) = (outcomes : List Outcome) × HasEachOutcome outcomes × IsFirstWithout (IsRunOf q.program (StoreBufferMachine no_gaps)) c.runs number

@@ -1,5 +1,5 @@
 //! The checker.
-ghost use Rattle.std.specs.Prelude.{◌≡◌, ℕ, List, OnOk, IfOk, IfErr, IsOkUnless, All};
+ghost use Rattle.std.specs.Prelude.{◌≡◌, ◌↔◌, ℕ, List, IsTrue, OnOk, IfOk, IfErr, IsOkUnless, All};
 ghost use Rattle.gap_sets.specs.Gaps.{SetOfGaps};
 ghost use Rattle.gap_sets.specs.Order.{total};
 ghost use Rattle.gap_sets.specs.Regions.{all_sets};
@@ -13,6 +13,7 @@ ghost use Rattle.candidate_executions.specs.Sketches.{empty_sketch};
 ghost use Rattle.tree_laws.specs.CoverTrees.{IsValidCover};
 ghost use Rattle.tree_laws.specs.GapTrees.{IsValidGap};
 ghost use Rattle.tree_laws.specs.Laws.{IsProved};
+ghost use Rattle.cert_forest.specs.Shows.{shows_of};
 ghost use Rattle.cert_forest.specs.Certificates as specs;
 ghost use Rattle.tree_laws.specs.Certificates.{AreSequentialRuns, IsRunOutside, IsValidCertificate};
 ghost use Rattle.the_answer.specs.Answers.{the_answer, least_cost};
@@ -24,7 +25,7 @@ use crate::cover::judge_from_start;
 use crate::fault::RunsFault;
 use crate::gap::{Bounds, judge_gap};
 use crate::runs::{first_outcome_listed, replay_all};
-use cert_forest::Certificate;
+use cert_forest::{Certificate, Shows};
 use cover_judge::TreeFault;
 use exec_axioms::Mode;
 use gap_sets::{Costs, GapSet, Region};
@@ -124,7 +125,7 @@ fn check_head(
     ensures ok { OnOk result (HasHead (asked program.now shown.now) costs.now certificate.now) }
     ensures fault { IfErr result (CheckFaultIs (asked program.now shown.now) costs.now certificate.now) }
 {
-    if !certificate.shown.same(shown) {
+    if !says_so(&certificate.shown, shown) {
         return Err(CheckFault::Shown);
     }
     if !program.all_gaps().holds_all(&certificate.set) {
@@ -137,6 +138,13 @@ fn check_head(
         return Err(CheckFault::Cost);
     }
     Ok(())
+}
+
+/// Whether a certificate says that this is shown.
+fn says_so(shows: &Shows, shown: &Shown) -> bool
+    ensures { IsTrue result ↔ (shows.now ≡ shows_of shown.now) }
+{
+    shows.same(&Shows::of(shown))
 }
 
 /// Faults 3 and 4: what is shown of the outcomes of the sequential runs, which are all sequential ones.

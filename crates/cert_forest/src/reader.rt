@@ -12,6 +12,7 @@ ghost use Rattle.cert_words.specs.Words.{stops_for_memory};
 ghost use Rattle.cert_words.specs.Completions.{CanBecome};
 ghost use Rattle.cert_forest.specs.Internal.Reading.{gap_number_at, ascending_at, set_at, cost_at, after_set_at, certificate_at};
 
+use crate::Shows;
 use crate::certificate::Certificate;
 use crate::cover_tree::cover_line;
 use crate::fault::{CertFault, fault_of};
@@ -23,7 +24,6 @@ use cert_words::{
 };
 use gap_sets::{GapSet, MAX_GAPS};
 use std::alloc::Global;
-use tso_program::Shown;
 
 /// The greatest number of a gap.
 const LAST_GAP: u64 = MAX_GAPS as u64 - 1;
@@ -138,7 +138,7 @@ fn first_certificate(alloc: Global, bytes: &[u8]) -> Result<(Certificate, &[u8])
 #[tactic(auto, unfolding(crate::specs::Internal::Reading::after_set_at))]
 fn after_set(
     alloc: Global,
-    shown: Shown,
+    shown: Shows,
     set: GapSet,
     bytes: &[u8],
 ) -> Result<(Certificate, &[u8]), Stop>

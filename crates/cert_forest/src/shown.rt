@@ -4,15 +4,18 @@ ghost use Rattle.std.specs.Prelude.{◌≡◌, ◌<◌, IfOk, IfSome};
 ghost use Rattle.std.specs.FinSet as set;
 ghost use Rattle.tso_program.specs.declared.shown.TheConstants.{PLACES};
 ghost use Rattle.text_tokens.specs.Steps.{Gives};
-ghost use Rattle.cert_forest.specs.Internal.Reading.{digit_of, shown_location, register_of, shown_place, place_word_at, ascending_at, shown_line_at, version_at, header_at, shown_at};
+ghost use Rattle.cert_forest.specs.Internal.Reading.{digit_of, shown_location, register_of, shown_place, place_word_at, ascending_at, shown_line_at, condition_line_at, version_at, header_at, shown_at};
 
+use crate::Shows;
 use crate::access::stop_len;
 use cert_words::{
     Refusal, Wrong, begins_word, end, name, refused, refused_unless_cut, refused_word, word,
 };
 use text_tokens::{are_digits, plain_number};
-use tso_program::{MAX_LOCATIONS, MAX_THREADS, Names, PLACES, REGISTER_PLACES, REGISTERS, Shown};
+use tso_program::{MAX_LOCATIONS, MAX_THREADS, Names, PLACES, REGISTER_PLACES, REGISTERS};
 
+/// What stands in place of names where a condition's truth is shown.
+const CONDITION: &[u8; 9] = b"condition";
 /// How many registers and locations can be named.
 const MAX_PLACES: u8 = PLACES as u8;
 /// How many registers can be named: their places come before those of locations.
@@ -198,6 +201,29 @@ fn shown_line(bytes: &[u8]) -> Result<(Names, &[u8]), Refusal>
     }
 }
 
+/// The line `shown condition`.
+#[tactic(auto, unfolding(crate::specs::Internal::Reading::condition_line_at))]
+fn condition_line(bytes: &[u8]) -> Result<&[u8], Refusal>
+    ensures { Gives (λ x. x.now) result (condition_line_at bytes.now) }
+{
+    let text = name(b"shown", bytes)?;
+    let (word, rest) = word(text)?;
+    if word == CONDITION.as_slice() {
+        let rest = end(rest)?;
+        Ok(rest)
+    } else {
+        Err(refused_unless_cut(Wrong::Token, CONDITION.starts_with(word), text, rest))
+    }
+}
+
+/// Whether the line goes on like `shown condition`.
+fn is_condition_begun(bytes: &[u8]) -> bool {
+    match bytes {
+        [b's', b'h', b'o', b'w', b'n', b' ', b'c', ..] => true,
+        _ => false,
+    }
+}
+
 /// The second word of the first line: whether a line of what is shown follows.
 #[tactic(auto, unfolding(crate::specs::Internal::Reading::version_at))]
 fn version(bytes: &[u8]) -> Result<(bool, &[u8]), Refusal>
@@ -241,15 +267,22 @@ fn header(bytes: &[u8]) -> Result<(bool, &[u8]), Refusal>
 
 /// What is shown, by the first line and in the second version the next one.
 #[tactic(auto, unfolding(crate::specs::Internal::Reading::shown_at))]
-pub(crate) fn head(bytes: &[u8]) -> Result<(Shown, &[u8]), Refusal>
+pub(crate) fn head(bytes: &[u8]) -> Result<(Shows, &[u8]), Refusal>
     ensures { Gives (λ x. (x.0, x.1.now)) result (shown_at bytes.now) }
 {
     let (is_second, rest) = header(bytes)?;
     if !is_second {
-        return Ok((Shown::All, rest));
+        return Ok((Shows::All, rest));
     }
     match shown_line(rest) {
-        Ok((names, rest)) => Ok((Shown::Only(names), rest)),
-        Err(refusal) => Err(refusal),
+        Ok((names, rest)) => Ok((Shows::Only(names), rest)),
+        Err(refusal) => match condition_line(rest) {
+            Ok(rest) => Ok((Shows::Condition, rest)),
+            Err(other) => Err(if is_condition_begun(rest) {
+                other
+            } else {
+                refusal
+            }),
+        },
     }
 }

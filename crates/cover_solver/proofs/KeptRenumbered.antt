@@ -42,8 +42,9 @@ module _ (shown : Shown) (old new : List Outcome) (place : ℕ → ℕ) (few : l
     each_renumbered s (MoreKept child children) (c ∷ cs) (now, later) = (kept_renumbered (with_chosen s (sketch_with s.chosen c)) child now, each_renumbered s children cs later)
 
 -- so of a program's, which is renumbered by the places in the list
-pub table_kept : (p other : Listing) (shown : Shown) (known outcomes : List Outcome) (places : List ℕ) (before made : KeptCover) → other ≡ p → length outcomes < 2 ^ 64 →
-    IsKept p shown known before → ArePlacesOf known outcomes places → made ≡ renumbered_kept (place_in places) before → IsKept other shown outcomes made
-table_kept p other shown known outcomes places before made same few is moves by =
-    subst (λ (l : Listing). IsKept l shown outcomes made) (sym same)
-    (subst (IsKept p shown outcomes) (sym by) (kept_renumbered shown known outcomes (place_in places) few moves (nothing_chosen p (modes.Fenced set.empty)) before is))
+pub table_kept : (p other : Listing) (shown copied : Shown) (known outcomes : List Outcome) (places : List ℕ) (before made : KeptCover) → other ≡ p → copied ≡ shown → length outcomes < 2 ^ 64 →
+    IsKept p shown known before → ArePlacesOf known outcomes places → made ≡ renumbered_kept (place_in places) before → IsKept other copied outcomes made
+table_kept p other shown copied known outcomes places before made same alike few is moves by =
+    subst (λ (l : Listing). IsKept l copied outcomes made) (sym same)
+    (subst (λ (sh : Shown). IsKept p sh outcomes made) (sym alike)
+    (subst (IsKept p shown outcomes) (sym by) (kept_renumbered shown known outcomes (place_in places) few moves (nothing_chosen p (modes.Fenced set.empty)) before is)))

@@ -1,5 +1,5 @@
 -- A list that is open for a sketch's own mode has the outcome as which the sketch must end.
-use Rattle.std.proofs.Common.{Box, Global, ◌≡◌, ℕ, List, Option, None, Some, IfSome, Contains, sym, subst}
+use Rattle.std.proofs.Common.{Box, Global, ◌≡◌, ℕ, List, Option, None, Some, IfSome, Contains, subst}
 use Rattle.std.proofs.lemmas.Option.{slice_get_within, get_or_from_slice_get}
 use Rattle.tso_program.specs.declared.outcome.Outcome.{Outcome}
 use Rattle.tso_program.specs.declared.shown.Shown.{Shown}
@@ -35,5 +35,5 @@ shown_in s same shown mode program is_mode (Some run) made =
 -- why the search stops at a sketch without a cycle whose outcome the list lacks
 pub stops_new : (s : ProgramSketch) (shown : Shown) (outcomes : Listed) (run : MadeRun) (other : Box Sketch Global) → HasNoCycle s → IsEndNotListed s shown (listed outcomes) → HasOwnEnd s shown outcomes → IsShownRunOf s shown run →
     StopIs (asked s.program shown) (mode_in s) outcomes (stop.New run other)
-stops_new s shown (Closed outcomes) run other acyclic lacks own is = (is.is_run, λ here. lacks acyclic run.outcome is.must_end (subst (Contains outcomes.now) (sym is.as_shown) here))
+stops_new s shown (Closed outcomes) run other acyclic lacks own is = (is.is_run, λ here. lacks acyclic run.outcome is.must_end here)
 stops_new s shown (Open found mode) run other acyclic lacks own is = λ same. let (o, must_end, here) = own same in lacks acyclic o must_end here

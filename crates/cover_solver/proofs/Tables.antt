@@ -41,13 +41,13 @@ pub same_question : (q : Question) (p : Listing) (shown : Shown) → p ≡ q.pro
 same_question q p shown program is = λ i. record { program = program i; shown = is i }
 
 -- the table of all sequential outcomes, by a tree that names them in another order
-pub table_of : (p other : Listing) (shown : Shown) (known outcomes : List Outcome) (runs : List (List Label)) (places : List ℕ) (before tree : Cover) → other ≡ p → length outcomes < 2 ^ 64 → IsListOf (asked p shown) outcomes →
+pub table_of : (p other : Listing) (shown copied : Shown) (known outcomes : List Outcome) (runs : List (List Label)) (places : List ℕ) (before tree : Cover) → other ≡ p → copied ≡ shown → length outcomes < 2 ^ 64 → IsListOf (asked p shown) outcomes →
     AreRunsOf (asked p shown) SequentialMachine runs outcomes → IsWholeCover (asked p shown) SequentialMachine known before → ArePlacesOf known outcomes places → tree ≡ renumbered (place_in places) before →
-    IsSequentialTable (record { question = asked other shown; outcomes = outcomes; runs = runs; tree = tree })
-table_of p other shown known outcomes runs places before tree same few list are is moves made =
+    IsSequentialTable (record { question = asked other copied; outcomes = outcomes; runs = runs; tree = tree })
+table_of p other shown copied known outcomes runs places before tree same alike few list are is moves made =
     let q = asked p shown in
     let whole = subst (IsWholeCover q SequentialMachine outcomes) (sym made) (whole_renumbered q SequentialMachine known outcomes (place_in places) few moves before is) in
-    subst (λ (l : Listing). IsSequentialTable (record { question = asked l shown; outcomes = outcomes; runs = runs; tree = tree })) (sym same) (record { listed = list; runs = are; tree = whole })
+    subst (λ (r : Question). IsSequentialTable (record { question = r; outcomes = outcomes; runs = runs; tree = tree })) (sym (same_question q other copied same alike)) (record { listed = list; runs = are; tree = whole })
 
 -- there is one list of a question's sequential outcomes
 pub one_list_of_outcomes : (q : Question) (xs ys : List Outcome) → IsListOf q xs → IsListOf q ys → xs ≡ ys

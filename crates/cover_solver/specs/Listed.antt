@@ -2,7 +2,7 @@
 use Rattle.std.specs.Prelude.{◌≡◌, List, Result, Ok, Err, Contains}
 use Rattle.tso_program.specs.declared.outcome.Outcome.{Outcome}
 use Rattle.tso_program.specs.declared.shown.Shown.{Shown}
-use Rattle.tso_program.specs.Shown.{Question, asked, show}
+use Rattle.tso_program.specs.Shown.{Question, asked}
 use Rattle.tso_machine.specs.Machine.{Machine}
 use Rattle.tso_machine.specs.Modes.{machine_of_mode}
 use Rattle.tso_machine.specs.Outcomes.{IsShownRun}
@@ -31,10 +31,10 @@ abbrev pub HasRunOfEach : Question → Listed → Type 0
 HasRunOfEach q (Closed outcomes) = ⊥
 HasRunOfEach q (Open found mode) = AreRunsOf q (machine_of_mode q.program mode) found.runs found.outcomes.items
 
--- a list that is open for the sketch's own mode has what is shown of an outcome as which the sketch must end
+-- a list that is open for the sketch's own mode has an outcome as which the sketch must end
 abbrev pub HasOwnEnd : ProgramSketch → Shown → Listed → Type 0
 HasOwnEnd s shown (Closed outcomes) = Unit {0}
-HasOwnEnd s shown (Open found mode) = machine_of_mode s.program mode ≡ mode_in s → (o : Outcome) × MustEndAs (asked s.program shown) (mode_in s) s.chosen o × Contains found.listed.items (show shown o)
+HasOwnEnd s shown (Open found mode) = machine_of_mode s.program mode ≡ mode_in s → (o : Outcome) × MustEndAs (asked s.program shown) (mode_in s) s.chosen o × Contains found.listed.items o
 
 -- why no tree is found in a mode: a closed list lacks the outcome of a run, and an open list is open for another mode
 abbrev pub StopIs : Question → Machine → Listed → Stop → Type 0

@@ -10,7 +10,7 @@ use Rattle.tso_program.specs.declared.listing.Listing.{Listing}
 use Rattle.tso_program.specs.declared.listing.Thread.{Thread}
 use Rattle.tso_program.specs.declared.outcome.Outcome.{Outcome}
 use Rattle.tso_program.specs.declared.shown.Shown.{Shown}
-use Rattle.tso_program.specs.declared.shown.Shown.TheVariants.{All, Only}
+use Rattle.tso_program.specs.declared.shown.Shown.TheVariants.{All, Only, Truth}
 use Rattle.tso_program.specs.Instructions.{number}
 use Rattle.tso_program.specs.Listings.{gap_place}
 use Rattle.tso_program.specs.Shown.{shows_register, shows_location}
@@ -85,15 +85,22 @@ gap_value threads gap cost = object_text (member (codes "gap") (quoted_gap threa
 abbrev pub costs_array : List Thread → List ℕ → List ℕ
 costs_array threads costs = array_text (map (λ gap. gap_value threads gap (slice_index costs gap)) (range_with_len 0 (length costs)))
 
--- whether not all is shown
+-- whether values that are named tell outcomes apart
 abbrev pub is_observed : Shown → Bool
 is_observed All = false
 is_observed (Only names) = true
+is_observed (Truth f) = false
 
--- the set, what it costs, and whether only what is observed tells outcomes apart
+-- that the truth of the condition's formula tells outcomes apart, where it does
+abbrev pub condition_members : Shown → List (List ℕ)
+condition_members All = []
+condition_members (Only names) = []
+condition_members (Truth f) = member (codes "condition") (truth_text true) ∷ []
+
+-- the set, what it costs, and what tells outcomes apart, where not all does
 abbrev pub answer_value : Listing → Shown → List ℕ → SetOfGaps → List ℕ
 answer_value p shown costs gaps =
-    object_text (member (codes "set") (gaps_array p.threads gaps) ∷ member (codes "cost") (decimal (total costs gaps)) ∷ member (codes "observed") (truth_text (is_observed shown)) ∷ [])
+    object_text (member (codes "set") (gaps_array p.threads gaps) ∷ member (codes "cost") (decimal (total costs gaps)) ∷ member (codes "observed") (truth_text (is_observed shown)) ∷ condition_members shown)
 
 abbrev pub answer_members : Listing → Shown → List ℕ → SetOfGaps → List (List ℕ)
 answer_members p shown costs gaps = member (codes "gaps") (costs_array p.threads costs) ∷ member (codes "answer") (answer_value p shown costs gaps) ∷ []

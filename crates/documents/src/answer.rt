@@ -1,7 +1,7 @@
 //! The answer of a placement.
 ghost use Rattle.std.specs.Prelude.{◌≡◌, ◌++◌, ◌<◌, ◌≤◌, IfOk, OnOk, length};
 ghost use Rattle.gap_sets.specs.Order.{total};
-ghost use Rattle.documents.specs.Parts.{gap_value, costs_array, is_observed, answer_value, answer_members};
+ghost use Rattle.documents.specs.Parts.{gap_value, costs_array, is_observed, condition_members, answer_value, answer_members};
 
 use crate::named::{gap_name, gap_names};
 use gap_sets::{Costs, GapSet};
@@ -32,13 +32,24 @@ fn costs_array(alloc: Global, program: &Program, costs: &[u32]) -> Result<JsonTe
     array.into_json()
 }
 
-/// Whether not all is shown.
+/// Whether values that are named tell outcomes apart.
 pub(crate) fn is_observed(shown: &Shown) -> bool
     ensures { result ≡ is_observed shown.now }
 {
     match shown {
         Shown::All => false,
         Shown::Only(_) => true,
+        Shown::Truth(_) => false,
+    }
+}
+
+/// Adds that the truth of the condition's formula tells outcomes apart, where it does.
+fn add_condition(alloc: Global, object: &mut JsonObject, shown: &Shown) -> Result<(), AllocError>
+    ensures { OnOk result (object.new ≡ object.old ++ condition_members shown.now) }
+{
+    match shown {
+        Shown::All | Shown::Only(_) => Ok(()),
+        Shown::Truth(_) => object.add("condition", JsonText::truth(alloc, true)?),
     }
 }
 
@@ -56,6 +67,7 @@ fn answer_value(
     object.add("set", gap_names(alloc, program, set)?)?;
     object.add("cost", JsonText::number(alloc, costs.total(set))?)?;
     object.add("observed", JsonText::truth(alloc, is_observed(shown))?)?;
+    add_condition(alloc, &mut object, shown)?;
     object.into_json()
 }
 

@@ -20,6 +20,7 @@ use Rattle.exec_axioms.specs.Sizes.{most_choices}
 use Rattle.cert_forest.specs.Trees.{Cover}
 use Rattle.cert_forest.specs.declared.tree.TheConstants.{MAX_COVER_DEPTH, MAX_GAP_DEPTH}
 use Rattle.cert_forest.specs.Certificates.{Certificate}
+use Rattle.cert_forest.specs.Shows.{shows_of}
 use Rattle.cert_forest.specs.Limits as limits
 use Rattle.cert_forest.specs.Limits.{IsGapTo, gap_depth}
 use Rattle.tree_laws.specs.GapTrees.{IsValidGap}
@@ -45,7 +46,7 @@ sequential_short q (r ∷ rs) (o ∷ os) within each = (short_run q.program Sequ
 
 -- what holds of a certificate that is made from a table and a search
 pub record IsMade (t : Table) (o : Outcome) (numbers : List ℕ) (c : Certificate) : Type 0 where
-  pub same_shown : c.shown ≡ t.question.shown
+  pub same_shown : c.shown ≡ shows_of t.question.shown
   pub places : limits.AreShownPlaces c.shown
   pub same_gaps : c.gaps ≡ o.served.gaps
   pub cost : c.cost ≡ total o.costs c.gaps
@@ -98,7 +99,7 @@ module _ (t : Table) (o : Outcome) (numbers : List ℕ) (c : Certificate) (table
 
   is_valid : IsValidCertificate o.question o.costs c
   is_valid = record {
-    shown = made.same_shown ∙ ap (λ (q : Question). q.shown) same;
+    shown = made.same_shown ∙ ap (λ (q : Question). shows_of q.shown) same;
     of_program = subst (λ (g : SetOfGaps). AreGapsOf o.question.program g) (sym made.same_gaps) answer.of_program;
     one_cost_each = facts.have_costs.one_each;
     cost = made.cost;

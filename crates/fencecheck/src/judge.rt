@@ -10,13 +10,13 @@ ghost use Rattle.report.specs.Answers.{accepted_line};
 ghost use Rattle.fencecheck.specs.Verdicts.{handed_in, IsAccepted, IsRefused, refusal_line};
 
 use cert_check::{CheckFault, check};
-use cert_forest::{CertFault, Certificate, read_cert};
+use cert_forest::{CertFault, Certificate, Shows, read_cert};
 use cost_text::{CostTextFault, given_costs};
 use gap_sets::Costs;
 use litmus_reader::{Litmus, ReadFault, read_litmus};
 use report::{accepted_line, certificate_line, check_line, costs_line, litmus_line};
 use std::alloc::{AllocError, Global};
-use tso_program::{Program, Shown};
+use tso_program::{Program, Shown, ShownKind};
 
 /// Why a certificate isn't accepted.
 #[derive(Debug, Drop)]
@@ -43,13 +43,15 @@ pub fn refusal_line(alloc: Global, refusal: &Refusal) -> Result<Vec<u8>, AllocEr
     }
 }
 
-/// What is shown of outcomes: all, or what the litmus text names, as the certificate's version asks.
-fn handed_in(litmus: &Litmus<Program>, claimed: &Shown) -> Shown
-    ensures { result ≡ handed_in litmus.now claimed.now }
+/// What is shown of outcomes, as the certificate asks: all, what the litmus text names, or whether its condition's
+/// formula is true.
+fn handed_in(litmus: &Litmus<Program>, claimed: &Shows) -> Result<Shown, AllocError>
+    ensures { IfOk result (λ shown. shown ≡ handed_in litmus.now claimed.now) }
 {
     match claimed {
-        Shown::All => Shown::All,
-        Shown::Only(_) => litmus.shown(),
+        Shows::All => Ok(Shown::All),
+        Shows::Only(_) => Ok(litmus.shown()),
+        Shows::Condition => litmus.shown_as(ShownKind::Condition),
     }
 }
 
@@ -96,7 +98,10 @@ pub fn judge(
         Ok(costs) => costs,
         Err(fault) => return Err(Refusal::Costs(fault)),
     };
-    let shown = handed_in(&litmus, &certificate.shown);
+    let shown = match handed_in(&litmus, &certificate.shown) {
+        Ok(shown) => shown,
+        Err(_) => return Err(Refusal::Certificate(CertFault::OutOfMemory)),
+    };
     match checked_line(alloc, &litmus.program, &shown, &costs, &certificate) {
         Ok(line) => Ok(line),
         Err(fault) => Err(Refusal::Check(fault)),

@@ -6,6 +6,8 @@ use Rattle.std.specs.FinSet as set
 use Rattle.tso_program.specs.declared.listing.Listing.{Listing}
 use Rattle.tso_program.specs.declared.outcome.Outcome.{Outcome}
 use Rattle.tso_program.specs.declared.shown.Shown.{Shown}
+use Rattle.tso_program.specs.declared.shown.ShownKind.{ShownKind}
+use Rattle.tso_program.specs.declared.shown.ShownKind.TheVariants.{Whole, Observed}
 use Rattle.tso_program.specs.Shown.{Question}
 use Rattle.tso_machine.specs.declared.label.Model.{Model}
 use Rattle.tso_machine.specs.Machine.{Machine}
@@ -47,13 +49,18 @@ TellsOutcomes true model litmus shown outcomes lines = IsOutcomesDocument litmus
 abbrev pub list_status : Bool → Litmus Listing → List Outcome → ℕ
 list_status check litmus outcomes = check_status check (not (is_true_of litmus.condition.quantifier litmus.condition.formula outcomes))
 
+-- what is shown of the outcomes of a list
+abbrev pub listed_kind : Bool → ShownKind
+listed_kind false = Whole
+listed_kind true = Observed
+
 -- the lines are those of the list of the unfenced program that the bytes spell, and the status is theirs
 pub record PrintsOutcomes (q : OutcomeQuery) (bytes : List ℕ) (status : ℕ) (lines : List ℕ) : Type 0 where
   pub litmus : Litmus Listing
   pub spelled : IsLitmus bytes litmus
   pub outcomes : List Outcome
-  pub listed : ListsOutcomes (question_of litmus q.observed) (machine_of_model litmus.program set.empty q.model) outcomes
-  pub printed : TellsOutcomes q.json q.model litmus (shown_as litmus q.observed) outcomes lines
+  pub listed : ListsOutcomes (question_of litmus (listed_kind q.observed)) (machine_of_model litmus.program set.empty q.model) outcomes
+  pub printed : TellsOutcomes q.json q.model litmus (shown_as litmus (listed_kind q.observed)) outcomes lines
   pub ends : status ≡ list_status q.check litmus outcomes
 
 -- why there is no list: the text is no litmus text, or memory was wanting

@@ -4,6 +4,7 @@ use Rattle.std.specs.Prelude.{◌≡◌, ℕ, Bool, List, ◌++◌, Option, code
 use Rattle.std.specs.FinSet as set
 use Rattle.program_streams.specs.declared.fault.FileFault.{FileFault}
 use Rattle.program_streams.specs.FileLines.{file_line}
+use Rattle.tso_program.specs.declared.shown.ShownKind.{ShownKind}
 use Rattle.fencer_words.specs.declared.job.Placement.{Placement}
 use Rattle.fencer_words.specs.CommandFiles.{name_of}
 use Rattle.fence_place.specs.declared.fault.PlaceFault.{PlaceFault}
@@ -48,16 +49,16 @@ pub record DeliversTexts (texts : PlacedText) (check json : Bool) (answer : Answ
   pub proof : answer.second.items ≡ texts.certificate.items
 
 -- what is delivered of what is placed in the program of a litmus text
-pub record PrintsPlacement (litmus : List ℕ) (costs : Option (List ℕ)) (observed check json : Bool) (answer : Answer) : Type 0 where
+pub record PrintsPlacement (litmus : List ℕ) (costs : Option (List ℕ)) (kind : ShownKind) (check json : Bool) (answer : Answer) : Type 0 where
   pub texts : PlacedText
-  pub placed : IsPlacedText litmus costs observed texts
+  pub placed : IsPlacedText litmus costs kind texts
   pub delivered : DeliversTexts texts check json answer
 
 -- ---- answers, each with its status
 
 -- the answer to texts; or why there is no answer, and then no file is changed
 pub data IsJudged (q : Placement) (litmus : List ℕ) (costs : Option (List ℕ)) (files left : List ℕ → Option (List ℕ)) : ℕ → List ℕ → Type 0 where
-  placed : (answer : Answer) (status : ℕ) (text : List ℕ) → PrintsPlacement litmus costs q.observed q.check q.json answer
+  placed : (answer : Answer) (status : ℕ) (text : List ℕ) → PrintsPlacement litmus costs q.kind q.check q.json answer
       → IsDelivered (name_of q.output) (name_of q.certificate) left answer status text → IsJudged q litmus costs files left status text
   refused_for : (why : TextFault) (text : List ℕ) → HasNoPlacedText litmus costs q.workers why → RefusalSays q.json (text_fault_line why) text → KeepAllFiles files left → IsJudged q litmus costs files left 1 text
 

@@ -18,7 +18,7 @@ use Rattle.fencer.specs.Refused.{RefusalSays}
 pub record Explains (q : WhyQuery) (litmus : List ℕ) (costs : Option (List ℕ)) (answer : Answer) : Type 0 where
   pub lines : List ℕ
   pub document : List ℕ
-  pub told : IsWhyText litmus costs q.placement.observed lines document
+  pub told : IsWhyText litmus costs q.placement.kind lines document
   pub delivered : DeliversDocument q.placement.json (name_of q.page) lines document answer
 
 -- The answer to texts, with its status: what is delivered, where the files that are named for the page and the graphs hold it; or that

@@ -16,12 +16,13 @@ mod texts;
 mod traces;
 mod whys;
 
-use program_streams::{Outputs, SystemFiles, given_words};
+use program_streams::{Outputs, Progress, SystemFiles, given_words};
 use std::process::ExitCode;
 
 fn main(rt: HostRuntime) -> ExitCode {
     let mut input = rt.stdin();
-    let mut output = Outputs::new(rt.stdout(), rt.stderr());
+    let progress = Progress::on(rt.stderr());
+    let mut output = Outputs::new(rt.stdout(), rt.stderr(), progress);
     let status = match given_words(&rt, &mut output) {
         Ok(words) => command::run_command(
             &rt,

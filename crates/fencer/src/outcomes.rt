@@ -3,7 +3,8 @@
 ghost use Rattle.std.specs.Prelude.{◌≡◌, IfOk, IfErr, string_bytes};
 ghost use Rattle.program_streams.specs.Streams.{Prints};
 ghost use Rattle.program_streams.specs.Files.{ReadsOfInput};
-ghost use Rattle.fencer.specs.Outcomes.{list_text as lines_of_list, list_status, PrintsOutcomes, HasNoList, AreOutcomes, TellsOutcomes};
+ghost use Rattle.litmus_reader.specs.Shown.{shown_as};
+ghost use Rattle.fencer.specs.Outcomes.{listed_kind, list_text as lines_of_list, list_status, PrintsOutcomes, HasNoList, AreOutcomes, TellsOutcomes};
 
 use crate::advice::{Subject, unread_advice, unread_litmus};
 use crate::refusals::{Refusal, Reply, print_answer};
@@ -14,7 +15,8 @@ use documents::outcomes_document;
 use fencer_words::OutcomeQuery;
 use litmus_text::{Litmus, read_litmus};
 use messages::file_or_input;
-use program_streams::{Console, FileStore, TEXT_LIMIT, file_line, named_bytes};
+use placed_text::report_ahead;
+use program_streams::{Console, FileStore, Progress, TEXT_LIMIT, file_line, named_bytes};
 use report::{condition_line, is_true_of, observation_line, outcome_line};
 use std::alloc::{AllocError, Global};
 use std::io::Read;
@@ -64,13 +66,26 @@ fn list_status(check: bool, litmus: &Litmus<Program>, outcomes: &[Outcome]) -> u
     check_status(check, !is_true_of(&litmus.condition, outcomes))
 }
 
+/// What is shown of outcomes. It takes no memory.
+fn listed_shown(litmus: &Litmus<Program>, observed: bool) -> Shown
+    ensures { result ≡ shown_as litmus.now (listed_kind observed) }
+{
+    if observed { litmus.shown() } else { Shown::All }
+}
+
 /// The lines of the outcomes of the program that a text spells, with their status.
-fn outcomes_reply(alloc: Global, bytes: &[u8], asked: &OutcomeQuery) -> Result<Reply, Refusal>
+fn outcomes_reply(
+    alloc: Global,
+    bytes: &[u8],
+    asked: &OutcomeQuery,
+    progress: Progress,
+) -> Result<Reply, Refusal>
     ensures list { IfOk result (λ reply. PrintsOutcomes asked.now bytes.now reply.status reply.lines.items) }
     ensures refused { IfErr result (HasNoList bytes.now) }
 {
     let litmus = read_litmus(alloc, bytes)?;
-    let shown = litmus.shown_as(asked.observed);
+    let shown = listed_shown(&litmus, asked.observed);
+    let _ = report_ahead(alloc, &litmus.program, progress.asked(asked.progress));
     let list = outcomes(alloc, &litmus.program, asked.model, &shown)?;
     let status = list_status(asked.check, &litmus, &list);
     match list_text(alloc, asked, &litmus, &shown, &list) {
@@ -98,7 +113,7 @@ pub fn run_outcomes<S: FileStore, R: Read, W: Console>(
                 text: &bytes,
                 labels: &[],
             };
-            let reply = outcomes_reply(alloc, &bytes, asked);
+            let reply = outcomes_reply(alloc, &bytes, asked, output.progress());
             print_answer(alloc, asked.json, subject, reply, output)
         }
         Err(fault) => {

@@ -16,8 +16,8 @@ use crate::status::check_status;
 use crate::texts::{Texts, read_texts};
 use fence_place::PlaceFault;
 use fencer_words::Placement;
-use placed_text::{PlacedText, TextFault, place_text};
-use program_streams::{Console, TEXT_LIMIT, WritableFileStore, file_line};
+use placed_text::{Effort, PlacedText, TextFault, place_text};
+use program_streams::{Console, Progress, TEXT_LIMIT, WritableFileStore, file_line};
 use report::{costs_line, litmus_line};
 use std::alloc::{AllocError, Global};
 use std::io::Read;
@@ -82,20 +82,17 @@ fn answer_of<T: Threads + Sync, U: Wait + Sync>(
     alloc: Global,
     asked: &Placement,
     texts: &Texts,
+    progress: Progress,
 ) -> Result<Answer, TextFault>
-    ensures placed { IfOk result (λ answer. PrintsPlacement texts.now.litmus.items (option_map (λ text. text.items) texts.now.costs) asked.now.observed asked.now.check asked.now.json answer) }
+    ensures placed { IfOk result (λ answer. PrintsPlacement texts.now.litmus.items (option_map (λ text. text.items) texts.now.costs) asked.now.kind asked.now.check asked.now.json answer) }
     ensures fault { IfErr result (HasNoPlacedText texts.now.litmus.items (option_map (λ text. text.items) texts.now.costs) asked.now.workers) }
 {
     let costs = texts.costs.as_deref();
-    let placed = place_text(
-        rt,
-        wait,
-        alloc,
-        &texts.litmus,
-        costs,
-        asked.observed,
-        asked.workers,
-    )?;
+    let effort = Effort {
+        workers: asked.workers,
+        progress: progress.asked(asked.progress),
+    };
+    let placed = place_text(rt, wait, alloc, &texts.litmus, costs, asked.kind, effort)?;
     joined(placed, asked.check, asked.json)
 }
 
@@ -114,7 +111,8 @@ fn place_texts<T: Threads + Sync, U: Wait + Sync, S: WritableFileStore, W: Conso
 {
     let program = asked.output.as_deref();
     let certificate = asked.certificate.as_deref();
-    match answer_of(rt, wait, alloc, asked, texts) {
+    let progress = output.progress();
+    match answer_of(rt, wait, alloc, asked, texts, progress) {
         Ok(answer) => deliver(alloc, files, program, certificate, answer, output),
         Err(fault) => {
             let named = (asked.litmus.as_str(), asked.costs.as_deref());

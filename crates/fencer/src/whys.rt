@@ -15,8 +15,8 @@ use crate::place::text_fault_line;
 use crate::refused::tell_refusal;
 use crate::texts::{Texts, read_texts};
 use fencer_words::{Placement, WhyQuery};
-use placed_text::TextFault;
-use program_streams::{Console, TEXT_LIMIT, WritableFileStore, file_line};
+use placed_text::{Effort, TextFault};
+use program_streams::{Console, Progress, TEXT_LIMIT, WritableFileStore, file_line};
 use std::alloc::Global;
 use std::io::Read;
 use std::sync::Wait;
@@ -30,18 +30,23 @@ fn explained<T: Threads + Sync, U: Wait + Sync>(
     alloc: Global,
     asked: &WhyQuery,
     texts: &Texts,
+    progress: Progress,
 ) -> Result<Answer, TextFault>
     ensures told { IfOk result (Explains asked.now texts.now.litmus.items (option_map (λ text. text.items) texts.now.costs)) }
     ensures fault { IfErr result (HasNoPlacedText texts.now.litmus.items (option_map (λ text. text.items) texts.now.costs) asked.now.placement.workers) }
 {
     let Placement {
-        observed,
+        kind,
         workers,
         json,
         ..
     } = &asked.placement;
+    let effort = Effort {
+        workers: *workers,
+        progress: progress.asked(asked.placement.progress),
+    };
     let costs = texts.costs.as_deref();
-    let reasons = why_text(rt, wait, alloc, &texts.litmus, costs, *observed, *workers)?;
+    let reasons = why_text(rt, wait, alloc, &texts.litmus, costs, *kind, effort)?;
     let WhyText {
         lines,
         graph,
@@ -68,7 +73,8 @@ fn explain_texts<T: Threads + Sync, U: Wait + Sync, S: WritableFileStore, W: Con
 {
     let page = asked.page.as_deref();
     let graphs = asked.graphs.as_deref();
-    match explained(rt, wait, alloc, asked, texts) {
+    let progress = output.progress();
+    match explained(rt, wait, alloc, asked, texts, progress) {
         Ok(answer) => deliver(alloc, files, page, graphs, answer, output),
         Err(fault) => {
             let Placement { litmus, costs, .. } = &asked.placement;

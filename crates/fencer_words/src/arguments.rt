@@ -3,11 +3,12 @@
 ghost use Rattle.std.specs.Prelude.{◌≡◌, false, IfOk, codes, map, option_map, string_bytes, unwrap_or};
 ghost use Rattle.clap.specs.Words.{all_of, app_of, first_of, found_of, new_app, rows_of, rule_of};
 ghost use Rattle.clap.specs.declared.builder.command.Command.TheViews.{out-Command};
-ghost use Rattle.fencer_words.specs.CommandLines.{named_rule, model_rule, litmus_rule, flag_rule, has_value, is_flagged, model_in, text_in};
+ghost use Rattle.fencer_words.specs.CommandLines.{named_rule, model_rule, litmus_rule, flag_rule, has_value, is_flagged, kind_in, model_in, text_in};
 
 use clap::{Arg, ArgAction, ArgMatches, Command};
 use std::alloc::{AllocError, Global};
 use tso_machine::Model;
+use tso_program::ShownKind;
 
 /// A command, with what help says of it first and last.
 pub fn described_command<'a>(
@@ -78,6 +79,18 @@ pub fn observed_arg<'a>(alloc: Global) -> Arg<'a>
     )
 }
 
+/// `--condition`
+pub fn condition_arg<'a>(alloc: Global) -> Arg<'a>
+    ensures rule { rule_of result ≡ flag_rule (codes "condition") }
+    ensures own { result.global ≡ false }
+{
+    flag_arg(
+        alloc,
+        "condition",
+        "Compare outcomes by whether the condition's formula is true, and by nothing else",
+    )
+}
+
 /// The first value of an argument.
 fn value_of<'a>(matches: &ArgMatches<'a>, id: &str) -> Option<&'a str>
     ensures { option_map (λ value. value.now) result ≡ first_of id.now (rows_of (found_of matches.now)) }
@@ -137,6 +150,19 @@ pub fn is_flagged(matches: &ArgMatches<'_>, id: &str) -> bool
     has_value(matches, id, "true")
 }
 
+/// What is compared of outcomes.
+pub fn kind_in(matches: &ArgMatches<'_>) -> ShownKind
+    ensures { result ≡ kind_in (rows_of (found_of matches.now)) }
+{
+    if is_flagged(matches, "condition") {
+        ShownKind::Condition
+    } else if is_flagged(matches, "observed") {
+        ShownKind::Observed
+    } else {
+        ShownKind::Whole
+    }
+}
+
 /// The model that is named.
 pub fn model_in(matches: &ArgMatches<'_>) -> Model
     ensures { result ≡ model_in (rows_of (found_of matches.now)) }
@@ -146,6 +172,18 @@ pub fn model_in(matches: &ArgMatches<'_>) -> Model
     } else {
         Model::Buffered
     }
+}
+
+/// `--progress`
+pub fn progress_arg<'a>(alloc: Global) -> Arg<'a>
+    ensures rule { rule_of result ≡ flag_rule (codes "progress") }
+    ensures own { result.global ≡ false }
+{
+    flag_arg(
+        alloc,
+        "progress",
+        "Report on standard error how far it is; long searches do so on a terminal",
+    )
 }
 
 /// `--json`

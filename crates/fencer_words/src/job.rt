@@ -2,6 +2,7 @@
 
 use std::alloc::Global;
 use tso_machine::Model;
+use tso_program::ShownKind;
 
 /// A run that is asked about. The file is given by its name.
 #[derive(Debug, Drop)]
@@ -22,12 +23,14 @@ pub struct Placement {
     pub certificate: Option<String>,
     /// The file to which the fenced program is written.
     pub output: Option<String>,
-    /// Tell apart only what the condition and `locations` name.
-    pub observed: bool,
+    /// What is compared of outcomes.
+    pub kind: ShownKind,
     /// Report by the status whether the answer has a gap.
     pub check: bool,
     /// Print the document in place of the text.
     pub json: bool,
+    /// Report how far the search is, however short it is.
+    pub progress: bool,
     pub litmus: String,
 }
 
@@ -64,6 +67,8 @@ pub struct OutcomeQuery {
     pub check: bool,
     /// Print the document in place of the text.
     pub json: bool,
+    /// Report what lies ahead, however little that is.
+    pub progress: bool,
     pub litmus: String,
 }
 

@@ -1,4 +1,4 @@
-//! `outcomes [--model MODEL] [--observed] [--check] [--json] LITMUS`
+//! `outcomes [--model MODEL] [--observed] [--check] [--json] [--progress] LITMUS`
 
 ghost use Rattle.std.specs.Prelude.{IfOk, codes};
 ghost use Rattle.clap.specs.Words.{found_of, rows_of};
@@ -7,7 +7,7 @@ ghost use Rattle.fencer_words.specs.Commands.{IsBuiltAs};
 
 use crate::arguments::{
     described_command, flag_arg, is_flagged, json_arg, litmus_arg, model_arg, model_in,
-    observed_arg, text_in,
+    observed_arg, progress_arg, text_in,
 };
 use crate::job::{Job, OutcomeQuery};
 use clap::{ArgMatches, Command};
@@ -35,6 +35,7 @@ pub fn outcomes_command<'a>(alloc: Global, models: &'a [&'a str]) -> Result<Comm
         .arg(observed_arg(alloc))?
         .arg(flag_arg(alloc, "check", CHECK_HELP))?
         .arg(json_arg(alloc))?
+        .arg(progress_arg(alloc))?
         .arg(litmus_arg(alloc))
 }
 
@@ -46,6 +47,7 @@ pub fn outcomes_job(alloc: Global, matches: &ArgMatches<'_>) -> Result<Job, Allo
         observed: is_flagged(matches, "observed"),
         check: is_flagged(matches, "check"),
         json: is_flagged(matches, "json"),
+        progress: is_flagged(matches, "progress"),
         litmus: text_in(alloc, matches, "litmus")?,
     }))
 }

@@ -1,4 +1,4 @@
-//! `place [--costs FILE] [--workers N] [--certificate FILE] [--output FILE] [--observed] [--check] [--json] LITMUS`
+//! `place [--costs FILE] [--workers N] [--certificate FILE] [--output FILE] [--observed | --condition] [--check] [--json] [--progress] LITMUS`
 
 ghost use Rattle.std.specs.Prelude.{◌≡◌, false, IfOk, codes};
 ghost use Rattle.clap.specs.Words.{found_of, rows_of, rule_of};
@@ -6,8 +6,8 @@ ghost use Rattle.fencer_words.specs.CommandLines.{file_rule, workers_rule, place
 ghost use Rattle.fencer_words.specs.Commands.{IsBuiltAs};
 
 use crate::arguments::{
-    described_command, flag_arg, is_flagged, json_arg, litmus_arg, named_arg, observed_arg,
-    text_given, text_in, value_in,
+    condition_arg, described_command, flag_arg, is_flagged, json_arg, kind_in, litmus_arg,
+    named_arg, observed_arg, progress_arg, text_given, text_in, value_in,
 };
 use crate::job::{Job, Placement};
 use clap::builder::ValueParser;
@@ -22,6 +22,9 @@ const LAST: &str = "\
 Prints `answer cost N set T:K ..`, and the program with an MFENCE in each of these gaps. The gap
 T:K lies before instruction K of thread T, both counted from 0; `fencer gaps` lists the gaps. A
 file that is written is replaced; it may not be one that is read.
+
+A program that is wrong on a sequential machine too gets an answer: fences only take away what the
+buffers add. See first whether its condition holds with `fencer outcomes --model sequential`.
 
 The status is 0 for an answer, 1 for a refusal (docs/formats.md explains each), 2 for a bad
 command line or this help, 3 with --check for an answer with a gap.
@@ -65,8 +68,10 @@ pub fn place_command<'a>(alloc: Global) -> Result<Command<'a>, AllocError>
         .arg(file_arg(alloc, "certificate", CERTIFICATE_HELP))?
         .arg(file_arg(alloc, "output", OUTPUT_HELP))?
         .arg(observed_arg(alloc))?
+        .arg(condition_arg(alloc))?
         .arg(flag_arg(alloc, "check", CHECK_HELP))?
         .arg(json_arg(alloc))?
+        .arg(progress_arg(alloc))?
         .arg(litmus_arg(alloc))
 }
 
@@ -88,9 +93,10 @@ pub fn place_job(alloc: Global, matches: &ArgMatches<'_>) -> Result<Job, AllocEr
         workers: workers_of(value_in(matches, "workers")),
         certificate: text_given(alloc, matches, "certificate")?,
         output: text_given(alloc, matches, "output")?,
-        observed: is_flagged(matches, "observed"),
+        kind: kind_in(matches),
         check: is_flagged(matches, "check"),
         json: is_flagged(matches, "json"),
+        progress: is_flagged(matches, "progress"),
         litmus: text_in(alloc, matches, "litmus")?,
     }))
 }

@@ -3,10 +3,10 @@
 ghost use Rattle.std.specs.Prelude.{◌≡◌, ◌⊎◌, true, false, Contains, IfErr, IfOk, IfNone, IfSome, OnOk, map, string_bytes};
 ghost use Rattle.clap.specs.Words.{found_of, kind_of, rows_of};
 ghost use Rattle.fencer_words.specs.CommandFiles.{files_of, has_clash};
-ghost use Rattle.fencer_words.specs.CommandLines.{command_names, AreModels, AsksFor, IsJobOf, IsNoCommand, Names};
-ghost use Rattle.fencer_words.specs.Commands.{IsFencerCommand, IsJobMet, MeetsNoCommand};
+ghost use Rattle.fencer_words.specs.CommandLines.{asks_twice, command_names, AreModels, AsksFor, IsJobOf, IsNoCommand, Names};
+ghost use Rattle.fencer_words.specs.Commands.{IsFencerCommand, IsJobMet, MeetsNoJob};
 
-use crate::arguments::described_command;
+use crate::arguments::{described_command, is_flagged};
 use crate::files::{files_of, has_clash};
 use crate::gaps::{gaps_command, gaps_job};
 use crate::job::Job;
@@ -36,6 +36,8 @@ commands.
 Example: fencer place examples/SB.litmus";
 
 const CLASH: &str = "a file that is written must not be one that is read, nor be written twice";
+
+const TWICE: &str = "--observed and --condition cannot both be given";
 
 static MODELS: [&str; 2] = ["buffered", "sequential"];
 
@@ -80,13 +82,26 @@ fn job_of(alloc: Global, name: &str, matches: &ArgMatches<'_>) -> Result<Option<
     }
 }
 
-/// The job of the subcommand that was met.
+/// Whether two comparisons of outcomes are asked for.
+fn asks_twice(matches: &ArgMatches<'_>) -> bool
+    ensures { result ≡ asks_twice (rows_of (found_of matches.now)) }
+{
+    is_flagged(matches, "observed") && is_flagged(matches, "condition")
+}
+
+/// The job of the subcommand that was met, unless it asks for two comparisons of outcomes.
 fn job_met(alloc: Global, matches: &ArgMatches<'_>) -> Result<Option<Job>, AllocError>
     ensures some { IfOk result (λ job. IfSome job (IsJobMet matches.now)) }
-    ensures none { IfOk result (λ job. IfNone job (MeetsNoCommand matches.now)) }
+    ensures none { IfOk result (λ job. IfNone job (MeetsNoJob matches.now)) }
 {
     match matches.subcommand() {
-        Some((name, inner)) => job_of(alloc, name, inner),
+        Some((name, inner)) => {
+            if asks_twice(inner) {
+                Ok(None)
+            } else {
+                job_of(alloc, name, inner)
+            }
+        }
         None => Ok(None),
     }
 }
@@ -99,7 +114,7 @@ fn job_named(alloc: Global, words: &[String]) -> Result<Job, Error>
     let matches = command(alloc)?.try_get_matches_from(words)?;
     match job_met(alloc, &matches)? {
         Some(job) => Ok(job),
-        None => Err(command(alloc)?.error(ErrorKind::MissingSubcommand, "no command")?),
+        None => Err(command(alloc)?.error(ErrorKind::ArgumentConflict, TWICE)?),
     }
 }
 

@@ -37,8 +37,9 @@ impl Model for Posted {
 
     ghost use Rattle.gap_sets.specs.contracts.gap_set.GapSet as gap_set;
     ghost use Rattle.std.specs.Coded.{codes};
+    ghost use Rattle.tso_program.specs.Nodes.{tree_code};
 
-    ghost coded = { Prim.hlevel (codes, gap_set.the_row.coded) };
+    ghost coded = { Prim.hlevel (codes, gap_set.the_row.coded, tree_code) };
 
     ghost view = { λ p. record { place = p.place; cell = p.note.cell; run = p.note.known } };
 

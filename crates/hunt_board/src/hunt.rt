@@ -58,8 +58,9 @@ impl Model for Hunt {
 
     ghost use Rattle.gap_sets.specs.contracts.gap_set.GapSet as gap_set;
     ghost use Rattle.std.specs.Coded.{codes};
+    ghost use Rattle.tso_program.specs.Nodes.{tree_code};
 
-    ghost coded = { Prim.hlevel (codes, gap_set.the_row.coded) };
+    ghost coded = { Prim.hlevel (codes, gap_set.the_row.coded, tree_code) };
 
     ghost use Rattle.std.specs.Prelude.{◌≡◌, map};
     ghost use Rattle.once_cell.specs.Once.{cell_name};
@@ -83,7 +84,7 @@ impl Hunt {
         ensures seats { IfOk result (λ made. AreFresh made.0 seats made.1.items) }
     {
         let program = tree.program().copy()?;
-        let shown = *tree.shown();
+        let shown = tree.shown().copy()?;
         let costs = tree.costs().copy()?;
         let (word, mut first) = CeilingWord::new(alloc, &program, &shown, &costs)?;
         let row = seats_of(alloc, &word, &mut first, seats)?;

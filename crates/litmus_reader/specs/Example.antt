@@ -5,9 +5,9 @@ use Rattle.text_tokens.specs.Tokens.{Tok, Word, Number, Sign}
 use Rattle.tso_program.specs.declared.instruction.Reg.TheVariants.{Eax}
 use Rattle.tso_program.specs.declared.instruction.Instr.TheVariants.{StoreImm, Load}
 use Rattle.tso_program.specs.declared.listing.Listing.{Listing}
-use Rattle.conditions.specs.declared.atom.Atom.TheVariants as atom
+use Rattle.tso_program.specs.declared.atom.Atom.TheVariants as atom
 use Rattle.conditions.specs.declared.condition.Quantifier.TheVariants.{Exists}
-use Rattle.conditions.specs.Tree as tree
+use Rattle.tso_program.specs.Tree as tree
 use Rattle.litmus_reader.specs.declared.litmus.Litmus.{Litmus}
 use Rattle.litmus_reader.specs.Names.{TextNames}
 use Rattle.litmus_lines.specs.FirstLine.{IsFirstLine}

@@ -5,6 +5,9 @@ use std::alloc::{AllocError, Global};
 use text_tokens::is_white_space;
 use tso_machine::{ReplayFault, RunFault};
 
+/// What messages call the labels of a command line.
+const LABELS: &str = "labels";
+
 /// The words of a label as it is given, of which there is mostly one.
 fn words_len(label: &[u8]) -> usize {
     label
@@ -33,17 +36,17 @@ fn word_of(labels: &[String], index: usize) -> &[u8] {
     b""
 }
 
-/// What is said about one of the labels that are replayed on the program of a file, after the label itself.
+/// What is said about one of the labels of a command line, after the label itself. Its line is its number, from 1.
 fn label_message(
     alloc: Global,
-    name: &str,
     labels: &[String],
     index: usize,
     said: &str,
 ) -> Result<Message, AllocError> {
     let word = shown_word(alloc, word_of(labels, index))?;
     let text = format!(in alloc; "{word}{said}")?;
-    let mut message = Message::of_file(alloc, name, text.as_str())?;
+    let mut message = Message::of_file(alloc, LABELS, text.as_str())?;
+    message.line = Some(index.saturating_add(1));
     message.word = word;
     Ok(message)
 }
@@ -58,7 +61,7 @@ pub fn run_message(
     match fault {
         RunFault::Token(index) => {
             let said = " is no label; these are `e` and `f` with a thread's number, as `e0`";
-            label_message(alloc, name, labels, index, said)
+            label_message(alloc, labels, index, said)
         }
         RunFault::OutOfMemory => Message::of_file(alloc, name, "out of memory"),
     }
@@ -77,11 +80,12 @@ pub fn replay_message(
         | ReplayFault::BufferEmpty(step)
         | ReplayFault::FenceWaits(step) => {
             let said = format!(in alloc; ": {fault}")?;
-            label_message(alloc, name, labels, step, said.as_str())
+            label_message(alloc, labels, step, said.as_str())
         }
-        ReplayFault::NotEnded(_) | ReplayFault::OutOfMemory => {
+        ReplayFault::NotEnded(_) => {
             let said = format!(in alloc; "{fault}")?;
-            Message::of_file(alloc, name, said.as_str())
+            Message::of_file(alloc, LABELS, said.as_str())
         }
+        ReplayFault::OutOfMemory => Message::of_file(alloc, name, "out of memory"),
     }
 }

@@ -141,7 +141,7 @@ fn tokens_message(
     match refusal_of(alloc, tokens.as_slice()) {
         Some(refusal) => {
             let spot = spot_of(rest, tokens.as_slice(), refusal, offset);
-            Message::at_word(alloc, source, spot.offset, spot.word, said_of(&spot))
+            Message::at_word(alloc, source, spot.offset, spot.shown, said_of(&spot))
         }
         None => Message::of_file(alloc, source.name, "out of memory"),
     }

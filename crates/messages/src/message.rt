@@ -92,11 +92,11 @@ pub fn file_or_input(name: &str) -> &str {
     if name == "-" { STDIN } else { name }
 }
 
-/// The first bytes of a word, with `\xHH` for those that are not printable ASCII.
+/// The first bytes of a word, or of two, with `\xHH` for those that are not printable ASCII.
 pub(crate) fn shown_word(alloc: Global, word: &[u8]) -> Result<String, AllocError> {
     let mut shown = String::new(alloc);
     for byte in word.iter().take(WORD_LIMIT) {
-        if byte.is_ascii_graphic() {
+        if byte.is_ascii_graphic() || (*byte == b' ' && !shown.is_empty()) {
             shown.push(char::from(*byte))?;
         } else {
             write!(shown, "\\x{byte:02x}")?;

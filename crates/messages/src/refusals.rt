@@ -1,6 +1,6 @@
 //! Which token of a litmus text is refused.
 
-use conditions::{Atom, Formula, FormulaFault};
+use conditions::{Atom, FormulaFault, read_formula};
 use indexmap::IndexSet;
 use litmus_syntax::{
     Body, Cell, Code, Ending, Part, Refusal, Sign, SignAt, Signs, SyntaxFault, read_body,
@@ -63,7 +63,7 @@ fn tokens_of(alloc: Global, signs: &[SignAt<'_>]) -> Option<Vec<conditions::Toke
 
 fn refused_sign(alloc: Global, signs: &Signs<'_>) -> Option<Refusal> {
     let tokens = tokens_of(alloc, signs.signs.as_slice())?;
-    match Formula::read(alloc, tokens.as_slice()) {
+    match read_formula(alloc, tokens.as_slice()) {
         Ok(_) | Err(FormulaFault::OutOfMemory) => signs.refusal,
         Err(FormulaFault::Refused(index)) => Some(refusal_at(signs, index)),
     }

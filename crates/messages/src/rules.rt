@@ -78,6 +78,7 @@ const ROW: &str = "\
 
 /// What stands in a cell, but operands.
 const INSTRUCTION: &str = "\
+; # <not_exists> # is not read; a condition is `exists`, `~exists` or `forall`, and a formula
 | ; : # INC DEC ADD SUB AND OR XOR NEG NOT MUL IMUL DIV SHL SHR SAL SAR LEA TEST # is arithmetic, which is not read; MOV, XCHG, MFENCE, CMP, JE, JNE and JMP are
 | ; : # LOCK CMPXCHG XADD # is not read; of locked instructions XCHG is, which is written without LOCK
 | ; : # SFENCE LFENCE # is not read; it orders nothing that this machine leaves unordered, so leave it out

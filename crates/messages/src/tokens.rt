@@ -2,7 +2,9 @@
 
 use crate::source::{continues_character, from};
 use litmus_syntax::{Part, Refusal};
-use text_tokens::{Bad, Token, after_space, are_digits, digits_len, is_white_space, is_word_byte};
+use text_tokens::{
+    Bad, Token, after_space, are_digits, digits_len, is_white_space, is_word_byte, line_spaces_len,
+};
 
 /// A token that can't stand where it does.
 #[derive(Clone, Copy, Debug)]
@@ -12,6 +14,8 @@ pub(crate) struct Spot<'t> {
     pub(crate) offset: usize,
     /// Its bytes; none at the end of the text.
     pub(crate) word: &'t [u8],
+    /// The bytes that a message shows: those of the token, and of a word after it that belongs to it.
+    pub(crate) shown: &'t [u8],
     /// The bytes of the token before it.
     pub(crate) before: &'t [u8],
     /// What kind of token it is, in angle brackets.
@@ -28,12 +32,34 @@ pub(crate) fn spot_of<'t>(
     let index = tokens.len().saturating_sub(refusal.left);
     let rest = from_token(text, tokens, index);
     let word = word_at(rest);
+    let shown = two_words(rest, word);
     Spot {
         part: refusal.part,
         offset: offset.saturating_add(text.len().saturating_sub(rest.len())),
         word,
+        shown,
         before: token_before(text, tokens, index),
-        kind: kind_of(tokens.get(index), word),
+        kind: kind_of(tokens.get(index), word, shown),
+    }
+}
+
+/// The word with which a text begins, with the one after it where they belong together: LOCK and its instruction, and the
+/// quantifier `not exists`.
+fn two_words<'t>(text: &'t [u8], word: &'t [u8]) -> &'t [u8] {
+    let rest = from(text, word.len());
+    let blanks = line_spaces_len(rest);
+    let after = from(rest, blanks);
+    let second = after.split_at(letters_len(after).min(after.len())).0;
+    let begins = word.eq_ignore_ascii_case(b"LOCK") && !second.is_empty();
+    let is_quantifier = word.eq_ignore_ascii_case(b"NOT") && second.eq_ignore_ascii_case(b"EXISTS");
+    if begins || is_quantifier {
+        let len = word
+            .len()
+            .saturating_add(blanks)
+            .saturating_add(second.len());
+        text.split_at(len.min(text.len())).0
+    } else {
+        word
     }
 }
 
@@ -111,16 +137,25 @@ fn character_len(text: &[u8]) -> usize {
     later.saturating_add(1)
 }
 
-fn kind_of(token: Option<&Token>, word: &[u8]) -> &'static [u8] {
+fn kind_of(token: Option<&Token>, word: &[u8], shown: &[u8]) -> &'static [u8] {
     match token {
         None => b"<end>",
-        Some(Token::Word(_)) => b"<word>",
+        Some(Token::Word(_)) => word_kind(word, shown),
         Some(Token::Number(_)) => b"<number>",
         Some(Token::Mark(_)) => b"<mark>",
         Some(Token::Bad(Bad::Number)) => number_kind(word),
         Some(Token::Bad(Bad::Minus)) => b"<negative>",
         Some(Token::Bad(Bad::Unfinished)) => b"<unfinished>",
         Some(Token::Bad(Bad::Stray)) => b"<stray>",
+    }
+}
+
+/// What a word is: the quantifier `not exists`, or any other.
+fn word_kind(word: &[u8], shown: &[u8]) -> &'static [u8] {
+    if shown.len() > word.len() && word.eq_ignore_ascii_case(b"NOT") {
+        b"<not_exists>"
+    } else {
+        b"<word>"
     }
 }
 

@@ -4,6 +4,7 @@ ghost use Rattle.std.specs.Prelude.{◌≡◌};
 ghost use Rattle.program_streams.specs.Streams.{IsMade, Prints};
 
 use crate::output::print;
+use crate::progress::Progress;
 use crate::streams::write_bytes;
 use std::alloc::AllocError;
 use std::io::{self, Write};
@@ -14,19 +15,27 @@ pub trait Console: Write {
     /// out. What the writer of answers holds stays as it is.
     fn tell(&mut self, message: Result<Vec<u8>, AllocError>)
         ensures { Self.contents self.new ≡ Self.contents self.old };
+
+    /// Where it is reported how far a search is.
+    fn progress(&self) -> Progress;
 }
 
-/// A writer of answers, and one of messages.
+/// A writer of answers, one of messages, and where it is reported how far a search is.
 #[derive(Drop)]
 pub struct Outputs<W, E> {
     answers: W,
     messages: E,
+    progress: Progress,
 }
 
 impl<W, E> Outputs<W, E> {
     /// A console of these two writers.
-    pub fn new(answers: W, messages: E) -> Self {
-        Outputs { answers, messages }
+    pub fn new(answers: W, messages: E, progress: Progress) -> Self {
+        Outputs {
+            answers,
+            messages,
+            progress,
+        }
     }
 }
 
@@ -47,6 +56,10 @@ impl<W: Write, E: Write> Console for Outputs<W, E> {
         if let Ok(message) = message {
             let _ = write_bytes(&mut self.messages, &message);
         }
+    }
+
+    fn progress(&self) -> Progress {
+        self.progress
     }
 }
 

@@ -1,7 +1,7 @@
 //! The lines of runs and of answers.
 
 ghost use Rattle.std.specs.Prelude.{◌≡◌, IfOk, codes};
-ghost use Rattle.report.specs.Answers.{outcome_line, passed_line, without_line, observed, set_line, answer_line};
+ghost use Rattle.report.specs.Answers.{outcome_line, passed_line, without_line, shown_word, set_line, answer_line};
 
 use crate::places::{push_gap, push_gaps};
 use gap_sets::GapSet;
@@ -50,12 +50,13 @@ pub fn without_line(alloc: Global, program: &Program, gap: u8) -> Result<Vec<u8>
 }
 
 /// What says that not all is shown.
-fn observed(shown: &Shown) -> &'static str
-    ensures { result.now ≡ observed shown.now }
+fn shown_word(shown: &Shown) -> &'static str
+    ensures { result.now ≡ shown_word shown.now }
 {
     match shown {
         Shown::All => "",
         Shown::Only(_) => "observed ",
+        Shown::Truth(_) => "condition ",
     }
 }
 
@@ -70,8 +71,8 @@ pub fn set_line(
 ) -> Result<Vec<u8>, AllocError>
     ensures { IfOk result (λ line. line.items ≡ set_line word.now program.now shown.now set cost) }
 {
-    let observed = observed(shown);
-    let mut line = format!(in alloc; "{word} {observed}cost {cost} set")?;
+    let shown = shown_word(shown);
+    let mut line = format!(in alloc; "{word} {shown}cost {cost} set")?;
     push_gaps(&mut line, program, &set)?;
     line.push('\n')?;
     Ok(line.into_bytes())

@@ -8,8 +8,13 @@ const introduction = [
 ];
 
 // What the outcomes are compared by.
-const observedWords = () =>
-  given.answer.observed ? " in the registers and locations that the file's condition and its locations line name" : "";
+function comparedWords() {
+  if (given.answer.condition) {
+    return ", as far as the file's condition tells them apart";
+  }
+  return given.answer.observed
+    ? " in the registers and locations that the file's condition and its locations line name" : "";
+}
 
 // How many fences a thread gets: `2 in P0`.
 function fencesByThread(gaps) {
@@ -31,7 +36,7 @@ function showNoFence() {
   document.title = `${given.test} needs no fence`;
   main.replaceChildren(
     html("h1", {}, `${given.test} needs no fence`),
-    html("p", { class: "lead" }, `Every outcome is sequential${observedWords()}: store buffers show nothing here that `
+    html("p", { class: "lead" }, `Every outcome is sequential${comparedWords()}: store buffers show nothing here that `
       + "would not happen if each instruction took effect at once."),
     html("p", { class: "soft" }, introduction),
     region("program", "the program", html("h2", {}, "The program"), threadColumns(null),
@@ -46,7 +51,7 @@ function showAnswer(gaps) {
     html("p", { class: "lead" }, answerWords(gaps)),
     html("p", { class: "soft" }, introduction, " In a sequential run there are no store buffers: each instruction ",
       `takes effect at once. With ${isOne ? "this fence" : "these fences"} the program has exactly the outcomes of its `,
-      `sequential runs${observedWords()}.`),
+      `sequential runs${comparedWords()}.`),
     html("p", { class: "choice" }, isOne
       ? "Without it, this run becomes possible, and no sequential run has its outcome:"
       : "Leave out one of them, and a run becomes possible whose outcome no sequential run has:"));

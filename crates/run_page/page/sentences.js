@@ -109,26 +109,36 @@ function localWords(run, i) {
   return [next === run.steps[i].instruction + 1 ? ", and goes on with the next instruction." : ", and jumps ahead."];
 }
 
+// An outcome is the final values of all that is compared, so a condition that names a part of it may be met elsewhere too.
+const elsewhere = ". Sequential runs may do so too, with other final values.";
+
 // Whether the run's outcome is what the file's condition is about.
 function conditionWords(run) {
   const condition = code(given.condition);
   const quantifier = given.condition.split(" ")[0];
   if (quantifier === "~exists") {
     return run.meets_condition
-      ? ["It is what the file says must not happen: ", condition, "."]
+      ? ["It is what the file says must not happen: ", condition, elsewhere]
       : ["What must not happen, ", condition, ", does not happen in this run; but registers or memory end as they ",
         "sequentially cannot."];
   }
   if (quantifier === "exists") {
     return run.meets_condition
-      ? ["It is the outcome that the file asks for: ", condition, "."]
-      : ["It is not the outcome that the file asks for, ", condition, "; but registers or memory end as they ",
+      ? ["It is what the file asks for: ", condition, elsewhere]
+      : ["It is not what the file asks for, ", condition, "; but registers or memory end as they ",
         "sequentially cannot."];
   }
   return run.meets_condition
     ? ["The file's condition, ", condition, ", is met by this run; but registers or memory end as they sequentially ",
       "cannot."]
-    : ["It breaks the file's condition: ", condition, "."];
+    : ["It breaks the file's condition: ", condition, elsewhere];
+}
+
+// Whether the run meets the formula of the file's condition, as no sequential run does.
+function aloneWords(run) {
+  return run.meets_condition
+    ? " This run meets the formula of the file's condition, and no sequential run does: "
+    : " This run does not meet the formula of the file's condition, and each sequential run does: ";
 }
 
 // How the run ends. That no sequential run has the outcome is said by `fencer why`, not by `fencer trace`.
@@ -136,6 +146,9 @@ function verdictWords(run) {
   if (run.gap === null) {
     const meets = run.run.meets_condition ? " It meets" : " It does not meet";
     return [code(outcomeText(run.run)), meets + " the formula of the file's condition: ", code(given.condition), "."];
+  }
+  if (given.answer.condition) {
+    return [code(outcomeText(run.run)), html("span", { class: "verdict" }, aloneWords(run.run)), code(given.condition), "."];
   }
   return [code(outcomeText(run.run)), html("span", { class: "verdict" }, " No sequential run has this outcome. "),
     ...conditionWords(run.run)];

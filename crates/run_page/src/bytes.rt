@@ -598,26 +598,36 @@ function localWords(run, i) {\n\
 \x20 return [next === run.steps[i].instruction + 1 ? \", and goes on with the next instruction.\" : \", and jumps ahead.\"];\n\
 }\n\
 \n\
+// An outcome is the final values of all that is compared, so a condition that names a part of it may be met elsewhere too.\n\
+const elsewhere = \". Sequential runs may do so too, with other final values.\";\n\
+\n\
 // Whether the run's outcome is what the file's condition is about.\n\
 function conditionWords(run) {\n\
 \x20 const condition = code(given.condition);\n\
 \x20 const quantifier = given.condition.split(\" \")[0];\n\
 \x20 if (quantifier === \"~exists\") {\n\
 \x20   return run.meets_condition\n\
-\x20     ? [\"It is what the file says must not happen: \", condition, \".\"]\n\
+\x20     ? [\"It is what the file says must not happen: \", condition, elsewhere]\n\
 \x20     : [\"What must not happen, \", condition, \", does not happen in this run; but registers or memory end as they \",\n\
 \x20       \"sequentially cannot.\"];\n\
 \x20 }\n\
 \x20 if (quantifier === \"exists\") {\n\
 \x20   return run.meets_condition\n\
-\x20     ? [\"It is the outcome that the file asks for: \", condition, \".\"]\n\
-\x20     : [\"It is not the outcome that the file asks for, \", condition, \"; but registers or memory end as they \",\n\
+\x20     ? [\"It is what the file asks for: \", condition, elsewhere]\n\
+\x20     : [\"It is not what the file asks for, \", condition, \"; but registers or memory end as they \",\n\
 \x20       \"sequentially cannot.\"];\n\
 \x20 }\n\
 \x20 return run.meets_condition\n\
 \x20   ? [\"The file's condition, \", condition, \", is met by this run; but registers or memory end as they sequentially \",\n\
 \x20     \"cannot.\"]\n\
-\x20   : [\"It breaks the file's condition: \", condition, \".\"];\n\
+\x20   : [\"It breaks the file's condition: \", condition, elsewhere];\n\
+}\n\
+\n\
+// Whether the run meets the formula of the file's condition, as no sequential run does.\n\
+function aloneWords(run) {\n\
+\x20 return run.meets_condition\n\
+\x20   ? \" This run meets the formula of the file's condition, and no sequential run does: \"\n\
+\x20   : \" This run does not meet the formula of the file's condition, and each sequential run does: \";\n\
 }\n\
 \n\
 // How the run ends. That no sequential run has the outcome is said by `fencer why`, not by `fencer trace`.\n\
@@ -625,6 +635,9 @@ function verdictWords(run) {\n\
 \x20 if (run.gap === null) {\n\
 \x20   const meets = run.run.meets_condition ? \" It meets\" : \" It does not meet\";\n\
 \x20   return [code(outcomeText(run.run)), meets + \" the formula of the file's condition: \", code(given.condition), \".\"];\n\
+\x20 }\n\
+\x20 if (given.answer.condition) {\n\
+\x20   return [code(outcomeText(run.run)), html(\"span\", { class: \"verdict\" }, aloneWords(run.run)), code(given.condition), \".\"];\n\
 \x20 }\n\
 \x20 return [code(outcomeText(run.run)), html(\"span\", { class: \"verdict\" }, \" No sequential run has this outcome. \"),\n\
 \x20   ...conditionWords(run.run)];\n\
@@ -1355,8 +1368,13 @@ const introduction = [\n\
 ];\n\
 \n\
 // What the outcomes are compared by.\n\
-const observedWords = () =>\n\
-\x20 given.answer.observed ? \" in the registers and locations that the file's condition and its locations line name\" : \"\";\n\
+function comparedWords() {\n\
+\x20 if (given.answer.condition) {\n\
+\x20   return \", as far as the file's condition tells them apart\";\n\
+\x20 }\n\
+\x20 return given.answer.observed\n\
+\x20   ? \" in the registers and locations that the file's condition and its locations line name\" : \"\";\n\
+}\n\
 \n\
 // How many fences a thread gets: `2 in P0`.\n\
 function fencesByThread(gaps) {\n\
@@ -1378,7 +1396,7 @@ function showNoFence() {\n\
 \x20 document.title = `${given.test} needs no fence`;\n\
 \x20 main.replaceChildren(\n\
 \x20   html(\"h1\", {}, `${given.test} needs no fence`),\n\
-\x20   html(\"p\", { class: \"lead\" }, `Every outcome is sequential${observedWords()}: store buffers show nothing here that `\n\
+\x20   html(\"p\", { class: \"lead\" }, `Every outcome is sequential${comparedWords()}: store buffers show nothing here that `\n\
 \x20     + \"would not happen if each instruction took effect at once.\"),\n\
 \x20   html(\"p\", { class: \"soft\" }, introduction),\n\
 \x20   region(\"program\", \"the program\", html(\"h2\", {}, \"The program\"), threadColumns(null),\n\
@@ -1393,7 +1411,7 @@ function showAnswer(gaps) {\n\
 \x20   html(\"p\", { class: \"lead\" }, answerWords(gaps)),\n\
 \x20   html(\"p\", { class: \"soft\" }, introduction, \" In a sequential run there are no store buffers: each instruction \",\n\
 \x20     `takes effect at once. With ${isOne ? \"this fence\" : \"these fences\"} the program has exactly the outcomes of its `,\n\
-\x20     `sequential runs${observedWords()}.`),\n\
+\x20     `sequential runs${comparedWords()}.`),\n\
 \x20   html(\"p\", { class: \"choice\" }, isOne\n\
 \x20     ? \"Without it, this run becomes possible, and no sequential run has its outcome:\"\n\
 \x20     : \"Leave out one of them, and a run becomes possible whose outcome no sequential run has:\"));\n\

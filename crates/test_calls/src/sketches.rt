@@ -292,7 +292,7 @@ fn push_is_cycle(
 }
 
 fn push_ends(sketch: &Sketch, outcome: &Outcome, printed: &mut String) -> Result<(), AllocError> {
-    write!(printed, "{}", sketch.must_end_as(&Shown::All, outcome))
+    write!(printed, "{}", sketch.must_end_as(&Shown::All, outcome)?)
 }
 
 /// Whether each completion ends with an outcome: a word for each thread, and one for memory.

@@ -15,7 +15,7 @@ use litmus_text::{Litmus, NameTable};
 use std::alloc::{AllocError, Global};
 use std::sync::Wait;
 use std::thread::Threads;
-use tso_program::{Program, Shown};
+use tso_program::{Program, ShownKind};
 
 /// What the solver says of the gaps that words name.
 fn verdict(alloc: Global, table: &SeqTable, words: &[&[u8]]) -> Result<Verdict, Refusal> {
@@ -91,17 +91,20 @@ fn push_of_table<R: Threads + Sync, W: Wait + Sync>(
     }
 }
 
-/// Whether the call asks for what the litmus text names alone, which the word `--observed` says, and the words after it.
-fn options<'w, 'i>(words: &'w [&'i [u8]]) -> (bool, &'w [&'i [u8]]) {
+/// What is shown of outcomes, which `--observed` or `--condition` says, and the words after it.
+fn options<'w, 'i>(words: &'w [&'i [u8]]) -> (ShownKind, &'w [&'i [u8]]) {
     match words.split_first() {
-        Some((option, rest)) if *option == b"--observed".as_slice() => (true, rest),
-        _ => (false, words),
+        Some((option, rest)) if *option == b"--observed".as_slice() => (ShownKind::Observed, rest),
+        Some((option, rest)) if *option == b"--condition".as_slice() => {
+            (ShownKind::Condition, rest)
+        }
+        _ => (ShownKind::Whole, words),
     }
 }
 
-/// The sequential outcomes of a test, of which all is shown or what the text names.
-fn table_of(alloc: Global, litmus: &Litmus<Program>, observed: bool) -> Result<SeqTable, Refusal> {
-    let shown = if observed { litmus.shown() } else { Shown::All };
+/// The sequential outcomes of a test, as far as they are shown.
+fn table_of(alloc: Global, litmus: &Litmus<Program>, kind: ShownKind) -> Result<SeqTable, Refusal> {
+    let shown = litmus.shown_as(kind)?;
     Ok(sequential(alloc, &litmus.program, &shown)?)
 }
 
@@ -115,7 +118,7 @@ pub fn push_answer<R: Threads + Sync, W: Wait + Sync>(
     litmus: &Litmus<Program>,
     printed: &mut String,
 ) -> Result<(), Refusal> {
-    let (observed, words) = options(words);
-    let table = table_of(alloc, litmus, observed)?;
+    let (kind, words) = options(words);
+    let table = table_of(alloc, litmus, kind)?;
     push_of_table(rt, wait, alloc, call, words, &litmus.names, &table, printed)
 }

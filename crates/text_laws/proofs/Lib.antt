@@ -6,3 +6,5 @@ pub mod OneEnding
 pub mod OneFront
 pub mod OneTest
 pub mod OneListOfCosts
+-- conditions and what they name
+pub mod NamesTell

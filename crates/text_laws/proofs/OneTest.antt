@@ -2,7 +2,7 @@
 use Rattle.std.proofs.Common.{◌≡◌, ℕ, List, [], map, sym, ap, ◌∙◌, subst}
 use Rattle.text_tokens.specs.Tokens.{Tok}
 use Rattle.text_tokens.specs.Lexing.{Lexes}
-use Rattle.conditions.specs.Tree.{Tree}
+use Rattle.tso_program.specs.Tree.{Tree}
 use Rattle.conditions.specs.Grammar.{Spells, Sum}
 use Rattle.conditions.proofs.SpelledIsRead.{spells_one}
 use Rattle.tso_program.specs.declared.listing.Listing.{Listing}

@@ -1,8 +1,13 @@
 -- What texts stand for is determined.
-use Rattle.std.specs.Prelude.{◌≡◌, ℕ, List, Option}
+use Rattle.std.specs.Prelude.{◌≡◌, ◌≤◌, ℕ, List, Option}
+use Rattle.gap_sets.specs.Gaps.{SetOfGaps}
+use Rattle.gap_sets.specs.Order.{total}
 use Rattle.tso_program.specs.declared.listing.Thread.{Thread}
 use Rattle.tso_program.specs.declared.listing.Listing.{Listing}
+use Rattle.tso_program.specs.declared.shown.ShownKind.TheVariants.{Observed, Condition}
+use Rattle.tso_machine.specs.Outcomes.{Serves, IsTheAnswer}
 use Rattle.litmus_reader.specs.declared.litmus.Litmus.{Litmus}
+use Rattle.litmus_reader.specs.Shown.{question_of}
 use Rattle.litmus_reader.specs.Texts.{StandsFor, IsLitmus, IsFencedLitmus}
 use Rattle.cost_text.specs.CostTexts.{IsCostText}
 use Rattle.cost_text.specs.GivenCosts.{AreGiven}
@@ -26,3 +31,12 @@ ATextGivesOneListOfCosts = (text : List ℕ) (threads : List Thread) (one other 
 -- so does a text that may be missing: each gap costs 1 without it
 abbrev pub TheCostsAreOneList : Type 0
 TheCostsAreOneList = (p : Listing) (text : Option (List ℕ)) (one other : List ℕ) → AreGiven p text one → AreGiven p text other → one ≡ other
+
+-- what serves for the values that a text names serves for the truth of its condition
+abbrev pub TheNamesServeTheCondition : Type 0
+TheNamesServeTheCondition = (text : List ℕ) (litmus : Litmus Listing) (gaps : SetOfGaps) → IsLitmus text litmus → Serves (question_of litmus Observed) gaps → Serves (question_of litmus Condition) gaps
+
+-- so the answer for the condition costs no more than that for the names
+abbrev pub AConditionsAnswerCostsNoMore : Type 0
+AConditionsAnswerCostsNoMore = (text : List ℕ) (litmus : Litmus Listing) (costs : List ℕ) (of_truth of_names : SetOfGaps) → IsLitmus text litmus →
+    IsTheAnswer (question_of litmus Condition) costs of_truth → IsTheAnswer (question_of litmus Observed) costs of_names → total costs of_truth ≤ total costs of_names

@@ -72,7 +72,7 @@ module _ (mode : Machine) where
       absurd (not_last a b l h (subst (λ (n : ℕ). MayBeLast store_buffering mode (both a b) l (Initial n)) (writes_initial mode a b m l v writes) last))
 
   ends : (a b : ℕ) → MustEndAs question mode (both a b) (end_of a b)
-  ends a b = record { whole = whole mode a b; registers = refl; long = refl; memory = λ l v e h. last_writes a b l v e h }
+  ends a b = (whole mode a b, record { registers = refl; long = refl; memory = λ l v e h. last_writes a b l v e h })
 
   -- under both values 0, the one source of a read is the initial write of its location
   only_initial : (l : ℕ) (s : Event) → Writes (access_by store_buffering mode (given_to (both 0 0))) s l 0 → Initial l ≡ s

@@ -1,10 +1,17 @@
 -- A cover tree that is valid in a mode is valid in each tighter one: of what is known of a sketch only sections change, and of two modes with gaps fenced they come no closer.
-use Rattle.std.proofs.Common.{◌≡◌, ◌⊎◌, ℕ, List, [], ◌∷◌, Some, IsSome, map, length, refl, sym, ap, ◌∙◌, subst, inl, inr}
+use Rattle.std.proofs.Common.{◌≡◌, ◌⊎◌, ℕ, Bool, List, [], ◌∷◌, Some, IsSome, map, length, refl, sym, ap, ◌∙◌, subst, inl, inr}
 use mathlib.Core.Path.{fun_ext}
 use Rattle.std.specs.List.{range_with_len}
 use Rattle.tso_program.specs.declared.action.Local.{Local}
 use Rattle.tso_program.specs.declared.listing.Listing.{Listing}
 use Rattle.tso_program.specs.declared.outcome.Outcome.{Outcome}
+use Rattle.tso_program.specs.declared.shown.Shown.{Shown}
+use Rattle.tso_program.specs.declared.shown.Shown.TheVariants.{All, Only, Truth}
+use Rattle.tso_program.specs.declared.atom.Atom.{Atom}
+use Rattle.tso_program.specs.declared.atom.Atom.TheVariants as atom
+use Rattle.tso_program.specs.Tree.{Tree}
+use Rattle.tso_program.specs.Truth.{is_true_at}
+use Rattle.tso_program.proofs.KnownTruths.{known_more}
 use Rattle.tso_program.specs.Shown.{Question, show_registers}
 use Rattle.tso_program.specs.Listings.{action, start_of, code_of}
 use Rattle.tso_program.specs.Fences.{Gaps}
@@ -17,7 +24,7 @@ use Rattle.candidate_executions.specs.declared.event.Kind.TheVariants as union
 use Rattle.candidate_executions.specs.Traces.{fenced_gaps, trace_by}
 use Rattle.candidate_executions.specs.Candidates.{access_by, Writes}
 use Rattle.candidate_executions.specs.Consistency.{Precedes, KeepsOrder, IsOfMode}
-use Rattle.candidate_executions.specs.Sketches.{Sketch, given_to, IsSourceOf, IsPair, with_value, with_source, with_pair, read_by, next_read, IsWhole, MayBeLast, MustEndAs, IsBefore, KnownFromReads, KnownRelates, KnownEdgeOfMode, IsKnownCycle}
+use Rattle.candidate_executions.specs.Sketches.{Sketch, given_to, IsSourceOf, IsPair, with_value, with_source, with_pair, read_by, next_read, IsWhole, MayBeLast, stopped, EndsInValues, KnownAtom, EndsAs, MustEndAs, IsBefore, KnownFromReads, KnownRelates, KnownEdgeOfMode, IsKnownCycle}
 use Rattle.candidate_executions.proofs.Orders.WiderRelations.{cycle_wider}
 use Rattle.cert_forest.specs.Trees.{Cover, Value, Source, Order, Cycle, Known, Covers, NoCover, MoreCovers}
 use Rattle.tree_laws.specs.CoverTrees.{event_of, HasNextValues, HasSources, HasNoOrder, MustEndAsNumber, IsValidCover, AreValidCovers}
@@ -233,14 +240,38 @@ module _ (q : Question) (loose tight : Machine) (tighter : IsNoLooser loose tigh
   abbrev p : Listing
   p = q.program
 
+  module _ (k : Sketch) (o : Outcome) where
+    same_stopped : stopped p tight k ≡ stopped p loose k
+    same_stopped = sym (ap (λ f. map f (range_with_len 0 (length p.threads))) (fun_ext (λ t. ap (λ (s : Local). s.registers) ((both p loose tight tighter k).last t))))
+
+    values_kept : (shown : Shown) → EndsInValues p loose k shown o → EndsInValues p tight k shown o
+    values_kept shown ends = record {
+      registers = ends.registers ∙ sym (ap (show_registers shown) same_stopped);
+      long = ends.long;
+      memory = λ l v e within w last. ends.memory l v e within (written_back p loose tight tighter k e l v w) (last_back p loose tight tighter k l e last);
+    }
+
+    atom_kept : (b : Bool) (a : Atom) → KnownAtom p loose k b a → KnownAtom p tight k b a
+    atom_kept b (atom.Register t r v) (none, known) = (
+      same_next p loose tight tighter k t ∙ none,
+      ap (λ (registers : List (List ℕ)). is_true_at (record { registers = registers; memory = [] }) (atom.Register t r v)) same_stopped ∙ known,
+    )
+    atom_kept b (atom.Location l v) (known, past) = (
+      λ h. (
+        whole_forth p loose tight tighter k (known h).0,
+        λ w (e, writes, last). (known h).1 w (e, written_back p loose tight tighter k e l w writes, last_back p loose tight tighter k l e last),
+      ),
+      past,
+    )
+
+    ends_kept : (shown : Shown) → EndsAs p loose k shown o → EndsAs p tight k shown o
+    ends_kept All (whole, ends) = (whole_forth p loose tight tighter k whole, values_kept All ends)
+    ends_kept (Only names) (whole, ends) = (whole_forth p loose tight tighter k whole, values_kept (Only names) ends)
+    ends_kept (Truth f) ends =
+        record { truth = ends.truth; known = known_more (KnownAtom p loose k) (KnownAtom p tight k) atom_kept ends.truth f ends.known; is_told = ends.is_told }
+
   must_end : (k : Sketch) (o : Outcome) → MustEndAs q loose k o → MustEndAs q tight k o
-  must_end k o must = record {
-    whole = whole_forth p loose tight tighter k must.whole;
-    registers = must.registers ∙ ap (λ f. show_registers q.shown (map f (range_with_len 0 (length p.threads))))
-        (fun_ext (λ t. ap (λ (s : Local). s.registers) ((both p loose tight tighter k).last t)));
-    long = must.long;
-    memory = λ l v e within w last. must.memory l v e within (written_back p loose tight tighter k e l v w) (last_back p loose tight tighter k l e last);
-  }
+  must_end k o must = ends_kept k o q.shown must
 
   module _ (outcomes : List Outcome) where
     known : (k : Sketch) (number : ℕ) → MustEndAsNumber q loose outcomes k number → MustEndAsNumber q tight outcomes k number

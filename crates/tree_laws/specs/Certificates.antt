@@ -12,6 +12,7 @@ use Rattle.tso_machine.specs.Machine.{SequentialMachine, StoreBufferMachine, no_
 use Rattle.tso_machine.specs.Outcomes.{IsShownRun, AreGapsOf}
 use Rattle.candidate_executions.specs.Sketches.{empty_sketch}
 use Rattle.cert_forest.specs.Certificates.{Certificate}
+use Rattle.cert_forest.specs.Shows.{shows_of}
 use Rattle.tree_laws.specs.CoverTrees.{IsValidCover}
 use Rattle.tree_laws.specs.GapTrees.{IsValidGap}
 
@@ -25,7 +26,7 @@ IsRunOutside q outcomes labels = (o : Outcome) × IsShownRun q (StoreBufferMachi
 
 -- the certificate is valid for the question and the costs of the program's gaps
 pub record IsValidCertificate (q : Question) (costs : List ℕ) (c : Certificate) : Type 0 where
-  pub shown : c.shown ≡ q.shown
+  pub shown : c.shown ≡ shows_of q.shown
   pub of_program : AreGapsOf q.program c.gaps
   pub one_cost_each : length costs ≡ gap_count q.program.threads
   pub cost : c.cost ≡ total costs c.gaps

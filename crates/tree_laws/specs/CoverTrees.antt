@@ -71,6 +71,6 @@ module _ (q : Question) (mode : Machine) (outcomes : List Outcome) where
     AreValidCovers (MoreCovers tree trees) [] = ⊥
     AreValidCovers (MoreCovers tree trees) (k ∷ ks) = IsValidCover tree k × AreValidCovers trees ks
 
-  -- what a valid tree means: each consistent completion of the sketch has an outcome of the list, as far as it is shown
+  -- what a valid tree means: of each consistent completion of the sketch an outcome of the list is shown
   abbrev pub IsCovered : Sketch → Type 0
   IsCovered k = (c : Candidate) → IsConsistentCompletion q.program mode k c → (o : Outcome) × Contains outcomes o × HasShownOutcome q mode c o

@@ -6,7 +6,7 @@ use Rattle.gap_sets.specs.Regions.{all_sets, IsInRegion, children_of, HasNoneOf}
 use Rattle.gap_sets.specs.declared.region.Region.{Region}
 use Rattle.tso_program.specs.declared.listing.Listing.{Listing}
 use Rattle.tso_program.specs.declared.outcome.Outcome.{Outcome}
-use Rattle.tso_program.specs.Shown.{Question, show}
+use Rattle.tso_program.specs.Shown.{Question}
 use Rattle.tso_program.specs.Limits.{JumpForward, IsWithinLimits}
 use Rattle.tso_program.specs.Fences.{gaps_in}
 use Rattle.tso_machine.specs.declared.label.Label.{Label}
@@ -26,14 +26,10 @@ abbrev pub AValidCoverCovers : Type 0
 AValidCoverCovers = (q : Question) (mode : Machine) (outcomes : List Outcome) (tree : Cover) (k : Sketch) → JumpForward q.program.threads →
     IsSketch q.program mode k → IsValidCover q mode outcomes tree k → IsCovered q mode outcomes k
 
--- each outcome of the list is what is shown of itself
-abbrev pub AreShown : Question → List Outcome → Type 0
-AreShown q outcomes = (o : Outcome) → Contains outcomes o → show q.shown o ≡ o
-
 -- where the sketch with no choice is covered, each outcome of the mode's machine is in the list
 abbrev pub ACoveredListHasEachOutcome : Type 0
 ACoveredListHasEachOutcome = (q : Question) (mode : Machine) (outcomes : List Outcome) (o : Outcome) → JumpForward q.program.threads →
-    AreShown q outcomes → IsCovered q mode outcomes (empty_sketch q.program) → AllowsShown q mode o → Contains outcomes o
+    IsCovered q mode outcomes (empty_sketch q.program) → AllowsShown q mode o → Contains outcomes o
 
 -- the list has the sequential outcomes and no others
 abbrev pub IsSequentialList : Question → List Outcome → Type 0

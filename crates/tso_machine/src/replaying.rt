@@ -100,10 +100,10 @@ pub fn replay_shown(
     ensures fault { IfErr result (ReplayFaultIs program.now (unfenced model) labels.now) }
 {
     match replay(alloc, program, &GapSet::empty(), model, labels) {
-        Ok(mut ended) => {
-            ended.outcome.show(shown);
-            Ok(ended)
-        }
+        Ok(mut ended) => match ended.outcome.show(alloc, shown) {
+            Ok(()) => Ok(ended),
+            Err(_) => Err(ReplayFault::OutOfMemory),
+        },
         Err(fault) => Err(fault),
     }
 }

@@ -9,12 +9,17 @@ use Rattle.std.specs.FinSet as set
 use Rattle.gap_sets.specs.Gaps.{SetOfGaps, IsGapSet, numbers_of_set}
 use Rattle.gap_sets.specs.declared.gap_set.TheConstants.{MAX_GAPS}
 use Rattle.tso_program.specs.declared.listing.Listing.{Listing}
+use Rattle.tso_program.specs.declared.outcome.Outcome.{Outcome}
 use Rattle.tso_program.specs.declared.shown.Shown.{Shown}
+use Rattle.tso_program.specs.declared.shown.Shown.TheVariants.{All}
 use Rattle.tso_program.specs.Fences.{gaps_in}
-use Rattle.tso_program.specs.Shown.{asked, Question}
-use Rattle.tso_machine.specs.Machine.{StoreBufferMachine, no_gaps}
-use Rattle.tso_machine.specs.Modes.{ArePassed}
-use Rattle.tso_machine.specs.Outcomes.{IsForeignRun, IsShownRun}
+use Rattle.tso_program.specs.Shown.{asked, show, Question}
+use Rattle.tso_machine.specs.declared.label.Label.{Label}
+use Rattle.tso_machine.specs.declared.label.Model.TheVariants.{Buffered}
+use Rattle.tso_machine.specs.declared.replaying.Ended.{Ended}
+use Rattle.tso_machine.specs.Machine.{StoreBufferMachine, no_gaps, IsRun}
+use Rattle.tso_machine.specs.Outcomes.{IsForeignRun, IsReplayOf, IsShownRun}
+use Rattle.tso_machine.proofs.Refused.{one_outcome}
 use Rattle.litmus_reader.specs.declared.litmus.Litmus.{Litmus}
 use Rattle.fence_laws.proofs.GapsAvoided.{passed_gaps_tell}
 use Rattle.cover_solver.specs.Facts as facts
@@ -22,7 +27,7 @@ use Rattle.cover_solver.specs.Verdicts.{PassesNoneOf}
 use Rattle.documents.specs.declared.run.Setting.TheVariants.{Without}
 use Rattle.documents.specs.Documents.{IsWhyDocument}
 use Rattle.documents.specs.Runs.{TellsRun}
-use Rattle.why_text.specs.WhyTexts.{Told, IsReason, AreReasons, lines_of, TellsReasons, TellsWhy, all_sequential, reason_text, reasons_or_none}
+use Rattle.why_text.specs.WhyTexts.{Told, IsReason, AreReasons, lines_of, TellsReasons, TellsWhy, all_sequential, printed_of, reasons_or_none, IsReasonText}
 
 -- a foreign run that passes none of some gaps is a run with these gaps fenced
 pub runs_fenced : (run : facts.Foreign) (gaps : SetOfGaps) → facts.IsForeignValue run → PassesNoneOf gaps run → IsShownRun run.question (StoreBufferMachine (gaps_in run.question.program gaps)) run.labels run.outcome
@@ -30,20 +35,35 @@ runs_fenced run gaps is none =
     let (whole, is_run, shows) = is.foreign.is_run in
     (whole, (passed_gaps_tell run.question.program gaps run.passed run.labels whole is_run is.passed).1 none, shows)
 
+-- a replay of which all is shown ends in its outcome
+ends_in : (p : Listing) (labels : List Label) (ended : Ended) → IsReplayOf (asked p All) Buffered labels ended → IsRun p (StoreBufferMachine no_gaps) labels ended.outcome
+ends_in p labels ended replay = (let (whole, is_run, same) = replay.is_run in subst (λ (o : Outcome). IsRun p (StoreBufferMachine no_gaps) labels o) (sym same) is_run)
+
+-- of the outcome of a run is shown what a run with these labels shows
+shown_of_run : (q : Question) (labels : List Label) (o whole : Outcome) → IsShownRun q (StoreBufferMachine no_gaps) labels o → IsRun q.program (StoreBufferMachine no_gaps) labels whole → o ≡ show q.shown whole
+shown_of_run q labels o whole (ended, is_run, shows) ends = shows ∙ ap (λ (x : Outcome). show q.shown x) (one_outcome q.program (StoreBufferMachine no_gaps) labels ended whole is_run ends)
+
 -- so its lines are a reason
-pub reason_of : (source : Litmus Listing) (shown : Shown) (gaps : SetOfGaps) (gap : ℕ) (run : facts.Foreign) (table : List ℕ) (told : Told) → run.question ≡ asked source.program shown → facts.IsForeignValue run
-    → PassesNoneOf (set.remove gaps gap) run → told.0 ≡ reason_text source shown gap run.labels table run.outcome run.passed
-    → TellsRun source shown (Without gap) run.labels run.outcome run.passed told.1 → IsReason source shown gaps gap told
-reason_of source shown gaps gap run table told of_question is none printed document =
-    let fenced = runs_fenced run (set.remove gaps gap) is none in
+pub reason_of : (source : Litmus Listing) (shown : Shown) (gaps : SetOfGaps) (gap : ℕ) (run : facts.Foreign) (ended : Ended) (told : Told) → run.question ≡ asked source.program shown → facts.IsForeignValue run
+    → PassesNoneOf (set.remove gaps gap) run → IsReplayOf (asked run.question.program All) Buffered run.labels ended
+    → IsReasonText source shown gap run.labels ended.outcome ended.passed told.0
+    → TellsRun source (printed_of shown) (Without gap) run.labels ended.outcome ended.passed told.1 → IsReason source shown gaps gap told
+reason_of source shown gaps gap run ended told of_question is none replay printed document =
+    let q = asked source.program shown in
+    let others = set.remove gaps gap in
+    let fenced = subst (λ (r : Question). IsShownRun r (StoreBufferMachine (gaps_in r.program others)) run.labels run.outcome) of_question (runs_fenced run others is none) in
+    let foreign = subst (λ (r : Question). IsForeignRun r run.labels run.outcome) of_question is.foreign in
+    let replayed = subst (λ (r : Question). IsReplayOf (asked r.program All) Buffered run.labels ended) of_question replay in
+    let ends = ends_in source.program run.labels ended replayed in
+    let same = shown_of_run q run.labels run.outcome ended.outcome foreign.is_run ends in
     record {
       labels = run.labels;
-      outcome = run.outcome;
-      foreign = subst (λ (q : Question). IsForeignRun q run.labels run.outcome) of_question is.foreign;
-      fenced = subst (λ (q : Question). IsShownRun q (StoreBufferMachine (gaps_in q.program (set.remove gaps gap))) run.labels run.outcome) of_question fenced;
-      passed = run.passed;
-      passes = subst (λ (q : Question). ArePassed q.program (StoreBufferMachine no_gaps) run.labels run.passed) of_question is.passed;
-      table = table;
+      outcome = ended.outcome;
+      ends = ends;
+      foreign = subst (λ (o : Outcome). IsForeignRun q run.labels o) same foreign;
+      fenced = subst (λ (o : Outcome). IsShownRun q (StoreBufferMachine (gaps_in source.program others)) run.labels o) same fenced;
+      passed = ended.passed;
+      passes = replayed.passed;
       printed = printed;
       document = document;
     }

@@ -15,13 +15,13 @@ use documents::why_document;
 use gap_sets::{Costs, GapSet};
 use json_text::JsonArray;
 use litmus_text::Litmus;
-use placed_text::{Found, TextFault, place_gaps, read_gap_costs, read_program};
+use placed_text::{Effort, Found, TextFault, place_gaps, read_gap_costs, read_program, shown_of};
 use report::answer_line;
 use run_graph::RunGraph;
 use std::alloc::{AllocError, Global};
 use std::sync::Wait;
 use std::thread::Threads;
-use tso_program::{Program, Shown};
+use tso_program::{Program, Shown, ShownKind};
 
 /// Why the gaps of an answer are needed.
 #[derive(Debug, Drop)]
@@ -122,17 +122,17 @@ pub fn why_text<R: Threads + Sync, W: Wait + Sync>(
     alloc: Global,
     litmus: &[u8],
     costs: Option<&[u8]>,
-    observed: bool,
-    workers: u8,
+    kind: ShownKind,
+    effort: Effort,
 ) -> Result<WhyText, TextFault>
-    ensures told { IfOk result (λ reasons. IsWhyText litmus.now (option_map (λ text. text.now) costs.entry) observed reasons.lines.items reasons.document.items) }
-    ensures workers { OnOk result (¬ AreTooFewOrMany workers) }
-    ensures fault { IfErr result (HasNoPlacedText litmus.now (option_map (λ text. text.now) costs.entry) workers) }
+    ensures told { IfOk result (λ reasons. IsWhyText litmus.now (option_map (λ text. text.now) costs.entry) kind reasons.lines.items reasons.document.items) }
+    ensures workers { OnOk result (¬ AreTooFewOrMany effort.workers) }
+    ensures fault { IfErr result (HasNoPlacedText litmus.now (option_map (λ text. text.now) costs.entry) effort.workers) }
 {
     let source = read_program(alloc, litmus)?;
     let costs = read_gap_costs(alloc, costs, &source.program)?;
-    let shown = source.shown_as(observed);
-    let found = place_gaps(rt, wait, alloc, &source.program, &shown, &costs, workers)?;
+    let shown = shown_of(&source, kind)?;
+    let found = place_gaps(rt, wait, alloc, &source.program, &shown, &costs, effort)?;
     match explained(alloc, &source, &shown, &costs, &found) {
         Ok(reasons) => Ok(reasons),
         Err(_) => Err(TextFault::OutOfMemory),

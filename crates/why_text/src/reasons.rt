@@ -1,15 +1,16 @@
 //! Why a gap of the answer is needed.
-ghost use Rattle.std.specs.Prelude.{◌≡◌, ◌<◌, true, IfOk, length, map};
+ghost use Rattle.std.specs.Prelude.{◌≡◌, ◌<◌, ◌++◌, true, IfOk, OnOk, length, map};
 ghost use Rattle.std.specs.FinSet as set;
 ghost use Rattle.gap_sets.specs.declared.gap_set.TheConstants.{MAX_GAPS};
+ghost use Rattle.tso_program.specs.declared.shown.Shown.TheVariants.{All};
 ghost use Rattle.tso_program.specs.Shown.{asked};
-ghost use Rattle.tso_machine.specs.Outcomes.{IsTheAnswer};
+ghost use Rattle.tso_machine.specs.declared.label.Model.TheVariants.{Buffered};
+ghost use Rattle.tso_machine.specs.Outcomes.{IsReplayOf, IsTheAnswer};
 ghost use Rattle.cover_solver.specs.Facts as facts;
 ghost use Rattle.cover_solver.specs.Verdicts.{PassesNoneOf};
 ghost use Rattle.tso_program.specs.Listings.{gap_count};
-ghost use Rattle.documents.specs.declared.run.Setting.TheVariants.{Without};
-ghost use Rattle.documents.specs.Runs.{TellsRun};
-ghost use Rattle.why_text.specs.WhyTexts.{labels_line, met_line, reason_text, run_lines, IsReason};
+ghost use Rattle.report.specs.Answers.{without_line};
+ghost use Rattle.why_text.specs.WhyTexts.{labels_line, is_foreign, met_line, alone_line, foreign_lines, printed_of, ending_text, IsReasonText, IsReason};
 
 use cover_solver::{ForeignRun, Oracle, Solver, Verdict};
 use documents::{Setting, run_value};
@@ -20,7 +21,7 @@ use report::{outcome_line, passed_line, without_line};
 use run_graph::RunGraph;
 use run_table::run_table;
 use std::alloc::{AllocError, Global};
-use tso_machine::{Ended, Label, Model, Step, steps, write_run};
+use tso_machine::{Ended, Label, Model, Step, replay_shown, steps, write_run};
 use tso_program::{Program, Shown};
 
 /// Why a gap is needed.
@@ -95,21 +96,31 @@ fn steps_of(
     }
 }
 
-/// What the document says of a run, of which these are the steps.
-fn told(
-    alloc: Global,
-    litmus: &Litmus<Program>,
-    shown: &Shown,
-    gap: u8,
-    run: &ForeignRun,
-    steps: &[Step],
-) -> Result<JsonText, AllocError>
-    ensures { IfOk result (TellsRun litmus.now shown.now (Without gap) (map (λ step. step.label) steps.now) run.now.outcome run.now.passed) }
+/// What a run leaves, all of it, and the gaps that it passes.
+fn ended_of(alloc: Global, run: &ForeignRun) -> Result<Ended, AllocError>
+    ensures { IfOk result (IsReplayOf (asked run.now.question.program All) Buffered run.now.labels) }
 {
-    let outcome = run.outcome().copy(alloc)?;
-    let passed = run.passed();
-    let ended = Ended { outcome, passed };
-    run_value(alloc, litmus, shown, Setting::Without(gap), steps, &ended)
+    match replay_shown(
+        alloc,
+        run.program(),
+        &Shown::All,
+        Model::Buffered,
+        run.labels(),
+    ) {
+        Ok(ended) => Ok(ended),
+        Err(_) => Err(AllocError),
+    }
+}
+
+/// What is printed of an outcome of which this is shown. It takes no memory.
+fn printed_of(shown: &Shown) -> Shown
+    ensures { result ≡ printed_of shown.now }
+{
+    match shown {
+        Shown::All => Shown::All,
+        Shown::Only(names) => Shown::Only(*names),
+        Shown::Truth(_) => Shown::All,
+    }
 }
 
 /// Whether a run's outcome meets the condition's formula, as a sentence.
@@ -123,43 +134,87 @@ fn met_line(meets: bool) -> &'static [u8]
     }
 }
 
-/// A gap, and a run: its labels, its table, what it leaves, the gaps that it passes, and that no sequential run leaves this.
-fn run_lines(
+/// Whether a run meets the condition's formula, as no sequential run does, as a sentence.
+fn alone_line(meets: bool) -> &'static [u8]
+    ensures { result.now ≡ alone_line meets }
+{
+    if meets {
+        b"This run meets the condition's formula, and no sequential run does.\n"
+    } else {
+        b"This run does not meet the condition's formula, and each sequential run does.\n"
+    }
+}
+
+/// Adds that no sequential run has this outcome, and whether it meets the condition's formula.
+fn push_outcome(out: &mut Vec<u8>, meets: bool) -> Result<(), AllocError>
+    ensures { OnOk result (out.new.items ≡ out.old.items ++ is_foreign ++ met_line meets) }
+{
+    out.extend_from_slice(b"No sequential run has this outcome.\n")?;
+    out.extend_from_slice(met_line(meets))
+}
+
+/// Adds that no sequential run leaves what is shown, and whether the condition's formula is met.
+fn push_foreign(out: &mut Vec<u8>, shown: &Shown, meets: bool) -> Result<(), AllocError>
+    ensures { OnOk result (out.new.items ≡ out.old.items ++ foreign_lines shown.now meets) }
+{
+    match shown {
+        Shown::All | Shown::Only(_) => push_outcome(out, meets),
+        Shown::Truth(_) => out.extend_from_slice(alone_line(meets)),
+    }
+}
+
+/// What a run leaves, the gaps that it passes, that no sequential run leaves this, and whether it meets the condition.
+fn ending_lines(
     alloc: Global,
     litmus: &Litmus<Program>,
     shown: &Shown,
-    gap: u8,
-    run: &ForeignRun,
-    table: &[u8],
+    ended: &Ended,
 ) -> Result<Vec<u8>, AllocError>
-    ensures { IfOk result (λ lines. lines.items ≡ run_lines litmus.now shown.now gap run.now.labels table.now run.now.outcome run.now.passed) }
+    ensures { IfOk result (λ lines. lines.items ≡ ending_text litmus.now shown.now ended.now.outcome ended.now.passed) }
 {
-    let labels = labels_line(alloc, run.labels())?;
-    let outcome = outcome_line(alloc, &litmus.names, shown, run.outcome())?;
-    let passed = passed_line(alloc, &litmus.program, &run.passed())?;
-    let mut lines = without_line(alloc, &litmus.program, gap)?;
-    lines.extend_from_slice(&labels)?;
-    lines.extend_from_slice(table)?;
-    lines.extend_from_slice(&outcome)?;
+    let printed = printed_of(shown);
+    let passed = passed_line(alloc, &litmus.program, &ended.passed)?;
+    let meets = holds(&litmus.condition, &ended.outcome);
+    let mut lines = outcome_line(alloc, &litmus.names, &printed, &ended.outcome)?;
     lines.extend_from_slice(&passed)?;
-    lines.extend_from_slice(b"No sequential run has this outcome.\n")?;
+    push_foreign(&mut lines, shown, meets)?;
     Ok(lines)
 }
 
-/// The same, and whether the run meets the condition's formula.
+/// A gap, and a run: its labels, its table, and how it ends.
 fn lines_with(
+    alloc: Global,
+    program: &Program,
+    gap: u8,
+    labels: &[Label],
+    table: &[u8],
+    ending: &[u8],
+) -> Result<Vec<u8>, AllocError>
+    ensures { IfOk result (λ lines. lines.items ≡ without_line program.now gap ++ labels_line labels.now ++ table.now ++ ending.now) }
+{
+    let labels = labels_line(alloc, labels)?;
+    let mut lines = without_line(alloc, program, gap)?;
+    lines.extend_from_slice(&labels)?;
+    lines.extend_from_slice(table)?;
+    lines.extend_from_slice(ending)?;
+    Ok(lines)
+}
+
+/// The lines of a run and of how it ends.
+fn reason_lines(
     alloc: Global,
     litmus: &Litmus<Program>,
     shown: &Shown,
     gap: u8,
     run: &ForeignRun,
-    table: &[u8],
+    steps: &[Step],
+    ended: &Ended,
 ) -> Result<Vec<u8>, AllocError>
-    ensures { IfOk result (λ lines. lines.items ≡ reason_text litmus.now shown.now gap run.now.labels table.now run.now.outcome run.now.passed) }
+    ensures { IfOk result (λ lines. IsReasonText litmus.now shown.now gap run.now.labels ended.now.outcome ended.now.passed lines.items) }
 {
-    let mut lines = run_lines(alloc, litmus, shown, gap, run, table)?;
-    lines.extend_from_slice(met_line(holds(&litmus.condition, run.outcome())))?;
-    Ok(lines)
+    let table = run_table(alloc, litmus, steps)?;
+    let ending = ending_lines(alloc, litmus, shown, ended)?;
+    lines_with(alloc, &litmus.program, gap, run.labels(), &table, &ending)
 }
 
 /// Why a gap of the answer is needed, by a run that passes none of the others, and that is added to a graph.
@@ -181,8 +236,16 @@ pub(crate) fn reason_of(
     let all = steps_of(alloc, gaps, gap, run)?;
     let steps = all.as_slice();
     push_graph(alloc, graph, litmus, gap, steps)?;
-    let table = run_table(alloc, litmus, steps)?;
-    let lines = lines_with(alloc, litmus, shown, gap, run, table.as_slice())?;
-    let said = told(alloc, litmus, shown, gap, run, steps)?;
+    let ended = ended_of(alloc, run)?;
+    let lines = reason_lines(alloc, litmus, shown, gap, run, steps, &ended)?;
+    let printed = printed_of(shown);
+    let said = run_value(
+        alloc,
+        litmus,
+        &printed,
+        Setting::Without(gap),
+        steps,
+        &ended,
+    )?;
     Ok(Reason { lines, run: said })
 }

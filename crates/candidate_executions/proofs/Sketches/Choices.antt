@@ -155,18 +155,22 @@ module _ (p : Listing) (mode : Machine) (k : Sketch) (c : Candidate) (fits : IsS
               more_values t v rest (there_by p mode k fits t l next) q,
             )
 
+    -- the values of a thread each of whose reads has one
+    pub given_whole : (t : ℕ) → next_read p mode k t ≡ None → c.given t ≡ given_to k t
+    given_whole t whole =
+        let (rest, q) = completes.given t in
+        let ends : action p.threads t (plays t (given_to k t)).last ≡ Stop =
+        end_or_read (action p.threads t) (fenced_gaps mode t) (length (code_of p.threads t)) (λ s. advance p forward t s) (length (code_of p.threads t)) 0
+        (start_of p.threads t) (given_to k t) (omega arith) whole in
+        let all : plays t (given_to k t ++ rest) ≡ spare (plays t (given_to k t)) rest =
+        at_end (action p.threads t) (fenced_gaps mode t) (length (code_of p.threads t)) 0 (start_of p.threads t) (given_to k t) rest ends in
+        let left : (plays t (c.given t)).unused ≡ (plays t (given_to k t)).unused ++ rest = subst (λ g. (plays t g).unused ≡ (plays t (given_to k t)).unused ++ rest) q (ap (λ (z : Trace). z.unused) all) in
+        let none : rest ≡ [] = sym (ap (λ z. z ++ rest) (fits.used t)) ∙ (sym left ∙ (is.whole t).1) in
+        sym q ∙ (ap (λ z. given_to k t ++ z) none ∙ append-nil (given_to k t))
+
     module _ (whole : IsWhole p mode k) where
       pub same_given : (t : ℕ) → c.given t ≡ given_to k t
-      same_given t =
-          let (rest, q) = completes.given t in
-          let ends : action p.threads t (plays t (given_to k t)).last ≡ Stop =
-          end_or_read (action p.threads t) (fenced_gaps mode t) (length (code_of p.threads t)) (λ s. advance p forward t s) (length (code_of p.threads t)) 0
-          (start_of p.threads t) (given_to k t) (omega arith) (whole t) in
-          let all : plays t (given_to k t ++ rest) ≡ spare (plays t (given_to k t)) rest =
-          at_end (action p.threads t) (fenced_gaps mode t) (length (code_of p.threads t)) 0 (start_of p.threads t) (given_to k t) rest ends in
-          let left : (plays t (c.given t)).unused ≡ (plays t (given_to k t)).unused ++ rest = subst (λ g. (plays t g).unused ≡ (plays t (given_to k t)).unused ++ rest) q (ap (λ (z : Trace). z.unused) all) in
-          let none : rest ≡ [] = sym (ap (λ z. z ++ rest) (fits.used t)) ∙ (sym left ∙ (is.whole t).1) in
-          sym q ∙ (ap (λ z. given_to k t ++ z) none ∙ append-nil (given_to k t))
+      same_given t = given_whole t (whole t)
 
       pub all_given : c.given ≡ given_to k
       all_given = fun_ext same_given

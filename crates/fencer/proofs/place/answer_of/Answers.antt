@@ -4,5 +4,5 @@ use Rattle.fencer.proofs.place.answer_of.Goals as goal
 
 pub returns-clause-placed : goal.returns-clause-placed
 returns-clause-placed g c =
-    delivered_texts c.args.texts.now.litmus.items (option_map (λ text. text.items) c.args.texts.now.costs) c.args.asked.now.observed c.args.asked.now.check c.args.asked.now.json c.in_ok-placed.placed c.joined.result
+    delivered_texts c.args.texts.now.litmus.items (option_map (λ text. text.items) c.args.texts.now.costs) c.args.asked.now.kind c.args.asked.now.check c.args.asked.now.json c.in_ok-placed.placed c.joined.result
     (rw (c.deref.ensures.value, c.as_deref-costs.ensures.value) at c.in_ok-placed.ensures.placed) c.joined.ensures.answer

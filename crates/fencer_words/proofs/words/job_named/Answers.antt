@@ -1,13 +1,13 @@
-use Rattle.std.proofs.Common.{◌≡◌, ◌⊎◌, IfNone, IfSome, Option, map, subst}
+use Rattle.std.proofs.Common.{◌≡◌, ◌⊎◌, IfNone, IfSome, Option, inr, map, subst}
 use Rattle.std.specs.Prelude.{string_bytes}
 use Rattle.clap.specs.Words.{app_of, kind_of}
 use Rattle.clap.specs.declared.error.Error.{Error}
 use Rattle.clap.specs.declared.error.kind.ErrorKind.TheVariants.{OutOfMemory}
 use Rattle.clap.proofs.TakesLemmas.{passed_up}
 use Rattle.fencer_words.specs.CommandLines.{IsNoCommand}
-use Rattle.fencer_words.specs.Commands.{IsJobMet, MeetsNoCommand}
+use Rattle.fencer_words.specs.Commands.{IsJobMet, MeetsNoJob}
 use Rattle.fencer_words.specs.declared.job.Job.{Job}
-use Rattle.fencer_words.proofs.Faultless.{no_command, no_fault, reads, meets_one}
+use Rattle.fencer_words.proofs.Faultless.{no_command, no_fault, reads, met_twice}
 use Rattle.fencer_words.proofs.words.job_named.Goals as goal
 
 pub returns-in_err-matches-clause-refused : goal.returns-in_err-matches-clause-refused
@@ -30,6 +30,7 @@ returns-in-Some-clause-job c =
       rows = job.rows;
       no_fault = none;
       read = reads app made.models words c.in_ok-matches.matches made.built.shape none c.in_ok-matches.ensures.matches job.name job.rows job.met;
+      once = job.once;
       asked = job.asked;
     }
 
@@ -39,4 +40,6 @@ returns-clause-refused c =
     let words = map string_bytes c.args.words.now in
     let app = app_of c.in_ok-command.field-0 in
     let none = no_fault app made.models words made.built.shape c.in_ok-matches.ensures.kinds in
-    absurd (meets_one app made.models words c.in_ok-matches.matches made.built.shape none c.in_ok-matches.ensures.matches (subst (λ (o : Option Job). IfNone o (MeetsNoCommand c.in_ok-matches.matches)) c.in-None.is c.in_ok-job.ensures.none))
+    let is_none = met_twice app made.models words c.in_ok-matches.matches made.built.shape none c.in_ok-matches.ensures.matches made.are_models
+    (subst (λ (o : Option Job). IfNone o (MeetsNoJob c.in_ok-matches.matches)) c.in-None.is c.in_ok-job.ensures.none) in
+    inr is_none

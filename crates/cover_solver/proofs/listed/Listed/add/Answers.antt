@@ -1,4 +1,4 @@
-use Rattle.std.proofs.Common.{Contains, IfSome, sym, subst}
+use Rattle.std.proofs.Common.{IfSome, sym, subst}
 use Rattle.std.specs.Option.{IsSomeAnd}
 use Rattle.tso_program.specs.Shown.{asked}
 use Rattle.tso_machine.specs.Modes.{machine_of_mode}
@@ -26,7 +26,7 @@ returns-in_ok-add-clause-own c same =
     let outcomes = c.add.new.self.listed.items in
     let outcome = c.in-Some.run'.outcome in
     let made = subst (λ found. IsSomeAnd found (IsShownRunOf c.args.sketch.now c.args.shown.now)) c.in-Some.is (c.in_ok-run.ensures.own same) in
-    (outcome, made.must_end, subst (Contains outcomes) (sym made.as_shown) (numbered_is_listed outcomes c.in_ok-add.field-0 outcome c.in_ok-add.ensures.number))
+    (outcome, made.must_end, numbered_is_listed outcomes c.in_ok-add.field-0 outcome c.in_ok-add.ensures.number)
 
 pub returns-in_default-2-clause-grows : goal.returns-in_default-2-clause-grows
 returns-in_default-2-clause-grows c =
