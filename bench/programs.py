@@ -1,4 +1,4 @@
-"""Litmus tests for measurements: the classical ones, and tests drawn from a seed, of loads and stores alone or of every kind of instruction."""
+"""Litmus tests for measurements: the classical ones, and random ones from a seed, of loads and stores alone or of every kind of instruction."""
 REGISTERS = ("EAX", "EBX", "ECX", "EDX", "ESI", "EDI")
 JUMPS = ("JE", "JNE", "JNE", "JMP")
 
@@ -29,40 +29,40 @@ def numbers(seed):
 
 def mixed(seed, shape, locations):
     """Threads of so many loads and stores of 1 or 2, as the numbers of the seed have it."""
-    drawn = numbers(seed)
+    random = numbers(seed)
 
     def one(place):
-        location = locations[next(drawn) % len(locations)]
-        if next(drawn) % 2 == 0:
+        location = locations[next(random) % len(locations)]
+        if next(random) % 2 == 0:
             return f"MOV {REGISTERS[place % len(REGISTERS)]},[{location}]"
-        return f"MOV [{location}],${next(drawn) % 2 + 1}"
+        return f"MOV [{location}],${next(random) % 2 + 1}"
 
     return [[one(place) for place in range(shape[1])] for _ in range(shape[0])]
 
 
-def one_of(drawn, values):
-    return values[next(drawn) % len(values)]
+def one_of(random, values):
+    return values[next(random) % len(values)]
 
 
-def instruction(drawn, locations):
+def instruction(random, locations):
     """An instruction that is no jump: mostly a load or a store."""
-    register, other = one_of(drawn, REGISTERS), one_of(drawn, REGISTERS)
-    location, value = one_of(drawn, locations), one_of(drawn, "12")
+    register, other = one_of(random, REGISTERS), one_of(random, REGISTERS)
+    location, value = one_of(random, locations), one_of(random, "12")
     plain = [f"MOV {register},[{location}]", f"MOV [{location}],${value}"]
     others = [f"MOV [{location}],{register}", f"XCHG [{location}],{register}", f"CMP {register},${value}", f"CMP {register},{other}"]
-    return one_of(drawn, [*plain * 8, *others, f"MOV {register},${value}", f"MOV {register},{other}", "MFENCE"])
+    return one_of(random, [*plain * 8, *others, f"MOV {register},${value}", f"MOV {register},{other}", "MFENCE"])
 
 
-def thread(drawn, length, locations):
+def thread(random, length, locations):
     """So many instructions, where after each comparison a jump leads to a later place or to the thread's end."""
     cells, targets = [], set()
     for place in range(length):
         if cells and cells[-1].startswith("CMP"):
-            target = min(place + 1 + next(drawn) % 3, length)
+            target = min(place + 1 + next(random) % 3, length)
             targets.add(target)
-            cells.append(f"{one_of(drawn, JUMPS)} L{target}")
+            cells.append(f"{one_of(random, JUMPS)} L{target}")
         else:
-            cells.append(instruction(drawn, locations))
+            cells.append(instruction(random, locations))
     if length in targets:
         cells.append("")
     return [f"L{place}: {cell}".strip() if place in targets else cell for place, cell in enumerate(cells)]
@@ -70,9 +70,9 @@ def thread(drawn, length, locations):
 
 def varied(seed, shape, locations):
     """Threads of so many instructions of every kind, first values of some locations and registers, and the text of a cost file."""
-    drawn = numbers(seed)
-    threads = [thread(drawn, shape[1], locations) for _ in range(shape[0])]
+    random = numbers(seed)
+    threads = [thread(random, shape[1], locations) for _ in range(shape[0])]
     named = [*locations, *(f"{t}:{register}" for t in range(shape[0]) for register in REGISTERS)]
-    first = [f"{name}={one_of(drawn, '12')}" for name in named if next(drawn) % 8 == 0]
-    costs = [f"{t}:{place} {one_of(drawn, '11234')}\n" for t in range(shape[0]) for place in range(1, shape[1])]
+    first = [f"{name}={one_of(random, '12')}" for name in named if next(random) % 8 == 0]
+    costs = [f"{t}:{place} {one_of(random, '11234')}\n" for t in range(shape[0]) for place in range(1, shape[1])]
     return threads, first, "".join(costs)

@@ -8,6 +8,7 @@ import re
 EVENT = re.compile(r"Initial\((\d+)\)|Access\((\d+), (\d+)\)")
 ACCESS = re.compile(r"Some\(Access \{ section: \d+, location: (\d+), read: (\w+)(?:\(\d+\))?, written: (\w+)(?:\(\d+\))? \}\)")
 UNIONS = {"s": "Sequential", "l": "Location", "g": "Global"}
+AT_ONCE = 500
 RUN = re.compile(r"registers \[(.*)\]; memory \[(.*)\]")
 
 
@@ -147,6 +148,44 @@ def below(call, locations, words, script=()):
 def compare_tree(call, code, locations, tree, unions):
     """Compares what the sketches find that a cover tree of a certificate goes through with a plain search."""
     found_cycles(call, list(below(call, locations, iter(tree.split()))), accesses(code), unions)
+
+
+def partly_given(call, threads, locations):
+    """The scripts that give some of the reads a value, whichever thread's come first, and those that give each read one."""
+    asked = [f"next:{t}" for t in range(threads)] + [f"values:{location}" for location in range(locations)]
+    level, partly, whole = [()], [], []
+    while level:
+        after = {}
+        for script, told in zip(level, answers(call, level, [asked] * len(level))):
+            waiting = [(t, int(location[5:-1])) for t, location in enumerate(told[:threads]) if location != "None"]
+            (partly if waiting else whole).append(script)
+            for t, location in waiting:
+                for step in giving(t, told[threads + location]):
+                    # the values of one thread stand in their order, and it is one sketch whichever thread's come first
+                    after[tuple(sorted((*script, step), key=lambda it: it.split(":")[1]))] = None
+        level = list(after)
+    return partly, whole
+
+
+def each_sketch(call, code, locations):
+    """The scripts that choose anything: some values, or all and then some sources and orders, from the first on and from the last."""
+    partly, whole = partly_given(call, len(code), locations)
+    yield from partly
+    events = accesses(code)
+    asked = [f"access:{event}" for event in events] + [f"sources:{event}" for event in events]
+    for script, told in zip(whole, answers(call, whole, [asked] * len(whole))):
+        for picked in itertools.product(*([None, *steps] for steps in to_choose(events, told))):
+            chosen = [step for step in picked if step]
+            yield (*script, *chosen)
+            if len(chosen) > 1:
+                yield (*script, *reversed(chosen))
+
+
+def compare_each(call, code, locations, unions):
+    """Compares what every sketch finds with a plain search: each is one that some order of choices goes through."""
+    rest = each_sketch(call, code, locations)
+    while scripts := list(itertools.islice(rest, AT_ONCE)):
+        found_cycles(call, scripts, accesses(code), unions)
 
 
 def outcomes(call, code, locations, unions=""):

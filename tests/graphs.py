@@ -12,11 +12,11 @@ EDGE = re.compile(r'^ +run\d+_(\w+) -> run\d+_(\w+) \[label="(\w+)"(?:, constrai
 
 
 class Execution:
-    """The events of each thread in program order, what each node says, and the edges, each with its relation."""
+    """The events of each thread in program order, the number of each one's instruction, what each node says, and the edges, each with its relation."""
 
     def __init__(self, threads):
         self.threads = [[] for _ in range(threads)]
-        self.nodes, self.edges, self.after = {}, set(), {}
+        self.places, self.nodes, self.edges, self.after = {}, {}, set(), {}
 
     def reaches_memory(self, last, location, event):
         """An event is the next write of a location in memory."""
@@ -69,6 +69,7 @@ def execution(test, canonical, model, labels):
                 else:
                     found.reaches_memory(last, location, event)
             found.threads[t].append(event)
+            found.places[event] = before[0]
             found.nodes[event] = "\\n".join(said)
         threads, memory = machine.put(threads, t, after), later
     return found.finished(sources, initial)
@@ -96,6 +97,29 @@ def shortest(edges):
                 found.append(length)
                 break
     return min(found, default=0)
+
+
+def edge_over(execution, gap):
+    """The edge of program order that leads over a gap `t:k`; nothing where there is none."""
+    t, k = map(int, gap.split(":"))
+    for one, other in zip(execution.threads[t], execution.threads[t][1:]):
+        if execution.places[one] < k <= execution.places[other]:
+            return one, other
+    return None
+
+
+def steps_between(edges, start, end):
+    """How many edges a shortest path has; more than there are where there is none."""
+    reached, length = {start}, 0
+    while end not in reached and length <= len(edges):
+        reached, length = reached | {b for a, b, _ in edges if a in reached}, length + 1
+    return length
+
+
+def leads_over(red, execution, gap):
+    """Whether the red edges lead over a gap, or no shortest cycle does."""
+    over = edge_over(execution, gap)
+    return not over or over in red or 1 + steps_between(execution.edges, over[1], over[0]) > shortest(execution.edges)
 
 
 def is_cycle(edges):

@@ -7,7 +7,7 @@ use Rattle.tso_program.specs.declared.listing.Listing.{Listing}
 use Rattle.tso_program.specs.Listings.{action}
 use Rattle.tso_machine.specs.declared.label.Label.{Label}
 use Rattle.tso_machine.specs.declared.label.Label.TheVariants.{Exec, Flush}
-use Rattle.tso_machine.specs.Machine.{Mode, Sequential, Fenced, State, put, newest, found, step, start}
+use Rattle.tso_machine.specs.Machine.{Machine, SequentialMachine, StoreBufferMachine, State, put, newest, found, step, start}
 use Rattle.candidate_executions.specs.declared.access.Access.{Access}
 use Rattle.candidate_executions.specs.declared.event.Event.{Event}
 use Rattle.candidate_executions.specs.declared.event.Event.TheVariants.{Initial, Access as At}
@@ -90,25 +90,25 @@ direct_marks s o t (Write l v next) = Arrives (next_event o t) ∷ []
 direct_marks s o t (Swap l v to next) = Takes (next_event o t) (s.memory l) (o.memory l) ∷ Arrives (next_event o t) ∷ []
 
 -- one step of the machine
-abbrev pub origins_after : Listing → Mode → State → Origins → Label → Origins
-origins_after p Sequential s o (Exec t) = direct_origins o t (action p.threads t (s.locals t))
-origins_after p Sequential s o (Flush t) = o
-origins_after p (Fenced gaps) s o (Exec t) = buffered_origins o t (action p.threads t (s.locals t))
-origins_after p (Fenced gaps) s o (Flush t) = flushed_origins o t (o.waiting t)
+abbrev pub origins_after : Listing → Machine → State → Origins → Label → Origins
+origins_after p SequentialMachine s o (Exec t) = direct_origins o t (action p.threads t (s.locals t))
+origins_after p SequentialMachine s o (Flush t) = o
+origins_after p (StoreBufferMachine gaps) s o (Exec t) = buffered_origins o t (action p.threads t (s.locals t))
+origins_after p (StoreBufferMachine gaps) s o (Flush t) = flushed_origins o t (o.waiting t)
 
-abbrev pub marks_at : Listing → Mode → State → Origins → Label → List Mark
-marks_at p Sequential s o (Exec t) = direct_marks s o t (action p.threads t (s.locals t))
-marks_at p Sequential s o (Flush t) = []
-marks_at p (Fenced gaps) s o (Exec t) = buffered_marks s o t (action p.threads t (s.locals t))
-marks_at p (Fenced gaps) s o (Flush t) = flushed_marks (o.waiting t)
+abbrev pub marks_at : Listing → Machine → State → Origins → Label → List Mark
+marks_at p SequentialMachine s o (Exec t) = direct_marks s o t (action p.threads t (s.locals t))
+marks_at p SequentialMachine s o (Flush t) = []
+marks_at p (StoreBufferMachine gaps) s o (Exec t) = buffered_marks s o t (action p.threads t (s.locals t))
+marks_at p (StoreBufferMachine gaps) s o (Flush t) = flushed_marks (o.waiting t)
 
 -- what a run shows from a state on
-abbrev pub marks : Listing → Mode → State → Origins → List Label → List Mark
+abbrev pub marks : Listing → Machine → State → Origins → List Label → List Mark
 marks p mode s o [] = []
 marks p mode s o (l ∷ ls) = marks_at p mode s o l ++ option_map_or (λ next. marks p mode next (origins_after p mode s o l) ls) (step p mode s l) []
 
 -- what a run shows
-abbrev pub marks_of : Listing → Mode → List Label → List Mark
+abbrev pub marks_of : Listing → Machine → List Label → List Mark
 marks_of p mode labels = marks p mode (start p) first_origins labels
 
 -- e reads v
@@ -127,7 +127,7 @@ ArriveInOrder at c (Arrives d) (Takes e v f) = Unit {0}
 ArriveInOrder at c (Arrives d) (Arrives e) = (l v w : ℕ) → Writes at d l v → Writes at e l w → c.rank d < c.rank e
 
 -- the candidate is that of the run
-pub record IsCandidateOf (p : Listing) (mode : Mode) (labels : List Label) (c : Candidate) : Type 0 where
+pub record IsCandidateOf (p : Listing) (mode : Machine) (labels : List Label) (c : Candidate) : Type 0 where
   -- the run's reads are the candidate's: each takes its value, and finds it in its source
   pub takes : (e d : Event) (v : ℕ) → Contains (marks_of p mode labels) (Takes e v d) ↔ (ReadsValue (access p mode c) e v × (c.source e ≡ d))
   -- the writes that reach memory are the candidate's

@@ -17,7 +17,7 @@ use Rattle.tso_program.specs.Limits.{IsWithinLimits}
 use Rattle.tso_program.specs.Fences.{Gaps, gaps_in, fence, fenced_threads}
 use Rattle.tso_program.proofs.FencedPlaces.{same_count}
 use Rattle.tso_program.proofs.FencedLimits.{fencing_stays_within_limits}
-use Rattle.conditions.specs.Tree.{Tree, tree_map}
+use Rattle.tso_program.specs.Tree.{Tree, tree_map}
 use Rattle.conditions.specs.Grammar.{Spells, Sum}
 use Rattle.conditions.specs.Canonical.{enclosed_signs_of}
 use Rattle.litmus_syntax.specs.Views.{PlaceView, Location, Register, EntryView, CellView, BodyView, SignView, EndingView}
@@ -25,7 +25,7 @@ use Rattle.litmus_syntax.specs.Grammar.{NoneTwice, labels_in_rows as all_names}
 use Rattle.litmus_syntax.specs.Places.{same_place}
 use Rattle.litmus_reader.specs.declared.litmus.Litmus.{Litmus}
 use Rattle.litmus_lines.specs.FirstLine.{AreVisible}
-use Rattle.litmus_reader.specs.Names.{Names, all_registers, number_in}
+use Rattle.litmus_reader.specs.Names.{TextNames, all_registers, number_in}
 use Rattle.litmus_reader.specs.Places.{entry_place, row_places, sign_places, places, location_name, is_register, names_of, names_among}
 use Rattle.litmus_reader.specs.Outcomes.{is_named}
 use Rattle.litmus_reader.specs.declared.label.Label.{Label}
@@ -90,7 +90,7 @@ same_labels_count gaps t [] = refl
 same_labels_count gaps t (ls ∷ labels) = ap suc (same_labels_count gaps (t + 1) labels)
 
 module _ (b : BodyView) (e : EndingView) (f : Tree Said) (text : IsGoodText b e f) (gaps : Gaps) where
-  abbrev names : Names
+  abbrev names : TextNames
   names = names_of b e
 
   abbrev locations : List (List ℕ)
@@ -365,10 +365,10 @@ canonical_is_read text litmus is gaps =
     let same : litmus ≡ own =
     λ i. record {
       name = litmus.name;
-      program = (means.program ∙ ap (λ (n : Names). listing_of n.locations means.body) means.names) i;
+      program = (means.program ∙ ap (λ (n : TextNames). listing_of n.locations means.body) means.names) i;
       names = means.names i;
-      condition = (means.condition ∙ ap (λ (n : Names). condition_of (number_in n.locations) means.ending.quantifier means.formula) means.names) i;
-      observed = (means.observed ∙ ap (λ (n : Names). map (observed_of (number_in n.locations)) means.ending.observed) means.names) i;
+      condition = (means.condition ∙ ap (λ (n : TextNames). condition_of (number_in n.locations) means.ending.quantifier means.formula) means.names) i;
+      observed = (means.observed ∙ ap (λ (n : TextNames). map (observed_of (number_in n.locations)) means.ending.observed) means.names) i;
       labels = means.labels i;
     } in
     let limits : IsWithinLimits own.program.threads own.program.memory = subst (λ (l : Litmus Listing). IsWithinLimits l.program.threads l.program.memory) same is.1 in

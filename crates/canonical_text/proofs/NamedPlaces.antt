@@ -18,7 +18,7 @@ use Rattle.litmus_syntax.specs.Views.{PlaceView, Location, Register, EntryView}
 use Rattle.litmus_syntax.specs.Grammar.{IsNoneOf, NoneTwice, place_of_entry}
 use Rattle.litmus_syntax.specs.Places.{same_place}
 use Rattle.litmus_syntax.proofs.SeenLaws.{same_place_is}
-use Rattle.litmus_reader.specs.Names.{Names, all_registers}
+use Rattle.litmus_reader.specs.Names.{TextNames, all_registers}
 use Rattle.litmus_reader.specs.Places.{location_name, is_register}
 use Rattle.litmus_reader.specs.Outcomes.{is_named}
 use Rattle.litmus_reader.specs.Meaning.{first_value}
@@ -89,7 +89,7 @@ one_entry : (held : PlaceView → ℕ) (p : PlaceView) (n : ℕ) (b : Bool) → 
 one_entry held p n true e = ap (λ (m : ℕ). record { place = p; value = m } ∷ []) e
 one_entry held p n false e = refl
 
-register_entries_are : (held : PlaceView → ℕ) (names : Names) (t : ℕ) (values : List ℕ) → values ≡ map (λ r. held (Register t r)) all_registers → (rs : List Reg)
+register_entries_are : (held : PlaceView → ℕ) (names : TextNames) (t : ℕ) (values : List ℕ) → values ≡ map (λ r. held (Register t r)) all_registers → (rs : List Reg)
     → flat_map (named_entry names t values) rs ≡ map (entry_at held) (flat_map (picked (is_named names) t) rs)
 register_entries_are held names t values e [] = refl
 register_entries_are held names t values e (r ∷ rs) =
@@ -99,7 +99,7 @@ register_entries_are held names t values e (r ∷ rs) =
     ∙ ap (λ (es : List EntryView). map (entry_at held) (picked (is_named names) t r) ++ es) (register_entries_are held names t values e rs)
     ∙ sym (map-append (entry_at held) (picked (is_named names) t r) (flat_map (picked (is_named names) t) rs))
 
-threads_entries_are : (held : PlaceView → ℕ) (names : Names) (t : ℕ) (threads : List Thread) → RegistersAre held t threads
+threads_entries_are : (held : PlaceView → ℕ) (names : TextNames) (t : ℕ) (threads : List Thread) → RegistersAre held t threads
     → register_entries names t threads ≡ map (entry_at held) (threads_places (is_named names) t (length threads))
 threads_entries_are held names t [] h = refl
 threads_entries_are held names t (thread ∷ threads) h =
@@ -110,7 +110,7 @@ threads_entries_are held names t (thread ∷ threads) h =
     ∙ sym (map-append (entry_at held) here rest)
 
 -- the canonical entries are those of the named places
-pub entries_are : (held : PlaceView → ℕ) (names : Names) (memory : List ℕ) (threads : List Thread) → memory ≡ map (λ x. held (Location x)) names.locations → RegistersAre held 0 threads
+pub entries_are : (held : PlaceView → ℕ) (names : TextNames) (memory : List ℕ) (threads : List Thread) → memory ≡ map (λ x. held (Location x)) names.locations → RegistersAre held 0 threads
     → location_entries names.locations memory ++ register_entries names 0 threads ≡ map (entry_at held) (named_places names.locations (is_named names) (length threads))
 entries_are held names memory threads e h =
     ap (λ (m : List ℕ). location_entries names.locations m ++ register_entries names 0 threads) e

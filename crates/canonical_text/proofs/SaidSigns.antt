@@ -3,8 +3,8 @@ use Rattle.std.proofs.Common.{◌≡◌, ℕ, false, List, [], ◌∷◌, ◌++�
 use Rattle.std.specs.List.{AllByRecursion, IsDistinct, flat_map}
 use Rattle.std.specs.Str.{bytes_eq}
 use Rattle.std.proofs.lemmas.List.{append-nil}
-use Rattle.conditions.specs.Tree.{Tree, tree_map}
-use Rattle.conditions.specs.Tree as tree
+use Rattle.tso_program.specs.Tree.{Tree, tree_map}
+use Rattle.tso_program.specs.Tree as tree
 use Rattle.conditions.specs.Grammar.{Sign, sign_map, Class, Sum, Spells, atom, const, negation, parens, operand, conjunction, term, disjunction}
 use Rattle.conditions.specs.Grammar as sign
 use Rattle.conditions.specs.Canonical.{signs_of, enclosed_signs_of}

@@ -12,7 +12,7 @@ use Rattle.conditions.specs.declared.condition.Quantifier.{Quantifier}
 use Rattle.litmus_syntax.specs.Views.{PlaceView, EntryView, CodeView, SignView}
 use Rattle.text_tokens.proofs.PieceLaws.{text_of-append}
 use Rattle.tso_program.specs.declared.listing.Thread.{Thread}
-use Rattle.litmus_reader.specs.Names.{Names}
+use Rattle.litmus_reader.specs.Names.{TextNames}
 use Rattle.canonical_text.specs.Spelling.{space, line_end, sign, next, joined_by, gap, code_pieces, label_pieces, cell_pieces, observed_place_pieces, observed_pieces, entry_pieces, initial_pieces, sign_pieces, quantifier_pieces, condition_pieces}
 use Rattle.canonical_text.specs.Canonical.{thread_entries, register_entries}
 
@@ -114,7 +114,7 @@ module _ (between : List Piece) where
 -- ---- registers
 
 -- one thread more
-pub thread_more : (names : Names) (threads : List Thread) (t : ℕ) (d : Thread) → t < length threads
+pub thread_more : (names : TextNames) (threads : List Thread) (t : ℕ) (d : Thread) → t < length threads
     → text_of (flat_map entry_pieces (thread_entries names t (get_or threads t d).registers)) ++ text_of (flat_map entry_pieces (register_entries names (t + 1) (drop (t + 1) threads)))
     ≡ text_of (flat_map entry_pieces (register_entries names t (drop t threads)))
 thread_more names threads t d lt =

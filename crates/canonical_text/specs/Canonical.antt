@@ -10,10 +10,10 @@ use Rattle.tso_program.specs.declared.listing.Listing.{Listing}
 use Rattle.tso_program.specs.Instructions.{number}
 use Rattle.tso_program.specs.Listings.{instr_at}
 use Rattle.tso_program.specs.Fences.{Gaps, gaps_in, place_of, fence}
-use Rattle.conditions.specs.declared.atom.Atom.{Atom}
-use Rattle.conditions.specs.declared.atom.Atom.TheVariants as atom
+use Rattle.tso_program.specs.declared.atom.Atom.{Atom}
+use Rattle.tso_program.specs.declared.atom.Atom.TheVariants as atom
 use Rattle.conditions.specs.declared.condition.Condition.{Condition}
-use Rattle.conditions.specs.Tree.{Tree}
+use Rattle.tso_program.specs.Tree.{Tree}
 use Rattle.conditions.specs.Grammar.{Sign}
 use Rattle.conditions.specs.Grammar as sign
 use Rattle.conditions.specs.Canonical.{enclosed_signs_of}
@@ -23,7 +23,7 @@ use Rattle.litmus_reader.specs.declared.label.Label.{Label}
 use Rattle.litmus_reader.specs.declared.observed.Observed.{Observed}
 use Rattle.litmus_reader.specs.declared.observed.Observed.TheVariants as observed
 use Rattle.litmus_reader.specs.declared.litmus.Litmus.{Litmus}
-use Rattle.litmus_reader.specs.Names.{Names, all_registers}
+use Rattle.litmus_reader.specs.Names.{TextNames, all_registers}
 use Rattle.litmus_reader.specs.Outcomes.{is_named}
 use Rattle.canonical_text.specs.Spelling.{text_with}
 
@@ -42,19 +42,19 @@ abbrev pub location_entries : List (List ℕ) → List ℕ → List EntryView
 location_entries names memory = map (location_entry names memory) (range_with_len 0 (length memory))
 
 -- a register of thread t with its initial value, where it is named
-abbrev pub named_entry : Names → ℕ → List ℕ → Reg → List EntryView
+abbrev pub named_entry : TextNames → ℕ → List ℕ → Reg → List EntryView
 named_entry names t values r = if is_named names t r then record { place = Register t r; value = slice_index values (number r) } ∷ [] else []
 
 -- the named registers of thread t, in order
-abbrev pub thread_entries : Names → ℕ → List ℕ → List EntryView
+abbrev pub thread_entries : TextNames → ℕ → List ℕ → List EntryView
 thread_entries names t values = flat_map (named_entry names t values) all_registers
 
 -- the named registers of the threads from thread t on
-abbrev pub register_entries : Names → ℕ → List Thread → List EntryView
+abbrev pub register_entries : TextNames → ℕ → List Thread → List EntryView
 register_entries names t [] = []
 register_entries names t (thread ∷ threads) = thread_entries names t thread.registers ++ register_entries names (t + 1) threads
 
-abbrev pub entries_of : Names → Listing → List EntryView
+abbrev pub entries_of : TextNames → Listing → List EntryView
 entries_of names p = location_entries names.locations p.memory ++ register_entries names 0 p.threads
 
 -- ---- labels
@@ -115,7 +115,7 @@ most_cells labels t (thread ∷ threads) = max (cell_count (own_labels labels t)
 abbrev pub rows_of : List (List ℕ) → List (List Label) → List Thread → List (List CellView)
 rows_of names labels threads = map (row_of names labels threads) (range_with_len 0 (most_cells labels 0 threads))
 
-abbrev pub body_of : Names → List (List Label) → Listing → BodyView
+abbrev pub body_of : TextNames → List (List Label) → Listing → BodyView
 body_of names labels p = record { entries = entries_of names p; threads = length p.threads; rows = rows_of names.locations labels p.threads }
 
 -- ---- what is observed

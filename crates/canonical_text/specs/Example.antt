@@ -6,11 +6,11 @@ use Rattle.tso_program.specs.declared.instruction.Instr.TheVariants.{StoreImm, L
 use Rattle.tso_program.specs.declared.listing.Thread.{Thread}
 use Rattle.tso_program.specs.declared.listing.Listing.{Listing}
 use Rattle.tso_program.specs.Fences.{fence}
-use Rattle.conditions.specs.declared.atom.Atom.TheVariants as atom
+use Rattle.tso_program.specs.declared.atom.Atom.TheVariants as atom
 use Rattle.conditions.specs.declared.condition.Quantifier.TheVariants.{Exists}
-use Rattle.conditions.specs.Tree as tree
+use Rattle.tso_program.specs.Tree as tree
 use Rattle.litmus_reader.specs.declared.litmus.Litmus.{Litmus}
-use Rattle.litmus_reader.specs.Names.{Names}
+use Rattle.litmus_reader.specs.Names.{TextNames}
 use Rattle.canonical_text.specs.Canonical.{canonical_text}
 
 -- a thread whose registers are 0 at first
@@ -25,7 +25,7 @@ program = record { threads = thread (StoreImm 0 1 ∷ Load Eax 1 ∷ []) ∷ thr
 abbrev pub eax : List Bool
 eax = true ∷ false ∷ false ∷ false ∷ false ∷ false ∷ []
 
-abbrev pub names : Names
+abbrev pub names : TextNames
 names = record { locations = codes "x" ∷ codes "y" ∷ []; registers = eax ∷ eax ∷ [] }
 
 -- with an MFENCE in each gap

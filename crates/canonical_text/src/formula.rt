@@ -7,7 +7,7 @@ ghost use Rattle.canonical_text.specs.Spelling.{sign_pieces, quantifier_pieces, 
 ghost use Rattle.canonical_text.specs.Canonical.{atom_named, sign_named, signs_named};
 
 use crate::words::{push_location_value, push_register_value};
-use conditions::{Atom, Condition, Quantifier, Token};
+use conditions::{Atom, Condition, Quantifier, Token, enclosed_tokens};
 use litmus_reader::{NameTable, location_name};
 use std::alloc::{AllocError, Global};
 
@@ -71,7 +71,7 @@ pub fn push_condition(
     ensures { OnOk result (out.new.items ≡ out.old.items
         ++ text_of (condition_pieces condition.now.quantifier (signs_named names.now.locations condition.now.formula))) }
 {
-    let signs = condition.formula.enclosed_tokens(alloc)?;
+    let signs = enclosed_tokens(alloc, &condition.formula)?;
     push_quantifier(out, condition.quantifier)?;
     out.push(b' ')?;
     push_signs(out, names, signs.as_slice())?;

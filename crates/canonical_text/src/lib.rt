@@ -12,5 +12,6 @@ mod words;
 mod writer;
 
 pub use code::push_code;
+pub use formula::push_condition;
 pub use laws::{canonical_text_is_read, printed_parts_are_read, store_buffering_is_written};
 pub use writer::write_litmus;

@@ -5,7 +5,7 @@ use Rattle.gap_sets.specs.Regions.{all_sets}
 use Rattle.tso_program.specs.Shown.{Question}
 use Rattle.tso_program.specs.declared.outcome.Outcome.{Outcome}
 use Rattle.tso_machine.specs.declared.label.Label.{Label}
-use Rattle.tso_machine.specs.Machine.{Fenced, no_gaps}
+use Rattle.tso_machine.specs.Machine.{StoreBufferMachine, no_gaps}
 use Rattle.tso_machine.specs.Outcomes.{IsShownRun}
 use Rattle.tree_laws.specs.GapTrees.{IsValidGap}
 use Rattle.cert_forest.specs.Certificates.{Certificate}
@@ -17,7 +17,7 @@ use Rattle.cert_check.proofs.FirstFaults.{one_outcome}
 
 module _ (q : Question) (list : List Outcome) where
   abbrev AreShownRuns : List (List Label) → List Outcome → Type 0
-  AreShownRuns runs outcomes = AllZip (IsShownRun q (Fenced no_gaps)) runs outcomes
+  AreShownRuns runs outcomes = AllZip (IsShownRun q (StoreBufferMachine no_gaps)) runs outcomes
 
   -- runs whose outcomes are not in the list
   pub each_outside : (runs : List (List Label)) (outcomes : List Outcome) → AreShownRuns runs outcomes → All (IsOutside list) outcomes → All (IsRunOutside q list) runs
@@ -37,11 +37,11 @@ module _ (q : Question) (list : List Outcome) where
   pub first_not_foreign : (runs : List (List Label)) (outcomes : List Outcome) (n : ℕ) → AreShownRuns runs outcomes → IsFirstWithout (IsOutside list) outcomes n →
       IsFirstWithout (IsRunOutside q list) runs n
   first_not_foreign runs outcomes n each first =
-      let (labels, there, is) = labels_at (IsShownRun q (Fenced no_gaps)) runs outcomes n first.value each first.there in
+      let (labels, there, is) = labels_at (IsShownRun q (StoreBufferMachine no_gaps)) runs outcomes n first.value each first.there in
       record {
         value = labels;
         there = there;
-        without = λ (o, is_run, outside). first.without (subst (λ x. Contains list x → ⊥) (one_outcome q (Fenced no_gaps) labels o first.value is_run is) outside);
+        without = λ (o, is_run, outside). first.without (subst (λ x. Contains list x → ⊥) (one_outcome q (StoreBufferMachine no_gaps) labels o first.value is_run is) outside);
         before = each_outside (take n runs) (take n outcomes) (first_ones n runs outcomes each) first.before;
       }
 

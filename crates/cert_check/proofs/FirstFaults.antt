@@ -8,7 +8,7 @@ use Rattle.tso_program.specs.declared.listing.Listing.{Listing}
 use Rattle.tso_program.specs.declared.outcome.Outcome.{Outcome}
 use Rattle.tso_program.specs.Shown.{Question, show}
 use Rattle.tso_machine.specs.declared.label.Label.{Label}
-use Rattle.tso_machine.specs.Machine.{Mode, Sequential, Fenced, no_gaps, outcome_at}
+use Rattle.tso_machine.specs.Machine.{Machine, SequentialMachine, StoreBufferMachine, no_gaps, outcome_at}
 use Rattle.tso_machine.specs.Outcomes.{IsShownRun}
 use Rattle.cert_forest.specs.Trees.{Gap, Split, Bound, GapTrees, NoGap, MoreGaps}
 use Rattle.cert_forest.specs.Texts.{count_gaps}
@@ -27,7 +27,7 @@ use Rattle.cert_check.specs.Laws.{ValidCertificatesHaveNoFault}
 use Rattle.cert_check.proofs.Replayed.{zip_left, of_shown}
 
 -- a run has one outcome, and one is shown
-pub one_outcome : (q : Question) (mode : Mode) (labels : List Label) (o x : Outcome) → IsShownRun q mode labels o → IsShownRun q mode labels x → o ≡ x
+pub one_outcome : (q : Question) (mode : Machine) (labels : List Label) (o x : Outcome) → IsShownRun q mode labels o → IsShownRun q mode labels x → o ≡ x
 one_outcome q mode labels o x (whole, (last, runs, ended, at), shown) (other, (end, runs_too, ended_too, at_too), shown_too) =
     let same : whole ≡ other = at ∙ ap (outcome_at q.program) (same_Some last end (sym runs ∙ runs_too)) ∙ sym at_too in
     shown ∙ ap (show q.shown) same ∙ sym shown_too
@@ -40,13 +40,13 @@ one_list q [] (o ∷ os) xs left right = absurd left
 one_list q (run ∷ runs) [] xs left right = absurd left
 one_list q (run ∷ runs) (o ∷ os) [] left right = absurd right
 one_list q (run ∷ runs) (o ∷ os) (x ∷ xs) left right =
-    let first = one_outcome q Sequential run o x left.0 right.0 in
+    let first = one_outcome q SequentialMachine run o x left.0 right.0 in
     let rest = one_list q runs os xs left.1 right.1 in
     λ i. first i ∷ rest i
 
 -- runs outside a list are runs
-pub foreign_are_runs : (q : Question) (list : List Outcome) (runs : List (List Label)) → All (IsRunOutside q list) runs → All (IsRunOf q.program (Fenced no_gaps)) runs
-foreign_are_runs q list runs foreign k d h = (let (o, is_run, outside) = foreign k d h in of_shown q (Fenced no_gaps) _ o is_run)
+pub foreign_are_runs : (q : Question) (list : List Outcome) (runs : List (List Label)) → All (IsRunOutside q list) runs → All (IsRunOf q.program (StoreBufferMachine no_gaps)) runs
+foreign_are_runs q list runs foreign k d h = (let (o, is_run, outside) = foreign k d h in of_shown q (StoreBufferMachine no_gaps) _ o is_run)
 
 -- a value that has not the property contradicts that each has it
 pub none_without : {A : Type 0} (P : A → Type 0) (xs : List A) (n : ℕ) → All P xs → IsFirstWithout P xs n → ⊥
@@ -92,11 +92,11 @@ module _ (q : Question) (costs : List ℕ) (c : Certificate) (valid : IsValidCer
   no_fault fault.Set wrong = absurd (wrong.1 valid.of_program)
   no_fault fault.Cost wrong = absurd (wrong.2 (valid.one_cost_each, valid.cost))
   no_fault (fault.SequentialRun n) wrong =
-      absurd (none_without (IsRunOf p Sequential) c.seq_runs n (zip_left (IsShownRun q Sequential) (IsRunOf p Sequential) (of_shown q Sequential) c.seq_runs valid.outcomes valid.replayed) wrong.1)
+      absurd (none_without (IsRunOf p SequentialMachine) c.seq_runs n (zip_left (IsShownRun q SequentialMachine) (IsRunOf p SequentialMachine) (of_shown q SequentialMachine) c.seq_runs valid.outcomes valid.replayed) wrong.1)
   no_fault (fault.SequentialTree path) (outcomes, has, wrong) =
-      absurd (valid_is_not_wrong q Sequential outcomes c.seq_tree _ path
-      (subst (λ os. IsValidCover q Sequential os c.seq_tree _) (same_list outcomes has.replayed) valid.sequential) wrong)
-  no_fault (fault.Run n) (outcomes, has, wrong) = absurd (none_without (IsRunOf p (Fenced no_gaps)) c.runs n (foreign_are_runs q valid.outcomes c.runs valid.foreign) wrong)
+      absurd (valid_is_not_wrong q SequentialMachine outcomes c.seq_tree _ path
+      (subst (λ os. IsValidCover q SequentialMachine os c.seq_tree _) (same_list outcomes has.replayed) valid.sequential) wrong)
+  no_fault (fault.Run n) (outcomes, has, wrong) = absurd (none_without (IsRunOf p (StoreBufferMachine no_gaps)) c.runs n (foreign_are_runs q valid.outcomes c.runs valid.foreign) wrong)
   no_fault (fault.NotForeign n) (outcomes, has, wrong) =
       absurd (none_without (IsRunOutside q outcomes) c.runs n
       (subst (λ os. All (IsRunOutside q os) c.runs) (same_list outcomes has.complete.listed.replayed) valid.foreign) wrong)

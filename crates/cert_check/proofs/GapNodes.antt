@@ -9,7 +9,7 @@ use Rattle.gap_sets.specs.Order.{Better}
 use Rattle.gap_sets.specs.declared.region.Region.{Region}
 use Rattle.tso_program.specs.declared.listing.Listing.{Listing}
 use Rattle.tso_machine.specs.declared.label.Label.{Label}
-use Rattle.tso_machine.specs.Machine.{Fenced, no_gaps}
+use Rattle.tso_machine.specs.Machine.{StoreBufferMachine, no_gaps}
 use Rattle.tso_machine.specs.Modes.{ArePassed}
 use Rattle.cert_forest.specs.Trees.{Gap, Split, Bound, gap_trees_of}
 use Rattle.cert_forest.proofs.TreeTexts.{gaps_count}
@@ -41,11 +41,11 @@ nothing_at R (run ∷ runs) (x ∷ xs) (suc n) labels each e h = nothing_at R ru
 module _ (p : Listing) (runs : List (List Label)) (passed : List SetOfGaps) (region : Region) (n : ℕ) (each : HavePassed p runs passed) where
   -- no such run
   pub not_there : slice_get passed n ≡ None → (count : ℕ) → HasNoSplit p runs region n count
-  not_there none count gaps split e = nothing_at (ArePassed p (Fenced no_gaps)) runs passed n split.labels each none split.is_run
+  not_there none count gaps split e = nothing_at (ArePassed p (StoreBufferMachine no_gaps)) runs passed n split.labels each none split.is_run
 
   module _ (these : SetOfGaps) (there : slice_get passed n ≡ Some these) where
-    run : (labels : List Label) × (slice_get runs n ≡ Some labels) × ArePassed p (Fenced no_gaps) labels these
-    run = labels_at (ArePassed p (Fenced no_gaps)) runs passed n these each there
+    run : (labels : List Label) × (slice_get runs n ≡ Some labels) × ArePassed p (StoreBufferMachine no_gaps) labels these
+    run = labels_at (ArePassed p (StoreBufferMachine no_gaps)) runs passed n these each there
 
     same_labels : (gaps : List ℕ) (split : IsSplitBy p runs region n gaps) → run.0 ≡ split.labels
     same_labels gaps split = same_Some run.0 split.labels (sym run.1 ∙ split.is_run)

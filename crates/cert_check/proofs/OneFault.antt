@@ -11,12 +11,13 @@ use Rattle.tso_program.specs.declared.outcome.Outcome.{Outcome}
 use Rattle.tso_program.specs.Fences.{gaps_in}
 use Rattle.tso_program.specs.Shown.{Question}
 use Rattle.tso_machine.specs.declared.label.Label.{Label}
-use Rattle.tso_machine.specs.Machine.{Mode, Sequential, Fenced, no_gaps}
+use Rattle.tso_machine.specs.Machine.{Machine, SequentialMachine, StoreBufferMachine, no_gaps}
 use Rattle.tso_machine.specs.Outcomes.{IsShownRun, AreGapsOf}
 use Rattle.candidate_executions.specs.Sketches.{empty_sketch}
 use Rattle.cert_forest.specs.Trees.{Cover, Gap, Split, Bound, GapTrees, NoGap, MoreGaps}
 use Rattle.tree_laws.specs.CoverTrees.{IsValidCover}
 use Rattle.cert_forest.specs.Certificates.{Certificate}
+use Rattle.cert_forest.specs.Shows.{shows_of}
 use Rattle.tree_laws.specs.Certificates.{AreSequentialRuns, IsRunOutside}
 use Rattle.tree_laws.proofs.OneList.{one_list_of_gaps}
 use Rattle.cert_check.specs.declared.fault.CheckFault.{CheckFault}
@@ -98,18 +99,18 @@ module _ (q : Question) (costs : List ℕ) (c : Certificate) where
       (outcomes, has, subst Q (one_list q c.seq_runs others outcomes replayed_too replayed) has_too)
 
   -- the first wrong node of a cover tree, and a valid one
-  abbrev WrongCover : Mode → Cover → List ℕ → Type 0
+  abbrev WrongCover : Machine → Cover → List ℕ → Type 0
   WrongCover mode tree path = OutcomesHave (λ outcomes. FirstWrongCover q mode outcomes tree (empty_sketch q.program) path)
 
-  abbrev RightCover : Mode → Cover → Type 0
+  abbrev RightCover : Machine → Cover → Type 0
   RightCover mode tree = OutcomesHave (λ outcomes. IsValidCover q mode outcomes tree (empty_sketch q.program))
 
-  one_path : (mode : Mode) (tree : Cover) (path other : List ℕ) → WrongCover mode tree path → WrongCover mode tree other → path ≡ other
+  one_path : (mode : Machine) (tree : Cover) (path other : List ℕ) → WrongCover mode tree path → WrongCover mode tree other → path ≡ other
   one_path mode tree path other wrong also =
       let (outcomes, left, right) = have_both (λ os. FirstWrongCover q mode os tree (empty_sketch q.program) path) (λ os. FirstWrongCover q mode os tree (empty_sketch q.program) other) wrong also in
       one_wrong_node q mode outcomes tree (empty_sketch q.program) path other left right
 
-  not_wrong : (mode : Mode) (tree : Cover) (path : List ℕ) → WrongCover mode tree path → RightCover mode tree → ⊥
+  not_wrong : (mode : Machine) (tree : Cover) (path : List ℕ) → WrongCover mode tree path → RightCover mode tree → ⊥
   not_wrong mode tree path wrong valid =
       let (outcomes, left, right) = have_both (λ os. FirstWrongCover q mode os tree (empty_sketch q.program) path) (λ os. IsValidCover q mode os tree (empty_sketch q.program)) wrong valid in
       valid_is_not_wrong q mode outcomes tree (empty_sketch q.program) path right left
@@ -136,19 +137,19 @@ module _ (q : Question) (costs : List ℕ) (c : Certificate) where
   OfGaps why = OfPart (List ℕ) fault.GapTree (gaps.FirstWrongGap p costs c.gaps c.runs c.gap_tree all_sets) ⊥ (λ why. ⊥) why
 
   abbrev OfFenced : CheckFault → Type 0
-  OfFenced why = OfPart (List ℕ) fault.FencedTree (WrongCover (Fenced (gaps_in p c.gaps)) c.fenced_tree) (RightCover (Fenced (gaps_in p c.gaps)) c.fenced_tree) OfGaps why
+  OfFenced why = OfPart (List ℕ) fault.FencedTree (WrongCover (StoreBufferMachine (gaps_in p c.gaps)) c.fenced_tree) (RightCover (StoreBufferMachine (gaps_in p c.gaps)) c.fenced_tree) OfGaps why
 
   abbrev OfForeign : CheckFault → Type 0
   OfForeign why = OfPart ℕ fault.NotForeign NotForeign AreForeign OfFenced why
 
   abbrev OfRuns : CheckFault → Type 0
-  OfRuns why = OfPart ℕ fault.Run (IsFirstWithout (IsRunOf p (Fenced no_gaps)) c.runs) (All (IsRunOf p (Fenced no_gaps)) c.runs) OfForeign why
+  OfRuns why = OfPart ℕ fault.Run (IsFirstWithout (IsRunOf p (StoreBufferMachine no_gaps)) c.runs) (All (IsRunOf p (StoreBufferMachine no_gaps)) c.runs) OfForeign why
 
   abbrev OfTree : CheckFault → Type 0
-  OfTree why = OfPart (List ℕ) fault.SequentialTree (WrongCover Sequential c.seq_tree) (RightCover Sequential c.seq_tree) OfRuns why
+  OfTree why = OfPart (List ℕ) fault.SequentialTree (WrongCover SequentialMachine c.seq_tree) (RightCover SequentialMachine c.seq_tree) OfRuns why
 
   abbrev OfSequential : CheckFault → Type 0
-  OfSequential why = OfPart ℕ fault.SequentialRun (IsFirstWithout (IsRunOf p Sequential) c.seq_runs) (All (IsRunOf p Sequential) c.seq_runs) OfTree why
+  OfSequential why = OfPart ℕ fault.SequentialRun (IsFirstWithout (IsRunOf p SequentialMachine) c.seq_runs) (All (IsRunOf p SequentialMachine) c.seq_runs) OfTree why
 
   abbrev OfCost : CheckFault → Type 0
   OfCost why = OfPart (Unit {0}) (λ _. fault.Cost) (λ _. HasRightCost q costs c → ⊥) (HasRightCost q costs c) OfSequential why
@@ -157,7 +158,7 @@ module _ (q : Question) (costs : List ℕ) (c : Certificate) where
   OfSet why = OfPart (Unit {0}) (λ _. fault.Set) (λ _. AreGapsOf p c.gaps → ⊥) (AreGapsOf p c.gaps) OfCost why
 
   abbrev OfShown : CheckFault → Type 0
-  OfShown why = OfPart (Unit {0}) (λ _. fault.Shown) (λ _. c.shown ≡ q.shown → ⊥) (c.shown ≡ q.shown) OfSet why
+  OfShown why = OfPart (Unit {0}) (λ _. fault.Shown) (λ _. c.shown ≡ shows_of q.shown → ⊥) (c.shown ≡ shows_of q.shown) OfSet why
 
   -- in each part there is one
   one_of_gaps : IsOfOne OfGaps
@@ -165,25 +166,25 @@ module _ (q : Question) (costs : List ℕ) (c : Certificate) where
       (λ path other wrong also. ap fault.GapTree (one_wrong_gap p costs c.gaps c.runs c.gap_tree all_sets path other wrong also)) (λ path wrong none. none) (λ why other none also. absurd none)
 
   one_of_fenced : IsOfOne OfFenced
-  one_of_fenced = one_of_part (List ℕ) fault.FencedTree (WrongCover (Fenced (gaps_in p c.gaps)) c.fenced_tree) (RightCover (Fenced (gaps_in p c.gaps)) c.fenced_tree) OfGaps
-      (λ path other wrong also. ap fault.FencedTree (one_path (Fenced (gaps_in p c.gaps)) c.fenced_tree path other wrong also)) (not_wrong (Fenced (gaps_in p c.gaps)) c.fenced_tree) one_of_gaps
+  one_of_fenced = one_of_part (List ℕ) fault.FencedTree (WrongCover (StoreBufferMachine (gaps_in p c.gaps)) c.fenced_tree) (RightCover (StoreBufferMachine (gaps_in p c.gaps)) c.fenced_tree) OfGaps
+      (λ path other wrong also. ap fault.FencedTree (one_path (StoreBufferMachine (gaps_in p c.gaps)) c.fenced_tree path other wrong also)) (not_wrong (StoreBufferMachine (gaps_in p c.gaps)) c.fenced_tree) one_of_gaps
 
   one_of_foreign : IsOfOne OfForeign
   one_of_foreign = one_of_part ℕ fault.NotForeign NotForeign AreForeign OfFenced (λ n m wrong also. ap fault.NotForeign (one_not_foreign n m wrong also)) not_not_foreign one_of_fenced
 
   one_of_runs : IsOfOne OfRuns
-  one_of_runs = one_of_part ℕ fault.Run (IsFirstWithout (IsRunOf p (Fenced no_gaps)) c.runs) (All (IsRunOf p (Fenced no_gaps)) c.runs) OfForeign
-      (λ n m wrong also. ap fault.Run (one_number (IsRunOf p (Fenced no_gaps)) c.runs n m wrong also))
-      (λ n wrong all. none_without (IsRunOf p (Fenced no_gaps)) c.runs n all wrong) one_of_foreign
+  one_of_runs = one_of_part ℕ fault.Run (IsFirstWithout (IsRunOf p (StoreBufferMachine no_gaps)) c.runs) (All (IsRunOf p (StoreBufferMachine no_gaps)) c.runs) OfForeign
+      (λ n m wrong also. ap fault.Run (one_number (IsRunOf p (StoreBufferMachine no_gaps)) c.runs n m wrong also))
+      (λ n wrong all. none_without (IsRunOf p (StoreBufferMachine no_gaps)) c.runs n all wrong) one_of_foreign
 
   one_of_tree : IsOfOne OfTree
-  one_of_tree = one_of_part (List ℕ) fault.SequentialTree (WrongCover Sequential c.seq_tree) (RightCover Sequential c.seq_tree) OfRuns
-      (λ path other wrong also. ap fault.SequentialTree (one_path Sequential c.seq_tree path other wrong also)) (not_wrong Sequential c.seq_tree) one_of_runs
+  one_of_tree = one_of_part (List ℕ) fault.SequentialTree (WrongCover SequentialMachine c.seq_tree) (RightCover SequentialMachine c.seq_tree) OfRuns
+      (λ path other wrong also. ap fault.SequentialTree (one_path SequentialMachine c.seq_tree path other wrong also)) (not_wrong SequentialMachine c.seq_tree) one_of_runs
 
   one_of_sequential : IsOfOne OfSequential
-  one_of_sequential = one_of_part ℕ fault.SequentialRun (IsFirstWithout (IsRunOf p Sequential) c.seq_runs) (All (IsRunOf p Sequential) c.seq_runs) OfTree
-      (λ n m wrong also. ap fault.SequentialRun (one_number (IsRunOf p Sequential) c.seq_runs n m wrong also))
-      (λ n wrong all. none_without (IsRunOf p Sequential) c.seq_runs n all wrong) one_of_tree
+  one_of_sequential = one_of_part ℕ fault.SequentialRun (IsFirstWithout (IsRunOf p SequentialMachine) c.seq_runs) (All (IsRunOf p SequentialMachine) c.seq_runs) OfTree
+      (λ n m wrong also. ap fault.SequentialRun (one_number (IsRunOf p SequentialMachine) c.seq_runs n m wrong also))
+      (λ n wrong all. none_without (IsRunOf p SequentialMachine) c.seq_runs n all wrong) one_of_tree
 
   one_of_cost : IsOfOne OfCost
   one_of_cost = one_of_part (Unit {0}) (λ _. fault.Cost) (λ _. HasRightCost q costs c → ⊥) (HasRightCost q costs c) OfSequential (λ x y wrong also. refl) (λ x wrong right. wrong right) one_of_sequential
@@ -192,7 +193,7 @@ module _ (q : Question) (costs : List ℕ) (c : Certificate) where
   one_of_set = one_of_part (Unit {0}) (λ _. fault.Set) (λ _. AreGapsOf p c.gaps → ⊥) (AreGapsOf p c.gaps) OfCost (λ x y wrong also. refl) (λ x wrong right. wrong right) one_of_cost
 
   one_of_shown : IsOfOne OfShown
-  one_of_shown = one_of_part (Unit {0}) (λ _. fault.Shown) (λ _. c.shown ≡ q.shown → ⊥) (c.shown ≡ q.shown) OfSet (λ x y wrong also. refl) (λ x wrong right. wrong right) one_of_set
+  one_of_shown = one_of_part (Unit {0}) (λ _. fault.Shown) (λ _. c.shown ≡ shows_of q.shown → ⊥) (c.shown ≡ shows_of q.shown) OfSet (λ x y wrong also. refl) (λ x wrong right. wrong right) one_of_set
 
   -- what holds before a part
   after_head : (why : CheckFault) → HasHead q costs c → OfSequential why → OfShown why
@@ -200,7 +201,7 @@ module _ (q : Question) (costs : List ℕ) (c : Certificate) where
 
   after_replays : (why : CheckFault) (outcomes : List Outcome) → HasOutcomes q costs c outcomes → OfTree why → OfShown why
   after_replays why outcomes has rest =
-      after_head why has.head (inr (zip_left (IsShownRun q Sequential) (IsRunOf p Sequential) (of_shown q Sequential) c.seq_runs outcomes has.replayed, rest))
+      after_head why has.head (inr (zip_left (IsShownRun q SequentialMachine) (IsRunOf p SequentialMachine) (of_shown q SequentialMachine) c.seq_runs outcomes has.replayed, rest))
 
   after_tree : (why : CheckFault) (outcomes : List Outcome) → HasEachOutcome q costs c outcomes → OfRuns why → OfShown why
   after_tree why outcomes has rest = after_replays why outcomes has.listed (inr ((outcomes, has.listed.replayed, has.sequential), rest))

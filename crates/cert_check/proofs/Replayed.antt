@@ -15,7 +15,7 @@ use Rattle.tso_machine.specs.declared.replaying.ReplayFault.TheVariants as repla
 use Rattle.gap_sets.specs.Gaps.{SetOfGaps}
 use Rattle.cert_check.specs.declared.fault.RunsFault.{RunsFault}
 use Rattle.cert_check.specs.declared.fault.RunsFault.TheVariants as runs
-use Rattle.tso_machine.specs.Machine.{Mode}
+use Rattle.tso_machine.specs.Machine.{Machine}
 use Rattle.tso_machine.specs.Modes.{unfenced, ArePassed}
 use Rattle.tso_machine.specs.Outcomes.{IsShownRun, IsReplayOf}
 use Rattle.tso_machine.specs.Faults.{ReplayFaultIs}
@@ -24,11 +24,11 @@ use Rattle.cert_check.specs.Faults.{IsRunOf, IsFirstWithout}
 use Rattle.cert_check.specs.Internal.Replays.{AreReplaysOf, IsNoRunAt, IsFaultFrom, RunsFaultIs}
 
 -- a fault of a replay says that the labels are no run
-pub no_run : (p : Listing) (machine : Mode) (labels : List Label) (why : ReplayFault) → ReplayFaultIs p machine labels why → why ≢ replays.OutOfMemory → IsRunOf p machine labels → ⊥
+pub no_run : (p : Listing) (machine : Machine) (labels : List Label) (why : ReplayFault) → ReplayFaultIs p machine labels why → why ≢ replays.OutOfMemory → IsRunOf p machine labels → ⊥
 no_run p machine labels why fault no_memory (o, is_run) = no_memory (no_fault p machine labels o why is_run fault)
 
 -- what a replay says where the labels are not a run
-pub fault_is : (p : Listing) (machine : Mode) (labels : List Label) (why : ReplayFault) (number : ℕ) (fault : RunsFault) → ReplayFaultIs p machine labels why → IsFaultFrom why number fault →
+pub fault_is : (p : Listing) (machine : Machine) (labels : List Label) (why : ReplayFault) (number : ℕ) (fault : RunsFault) → ReplayFaultIs p machine labels why → IsFaultFrom why number fault →
     IsNoRunAt p machine labels number fault
 fault_is p machine labels why number (runs.NoRun n) h (at, no_memory) = (at, no_run p machine labels why h no_memory)
 fault_is p machine labels why number runs.OutOfMemory h none = tt
@@ -48,7 +48,7 @@ zip_left R P f (x ∷ xs) (y ∷ ys) all zero d h = f x y all.0
 zip_left R P f (x ∷ xs) (y ∷ ys) all (suc k) d h = zip_left R P f xs ys all.1 k d (omega arith)
 
 -- a run of which something is shown is a run
-pub of_shown : (q : Question) (mode : Mode) (labels : List Label) (o : Outcome) → IsShownRun q mode labels o → IsRunOf q.program mode labels
+pub of_shown : (q : Question) (mode : Machine) (labels : List Label) (o : Outcome) → IsShownRun q mode labels o → IsRunOf q.program mode labels
 of_shown q mode labels o (whole, is_run, shown) = (whole, is_run)
 
 -- what stands at the seam of two lists

@@ -8,11 +8,12 @@ use Rattle.tso_program.specs.Shown.{Question}
 use Rattle.tso_program.specs.Listings.{gap_count}
 use Rattle.tso_program.specs.Fences.{gaps_in}
 use Rattle.tso_machine.specs.declared.label.Label.{Label}
-use Rattle.tso_machine.specs.Machine.{Mode, Sequential, Fenced, no_gaps, IsRun}
+use Rattle.tso_machine.specs.Machine.{Machine, SequentialMachine, StoreBufferMachine, no_gaps, IsRun}
 use Rattle.tso_machine.specs.Outcomes.{AreGapsOf}
 use Rattle.candidate_executions.specs.Sketches.{empty_sketch}
 use Rattle.tree_laws.specs.CoverTrees.{IsValidCover}
 use Rattle.cert_forest.specs.Certificates.{Certificate}
+use Rattle.cert_forest.specs.Shows.{shows_of}
 use Rattle.tree_laws.specs.Certificates.{AreSequentialRuns, IsRunOutside}
 use Rattle.cert_check.specs.declared.fault.CheckFault.{CheckFault}
 use Rattle.cert_check.specs.declared.fault.CheckFault.TheVariants as fault
@@ -27,7 +28,7 @@ pub record IsFirstWithout {A : Type 0} (P : A → Type 0) (xs : List A) (number 
   pub before : All P (take number xs)
 
 -- the labels are a run of the mode's machine
-abbrev pub IsRunOf : Listing → Mode → List Label → Type 0
+abbrev pub IsRunOf : Listing → Machine → List Label → Type 0
 IsRunOf p mode labels = (o : Outcome) × IsRun p mode labels o
 
 module _ (q : Question) (costs : List ℕ) (c : Certificate) where
@@ -37,7 +38,7 @@ module _ (q : Question) (costs : List ℕ) (c : Certificate) where
 
   -- it is about what is shown, its set is one of the program's gaps, and its cost is the set's
   pub record HasHead : Type 0 where
-    pub shown : c.shown ≡ q.shown
+    pub shown : c.shown ≡ shows_of q.shown
     pub of_program : AreGapsOf q.program c.gaps
     pub cost : HasRightCost
 
@@ -50,12 +51,12 @@ module _ (q : Question) (costs : List ℕ) (c : Certificate) where
     -- a valid tree shows that there are no other sequential outcomes
     pub record HasEachOutcome : Type 0 where
       pub listed : HasOutcomes
-      pub sequential : IsValidCover q Sequential outcomes c.seq_tree (empty_sketch q.program)
+      pub sequential : IsValidCover q SequentialMachine outcomes c.seq_tree (empty_sketch q.program)
 
     -- its other runs are runs of the store buffer machine with no gap fenced
     pub record HasRuns : Type 0 where
       pub complete : HasEachOutcome
-      pub runs : All (IsRunOf q.program (Fenced no_gaps)) c.runs
+      pub runs : All (IsRunOf q.program (StoreBufferMachine no_gaps)) c.runs
 
     -- their outcomes are not sequential
     pub record HasForeignRuns : Type 0 where
@@ -65,19 +66,19 @@ module _ (q : Question) (costs : List ℕ) (c : Certificate) where
     -- a valid tree shows that the set serves
     pub record HasServingSet : Type 0 where
       pub runs : HasForeignRuns
-      pub fenced : IsValidCover q (Fenced (gaps_in q.program c.gaps)) outcomes c.fenced_tree (empty_sketch q.program)
+      pub fenced : IsValidCover q (StoreBufferMachine (gaps_in q.program c.gaps)) outcomes c.fenced_tree (empty_sketch q.program)
 
   -- The fault is the first in their order, in which what is shown comes before the set. `OutOfMemory` says that these, the set and the cost
   -- are right: they are judged without memory.
   abbrev pub CheckFaultIs : CheckFault → Type 0
-  CheckFaultIs fault.Shown = c.shown ≡ q.shown → ⊥
-  CheckFaultIs fault.Set = (c.shown ≡ q.shown) × (AreGapsOf q.program c.gaps → ⊥)
-  CheckFaultIs fault.Cost = (c.shown ≡ q.shown) × AreGapsOf q.program c.gaps × (HasRightCost → ⊥)
-  CheckFaultIs (fault.SequentialRun number) = HasHead × IsFirstWithout (IsRunOf q.program Sequential) c.seq_runs number
-  CheckFaultIs (fault.SequentialTree path) = (outcomes : List Outcome) × HasOutcomes outcomes × FirstWrongCover q Sequential outcomes c.seq_tree (empty_sketch q.program) path
-  CheckFaultIs (fault.Run number) = (outcomes : List Outcome) × HasEachOutcome outcomes × IsFirstWithout (IsRunOf q.program (Fenced no_gaps)) c.runs number
+  CheckFaultIs fault.Shown = c.shown ≡ shows_of q.shown → ⊥
+  CheckFaultIs fault.Set = (c.shown ≡ shows_of q.shown) × (AreGapsOf q.program c.gaps → ⊥)
+  CheckFaultIs fault.Cost = (c.shown ≡ shows_of q.shown) × AreGapsOf q.program c.gaps × (HasRightCost → ⊥)
+  CheckFaultIs (fault.SequentialRun number) = HasHead × IsFirstWithout (IsRunOf q.program SequentialMachine) c.seq_runs number
+  CheckFaultIs (fault.SequentialTree path) = (outcomes : List Outcome) × HasOutcomes outcomes × FirstWrongCover q SequentialMachine outcomes c.seq_tree (empty_sketch q.program) path
+  CheckFaultIs (fault.Run number) = (outcomes : List Outcome) × HasEachOutcome outcomes × IsFirstWithout (IsRunOf q.program (StoreBufferMachine no_gaps)) c.runs number
   CheckFaultIs (fault.NotForeign number) = (outcomes : List Outcome) × HasRuns outcomes × IsFirstWithout (IsRunOutside q outcomes) c.runs number
   CheckFaultIs (fault.FencedTree path) =
-      (outcomes : List Outcome) × HasForeignRuns outcomes × FirstWrongCover q (Fenced (gaps_in q.program c.gaps)) outcomes c.fenced_tree (empty_sketch q.program) path
+      (outcomes : List Outcome) × HasForeignRuns outcomes × FirstWrongCover q (StoreBufferMachine (gaps_in q.program c.gaps)) outcomes c.fenced_tree (empty_sketch q.program) path
   CheckFaultIs (fault.GapTree path) = (outcomes : List Outcome) × HasServingSet outcomes × FirstWrongGap q.program costs c.gaps c.runs c.gap_tree all_sets path
   CheckFaultIs fault.OutOfMemory = HasHead

@@ -1,5 +1,5 @@
 //! The checker.
-ghost use Rattle.std.specs.Prelude.{◌≡◌, ℕ, List, OnOk, IfOk, IfErr, IsOkUnless, All};
+ghost use Rattle.std.specs.Prelude.{◌≡◌, ◌↔◌, ℕ, List, IsTrue, OnOk, IfOk, IfErr, IsOkUnless, All};
 ghost use Rattle.gap_sets.specs.Gaps.{SetOfGaps};
 ghost use Rattle.gap_sets.specs.Order.{total};
 ghost use Rattle.gap_sets.specs.Regions.{all_sets};
@@ -7,12 +7,13 @@ ghost use Rattle.tso_program.specs.declared.listing.Listing.{Listing};
 ghost use Rattle.tso_program.specs.declared.outcome.Outcome.{Outcome};
 ghost use Rattle.tso_program.specs.Shown.{Question, asked};
 ghost use Rattle.tso_program.specs.Fences.{gaps_in};
-ghost use Rattle.tso_machine.specs.Machine.{Sequential, Fenced};
+ghost use Rattle.tso_machine.specs.Machine.{SequentialMachine, StoreBufferMachine};
 ghost use Rattle.tso_machine.specs.Outcomes.{Headline, IsTheAnswer};
 ghost use Rattle.candidate_executions.specs.Sketches.{empty_sketch};
 ghost use Rattle.tree_laws.specs.CoverTrees.{IsValidCover};
 ghost use Rattle.tree_laws.specs.GapTrees.{IsValidGap};
 ghost use Rattle.tree_laws.specs.Laws.{IsProved};
+ghost use Rattle.cert_forest.specs.Shows.{shows_of};
 ghost use Rattle.cert_forest.specs.Certificates as specs;
 ghost use Rattle.tree_laws.specs.Certificates.{AreSequentialRuns, IsRunOutside, IsValidCertificate};
 ghost use Rattle.the_answer.specs.Answers.{the_answer, least_cost};
@@ -24,7 +25,7 @@ use crate::cover::judge_from_start;
 use crate::fault::RunsFault;
 use crate::gap::{Bounds, judge_gap};
 use crate::runs::{first_outcome_listed, replay_all};
-use cert_forest::Certificate;
+use cert_forest::{Certificate, Shows};
 use cover_judge::TreeFault;
 use exec_axioms::Mode;
 use gap_sets::{Costs, GapSet, Region};
@@ -43,9 +44,10 @@ pub struct Accepted {
 
 /// Judges a certificate for a program, what is shown of its outcomes, and the costs of its gaps.
 ///
-/// Where it accepts, the program with the set's gaps fenced has under x86-TSO exactly its sequentially
-/// consistent outcomes, as far as they are shown, and each better set of gaps leaves an outcome that no
-/// sequential run has.
+/// Where it answers, the program with an MFENCE in each gap of the set has under x86-TSO exactly the source's
+/// sequentially consistent outcomes, as far as they are shown; with an MFENCE in each gap of any better set
+/// (cheaper, or as cheap and earlier in gap order) it leaves an outcome that no sequentially consistent run of
+/// the source has.
 pub fn check(
     alloc: Global,
     program: &Program,
@@ -54,13 +56,15 @@ pub fn check(
     certificate: &Certificate,
 ) -> Result<Accepted, CheckFault>
     ensures headline { IfOk result (λ accepted. Headline (asked program.now shown.now) costs.now accepted.set) }
-    ensures answer { IfOk result (λ accepted. IsTheAnswer (asked program.now shown.now) costs.now accepted.set) }
     ensures cost { IfOk result (λ accepted. accepted.cost ≡ total costs.now accepted.set) }
-    ensures set { IfOk result (λ accepted. accepted.set ≡ certificate.now.gaps) }
 
     // There is always an answer, which a definition computes: the set is that one, at the least cost.
     ensures best { IfOk result (λ accepted. accepted.set ≡ the_answer (asked program.now shown.now) costs.now) }
     ensures least { IfOk result (λ accepted. accepted.cost ≡ least_cost (asked program.now shown.now) costs.now) }
+    ensures answer { IfOk result (λ accepted. IsTheAnswer (asked program.now shown.now) costs.now accepted.set) }
+
+    // The certificate's set is accepted.
+    ensures set { IfOk result (λ accepted. accepted.set ≡ certificate.now.gaps) }
 
     // A valid certificate is accepted if memory is there, any other is refused by its first fault.
     ensures valid { OnOk result (IsValidCertificate (asked program.now shown.now) costs.now certificate.now) }
@@ -121,7 +125,7 @@ fn check_head(
     ensures ok { OnOk result (HasHead (asked program.now shown.now) costs.now certificate.now) }
     ensures fault { IfErr result (CheckFaultIs (asked program.now shown.now) costs.now certificate.now) }
 {
-    if !certificate.shown.same(shown) {
+    if !says_so(&certificate.shown, shown) {
         return Err(CheckFault::Shown);
     }
     if !program.all_gaps().holds_all(&certificate.set) {
@@ -136,6 +140,13 @@ fn check_head(
     Ok(())
 }
 
+/// Whether a certificate says that this is shown.
+fn says_so(shows: &Shows, shown: &Shown) -> bool
+    ensures { IsTrue result ↔ (shows.now ≡ shows_of shown.now) }
+{
+    shows.same(&Shows::of(shown))
+}
+
 /// Faults 3 and 4: what is shown of the outcomes of the sequential runs, which are all sequential ones.
 fn sequential_list(
     alloc: Global,
@@ -144,7 +155,7 @@ fn sequential_list(
     certificate: &Certificate,
 ) -> Result<Vec<Outcome>, CheckFault>
     ensures replayed { IfOk result (λ listed. AreSequentialRuns (asked program.now shown.now) certificate.now.seq_runs listed.items) }
-    ensures sequential { IfOk result (λ listed. IsValidCover (asked program.now shown.now) Sequential listed.items certificate.now.seq_tree (empty_sketch program.now)) }
+    ensures sequential { IfOk result (λ listed. IsValidCover (asked program.now shown.now) SequentialMachine listed.items certificate.now.seq_tree (empty_sketch program.now)) }
     ensures fault { (costs : List ℕ) → HasHead (asked program.now shown.now) costs certificate.now
         → IfErr result (CheckFaultIs (asked program.now shown.now) costs certificate.now) }
 {
@@ -206,7 +217,7 @@ fn check_fenced(
     certificate: &Certificate,
     listed: &[Outcome],
 ) -> Result<(), CheckFault>
-    ensures fenced { OnOk result (IsValidCover (asked program.now shown.now) (Fenced (gaps_in program.now certificate.now.gaps)) listed.now certificate.now.fenced_tree (empty_sketch program.now)) }
+    ensures fenced { OnOk result (IsValidCover (asked program.now shown.now) (StoreBufferMachine (gaps_in program.now certificate.now.gaps)) listed.now certificate.now.fenced_tree (empty_sketch program.now)) }
     ensures fault { (costs : List ℕ) → HasForeignRuns (asked program.now shown.now) costs certificate.now listed.now
         → IfErr result (CheckFaultIs (asked program.now shown.now) costs certificate.now) }
 {

@@ -12,6 +12,7 @@ ghost use Rattle.cert_words.specs.Words.{stops_for_memory};
 ghost use Rattle.cert_words.specs.Completions.{CanBecome};
 ghost use Rattle.cert_forest.specs.Internal.Reading.{gap_number_at, ascending_at, set_at, cost_at, after_set_at, certificate_at};
 
+use crate::Shows;
 use crate::certificate::Certificate;
 use crate::cover_tree::cover_line;
 use crate::fault::{CertFault, fault_of};
@@ -19,11 +20,10 @@ use crate::gap_tree::gap_line;
 use crate::runs::runs;
 use crate::shown::head;
 use cert_words::{
-    Refusal, Stop, Wrong, begins_word, can_become, end, name, number, refused_unless_cut,
+    Refusal, Stop, Wrong, begins_word, can_become, end, name, number, refused, refused_unless_cut,
 };
 use gap_sets::{GapSet, MAX_GAPS};
 use std::alloc::Global;
-use tso_program::Shown;
 
 /// The greatest number of a gap.
 const LAST_GAP: u64 = MAX_GAPS as u64 - 1;
@@ -47,9 +47,25 @@ fn gap_number(bytes: &[u8]) -> Result<(u8, &[u8]), Refusal>
     Ok((gap as u8, rest))
 }
 
+/// A gap's number, where the least that may stand there is this one. Where none may, and the bytes end after the
+/// space, the space can't stand there.
+fn next_gap(least: u8, bytes: &[u8]) -> Result<(u8, &[u8]), Refusal>
+    ensures gives { Gives (λ x. (x.0, x.1.now)) result (gap_number_at bytes.now) }
+    ensures below { IfOk result (λ x. x.0 < MAX_GAPS) }
+{
+    match gap_number(bytes) {
+        Ok(gap) => Ok(gap),
+        Err(refusal) => Err(if least == MAX_GAPS && bytes.len() == 1 {
+            refused(Wrong::Token, bytes.len())
+        } else {
+            refusal
+        }),
+    }
+}
+
 /// What is wrong with a word after `MAX_GAPS` gaps.
 fn after_all(bytes: &[u8]) -> Refusal {
-    match gap_number(bytes) {
+    match next_gap(MAX_GAPS, bytes) {
         Ok((gap, rest)) => below_least(gap, MAX_GAPS, bytes, rest),
         Err(refusal) => refusal,
     }
@@ -66,7 +82,7 @@ fn gaps(bytes: &[u8]) -> Result<(GapSet, &[u8]), Refusal>
         if !begins_word(rest) {
             return Ok((found, rest));
         }
-        let (gap, after) = gap_number(rest)?;
+        let (gap, after) = next_gap(least, rest)?;
         if gap < least {
             return Err(below_least(gap, least, rest, after));
         }
@@ -122,7 +138,7 @@ fn first_certificate(alloc: Global, bytes: &[u8]) -> Result<(Certificate, &[u8])
 #[tactic(auto, unfolding(crate::specs::Internal::Reading::after_set_at))]
 fn after_set(
     alloc: Global,
-    shown: Shown,
+    shown: Shows,
     set: GapSet,
     bytes: &[u8],
 ) -> Result<(Certificate, &[u8]), Stop>

@@ -4,15 +4,18 @@ ghost use Rattle.std.specs.Prelude.{◌≡◌, ◌<◌, IfOk, IfSome};
 ghost use Rattle.std.specs.FinSet as set;
 ghost use Rattle.tso_program.specs.declared.shown.TheConstants.{PLACES};
 ghost use Rattle.text_tokens.specs.Steps.{Gives};
-ghost use Rattle.cert_forest.specs.Internal.Reading.{digit_of, shown_location, register_of, shown_place, place_word_at, ascending_at, shown_line_at, version_at, header_at, shown_at};
+ghost use Rattle.cert_forest.specs.Internal.Reading.{digit_of, shown_location, register_of, shown_place, place_word_at, ascending_at, shown_line_at, condition_line_at, version_at, header_at, shown_at};
 
+use crate::Shows;
 use crate::access::stop_len;
 use cert_words::{
     Refusal, Wrong, begins_word, end, name, refused, refused_unless_cut, refused_word, word,
 };
 use text_tokens::{are_digits, plain_number};
-use tso_program::{MAX_LOCATIONS, MAX_THREADS, Names, PLACES, REGISTER_PLACES, REGISTERS, Shown};
+use tso_program::{MAX_LOCATIONS, MAX_THREADS, Names, PLACES, REGISTER_PLACES, REGISTERS};
 
+/// What stands in place of names where a condition's truth is shown.
+const CONDITION: &[u8; 9] = b"condition";
 /// How many registers and locations can be named.
 const MAX_PLACES: u8 = PLACES as u8;
 /// How many registers can be named: their places come before those of locations.
@@ -73,10 +76,9 @@ fn place_of(word: &[u8]) -> Option<u8>
     }
 }
 
-/// Whether a word that is cut can become that of a place from the least on.
+/// Whether a word that is cut, of at least one byte, can become that of a place from the least on.
 fn could_go_on(word: &[u8], least: u8) -> bool {
     match word {
-        [] => true,
         [b'l'] => least < MAX_PLACES,
         [b'r'] => least < MAX_REGISTERS,
         [b'r', thread] | [b'r', thread, b'.'] => match digit_of(LAST_THREAD, *thread) {
@@ -124,6 +126,15 @@ fn is_register(names: &[u8], is_cut: bool) -> bool {
     }
 }
 
+/// What is wrong where the bytes end after a space: the space can't stand where no place may follow.
+fn after_space(least: u8) -> Refusal {
+    if least < MAX_PLACES {
+        refused(Wrong::Ended, 0)
+    } else {
+        refused(Wrong::Token, 1)
+    }
+}
+
 /// A space, and the word of a place, which is to be the least or a later one.
 #[tactic(auto, unfolding(crate::specs::Internal::Reading::place_word_at))]
 fn place(least: u8, bytes: &[u8]) -> Result<(u8, &[u8]), Refusal>
@@ -134,6 +145,9 @@ fn place(least: u8, bytes: &[u8]) -> Result<(u8, &[u8]), Refusal>
     match place_of(word) {
         Some(place) => Ok((place, rest)),
         None => {
+            if bytes.len() == 1 {
+                return Err(after_space(least));
+            }
             let wrong = fault_of(word, rest.is_empty());
             Err(refused_unless_cut(wrong, could_go_on(word, least), bytes, rest))
         }
@@ -187,6 +201,29 @@ fn shown_line(bytes: &[u8]) -> Result<(Names, &[u8]), Refusal>
     }
 }
 
+/// The line `shown condition`.
+#[tactic(auto, unfolding(crate::specs::Internal::Reading::condition_line_at))]
+fn condition_line(bytes: &[u8]) -> Result<&[u8], Refusal>
+    ensures { Gives (λ x. x.now) result (condition_line_at bytes.now) }
+{
+    let text = name(b"shown", bytes)?;
+    let (word, rest) = word(text)?;
+    if word == CONDITION.as_slice() {
+        let rest = end(rest)?;
+        Ok(rest)
+    } else {
+        Err(refused_unless_cut(Wrong::Token, CONDITION.starts_with(word), text, rest))
+    }
+}
+
+/// Whether the line goes on like `shown condition`.
+fn is_condition_begun(bytes: &[u8]) -> bool {
+    match bytes {
+        [b's', b'h', b'o', b'w', b'n', b' ', b'c', ..] => true,
+        _ => false,
+    }
+}
+
 /// The second word of the first line: whether a line of what is shown follows.
 #[tactic(auto, unfolding(crate::specs::Internal::Reading::version_at))]
 fn version(bytes: &[u8]) -> Result<(bool, &[u8]), Refusal>
@@ -230,15 +267,22 @@ fn header(bytes: &[u8]) -> Result<(bool, &[u8]), Refusal>
 
 /// What is shown, by the first line and in the second version the next one.
 #[tactic(auto, unfolding(crate::specs::Internal::Reading::shown_at))]
-pub(crate) fn head(bytes: &[u8]) -> Result<(Shown, &[u8]), Refusal>
+pub(crate) fn head(bytes: &[u8]) -> Result<(Shows, &[u8]), Refusal>
     ensures { Gives (λ x. (x.0, x.1.now)) result (shown_at bytes.now) }
 {
     let (is_second, rest) = header(bytes)?;
     if !is_second {
-        return Ok((Shown::All, rest));
+        return Ok((Shows::All, rest));
     }
     match shown_line(rest) {
-        Ok((names, rest)) => Ok((Shown::Only(names), rest)),
-        Err(refusal) => Err(refusal),
+        Ok((names, rest)) => Ok((Shows::Only(names), rest)),
+        Err(refusal) => match condition_line(rest) {
+            Ok(rest) => Ok((Shows::Condition, rest)),
+            Err(other) => Err(if is_condition_begun(rest) {
+                other
+            } else {
+                refusal
+            }),
+        },
     }
 }

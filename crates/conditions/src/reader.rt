@@ -1,18 +1,18 @@
 //! Formulas from tokens.
 ghost use Rattle.std.specs.Prelude.{◌≡◌, ℕ, [], ◌∷◌, Err, IfOk, map};
 ghost use Rattle.conditions.specs.declared.fault.FormulaFault.TheVariants.{Refused};
-ghost use Rattle.conditions.specs.declared.atom.Atom.{Atom as AtomValue};
-ghost use Rattle.conditions.specs.Tree.{Tree};
-ghost use Rattle.conditions.specs.Nodes.{nodes_of};
+ghost use Rattle.tso_program.specs.declared.atom.Atom.{Atom as AtomValue};
+ghost use Rattle.tso_program.specs.Tree.{Tree};
+ghost use Rattle.tso_program.specs.Nodes.{nodes_of};
 ghost use Rattle.conditions.specs.Tokens.{sign_of_token};
 ghost use Rattle.conditions.specs.Stack.{Before, ReaderState, next, joined, tree_read, SignsStopAt};
 ghost use Rattle.conditions.specs.Layout.{Goes, LiesBefore, LiesWith, IsTree};
 
 use crate::fault::FormulaFault;
-use crate::node::Node;
 use crate::stack::{Waiting, join, sum};
 use crate::token::Token;
 use std::alloc::{AllocError, Global};
+use tso_program::Node;
 
 /// An operand of one node is read.
 fn operand(nodes: &mut Vec<Node>, stack: &mut Vec<Waiting>, node: Node) -> Result<(), AllocError>

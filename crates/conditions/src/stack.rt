@@ -1,12 +1,12 @@
 //! The stack of a reader.
 ghost use Rattle.std.specs.Prelude.{◌≡◌, IfOk};
-ghost use Rattle.conditions.specs.Tree.{Tree};
-ghost use Rattle.conditions.specs.declared.atom.Atom.{Atom as AtomValue};
+ghost use Rattle.tso_program.specs.Tree.{Tree};
+ghost use Rattle.tso_program.specs.declared.atom.Atom.{Atom as AtomValue};
 ghost use Rattle.conditions.specs.Stack.{Before, joined, summed};
 ghost use Rattle.conditions.specs.Layout.{LiesWith};
 
-use crate::node::Node;
 use std::alloc::AllocError;
+use tso_program::Node;
 
 /// What waits for its right operand, or for its `)`.
 #[derive(Clone, Copy, Debug, PartialEq, Eq)]

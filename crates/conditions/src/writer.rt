@@ -1,18 +1,18 @@
 //! Canonical tokens of formulas.
 ghost use Rattle.std.specs.Prelude.{◌≡◌, List, ◌∷◌, [], IfOk, map};
 ghost use mathlib.Core.List.{reverse};
-ghost use Rattle.conditions.specs.declared.atom.Atom.{Atom as AtomValue};
-ghost use Rattle.conditions.specs.declared.node.Node.{Node as NodeValue};
-ghost use Rattle.conditions.specs.Tree.{Tree};
+ghost use Rattle.tso_program.specs.declared.atom.Atom.{Atom as AtomValue};
+ghost use Rattle.tso_program.specs.declared.node.Node.{Node as NodeValue};
+ghost use Rattle.tso_program.specs.Tree.{Tree};
 ghost use Rattle.conditions.specs.Tokens.{sign_of_token};
-ghost use Rattle.conditions.specs.Nodes.{nodes_of};
+ghost use Rattle.tso_program.specs.Nodes.{nodes_of};
 ghost use Rattle.conditions.specs.Canonical.{is_joined, signs_of, enclosed_signs_of};
 ghost use Rattle.conditions.specs.Internal.Unwind.{formula_tokens, opened, left, unwound};
 
-use crate::node::Node;
 use crate::prefix::Prefix;
 use crate::token::Token;
 use std::alloc::{AllocError, Global};
+use tso_program::Node;
 
 /// What waits before an operand is written, last first.
 fn begin(tokens: &mut Vec<Token>, waiting: &mut Vec<Prefix>) -> Result<(), AllocError>

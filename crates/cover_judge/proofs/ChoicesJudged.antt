@@ -115,7 +115,7 @@ pub no_source : (s : ProgramSketch) (read : Event) (o : Option Event) → is_som
 no_source s read o e exact (source, has) = (let is = (exact source).1 has in let yes : is_some o ≡ true = ap is_some is in let no : true ≡ false = sym yes ∙ e in cc)
 
 -- two writes to one location, the other way round
-pub turned : (p : Listing) (mode : machine.Mode) (k : Sketch) (d e : Event) → IsPair p mode k d e → IsPair p mode k e d
+pub turned : (p : Listing) (mode : machine.Machine) (k : Sketch) (d e : Event) → IsPair p mode k d e → IsPair p mode k e d
 turned p mode k d e (differ, (l, v, w, first, second, not_first, not_second)) = ((λ same. differ (sym same)), (l, w, v, second, first, not_second, not_first))
 
 -- an order that may be chosen may be chosen the other way round

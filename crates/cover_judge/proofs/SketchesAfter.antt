@@ -2,7 +2,7 @@
 use Rattle.std.proofs.Common.{◌≡◌, [], ◌∷◌, refl, sym, subst}
 use Rattle.std.proofs.lemmas.List.{append-nil}
 use Rattle.tso_program.specs.declared.listing.Listing.{Listing}
-use Rattle.tso_machine.specs.Machine.{Mode}
+use Rattle.tso_machine.specs.Machine.{Machine}
 use Rattle.candidate_executions.specs.Sketches.{Sketch}
 use Rattle.exec_axioms.specs.ProgramSketches.{ProgramSketch, mode_in, with_chosen}
 use Rattle.exec_axioms.specs.Marks.{ComesAfter}
@@ -11,7 +11,7 @@ use Rattle.cover_judge.specs.declared.choice.Choice.{Choice}
 use Rattle.cover_judge.specs.declared.choice.Choice.TheVariants as choice
 use Rattle.cover_judge.specs.Choices.{sketch_with}
 
-pub moved : (F : Listing → Mode → Sketch → Type 0) (s next : ProgramSketch) (c : Choice) → next ≡ with_chosen s (sketch_with s.chosen c) →
+pub moved : (F : Listing → Machine → Sketch → Type 0) (s next : ProgramSketch) (c : Choice) → next ≡ with_chosen s (sketch_with s.chosen c) →
     F next.program (mode_in next) next.chosen → F s.program (mode_in s) (sketch_with s.chosen c)
 moved F s next c same h = subst (λ (n : ProgramSketch). F n.program (mode_in n) n.chosen) same h
 

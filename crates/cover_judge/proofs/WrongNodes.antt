@@ -3,7 +3,7 @@ use Rattle.std.proofs.Common.{◌≡◌, ℕ, zero, suc, List, [], ◌∷◌, le
 use Rattle.std.proofs.lemmas.List.{length-map}
 use Rattle.tso_program.specs.declared.outcome.Outcome.{Outcome}
 use Rattle.tso_program.specs.Shown.{Question}
-use Rattle.tso_machine.specs.Machine.{Mode}
+use Rattle.tso_machine.specs.Machine.{Machine}
 use Rattle.candidate_executions.specs.Sketches.{Sketch, with_value, with_source, with_pair}
 use Rattle.cert_forest.specs.Trees.{Cover, Value, Source, Order, Cycle, Known, Covers, NoCover, MoreCovers}
 use Rattle.cert_forest.specs.Texts.{count_covers}
@@ -19,7 +19,7 @@ abbrev pub next_sibling : List ℕ → List ℕ
 next_sibling [] = []
 next_sibling (n ∷ path) = suc n ∷ path
 
-module _ (q : Question) (mode : Mode) (outcomes : List Outcome) where
+module _ (q : Question) (mode : Machine) (outcomes : List Outcome) where
   many_covers : (trees : Covers) (ks : List Sketch) → AreValidCovers q mode outcomes trees ks → count_covers trees ≡ length ks
   many_covers NoCover [] valid = refl
   many_covers NoCover (k ∷ ks) valid = absurd valid

@@ -3,14 +3,14 @@ use Rattle.std.specs.Prelude.{◌≡◌, ℕ, zero, suc, List, [], ◌∷◌, le
 use Rattle.tso_program.specs.declared.listing.Listing.{Listing}
 use Rattle.tso_program.specs.declared.outcome.Outcome.{Outcome}
 use Rattle.tso_program.specs.Shown.{Question}
-use Rattle.tso_machine.specs.Machine.{Mode}
+use Rattle.tso_machine.specs.Machine.{Machine}
 use Rattle.candidate_executions.specs.declared.event.Event.{Event}
 use Rattle.candidate_executions.specs.Sketches.{Sketch, with_value, with_source, with_pair, IsKnownCycle}
 use Rattle.cert_forest.specs.Trees.{Cover, Value, Source, Order, Cycle, Known, Covers, NoCover, MoreCovers}
 use Rattle.cert_forest.specs.Texts.{count_covers}
 use Rattle.tree_laws.specs.CoverTrees.{event_of, HasNextValues, HasSources, HasNoOrder, MustEndAsNumber, IsValidCover}
 
-module _ (p : Listing) (mode : Mode) where
+module _ (p : Listing) (mode : Machine) where
   -- thread t has no next read, or its location has not so many values
   abbrev pub HasNoValues : Sketch → ℕ → ℕ → Type 0
   HasNoValues k t count = (values : List ℕ) → HasNextValues p mode k t values → count ≡ length values → ⊥
@@ -19,7 +19,7 @@ module _ (p : Listing) (mode : Mode) where
   abbrev pub HasNoSources : Sketch → Event → ℕ → Type 0
   HasNoSources k e count = (sources : List Event) → HasSources p mode k e sources → count ≡ length sources → ⊥
 
-module _ (q : Question) (mode : Mode) (outcomes : List Outcome) where
+module _ (q : Question) (mode : Machine) (outcomes : List Outcome) where
   -- the root is wrong at the sketch, whatever its children say: its number of children is not that of the values or sources, or what it says does not hold
   abbrev pub HasWrongCoverRoot : Cover → Sketch → Type 0
   HasWrongCoverRoot (Value t children) k = HasNoValues q.program mode k t (count_covers children)

@@ -13,7 +13,7 @@ use Rattle.candidate_executions.specs.Candidates.{Writes}
 use Rattle.candidate_executions.specs.Values.{IsValueOf}
 use Rattle.candidate_executions.specs.Traces.{Trace, trace, fenced_gaps}
 use Rattle.candidate_executions.specs.Sketches.{given_to, with_value, read_by, next_read, IsSourceOf, IsWhole}
-use Rattle.tso_machine.specs.Modes.{machine_mode}
+use Rattle.tso_machine.specs.Modes.{machine_of_mode}
 use Rattle.tso_machine.specs.declared.mode.Mode.{Mode}
 use Rattle.exec_axioms.specs.ProgramSketches.{ProgramSketch, mode_in, trace_in, access_in, with_chosen}
 use Rattle.exec_axioms.specs.Kept.{IsLawful}
@@ -57,7 +57,7 @@ module _ (s u : ProgramSketch) (t : ℕ) (lawful : IsLawful s) (alone : HasValue
 
   -- what a thread does under given values
   abbrev does : Listing → Mode → ℕ → List ℕ → Trace
-  does p m v given = trace (action p.threads v) (fenced_gaps (machine_mode p m) v) (length (code_of p.threads v)) 0 (start_of p.threads v) given
+  does p m v given = trace (action p.threads v) (fenced_gaps (machine_of_mode p m) v) (length (code_of p.threads v)) 0 (start_of p.threads v) given
 
   trace_here : trace_in merged t ≡ trace_in u t
   trace_here = ap (does s.program s.mode t) (values_here s.chosen t (given_to u.chosen t) within) ∙ (λ i. does (sym alike.program i) (sym alike.mode i) t (given_to u.chosen t))

@@ -6,8 +6,8 @@ use Rattle.tso_program.specs.declared.outcome.Outcome.{Outcome}
 use Rattle.tso_program.specs.declared.shown.Shown.{Shown}
 use Rattle.tso_program.specs.Shown.{Question, asked}
 use Rattle.tso_machine.specs.declared.mode.Mode as own
-use Rattle.tso_machine.specs.Machine.{Mode}
-use Rattle.tso_machine.specs.Modes.{machine_mode}
+use Rattle.tso_machine.specs.Machine.{Machine}
+use Rattle.tso_machine.specs.Modes.{machine_of_mode}
 use Rattle.candidate_executions.specs.Sketches.{Sketch, with_value, with_source, with_pair}
 use Rattle.exec_axioms.specs.ProgramSketches.{ProgramSketch, mode_in, with_chosen}
 use Rattle.cert_forest.specs.Trees.{Cover, Value, Source, Order, Cycle, Known, Covers, NoCover, MoreCovers, covers_of}
@@ -48,13 +48,13 @@ module _ (q : Question) where
   }
 
 -- an open list that found more stops for what it did before
-stops_open : (q : Question) (machine : Mode) (mode : own.Mode) (old new : Found) (why : Stop) → StopIs q machine (Open new mode) why → StopIs q machine (Open old mode) why
+stops_open : (q : Question) (machine : Machine) (mode : own.Mode) (old new : Found) (why : Stop) → StopIs q machine (Open new mode) why → StopIs q machine (Open old mode) why
 stops_open q machine mode old new (stop.New run sketch) is = is
 stops_open q machine mode old new stop.OutOfMemory is = tt
 
 -- an open list that found more
 module _ (q : Question) (mode : own.Mode) (old new : Found) (in_order : IsInOrder new) (keeps : KeepsNumbers old.listed.items new.listed.items)
-    (runs : AreRunsOf q (machine_mode q.program mode) old.runs old.outcomes.items → AreRunsOf q (machine_mode q.program mode) new.runs new.outcomes.items) where
+    (runs : AreRunsOf q (machine_of_mode q.program mode) old.runs old.outcomes.items → AreRunsOf q (machine_of_mode q.program mode) new.runs new.outcomes.items) where
   pub grows_open : Grows q (Open old mode) (Open new mode)
   grows_open = record { in_order = in_order; keeps = keeps; runs = runs; stays = (new, refl); stops = λ machine why is. stops_open q machine mode old new why is }
 
@@ -68,7 +68,7 @@ stops_as T U why (Ok made) P Q same follows part = absurd same
 stops_as T U why (Err other) P Q same follows part = subst (λ (w : Stop). OnTold {T = U} (Err w) Q) (sym same) (stopped T U why P Q follows part)
 
 -- a tree stays valid where each outcome keeps its number
-module _ (q : Question) (mode : Mode) (old new : List Outcome) (keeps : KeepsNumbers old new) where
+module _ (q : Question) (mode : Machine) (old new : List Outcome) (keeps : KeepsNumbers old new) where
   mutual
     pub still_valid : (tree : Cover) (k : Sketch) → IsValidCover q mode old tree k → IsValidCover q mode new tree k
     still_valid (Value t trees) k (values, has, valid) = (values, has, still_valid_each trees (map (with_value k t) values) valid)

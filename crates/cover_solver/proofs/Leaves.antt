@@ -1,16 +1,20 @@
 -- Leaves: a sketch that must end as an outcome of the list, or has a cycle.
-use Rattle.std.proofs.Common.{◌≡◌, List, map, refl, sym, subst}
+use Rattle.std.proofs.Common.{◌≡◌, ℕ, List, Option, Some, None, Contains, map, refl, sym, subst}
+use Rattle.std.specs.Prelude.{MatchOption}
 use Rattle.tso_program.specs.declared.outcome.Outcome.{Outcome}
 use Rattle.tso_program.specs.declared.shown.Shown.{Shown}
+use Rattle.tso_program.specs.Shown.{asked}
 use Rattle.candidate_executions.specs.declared.event.Event.{Event}
 use Rattle.candidate_executions.specs.declared.event.Kind.{Kind}
 use Rattle.candidate_executions.specs.Sketches.{IsKnownCycle}
 use Rattle.exec_axioms.specs.ProgramSketches.{ProgramSketch, mode_in}
+use Rattle.exec_axioms.specs.Completions.{MustEndSo}
 use Rattle.exec_axioms.specs.Search.{IsSimpleCycle, AreFewAccesses}
 use Rattle.cert_forest.specs.declared.tree.AccessId.{AccessId}
 use Rattle.cert_forest.specs.Trees.{Cycle}
-use Rattle.tree_laws.specs.CoverTrees.{event_of}
-use Rattle.cover_solver.specs.Covers.{IsLeafAt}
+use Rattle.tree_laws.specs.CoverTrees.{event_of, MustEndAsNumber}
+use Rattle.cover_solver.specs.Covers.{IsEndNotListed, IsLeafAt}
+use Rattle.cover_solver.specs.Found.{HasNumber}
 use Rattle.cover_solver.proofs.Neat.{neat_cycle}
 
 -- the leaf of a cycle
@@ -21,3 +25,10 @@ cycle_leaf s shown outcomes kind accesses es same simple few = record {
   neat = neat_cycle s kind accesses es same simple few;
   leaf = refl;
 }
+
+-- the number of the outcome as which the sketch must end
+pub known_number : (s : ProgramSketch) (shown : Shown) (outcomes : List Outcome) (end : Outcome) → MustEndSo s shown end → (found : Option ℕ) →
+    MatchOption found (Contains outcomes end → ⊥) (λ number. HasNumber outcomes number end) →
+    MatchOption found (IsEndNotListed s shown outcomes) (MustEndAsNumber (asked s.program shown) (mode_in s) outcomes s.chosen)
+known_number s shown outcomes end must None lacks = λ acyclic o ends here. lacks (subst (Contains outcomes) (must.only acyclic o ends) here)
+known_number s shown outcomes end must (Some number) is = record { outcome = end; is_outcome = is; must_end = must.must_end }

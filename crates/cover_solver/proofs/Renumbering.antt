@@ -5,7 +5,7 @@ use Rattle.std.proofs.lemmas.Option.{slice_get_within}
 use Rattle.tso_program.specs.declared.outcome.Outcome.{Outcome}
 use Rattle.tso_program.specs.declared.shown.Shown.{Shown}
 use Rattle.tso_program.specs.Shown.{Question, asked}
-use Rattle.tso_machine.specs.Machine.{Mode}
+use Rattle.tso_machine.specs.Machine.{Machine}
 use Rattle.candidate_executions.specs.Sketches.{Sketch, empty_sketch, with_value, with_source, with_pair}
 use Rattle.exec_axioms.specs.ProgramSketches.{ProgramSketch, mode_in}
 use Rattle.cert_forest.specs.Trees.{Cover, Value, Source, Order, Cycle, Known, Covers, NoCover, MoreCovers}
@@ -16,7 +16,7 @@ use Rattle.cover_solver.specs.Covers.{IsNeat, AreNeat, IsCoverAt, IsWholeCover}
 use Rattle.cover_solver.specs.Found.{HasNumber}
 use Rattle.cover_solver.specs.Renumbered.{renumbered, renumbered_each}
 
-module _ (q : Question) (mode : Mode) (old new : List Outcome) (place : ℕ → ℕ) (few : length new < 2 ^ 64) (moves : (n : ℕ) (o : Outcome) → HasNumber old n o → HasNumber new (place n) o) where
+module _ (q : Question) (mode : Machine) (old new : List Outcome) (place : ℕ → ℕ) (few : length new < 2 ^ 64) (moves : (n : ℕ) (o : Outcome) → HasNumber old n o → HasNumber new (place n) o) where
   -- what holds of a tree and of several, with other numbers
   record Fits (tree : Cover) (k : Sketch) : Type 0 where
     valid : IsValidCover q mode new (renumbered place tree) k

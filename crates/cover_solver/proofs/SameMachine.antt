@@ -8,7 +8,7 @@ use Rattle.tso_program.specs.declared.listing.Listing.{Listing}
 use Rattle.tso_program.specs.Listings.{gap_count, gap_number}
 use Rattle.tso_program.specs.Fences.{Gaps, gaps_in}
 use Rattle.tso_program.proofs.Gaps.{gap_below}
-use Rattle.tso_machine.specs.Machine.{Mode, Sequential, Fenced, no_gaps}
+use Rattle.tso_machine.specs.Machine.{Machine, SequentialMachine, StoreBufferMachine, no_gaps}
 
 -- the gap of this number, if the program has it, is in both sets or in neither
 abbrev pub AreAlikeAt : Listing → SetOfGaps → SetOfGaps → ℕ → Type 0
@@ -27,9 +27,9 @@ pub alike_at : (p : Listing) (one other : SetOfGaps) (gap : ℕ) → gaps_in p o
 alike_at p one other gap same t k found = ap (λ (gaps : Gaps). gaps t k) same
 
 -- a machine with gaps fenced tells which
-abbrev gaps_of : Mode → Gaps
-gaps_of Sequential = no_gaps
-gaps_of (Fenced gaps) = gaps
+abbrev gaps_of : Machine → Gaps
+gaps_of SequentialMachine = no_gaps
+gaps_of (StoreBufferMachine gaps) = gaps
 
-pub same_gaps : (one other : Gaps) → Fenced one ≡ Fenced other → one ≡ other
+pub same_gaps : (one other : Gaps) → StoreBufferMachine one ≡ StoreBufferMachine other → one ≡ other
 same_gaps one other same = ap gaps_of same

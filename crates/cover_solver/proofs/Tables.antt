@@ -18,7 +18,7 @@ use Rattle.tso_machine.proofs.Refused.{no_fault}
 use Rattle.tree_laws.proofs.Lists.{found_is_here}
 use Rattle.cover_solver.specs.declared.fault.ForeignFault.TheVariants as foreign
 use Rattle.cover_solver.specs.ForeignFaults.{ForeignFaultIs, of_replay}
-use Rattle.tso_machine.specs.Machine.{Mode, Sequential, Fenced, no_gaps, outcome_at, IsRun}
+use Rattle.tso_machine.specs.Machine.{Machine, SequentialMachine, StoreBufferMachine, no_gaps, outcome_at, IsRun}
 use Rattle.tso_machine.specs.Modes.{ArePassed}
 use Rattle.tso_machine.specs.Outcomes.{IsShownRun, IsForeignRun}
 use Rattle.fence_laws.proofs.GapsAvoided.{fenced_runs_avoid}
@@ -41,13 +41,13 @@ pub same_question : (q : Question) (p : Listing) (shown : Shown) → p ≡ q.pro
 same_question q p shown program is = λ i. record { program = program i; shown = is i }
 
 -- the table of all sequential outcomes, by a tree that names them in another order
-pub table_of : (p other : Listing) (shown : Shown) (known outcomes : List Outcome) (runs : List (List Label)) (places : List ℕ) (before tree : Cover) → other ≡ p → length outcomes < 2 ^ 64 → IsListOf (asked p shown) outcomes →
-    AreRunsOf (asked p shown) Sequential runs outcomes → IsWholeCover (asked p shown) Sequential known before → ArePlacesOf known outcomes places → tree ≡ renumbered (place_in places) before →
-    IsSequentialTable (record { question = asked other shown; outcomes = outcomes; runs = runs; tree = tree })
-table_of p other shown known outcomes runs places before tree same few list are is moves made =
+pub table_of : (p other : Listing) (shown copied : Shown) (known outcomes : List Outcome) (runs : List (List Label)) (places : List ℕ) (before tree : Cover) → other ≡ p → copied ≡ shown → length outcomes < 2 ^ 64 → IsListOf (asked p shown) outcomes →
+    AreRunsOf (asked p shown) SequentialMachine runs outcomes → IsWholeCover (asked p shown) SequentialMachine known before → ArePlacesOf known outcomes places → tree ≡ renumbered (place_in places) before →
+    IsSequentialTable (record { question = asked other copied; outcomes = outcomes; runs = runs; tree = tree })
+table_of p other shown copied known outcomes runs places before tree same alike few list are is moves made =
     let q = asked p shown in
-    let whole = subst (IsWholeCover q Sequential outcomes) (sym made) (whole_renumbered q Sequential known outcomes (place_in places) few moves before is) in
-    subst (λ (l : Listing). IsSequentialTable (record { question = asked l shown; outcomes = outcomes; runs = runs; tree = tree })) (sym same) (record { listed = list; runs = are; tree = whole })
+    let whole = subst (IsWholeCover q SequentialMachine outcomes) (sym made) (whole_renumbered q SequentialMachine known outcomes (place_in places) few moves before is) in
+    subst (λ (r : Question). IsSequentialTable (record { question = r; outcomes = outcomes; runs = runs; tree = tree })) (sym (same_question q other copied same alike)) (record { listed = list; runs = are; tree = whole })
 
 -- there is one list of a question's sequential outcomes
 pub one_list_of_outcomes : (q : Question) (xs ys : List Outcome) → IsListOf q xs → IsListOf q ys → xs ≡ ys
@@ -56,35 +56,35 @@ one_list_of_outcomes q xs ys left right =
 
 -- a set with a tree over the sequential outcomes serves
 pub serving_is : (q : Question) (gaps : SetOfGaps) (outcomes : List Outcome) (tree : Cover) → JumpForward q.program.threads → IsListOf q outcomes →
-    IsWholeCover q (Fenced (gaps_in q.program gaps)) outcomes tree → IsServing (record { question = q; gaps = gaps; tree = tree })
+    IsWholeCover q (StoreBufferMachine (gaps_in q.program gaps)) outcomes tree → IsServing (record { question = q; gaps = gaps; tree = tree })
 serving_is q gaps outcomes tree forward list is = record {
   serves = fenced_tree_serves q gaps outcomes tree forward list.exact is.valid;
-  tree = λ others are. subst (λ os. IsWholeCover q (Fenced (gaps_in q.program gaps)) os tree) (one_list_of_outcomes q outcomes others list are) is;
+  tree = λ others are. subst (λ os. IsWholeCover q (StoreBufferMachine (gaps_in q.program gaps)) os tree) (one_list_of_outcomes q outcomes others list are) is;
 }
 
 -- a run has one outcome
-pub one_end : (p : Listing) (mode : Mode) (labels : List Label) (a b : Outcome) → IsRun p mode labels a → IsRun p mode labels b → a ≡ b
+pub one_end : (p : Listing) (mode : Machine) (labels : List Label) (a b : Outcome) → IsRun p mode labels a → IsRun p mode labels b → a ≡ b
 one_end p mode labels a b (last, run, ends, is) (other, again, finished, same) =
     is ∙ ap (outcome_at p) (same_Some last other (sym run ∙ again)) ∙ sym same
 
 -- and so one thing is shown of it
-pub one_outcome : (q : Question) (mode : Mode) (labels : List Label) (a b : Outcome) → IsShownRun q mode labels a → IsShownRun q mode labels b → a ≡ b
+pub one_outcome : (q : Question) (mode : Machine) (labels : List Label) (a b : Outcome) → IsShownRun q mode labels a → IsShownRun q mode labels b → a ≡ b
 one_outcome q mode labels a b (whole, is_run, shown) (other, again, same) = shown ∙ ap (show q.shown) (one_end q.program mode labels whole other is_run again) ∙ sym same
 
 -- a run with the set fenced is one with no gap fenced
-unfenced_run : (q : Question) (gaps : SetOfGaps) (labels : List Label) (o : Outcome) → IsShownRun q (Fenced (gaps_in q.program gaps)) labels o → IsShownRun q (Fenced no_gaps) labels o
+unfenced_run : (q : Question) (gaps : SetOfGaps) (labels : List Label) (o : Outcome) → IsShownRun q (StoreBufferMachine (gaps_in q.program gaps)) labels o → IsShownRun q (StoreBufferMachine no_gaps) labels o
 unfenced_run q gaps labels o (whole, is_run, shown) = (whole, ((fenced_runs_avoid q.program gaps labels whole).0 is_run).0, shown)
 
 -- a run with the set fenced, replayed with no gap fenced
 module _ (q : Question) (gaps : SetOfGaps) (outcomes : List Outcome) (labels : List Label) (o found : Outcome) (passed : SetOfGaps) (list : IsListOf q outcomes)
-    (is_run : IsShownRun q (Fenced (gaps_in q.program gaps)) labels o) (new : Contains outcomes o → ⊥) (again : IsShownRun q (Fenced no_gaps) labels found) where
+    (is_run : IsShownRun q (StoreBufferMachine (gaps_in q.program gaps)) labels o) (new : Contains outcomes o → ⊥) (again : IsShownRun q (StoreBufferMachine no_gaps) labels found) where
   pub foreign_again : IsForeignRun q labels found
   foreign_again = record {
     is_run = again;
-    foreign = λ sequential. new (subst (Contains outcomes) (one_outcome q (Fenced no_gaps) labels found o again (unfenced_run q gaps labels o is_run)) ((list.exact found).1 sequential));
+    foreign = λ sequential. new (subst (Contains outcomes) (one_outcome q (StoreBufferMachine no_gaps) labels found o again (unfenced_run q gaps labels o is_run)) ((list.exact found).1 sequential));
   }
 
-  pub passes_none : ArePassed q.program (Fenced no_gaps) labels passed → (gap : ℕ) → set.contains passed gap ≡ true → set.contains gaps gap ≡ true → ⊥
+  pub passes_none : ArePassed q.program (StoreBufferMachine no_gaps) labels passed → (gap : ℕ) → set.contains passed gap ≡ true → set.contains gaps gap ≡ true → ⊥
   passes_none are gap passes held = ((fenced_runs_avoid q.program gaps labels is_run.0).0 is_run.1).1 gap held ((are gap).0 passes)
 
 -- an outcome has a place in a list exactly if it is one of it
@@ -94,7 +94,7 @@ found_by outcomes o (Ok n) b at none is = ((λ yes. found_is_here outcomes n o a
 found_by outcomes o (Err n) b at belongs is = ((λ yes. (let no : false ≡ true = sym is ∙ yes in absurd cc)), (λ has. absurd (not_there outcomes o n belongs has)))
 
 -- what a replay that is refused says of a foreign run
-pub fault_of_foreign : (q : Question) (labels : List Label) (why : ReplayFault) → ReplayFaultIs q.program (Fenced no_gaps) labels why → ForeignFaultIs q labels (of_replay why)
+pub fault_of_foreign : (q : Question) (labels : List Label) (why : ReplayFault) → ReplayFaultIs q.program (StoreBufferMachine no_gaps) labels why → ForeignFaultIs q labels (of_replay why)
 fault_of_foreign q labels (replays.NoSuchThread n) h = (h, (λ same. absurd cc))
 fault_of_foreign q labels (replays.AtEnd n) h = (h, (λ same. absurd cc))
 fault_of_foreign q labels (replays.BufferEmpty n) h = (h, (λ same. absurd cc))
@@ -103,11 +103,11 @@ fault_of_foreign q labels (replays.NotEnded n) h = (h, (λ same. absurd cc))
 fault_of_foreign q labels replays.OutOfMemory h = tt
 
 -- a foreign run is refused only when out of memory
-pub no_fault_of_foreign : (q : Question) (labels : List Label) (why : ReplayFault) (o : Outcome) → ReplayFaultIs q.program (Fenced no_gaps) labels why → IsForeignRun q labels o → of_replay why ≡ foreign.OutOfMemory
-no_fault_of_foreign q labels why o h run = ap of_replay (no_fault q.program (Fenced no_gaps) labels run.is_run.0 why run.is_run.1 h)
+pub no_fault_of_foreign : (q : Question) (labels : List Label) (why : ReplayFault) (o : Outcome) → ReplayFaultIs q.program (StoreBufferMachine no_gaps) labels why → IsForeignRun q labels o → of_replay why ≡ foreign.OutOfMemory
+no_fault_of_foreign q labels why o h run = ap of_replay (no_fault q.program (StoreBufferMachine no_gaps) labels run.is_run.0 why run.is_run.1 h)
 
 -- a run with the set fenced replays with no gap fenced: nothing but out of memory refuses
-pub replays_unfenced : (q : Question) (gaps : SetOfGaps) (labels : List Label) (o : Outcome) (why : ReplayFault) → IsShownRun q (Fenced (gaps_in q.program gaps)) labels o →
-    ReplayFaultIs q.program (Fenced no_gaps) labels why → why ≡ replays.OutOfMemory
+pub replays_unfenced : (q : Question) (gaps : SetOfGaps) (labels : List Label) (o : Outcome) (why : ReplayFault) → IsShownRun q (StoreBufferMachine (gaps_in q.program gaps)) labels o →
+    ReplayFaultIs q.program (StoreBufferMachine no_gaps) labels why → why ≡ replays.OutOfMemory
 replays_unfenced q gaps labels o why is_run fault =
-    let again = unfenced_run q gaps labels o is_run in no_fault q.program (Fenced no_gaps) labels again.0 why again.1 fault
+    let again = unfenced_run q gaps labels o is_run in no_fault q.program (StoreBufferMachine no_gaps) labels again.0 why again.1 fault

@@ -3,7 +3,7 @@ use Rattle.std.proofs.Common.{◌≡◌, suc, List, refl, ap, arith}
 use Rattle.std.specs.Prelude.{max}
 use Rattle.tso_program.specs.declared.outcome.Outcome.{Outcome}
 use Rattle.tso_program.specs.Shown.{Question}
-use Rattle.tso_machine.specs.Machine.{Mode, Sequential, Fenced}
+use Rattle.tso_machine.specs.Machine.{Machine, SequentialMachine, StoreBufferMachine}
 use Rattle.candidate_executions.specs.Sketches.{empty_sketch}
 use Rattle.cert_forest.specs.Trees.{Cover, Value, Source, Order, Cycle, Known, Covers, NoCover, MoreCovers}
 use Rattle.cert_forest.specs.Texts.{count_covers}
@@ -51,16 +51,16 @@ mutual
       let rest = each_neat trees (record { numbers = neat.numbers.1; simple = neat.simple.1 }) in
       record { numbers = (first.numbers, rest.numbers); simple = (first.simple, rest.simple) }
 
-pub neat_in_mode : (mode : Mode) (tree : Cover) → IsNeat tree → IsNeat (in_mode mode tree)
-neat_in_mode Sequential tree neat = neat_in_sequence tree neat
-neat_in_mode (Fenced gaps) tree neat = neat
+pub neat_in_mode : (mode : Machine) (tree : Cover) → IsNeat tree → IsNeat (in_mode mode tree)
+neat_in_mode SequentialMachine tree neat = neat_in_sequence tree neat
+neat_in_mode (StoreBufferMachine gaps) tree neat = neat
 
-pub depth_in_mode : (mode : Mode) (tree : Cover) → cover_depth (in_mode mode tree) ≡ cover_depth tree
-depth_in_mode Sequential tree = same_depth tree
-depth_in_mode (Fenced gaps) tree = refl
+pub depth_in_mode : (mode : Machine) (tree : Cover) → cover_depth (in_mode mode tree) ≡ cover_depth tree
+depth_in_mode SequentialMachine tree = same_depth tree
+depth_in_mode (StoreBufferMachine gaps) tree = refl
 
 -- so of a tree at the sketch with no choice
-pub whole_in_mode : (q : Question) (loose tight : Mode) (outcomes : List Outcome) (tree : Cover) → IsNoLooser loose tight →
+pub whole_in_mode : (q : Question) (loose tight : Machine) (outcomes : List Outcome) (tree : Cover) → IsNoLooser loose tight →
     IsWholeCover q loose outcomes tree → IsWholeCover q tight outcomes (in_mode tight tree)
 whole_in_mode q loose tight outcomes tree tighter is = record {
   valid = tighter_keeps_cover q loose tight outcomes tree (empty_sketch q.program) tighter is.valid;

@@ -7,7 +7,7 @@ use Rattle.tso_machine.specs.declared.label.Label.{Label}
 use Rattle.tso_machine.specs.declared.replaying.ReplayFault.{ReplayFault}
 use Rattle.tso_machine.specs.declared.replaying.ReplayFault.TheVariants as replays
 use Rattle.tso_machine.specs.Faults.{ReplayFaultIs}
-use Rattle.tso_machine.specs.Machine.{Fenced, no_gaps}
+use Rattle.tso_machine.specs.Machine.{StoreBufferMachine, no_gaps}
 use Rattle.tso_machine.specs.Outcomes.{IsShownRun, IsSequentialOutcome}
 use Rattle.cover_solver.specs.declared.fault.ForeignFault.{ForeignFault}
 use Rattle.cover_solver.specs.declared.fault.ForeignFault.TheVariants.{Replay, Sequential, OutOfMemory}
@@ -23,11 +23,11 @@ of_replay (replays.NotEnded n) = Replay (replays.NotEnded n)
 
 -- a fault of the replay other than out of memory
 abbrev pub IsReplayFault : Listing → List Label → ReplayFault → Type 0
-IsReplayFault p labels fault = ReplayFaultIs p (Fenced no_gaps) labels fault × (fault ≡ replays.OutOfMemory → ⊥)
+IsReplayFault p labels fault = ReplayFaultIs p (StoreBufferMachine no_gaps) labels fault × (fault ≡ replays.OutOfMemory → ⊥)
 
 -- the labels are a run with a sequential outcome, as far as it is shown
 abbrev pub IsSequentialRun : Question → List Label → Type 0
-IsSequentialRun q labels = (o : Outcome) × IsShownRun q (Fenced no_gaps) labels o × IsSequentialOutcome q o
+IsSequentialRun q labels = (o : Outcome) × IsShownRun q (StoreBufferMachine no_gaps) labels o × IsSequentialOutcome q o
 
 -- what a fault says of the labels; out of memory says nothing
 abbrev pub ForeignFaultIs : Question → List Label → ForeignFault → Type 0

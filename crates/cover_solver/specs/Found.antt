@@ -4,7 +4,7 @@ use Rattle.std.specs.List.{AllZip}
 use Rattle.tso_program.specs.declared.outcome.Outcome.{Outcome}
 use Rattle.tso_program.specs.Shown.{Question}
 use Rattle.tso_machine.specs.declared.label.Label.{Label}
-use Rattle.tso_machine.specs.Machine.{Mode}
+use Rattle.tso_machine.specs.Machine.{Machine}
 use Rattle.tso_machine.specs.Outcomes.{IsShownRun}
 use Rattle.cover_solver.specs.declared.found.Found.{Found}
 use Rattle.cover_solver.specs.Ordered.{Ascend}
@@ -29,7 +29,7 @@ pub record IsInOrder (found : Found) : Type 0 where
   pub as_many : length found.runs ≡ length found.outcomes.items
 
 -- as many runs of the mode's machine as outcomes, of each of which this is shown
-abbrev pub AreRunsOf : Question → Mode → List (List Label) → List Outcome → Type 0
+abbrev pub AreRunsOf : Question → Machine → List (List Label) → List Outcome → Type 0
 AreRunsOf q mode runs outcomes = AllZip (IsShownRun q mode) runs outcomes
 
 -- a number of one list, and what stands for it at another

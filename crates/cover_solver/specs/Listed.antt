@@ -2,9 +2,9 @@
 use Rattle.std.specs.Prelude.{◌≡◌, List, Result, Ok, Err, Contains}
 use Rattle.tso_program.specs.declared.outcome.Outcome.{Outcome}
 use Rattle.tso_program.specs.declared.shown.Shown.{Shown}
-use Rattle.tso_program.specs.Shown.{Question, asked, show}
-use Rattle.tso_machine.specs.Machine.{Mode}
-use Rattle.tso_machine.specs.Modes.{machine_mode}
+use Rattle.tso_program.specs.Shown.{Question, asked}
+use Rattle.tso_machine.specs.Machine.{Machine}
+use Rattle.tso_machine.specs.Modes.{machine_of_mode}
 use Rattle.tso_machine.specs.Outcomes.{IsShownRun}
 use Rattle.candidate_executions.specs.Sketches.{MustEndAs}
 use Rattle.exec_axioms.specs.ProgramSketches.{ProgramSketch, mode_in}
@@ -29,18 +29,18 @@ AreInOrder (Open found mode) = IsInOrder found
 -- the list is open, and each of its outcomes is what is shown of that of its run in the mode
 abbrev pub HasRunOfEach : Question → Listed → Type 0
 HasRunOfEach q (Closed outcomes) = ⊥
-HasRunOfEach q (Open found mode) = AreRunsOf q (machine_mode q.program mode) found.runs found.outcomes.items
+HasRunOfEach q (Open found mode) = AreRunsOf q (machine_of_mode q.program mode) found.runs found.outcomes.items
 
--- a list that is open for the sketch's own mode has what is shown of an outcome as which the sketch must end
+-- a list that is open for the sketch's own mode has an outcome as which the sketch must end
 abbrev pub HasOwnEnd : ProgramSketch → Shown → Listed → Type 0
 HasOwnEnd s shown (Closed outcomes) = Unit {0}
-HasOwnEnd s shown (Open found mode) = machine_mode s.program mode ≡ mode_in s → (o : Outcome) × MustEndAs (asked s.program shown) (mode_in s) s.chosen o × Contains found.listed.items (show shown o)
+HasOwnEnd s shown (Open found mode) = machine_of_mode s.program mode ≡ mode_in s → (o : Outcome) × MustEndAs (asked s.program shown) (mode_in s) s.chosen o × Contains found.listed.items o
 
 -- why no tree is found in a mode: a closed list lacks the outcome of a run, and an open list is open for another mode
-abbrev pub StopIs : Question → Mode → Listed → Stop → Type 0
+abbrev pub StopIs : Question → Machine → Listed → Stop → Type 0
 StopIs q mode (Closed outcomes) (stop.New run sketch) = IsShownRun q mode run.labels.items run.outcome × (Contains outcomes.now run.outcome → ⊥)
 StopIs q mode (Closed outcomes) stop.OutOfMemory = Unit {0}
-StopIs q mode (Open found of) (stop.New run sketch) = machine_mode q.program of ≡ mode → ⊥
+StopIs q mode (Open found of) (stop.New run sketch) = machine_of_mode q.program of ≡ mode → ⊥
 StopIs q mode (Open found of) stop.OutOfMemory = Unit {0}
 
 -- a closed list is what it was, and an open one is open for the mode that it was
@@ -54,7 +54,7 @@ pub record Grows (q : Question) (old new : Listed) : Type 0 where
   pub keeps : KeepsNumbers (listed old) (listed new)
   pub runs : HasRunOfEach q old → HasRunOfEach q new
   pub stays : StaysOf old new
-  pub stops : (mode : Mode) (why : Stop) → StopIs q mode new why → StopIs q mode old why
+  pub stops : (mode : Machine) (why : Stop) → StopIs q mode new why → StopIs q mode old why
 
 -- this holds unless memory is out
 abbrev pub OnTold : {T : Type 0} → Result T Stop → Type 0 → Type 0

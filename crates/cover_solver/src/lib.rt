@@ -38,6 +38,7 @@ mod solver;
 mod table;
 mod tally;
 mod traces;
+mod witnesses;
 
 pub use fault::{ForeignFault, SolveFault};
 pub use foreign::ForeignRun;
@@ -46,3 +47,4 @@ pub use oracle::{Oracle, Verdict};
 pub use served::Served;
 pub use solver::Solver;
 pub use table::{SeqTable, sequential};
+pub use witnesses::witness;

@@ -4,7 +4,7 @@ ghost use Rattle.std.specs.FinSet as set;
 ghost use Rattle.tso_program.specs.declared.outcome.Outcome.{Outcome};
 ghost use Rattle.tso_program.specs.Shown.{asked};
 ghost use Rattle.tso_machine.specs.Outcomes.{AllowsShown};
-ghost use Rattle.tso_machine.specs.Modes.{mode_of};
+ghost use Rattle.tso_machine.specs.Modes.{machine_of_model};
 ghost use Rattle.cover_solver.specs.Ordered.{Ascend};
 
 use crate::all_outcomes::all_outcomes;
@@ -24,7 +24,7 @@ pub fn outcomes(
 ) -> Result<Vec<Outcome>, SolveFault>
     ensures ascend { IfOk result (λ outcomes. Ascend outcomes.items) }
     ensures fault { IfErr result (λ fault. fault ≡ SolveFault.OutOfMemory) }
-    ensures exact { IfOk result (λ outcomes. (o : Outcome) → Contains outcomes.items o ↔ AllowsShown (asked program.now shown.now) (mode_of program.now set.empty model) o) }
+    ensures exact { IfOk result (λ outcomes. (o : Outcome) → Contains outcomes.items o ↔ AllowsShown (asked program.now shown.now) (machine_of_model program.now set.empty model) o) }
 {
     let all = all_outcomes(alloc, program, shown, Mode::unfenced(model))?;
     Ok(all.into_outcomes())

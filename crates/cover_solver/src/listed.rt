@@ -2,7 +2,7 @@
 ghost use Rattle.std.specs.Prelude.{◌≡◌, IfOk, IfSome, OnOk, MatchOption, Contains};
 ghost use Rattle.std.specs.Option.{IsSomeAnd};
 ghost use Rattle.tso_program.specs.Shown.{asked};
-ghost use Rattle.tso_machine.specs.Modes.{machine_mode};
+ghost use Rattle.tso_machine.specs.Modes.{machine_of_mode};
 ghost use Rattle.tso_machine.specs.Outcomes.{IsShownRun};
 ghost use Rattle.exec_axioms.specs.ProgramSketches.{mode_in};
 ghost use Rattle.exec_axioms.specs.Complete.{IsComplete};
@@ -97,8 +97,8 @@ fn run_in(
 ) -> Result<Option<MadeRun>, AllocError>
     requires complete { IsComplete sketch.now }
     requires acyclic { HasNoCycle sketch.now }
-    ensures run { IfOk result (λ found. IfSome found (λ run. IsShownRun (asked sketch.now.program shown.now) (machine_mode sketch.now.program mode) run.labels.items run.outcome)) }
-    ensures own { machine_mode sketch.now.program mode ≡ mode_in sketch.now → IfOk result (λ found. IsSomeAnd found (IsShownRunOf sketch.now shown.now)) }
+    ensures run { IfOk result (λ found. IfSome found (λ run. IsShownRun (asked sketch.now.program shown.now) (machine_of_mode sketch.now.program mode) run.labels.items run.outcome)) }
+    ensures own { machine_of_mode sketch.now.program mode ≡ mode_in sketch.now → IfOk result (λ found. IsSomeAnd found (IsShownRunOf sketch.now shown.now)) }
 {
     if have_same_machine(sketch.program(), mode, sketch.mode()) {
         return Ok(Some(shown_run(alloc, sketch, shown)?));

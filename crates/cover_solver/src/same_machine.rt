@@ -2,7 +2,7 @@
 ghost use Rattle.std.specs.Prelude.{◌≡◌, ◌↔◌, ℕ, Some, IsTrue};
 ghost use Rattle.tso_program.specs.Fences.{gaps_in};
 ghost use Rattle.tso_program.specs.Listings.{gap_number};
-ghost use Rattle.tso_machine.specs.Modes.{machine_mode};
+ghost use Rattle.tso_machine.specs.Modes.{machine_of_mode};
 
 use exec_axioms::Mode;
 use gap_sets::GapSet;
@@ -10,7 +10,7 @@ use tso_program::Program;
 
 /// Whether two modes have the same machine for a program.
 pub(crate) fn have_same_machine(program: &Program, one: Mode, other: Mode) -> bool
-    ensures { IsTrue result ↔ (machine_mode program.now one ≡ machine_mode program.now other) }
+    ensures { IsTrue result ↔ (machine_of_mode program.now one ≡ machine_of_mode program.now other) }
 {
     match one {
         Mode::Sequential => matches!(other, Mode::Sequential),

@@ -13,7 +13,7 @@ use Rattle.tso_program.specs.declared.listing.Thread.{Thread}
 use Rattle.tso_program.specs.declared.listing.Listing.{Listing}
 use Rattle.tso_program.specs.Limits.{IsWithinLimits}
 use Rattle.tso_program.specs.Listings.{gaps_of_thread, gap_count, instr_at, start_of}
-use Rattle.tso_machine.specs.Machine.{Mode}
+use Rattle.tso_machine.specs.Machine.{Machine}
 use Rattle.candidate_executions.specs.declared.access.Access.{Access}
 use Rattle.candidate_executions.specs.declared.event.Event.{Event}
 use Rattle.candidate_executions.specs.declared.event.Event.TheVariants.{Initial, Access as At}
@@ -118,7 +118,7 @@ not_before_itself (Initial l) h = omega arith
 not_before_itself (At t i) (inl h) = omega arith
 not_before_itself (At t i) (inr h) = let less = h.1 in omega arith
 
-module _ (p : Listing) (mode : Mode) (k : Sketch) (read : Event) (within : IsWithinLimits p.threads p.memory) where
+module _ (p : Listing) (mode : Machine) (k : Sketch) (read : Event) (within : IsWithinLimits p.threads p.memory) where
   -- a source is the initial write of the read's location, or an access
   source_here : (x : Access) → access_by p mode (given_to k) read ≡ Some x → (source : Event) → IsSourceOf p mode k source read → Contains (Initial x.location ∷ all_events p mode (given_to k) within) source
   source_here x at (Initial l) (y, v, there, reads, differ, w) =

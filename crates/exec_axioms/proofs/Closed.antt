@@ -10,7 +10,7 @@ use Rattle.candidate_executions.specs.Consistency.{SameThread}
 use Rattle.candidate_executions.specs.Sketches.{KnownEdgeOfMode, IsWhole}
 use Rattle.tso_machine.specs.declared.mode.Mode.{Mode}
 use Rattle.tso_machine.specs.declared.mode.Mode.TheVariants.{Sequential, Fenced}
-use Rattle.tso_machine.specs.Modes.{machine_mode}
+use Rattle.tso_machine.specs.Modes.{machine_of_mode}
 use Rattle.exec_axioms.specs.declared.connect.SourceRows.{SourceRows}
 use Rattle.exec_axioms.specs.declared.connect.OrderRows.{OrderRows}
 use Rattle.exec_axioms.specs.declared.thread_trace.ThreadTrace.{ThreadTrace}
@@ -30,7 +30,7 @@ side union.Location main global h = inl h
 side union.Global main global h = inr h
 
 module _ (p : Listing) (mode : Mode) (thread_traces : List ThreadTrace) (events : List Event) (sources pairs : List (Event × Event)) (later main global : List ℕ)
-    (is : IsRepresented p mode thread_traces events sources pairs later main global) (whole : IsWhole p (machine_mode p mode) (view_of p mode thread_traces sources pairs).chosen) where
+    (is : IsRepresented p mode thread_traces events sources pairs later main global) (whole : IsWhole p (machine_of_mode p mode) (view_of p mode thread_traces sources pairs).chosen) where
   abbrev v : ProgramSketch
   v = view_of p mode thread_traces sources pairs
 

@@ -13,7 +13,7 @@ use Rattle.tso_program.specs.declared.listing.Thread.{Thread}
 use Rattle.tso_program.specs.Listings.{accesses_of, code_of}
 use Rattle.tso_program.specs.declared.listing.Listing.{Listing}
 use Rattle.tso_program.specs.Limits.{IsWithinLimits}
-use Rattle.tso_machine.specs.Machine.{Mode}
+use Rattle.tso_machine.specs.Machine.{Machine}
 use Rattle.candidate_executions.specs.Traces.{trace_by}
 use Rattle.candidate_executions.specs.declared.event.Event.{Event}
 use Rattle.candidate_executions.specs.declared.event.Event.TheVariants.{Access as At}
@@ -102,7 +102,7 @@ module _ (counts : ℕ → ℕ) where
       let there = ap (λ m. sum_by length (take m xs)) same in
       omega arith
 
-module _ (p : Listing) (mode : Mode) (given : ℕ → List ℕ) (within : IsWithinLimits p.threads p.memory) where
+module _ (p : Listing) (mode : Machine) (given : ℕ → List ℕ) (within : IsWithinLimits p.threads p.memory) where
   abbrev counts : ℕ → ℕ
   counts t = length (trace_by p mode given t).accesses
 

@@ -3,7 +3,7 @@ use Rattle.std.proofs.Common.{◌≡◌, ◌↔◌, ◌⊎◌, ℕ, ◌<◌, Lis
 use Rattle.std.specs.Prelude.{slice_index}
 use Rattle.std.proofs.lemmas.Bool.{cases_eq}
 use Rattle.std.proofs.lemmas.Option.{same_Some}
-use Rattle.tso_machine.specs.Machine.{Mode, Sequential, Fenced}
+use Rattle.tso_machine.specs.Machine.{Machine, SequentialMachine, StoreBufferMachine}
 use Rattle.candidate_executions.specs.declared.access.Access.{Access}
 use Rattle.candidate_executions.specs.declared.event.Event.{Event}
 use Rattle.candidate_executions.specs.declared.event.Event.TheVariants.{Initial, Access as At}
@@ -23,9 +23,9 @@ use Rattle.exec_axioms.specs.Endings.{WritesTo, MayEndWith}
 use Rattle.exec_axioms.proofs.ChoicesCounted.{events, events_has}
 use Rattle.exec_axioms.proofs.RoundTrips.{round_trip}
 
-pub of_followed : (m : Mode) → IsOfMode m (followed_union m)
-of_followed Sequential = tt
-of_followed (Fenced gaps) = tt
+pub of_followed : (m : Machine) → IsOfMode m (followed_union m)
+of_followed SequentialMachine = tt
+of_followed (StoreBufferMachine gaps) = tt
 
 pub known_before : (s : ProgramSketch) (kind : Kind) (d e : Event) (x y : Access) → IsBefore s.chosen d e y → KnownRelates s.chosen kind d x e y
 known_before s union.Sequential d e x y h = inr (inr (inl h))

@@ -19,7 +19,7 @@ use Rattle.candidate_executions.specs.Sketches.{IsWhole, IsPair, given_to, next_
 use Rattle.tso_machine.specs.declared.mode.Mode.{Mode}
 use Rattle.tso_machine.specs.declared.mode.Mode.TheVariants.{Sequential, Fenced}
 use Rattle.exec_axioms.specs.declared.thread_trace.ThreadTrace.{ThreadTrace}
-use Rattle.tso_machine.specs.Modes.{machine_mode}
+use Rattle.tso_machine.specs.Modes.{machine_of_mode}
 use Rattle.exec_axioms.specs.ProgramSketches.{ProgramSketch, mode_in, trace_in, access_in}
 use Rattle.exec_axioms.specs.Kept.{view_of, KeepsTraces}
 use Rattle.exec_axioms.specs.Known.{IsInitialWrite}
@@ -50,7 +50,7 @@ pub contained : (events : List Event) (x : Event) → HasNumber events x → Con
 contained events x (k, at) = (k, slice_get_within events k x at, get_or_from_slice_get events k x x at)
 
 -- the rows of a union of the mode
-pub rows_of_kind : (p : Listing) (mode : Mode) (kind : Kind) (events : List Event) (R : Kind → Event → Event → Type 0) (main global : List ℕ) → IsOfMode (machine_mode p mode) kind →
+pub rows_of_kind : (p : Listing) (mode : Mode) (kind : Kind) (events : List Event) (R : Kind → Event → Event → Type 0) (main global : List ℕ) → IsOfMode (machine_of_mode p mode) kind →
     AreRowsOf events (R (main_kind mode)) main → AreRowsOf events (R union.Global) global → AreRowsOf events (R kind) (rows_of kind main global)
 rows_of_kind p Sequential union.Sequential events R main global of_mode a b = a
 rows_of_kind p Sequential union.Location events R main global of_mode a b = absurd of_mode

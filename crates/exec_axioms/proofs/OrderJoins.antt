@@ -8,7 +8,7 @@ use Rattle.tso_program.specs.declared.action.Local.{Local}
 use Rattle.tso_program.specs.declared.listing.Listing.{Listing}
 use Rattle.tso_program.specs.Listings.{action, start_of}
 use Rattle.tso_machine.specs.declared.mode.Mode.{Mode}
-use Rattle.tso_machine.specs.Modes.{machine_mode}
+use Rattle.tso_machine.specs.Modes.{machine_of_mode}
 use Rattle.candidate_executions.specs.declared.access.Access.{Access}
 use Rattle.candidate_executions.specs.declared.event.Event.{Event}
 use Rattle.candidate_executions.specs.declared.event.Event.TheVariants.{Initial, Access as At}
@@ -82,7 +82,7 @@ module _ (p : Listing) (mode : Mode) (thread_traces : List ThreadTrace) (sources
   rise_in (At t i) (Initial l) x y h a b = absurd h
   rise_in (At t i) (At u j) x y h a b =
       let same = accesses_same p mode thread_traces sources pairs kept t in
-      sections_rise (action p.threads t) (fenced_gaps (machine_mode p mode) t) _ 0 (start_of p.threads t) _ i j x y h.1
+      sections_rise (action p.threads t) (fenced_gaps (machine_of_mode p mode) t) _ 0 (start_of p.threads t) _ i j x y h.1
       (sym (ap (λ xs. slice_get xs i) same) ∙ a) (sym (ap (λ xs. slice_get xs j) same) ∙ subst (λ v. access_of thread_traces (At v j) ≡ Some y) (sym h.0) b)
 
   parts_then : (kind : Kind) (d e f : Event) (x y z : Access) → access_of thread_traces d ≡ Some x → access_of thread_traces e ≡ Some y → access_of thread_traces f ≡ Some z →

@@ -6,7 +6,7 @@ use Rattle.std.proofs.lemmas.Option.{same_Some, unwrap_or-slice_get}
 use Rattle.tso_program.specs.declared.listing.Listing.{Listing}
 use Rattle.tso_program.specs.Listings.{action, code_of, start_of}
 use Rattle.tso_machine.specs.declared.mode.Mode.{Mode}
-use Rattle.tso_machine.specs.Modes.{machine_mode}
+use Rattle.tso_machine.specs.Modes.{machine_of_mode}
 use Rattle.candidate_executions.specs.declared.event.Event.{Event}
 use Rattle.candidate_executions.specs.Values.{IsValueOf}
 use Rattle.candidate_executions.specs.Traces.{trace, fenced_gaps}
@@ -39,7 +39,7 @@ module _ (s u : ProgramSketch) (t : ℕ) (lawful : IsLawful s) (alone : HasValue
   within = (let each = lawful.is_sketch.each_thread in omega arith)
 
   abbrev traced_with : Listing → Mode → ℕ → List ℕ → Type 0
-  traced_with p m v given = Good (IsValueOf p) (trace (action p.threads v) (fenced_gaps (machine_mode p m) v) (length (code_of p.threads v)) 0 (start_of p.threads v) given)
+  traced_with p m v given = Good (IsValueOf p) (trace (action p.threads v) (fenced_gaps (machine_of_mode p m) v) (length (code_of p.threads v)) 0 (start_of p.threads v) given)
 
   theirs : traced_with s.program s.mode t (given_to u.chosen t)
   theirs = subst (λ p. traced_with p s.mode t (given_to u.chosen t)) program (subst (λ m. traced_with u.program m t (given_to u.chosen t)) mode (good_of u other t))
@@ -83,15 +83,15 @@ module _ (p q : Listing) (mode other_mode : Mode) (thread_traces others : List T
   inside : t < length thread_traces
   inside = (let same = kept.one_each in omega arith)
 
-  own : IsThreadTraceOf p (machine_mode p mode) t c.given c
-  own = subst (λ l. IsThreadTraceOf l (machine_mode l mode) t c.given c) program
-      (subst (λ m. IsThreadTraceOf q (machine_mode q m) t c.given c) same_mode (others_kept.traces_are t c at))
+  own : IsThreadTraceOf p (machine_of_mode p mode) t c.given c
+  own = subst (λ l. IsThreadTraceOf l (machine_of_mode l mode) t c.given c) program
+      (subst (λ m. IsThreadTraceOf q (machine_of_mode q m) t c.given c) same_mode (others_kept.traces_are t c at))
 
-  are : (u : ℕ) (d : ThreadTrace) → slice_get (set thread_traces t c) u ≡ Some d → IsThreadTraceOf p (machine_mode p mode) u d.given d
+  are : (u : ℕ) (d : ThreadTrace) → slice_get (set thread_traces t c) u ≡ Some d → IsThreadTraceOf p (machine_of_mode p mode) u d.given d
   are u d e = elim (cases_eq u t) [
     | inl q ↦ (let here : slice_get (set thread_traces t c) t ≡ Some d = subst (λ z. slice_get (set thread_traces t c) z ≡ Some d) q e in
         let same : c ≡ d = same_Some c d (sym (get_set_same thread_traces t c inside) ∙ here) in
-        subst (λ z. IsThreadTraceOf p (machine_mode p mode) z d.given d) (sym q) (subst (λ (x : ThreadTrace). IsThreadTraceOf p (machine_mode p mode) t x.given x) same own))
+        subst (λ z. IsThreadTraceOf p (machine_of_mode p mode) z d.given d) (sym q) (subst (λ (x : ThreadTrace). IsThreadTraceOf p (machine_of_mode p mode) t x.given x) same own))
     | inr ne ↦ kept.traces_are u d (sym (get_set_other thread_traces t c u ne) ∙ e)
   ]
 

@@ -16,7 +16,7 @@ use Rattle.candidate_executions.specs.Sketches as sketches
 use Rattle.candidate_executions.proofs.Orders.Lists.{get_some}
 use Rattle.tso_machine.specs.declared.mode.Mode.{Mode}
 use Rattle.exec_axioms.specs.declared.thread_trace.ThreadTrace.{ThreadTrace}
-use Rattle.tso_machine.specs.Modes.{machine_mode}
+use Rattle.tso_machine.specs.Modes.{machine_of_mode}
 use Rattle.exec_axioms.specs.ProgramSketches.{ProgramSketch, trace_in}
 use Rattle.exec_axioms.specs.Kept.{given_in, view_of, KeepsTraces}
 use Rattle.exec_axioms.specs.Sizes.{HaveAllRegisters}
@@ -44,12 +44,12 @@ module _ (p : Listing) (mode : Mode) (thread_traces : List ThreadTrace) (sources
 
   pub trace_accesses : (t : ℕ) (c : ThreadTrace) → slice_get thread_traces t ≡ Some c → (trace_in s t).accesses ≡ c.accesses
   trace_accesses t c e =
-      ap (λ given. (trace (action p.threads t) (fenced_gaps (machine_mode p mode) t) (length (code_of p.threads t)) 0 (start_of p.threads t) given).accesses) (trace_given t c e)
+      ap (λ given. (trace (action p.threads t) (fenced_gaps (machine_of_mode p mode) t) (length (code_of p.threads t)) 0 (start_of p.threads t) given).accesses) (trace_given t c e)
       ∙ (kept.traces_are t c e).accesses
 
   pub trace_last : (t : ℕ) (c : ThreadTrace) → slice_get thread_traces t ≡ Some c → (trace_in s t).last ≡ c.last
   trace_last t c e =
-      ap (λ given. (trace (action p.threads t) (fenced_gaps (machine_mode p mode) t) (length (code_of p.threads t)) 0 (start_of p.threads t) given).last) (trace_given t c e)
+      ap (λ given. (trace (action p.threads t) (fenced_gaps (machine_of_mode p mode) t) (length (code_of p.threads t)) 0 (start_of p.threads t) given).last) (trace_given t c e)
       ∙ (kept.traces_are t c e).last
 
   pub no_trace : (t : ℕ) → slice_get thread_traces t ≡ None → length p.threads ≤ t
@@ -57,18 +57,18 @@ module _ (p : Listing) (mode : Mode) (thread_traces : List ThreadTrace) (sources
 
   pub no_accesses : (t : ℕ) → slice_get thread_traces t ≡ None → (trace_in s t).accesses ≡ []
   no_accesses t e =
-      ap (λ code. (trace (action p.threads t) (fenced_gaps (machine_mode p mode) t) (length code) 0 (start_of p.threads t) (given_in thread_traces t)).accesses)
+      ap (λ code. (trace (action p.threads t) (fenced_gaps (machine_of_mode p mode) t) (length code) 0 (start_of p.threads t) (given_in thread_traces t)).accesses)
       (no_code p.threads t (no_trace t e))
 
   pub trace_next : (t : ℕ) (c : ThreadTrace) → slice_get thread_traces t ≡ Some c →
-      sketches.next_read p (machine_mode p mode) s.chosen t ≡ sketches.read_by (action p.threads t c.last)
+      sketches.next_read p (machine_of_mode p mode) s.chosen t ≡ sketches.read_by (action p.threads t c.last)
   trace_next t c e = ap (λ l. sketches.read_by (action p.threads t l)) (trace_last t c e)
 
-  pub past_next : (t : ℕ) → length p.threads ≤ t → sketches.next_read p (machine_mode p mode) s.chosen t ≡ None
+  pub past_next : (t : ℕ) → length p.threads ≤ t → sketches.next_read p (machine_of_mode p mode) s.chosen t ≡ None
   past_next t h = ap sketches.read_by (no_action p.threads t (trace_in s t).last h)
 
   -- a thread with a next read is there
-  pub reads_there : (t : ℕ) → IsSome (sketches.next_read p (machine_mode p mode) s.chosen t) → t < length thread_traces
+  pub reads_there : (t : ℕ) → IsSome (sketches.next_read p (machine_of_mode p mode) s.chosen t) → t < length thread_traces
   reads_there t some = elim (cases_lt t (length thread_traces)) [
     | inl h ↦ h
     | inr h ↦ (let same = kept.one_each in

@@ -3,7 +3,7 @@ use Rattle.std.specs.Prelude.{ℕ, Option}
 use Rattle.tso_program.specs.declared.listing.Listing.{Listing}
 use Rattle.tso_machine.specs.declared.mode.Mode.{Mode}
 use Rattle.tso_machine.specs.Machine as machine
-use Rattle.tso_machine.specs.Modes.{machine_mode}
+use Rattle.tso_machine.specs.Modes.{machine_of_mode}
 use Rattle.candidate_executions.specs.declared.access.Access.{Access}
 use Rattle.candidate_executions.specs.declared.event.Event.{Event}
 use Rattle.candidate_executions.specs.Traces.{Trace, trace_by}
@@ -17,8 +17,8 @@ pub record ProgramSketch : Type 0 where
   pub chosen : Sketch
 
 -- the machine of the mode
-abbrev pub mode_in : ProgramSketch → machine.Mode
-mode_in s = machine_mode s.program s.mode
+abbrev pub mode_in : ProgramSketch → machine.Machine
+mode_in s = machine_of_mode s.program s.mode
 
 -- what thread t does under its given values, up to its first read that has none
 abbrev pub trace_in : ProgramSketch → ℕ → Trace

@@ -4,7 +4,7 @@ use Rattle.tso_program.specs.declared.action.Local.{Local}
 use Rattle.tso_program.specs.declared.action.Action.{Action}
 use Rattle.tso_program.specs.declared.listing.Listing.{Listing}
 use Rattle.tso_program.specs.Listings.{start_of, action}
-use Rattle.tso_machine.specs.Machine.{Mode}
+use Rattle.tso_machine.specs.Machine.{Machine}
 use Rattle.candidate_executions.specs.Sketches.{read_by}
 use Rattle.candidate_executions.specs.declared.access.Access.{Access}
 use Rattle.candidate_executions.specs.Traces.{Trace, traced, stopped, trace_by}
@@ -28,14 +28,14 @@ GoesOn section w next a given false = (next.accesses ≡ w.accesses) × (next.la
     ((rest : ℕ → Local → List ℕ → Trace) → traced rest section w.last a (drop w.taken given) ≡ stopped w.last (drop w.taken given))
 
 -- the accesses of thread t under the given values, and its state where it stops; it starts with six registers
-pub record IsTraceSoFarOf (p : Listing) (mode : Mode) (t : ℕ) (given : List ℕ) (w : TraceSoFar) : Type 0 where
+pub record IsTraceSoFarOf (p : Listing) (mode : Machine) (t : ℕ) (given : List ℕ) (w : TraceSoFar) : Type 0 where
   pub accesses : (trace_by p mode (λ u. given) t).accesses ≡ w.accesses
   pub last : (trace_by p mode (λ u. given) t).last ≡ w.last
   pub few : length w.accesses ≤ MAX_ACCESSES
   pub registers : length (start_of p.threads t).registers ≡ 6
 
 -- the same, with the values, and the location of the read where it stops
-pub record IsThreadTraceOf (p : Listing) (mode : Mode) (t : ℕ) (given : List ℕ) (c : ThreadTrace) : Type 0 where
+pub record IsThreadTraceOf (p : Listing) (mode : Machine) (t : ℕ) (given : List ℕ) (c : ThreadTrace) : Type 0 where
   pub given_is : c.given ≡ given
   pub accesses : (trace_by p mode (λ u. given) t).accesses ≡ c.accesses
   pub last : (trace_by p mode (λ u. given) t).last ≡ c.last

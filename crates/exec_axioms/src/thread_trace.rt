@@ -3,7 +3,7 @@ ghost use Rattle.std.specs.Prelude.{◌≡◌, ◌↔◌, ◌<◌, ◌≤◌, �
 ghost use Rattle.tso_program.specs.Actions.{IsLocated};
 ghost use Rattle.candidate_executions.specs.Sketches as sketches;
 ghost use Rattle.candidate_executions.specs.Traces.{entered, store_of};
-ghost use Rattle.tso_machine.specs.Modes.{machine_mode};
+ghost use Rattle.tso_machine.specs.Modes.{machine_of_mode};
 ghost use Rattle.bit_rows.specs.Rows.{IsIn};
 ghost use Rattle.bit_rows.specs.declared.row.TheConstants.{ROW_BITS};
 ghost use Rattle.exec_axioms.specs.Rows.{IsLaterIn};
@@ -278,7 +278,7 @@ fn walked(
     given: &[u32],
 ) -> Result<TraceSoFar, AllocError>
     requires { t < length program.now.threads }
-    ensures { IfOk result (IsTraceSoFarOf program.now (machine_mode program.now mode) t given.now) }
+    ensures { IfOk result (IsTraceSoFarOf program.now (machine_of_mode program.now mode) t given.now) }
 {
     let thread = &program.threads()[t as usize];
     let mut walk = TraceSoFar::new(alloc, thread.registers, thread.code.len())?;
@@ -302,7 +302,7 @@ pub(crate) fn thread_trace_of(
     given: Items<u32>,
 ) -> Result<SharedTrace, AllocError>
     requires { t < length program.now.threads }
-    ensures { IfOk result (IsThreadTraceOf program.now (machine_mode program.now mode) t given) }
+    ensures { IfOk result (IsThreadTraceOf program.now (machine_of_mode program.now mode) t given) }
 {
     let walk = walked(alloc, program, mode, t, given.as_slice())?;
     let next = read_by(program.action(t, walk.last));

@@ -11,13 +11,13 @@ use Rattle.tso_program.specs.Listings.{action, instr_at}
 use Rattle.tso_program.specs.Fences.{Gaps}
 use Rattle.tso_machine.specs.declared.label.Label.TheVariants.{Exec, Flush}
 use Rattle.tso_machine.specs.declared.label.Pending.{Pending}
-use Rattle.tso_machine.specs.Machine.{Mode, Sequential, Fenced, State, put, when_empty, past_gap, buffered, direct, flushed, step}
+use Rattle.tso_machine.specs.Machine.{Machine, SequentialMachine, StoreBufferMachine, State, put, when_empty, past_gap, buffered, direct, flushed, step}
 use Rattle.fence_laws.proofs.ChangedAt.{put_other}
 
 -- the store buffer machine with these gaps fenced, or the sequential machine
-abbrev pub mode_with : Bool → Gaps → Mode
-mode_with true gaps = Fenced gaps
-mode_with false gaps = Sequential
+abbrev pub mode_with : Bool → Gaps → Machine
+mode_with true gaps = StoreBufferMachine gaps
+mode_with false gaps = SequentialMachine
 
 -- what an action does on either
 abbrev pub effect : Bool → State → ℕ → Action → Option State

@@ -12,7 +12,7 @@ use Rattle.tso_program.specs.Listings.{action, instr_at, start_of}
 use Rattle.tso_program.specs.Fences.{Gaps, place_of, moved, fence}
 use Rattle.tso_program.specs.declared.shown.Shown.{Shown}
 use Rattle.tso_program.specs.Shown.{Question, asked}
-use Rattle.tso_machine.specs.Machine.{Mode, no_gaps, State, start, outcome_at, HasEnded, Allows}
+use Rattle.tso_machine.specs.Machine.{Machine, no_gaps, State, start, outcome_at, HasEnded, Allows}
 use Rattle.tso_machine.specs.Outcomes.{AllowsShown, fenced_at}
 use Rattle.fence_laws.specs.Laws.{FencingIsTheMachineWithGaps, FencingKeepsSequentialOutcomes}
 use Rattle.tso_program.proofs.FencedPlaces.{first_of, same_registers, same_count, instr_at_place, instr_after_fence}
@@ -94,7 +94,7 @@ module _ (p : Listing) (gaps : Gaps) where
       )
 
 -- where one program's outcomes are another's, those are shown
-shown_too : (shown : Shown) (p other : Listing) (m n : Mode) (o : Outcome) → ((whole : Outcome) → Allows p m whole → Allows other n whole) →
+shown_too : (shown : Shown) (p other : Listing) (m n : Machine) (o : Outcome) → ((whole : Outcome) → Allows p m whole → Allows other n whole) →
     AllowsShown (asked p shown) m o → AllowsShown (asked other shown) n o
 shown_too shown p other m n o also (labels, (whole, is_run, same)) = let (ls, is) = also whole (labels, is_run) in (ls, (whole, is, same))
 

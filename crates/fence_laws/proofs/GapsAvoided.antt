@@ -7,7 +7,7 @@ use Rattle.tso_program.specs.declared.listing.Listing.{Listing}
 use Rattle.tso_program.specs.Listings.{gap_number}
 use Rattle.tso_program.specs.Fences.{gaps_in}
 use Rattle.tso_machine.specs.declared.label.Label.{Label}
-use Rattle.tso_machine.specs.Machine.{Fenced, no_gaps, State, start, run, passes}
+use Rattle.tso_machine.specs.Machine.{StoreBufferMachine, no_gaps, State, start, run, passes}
 use Rattle.tso_machine.proofs.Avoided.{run_fenced, run_avoids}
 use Rattle.fence_laws.specs.Laws.{PassesNoGapOf, FencedRunsPassNoGapOfTheSet, PassedGapsTellTheFencedRuns}
 use Rattle.fence_laws.proofs.Unfenced.{unfenced}
@@ -22,16 +22,16 @@ number_of_fenced gaps None e = absurd cc
 number_of_fenced gaps (Some gap) e = (gap, refl, e)
 
 -- a run with gaps fenced passes none of them
-pub fenced_run_passes_none : (p : Listing) (gaps : SetOfGaps) (labels : List Label) (last : State) → run p (Fenced (gaps_in p gaps)) (start p) labels ≡ Some last → PassesNoGapOf p gaps labels
+pub fenced_run_passes_none : (p : Listing) (gaps : SetOfGaps) (labels : List Label) (last : State) → run p (StoreBufferMachine (gaps_in p gaps)) (start p) labels ≡ Some last → PassesNoGapOf p gaps labels
 fenced_run_passes_none p gaps labels last r gap there (t, k, number, passed) =
     let no : true ≡ false = sym passed ∙ run_avoids p (gaps_in p gaps) labels (start p) last r t k (fenced_number p gaps t k gap number ∙ there) in
     cc
 
 -- a run that passes none of them passes no fenced place
-avoids_places : (p : Listing) (gaps : SetOfGaps) (labels : List Label) → PassesNoGapOf p gaps labels → (t k : ℕ) → gaps_in p gaps t k ≡ true → passes p (Fenced no_gaps) (start p) labels t k ≡ false
-avoids_places p gaps labels none t k fenced = by_test (passes p (Fenced no_gaps) (start p) labels t k) refl
+avoids_places : (p : Listing) (gaps : SetOfGaps) (labels : List Label) → PassesNoGapOf p gaps labels → (t k : ℕ) → gaps_in p gaps t k ≡ true → passes p (StoreBufferMachine no_gaps) (start p) labels t k ≡ false
+avoids_places p gaps labels none t k fenced = by_test (passes p (StoreBufferMachine no_gaps) (start p) labels t k) refl
   where
-    by_test : (b : Bool) → passes p (Fenced no_gaps) (start p) labels t k ≡ b → b ≡ false
+    by_test : (b : Bool) → passes p (StoreBufferMachine no_gaps) (start p) labels t k ≡ b → b ≡ false
     by_test false e = refl
     by_test true e = let (gap, number, there) = number_of_fenced gaps (gap_number p.threads t k) fenced in absurd (none gap there (t, k, number, e))
 

@@ -11,16 +11,16 @@ use Rattle.fence_laws.proofs.FencingIsTheMachine.{fencing_is_the_machine}
 answer_of : (q : Question) (costs : List ℕ) (gaps : SetOfGaps) → Headline q costs gaps → IsTheAnswer q costs gaps
 answer_of q costs gaps h = record {
   of_program = h.of_program;
-  serves = λ o. let same = fencing_is_the_machine q (gaps_in q.program gaps) o in ((λ allowed. (h.fenced o).0 (same.1 allowed)), (λ sequential. same.0 ((h.fenced o).1 sequential)));
-  least = λ other of_program better. let left = h.least other of_program better in record { outcome = left.outcome; left = (fencing_is_the_machine q (gaps_in q.program other) left.outcome).0 left.left; foreign = left.foreign };
+  serves = λ o. let same = fencing_is_the_machine q (gaps_in q.program gaps) o in ((λ allowed. (h.exactly_sequential o).0 (same.1 allowed)), (λ sequential. same.0 ((h.exactly_sequential o).1 sequential)));
+  least = λ other of_program better. let left = h.each_better_leaves_an_outcome other of_program better in record { outcome = left.outcome; left = (fencing_is_the_machine q (gaps_in q.program other) left.outcome).0 left.left; foreign = left.foreign };
 }
 
 -- the fenced program of a set
 headline_of : (q : Question) (costs : List ℕ) (gaps : SetOfGaps) → IsTheAnswer q costs gaps → Headline q costs gaps
 headline_of q costs gaps a = record {
   of_program = a.of_program;
-  fenced = λ o. let same = fencing_is_the_machine q (gaps_in q.program gaps) o in ((λ allowed. (a.serves o).0 (same.0 allowed)), (λ sequential. same.1 ((a.serves o).1 sequential)));
-  least = λ other of_program better. let left = a.least other of_program better in record { outcome = left.outcome; left = (fencing_is_the_machine q (gaps_in q.program other) left.outcome).1 left.left; foreign = left.foreign };
+  exactly_sequential = λ o. let same = fencing_is_the_machine q (gaps_in q.program gaps) o in ((λ allowed. (a.serves o).0 (same.0 allowed)), (λ sequential. same.1 ((a.serves o).1 sequential)));
+  each_better_leaves_an_outcome = λ other of_program better. let left = a.least other of_program better in record { outcome = left.outcome; left = (fencing_is_the_machine q (gaps_in q.program other) left.outcome).1 left.left; foreign = left.foreign };
 }
 
 -- both ways

@@ -7,18 +7,18 @@ use Rattle.tso_program.specs.Listings.{gap_count}
 use Rattle.tso_program.proofs.Gaps.{gap_is}
 use Rattle.tso_program.specs.Limits.{JumpForward}
 use Rattle.tso_machine.specs.declared.label.Label.{Label}
-use Rattle.tso_machine.specs.Machine.{no_gaps, Fenced, State, run, start, passes}
+use Rattle.tso_machine.specs.Machine.{no_gaps, StoreBufferMachine, State, run, start, passes}
 use Rattle.tso_machine.proofs.Avoided.{run_fenced}
 use Rattle.fence_laws.specs.Laws.{PassesNoGap, ARunThatPassesNothingIsSequential, ARunWithNothingPassedIsSequential}
 use Rattle.fence_laws.proofs.WaitingEverywhere.{all, to_sequential}
 use Rattle.fence_laws.proofs.PassedPlaces.{passed_inside}
 
 -- a place that is passed would be a gap
-no_place_passed : (p : Listing) (labels : List Label) (last : State) (t k : ℕ) → JumpForward p.threads → run p (Fenced no_gaps) (start p) labels ≡ Some last → PassesNoGap p labels →
-    passes p (Fenced no_gaps) (start p) labels t k ≡ false
-no_place_passed p labels last t k forward r none = by_test (passes p (Fenced no_gaps) (start p) labels t k) refl
+no_place_passed : (p : Listing) (labels : List Label) (last : State) (t k : ℕ) → JumpForward p.threads → run p (StoreBufferMachine no_gaps) (start p) labels ≡ Some last → PassesNoGap p labels →
+    passes p (StoreBufferMachine no_gaps) (start p) labels t k ≡ false
+no_place_passed p labels last t k forward r none = by_test (passes p (StoreBufferMachine no_gaps) (start p) labels t k) refl
   where
-    by_test : (b : Bool) → passes p (Fenced no_gaps) (start p) labels t k ≡ b → b ≡ false
+    by_test : (b : Bool) → passes p (StoreBufferMachine no_gaps) (start p) labels t k ≡ b → b ≡ false
     by_test false e = refl
     by_test true e =
         let inside = passed_inside p forward labels (start p) last t k r (λ u h. refl) e in

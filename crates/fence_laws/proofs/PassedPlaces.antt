@@ -13,7 +13,7 @@ use Rattle.tso_program.specs.Instructions.{target_of}
 use Rattle.tso_program.specs.Listings.{action, instr_at, code_of}
 use Rattle.tso_program.specs.Actions.{act, jumped}
 use Rattle.tso_program.specs.Limits.{JumpForward}
-use Rattle.tso_machine.specs.Machine.{no_gaps, put, Fenced, State, buffered, step, run, is_empty, from_some, passes_at, passes}
+use Rattle.tso_machine.specs.Machine.{no_gaps, put, StoreBufferMachine, State, buffered, step, run, is_empty, from_some, passes_at, passes}
 use Rattle.tso_machine.specs.declared.label.Label.{Label}
 use Rattle.tso_machine.specs.declared.label.Label.TheVariants.{Exec, Flush}
 use Rattle.tso_machine.specs.declared.label.Pending.{Pending}
@@ -85,7 +85,7 @@ module _ (p : Listing) (forward : JumpForward p.threads) where
   ]
 
   -- every step keeps it so
-  step_keeps : (s z : State) (l : Label) → step p (Fenced no_gaps) s l ≡ Some z → NothingWaitsAtFirst s → NothingWaitsAtFirst z
+  step_keeps : (s z : State) (l : Label) → step p (StoreBufferMachine no_gaps) s l ≡ Some z → NothingWaitsAtFirst s → NothingWaitsAtFirst z
   step_keeps s z (Exec t) e first = exec_by z (λ next. Some next) p no_gaps s t (NothingWaitsAtFirst z) (ap (option_and_then (λ next. Some next)) e)
       (λ next a g r. subst NothingWaitsAtFirst (same_Some _ z r) (on s t next s.buffers s.memory first (leads_on t (s.locals t) _ a) (λ u q. refl)))
       (λ next a g r. subst NothingWaitsAtFirst (same_Some _ z r) (on s t next s.buffers s.memory first (leads_on t (s.locals t) _ a) (λ u q. refl)))
@@ -109,7 +109,7 @@ module _ (p : Listing) (forward : JumpForward p.threads) where
   parts u t place k false e = (grind (arith, nat_tests), grind (arith, nat_tests), refl)
 
   -- what one step passes
-  passed_now : (s z : State) (l : Label) (t k : ℕ) → step p (Fenced no_gaps) s l ≡ Some z → NothingWaitsAtFirst s → passes_at s l t k ≡ true → IsInside t k
+  passed_now : (s z : State) (l : Label) (t k : ℕ) → step p (StoreBufferMachine no_gaps) s l ≡ Some z → NothingWaitsAtFirst s → passes_at s l t k ≡ true → IsInside t k
   passed_now s z (Flush u) t k e first h = absurd cc
   passed_now s z (Exec u) t k e first h =
       let (same, here, waiting) = parts u t (s.locals t).place k (is_empty (s.buffers t)) h in
@@ -125,16 +125,16 @@ module _ (p : Listing) (forward : JumpForward p.threads) where
       }
 
   -- what is passed lies before an instruction that is not the first
-  pub passed_inside : (ls : List Label) (s last : State) (t k : ℕ) → run p (Fenced no_gaps) s ls ≡ Some last → NothingWaitsAtFirst s →
-      passes p (Fenced no_gaps) s ls t k ≡ true → IsInside t k
+  pub passed_inside : (ls : List Label) (s last : State) (t k : ℕ) → run p (StoreBufferMachine no_gaps) s ls ≡ Some last → NothingWaitsAtFirst s →
+      passes p (StoreBufferMachine no_gaps) s ls t k ≡ true → IsInside t k
   passed_inside [] s last t k r first h = absurd cc
-  passed_inside (l ∷ ls) s last t k r first h = by_step (step p (Fenced no_gaps) s l) refl r h (λ z. passed_inside ls z last t k)
+  passed_inside (l ∷ ls) s last t k r first h = by_step (step p (StoreBufferMachine no_gaps) s l) refl r h (λ z. passed_inside ls z last t k)
     where
-      by_step : (o : Option State) → step p (Fenced no_gaps) s l ≡ o → option_and_then (λ next. run p (Fenced no_gaps) next ls) o ≡ Some last →
-          (passes_at s l t k || from_some (λ next. passes p (Fenced no_gaps) next ls t k) o) ≡ true →
-          ((z : State) → run p (Fenced no_gaps) z ls ≡ Some last → NothingWaitsAtFirst z → passes p (Fenced no_gaps) z ls t k ≡ true → IsInside t k) → IsInside t k
+      by_step : (o : Option State) → step p (StoreBufferMachine no_gaps) s l ≡ o → option_and_then (λ next. run p (StoreBufferMachine no_gaps) next ls) o ≡ Some last →
+          (passes_at s l t k || from_some (λ next. passes p (StoreBufferMachine no_gaps) next ls t k) o) ≡ true →
+          ((z : State) → run p (StoreBufferMachine no_gaps) z ls ≡ Some last → NothingWaitsAtFirst z → passes p (StoreBufferMachine no_gaps) z ls t k ≡ true → IsInside t k) → IsInside t k
       by_step None e r h ih = absurd cc
-      by_step (Some z) e r h ih = elim (either (passes_at s l t k) (passes p (Fenced no_gaps) z ls t k) h) [
+      by_step (Some z) e r h ih = elim (either (passes_at s l t k) (passes p (StoreBufferMachine no_gaps) z ls t k) h) [
         | inl now ↦ passed_now s z l t k e first now
         | inr later ↦ ih z r (step_keeps s z l e first) later
       ]

@@ -7,7 +7,7 @@ use Rattle.tso_program.specs.declared.action.Action.{Action}
 use Rattle.tso_program.specs.declared.action.Action.TheVariants.{Stop, Go, Wait, Read, Write, Swap}
 use Rattle.tso_program.specs.Listings.{action}
 use Rattle.tso_program.specs.Fences.{Gaps}
-use Rattle.tso_machine.specs.Machine.{put, Sequential, Fenced, State, past_gap, buffered, flushed, direct, run, start}
+use Rattle.tso_machine.specs.Machine.{put, SequentialMachine, StoreBufferMachine, State, past_gap, buffered, flushed, direct, run, start}
 use Rattle.fence_laws.specs.Laws.{SequentialRunsAreAllowed}
 use Rattle.tso_machine.specs.declared.label.Label.{Label}
 use Rattle.tso_machine.specs.declared.label.Label.TheVariants.{Exec, Flush}
@@ -22,12 +22,12 @@ module _ (p : Listing) (gaps : Gaps) where
 
   -- labels that lead from s to s'
   abbrev Leads : State → State → Type 0
-  Leads s s' = (js : List Label) × ((ls : List Label) → run p (Fenced gaps) s (js ++ ls) ≡ run p (Fenced gaps) s' ls)
+  Leads s s' = (js : List Label) × ((ls : List Label) → run p (StoreBufferMachine gaps) s (js ++ ls) ≡ run p (StoreBufferMachine gaps) s' ls)
 
   -- an instruction is executed
   pub exec_step : (s s' : State) (t : ℕ) → s.buffers t ≡ [] → buffered s t (action p.threads t (s.locals t)) ≡ Some s' → (ls : List Label) →
-      run p (Fenced gaps) s (Exec t ∷ ls) ≡ run p (Fenced gaps) s' ls
-  exec_step s s' t empty e ls = ap (option_and_then (λ next. run p (Fenced gaps) next ls))
+      run p (StoreBufferMachine gaps) s (Exec t ∷ ls) ≡ run p (StoreBufferMachine gaps) s' ls
+  exec_step s s' t empty e ls = ap (option_and_then (λ next. run p (StoreBufferMachine gaps) next ls))
       (passes (gaps t (s.locals t).place) (s.buffers t) s (λ z. buffered z t (action p.threads t (s.locals t))) empty ∙ e)
 
   -- one label leads on
@@ -56,7 +56,7 @@ module _ (p : Listing) (gaps : Gaps) where
   one_step s s' t empty (Write l v next) e h = (
     Exec t ∷ Flush t ∷ [],
     λ ls.
-        exec_step s (stored s t l v next) t empty (rw e refl) (Flush t ∷ ls) ∙ ap (option_and_then (λ next. run p (Fenced gaps) next ls)) (stored_flushed s s' t l v next empty h),
+        exec_step s (stored s t l v next) t empty (rw e refl) (Flush t ∷ ls) ∙ ap (option_and_then (λ next. run p (StoreBufferMachine gaps) next ls)) (stored_flushed s s' t l v next empty h),
   )
   one_step s s' t empty (Swap l v to next) e h = by_step s s' t empty (rw e (rw empty h))
 
@@ -70,15 +70,15 @@ module _ (p : Listing) (gaps : Gaps) where
   same_buffers s s' t (Swap l v to next) h = sym (ap (λ (z : State). z.buffers) (same_Some _ s' h))
 
   -- by each step in turn
-  pub embed : (last : State) (ls : List Label) (s : State) → ((t : ℕ) → s.buffers t ≡ []) → run p Sequential s ls ≡ Some last →
-      (js : List Label) × (run p (Fenced gaps) s js ≡ Some last)
+  pub embed : (last : State) (ls : List Label) (s : State) → ((t : ℕ) → s.buffers t ≡ []) → run p SequentialMachine s ls ≡ Some last →
+      (js : List Label) × (run p (StoreBufferMachine gaps) s js ≡ Some last)
   embed last [] s empty r = ([], r)
   embed last (Flush t ∷ ls) s empty r = absurd cc
   embed last (Exec t ∷ ls) s empty r = go (direct s t (action p.threads t (s.locals t))) refl r (embed last ls)
     where
-      go : (o : Option State) → direct s t (action p.threads t (s.locals t)) ≡ o → option_and_then (λ next. run p Sequential next ls) o ≡ Some last →
-          ((s : State) → ((t : ℕ) → s.buffers t ≡ []) → run p Sequential s ls ≡ Some last → (js : List Label) × (run p (Fenced gaps) s js ≡ Some last)) →
-          (js : List Label) × (run p (Fenced gaps) s js ≡ Some last)
+      go : (o : Option State) → direct s t (action p.threads t (s.locals t)) ≡ o → option_and_then (λ next. run p SequentialMachine next ls) o ≡ Some last →
+          ((s : State) → ((t : ℕ) → s.buffers t ≡ []) → run p SequentialMachine s ls ≡ Some last → (js : List Label) × (run p (StoreBufferMachine gaps) s js ≡ Some last)) →
+          (js : List Label) × (run p (StoreBufferMachine gaps) s js ≡ Some last)
       go None e r ih = absurd cc
       go (Some s') e r ih =
           let (is, f) = one_step s s' t (empty t) (action p.threads t (s.locals t)) refl e in

@@ -8,7 +8,7 @@ use Rattle.tso_program.specs.declared.action.Action.TheVariants.{Stop, Go, Wait,
 use Rattle.tso_program.specs.Listings.{action}
 use Rattle.tso_program.specs.Actions.{loaded}
 use Rattle.tso_program.specs.Fences.{Gaps}
-use Rattle.tso_machine.specs.Machine.{put, Fenced, State, newest, found, when_empty, past_gap, buffered, flushed, step}
+use Rattle.tso_machine.specs.Machine.{put, StoreBufferMachine, State, newest, found, when_empty, past_gap, buffered, flushed, step}
 use Rattle.tso_machine.specs.declared.label.Label.TheVariants.{Exec, Flush}
 use Rattle.tso_machine.specs.declared.label.Pending.{Pending}
 
@@ -27,7 +27,7 @@ module _ (last : State) (K : State → Option State) where
 
   -- what the execution of an instruction did, and how the run goes on
   module _ (p : Listing) (gaps : Gaps) (s : State) (t : ℕ) (C : Type 0) where
-    pub exec_by : option_and_then K (step p (Fenced gaps) s (Exec t)) ≡ Some last →
+    pub exec_by : option_and_then K (step p (StoreBufferMachine gaps) s (Exec t)) ≡ Some last →
         (go : (next : Local) → action p.threads t (s.locals t) ≡ Go next → (gaps t (s.locals t).place ≡ true → s.buffers t ≡ []) →
         K (record s { locals = put s.locals t next }) ≡ Some last → C) →
         (wait : (next : Local) → action p.threads t (s.locals t) ≡ Wait next → s.buffers t ≡ [] → K (record s { locals = put s.locals t next }) ≡ Some last → C) →
@@ -53,7 +53,7 @@ module _ (last : State) (K : State → Option State) where
             swap l v to next e b k
 
     -- what a flush did, and how the run goes on
-    pub flush_by : option_and_then K (step p (Fenced gaps) s (Flush t)) ≡ Some last →
+    pub flush_by : option_and_then K (step p (StoreBufferMachine gaps) s (Flush t)) ≡ Some last →
         ((w : Pending) (ws : List Pending) → s.buffers t ≡ w ∷ ws →
         K (record s { buffers = put s.buffers t ws; memory = put s.memory w.location w.value }) ≡ Some last → C) → C
     flush_by h f = by_buffer (s.buffers t) refl h

@@ -7,7 +7,7 @@ use Rattle.tso_program.specs.Listings.{action}
 use Rattle.tso_machine.specs.declared.label.Label.{Label}
 use Rattle.tso_machine.specs.declared.label.Label.TheVariants.{Exec, Flush}
 use Rattle.tso_machine.specs.declared.label.Pending.{Pending}
-use Rattle.tso_machine.specs.Machine.{no_gaps, Fenced, State, past_gap, buffered, step, run}
+use Rattle.tso_machine.specs.Machine.{no_gaps, StoreBufferMachine, State, past_gap, buffered, step, run}
 
 module _ (p : Listing) (gaps : Gaps) where
   -- what a gap let through can be done
@@ -17,12 +17,12 @@ module _ (p : Listing) (gaps : Gaps) where
   let_by false ws s z f e = e
 
   -- a step
-  unfenced_step : (s z : State) (l : Label) → step p (Fenced gaps) s l ≡ Some z → step p (Fenced no_gaps) s l ≡ Some z
+  unfenced_step : (s z : State) (l : Label) → step p (StoreBufferMachine gaps) s l ≡ Some z → step p (StoreBufferMachine no_gaps) s l ≡ Some z
   unfenced_step s z (Flush t) e = e
   unfenced_step s z (Exec t) e = let_by (gaps t (s.locals t).place) (s.buffers t) s z (λ s'. buffered s' t (action p.threads t (s.locals t))) e
 
   -- by each step in turn
-  pub unfenced : (ls : List Label) (s last : State) → run p (Fenced gaps) s ls ≡ Some last → run p (Fenced no_gaps) s ls ≡ Some last
+  pub unfenced : (ls : List Label) (s last : State) → run p (StoreBufferMachine gaps) s ls ≡ Some last → run p (StoreBufferMachine no_gaps) s ls ≡ Some last
   unfenced [] s last r = r
-  unfenced (l ∷ ls) s last r = option_and_then_some (λ next. run p (Fenced gaps) next ls) (step p (Fenced gaps) s l) last r
-      (λ z e rest. ap (option_and_then (λ next. run p (Fenced no_gaps) next ls)) (unfenced_step s z l e) ∙ unfenced ls z last rest)
+  unfenced (l ∷ ls) s last r = option_and_then_some (λ next. run p (StoreBufferMachine gaps) next ls) (step p (StoreBufferMachine gaps) s l) last r
+      (λ z e rest. ap (option_and_then (λ next. run p (StoreBufferMachine no_gaps) next ls)) (unfenced_step s z l e) ∙ unfenced ls z last rest)

@@ -10,7 +10,7 @@ use Rattle.tso_program.specs.Listings.{action}
 use Rattle.tso_program.specs.Actions.{loaded}
 use Rattle.tso_program.specs.Fences.{Gaps}
 use Rattle.tso_program.specs.declared.outcome.Outcome.{Outcome}
-use Rattle.tso_machine.specs.Machine.{put, Sequential, Fenced, State, newest, found, direct, run, start, IsRun, outcome_at}
+use Rattle.tso_machine.specs.Machine.{put, SequentialMachine, StoreBufferMachine, State, newest, found, direct, run, start, IsRun, outcome_at}
 use Rattle.tso_machine.specs.declared.label.Label.{Label}
 use Rattle.tso_machine.specs.declared.label.Label.TheVariants.{Exec, Flush}
 use Rattle.tso_machine.specs.declared.label.Pending.{Pending}
@@ -50,16 +50,16 @@ module _ (p : Listing) where
 
   -- some sequential labels lead from the one state to the other's like
   abbrev After : State → State → Type 0
-  After z last = (ls : List Label) × (end : State) × (run p Sequential z ls ≡ Some end) × Match last end
+  After z last = (ls : List Label) × (end : State) × (run p SequentialMachine z ls ≡ Some end) × Match last end
 
   -- a sequential step goes before further ones
   then_exec : (z z' last : State) (t : ℕ) → direct z t (action p.threads t (z.locals t)) ≡ Some z' → After z' last → After z last
-  then_exec z z' last t e a = (Exec t ∷ a.0, a.1, ap (option_and_then (λ x. run p Sequential x a.0)) e ∙ a.2, a.3)
+  then_exec z z' last t e a = (Exec t ∷ a.0, a.1, ap (option_and_then (λ x. run p SequentialMachine x a.0)) e ∙ a.2, a.3)
 
   -- the sequential machine stores when the other flushes
-  unbuffer : (last : State) (js : List Label) (s z : State) → Match s z → run p (Fenced all) s js ≡ Some last → After z last
+  unbuffer : (last : State) (js : List Label) (s z : State) → Match s z → run p (StoreBufferMachine all) s js ≡ Some last → After z last
   unbuffer last [] s z m r = let e : s ≡ last = cc in ([], z, refl, subst (λ x. Match x z) e m)
-  unbuffer last (Flush t ∷ js) s z m r = flush_by last (λ x. run p (Fenced all) x js) p all s t _ r (λ w ws e r.
+  unbuffer last (Flush t ∷ js) s z m r = flush_by last (λ x. run p (StoreBufferMachine all) x js) p all s t _ r (λ w ws e r.
       elim (m.each t) [
         | inl a ↦ absurd (let q : [] ≡ w ∷ ws = sym a.0 ∙ e in cc)
         | inr a ↦ (let q : w ∷ ws ≡ a.0 ∷ [] = sym e ∙ a.1 in let qw : a.0 ≡ w = cc in let qs : ws ≡ [] = cc in
@@ -75,7 +75,7 @@ module _ (p : Listing) where
               ];
             }) r))
       ])
-  unbuffer last (Exec t ∷ js) s z m r = exec_by last (λ x. run p (Fenced all) x js) p all s t _ r
+  unbuffer last (Exec t ∷ js) s z m r = exec_by last (λ x. run p (StoreBufferMachine all) x js) p all s t _ r
       (λ next e g r. then_exec z (record z { locals = put z.locals t next }) last t (rw (sym (same_local s z t m (g refl)), e) refl)
       (unbuffer last js _ _ (both s z t next s.memory z.memory m (g refl) m.memory) r))
       (λ next e g r. then_exec z (record z { locals = put z.locals t next }) last t (rw (sym (same_local s z t m g), e) refl)
@@ -84,7 +84,7 @@ module _ (p : Listing) where
       let v : found (newest l (s.buffers t)) (s.memory l) ≡ z.memory l = ap (λ b. found (newest l b) (s.memory l)) (g refl) ∙ ap (λ x. x l) m.memory in
       then_exec z (record z { locals = put z.locals t (loaded to (z.memory l) next) }) last t (rw (sym (same_local s z t m (g refl)), e) refl)
       (unbuffer last js _ _ (both s z t (loaded to (z.memory l) next) s.memory z.memory m (g refl) m.memory)
-      (subst (λ x. run p (Fenced all) (record s { locals = put s.locals t (loaded to x next) }) js ≡ Some last) v r)))
+      (subst (λ x. run p (StoreBufferMachine all) (record s { locals = put s.locals t (loaded to x next) }) js ≡ Some last) v r)))
       (λ l v next e g r. unbuffer last js _ z (record {
         memory = m.memory;
         empty = m.empty;
@@ -102,7 +102,7 @@ module _ (p : Listing) where
       let w : s.memory l ≡ z.memory l = ap (λ x. x l) m.memory in
       then_exec z (record z { locals = put z.locals t (loaded to (z.memory l) next); memory = put z.memory l v }) last t (rw (sym (same_local s z t m g), e) refl)
       (unbuffer last js _ _ (both s z t (loaded to (z.memory l) next) (put s.memory l v) (put z.memory l v) m g (ap (λ x. put x l v) m.memory))
-      (subst (λ x. run p (Fenced all) (record s { locals = put s.locals t (loaded to x next); memory = put s.memory l v }) js ≡ Some last) w r)))
+      (subst (λ x. run p (StoreBufferMachine all) (record s { locals = put s.locals t (loaded to x next); memory = put s.memory l v }) js ≡ Some last) w r)))
 
   -- states that are alike have one outcome
   same_end : (s z : State) → ((t : ℕ) → s.locals t ≡ z.locals t) → s.memory ≡ z.memory → outcome_at p s ≡ outcome_at p z
@@ -112,7 +112,7 @@ module _ (p : Listing) where
   }
 
   -- a run that waits at each gap has a sequential outcome
-  pub to_sequential : (labels : List Label) (o : Outcome) → IsRun p (Fenced all) labels o → (ls : List Label) × IsRun p Sequential ls o
+  pub to_sequential : (labels : List Label) (o : Outcome) → IsRun p (StoreBufferMachine all) labels o → (ls : List Label) × IsRun p SequentialMachine ls o
   to_sequential labels o (last, r, ended, e) =
       let (ls, end, run_is, m) = unbuffer last labels (start p) (start p) (record { memory = refl; empty = λ t. refl; each = λ t. inl (refl, refl) }) r in
       let same : (t : ℕ) → last.locals t ≡ end.locals t = λ t. same_local last end t m (ended t).1 in

@@ -13,13 +13,14 @@ use Rattle.tso_program.specs.Shown.{Question}
 use Rattle.tso_program.specs.declared.outcome.Outcome as machine
 use Rattle.tso_program.specs.Limits.{IsWithinLimits}
 use Rattle.tso_machine.specs.declared.label.Label.{Label}
-use Rattle.tso_machine.specs.Machine.{Mode, Sequential, Fenced, no_gaps}
+use Rattle.tso_machine.specs.Machine.{Machine, SequentialMachine, StoreBufferMachine, no_gaps}
 use Rattle.tso_program.specs.Fences.{gaps_in as gaps_of_set}
 use Rattle.tso_machine.specs.Outcomes.{IsTheAnswer, IsShownRun, IsSequentialOutcome, AreGapsOf}
 use Rattle.exec_axioms.specs.Sizes.{most_choices}
 use Rattle.cert_forest.specs.Trees.{Cover}
 use Rattle.cert_forest.specs.declared.tree.TheConstants.{MAX_COVER_DEPTH, MAX_GAP_DEPTH}
 use Rattle.cert_forest.specs.Certificates.{Certificate}
+use Rattle.cert_forest.specs.Shows.{shows_of}
 use Rattle.cert_forest.specs.Limits as limits
 use Rattle.cert_forest.specs.Limits.{IsGapTo, gap_depth}
 use Rattle.tree_laws.specs.GapTrees.{IsValidGap}
@@ -41,11 +42,11 @@ sequential_short : (q : Question) (runs : List (List Label)) (outcomes : List ma
     AreSequentialRuns q runs outcomes → AllByRecursion limits.IsWrittenRun runs
 sequential_short q [] outcomes within each = tt
 sequential_short q (r ∷ rs) [] within each = absurd each
-sequential_short q (r ∷ rs) (o ∷ os) within each = (short_run q.program Sequential r each.0.0 within each.0.1, sequential_short q rs os within each.1)
+sequential_short q (r ∷ rs) (o ∷ os) within each = (short_run q.program SequentialMachine r each.0.0 within each.0.1, sequential_short q rs os within each.1)
 
 -- what holds of a certificate that is made from a table and a search
 pub record IsMade (t : Table) (o : Outcome) (numbers : List ℕ) (c : Certificate) : Type 0 where
-  pub same_shown : c.shown ≡ t.question.shown
+  pub same_shown : c.shown ≡ shows_of t.question.shown
   pub places : limits.AreShownPlaces c.shown
   pub same_gaps : c.gaps ≡ o.served.gaps
   pub cost : c.cost ≡ total o.costs c.gaps
@@ -59,7 +60,7 @@ pub record IsMade (t : Table) (o : Outcome) (numbers : List ℕ) (c : Certificat
   pub few_seq_runs : length c.seq_runs < 2 ^ 64
 
 -- a tree of the solver is within the limits of a text
-tree_small : (q : Question) (mode : Mode) (outcomes : List machine.Outcome) (tree : Cover) → IsWholeCover q mode outcomes tree → limits.IsCoverTo MAX_COVER_DEPTH tree
+tree_small : (q : Question) (mode : Machine) (outcomes : List machine.Outcome) (tree : Cover) → IsWholeCover q mode outcomes tree → limits.IsCoverTo MAX_COVER_DEPTH tree
 tree_small q mode outcomes tree is = let shallow : limits.cover_depth tree ≤ most_choices + 1 = is.shallow in (omega arith, is.neat.numbers)
 
 module _ (t : Table) (o : Outcome) (numbers : List ℕ) (c : Certificate) (table : IsSequentialTable t) (outcome : IsOutcome o) (serving : IsServing o.served) (low : c.cost ≤ MAX_GAPS * MAX_COST)
@@ -80,25 +81,25 @@ module _ (t : Table) (o : Outcome) (numbers : List ℕ) (c : Certificate) (table
       outside : (f : Foreign) → f.question ≡ o.question → IsForeignValue f → IsRunOutside o.question t.outcomes f.labels
       outside f of is = (
         f.outcome,
-        subst (λ (q : Question). IsShownRun q (Fenced no_gaps) f.labels f.outcome) of is.foreign.is_run,
+        subst (λ (q : Question). IsShownRun q (StoreBufferMachine no_gaps) f.labels f.outcome) of is.foreign.is_run,
         (λ here. is.foreign.foreign (subst (λ (q : Question). IsSequentialOutcome q f.outcome) (same ∙ sym of) ((table.listed.exact f.outcome).0 here))),
       )
 
-  table_tree : IsWholeCover o.question Sequential t.outcomes c.seq_tree
-  table_tree = subst (λ (x : Cover). IsWholeCover o.question Sequential t.outcomes x) (sym made.seq_tree) (subst (λ (q : Question). IsWholeCover q Sequential t.outcomes t.tree) same table.tree)
+  table_tree : IsWholeCover o.question SequentialMachine t.outcomes c.seq_tree
+  table_tree = subst (λ (x : Cover). IsWholeCover o.question SequentialMachine t.outcomes x) (sym made.seq_tree) (subst (λ (q : Question). IsWholeCover q SequentialMachine t.outcomes t.tree) same table.tree)
 
   -- the tree of the set with its gaps fenced
-  fenced_tree : IsWholeCover o.question (Fenced (gaps_of_set o.question.program c.gaps)) t.outcomes c.fenced_tree
+  fenced_tree : IsWholeCover o.question (StoreBufferMachine (gaps_of_set o.question.program c.gaps)) t.outcomes c.fenced_tree
   fenced_tree =
       let listed : IsListOf o.served.question t.outcomes = subst (λ (q : Question). IsListOf q t.outcomes) (same ∙ sym of_served) table.listed in
       let here = serving.tree t.outcomes listed in
-      subst (λ (x : Cover). IsWholeCover o.question (Fenced (gaps_of_set o.question.program c.gaps)) t.outcomes x) (sym made.fenced_tree)
-      (subst (λ (g : SetOfGaps). IsWholeCover o.question (Fenced (gaps_of_set o.question.program g)) t.outcomes o.served.tree) (sym made.same_gaps)
-      (subst (λ (q : Question). IsWholeCover q (Fenced (gaps_of_set q.program o.served.gaps)) t.outcomes o.served.tree) of_served here))
+      subst (λ (x : Cover). IsWholeCover o.question (StoreBufferMachine (gaps_of_set o.question.program c.gaps)) t.outcomes x) (sym made.fenced_tree)
+      (subst (λ (g : SetOfGaps). IsWholeCover o.question (StoreBufferMachine (gaps_of_set o.question.program g)) t.outcomes o.served.tree) (sym made.same_gaps)
+      (subst (λ (q : Question). IsWholeCover q (StoreBufferMachine (gaps_of_set q.program o.served.gaps)) t.outcomes o.served.tree) of_served here))
 
   is_valid : IsValidCertificate o.question o.costs c
   is_valid = record {
-    shown = made.same_shown ∙ ap (λ (q : Question). q.shown) same;
+    shown = made.same_shown ∙ ap (λ (q : Question). shows_of q.shown) same;
     of_program = subst (λ (g : SetOfGaps). AreGapsOf o.question.program g) (sym made.same_gaps) answer.of_program;
     one_cost_each = facts.have_costs.one_each;
     cost = made.cost;
@@ -130,7 +131,7 @@ module _ (t : Table) (o : Outcome) (numbers : List ℕ) (c : Certificate) (table
       omega arith
 
   foreign_short : All limits.IsWrittenRun c.runs
-  foreign_short k d h = each_run limits.IsWrittenRun (λ f of is. short_run f.question.program (Fenced no_gaps) f.labels is.foreign.is_run.0 (subst (λ (q : Question). IsWithinLimits q.program.threads q.program.memory) (sym of) facts.within) is.foreign.is_run.1) k (get_or c.runs k d) (slice_get-get_or c.runs k d h)
+  foreign_short k d h = each_run limits.IsWrittenRun (λ f of is. short_run f.question.program (StoreBufferMachine no_gaps) f.labels is.foreign.is_run.0 (subst (λ (q : Question). IsWithinLimits q.program.threads q.program.memory) (sym of) facts.within) is.foreign.is_run.1) k (get_or c.runs k d) (slice_get-get_or c.runs k d h)
 
   pub is_proof : IsProof o.question o.costs c
   is_proof = record {
@@ -140,9 +141,9 @@ module _ (t : Table) (o : Outcome) (numbers : List ℕ) (c : Certificate) (table
       gaps = below;
       cost = omega arith;
       seq_runs = (made.few_seq_runs, subst (AllByRecursion limits.IsWrittenRun) (sym made.seq_runs) (sequential_short t.question t.runs t.outcomes (subst (λ (q : Question). IsWithinLimits q.program.threads q.program.memory) (sym same) facts.within) table.runs));
-      seq_tree = tree_small o.question Sequential t.outcomes c.seq_tree table_tree;
+      seq_tree = tree_small o.question SequentialMachine t.outcomes c.seq_tree table_tree;
       runs = (made.few_runs, recursion_from_All limits.IsWrittenRun c.runs foreign_short);
-      fenced_tree = tree_small o.question (Fenced (gaps_of_set o.question.program c.gaps)) t.outcomes c.fenced_tree fenced_tree;
+      fenced_tree = tree_small o.question (StoreBufferMachine (gaps_of_set o.question.program c.gaps)) t.outcomes c.fenced_tree fenced_tree;
       gap_tree = gap_tree_small;
     };
   }

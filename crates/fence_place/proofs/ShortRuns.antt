@@ -13,7 +13,7 @@ use Rattle.tso_program.specs.Limits.{IsWithinLimits}
 use Rattle.tso_machine.specs.declared.label.Label.{Label}
 use Rattle.tso_machine.specs.declared.label.Label.TheVariants.{Exec, Flush}
 use Rattle.tso_machine.specs.RunTexts.{IsLabel}
-use Rattle.tso_machine.specs.Machine.{Mode, Sequential, Fenced, State, put, direct, buffered, past_gap, step, run, start, IsRun}
+use Rattle.tso_machine.specs.Machine.{Machine, SequentialMachine, StoreBufferMachine, State, put, direct, buffered, past_gap, step, run, start, IsRun}
 use Rattle.tso_machine.proofs.Runs.{no_action, no_stores}
 use Rattle.candidate_executions.proofs.FromRuns.RunsAreShort.{every_run_is_short}
 use Rattle.fence_laws.proofs.ChangedAt.{put_other}
@@ -40,7 +40,7 @@ module _ (p : Listing) where
   same_idle : (s z : State) (t : ℕ) → t < length p.threads → Idle s → ((u : ℕ) → (u ≡ t → ⊥) → z.buffers u ≡ s.buffers u) → IsOf z t
   same_idle s z t there idle others = (there, λ u high. others u (λ q. omega arith) ∙ idle u high)
 
-  direct_step : (s z : State) (t : ℕ) → Idle s → step p Sequential s (Exec t) ≡ Some z → IsOf z t
+  direct_step : (s z : State) (t : ℕ) → Idle s → step p SequentialMachine s (Exec t) ≡ Some z → IsOf z t
   direct_step s z t idle e = (there, λ u high. ap (λ b. b u) (no_stores p (Exec t ∷ []) s z (ap (option_and_then (λ next. Some next)) e)) ∙ idle u high)
     where
       there : t < length p.threads
@@ -49,7 +49,7 @@ module _ (p : Listing) where
         | inr high ↦ (let none : None ≡ Some z = sym (ap (direct s t) (no_action p t (s.locals t) (omega arith))) ∙ e in absurd cc)
       ]
 
-  buffered_step : (gaps : Gaps) (s z : State) (t : ℕ) → Idle s → step p (Fenced gaps) s (Exec t) ≡ Some z → IsOf z t
+  buffered_step : (gaps : Gaps) (s z : State) (t : ℕ) → Idle s → step p (StoreBufferMachine gaps) s (Exec t) ≡ Some z → IsOf z t
   buffered_step gaps s z t idle e = exec_by z (λ next. Some next) p gaps s t (IsOf z t) (ap (option_and_then (λ next. Some next)) e)
       (λ next a g r. subst (λ y. IsOf y t) (same_Some _ z r) (there, idle))
       (λ next a g r. subst (λ y. IsOf y t) (same_Some _ z r) (there, idle))
@@ -67,7 +67,7 @@ module _ (p : Listing) where
       there : t < length p.threads
       there = elim (cases_lt t (length p.threads)) [ inl low ↦ low | inr high ↦ absurd (gone (no_action p t (s.locals t) (omega arith))) ]
 
-  flush_step : (gaps : Gaps) (s z : State) (t : ℕ) → Idle s → step p (Fenced gaps) s (Flush t) ≡ Some z → IsOf z t
+  flush_step : (gaps : Gaps) (s z : State) (t : ℕ) → Idle s → step p (StoreBufferMachine gaps) s (Flush t) ≡ Some z → IsOf z t
   flush_step gaps s z t idle e = flush_by z (λ next. Some next) p gaps s t (IsOf z t) (ap (option_and_then (λ next. Some next)) e)
       (λ w ws b r. subst (λ y. IsOf y t) (same_Some _ z r) (same_idle s (record s { buffers = put s.buffers t ws; memory = put s.memory w.location w.value }) t (there w ws b) idle (λ u q. put_other s.buffers t ws u q)))
     where
@@ -81,13 +81,13 @@ module _ (p : Listing) where
     low : (t : ℕ) → t < length p.threads → t < 256
     low t h = omega arith
 
-    one_step : (mode : Mode) (s z : State) (l : Label) → Idle s → step p mode s l ≡ Some z → IsNamed z l
-    one_step Sequential s z (Exec t) idle e = let h = direct_step s z t idle e in (low t h.0, h.1)
-    one_step Sequential s z (Flush t) idle e = absurd cc
-    one_step (Fenced gaps) s z (Exec t) idle e = let h = buffered_step gaps s z t idle e in (low t h.0, h.1)
-    one_step (Fenced gaps) s z (Flush t) idle e = let h = flush_step gaps s z t idle e in (low t h.0, h.1)
+    one_step : (mode : Machine) (s z : State) (l : Label) → Idle s → step p mode s l ≡ Some z → IsNamed z l
+    one_step SequentialMachine s z (Exec t) idle e = let h = direct_step s z t idle e in (low t h.0, h.1)
+    one_step SequentialMachine s z (Flush t) idle e = absurd cc
+    one_step (StoreBufferMachine gaps) s z (Exec t) idle e = let h = buffered_step gaps s z t idle e in (low t h.0, h.1)
+    one_step (StoreBufferMachine gaps) s z (Flush t) idle e = let h = flush_step gaps s z t idle e in (low t h.0, h.1)
 
-    named : (mode : Mode) (labels : List Label) (s last : State) → Idle s → run p mode s labels ≡ Some last → AllByRecursion IsLabel labels
+    named : (mode : Machine) (labels : List Label) (s last : State) → Idle s → run p mode s labels ≡ Some last → AllByRecursion IsLabel labels
     named mode [] s last idle r = tt
     named mode (l ∷ ls) s last idle r = by_step (step p mode s l) refl r (λ z. named mode ls z last)
       where
@@ -96,7 +96,7 @@ module _ (p : Listing) where
         by_step None e r others = absurd cc
         by_step (Some z) e r others = let one = one_step mode s z l idle e in (one.0, others z one.1 r)
 
-pub short_run : (p : Listing) (mode : Mode) (labels : List Label) (o : Outcome) → IsWithinLimits p.threads p.memory → IsRun p mode labels o → limits.IsWrittenRun labels
+pub short_run : (p : Listing) (mode : Machine) (labels : List Label) (o : Outcome) → IsWithinLimits p.threads p.memory → IsRun p mode labels o → limits.IsWrittenRun labels
 short_run p mode labels o within is =
     let few : length p.threads ≤ MAX_THREADS = within.shared.few_threads in
     let long : length labels ≤ length p.threads * (MAX_INSTRUCTIONS + MAX_INSTRUCTIONS) = every_run_is_short p mode labels o MAX_INSTRUCTIONS within.shared.forward_jumps within.shared.short_threads is in

@@ -1,13 +1,14 @@
 -- Why nothing is found or placed.
 use Rattle.std.specs.Prelude.{◌≡◌, ◌≢◌, ◌⊎◌, ℕ, ◌<◌, Bool, true, List, length}
 use Rattle.tso_program.specs.declared.listing.Listing.{Listing}
+use Rattle.tso_program.specs.declared.limits.TheConstants.{MAX_WORKERS}
 use Rattle.tso_program.specs.Listings.{gap_count}
 use Rattle.fence_place.specs.declared.fault.PlaceFault.{PlaceFault}
 use Rattle.fence_place.specs.declared.fault.PlaceFault.TheVariants as fault
 
--- no workers, or more than 32
+-- no workers, or more than `MAX_WORKERS`
 abbrev pub AreTooFewOrMany : ℕ → Type 0
-AreTooFewOrMany workers = (workers ≡ 0) ⊎ (32 < workers)
+AreTooFewOrMany workers = (workers ≡ 0) ⊎ (MAX_WORKERS < workers)
 
 -- not one cost for each gap
 abbrev pub HasOtherLength : Listing → List ℕ → Type 0

@@ -12,10 +12,10 @@ module _ (q : Question) (costs : List ℕ) where
   -- the set is the answer, so the headline holds of it; the cost is the set's, and the certificate, which has each run once, proves both
   pub record IsPlacement (placed : Placed) : Type 0 where
     pub headline : Headline q costs placed.set
-    pub answer : IsTheAnswer q costs placed.set
     pub cost : placed.cost ≡ total costs placed.set
     pub best : placed.set ≡ the_answer q costs
     pub least : placed.cost ≡ least_cost q costs
+    pub answer : IsTheAnswer q costs placed.set
     pub same_set : placed.certificate.gaps ≡ placed.set
     pub proof : IsProof q costs placed.certificate
     pub once : AreDistinct placed.certificate.runs

@@ -1,13 +1,14 @@
 //! The certificate of a search that is done.
 ghost use Rattle.std.specs.Prelude.{◌≡◌, ◌<◌, ◌+◌, ℕ, IfOk, length, map};
 ghost use Rattle.cert_forest.specs.Limits.{AreShownPlaces};
+ghost use Rattle.cert_forest.specs.Shows.{shows_of};
 ghost use Rattle.cert_forest.specs.Trees.{gap_trees_of};
 ghost use Rattle.cert_forest.specs.Views.{gap};
 ghost use Rattle.fence_place.specs.Recorded.{AreNumbersOf, AreSplitRuns, AreDistinct, ListsEvent, IsRecorded, AreRecorded};
 ghost use Rattle.fence_place.specs.Proofs.{IsProof};
 
 use crate::gaps::count_open;
-use cert_forest::{Certificate, GapTree, Runs};
+use cert_forest::{Certificate, GapTree, Runs, Shows};
 use cover_solver::SeqTable;
 use search_core::{Event, Finished};
 use std::alloc::{AllocError, Global};
@@ -32,6 +33,7 @@ pub fn certify(
     let _ = table.program();
     let _ = served.program();
     names_have_places(shown);
+    let shows = Shows::of(shown);
     let (runs, numbers) = listed_runs(alloc, finished)?;
     let gap_tree = gap_tree(alloc, finished, &numbers, 0)?;
     let set = served.set();
@@ -40,7 +42,7 @@ pub fn certify(
     let _ = runs.len();
     let _ = seq_runs.len();
     Ok(Certificate {
-        shown: *shown,
+        shown: shows,
         set,
         cost: finished.costs().total(&set),
         seq_runs,
@@ -53,11 +55,15 @@ pub fn certify(
 
 /// The registers and locations that are shown are at places. Calling it does nothing.
 fn names_have_places(shown: &Shown)
-    ensures { AreShownPlaces shown.now }
+    ensures { AreShownPlaces (shows_of shown.now) }
 {
     // For the proof alone: what holds of all names is known where their places are asked for.
-    if let Shown::Only(names) = shown {
-        let _ = names.places();
+    match shown {
+        Shown::All => {}
+        Shown::Only(names) => {
+            let _ = names.places();
+        }
+        Shown::Truth(_) => {}
     }
 }
 

@@ -2,7 +2,12 @@
 ghost use Rattle.std.specs.Prelude.{◌≡◌, IfOk, IfErr, Err, false, length};
 ghost use Rattle.tso_program.specs.Listings.{gap_count};
 ghost use Rattle.search_core.specs.States.{IsSeatCount};
+ghost use Rattle.tso_machine.specs.Outcomes.{Headline, IsTheAnswer};
+ghost use Rattle.the_answer.specs.Answers.{the_answer, least_cost};
+ghost use Rattle.gap_sets.specs.Order.{total};
 ghost use Rattle.fence_place.specs.Placements.{IsPlacement};
+ghost use Rattle.fence_place.specs.Proofs.{IsProof};
+ghost use Rattle.fence_place.specs.Recorded.{AreDistinct};
 ghost use Rattle.fence_place.specs.Faults.{AreTooFewOrMany, HasOtherLength, PlaceFaultIs, MaySearchFail};
 
 use crate::PlaceFault;
@@ -31,6 +36,12 @@ pub struct Placed {
 /// Finds the best set of gaps that serves, by asking an oracle, with a certificate that the checker
 /// accepts.
 ///
+/// Where it answers, the program with an MFENCE in each gap of the set has under x86-TSO exactly the source's
+/// sequentially consistent outcomes, as far as they are shown; with an MFENCE in each gap of any better set
+/// (cheaper, or as cheap and earlier in gap order) it leaves an outcome that no sequentially consistent run of
+/// the source has.
+/// This holds for every oracle that keeps its law, and for any number of workers.
+///
 /// It hunts as [`crate::hunt_with`] does. Where the oracle lacks a run, or the record of the hunt doesn't close, it
 /// searches again on the caller's thread, by a solver of its own.
 pub fn place<R: Threads + Sync, W: Wait + Sync, O: Oracle>(
@@ -43,7 +54,20 @@ pub fn place<R: Threads + Sync, W: Wait + Sync, O: Oracle>(
     workers: u8,
 ) -> Result<Placed, PlaceFault>
     requires { O.question oracle.now ≡ table.now.question }
-    ensures placed { IfOk result (IsPlacement table.now.question costs.now) }
+    ensures headline { IfOk result (λ placed. Headline table.now.question costs.now placed.set) }
+    ensures cost { IfOk result (λ placed. placed.cost ≡ total costs.now placed.set) }
+
+    // There is always an answer, which a definition computes: the set is that one, at the least cost.
+    ensures best { IfOk result (λ placed. placed.set ≡ the_answer table.now.question costs.now) }
+    ensures least { IfOk result (λ placed. placed.cost ≡ least_cost table.now.question costs.now) }
+    ensures answer { IfOk result (λ placed. IsTheAnswer table.now.question costs.now placed.set) }
+
+    // The certificate is of this set, proves it, and has each run once.
+    ensures set { IfOk result (λ placed. placed.certificate.gaps ≡ placed.set) }
+    ensures proof { IfOk result (λ placed. IsProof table.now.question costs.now placed.certificate) }
+    ensures once { IfOk result (λ placed. AreDistinct placed.certificate.runs) }
+
+    // It refuses what can't be asked, and nothing else but for memory.
     ensures workers { AreTooFewOrMany workers → result ≡ Err PlaceFault.Workers }
     ensures costs { ¬ AreTooFewOrMany workers → HasOtherLength table.now.question.program costs.now → result ≡ Err PlaceFault.Costs }
     ensures fault { IfErr result (PlaceFaultIs table.now.question.program costs.now workers) }

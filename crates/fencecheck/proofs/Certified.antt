@@ -25,9 +25,9 @@ certified bytes litmus certificate line parts is =
       of_certificate = is.of_certificate;
       valid = subst (λ costs. IsValidCertificate (asked p (handed_in told.program claimed.shown)) costs claimed) told.given
           (subst (λ shown. IsValidCertificate (asked p shown) told.gap_costs claimed) (sym as_asked) is.valid);
-      printed = told.printed ∙ ap (λ shown. accepted_line p shown told.gaps (total told.gap_costs told.gaps)) (sym same_shown)
-          ∙ ap (λ gaps. accepted_line p claimed.shown gaps (total told.gap_costs gaps)) (sym is.claims)
-          ∙ ap (accepted_line p claimed.shown claimed.gaps) (sym is.valid.cost);
+      printed = told.printed ∙ ap (λ shown. accepted_line p shown told.gaps (total told.gap_costs told.gaps)) (sym as_asked)
+          ∙ ap (λ gaps. accepted_line p (handed_in told.program claimed.shown) gaps (total told.gap_costs gaps)) (sym is.claims)
+          ∙ ap (accepted_line p (handed_in told.program claimed.shown) claimed.gaps) (sym is.valid.cost);
     }
 
 of_verdict : (bytes litmus certificate line : List ℕ) (status : ℕ) → ArePartsOf bytes litmus certificate → IsVerdict litmus certificate None status line → status ≡ 0 → IsCertified bytes line

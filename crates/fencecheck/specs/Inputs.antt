@@ -3,6 +3,7 @@ use Rattle.std.specs.Prelude.{◌≡◌, ◌⊎◌, ℕ, ◌+◌, ◌<◌, ◌�
 use Rattle.std.specs.List.{starts_with}
 use Rattle.std.specs.Io.KnownBytes.{Consumes}
 use Rattle.program_streams.specs.Streams.{HoldsBytes}
+use Rattle.program_streams.specs.Files.{ReadsOfInput}
 use Rattle.program_streams.specs.declared.files.TheConstants.{TEXT_LIMIT}
 use Rattle.fencecheck.specs.declared.parts.TheConstants.{CERTIFICATE_LIMIT, FRONT_LIMIT}
 
@@ -53,3 +54,13 @@ pub record ReadsEnough (old new : Option (List ℕ)) : Type 0 where
   pub bytes : List ℕ
   pub taken : Consumes old new bytes
   pub few : (length bytes ≤ FRONT_LIMIT) ⊎ ((start : ℕ) × (start ≤ TEXT_LIMIT) × IsCertificateStart bytes start × (length bytes ≤ start + CERTIFICATE_LIMIT + 1))
+
+-- What is read of the input for the words after the program's name: with no words no more than shows that a part of it is too
+-- long; where files are named, no more than shows that the litmus file is, and nothing where that is not `-`. Nothing is read
+-- where the words are no command.
+abbrev pub ReadsFor : List (List ℕ) → Option (List ℕ) → Option (List ℕ) → Type 0
+ReadsFor [] old new = ReadsEnough old new
+ReadsFor (litmus ∷ []) old new = new ≡ old
+ReadsFor (litmus ∷ certificate ∷ []) old new = ReadsOfInput TEXT_LIMIT litmus old new
+ReadsFor (litmus ∷ certificate ∷ costs ∷ []) old new = ReadsOfInput TEXT_LIMIT litmus old new
+ReadsFor (litmus ∷ certificate ∷ costs ∷ word ∷ words) old new = new ≡ old

@@ -23,7 +23,7 @@ pub record IsCertified (bytes line : List ℕ) : Type 0 where
   pub claimed : Certificate
   pub of_certificate : IsCertificate certificate claimed
   pub valid : IsValidCertificate (asked program.program (handed_in program claimed.shown)) (replicate (gap_count program.program.threads) 1) claimed
-  pub printed : line ≡ accepted_line program.program claimed.shown claimed.gaps claimed.cost
+  pub printed : line ≡ accepted_line program.program (handed_in program claimed.shown) claimed.gaps claimed.cost
 
 -- where the reply to an input alone has status 0, the input is so certified
 abbrev pub AcceptedInputsAreCertified : Type 0

@@ -1,9 +1,10 @@
 -- What the program prints for a command line and an input, and with which status.
-use Rattle.std.specs.Prelude.{◌≡◌, ℕ, List, [], ◌∷◌, ◌++◌, Option, Some, None, codes}
+use Rattle.std.specs.Prelude.{◌≡◌, ◌≢◌, ℕ, List, [], ◌∷◌, ◌++◌, Option, Some, None, codes}
 use Rattle.program_streams.specs.declared.fault.FileFault.{FileFault}
 use Rattle.program_streams.specs.Files.{AreOfFile, AreOfFileIfNamed, AreWithin, IsFileFault, IsNamedFileFault, IsTooLong}
 use Rattle.program_streams.specs.Streams.{HoldsBytes, IsReadFault}
 use Rattle.program_streams.specs.FileLines.{file_line}
+use Rattle.program_streams.specs.Versions.{version_line}
 use Rattle.program_streams.specs.declared.files.TheConstants.{TEXT_LIMIT}
 use Rattle.fencecheck.specs.declared.parts.TheConstants.{CERTIFICATE_LIMIT}
 use Rattle.fencecheck.specs.Inputs.{ArePartsOf, IsTooLongInput}
@@ -16,7 +17,7 @@ usage_text =
     ++ (codes "Judges whether a certificate proves which gaps of a program are its cheapest places for MFENCE.\n"
     ++ (codes "Prints `accepted cost N set T:K ..` with status 0, or a refusal in one line with status 1.\n"
     ++ (codes "LITMUS is a litmus file, or - for standard input; COSTS says what gaps cost, 1 each without it.\n"
-    ++ (codes "With no words the litmus text, and the certificate after it, are read from standard input.\n"
+    ++ (codes "Without arguments the litmus text, and the certificate after it, are read from standard input.\n"
     ++ (codes "Refusals are explained in docs/formats.md.\n"
     ++ (codes "Example: fencecheck examples/SB.litmus examples/SB.cert\n"))))))
 
@@ -57,10 +58,15 @@ pub data IsReplyToFiles (names : FileNames) (input : Option (List ℕ)) (files :
 abbrev pub IsUsage : ℕ → List ℕ → Type 0
 IsUsage status text = (status ≡ 2) × (text ≡ usage_text)
 
+-- the reply to one word: `--version` asks for the version
+pub data IsReplyToWord (word : List ℕ) : ℕ → List ℕ → Type 0 where
+  version : word ≡ codes "--version" → IsReplyToWord word 0 (version_line (codes "fencecheck"))
+  misused : (status : ℕ) (text : List ℕ) → word ≢ codes "--version" → IsUsage status text → IsReplyToWord word status text
+
 -- what the program prints for the words after its name, an input and files, with which status
 abbrev pub IsOutput : List (List ℕ) → Option (List ℕ) → (List ℕ → Option (List ℕ)) → ℕ → List ℕ → Type 0
 IsOutput [] input files = IsReplyToInput input
-IsOutput (litmus ∷ []) input files = IsUsage
+IsOutput (word ∷ []) input files = IsReplyToWord word
 IsOutput (litmus ∷ certificate ∷ []) input files = IsReplyToFiles (record { litmus = litmus; certificate = certificate; costs = None }) input files
 IsOutput (litmus ∷ certificate ∷ costs ∷ []) input files = IsReplyToFiles (record { litmus = litmus; certificate = certificate; costs = Some costs }) input files
 IsOutput (litmus ∷ certificate ∷ costs ∷ word ∷ words) input files = IsUsage

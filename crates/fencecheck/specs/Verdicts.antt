@@ -4,7 +4,7 @@ use Rattle.gap_sets.specs.Gaps.{SetOfGaps}
 use Rattle.gap_sets.specs.Order.{total}
 use Rattle.tso_program.specs.declared.listing.Listing.{Listing}
 use Rattle.tso_program.specs.declared.shown.Shown.{Shown}
-use Rattle.tso_program.specs.declared.shown.Shown.TheVariants.{All, Only}
+use Rattle.tso_program.specs.declared.shown.Shown.TheVariants.{All, Truth}
 use Rattle.tso_program.specs.Shown.{asked}
 use Rattle.tso_machine.specs.Outcomes.{Headline}
 use Rattle.litmus_reader.specs.Shown.{shown_by}
@@ -12,6 +12,9 @@ use Rattle.litmus_reader.specs.declared.litmus.Litmus.{Litmus}
 use Rattle.litmus_reader.specs.Texts as litmus_texts
 use Rattle.cert_forest.specs.declared.fault.CertFault.{CertFault}
 use Rattle.cert_forest.specs.declared.fault.CertFault.TheVariants as cert_fault
+use Rattle.cert_forest.specs.declared.shows.Shows.{Shows}
+use Rattle.cert_forest.specs.declared.shows.Shows.TheVariants as shows
+use Rattle.cert_forest.specs.Shows.{shows_of}
 use Rattle.cert_forest.specs.Certificates.{Certificate}
 use Rattle.cert_forest.specs.Limits.{IsCertificate}
 use Rattle.cert_forest.specs.Exact.{HasMore}
@@ -30,10 +33,12 @@ pub record Spell (litmus certificate : List ℕ) (program : Litmus Listing) (cla
   pub of_program : litmus_texts.IsLitmus litmus program
   pub of_certificate : IsCertificate certificate claimed
 
--- What is shown of outcomes: all, or what the condition and `locations` of the litmus text name, as the certificate's version asks.
-abbrev pub handed_in : Litmus Listing → Shown → Shown
-handed_in litmus All = All
-handed_in litmus (Only names) = shown_by litmus.condition.formula litmus.observed
+-- What is shown of outcomes, as the certificate asks: all, what the condition and `locations` of the litmus text name, or whether the
+-- condition's formula is true.
+abbrev pub handed_in : Litmus Listing → Shows → Shown
+handed_in litmus shows.All = All
+handed_in litmus (shows.Only names) = shown_by litmus.condition.formula litmus.observed
+handed_in litmus shows.Condition = Truth litmus.condition.formula
 
 -- What a line says that is relied on: the litmus text stands for this program, its gaps have these costs, the headline holds of
 -- these gaps, as far as outcomes are shown, and the line is made of them and of their total.
@@ -43,7 +48,7 @@ pub record Tells (litmus : List ℕ) (costs : Option (List ℕ)) (line : List �
   pub gap_costs : List ℕ
   pub given : AreGiven program.program costs gap_costs
   pub shown : Shown
-  pub as_asked : handed_in program shown ≡ shown
+  pub as_asked : handed_in program (shows_of shown) ≡ shown
   pub gaps : SetOfGaps
   pub headline : Headline (asked program.program shown) gap_costs gaps
   pub printed : line ≡ accepted_line program.program shown gaps (total gap_costs gaps)

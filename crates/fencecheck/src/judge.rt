@@ -4,20 +4,19 @@ ghost use Rattle.std.specs.Prelude.{◌≡◌, IfOk, IfErr, OnOk, option_map};
 ghost use Rattle.gap_sets.specs.Order.{total};
 ghost use Rattle.tso_program.specs.Shown.{asked};
 ghost use Rattle.tso_machine.specs.Outcomes.{Headline};
-ghost use Rattle.cost_text.specs.GivenCosts.{AreGiven, AreNotGiven};
 ghost use Rattle.tree_laws.specs.Certificates.{IsValidCertificate};
 ghost use Rattle.cert_check.specs.Faults.{CheckFaultIs};
 ghost use Rattle.report.specs.Answers.{accepted_line};
 ghost use Rattle.fencecheck.specs.Verdicts.{handed_in, IsAccepted, IsRefused, refusal_line};
 
 use cert_check::{CheckFault, check};
-use cert_forest::{CertFault, Certificate, read_cert};
+use cert_forest::{CertFault, Certificate, Shows, read_cert};
 use cost_text::{CostTextFault, given_costs};
 use gap_sets::Costs;
 use litmus_reader::{Litmus, ReadFault, read_litmus};
 use report::{accepted_line, certificate_line, check_line, costs_line, litmus_line};
 use std::alloc::{AllocError, Global};
-use tso_program::{Program, Shown};
+use tso_program::{Program, Shown, ShownKind};
 
 /// Why a certificate isn't accepted.
 #[derive(Debug, Drop)]
@@ -44,24 +43,15 @@ pub fn refusal_line(alloc: Global, refusal: &Refusal) -> Result<Vec<u8>, AllocEr
     }
 }
 
-/// The costs that a text gives a program's gaps; 1 each without a text.
-fn costs_of(alloc: Global, program: &Program, text: Option<Vec<u8>>) -> Result<Costs, CostTextFault>
-    ensures costs { IfOk result (AreGiven program.now (option_map (λ text. text.items) text)) }
-    ensures none { IfErr result (AreNotGiven program.now (option_map (λ text. text.items) text)) }
-{
-    match text {
-        Some(text) => given_costs(alloc, Some(&text), program),
-        None => given_costs(alloc, None, program),
-    }
-}
-
-/// What is shown of outcomes: all, or what the litmus text names, as the certificate's version asks.
-fn handed_in(litmus: &Litmus<Program>, claimed: &Shown) -> Shown
-    ensures { result ≡ handed_in litmus.now claimed.now }
+/// What is shown of outcomes, as the certificate asks: all, what the litmus text names, or whether its condition's
+/// formula is true.
+fn handed_in(litmus: &Litmus<Program>, claimed: &Shows) -> Result<Shown, AllocError>
+    ensures { IfOk result (λ shown. shown ≡ handed_in litmus.now claimed.now) }
 {
     match claimed {
-        Shown::All => Shown::All,
-        Shown::Only(_) => litmus.shown(),
+        Shows::All => Ok(Shown::All),
+        Shows::Only(_) => Ok(litmus.shown()),
+        Shows::Condition => litmus.shown_as(ShownKind::Condition),
     }
 }
 
@@ -91,10 +81,10 @@ pub fn judge(
     alloc: Global,
     litmus: &[u8],
     certificate: &[u8],
-    costs: Option<Vec<u8>>,
+    costs: Option<&[u8]>,
 ) -> Result<Vec<u8>, Refusal>
-    ensures accepted { IfOk result (λ line. IsAccepted litmus.now certificate.now (option_map (λ text. text.items) costs) line.items) }
-    ensures refused { IfErr result (IsRefused litmus.now certificate.now (option_map (λ text. text.items) costs)) }
+    ensures accepted { IfOk result (λ line. IsAccepted litmus.now certificate.now (option_map (λ text. text.now) costs.entry) line.items) }
+    ensures refused { IfErr result (IsRefused litmus.now certificate.now (option_map (λ text. text.now) costs.entry)) }
 {
     let litmus = match read_litmus(alloc, litmus) {
         Ok(litmus) => litmus,
@@ -104,11 +94,14 @@ pub fn judge(
         Ok(certificate) => certificate,
         Err(fault) => return Err(Refusal::Certificate(fault)),
     };
-    let costs = match costs_of(alloc, &litmus.program, costs) {
+    let costs = match given_costs(alloc, costs, &litmus.program) {
         Ok(costs) => costs,
         Err(fault) => return Err(Refusal::Costs(fault)),
     };
-    let shown = handed_in(&litmus, &certificate.shown);
+    let shown = match handed_in(&litmus, &certificate.shown) {
+        Ok(shown) => shown,
+        Err(_) => return Err(Refusal::Certificate(CertFault::OutOfMemory)),
+    };
     match checked_line(alloc, &litmus.program, &shown, &costs, &certificate) {
         Ok(line) => Ok(line),
         Err(fault) => Err(Refusal::Check(fault)),

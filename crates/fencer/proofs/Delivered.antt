@@ -1,14 +1,30 @@
--- What is printed of a placement.
-use Rattle.std.proofs.Common.{◌≡◌, ◌++◌, ℕ, Bool, List, Option, Result, Ok, Err, IfOk}
+-- What is delivered: the files hold what is written to them.
+use Rattle.std.proofs.Common.{ℕ, List, Option, Result, Ok, Err, IfOk, Some, None, refl, sym, subst, ◌∙◌}
+use Rattle.program_streams.specs.Streams.{HoldsBytes}
+use Rattle.tso_program.specs.declared.shown.ShownKind.{ShownKind}
 use Rattle.placed_text.specs.declared.fault.TextFault.{TextFault}
 use Rattle.placed_text.specs.declared.writing.PlacedText.{PlacedText}
 use Rattle.placed_text.specs.PlacedTexts.{IsPlacedText}
-use Rattle.fencer.specs.declared.place.Answer.{Answer}
-use Rattle.fencer.specs.Placements.{PrintsPlacement}
+use Rattle.std.specs.Prelude.{Bool}
+use Rattle.fencer.specs.declared.delivery.Answer.{Answer}
+use Rattle.fencer.specs.Deliveries.{AreApart, HoldsFile, KeepFiles, KeepFilesBut}
+use Rattle.fencer.specs.Placements.{DeliversTexts, PrintsPlacement}
 
 -- the lines that were joined are those of the texts
-pub joined_lines : (litmus : List ℕ) (costs : Option (List ℕ)) (observed : Bool) (texts : PlacedText) (r : Result Answer TextFault) → IsPlacedText litmus costs observed texts
-    → IfOk r (λ answer. answer.lines.items ≡ texts.answer.items ++ texts.program.items) → IfOk r (λ answer. answer.written.items ≡ texts.certificate.items)
-    → IfOk r (λ answer. PrintsPlacement litmus costs observed answer.lines.items answer.written.items)
-joined_lines litmus costs observed texts (Ok answer) placed lines certificate = record { texts = texts; placed = placed; printed = lines; proof = certificate }
-joined_lines litmus costs observed texts (Err why) placed lines certificate = tt
+pub delivered_texts : (litmus : List ℕ) (costs : Option (List ℕ)) (kind : ShownKind) (check json : Bool) (texts : PlacedText) (r : Result Answer TextFault) → IsPlacedText litmus costs kind texts
+    → IfOk r (DeliversTexts texts check json) → IfOk r (PrintsPlacement litmus costs kind check json)
+delivered_texts litmus costs kind check json texts (Ok answer) placed delivered = record { texts = texts; placed = placed; delivered = delivered }
+delivered_texts litmus costs kind check json texts (Err why) placed delivered = tt
+
+-- a file holds what was written to it, if it is not the one that is written next
+pub still_held : (first second : Option (List ℕ)) (left next : List ℕ → Option (List ℕ)) (text : List ℕ) → HoldsFile first left text → KeepFiles second left next → AreApart first second → HoldsFile first next text
+still_held None second left next text held kept apart = tt
+still_held (Some name) second left next text held kept apart = subst (λ (bytes : Option (List ℕ)). HoldsBytes bytes text) (sym (kept name (λ is. apart name refl is))) held
+
+-- two writes keep the other files
+pub both_keep : (first second : Option (List ℕ)) (files left next : List ℕ → Option (List ℕ)) → KeepFiles first files left → KeepFiles second left next → KeepFilesBut first second files next
+both_keep first second files left next kept kept_too name not_first not_second = kept_too name not_second ∙ kept name not_first
+
+-- the first write keeps the other files
+pub first_keeps : (first second : Option (List ℕ)) (files left : List ℕ → Option (List ℕ)) → KeepFiles first files left → KeepFilesBut first second files left
+first_keeps first second files left kept name not_first not_second = kept name not_first

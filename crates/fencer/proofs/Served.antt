@@ -1,15 +1,22 @@
 -- What the program prints, with words and without.
-use Rattle.std.proofs.Common.{◌≡◌, ◌==◌, ℕ, ◌+◌, suc, true, false, List, [], ◌∷◌, ◌⊎◌, Option, length, map, arith, inl, inr, subst, sym}
-use Rattle.std.specs.Prelude.{codes}
+use Rattle.std.proofs.Common.{◌≡◌, ◌==◌, ℕ, ◌+◌, zero, suc, Bool, true, false, List, [], ◌∷◌, ◌⊎◌, Option, Contains, length, map, arith, inl, inr, refl, subst, sym}
+use Rattle.std.specs.Prelude.{◌&&◌, codes, nat_lt}
+use Rattle.std.specs.Str.{IsAscii, IsUtf8, bytes_eq}
+use Rattle.std.specs.List.{list_all}
+use Rattle.std.proofs.lemmas.Str.{IsUtf8-from_ascii}
+use Rattle.std.proofs.lemmas.Str.Ascii.{IsAscii-cons, IsAscii-nil}
+use Rattle.std.proofs.lemmas.Bool.{ltb-true}
+use Rattle.std.proofs.lemmas.Slice.Eq.{bytes_eq-Decides}
 use Rattle.std.proofs.lemmas.Bool.Decides.{nat_tests}
 use Rattle.clap.specs.Words.{Text}
 use Rattle.program_streams.specs.declared.fault.FileFault.{FileFault}
 use Rattle.program_streams.specs.declared.fault.FileFault.TheVariants as file
 use Rattle.program_streams.specs.declared.files.TheConstants.{TEXT_LIMIT}
+use Rattle.program_streams.specs.Versions.{asks_version}
 use Rattle.fencer_words.specs.CommandLines.{IsNoCommand}
 use Rattle.program_streams.specs.Streams.{IsReadFault, TakesOfLine}
 use Rattle.program_streams.specs.Words.{IsUtf8Refusal}
-use Rattle.fencer.specs.Answers.{HasTooLongLine, IsReply, IsReplyToInput, IsOutput, KeepFilesOf, KeepOtherFiles, LineAsksToWrite, no_command}
+use Rattle.fencer.specs.Answers.{HasTooLongLine, IsReply, IsReplyToInput, IsOutput, KeepFilesOf, KeepOtherFiles, LineAsksToWrite, ReadsForWords, ReadsForInput, ReadsFor, no_command}
 
 not_zero : (n : ℕ) → (suc n == 0) ≡ true → ⊥
 not_zero n e = grind (arith, nat_tests)
@@ -39,6 +46,16 @@ module _ {W : Type 0} (text : W → Text) (input : Option (List ℕ)) (files lef
   kept_by_input [] none kept = kept
   kept_by_input (word ∷ words) none kept = absurd (not_zero (length words) none)
 
+-- what is read for words and for an input is what is read for the words after the program's name
+module _ {W : Type 0} (text : W → Text) (old new : Option (List ℕ)) where
+  pub read_for_words : (words : List W) → (length words == 0) ≡ false → ReadsForWords (map text words) old new → ReadsFor (map text words) old new
+  read_for_words [] some reads = absurd (zero_is some)
+  read_for_words (word ∷ words) some reads = reads
+
+  pub read_for_input : (words : List W) → (length words == 0) ≡ true → ReadsForInput old new → ReadsFor (map text words) old new
+  read_for_input [] none reads = reads
+  read_for_input (word ∷ words) none reads = absurd (not_zero (length words) none)
+
 -- one of two, where the first is not
 pub other : {P Q : Type 0} → P ⊎ Q → (P → ⊥) → Q
 other (inl p) not_first = absurd (not_first p)
@@ -51,5 +68,27 @@ line_fault old new file.Write is = absurd is
 line_fault old new file.TooLong is = (new, is)
 
 -- words that are not UTF-8 are reported as no command
-pub utf8_reply : (words : List Text) (input : Option (List ℕ)) (files left : List ℕ → Option (List ℕ)) (status : ℕ) (out : List ℕ) → IsNoCommand words → IsUtf8Refusal status out → IsReply words input files left status out
-utf8_reply words input files left status out refused is = subst (λ (s : ℕ). IsReply words input files left s out) (sym is.0) (no_command out refused (codes "error: the command line is not UTF-8", is.1))
+pub utf8_reply : (words : List Text) (input : Option (List ℕ)) (files left : List ℕ → Option (List ℕ)) (status : ℕ) (out : List ℕ) → asks_version words ≡ false → IsNoCommand words → IsUtf8Refusal status out → IsReply words input files left status out
+utf8_reply words input files left status out no_version refused is = subst (λ (s : ℕ). IsReply words input files left s out) (sym is.0) (no_command out no_version refused (codes "error: the command line is not UTF-8", is.1))
+
+-- a word that is not UTF-8 asks for no version
+both : (a b : Bool) → (a && b) ≡ true → (a ≡ true) × (b ≡ true)
+both true b is = (refl, is)
+both false b is = absurd cc
+
+ascii_from : (bytes : List ℕ) → list_all (λ byte. nat_lt byte 128) bytes ≡ true → IsAscii bytes
+ascii_from [] small = IsAscii-nil
+ascii_from (byte ∷ bytes) small = let parts = both _ _ small in IsAscii-cons byte bytes (ltb-true byte 128 parts.0) (ascii_from bytes parts.1)
+
+version_is_utf8 : IsUtf8 (codes "--version")
+version_is_utf8 = IsUtf8-from_ascii (codes "--version") (ascii_from (codes "--version") refl)
+
+of_word : (word : Text) → (IsUtf8 word → ⊥) → (b : Bool) → bytes_eq word (codes "--version") ≡ b → b ≡ false
+of_word word not_utf8 false is = refl
+of_word word not_utf8 true is = absurd (not_utf8 (subst IsUtf8 (sym ((bytes_eq-Decides word (codes "--version")).0 is)) version_is_utf8))
+
+pub no_version : (words : List Text) (word : Text) → Contains words word → (IsUtf8 word → ⊥) → asks_version words ≡ false
+no_version [] word there not_utf8 = refl
+no_version (first ∷ []) word (zero, lt, is) not_utf8 = of_word first (λ utf8. not_utf8 (subst IsUtf8 is utf8)) (bytes_eq first (codes "--version")) refl
+no_version (first ∷ []) word (suc i, lt, is) not_utf8 = absurd (omega arith)
+no_version (first ∷ (second ∷ words)) word there not_utf8 = refl

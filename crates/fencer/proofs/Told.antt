@@ -1,16 +1,17 @@
 -- What is printed of an answer.
-use Rattle.std.proofs.Common.{ℕ, List, Option, Result, Ok, Err, IfOk, IfErr, sym, subst}
-use Rattle.std.specs.Global.{Vec}
+use Rattle.std.proofs.Common.{ℕ, Bool, List, Option, Result, Ok, Err, IfOk, IfErr, sym, subst}
 use Rattle.program_streams.specs.declared.files.TheConstants.{TEXT_LIMIT}
 use Rattle.program_streams.specs.Files.{AreOfFile}
 use Rattle.fencer.specs.declared.refusals.Refusal.{Refusal}
+use Rattle.fencer.specs.declared.refusals.Reply.{Reply}
 use Rattle.fencer.specs.Refusals.{IsTold}
 use Rattle.fencer.specs.TextAnswers.{IsAnswerTo, answered, refused}
 
 -- of an answer to the text of a file
-module _ (Answers : List ℕ → List ℕ → Type 0) (Refuses : List ℕ → Refusal → Type 0) (path : List ℕ) (input : Option (List ℕ)) (files : List ℕ → Option (List ℕ)) (bytes : List ℕ) (of_file : AreOfFile TEXT_LIMIT path input files bytes) where
-  pub told_answer : (answer : Result (Vec ℕ) Refusal) → IfOk answer (λ lines. Answers bytes lines.items) → IfErr answer (Refuses bytes) → (status : ℕ) (text : List ℕ) → IsTold answer status text → IsAnswerTo Answers Refuses path input files status text
-  told_answer (Ok lines) answers none status text is =
-      subst (λ (s : ℕ). IsAnswerTo Answers Refuses path input files s text) (sym is.0) (subst (λ (t : List ℕ). IsAnswerTo Answers Refuses path input files 0 t) (sym is.1) (answered bytes lines.items of_file answers))
+module _ (Answers : List ℕ → ℕ → List ℕ → Type 0) (Refuses : List ℕ → Refusal → Type 0) (json : Bool) (path : List ℕ) (input : Option (List ℕ)) (files : List ℕ → Option (List ℕ)) (bytes : List ℕ) (of_file : AreOfFile TEXT_LIMIT path input files bytes) where
+  pub told_answer : (answer : Result Reply Refusal) → IfOk answer (λ reply. Answers bytes reply.status reply.lines.items) → IfErr answer (Refuses bytes) → (status : ℕ) (text : List ℕ) → IsTold json answer status text → IsAnswerTo Answers Refuses json path input files status text
+  told_answer (Ok reply) answers none status text is =
+      subst (λ (s : ℕ). IsAnswerTo Answers Refuses json path input files s text) (sym is.0)
+      (subst (λ (t : List ℕ). IsAnswerTo Answers Refuses json path input files reply.status t) (sym is.1) (answered bytes reply.status reply.lines.items of_file answers))
   told_answer (Err why) none refuses status text is =
-      subst (λ (s : ℕ). IsAnswerTo Answers Refuses path input files s text) (sym is.0) (subst (λ (t : List ℕ). IsAnswerTo Answers Refuses path input files 1 t) (sym is.1) (refused bytes why of_file refuses))
+      subst (λ (s : ℕ). IsAnswerTo Answers Refuses json path input files s text) (sym is.0) (refused bytes why text of_file refuses is.1)

@@ -1,18 +1,22 @@
 -- What the program prints for a command line and an input, and with which status. `files` says what files held before, and `left`
 -- what they hold afterwards, where that is known.
-use Rattle.std.specs.Prelude.{◌≡◌, ℕ, ◌+◌, ◌≤◌, List, [], ◌∷◌, Option, Some, None, length, string_bytes}
+use Rattle.std.specs.Prelude.{◌≡◌, ◌⊎◌, ℕ, ◌+◌, ◌≤◌, true, false, List, [], ◌∷◌, Option, Some, codes, length, string_bytes}
 use Rattle.clap.specs.Words.{Text}
 use Rattle.program_streams.specs.declared.fault.FileFault.{FileFault}
 use Rattle.program_streams.specs.declared.files.TheConstants.{TEXT_LIMIT}
-use Rattle.program_streams.specs.Streams.{IsReadFault, TakesLine, TakesOfLine}
+use Rattle.program_streams.specs.Files.{ReadsOfInput}
+use Rattle.program_streams.specs.Streams.{IsReadFault, TakesLine, TakesOfLine, TakesUpTo}
 use Rattle.program_streams.specs.Words.{words_of}
 use Rattle.program_streams.specs.FileLines.{file_line}
+use Rattle.program_streams.specs.Versions.{asks_version, version_line}
 use Rattle.fencer_words.specs.declared.job.Job.{Job}
-use Rattle.fencer_words.specs.declared.job.Job.TheVariants.{Replay, Trace, Outcomes, Place, Why}
+use Rattle.fencer_words.specs.declared.job.Job.TheVariants.{Replay, Trace, Outcomes, Place, Why, Gaps}
+use Rattle.fencer_words.specs.CommandFiles.{files_of}
 use Rattle.fencer_words.specs.CommandLines.{AsksFor, IsNoCommand}
 use Rattle.fencer.specs.Lines.{EndsLine}
 use Rattle.fencer.specs.Outcomes.{AreOutcomes}
-use Rattle.fencer.specs.Placements.{name_of, IsPlaced}
+use Rattle.fencer.specs.GapTexts.{AreGaps}
+use Rattle.fencer.specs.Placements.{IsPlaced}
 use Rattle.fencer.specs.Replays.{IsReplay, label_words_text}
 use Rattle.fencer.specs.Traces.{IsTrace}
 use Rattle.fencer.specs.Whys.{IsExplained}
@@ -22,19 +26,22 @@ use Rattle.fencer.specs.Whys.{IsExplained}
 -- the answer to a job
 abbrev pub IsAnswer : Job → Option (List ℕ) → (List ℕ → Option (List ℕ)) → (List ℕ → Option (List ℕ)) → ℕ → List ℕ → Type 0
 IsAnswer (Replay asked) input files left = IsReplay asked.model (label_words_text asked.labels.items) (string_bytes asked.litmus) input files
-IsAnswer (Trace run graph) input files left = IsTrace run (name_of graph) input files left
-IsAnswer (Outcomes model observed litmus) input files left = AreOutcomes model observed (string_bytes litmus) input files
+IsAnswer (Trace asked) input files left = IsTrace asked input files left
+IsAnswer (Outcomes asked) input files left = AreOutcomes asked input files
 IsAnswer (Place asked) input files left = IsPlaced asked input files left
-IsAnswer (Why asked graphs) input files left = IsExplained asked (name_of graphs) input files left
+IsAnswer (Why asked) input files left = IsExplained asked input files left
+IsAnswer (Gaps asked) input files left = AreGaps asked input files
 
 -- the first line of the input has more bytes than the limit
 abbrev pub HasTooLongLine : Option (List ℕ) → Type 0
 HasTooLongLine input = (rest : Option (List ℕ)) × TakesOfLine input rest (TEXT_LIMIT + 1)
 
--- the reply to words: the answer to the job that they ask for; or, where they are no command, lines that tell so
+-- the reply to words: the version, where they ask for it; the answer to the job that they ask for; or, where they are no command,
+-- lines that tell so
 pub data IsReply (words : List Text) (input : Option (List ℕ)) (files left : List ℕ → Option (List ℕ)) : ℕ → List ℕ → Type 0 where
-  answer : (job : Job) (status : ℕ) (text : List ℕ) → AsksFor words job → IsAnswer job input files left status text → IsReply words input files left status text
-  no_command : (text : List ℕ) → IsNoCommand words → EndsLine text → IsReply words input files left 2 text
+  version : asks_version words ≡ true → IsReply words input files left 0 (version_line (codes "fencer"))
+  answer : (job : Job) (status : ℕ) (text : List ℕ) → asks_version words ≡ false → AsksFor words job → IsAnswer job input files left status text → IsReply words input files left status text
+  no_command : (text : List ℕ) → asks_version words ≡ false → IsNoCommand words → EndsLine text → IsReply words input files left 2 text
 
 -- the reply to an input alone: its first line has the words, and what follows it is the input
 pub data IsReplyToInput (input : Option (List ℕ)) (files left : List ℕ → Option (List ℕ)) : ℕ → List ℕ → Type 0 where
@@ -46,27 +53,45 @@ abbrev pub IsOutput : List Text → Option (List ℕ) → (List ℕ → Option (
 IsOutput [] input files left = IsReplyToInput input files left
 IsOutput (word ∷ words) input files left = IsReply (word ∷ words) input files left
 
+-- ---- what is read of the input
+
+-- the litmus file of a job
+abbrev pub litmus_of : Job → List ℕ
+litmus_of (Replay asked) = string_bytes asked.litmus
+litmus_of (Trace asked) = string_bytes asked.run.litmus
+litmus_of (Outcomes asked) = string_bytes asked.litmus
+litmus_of (Place asked) = string_bytes asked.litmus
+litmus_of (Why asked) = string_bytes asked.placement.litmus
+litmus_of (Gaps asked) = string_bytes asked.litmus
+
+-- for words: nothing; or, where they ask for a job, no more than shows that its litmus file is too long
+pub data ReadsForWords (words : List Text) (old new : Option (List ℕ)) : Type 0 where
+  nothing : new ≡ old → ReadsForWords words old new
+  of_job : (job : Job) → AsksFor words job → ReadsOfInput TEXT_LIMIT (litmus_of job) old new → ReadsForWords words old new
+
+-- for an input alone: no more than shows that its first line is too long; or that line, and after it what is read for its words
+pub data ReadsForInput (old new : Option (List ℕ)) : Type 0 where
+  line_alone : TakesUpTo old new (TEXT_LIMIT + 1) → ReadsForInput old new
+  after_line : (line : List ℕ) (rest : Option (List ℕ)) → TakesLine old rest line → length line ≤ TEXT_LIMIT → ReadsForWords (words_of line) rest new → ReadsForInput old new
+
+-- for the words after the program's name
+abbrev pub ReadsFor : List Text → Option (List ℕ) → Option (List ℕ) → Type 0
+ReadsFor [] old new = ReadsForInput old new
+ReadsFor (word ∷ words) old new = ReadsForWords (word ∷ words) old new
+
 -- ---- what is written
 
--- the file to which a job writes a certificate or graphs
-abbrev pub written_by : Job → Option (List ℕ)
-written_by (Replay asked) = None
-written_by (Trace run graph) = name_of graph
-written_by (Outcomes model observed litmus) = None
-written_by (Place asked) = name_of asked.certificate
-written_by (Why asked graphs) = name_of graphs
-
--- the words ask for a certificate or for graphs in the file of this name
+-- the words ask for a job that writes the file of this name
 pub record AsksToWrite (words : List Text) (name : List ℕ) : Type 0 where
   pub job : Job
   pub asked : AsksFor words job
-  pub named : written_by job ≡ Some name
+  pub named : ((files_of job).first ≡ Some name) ⊎ ((files_of job).second ≡ Some name)
 
 -- each file in which the words ask for nothing holds what it held
 abbrev pub KeepFilesOf : List Text → (List ℕ → Option (List ℕ)) → (List ℕ → Option (List ℕ)) → Type 0
 KeepFilesOf words files left = (name : List ℕ) → (AsksToWrite words name → ⊥) → left name ≡ files name
 
--- the words of the input's first line ask for a certificate or for graphs in the file of this name
+-- the words of the input's first line ask for a job that writes the file of this name
 pub record LineAsksToWrite (input : Option (List ℕ)) (name : List ℕ) : Type 0 where
   pub line : List ℕ
   pub rest : Option (List ℕ)

@@ -1,9 +1,15 @@
 pub mod Lines
+pub mod Statuses
+pub mod Refused
 pub mod Refusals
 pub mod TextAnswers
+pub mod InputTexts
+pub mod Deliveries
+pub mod Documented
 pub mod Replays
 pub mod Traces
 pub mod Outcomes
 pub mod Placements
 pub mod Whys
+pub mod GapTexts
 pub mod Answers

@@ -1,15 +1,17 @@
 -- What is printed for the outcomes of a program.
-use Rattle.std.specs.Prelude.{◌≡◌, ◌↔◌, ℕ, Bool, List, [], ◌∷◌, ◌++◌, Contains, Option, codes, length}
+use Rattle.std.specs.Prelude.{◌≡◌, ◌↔◌, ℕ, Bool, true, false, List, [], ◌∷◌, ◌++◌, Contains, Option, codes, length, not, string_bytes}
 use Rattle.std.specs.Fmt.{decimal}
 use Rattle.std.specs.List.{flat_map}
 use Rattle.std.specs.FinSet as set
 use Rattle.tso_program.specs.declared.listing.Listing.{Listing}
 use Rattle.tso_program.specs.declared.outcome.Outcome.{Outcome}
 use Rattle.tso_program.specs.declared.shown.Shown.{Shown}
+use Rattle.tso_program.specs.declared.shown.ShownKind.{ShownKind}
+use Rattle.tso_program.specs.declared.shown.ShownKind.TheVariants.{Whole, Observed}
 use Rattle.tso_program.specs.Shown.{Question}
 use Rattle.tso_machine.specs.declared.label.Model.{Model}
-use Rattle.tso_machine.specs.Machine.{Mode}
-use Rattle.tso_machine.specs.Modes.{mode_of}
+use Rattle.tso_machine.specs.Machine.{Machine}
+use Rattle.tso_machine.specs.Modes.{machine_of_model}
 use Rattle.tso_machine.specs.Outcomes.{AllowsShown}
 use Rattle.litmus_reader.specs.declared.litmus.Litmus.{Litmus}
 use Rattle.litmus_reader.specs.Texts.{IsLitmus, IsNoLitmus}
@@ -17,13 +19,16 @@ use Rattle.cover_solver.specs.declared.fault.SolveFault.TheVariants as solve
 use Rattle.cover_solver.specs.Ordered.{Ascend}
 use Rattle.litmus_reader.specs.Shown.{shown_as, question_of}
 use Rattle.report.specs.Answers.{outcome_line}
-use Rattle.report.specs.Observations.{observation_line, condition_line}
+use Rattle.documents.specs.Documents.{IsOutcomesDocument}
+use Rattle.report.specs.Observations.{is_true_of, observation_line, condition_line}
+use Rattle.fencer_words.specs.declared.job.OutcomeQuery.{OutcomeQuery}
 use Rattle.fencer.specs.declared.refusals.Refusal.{Refusal}
 use Rattle.fencer.specs.declared.refusals.Refusal.TheVariants as refusal
+use Rattle.fencer.specs.Statuses.{check_status}
 use Rattle.fencer.specs.TextAnswers.{IsAnswerTo}
 
 -- the list ascends, and has exactly the outcomes that the machine of the mode allows, as far as they are shown
-pub record ListsOutcomes (q : Question) (mode : Mode) (outcomes : List Outcome) : Type 0 where
+pub record ListsOutcomes (q : Question) (mode : Machine) (outcomes : List Outcome) : Type 0 where
   pub ascend : Ascend outcomes
   pub exact : (o : Outcome) → Contains outcomes o ↔ AllowsShown q mode o
 
@@ -35,13 +40,28 @@ list_text litmus shown outcomes =
     ++ observation_line litmus.condition outcomes
     ++ condition_line litmus.condition outcomes
 
--- the lines are those of the list of the unfenced program that the bytes spell
-pub record PrintsOutcomes (model : Model) (observed : Bool) (bytes lines : List ℕ) : Type 0 where
+-- the lines are those of the list, or its document
+abbrev pub TellsOutcomes : Bool → Model → Litmus Listing → Shown → List Outcome → List ℕ → Type 0
+TellsOutcomes false model litmus shown outcomes lines = lines ≡ list_text litmus shown outcomes
+TellsOutcomes true model litmus shown outcomes lines = IsOutcomesDocument litmus shown model outcomes lines
+
+-- with a check the status is 3 where the condition fails
+abbrev pub list_status : Bool → Litmus Listing → List Outcome → ℕ
+list_status check litmus outcomes = check_status check (not (is_true_of litmus.condition.quantifier litmus.condition.formula outcomes))
+
+-- what is shown of the outcomes of a list
+abbrev pub listed_kind : Bool → ShownKind
+listed_kind false = Whole
+listed_kind true = Observed
+
+-- the lines are those of the list of the unfenced program that the bytes spell, and the status is theirs
+pub record PrintsOutcomes (q : OutcomeQuery) (bytes : List ℕ) (status : ℕ) (lines : List ℕ) : Type 0 where
   pub litmus : Litmus Listing
   pub spelled : IsLitmus bytes litmus
   pub outcomes : List Outcome
-  pub listed : ListsOutcomes (question_of litmus observed) (mode_of litmus.program set.empty model) outcomes
-  pub printed : lines ≡ list_text litmus (shown_as litmus observed) outcomes
+  pub listed : ListsOutcomes (question_of litmus (listed_kind q.observed)) (machine_of_model litmus.program set.empty q.model) outcomes
+  pub printed : TellsOutcomes q.json q.model litmus (shown_as litmus (listed_kind q.observed)) outcomes lines
+  pub ends : status ≡ list_status q.check litmus outcomes
 
 -- why there is no list: the text is no litmus text, or memory was wanting
 abbrev pub HasNoList : List ℕ → Refusal → Type 0
@@ -51,5 +71,5 @@ HasNoList bytes (refusal.Replay fault) = ⊥
 HasNoList bytes (refusal.Solve fault) = (litmus : Litmus Listing) × IsLitmus bytes litmus × (fault ≡ solve.OutOfMemory)
 
 -- the answer to a question for outcomes, with its status: the lines of the list, or the line of a refusal
-abbrev pub AreOutcomes : Model → Bool → List ℕ → Option (List ℕ) → (List ℕ → Option (List ℕ)) → ℕ → List ℕ → Type 0
-AreOutcomes model observed = IsAnswerTo (PrintsOutcomes model observed) HasNoList
+abbrev pub AreOutcomes : OutcomeQuery → Option (List ℕ) → (List ℕ → Option (List ℕ)) → ℕ → List ℕ → Type 0
+AreOutcomes q = IsAnswerTo (PrintsOutcomes q) HasNoList q.json (string_bytes q.litmus)

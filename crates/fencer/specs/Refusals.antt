@@ -1,11 +1,12 @@
 -- Why there is no answer, and how an answer is printed.
-use Rattle.std.specs.Prelude.{◌≡◌, ℕ, List, Result, Ok, Err, codes}
-use Rattle.std.specs.Global.{Vec}
+use Rattle.std.specs.Prelude.{◌≡◌, ℕ, Bool, List, Result, Ok, Err, codes}
 use Rattle.cover_solver.specs.declared.fault.SolveFault.{SolveFault}
 use Rattle.cover_solver.specs.declared.fault.SolveFault.TheVariants as solve
 use Rattle.report.specs.Faults.{refused, litmus_line, replay_line, run_line}
 use Rattle.fencer.specs.declared.refusals.Refusal.{Refusal}
 use Rattle.fencer.specs.declared.refusals.Refusal.TheVariants as refusal
+use Rattle.fencer.specs.declared.refusals.Reply.{Reply}
+use Rattle.fencer.specs.Refused.{RefusalSays}
 
 abbrev pub solve_line : SolveFault → List ℕ
 solve_line solve.NoRun = refused (codes "solve 1 NoRun")
@@ -18,7 +19,7 @@ refusal_line (refusal.Run fault) = run_line fault
 refusal_line (refusal.Replay fault) = replay_line fault
 refusal_line (refusal.Solve fault) = solve_line fault
 
--- what is printed, with its status: the lines of an answer, or the line of a refusal
-abbrev pub IsTold : Result (Vec ℕ) Refusal → ℕ → List ℕ → Type 0
-IsTold (Ok lines) status text = (status ≡ 0) × (text ≡ lines.items)
-IsTold (Err why) status text = (status ≡ 1) × (text ≡ refusal_line why)
+-- what is printed, with its status: the lines of an answer, or the line of a refusal or its document
+abbrev pub IsTold : Bool → Result Reply Refusal → ℕ → List ℕ → Type 0
+IsTold json (Ok reply) status text = (status ≡ reply.status) × (text ≡ reply.lines.items)
+IsTold json (Err why) status text = (status ≡ 1) × RefusalSays json (refusal_line why) text

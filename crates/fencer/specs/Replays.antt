@@ -1,5 +1,5 @@
 -- What is printed for a replay.
-use Rattle.std.specs.Prelude.{◌≡◌, ℕ, List, ◌∷◌, ◌++◌, Option, string_bytes}
+use Rattle.std.specs.Prelude.{◌≡◌, ℕ, false, List, ◌∷◌, ◌++◌, Option, string_bytes}
 use Rattle.std.specs.List.{flat_map}
 use Rattle.std.specs.declared.string.String.{String}
 use Rattle.std.specs.FinSet as set
@@ -11,7 +11,7 @@ use Rattle.tso_machine.specs.declared.label.Label.{Label}
 use Rattle.tso_machine.specs.declared.label.Model.{Model}
 use Rattle.tso_machine.specs.declared.replaying.ReplayFault.{ReplayFault}
 use Rattle.tso_machine.specs.Machine.{IsRun}
-use Rattle.tso_machine.specs.Modes.{mode_of, ArePassed}
+use Rattle.tso_machine.specs.Modes.{machine_of_model, ArePassed}
 use Rattle.tso_machine.specs.Faults.{ReplayFaultIs}
 use Rattle.tso_machine.specs.RunTexts.{IsRunText, RunFaultIs}
 use Rattle.litmus_reader.specs.declared.litmus.Litmus.{Litmus}
@@ -32,9 +32,9 @@ pub record PrintsRun (model : Model) (labels bytes lines : List ℕ) : Type 0 wh
   pub steps : List Label
   pub read : IsRunText labels steps
   pub outcome : Outcome
-  pub run : IsRun litmus.program (mode_of litmus.program set.empty model) steps outcome
+  pub run : IsRun litmus.program (machine_of_model litmus.program set.empty model) steps outcome
   pub passed : SetOfGaps
-  pub passes : ArePassed litmus.program (mode_of litmus.program set.empty model) steps passed
+  pub passes : ArePassed litmus.program (machine_of_model litmus.program set.empty model) steps passed
   pub printed : lines ≡ outcome_line litmus.names All outcome ++ passed_line litmus.program passed
 
 -- why steps are no run of the unfenced program that the bytes spell
@@ -43,7 +43,7 @@ pub record IsRefusedReplay (model : Model) (labels bytes : List ℕ) (fault : Re
   pub spelled : IsLitmus bytes litmus
   pub steps : List Label
   pub read : IsRunText labels steps
-  pub why : ReplayFaultIs litmus.program (mode_of litmus.program set.empty model) steps fault
+  pub why : ReplayFaultIs litmus.program (machine_of_model litmus.program set.empty model) steps fault
 
 -- why a text and labels have no replay: the text is judged before the labels, and these before the run
 abbrev pub HasNoRun : Model → List ℕ → List ℕ → Refusal → Type 0
@@ -52,6 +52,10 @@ HasNoRun model labels bytes (refusal.Run fault) = (litmus : Litmus Listing) × I
 HasNoRun model labels bytes (refusal.Replay fault) = IsRefusedReplay model labels bytes fault
 HasNoRun model labels bytes (refusal.Solve fault) = ⊥
 
+-- the lines of a run, with status 0
+abbrev pub ShowsRun : Model → List ℕ → List ℕ → ℕ → List ℕ → Type 0
+ShowsRun model labels bytes status lines = (status ≡ 0) × PrintsRun model labels bytes lines
+
 -- the answer to a replay, with its status: the lines of the run, or the line of a refusal
 abbrev pub IsReplay : Model → List ℕ → List ℕ → Option (List ℕ) → (List ℕ → Option (List ℕ)) → ℕ → List ℕ → Type 0
-IsReplay model labels = IsAnswerTo (PrintsRun model labels) (HasNoRun model labels)
+IsReplay model labels = IsAnswerTo (ShowsRun model labels) (HasNoRun model labels) false

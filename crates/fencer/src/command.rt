@@ -2,12 +2,17 @@
 
 ghost use Rattle.std.specs.Prelude.{IfOk, map, string_bytes};
 ghost use Rattle.program_streams.specs.Streams.{Prints};
+ghost use Rattle.program_streams.specs.Files.{ReadsOfInput};
 ghost use Rattle.fencer.specs.Lines.{EndsLine};
-ghost use Rattle.fencer.specs.Placements.{KeepFiles};
-ghost use Rattle.fencer.specs.Answers.{written_by, IsAnswer, IsReply, IsOutput, KeepFilesOf, KeepOtherFiles};
+ghost use Rattle.fencer_words.specs.CommandFiles.{files_of};
+ghost use Rattle.fencer.specs.Deliveries.{KeepFilesBut};
+ghost use Rattle.fencer.specs.Answers.{litmus_of, IsAnswer, IsReply, IsOutput, KeepFilesOf, KeepOtherFiles, ReadsForWords, ReadsFor};
 
+use crate::advice::{unread_advice, unread_litmus};
+use crate::gaps::run_gaps;
 use crate::outcomes::run_outcomes;
 use crate::place::run_place;
+use crate::refused::tell_refusal;
 use crate::replays::run_replay;
 use crate::traces::run_trace;
 use crate::whys::run_why;
@@ -15,13 +20,16 @@ use clap::Error;
 use clap::error::ErrorKind;
 use fencer_words::{Job, read_words};
 use program_streams::{
-    LineFault, TEXT_LIMIT, WritableFileStore, file_line, line_words, print, read_line_up_to,
-    refuse_words,
+    Console, LineFault, TEXT_LIMIT, WritableFileStore, asks_version, file_line, line_words, print,
+    read_line_up_to, refuse_words, version_line,
 };
 use std::alloc::{AllocError, Global};
-use std::io::{Read, Write};
+use std::io::Read;
 use std::sync::Wait;
 use std::thread::Threads;
+
+/// The program's name.
+const NAME: &str = "fencer";
 
 /// What `clap` tells of words that are no command: why, or the help that they call for.
 fn error_text(alloc: Global, error: &Error) -> Result<Vec<u8>, AllocError>
@@ -34,7 +42,7 @@ fn error_text(alloc: Global, error: &Error) -> Result<Vec<u8>, AllocError>
 }
 
 /// Does a job, and answers the status.
-fn run_job<T: Threads + Sync, U: Wait + Sync, S: WritableFileStore, R: Read, W: Write>(
+fn run_job<T: Threads + Sync, U: Wait + Sync, S: WritableFileStore, R: Read, W: Console>(
     rt: &T,
     wait: &U,
     alloc: Global,
@@ -44,40 +52,21 @@ fn run_job<T: Threads + Sync, U: Wait + Sync, S: WritableFileStore, R: Read, W: 
     output: &mut W,
 ) -> u8
     ensures told { Prints (IsAnswer job.now (R.remaining input.old) (S.held files.old) (S.held files.new)) (W.contents output.old) (W.contents output.new) result }
-    ensures others { KeepFiles (written_by job.now) (S.held files.old) (S.held files.new) }
+    ensures others { KeepFilesBut (files_of job.now).first (files_of job.now).second (S.held files.old) (S.held files.new) }
+    ensures read { ReadsOfInput TEXT_LIMIT (litmus_of job.now) (R.remaining input.old) (R.remaining input.new) }
 {
     match job {
         Job::Replay(asked) => run_replay(alloc, &*files, asked, input, output),
-        Job::Trace { run, graph } => run_trace(alloc, files, run, graph.as_deref(), input, output),
-        Job::Outcomes {
-            model,
-            observed,
-            litmus,
-        } => run_outcomes(
-            alloc,
-            &*files,
-            *model,
-            *observed,
-            litmus.as_str(),
-            input,
-            output,
-        ),
+        Job::Trace(asked) => run_trace(alloc, files, asked, input, output),
+        Job::Outcomes(asked) => run_outcomes(alloc, &*files, asked, input, output),
         Job::Place(asked) => run_place(rt, wait, alloc, files, asked, input, output),
-        Job::Why { placement, graphs } => run_why(
-            rt,
-            wait,
-            alloc,
-            files,
-            placement,
-            graphs.as_deref(),
-            input,
-            output,
-        ),
+        Job::Why(asked) => run_why(rt, wait, alloc, files, asked, input, output),
+        Job::Gaps(asked) => run_gaps(alloc, &*files, asked, input, output),
     }
 }
 
 /// Does what words ask for, and answers the status.
-fn run_words<T: Threads + Sync, U: Wait + Sync, S: WritableFileStore, R: Read, W: Write>(
+fn run_words<T: Threads + Sync, U: Wait + Sync, S: WritableFileStore, R: Read, W: Console>(
     rt: &T,
     wait: &U,
     alloc: Global,
@@ -88,7 +77,11 @@ fn run_words<T: Threads + Sync, U: Wait + Sync, S: WritableFileStore, R: Read, W
 ) -> u8
     ensures told { Prints (IsReply (map string_bytes words.now) (R.remaining input.old) (S.held files.old) (S.held files.new)) (W.contents output.old) (W.contents output.new) result }
     ensures others { KeepFilesOf (map string_bytes words.now) (S.held files.old) (S.held files.new) }
+    ensures read { ReadsForWords (map string_bytes words.now) (R.remaining input.old) (R.remaining input.new) }
 {
+    if asks_version(words) {
+        return print(output, version_line(alloc, NAME), 0);
+    }
     match read_words(alloc, words) {
         Ok(job) => run_job(rt, wait, alloc, files, &job, input, output),
         Err(error) => match error.kind() {
@@ -99,16 +92,17 @@ fn run_words<T: Threads + Sync, U: Wait + Sync, S: WritableFileStore, R: Read, W
 }
 
 /// The program: it does what the words after its name ask for, and answers its status. With no words
-/// they are those of the input's first line, separated by spaces, and the rest of the input is `-`.
+/// they are those of the input's first line, separated by spaces, and the rest of the input is `-`. It reads no more of
+/// the input than shows that the line or the litmus file is too long.
 ///
-/// Wherever any of a placement's answer is printed, the file that the words name holds its certificate; no file is
-/// changed but that one, and the one that they name for a graph. With `rt` the workers of a placement start threads, and with `wait`
-/// they wait for one another; nothing else does either.
+/// Wherever any of a placement's answer is printed, the files that the arguments name hold its certificate and the fenced program;
+/// no file is changed but these, and those that they name for a page or for graphs. With `rt` the workers of a placement start threads, and with
+/// `wait` they wait for one another; nothing else does either.
 ///
-/// Status 0 means that the whole answer is written. Status 1 is a refusal, reported by one line, a writer
-/// that fails or takes no byte, and out of memory for the words or for that line, with nothing
-/// written. Status 2 is a bad command line or a call for help, reported on the writer too.
-pub fn run_command<T: Threads + Sync, U: Wait + Sync, S: WritableFileStore, R: Read, W: Write>(
+/// Status 0 means that the whole answer is written, and status 3 that it is and that a check which is asked for finds a fault. Status 1
+/// is a refusal, reported by one line, a writer that fails or takes no byte, and out of memory for the words or for that line, with
+/// nothing written. Status 2 is a bad command line or a call for help, reported on the writer too.
+pub fn run_command<T: Threads + Sync, U: Wait + Sync, S: WritableFileStore, R: Read, W: Console>(
     rt: &T,
     wait: &U,
     alloc: Global,
@@ -119,13 +113,17 @@ pub fn run_command<T: Threads + Sync, U: Wait + Sync, S: WritableFileStore, R: R
 ) -> u8
     ensures told { Prints (IsOutput (map string_bytes words.now) (R.remaining input.old) (S.held files.old) (S.held files.new)) (W.contents output.old) (W.contents output.new) result }
     ensures others { KeepOtherFiles (map string_bytes words.now) (R.remaining input.old) (S.held files.old) (S.held files.new) }
+    ensures read { ReadsFor (map string_bytes words.now) (R.remaining input.old) (R.remaining input.new) }
 {
     if !words.is_empty() {
         return run_words(rt, wait, alloc, files, words, input, output);
     }
     let line = match read_line_up_to(alloc, input, TEXT_LIMIT) {
         Ok(line) => line,
-        Err(fault) => return print(output, file_line(alloc, fault), 1),
+        Err(fault) => {
+            let message = unread_advice(alloc, &*files, unread_litmus("-", fault));
+            return tell_refusal(alloc, false, file_line(alloc, fault), message, output);
+        }
     };
     match line_words(alloc, &line) {
         Ok(words) => run_words(rt, wait, alloc, files, words.as_slice(), input, output),

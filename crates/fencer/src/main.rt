@@ -1,20 +1,28 @@
 //! The program `fencer`.
 #![tactic(auto)]
 
+mod advice;
 mod command;
+mod delivery;
+mod documented;
+mod gaps;
 mod outcomes;
 mod place;
 mod refusals;
+mod refused;
 mod replays;
+mod status;
+mod texts;
 mod traces;
 mod whys;
 
-use program_streams::{SystemFiles, given_words};
+use program_streams::{Outputs, Progress, SystemFiles, given_words};
 use std::process::ExitCode;
 
 fn main(rt: HostRuntime) -> ExitCode {
     let mut input = rt.stdin();
-    let mut output = rt.stdout();
+    let progress = Progress::on(rt.stderr());
+    let mut output = Outputs::new(rt.stdout(), rt.stderr(), progress);
     let status = match given_words(&rt, &mut output) {
         Ok(words) => command::run_command(
             &rt,

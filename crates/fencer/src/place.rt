@@ -1,36 +1,28 @@
 //! Placements: the answer of a program and its text with fences, or why there is no answer.
 
-ghost use Rattle.std.specs.Prelude.{◌≡◌, ◌++◌, IfErr, IfOk, IsOkUnless, IsSome, OnErr, OnOk, option_map};
+ghost use Rattle.std.specs.Prelude.{◌≡◌, IfErr, IfOk, IsOkUnless, option_map, string_bytes};
 ghost use Rattle.program_streams.specs.Streams.{Prints};
+ghost use Rattle.program_streams.specs.Files.{ReadsOfInput};
 ghost use Rattle.placed_text.specs.TextFaults.{HasNoPlacedText};
-ghost use Rattle.fencer.specs.Placements.{name_of, place_line, text_fault_line, PrintsPlacement, HoldsFile, KeepFiles, IsDelivered, IsJudged, AreTexts, HasNoTexts, IsPlaced};
+ghost use Rattle.fencer_words.specs.CommandFiles.{name_of};
+ghost use Rattle.fencer.specs.Deliveries.{KeepFilesBut};
+ghost use Rattle.fencer.specs.Placements.{place_line, text_fault_line, DeliversTexts, IsJudged, IsPlaced, PrintsPlacement};
 
+use crate::advice::{text_fault_advice, unread_advice};
+use crate::delivery::{Answer, deliver};
+use crate::documented::printed;
+use crate::refused::tell_refusal;
+use crate::status::check_status;
+use crate::texts::{Texts, read_texts};
 use fence_place::PlaceFault;
 use fencer_words::Placement;
-use placed_text::{PlacedText, TextFault, place_text};
-use program_streams::{
-    FileFault, FileStore, TEXT_LIMIT, WritableFileStore, bytes_if_named, file_line, named_bytes,
-    print,
-};
+use placed_text::{Effort, PlacedText, TextFault, place_text};
+use program_streams::{Console, Progress, TEXT_LIMIT, WritableFileStore, file_line};
 use report::{costs_line, litmus_line};
 use std::alloc::{AllocError, Global};
-use std::io::{Read, Write};
+use std::io::Read;
 use std::sync::Wait;
 use std::thread::Threads;
-
-/// What the files hold that are read.
-#[derive(Debug, Drop)]
-pub(crate) struct Texts {
-    pub(crate) litmus: Vec<u8>,
-    pub(crate) costs: Option<Vec<u8>>,
-}
-
-/// What is printed, and what is written to the file that is named, if one is.
-#[derive(Debug, Drop)]
-pub(crate) struct Answer {
-    pub(crate) lines: Vec<u8>,
-    pub(crate) written: Vec<u8>,
-}
 
 /// Why nothing is placed.
 fn place_line(alloc: Global, fault: PlaceFault) -> Result<Vec<u8>, AllocError>
@@ -57,37 +49,27 @@ pub(crate) fn text_fault_line(alloc: Global, fault: TextFault) -> Result<Vec<u8>
     }
 }
 
-/// The texts of a litmus file, which is read first, and of a cost file, where one is named.
-pub(crate) fn read_texts<S: FileStore, R: Read>(
-    alloc: Global,
-    files: &S,
-    asked: &Placement,
-    input: &mut R,
-) -> Result<Texts, FileFault>
-    ensures texts { IfOk result (λ texts. AreTexts asked.now (R.remaining input.old) (S.held files.now) texts.litmus.items (option_map (λ text. text.items) texts.costs)) }
-    ensures err { IfErr result (HasNoTexts asked.now (R.remaining input.old) (S.held files.now)) }
-{
-    let litmus = named_bytes(alloc, files, asked.litmus.as_str(), input, TEXT_LIMIT)?;
-    let costs = bytes_if_named(alloc, files, asked.costs.as_deref(), TEXT_LIMIT)?;
-    Ok(Texts { litmus, costs })
-}
-
-/// The answer line, followed by the program's text.
-fn joined(texts: PlacedText) -> Result<Answer, TextFault>
-    ensures lines { IfOk result (λ answer. answer.lines.items ≡ texts.answer.items ++ texts.program.items) }
-    ensures certificate { IfOk result (λ answer. answer.written.items ≡ texts.certificate.items) }
+/// The answer line, followed by the program's text, or the document; with a check the status says whether the answer has
+/// a gap.
+fn joined(texts: PlacedText, check: bool, json: bool) -> Result<Answer, TextFault>
+    ensures answer { IfOk result (DeliversTexts texts check json) }
     ensures err { IsOkUnless result TextFault.OutOfMemory }
 {
     let PlacedText {
         program,
         answer,
         certificate,
+        gaps,
+        document,
     } = texts;
     let mut lines = answer;
     match lines.extend_from_slice(&program) {
         Ok(()) => Ok(Answer {
-            lines,
-            written: certificate,
+            lines: printed(json, lines, document),
+            status: check_status(check, gaps.len() > 0),
+            json,
+            first: program,
+            second: certificate,
         }),
         Err(_) => Err(TextFault::OutOfMemory),
     }
@@ -100,60 +82,22 @@ fn answer_of<T: Threads + Sync, U: Wait + Sync>(
     alloc: Global,
     asked: &Placement,
     texts: &Texts,
+    progress: Progress,
 ) -> Result<Answer, TextFault>
-    ensures placed { IfOk result (λ answer. PrintsPlacement texts.now.litmus.items (option_map (λ text. text.items) texts.now.costs) asked.now.observed answer.lines.items answer.written.items) }
+    ensures placed { IfOk result (λ answer. PrintsPlacement texts.now.litmus.items (option_map (λ text. text.items) texts.now.costs) asked.now.kind asked.now.check asked.now.json answer) }
     ensures fault { IfErr result (HasNoPlacedText texts.now.litmus.items (option_map (λ text. text.items) texts.now.costs) asked.now.workers) }
 {
     let costs = texts.costs.as_deref();
-    let placed = place_text(
-        rt,
-        wait,
-        alloc,
-        &texts.litmus,
-        costs,
-        asked.observed,
-        asked.workers,
-    )?;
-    joined(placed)
-}
-
-/// Writes a text to its file, where one is named.
-fn keep_file<S: WritableFileStore>(
-    files: &mut S,
-    name: Option<&str>,
-    text: &[u8],
-) -> Result<(), FileFault>
-    ensures kept { OnOk result (HoldsFile (option_map (λ name. name.now) name.entry) (S.held files.new) text.now) }
-    ensures others { KeepFiles (option_map (λ name. name.now) name.entry) (S.held files.old) (S.held files.new) }
-    ensures named { OnErr result (IsSome (option_map (λ name. name.now) name.entry)) }
-    ensures fault { IfErr result (λ fault. fault ≡ FileFault.Write) }
-{
-    match name {
-        Some(name) => files.write_file(name, text),
-        None => Ok(()),
-    }
-}
-
-/// Writes what is written to a file, then prints the lines, and returns the status.
-pub(crate) fn deliver<S: WritableFileStore, W: Write>(
-    alloc: Global,
-    files: &mut S,
-    name: Option<&str>,
-    answer: Answer,
-    output: &mut W,
-) -> u8
-    ensures told { Prints (IsDelivered (option_map (λ name. name.now) name.entry) (S.held files.new) answer.lines.items answer.written.items) (W.contents output.old) (W.contents output.new) result }
-    ensures others { KeepFiles (option_map (λ name. name.now) name.entry) (S.held files.old) (S.held files.new) }
-{
-    let Answer { lines, written } = answer;
-    match keep_file(files, name, &written) {
-        Ok(()) => print(output, Ok(lines), 0),
-        Err(fault) => print(output, file_line(alloc, fault), 1),
-    }
+    let effort = Effort {
+        workers: asked.workers,
+        progress: progress.asked(asked.progress),
+    };
+    let placed = place_text(rt, wait, alloc, &texts.litmus, costs, asked.kind, effort)?;
+    joined(placed, asked.check, asked.json)
 }
 
 /// Judges texts, prints what is placed, and returns the status.
-fn place_texts<T: Threads + Sync, U: Wait + Sync, S: WritableFileStore, W: Write>(
+fn place_texts<T: Threads + Sync, U: Wait + Sync, S: WritableFileStore, W: Console>(
     rt: &T,
     wait: &U,
     alloc: Global,
@@ -163,17 +107,30 @@ fn place_texts<T: Threads + Sync, U: Wait + Sync, S: WritableFileStore, W: Write
     output: &mut W,
 ) -> u8
     ensures told { Prints (IsJudged asked.now texts.now.litmus.items (option_map (λ text. text.items) texts.now.costs) (S.held files.old) (S.held files.new)) (W.contents output.old) (W.contents output.new) result }
-    ensures others { KeepFiles (name_of asked.now.certificate) (S.held files.old) (S.held files.new) }
+    ensures others { KeepFilesBut (name_of asked.now.output) (name_of asked.now.certificate) (S.held files.old) (S.held files.new) }
 {
-    match answer_of(rt, wait, alloc, asked, texts) {
-        Ok(answer) => deliver(alloc, files, asked.certificate.as_deref(), answer, output),
-        Err(fault) => print(output, text_fault_line(alloc, fault), 1),
+    let program = asked.output.as_deref();
+    let certificate = asked.certificate.as_deref();
+    let progress = output.progress();
+    match answer_of(rt, wait, alloc, asked, texts, progress) {
+        Ok(answer) => deliver(alloc, files, program, certificate, answer, output),
+        Err(fault) => {
+            let named = (asked.litmus.as_str(), asked.costs.as_deref());
+            let message = text_fault_advice(alloc, named, texts, fault);
+            tell_refusal(
+                alloc,
+                asked.json,
+                text_fault_line(alloc, fault),
+                message,
+                output,
+            )
+        }
     }
 }
 
-/// Places fences in the program of a litmus file, writes the certificate, prints the answer, and
+/// Places fences in the program of a litmus file, writes the fenced program and the certificate, prints the answer, and
 /// returns the status.
-pub fn run_place<T: Threads + Sync, U: Wait + Sync, S: WritableFileStore, R: Read, W: Write>(
+pub fn run_place<T: Threads + Sync, U: Wait + Sync, S: WritableFileStore, R: Read, W: Console>(
     rt: &T,
     wait: &U,
     alloc: Global,
@@ -183,10 +140,21 @@ pub fn run_place<T: Threads + Sync, U: Wait + Sync, S: WritableFileStore, R: Rea
     output: &mut W,
 ) -> u8
     ensures told { Prints (IsPlaced asked.now (R.remaining input.old) (S.held files.old) (S.held files.new)) (W.contents output.old) (W.contents output.new) result }
-    ensures others { KeepFiles (name_of asked.now.certificate) (S.held files.old) (S.held files.new) }
+    ensures others { KeepFilesBut (name_of asked.now.output) (name_of asked.now.certificate) (S.held files.old) (S.held files.new) }
+    ensures read { ReadsOfInput TEXT_LIMIT (string_bytes asked.now.litmus) (R.remaining input.old) (R.remaining input.new) }
 {
-    match read_texts(alloc, &*files, asked, input) {
+    let costs = asked.costs.as_deref();
+    match read_texts(alloc, &*files, asked.litmus.as_str(), costs, input) {
         Ok(texts) => place_texts(rt, wait, alloc, files, asked, &texts, output),
-        Err(fault) => print(output, file_line(alloc, fault), 1),
+        Err(file) => {
+            let message = unread_advice(alloc, &*files, file);
+            tell_refusal(
+                alloc,
+                asked.json,
+                file_line(alloc, file.fault),
+                message,
+                output,
+            )
+        }
     }
 }

@@ -5,12 +5,13 @@ ghost use Rattle.program_streams.specs.Streams.{Prints};
 ghost use Rattle.fencer.specs.declared.refusals.Refusal.TheVariants as refusal;
 ghost use Rattle.fencer.specs.Refusals.{refusal_line, solve_line, IsTold};
 
+use crate::advice::{Subject, refusal_advice};
+use crate::refused::tell_refusal;
 use cover_solver::SolveFault;
 use litmus_text::ReadFault;
-use program_streams::print;
+use program_streams::{Console, print};
 use report::{litmus_line, replay_line, run_line};
 use std::alloc::{AllocError, Global};
-use std::io::Write;
 use tso_machine::{ReplayFault, RunFault};
 
 /// Why there is no answer.
@@ -80,12 +81,29 @@ pub(crate) fn refusal_line(alloc: Global, why: Refusal) -> Result<Vec<u8>, Alloc
     }
 }
 
-/// Prints the lines of an answer, or why there is no answer, and returns the status.
-pub fn print_answer<W: Write>(alloc: Global, answer: Result<Vec<u8>, Refusal>, output: &mut W) -> u8
-    ensures { Prints (IsTold answer) (W.contents output.old) (W.contents output.new) result }
+/// The lines of an answer, with their status.
+#[derive(Debug, Drop)]
+pub struct Reply {
+    pub lines: Vec<u8>,
+    pub status: u8,
+}
+
+/// Prints the lines of an answer to what is asked, or why there is no answer, as a document where that is asked for, and
+/// returns the status.
+pub fn print_answer<W: Console>(
+    alloc: Global,
+    json: bool,
+    subject: Subject<'_>,
+    answer: Result<Reply, Refusal>,
+    output: &mut W,
+) -> u8
+    ensures { Prints (IsTold json answer) (W.contents output.old) (W.contents output.new) result }
 {
     match answer {
-        Ok(lines) => print(output, Ok(lines), 0),
-        Err(why) => print(output, refusal_line(alloc, why), 1),
+        Ok(reply) => print(output, Ok(reply.lines), reply.status),
+        Err(why) => {
+            let message = refusal_advice(alloc, subject, why);
+            tell_refusal(alloc, json, refusal_line(alloc, why), message, output)
+        }
     }
 }

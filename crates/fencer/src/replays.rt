@@ -4,16 +4,20 @@ ghost use Rattle.std.specs.Prelude.{◌≡◌, ◌++◌, IfOk, IfErr, string_byt
 ghost use Rattle.tso_machine.specs.RunTexts.{IsRunText, RunFaultIs};
 ghost use Rattle.report.specs.Answers.{outcome_line, passed_line};
 ghost use Rattle.program_streams.specs.Streams.{Prints};
-ghost use Rattle.fencer.specs.Replays.{label_words_text, PrintsRun, HasNoRun, IsReplay};
+ghost use Rattle.program_streams.specs.Files.{ReadsOfInput};
+ghost use Rattle.fencer.specs.Replays.{label_words_text, HasNoRun, IsReplay, ShowsRun};
 
-use crate::refusals::{Refusal, print_answer};
+use crate::advice::{Subject, unread_advice, unread_litmus};
+use crate::refusals::{Refusal, Reply, print_answer};
+use crate::refused::tell_refusal;
 use fencer_words::Run;
 use gap_sets::GapSet;
 use litmus_text::{Litmus, read_litmus};
-use program_streams::{FileStore, TEXT_LIMIT, file_line, named_bytes, print};
+use messages::file_or_input;
+use program_streams::{Console, FileStore, TEXT_LIMIT, file_line, named_bytes};
 use report::{outcome_line, passed_line};
 use std::alloc::{AllocError, Global};
-use std::io::{Read, Write};
+use std::io::Read;
 use tso_machine::{Ended, Label, Model, ReplayFault, RunFault, read_run, replay};
 use tso_program::{Program, Shown};
 
@@ -61,35 +65,45 @@ fn replay_lines(
     bytes: &[u8],
     model: Model,
     labels: &[String],
-) -> Result<Vec<u8>, Refusal>
-    ensures run { IfOk result (λ lines. PrintsRun model (label_words_text labels.now) bytes.now lines.items) }
+) -> Result<Reply, Refusal>
+    ensures run { IfOk result (λ reply. ShowsRun model (label_words_text labels.now) bytes.now reply.status reply.lines.items) }
     ensures refused { IfErr result (HasNoRun model (label_words_text labels.now) bytes.now) }
 {
     let litmus = read_litmus(alloc, bytes)?;
     let steps = steps_of(alloc, labels)?;
     let ended = replay(alloc, &litmus.program, &GapSet::empty(), model, &steps)?;
     match ended_lines(alloc, &litmus, &ended) {
-        Ok(lines) => Ok(lines),
+        Ok(lines) => Ok(Reply { lines, status: 0 }),
         Err(_) => Err(Refusal::Replay(ReplayFault::OutOfMemory)),
     }
 }
 
 /// Replays label words on the program of a litmus file, prints the answer, and returns the status.
-pub fn run_replay<S: FileStore, R: Read, W: Write>(
+pub fn run_replay<S: FileStore, R: Read, W: Console>(
     alloc: Global,
     files: &S,
     asked: &Run,
     input: &mut R,
     output: &mut W,
 ) -> u8
-    ensures { Prints (IsReplay asked.now.model (label_words_text asked.now.labels.items) (string_bytes asked.now.litmus) (R.remaining input.old) (S.held files.now)) (W.contents output.old) (W.contents output.new) result }
+    ensures told { Prints (IsReplay asked.now.model (label_words_text asked.now.labels.items) (string_bytes asked.now.litmus) (R.remaining input.old) (S.held files.now)) (W.contents output.old) (W.contents output.new) result }
+    ensures read { ReadsOfInput TEXT_LIMIT (string_bytes asked.now.litmus) (R.remaining input.old) (R.remaining input.new) }
 {
     match named_bytes(alloc, files, asked.litmus.as_str(), input, TEXT_LIMIT) {
         Ok(bytes) => print_answer(
             alloc,
+            false,
+            Subject {
+                name: file_or_input(asked.litmus.as_str()),
+                text: &bytes,
+                labels: asked.labels.as_slice(),
+            },
             replay_lines(alloc, &bytes, asked.model, asked.labels.as_slice()),
             output,
         ),
-        Err(fault) => print(output, file_line(alloc, fault), 1),
+        Err(fault) => {
+            let message = unread_advice(alloc, files, unread_litmus(asked.litmus.as_str(), fault));
+            tell_refusal(alloc, false, file_line(alloc, fault), message, output)
+        }
     }
 }

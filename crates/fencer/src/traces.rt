@@ -1,60 +1,84 @@
 //! Traces: the table of a run with its lines, or why there is no run.
 
-ghost use Rattle.std.specs.Prelude.{◌≡◌, ◌++◌, IfOk, IfErr, option_map};
+ghost use Rattle.std.specs.Prelude.{◌≡◌, ◌++◌, IfOk, IfErr, map, string_bytes};
 ghost use Rattle.tso_program.specs.declared.shown.Shown.TheVariants.{All};
 ghost use Rattle.std.specs.FinSet as set;
 ghost use Rattle.tso_machine.specs.Faults.{ReplayFaultIs};
-ghost use Rattle.tso_machine.specs.Modes.{mode_of};
+ghost use Rattle.tso_machine.specs.Modes.{machine_of_model};
 ghost use Rattle.report.specs.Answers.{outcome_line, passed_line};
 ghost use Rattle.program_streams.specs.Streams.{Prints};
-ghost use Rattle.fencer.specs.Placements.{KeepFiles};
+ghost use Rattle.program_streams.specs.Files.{ReadsOfInput};
+ghost use Rattle.fencer.specs.Deliveries.{KeepFilesBut};
 ghost use Rattle.fencer.specs.Replays.{label_words_text, HasNoRun};
-ghost use Rattle.fencer.specs.Traces.{PrintsTrace, IsTrace, IsTraceOf};
+ghost use Rattle.documents.specs.Documents.{IsTraceDocument};
+ghost use Rattle.fencer_words.specs.CommandFiles.{name_of};
+ghost use Rattle.fencer.specs.Traces.{DeliversTrace, PrintsTrace, IsTrace, IsTraceOf};
 
-use crate::place::{Answer, deliver};
+use crate::advice::{Subject, refusal_advice, unread_advice, unread_litmus};
+use crate::delivery::{Answer, deliver};
+use crate::documented::documented;
 use crate::refusals::{Refusal, refusal_line};
+use crate::refused::tell_refusal;
 use crate::replays::{ended_lines, steps_of};
-use fencer_words::Run;
+use documents::trace_document;
+use fencer_words::{Run, TraceQuery};
 use gap_sets::GapSet;
 use litmus_text::{Litmus, read_litmus};
-use program_streams::{TEXT_LIMIT, WritableFileStore, file_line, named_bytes, print};
+use messages::file_or_input;
+use program_streams::{Console, TEXT_LIMIT, WritableFileStore, file_line, named_bytes};
 use run_graph::RunGraph;
 use run_table::run_table;
 use std::alloc::{AllocError, Global};
-use std::io::{Read, Write};
+use std::io::Read;
 use tso_machine::{Ended, Label, Model, ReplayFault, Step, replay, steps};
 use tso_program::Program;
 
-/// What is drawn of a run.
+/// What is drawn of a run, and its document.
 #[derive(Debug, Drop)]
 struct Drawings {
     table: Vec<u8>,
     graph: Vec<u8>,
+    document: Vec<u8>,
 }
 
-/// The table and the graph of steps.
-fn drawn(alloc: Global, litmus: &Litmus<Program>, steps: &[Step]) -> Result<Drawings, AllocError> {
+/// The table, the graph and the document of the steps of a run that ends so.
+fn drawn(
+    alloc: Global,
+    litmus: &Litmus<Program>,
+    model: Model,
+    steps: &[Step],
+    ended: &Ended,
+) -> Result<Drawings, AllocError>
+    ensures { IfOk result (λ drawings. IsTraceDocument litmus.now model (map (λ step. step.label) steps.now) ended.now.outcome ended.now.passed drawings.document.items) }
+{
     let table = run_table(alloc, litmus, steps)?;
     let mut graph = RunGraph::new(alloc)?;
-    graph.push_run(alloc, litmus, litmus.name.as_slice(), steps)?;
+    graph.push_run(alloc, litmus, litmus.name.as_slice(), steps, None)?;
     let graph = graph.into_text()?;
-    Ok(Drawings { table, graph })
+    let document = trace_document(alloc, litmus, model, steps, ended)?;
+    Ok(Drawings {
+        table,
+        graph,
+        document,
+    })
 }
 
-/// The table and the graph of the steps that labels make.
+/// The table, the graph and the document of the steps that labels make in a run that ends so.
 fn drawings_of(
     alloc: Global,
     litmus: &Litmus<Program>,
     model: Model,
     labels: &[Label],
+    ended: &Ended,
 ) -> Result<Drawings, ReplayFault>
-    ensures { IfErr result (ReplayFaultIs litmus.now.program (mode_of litmus.now.program set.empty model) labels.now) }
+    ensures told { IfOk result (λ drawings. IsTraceDocument litmus.now model labels.now ended.now.outcome ended.now.passed drawings.document.items) }
+    ensures fault { IfErr result (ReplayFaultIs litmus.now.program (machine_of_model litmus.now.program set.empty model) labels.now) }
 {
     let steps = match steps(alloc, &litmus.program, &GapSet::empty(), model, labels) {
         Ok(steps) => steps,
         Err(fault) => return Err(fault),
     };
-    match drawn(alloc, litmus, &steps) {
+    match drawn(alloc, litmus, model, &steps, ended) {
         Ok(drawings) => Ok(drawings),
         Err(_) => Err(ReplayFault::OutOfMemory),
     }
@@ -75,64 +99,109 @@ fn traced_lines(
     Ok(lines)
 }
 
-/// The lines of the run that label words spell in the program that a text spells, and its graph. The text is judged
-/// before the labels, and these before the replay.
-fn trace_answer(
-    alloc: Global,
-    bytes: &[u8],
-    model: Model,
-    labels: &[String],
-) -> Result<Answer, Refusal>
-    ensures run { IfOk result (λ answer. PrintsTrace model (label_words_text labels.now) bytes.now answer.lines.items) }
-    ensures refused { IfErr result (HasNoRun model (label_words_text labels.now) bytes.now) }
+/// What is said of a run, as text and as a document, with its graph.
+#[derive(Debug, Drop)]
+struct Said {
+    lines: Vec<u8>,
+    document: Vec<u8>,
+    graph: Vec<u8>,
+}
+
+/// The lines of the run that label words spell in the program that a text spells, its document and its graph. The text is
+/// judged before the labels, and these before the replay.
+fn trace_of(alloc: Global, bytes: &[u8], run: &Run) -> Result<Said, Refusal>
+    ensures run { IfOk result (λ said. PrintsTrace run.now.model (label_words_text run.now.labels.items) bytes.now said.lines.items said.document.items) }
+    ensures refused { IfErr result (HasNoRun run.now.model (label_words_text run.now.labels.items) bytes.now) }
 {
     let litmus = read_litmus(alloc, bytes)?;
-    let labels = steps_of(alloc, labels)?;
-    let ended = replay(alloc, &litmus.program, &GapSet::empty(), model, &labels)?;
-    let drawings = drawings_of(alloc, &litmus, model, &labels)?;
-    let Drawings { table, graph } = drawings;
+    let labels = steps_of(alloc, run.labels.as_slice())?;
+    let ended = replay(alloc, &litmus.program, &GapSet::empty(), run.model, &labels)?;
+    let drawings = drawings_of(alloc, &litmus, run.model, &labels, &ended)?;
+    let Drawings {
+        table,
+        graph,
+        document,
+    } = drawings;
     match traced_lines(alloc, table, &litmus, &ended) {
-        Ok(lines) => Ok(Answer {
+        Ok(lines) => Ok(Said {
             lines,
-            written: graph,
+            document,
+            graph,
         }),
         Err(_) => Err(Refusal::Replay(ReplayFault::OutOfMemory)),
     }
 }
 
-/// Judges a text, writes the graph, prints the lines, and returns the status.
-fn trace_text<S: WritableFileStore, W: Write>(
-    alloc: Global,
-    files: &mut S,
-    asked: &Run,
-    graph: Option<&str>,
-    bytes: &[u8],
-    output: &mut W,
-) -> u8
-    ensures told { Prints (IsTraceOf asked.now (option_map (λ name. name.now) graph.entry) bytes.now (S.held files.old) (S.held files.new)) (W.contents output.old) (W.contents output.new) result }
-    ensures others { KeepFiles (option_map (λ name. name.now) graph.entry) (S.held files.old) (S.held files.new) }
+/// What is delivered of a run.
+fn trace_answer(alloc: Global, bytes: &[u8], asked: &TraceQuery) -> Result<Answer, Refusal>
+    ensures told { IfOk result (DeliversTrace asked.now bytes.now) }
+    ensures refused { IfErr result (HasNoRun asked.now.run.model (label_words_text asked.now.run.labels.items) bytes.now) }
 {
-    match trace_answer(alloc, bytes, asked.model, asked.labels.as_slice()) {
-        Ok(answer) => deliver(alloc, files, graph, answer, output),
-        Err(why) => print(output, refusal_line(alloc, why), 1),
+    let said = trace_of(alloc, bytes, &asked.run)?;
+    let Said {
+        lines,
+        document,
+        graph,
+    } = said;
+    match documented(
+        alloc,
+        asked.json,
+        asked.page.as_deref(),
+        lines,
+        document,
+        graph,
+    ) {
+        Ok(answer) => Ok(answer),
+        Err(_) => Err(Refusal::Replay(ReplayFault::OutOfMemory)),
     }
 }
 
-/// Shows the steps of label words on the program of a litmus file as a table, writes their graph to a file if one is
-/// named, prints the answer, and returns the status.
-pub fn run_trace<S: WritableFileStore, R: Read, W: Write>(
+/// Judges a text, writes the page and the graph, prints the lines, and returns the status.
+fn trace_text<S: WritableFileStore, W: Console>(
     alloc: Global,
     files: &mut S,
-    asked: &Run,
-    graph: Option<&str>,
+    asked: &TraceQuery,
+    bytes: &[u8],
+    output: &mut W,
+) -> u8
+    ensures told { Prints (IsTraceOf asked.now bytes.now (S.held files.old) (S.held files.new)) (W.contents output.old) (W.contents output.new) result }
+    ensures others { KeepFilesBut (name_of asked.now.page) (name_of asked.now.graph) (S.held files.old) (S.held files.new) }
+{
+    let page = asked.page.as_deref();
+    let graph = asked.graph.as_deref();
+    match trace_answer(alloc, bytes, asked) {
+        Ok(answer) => deliver(alloc, files, page, graph, answer, output),
+        Err(why) => {
+            let subject = Subject {
+                name: file_or_input(asked.run.litmus.as_str()),
+                text: bytes,
+                labels: asked.run.labels.as_slice(),
+            };
+            let message = refusal_advice(alloc, subject, why);
+            tell_refusal(alloc, asked.json, refusal_line(alloc, why), message, output)
+        }
+    }
+}
+
+/// Shows the steps of label words on the program of a litmus file as a table, writes their page and their graph to files if
+/// they are named, prints the answer, and returns the status.
+pub fn run_trace<S: WritableFileStore, R: Read, W: Console>(
+    alloc: Global,
+    files: &mut S,
+    asked: &TraceQuery,
     input: &mut R,
     output: &mut W,
 ) -> u8
-    ensures told { Prints (IsTrace asked.now (option_map (λ name. name.now) graph.entry) (R.remaining input.old) (S.held files.old) (S.held files.new)) (W.contents output.old) (W.contents output.new) result }
-    ensures others { KeepFiles (option_map (λ name. name.now) graph.entry) (S.held files.old) (S.held files.new) }
+    ensures told { Prints (IsTrace asked.now (R.remaining input.old) (S.held files.old) (S.held files.new)) (W.contents output.old) (W.contents output.new) result }
+    ensures others { KeepFilesBut (name_of asked.now.page) (name_of asked.now.graph) (S.held files.old) (S.held files.new) }
+    ensures read { ReadsOfInput TEXT_LIMIT (string_bytes asked.now.run.litmus) (R.remaining input.old) (R.remaining input.new) }
 {
-    match named_bytes(alloc, &*files, asked.litmus.as_str(), input, TEXT_LIMIT) {
-        Ok(bytes) => trace_text(alloc, files, asked, graph, &bytes, output),
-        Err(fault) => print(output, file_line(alloc, fault), 1),
+    let litmus = asked.run.litmus.as_str();
+    match named_bytes(alloc, &*files, litmus, input, TEXT_LIMIT) {
+        Ok(bytes) => trace_text(alloc, files, asked, &bytes, output),
+        Err(fault) => {
+            let message = unread_advice(alloc, &*files, unread_litmus(litmus, fault));
+            tell_refusal(alloc, asked.json, file_line(alloc, fault), message, output)
+        }
     }
 }

@@ -1,73 +1,124 @@
 //! Reasons: a run for each fence of a placement that shows why the fence is needed, or why there is no answer.
 
-ghost use Rattle.std.specs.Prelude.{IfErr, IfOk, option_map};
+ghost use Rattle.std.specs.Prelude.{IfErr, IfOk, option_map, string_bytes};
 ghost use Rattle.program_streams.specs.Streams.{Prints};
+ghost use Rattle.program_streams.specs.Files.{ReadsOfInput};
 ghost use Rattle.placed_text.specs.TextFaults.{HasNoPlacedText};
-ghost use Rattle.fencer.specs.Placements.{KeepFiles};
-ghost use Rattle.fencer.specs.Whys.{IsExplained, IsExplainedText};
+ghost use Rattle.fencer.specs.Deliveries.{KeepFilesBut};
+ghost use Rattle.fencer_words.specs.CommandFiles.{name_of};
+ghost use Rattle.fencer.specs.Whys.{Explains, IsExplained, IsExplainedText};
 
-use crate::place::{Answer, Texts, deliver, read_texts, text_fault_line};
-use fencer_words::Placement;
-use program_streams::{WritableFileStore, file_line, print};
+use crate::advice::{text_fault_advice, unread_advice};
+use crate::delivery::{Answer, deliver};
+use crate::documented::documented;
+use crate::place::text_fault_line;
+use crate::refused::tell_refusal;
+use crate::texts::{Texts, read_texts};
+use fencer_words::{Placement, WhyQuery};
+use placed_text::{Effort, TextFault};
+use program_streams::{Console, Progress, TEXT_LIMIT, WritableFileStore, file_line};
 use std::alloc::Global;
-use std::io::{Read, Write};
+use std::io::Read;
 use std::sync::Wait;
 use std::thread::Threads;
 use why_text::{WhyText, why_text};
 
-/// Judges texts, writes the graphs, prints why each fence of the answer is needed, and returns the status.
-fn explain_texts<T: Threads + Sync, U: Wait + Sync, S: WritableFileStore, W: Write>(
+/// What is delivered of the reasons why the fences of an answer are needed.
+fn explained<T: Threads + Sync, U: Wait + Sync>(
     rt: &T,
     wait: &U,
     alloc: Global,
-    files: &mut S,
-    asked: &Placement,
-    graphs: Option<&str>,
+    asked: &WhyQuery,
     texts: &Texts,
-    output: &mut W,
-) -> u8
-    ensures told { Prints (IsExplainedText asked.now (option_map (λ name. name.now) graphs.entry) texts.now.litmus.items (option_map (λ text. text.items) texts.now.costs) (S.held files.old) (S.held files.new)) (W.contents output.old) (W.contents output.new) result }
-    ensures others { KeepFiles (option_map (λ name. name.now) graphs.entry) (S.held files.old) (S.held files.new) }
+    progress: Progress,
+) -> Result<Answer, TextFault>
+    ensures told { IfOk result (Explains asked.now texts.now.litmus.items (option_map (λ text. text.items) texts.now.costs)) }
+    ensures fault { IfErr result (HasNoPlacedText texts.now.litmus.items (option_map (λ text. text.items) texts.now.costs) asked.now.placement.workers) }
 {
+    let Placement {
+        kind,
+        workers,
+        json,
+        ..
+    } = &asked.placement;
+    let effort = Effort {
+        workers: *workers,
+        progress: progress.asked(asked.placement.progress),
+    };
     let costs = texts.costs.as_deref();
-    match why_text(
-        rt,
-        wait,
-        alloc,
-        &texts.litmus,
-        costs,
-        asked.observed,
-        asked.workers,
-    ) {
-        Ok(reasons) => {
-            let WhyText { lines, graph } = reasons;
-            let answer = Answer {
-                lines,
-                written: graph,
-            };
-            deliver(alloc, files, graphs, answer, output)
-        }
-        Err(fault) => print(output, text_fault_line(alloc, fault), 1),
+    let reasons = why_text(rt, wait, alloc, &texts.litmus, costs, *kind, effort)?;
+    let WhyText {
+        lines,
+        graph,
+        document,
+    } = reasons;
+    match documented(alloc, *json, asked.page.as_deref(), lines, document, graph) {
+        Ok(answer) => Ok(answer),
+        Err(_) => Err(TextFault::OutOfMemory),
     }
 }
 
-/// Shows for each fence of a placement in the program of a litmus file why it is needed, writes the graphs to a file if
-/// one is named, prints the answer, and returns the status.
-pub fn run_why<T: Threads + Sync, U: Wait + Sync, S: WritableFileStore, R: Read, W: Write>(
+/// Judges texts, writes the page and the graphs, prints why each fence of the answer is needed, and returns the status.
+fn explain_texts<T: Threads + Sync, U: Wait + Sync, S: WritableFileStore, W: Console>(
     rt: &T,
     wait: &U,
     alloc: Global,
     files: &mut S,
-    asked: &Placement,
-    graphs: Option<&str>,
+    asked: &WhyQuery,
+    texts: &Texts,
+    output: &mut W,
+) -> u8
+    ensures told { Prints (IsExplainedText asked.now texts.now.litmus.items (option_map (λ text. text.items) texts.now.costs) (S.held files.old) (S.held files.new)) (W.contents output.old) (W.contents output.new) result }
+    ensures others { KeepFilesBut (name_of asked.now.page) (name_of asked.now.graphs) (S.held files.old) (S.held files.new) }
+{
+    let page = asked.page.as_deref();
+    let graphs = asked.graphs.as_deref();
+    let progress = output.progress();
+    match explained(rt, wait, alloc, asked, texts, progress) {
+        Ok(answer) => deliver(alloc, files, page, graphs, answer, output),
+        Err(fault) => {
+            let Placement { litmus, costs, .. } = &asked.placement;
+            let named = (litmus.as_str(), costs.as_deref());
+            let message = text_fault_advice(alloc, named, texts, fault);
+            tell_refusal(
+                alloc,
+                asked.placement.json,
+                text_fault_line(alloc, fault),
+                message,
+                output,
+            )
+        }
+    }
+}
+
+/// Shows for each fence of a placement in the program of a litmus file why it is needed, writes the page and the graphs to
+/// files if they are named, prints the answer, and returns the status.
+pub fn run_why<T: Threads + Sync, U: Wait + Sync, S: WritableFileStore, R: Read, W: Console>(
+    rt: &T,
+    wait: &U,
+    alloc: Global,
+    files: &mut S,
+    asked: &WhyQuery,
     input: &mut R,
     output: &mut W,
 ) -> u8
-    ensures told { Prints (IsExplained asked.now (option_map (λ name. name.now) graphs.entry) (R.remaining input.old) (S.held files.old) (S.held files.new)) (W.contents output.old) (W.contents output.new) result }
-    ensures others { KeepFiles (option_map (λ name. name.now) graphs.entry) (S.held files.old) (S.held files.new) }
+    ensures told { Prints (IsExplained asked.now (R.remaining input.old) (S.held files.old) (S.held files.new)) (W.contents output.old) (W.contents output.new) result }
+    ensures others { KeepFilesBut (name_of asked.now.page) (name_of asked.now.graphs) (S.held files.old) (S.held files.new) }
+    ensures read { ReadsOfInput TEXT_LIMIT (string_bytes asked.now.placement.litmus) (R.remaining input.old) (R.remaining input.new) }
 {
-    match read_texts(alloc, &*files, asked, input) {
-        Ok(texts) => explain_texts(rt, wait, alloc, files, asked, graphs, &texts, output),
-        Err(fault) => print(output, file_line(alloc, fault), 1),
+    let litmus = asked.placement.litmus.as_str();
+    let costs = asked.placement.costs.as_deref();
+    match read_texts(alloc, &*files, litmus, costs, input) {
+        Ok(texts) => explain_texts(rt, wait, alloc, files, asked, &texts, output),
+        Err(file) => {
+            let message = unread_advice(alloc, &*files, file);
+            tell_refusal(
+                alloc,
+                asked.placement.json,
+                file_line(alloc, file.fault),
+                message,
+                output,
+            )
+        }
     }
 }

@@ -14,7 +14,7 @@ use Rattle.clap.specs.declared.builder.range.ValueRange.{ValueRange}
 use Rattle.clap.specs.declared.builder.texts.Texts.TheVariants.{One}
 use Rattle.clap.specs.declared.builder.value_parser.ValueParser.{ValueParser}
 use Rattle.clap.specs.declared.builder.value_parser.ValueParser.TheVariants as parser
-use Rattle.fencer_words.specs.CommandLines.{ModelNames, named_rule, model_rule, label_rule, observed_rule}
+use Rattle.fencer_words.specs.CommandLines.{ModelNames, named_rule, model_rule, label_rule, flag_rule}
 
 -- an argument with a long name, a parser and a default value
 pub model_rule_of : (new long parsed done : Arg) (name value : Bor Text) (models : ModelNames)
@@ -46,11 +46,11 @@ label_rule_of new ranged done new_is ranged_is range_is done_is =
     ∙ ap₂ (λ (r : Rule) (v : Option ValueRange). let s : Rule = record r { range = v } in s) new_is range_is)
 
 -- an argument with a long name and an action
-pub observed_rule_of : (new long done : Arg) (name : Bor Text) → rule_of new ≡ new_rule (codes "observed")
-    → long ≡ record new { long = Some name } → name.now ≡ codes "observed"
+pub flag_rule_of : (new long done : Arg) (name : Bor Text) (id : Text) → rule_of new ≡ new_rule id
+    → long ≡ record new { long = Some name } → name.now ≡ id
     → done ≡ record long { action = Some SetTrue }
-    → rule_of done ≡ observed_rule
-observed_rule_of new long done name new_is long_is name_is done_is =
+    → rule_of done ≡ flag_rule id
+flag_rule_of new long done name id new_is long_is name_is done_is =
     ap (λ (a : Arg). rule_of a) done_is
     ∙ ap (λ (r : Rule). let s : Rule = record r { action = Some SetTrue } in s)
     (ap (λ (a : Arg). rule_of a) long_is

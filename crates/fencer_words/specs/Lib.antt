@@ -1,2 +1,4 @@
+pub mod CommandFiles
 pub mod CommandLines
 pub mod Commands
+pub mod Internal

@@ -3,11 +3,12 @@
 ghost use Rattle.std.specs.Prelude.{◌≡◌, false, IfOk, codes, map, option_map, string_bytes, unwrap_or};
 ghost use Rattle.clap.specs.Words.{all_of, app_of, first_of, found_of, new_app, rows_of, rule_of};
 ghost use Rattle.clap.specs.declared.builder.command.Command.TheViews.{out-Command};
-ghost use Rattle.fencer_words.specs.CommandLines.{named_rule, model_rule, litmus_rule, observed_rule, has_value, is_flagged, model_in, text_in};
+ghost use Rattle.fencer_words.specs.CommandLines.{named_rule, model_rule, litmus_rule, flag_rule, has_value, is_flagged, kind_in, model_in, text_in};
 
 use clap::{Arg, ArgAction, ArgMatches, Command};
 use std::alloc::{AllocError, Global};
 use tso_machine::Model;
+use tso_program::ShownKind;
 
 /// A command, with what help says of it first and last.
 pub fn described_command<'a>(
@@ -55,15 +56,39 @@ pub fn litmus_arg<'a>(alloc: Global) -> Arg<'a>
     .required(true)
 }
 
-/// `--observed`
-pub fn observed_arg<'a>(alloc: Global) -> Arg<'a>
-    ensures rule { rule_of result ≡ observed_rule }
+/// `--NAME`
+pub fn flag_arg<'a>(alloc: Global, name: &'a str, help: &'a str) -> Arg<'a>
+    ensures rule { rule_of result ≡ flag_rule name.entry.now }
     ensures own { result.global ≡ false }
 {
-    Arg::new(alloc, "observed")
-        .help("Compare outcomes by what the condition and `locations` name, and by nothing else")
-        .long("observed")
+    Arg::new(alloc, name)
+        .help(help)
+        .long(name)
         .action(ArgAction::SetTrue)
+}
+
+/// `--observed`
+pub fn observed_arg<'a>(alloc: Global) -> Arg<'a>
+    ensures rule { rule_of result ≡ flag_rule (codes "observed") }
+    ensures own { result.global ≡ false }
+{
+    flag_arg(
+        alloc,
+        "observed",
+        "Compare outcomes by what the condition and `locations` name alone",
+    )
+}
+
+/// `--condition`
+pub fn condition_arg<'a>(alloc: Global) -> Arg<'a>
+    ensures rule { rule_of result ≡ flag_rule (codes "condition") }
+    ensures own { result.global ≡ false }
+{
+    flag_arg(
+        alloc,
+        "condition",
+        "Compare outcomes by whether the condition's formula is true, and by nothing else",
+    )
 }
 
 /// The first value of an argument.
@@ -125,6 +150,19 @@ pub fn is_flagged(matches: &ArgMatches<'_>, id: &str) -> bool
     has_value(matches, id, "true")
 }
 
+/// What is compared of outcomes.
+pub fn kind_in(matches: &ArgMatches<'_>) -> ShownKind
+    ensures { result ≡ kind_in (rows_of (found_of matches.now)) }
+{
+    if is_flagged(matches, "condition") {
+        ShownKind::Condition
+    } else if is_flagged(matches, "observed") {
+        ShownKind::Observed
+    } else {
+        ShownKind::Whole
+    }
+}
+
 /// The model that is named.
 pub fn model_in(matches: &ArgMatches<'_>) -> Model
     ensures { result ≡ model_in (rows_of (found_of matches.now)) }
@@ -134,4 +172,24 @@ pub fn model_in(matches: &ArgMatches<'_>) -> Model
     } else {
         Model::Buffered
     }
+}
+
+/// `--progress`
+pub fn progress_arg<'a>(alloc: Global) -> Arg<'a>
+    ensures rule { rule_of result ≡ flag_rule (codes "progress") }
+    ensures own { result.global ≡ false }
+{
+    flag_arg(
+        alloc,
+        "progress",
+        "Report on standard error how far it is; long searches do so on a terminal",
+    )
+}
+
+/// `--json`
+pub fn json_arg<'a>(alloc: Global) -> Arg<'a>
+    ensures rule { rule_of result ≡ flag_rule (codes "json") }
+    ensures own { result.global ≡ false }
+{
+    flag_arg(alloc, "json", "Print a JSON document in place of the text")
 }

@@ -2,6 +2,7 @@
 
 use std::alloc::Global;
 use tso_machine::Model;
+use tso_program::ShownKind;
 
 /// A run that is asked about. The file is given by its name.
 #[derive(Debug, Drop)]
@@ -20,8 +21,64 @@ pub struct Placement {
     pub workers: u8,
     /// The file to which the certificate is written.
     pub certificate: Option<String>,
-    /// Tell apart only what the condition and `locations` name.
+    /// The file to which the fenced program is written.
+    pub output: Option<String>,
+    /// What is compared of outcomes.
+    pub kind: ShownKind,
+    /// Report by the status whether the answer has a gap.
+    pub check: bool,
+    /// Print the document in place of the text.
+    pub json: bool,
+    /// Report how far the search is, however short it is.
+    pub progress: bool,
+    pub litmus: String,
+}
+
+/// Reasons that are asked for: a run for each fence of a placement, which itself writes nothing. Files are given by their
+/// names.
+#[derive(Debug, Drop)]
+pub struct WhyQuery {
+    pub placement: Placement,
+    /// The file to which the graphs of the runs are written.
+    pub graphs: Option<String>,
+    /// The file to which the page of the document is written.
+    pub page: Option<String>,
+}
+
+/// A table of a run that is asked for. Files are given by their names.
+#[derive(Debug, Drop)]
+pub struct TraceQuery {
+    pub run: Run,
+    /// The file to which the run's graph is written.
+    pub graph: Option<String>,
+    /// The file to which the page of the document is written.
+    pub page: Option<String>,
+    /// Print the document in place of the text.
+    pub json: bool,
+}
+
+/// A list of outcomes that is asked for. The file is given by its name.
+#[derive(Debug, Drop)]
+pub struct OutcomeQuery {
+    pub model: Model,
+    /// Show only what the condition and `locations` name.
     pub observed: bool,
+    /// Report by the status whether the condition fails.
+    pub check: bool,
+    /// Print the document in place of the text.
+    pub json: bool,
+    /// Report what lies ahead, however little that is.
+    pub progress: bool,
+    pub litmus: String,
+}
+
+/// A list of gaps that is asked for. Files are given by their names.
+#[derive(Debug, Drop)]
+pub struct GapQuery {
+    /// The file of the gaps' costs; without one each gap costs 1.
+    pub costs: Option<String>,
+    /// Print a cost file in place of the list.
+    pub template: bool,
     pub litmus: String,
 }
 
@@ -31,24 +88,13 @@ pub enum Job {
     /// Replay labels on the program of a litmus file.
     Replay(Run),
     /// Show the steps of labels on the program of a litmus file as a table.
-    Trace {
-        run: Run,
-        /// The file to which the run's graph is written.
-        graph: Option<String>,
-    },
+    Trace(TraceQuery),
     /// List the outcomes of the program of a litmus file.
-    Outcomes {
-        model: Model,
-        /// Show only what the condition and `locations` name.
-        observed: bool,
-        litmus: String,
-    },
+    Outcomes(OutcomeQuery),
     /// Place fences in the program of a litmus file.
     Place(Placement),
-    /// Show for each fence of a placement, which writes no certificate, why it is needed.
-    Why {
-        placement: Placement,
-        /// The file to which the graphs of the runs are written.
-        graphs: Option<String>,
-    },
+    /// Show for each fence of a placement why it is needed.
+    Why(WhyQuery),
+    /// List the gaps of the program of a litmus file.
+    Gaps(GapQuery),
 }

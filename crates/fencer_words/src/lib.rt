@@ -2,6 +2,8 @@
 #![tactic(auto)]
 
 mod arguments;
+mod files;
+mod gaps;
 mod job;
 mod outcomes;
 mod place;
@@ -10,5 +12,5 @@ mod trace;
 mod why;
 mod words;
 
-pub use job::{Job, Placement, Run};
+pub use job::{GapQuery, Job, OutcomeQuery, Placement, Run, TraceQuery, WhyQuery};
 pub use words::read_words;

@@ -1,4 +1,4 @@
-//! `place [--costs FILE] [--workers N] [--certificate FILE] [--observed] LITMUS`
+//! `place [--costs FILE] [--workers N] [--certificate FILE] [--output FILE] [--observed | --condition] [--check] [--json] [--progress] LITMUS`
 
 ghost use Rattle.std.specs.Prelude.{◌≡◌, false, IfOk, codes};
 ghost use Rattle.clap.specs.Words.{found_of, rows_of, rule_of};
@@ -6,8 +6,8 @@ ghost use Rattle.fencer_words.specs.CommandLines.{file_rule, workers_rule, place
 ghost use Rattle.fencer_words.specs.Commands.{IsBuiltAs};
 
 use crate::arguments::{
-    described_command, is_flagged, litmus_arg, named_arg, observed_arg, text_given, text_in,
-    value_in,
+    condition_arg, described_command, flag_arg, is_flagged, json_arg, kind_in, litmus_arg,
+    named_arg, observed_arg, progress_arg, text_given, text_in, value_in,
 };
 use crate::job::{Job, Placement};
 use clap::builder::ValueParser;
@@ -19,10 +19,15 @@ const FIRST: &str =
     "Places the cheapest fences with which a program behaves as under sequential consistency";
 
 const LAST: &str = "\
-Prints `answer cost N set T:K ..`, where T:K lies before instruction K of thread T, and the
-program with an MFENCE in each of these gaps, with status 0; a refusal with status 1; what is
-wrong with the command line, or this help, with status 2. Refusals are explained in
-docs/formats.md.
+Prints `answer cost N set T:K ..`, and the program with an MFENCE in each of these gaps. The gap
+T:K lies before instruction K of thread T, both counted from 0; `fencer gaps` lists the gaps. A
+file that is written is replaced; it may not be one that is read.
+
+A program that is wrong on a sequential machine too gets an answer: fences only take away what the
+buffers add. See first whether its condition holds with `fencer outcomes --model sequential`.
+
+The status is 0 for an answer, 1 for a refusal (docs/formats.md explains each), 2 for a bad
+command line or this help, 3 with --check for an answer with a gap.
 
 Example: fencer place --certificate SB.cert examples/SB.litmus";
 
@@ -30,6 +35,10 @@ pub const COSTS_HELP: &str =
     "Read what gaps cost, in lines like `0:1 5`; without a line a gap costs 1";
 
 const CERTIFICATE_HELP: &str = "Write the certificate there, for fencecheck";
+
+const OUTPUT_HELP: &str = "Write the program with its fences there, as a litmus file";
+
+const CHECK_HELP: &str = "Return status 3 where the program needs a fence";
 
 /// `--NAME FILE`
 pub fn file_arg<'a>(alloc: Global, name: &'a str, help: &'a str) -> Arg<'a>
@@ -57,7 +66,12 @@ pub fn place_command<'a>(alloc: Global) -> Result<Command<'a>, AllocError>
         .arg(file_arg(alloc, "costs", COSTS_HELP))?
         .arg(workers_arg(alloc))?
         .arg(file_arg(alloc, "certificate", CERTIFICATE_HELP))?
+        .arg(file_arg(alloc, "output", OUTPUT_HELP))?
         .arg(observed_arg(alloc))?
+        .arg(condition_arg(alloc))?
+        .arg(flag_arg(alloc, "check", CHECK_HELP))?
+        .arg(json_arg(alloc))?
+        .arg(progress_arg(alloc))?
         .arg(litmus_arg(alloc))
 }
 
@@ -78,7 +92,11 @@ pub fn place_job(alloc: Global, matches: &ArgMatches<'_>) -> Result<Job, AllocEr
         costs: text_given(alloc, matches, "costs")?,
         workers: workers_of(value_in(matches, "workers")),
         certificate: text_given(alloc, matches, "certificate")?,
-        observed: is_flagged(matches, "observed"),
+        output: text_given(alloc, matches, "output")?,
+        kind: kind_in(matches),
+        check: is_flagged(matches, "check"),
+        json: is_flagged(matches, "json"),
+        progress: is_flagged(matches, "progress"),
         litmus: text_in(alloc, matches, "litmus")?,
     }))
 }

@@ -15,8 +15,10 @@ use std::alloc::{AllocError, Global};
 const FIRST: &str = "Replays a run of a program: its outcome, and the gaps that it passes";
 
 const LAST: &str = "\
-Prints `outcome: ..` and `passed T:K ..`, with status 0; a refusal with status 1; what is wrong
-with the command line, or this help, with status 2. Refusals are explained in docs/formats.md.
+Prints `outcome: ..` and `passed T:K ..`: the run passes the gaps where a fence would wait.
+
+The status is 0 for an answer, 1 for a refusal (docs/formats.md explains each), 2 for a bad
+command line or this help.
 
 Example: fencer replay examples/SB.litmus e0 e1 e0 e1 f0 f1";
 
@@ -29,7 +31,7 @@ pub fn label_arg<'a>(alloc: Global) -> Arg<'a>
         alloc,
         "label",
         "LABEL",
-        "A step: e0 executes the next instruction of thread 0, f0 moves its oldest waiting store to memory",
+        "e0: thread 0 executes an instruction; f0: its oldest waiting store reaches memory",
     )
     .num_args(0..)
     .action(ArgAction::Append)

@@ -1,14 +1,17 @@
-//! `trace [--model MODEL] [--dot FILE] LITMUS [LABEL..]`
+//! `trace [--model MODEL] [--dot FILE] [--html FILE] [--json] LITMUS [LABEL..]`
 
 ghost use Rattle.std.specs.Prelude.{IfOk, codes};
 ghost use Rattle.clap.specs.Words.{found_of, rows_of};
 ghost use Rattle.fencer_words.specs.CommandLines.{trace_app, IsJobOf};
 ghost use Rattle.fencer_words.specs.Commands.{IsBuiltAs};
 
-use crate::arguments::{described_command, litmus_arg, model_arg, text_given};
-use crate::job::Job;
+use crate::arguments::{
+    described_command, is_flagged, json_arg, litmus_arg, model_arg, text_given,
+};
+use crate::job::{Job, TraceQuery};
 use crate::place::file_arg;
 use crate::replay::{label_arg, run_in};
+use crate::why::HTML_HELP;
 use clap::{ArgMatches, Command};
 use std::alloc::{AllocError, Global};
 
@@ -16,9 +19,11 @@ const FIRST: &str = "Shows a run of a program as a table, a line a step";
 
 const LAST: &str = "\
 Prints for each step its thread, its instruction, what it reads and from where, what it stores,
-which stores then wait in the thread's buffer and what reaches memory; then the two lines of
-`fencer replay`, with status 0; a refusal with status 1; what is wrong with the command line, or
-this help, with status 2. Refusals are explained in docs/formats.md.
+which stores then wait in the thread's buffer, and what reaches memory; then the two lines of
+`fencer replay`.
+
+The status is 0 for an answer, 1 for a refusal (docs/formats.md explains each), 2 for a bad
+command line or this help.
 
 Example: fencer trace examples/SB.litmus e0 e1 e0 e1 f0 f1";
 
@@ -30,6 +35,8 @@ pub fn trace_command<'a>(alloc: Global, models: &'a [&'a str]) -> Result<Command
     described_command(alloc, "trace", FIRST, LAST)
         .arg(model_arg(alloc, models))?
         .arg(file_arg(alloc, "dot", DOT_HELP))?
+        .arg(file_arg(alloc, "html", HTML_HELP))?
+        .arg(json_arg(alloc))?
         .arg(litmus_arg(alloc))?
         .arg(label_arg(alloc))
 }
@@ -37,8 +44,10 @@ pub fn trace_command<'a>(alloc: Global, models: &'a [&'a str]) -> Result<Command
 pub fn trace_job(alloc: Global, matches: &ArgMatches<'_>) -> Result<Job, AllocError>
     ensures { IfOk result (IsJobOf (codes "trace") (rows_of (found_of matches.now))) }
 {
-    Ok(Job::Trace {
+    Ok(Job::Trace(TraceQuery {
         run: run_in(alloc, matches)?,
         graph: text_given(alloc, matches, "dot")?,
-    })
+        page: text_given(alloc, matches, "html")?,
+        json: is_flagged(matches, "json"),
+    }))
 }

@@ -1,4 +1,4 @@
-//! `why [--costs FILE] [--workers N] [--dot FILE] [--observed] LITMUS`
+//! `why [--costs FILE] [--workers N] [--dot FILE] [--html FILE] [--observed | --condition] [--json] [--progress] LITMUS`
 
 ghost use Rattle.std.specs.Prelude.{IfOk, codes};
 ghost use Rattle.clap.specs.Words.{found_of, rows_of};
@@ -6,9 +6,10 @@ ghost use Rattle.fencer_words.specs.CommandLines.{why_app, IsJobOf};
 ghost use Rattle.fencer_words.specs.Commands.{IsBuiltAs};
 
 use crate::arguments::{
-    described_command, is_flagged, litmus_arg, observed_arg, text_given, text_in, value_in,
+    condition_arg, described_command, is_flagged, json_arg, kind_in, litmus_arg, observed_arg,
+    progress_arg, text_given, text_in, value_in,
 };
-use crate::job::{Job, Placement};
+use crate::job::{Job, Placement, WhyQuery};
 use crate::place::{COSTS_HELP, file_arg, workers_arg, workers_of};
 use clap::{ArgMatches, Command};
 use std::alloc::{AllocError, Global};
@@ -17,14 +18,21 @@ const FIRST: &str = "Shows for each fence of the answer a run that it prevents";
 
 const LAST: &str = "\
 Prints the answer line of `fencer place`, and for each of its gaps a run with the other gaps
-fenced: `without T:K`, `run LABEL ..`, the run as a table, `outcome: ..`, `passed T:K ..`, and that
-no sequential run has this outcome. Without a gap it prints that every store buffer outcome is
-sequential. The status is 0; 1 for a refusal; 2 for a bad command line or this help. Refusals are
-explained in docs/formats.md.
+fenced: `without T:K`, `run LABEL ..`, the run as a table, `outcome: ..`, `passed T:K ..`, and
+that no sequential run has this outcome. Without a gap it prints that every store buffer outcome
+is sequential.
 
-Example: fencer why examples/SB.litmus";
+A program that is wrong on a sequential machine too gets an answer: see first whether its condition
+holds with `fencer outcomes --model sequential`.
+
+The status is 0 for an answer, 1 for a refusal (docs/formats.md explains each), 2 for a bad
+command line or this help.
+
+Example: fencer why --html SB.html examples/SB.litmus";
 
 const DOT_HELP: &str = "Write the candidate execution of each run there, as graphs for Graphviz";
+
+pub const HTML_HELP: &str = "Write a page there, to step through the runs in a browser";
 
 pub fn why_command<'a>(alloc: Global) -> Result<Command<'a>, AllocError>
     ensures { IfOk result (IsBuiltAs why_app) }
@@ -33,7 +41,11 @@ pub fn why_command<'a>(alloc: Global) -> Result<Command<'a>, AllocError>
         .arg(file_arg(alloc, "costs", COSTS_HELP))?
         .arg(workers_arg(alloc))?
         .arg(file_arg(alloc, "dot", DOT_HELP))?
+        .arg(file_arg(alloc, "html", HTML_HELP))?
         .arg(observed_arg(alloc))?
+        .arg(condition_arg(alloc))?
+        .arg(json_arg(alloc))?
+        .arg(progress_arg(alloc))?
         .arg(litmus_arg(alloc))
 }
 
@@ -44,11 +56,16 @@ pub fn why_job(alloc: Global, matches: &ArgMatches<'_>) -> Result<Job, AllocErro
         costs: text_given(alloc, matches, "costs")?,
         workers: workers_of(value_in(matches, "workers")),
         certificate: None,
-        observed: is_flagged(matches, "observed"),
+        output: None,
+        kind: kind_in(matches),
+        check: false,
+        json: is_flagged(matches, "json"),
+        progress: is_flagged(matches, "progress"),
         litmus: text_in(alloc, matches, "litmus")?,
     };
-    Ok(Job::Why {
+    Ok(Job::Why(WhyQuery {
         placement,
         graphs: text_given(alloc, matches, "dot")?,
-    })
+        page: text_given(alloc, matches, "html")?,
+    }))
 }

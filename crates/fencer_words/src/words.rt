@@ -1,11 +1,14 @@
 //! Command lines.
 
-ghost use Rattle.std.specs.Prelude.{◌≡◌, ◌⊎◌, Contains, IfErr, IfOk, IfNone, IfSome, map, string_bytes};
+ghost use Rattle.std.specs.Prelude.{◌≡◌, ◌⊎◌, true, false, Contains, IfErr, IfOk, IfNone, IfSome, OnOk, map, string_bytes};
 ghost use Rattle.clap.specs.Words.{found_of, kind_of, rows_of};
-ghost use Rattle.fencer_words.specs.CommandLines.{command_names, AreModels, AsksFor, IsJobOf, IsNoCommand};
-ghost use Rattle.fencer_words.specs.Commands.{IsFencerCommand, IsJobMet, MeetsNoCommand};
+ghost use Rattle.fencer_words.specs.CommandFiles.{files_of, has_clash};
+ghost use Rattle.fencer_words.specs.CommandLines.{asks_twice, command_names, AreModels, AsksFor, IsJobOf, IsNoCommand, Names};
+ghost use Rattle.fencer_words.specs.Commands.{IsFencerCommand, IsJobMet, MeetsNoJob};
 
-use crate::arguments::described_command;
+use crate::arguments::{described_command, is_flagged};
+use crate::files::{files_of, has_clash};
+use crate::gaps::{gaps_command, gaps_job};
 use crate::job::Job;
 use crate::outcomes::{outcomes_command, outcomes_job};
 use crate::place::{place_command, place_job};
@@ -18,14 +21,23 @@ use std::alloc::{AllocError, Global};
 
 const FIRST: &str = "\
 Finds the cheapest places for MFENCE with which a small x86 program behaves as on a sequentially
-consistent machine, shows why each is needed, replays the program's runs and lists its outcomes";
+consistent machine. Shows why each is needed, replays the program's runs, and lists its outcomes
+and its gaps.";
 
 const LAST: &str = "\
-With no words they are the first line of standard input; where LITMUS there is -, the litmus text
-is the rest. The status is 0 for an answer, 1 for a refusal, which is one line, and 2 for a bad
-command line or this help. docs/guide.md explains the commands, docs/formats.md each refusal.
+`fencer COMMAND --help` explains a command, `fencer --version` prints the version. Without
+arguments fencer reads them from the first line of standard input. LITMUS may be - for standard
+input, or for what follows that line.
+
+The status is 0 for an answer, 1 for a refusal (docs/formats.md explains each), 2 for a bad
+command line or this help, 3 for an answer where --check finds a fault. docs/guide.md explains the
+commands.
 
 Example: fencer place examples/SB.litmus";
+
+const CLASH: &str = "a file that is written must not be one that is read, nor be written twice";
+
+const TWICE: &str = "--observed and --condition cannot both be given";
 
 static MODELS: [&str; 2] = ["buffered", "sequential"];
 
@@ -50,7 +62,8 @@ fn command<'a>(alloc: Global) -> Result<Command<'a>, AllocError>
         .subcommand(outcomes_command(alloc, models)?)?
         .subcommand(place_command(alloc)?)?
         .subcommand(trace_command(alloc, models)?)?
-        .subcommand(why_command(alloc)?)
+        .subcommand(why_command(alloc)?)?
+        .subcommand(gaps_command(alloc)?)
 }
 
 /// The job of the command of this name, where there is such a command.
@@ -64,29 +77,67 @@ fn job_of(alloc: Global, name: &str, matches: &ArgMatches<'_>) -> Result<Option<
         "place" => Ok(Some(place_job(alloc, matches)?)),
         "trace" => Ok(Some(trace_job(alloc, matches)?)),
         "why" => Ok(Some(why_job(alloc, matches)?)),
+        "gaps" => Ok(Some(gaps_job(alloc, matches)?)),
         _ => Ok(None),
     }
 }
 
-/// The job of the subcommand that was met.
+/// Whether two comparisons of outcomes are asked for.
+fn asks_twice(matches: &ArgMatches<'_>) -> bool
+    ensures { result ≡ asks_twice (rows_of (found_of matches.now)) }
+{
+    is_flagged(matches, "observed") && is_flagged(matches, "condition")
+}
+
+/// The job of the subcommand that was met, unless it asks for two comparisons of outcomes.
 fn job_met(alloc: Global, matches: &ArgMatches<'_>) -> Result<Option<Job>, AllocError>
     ensures some { IfOk result (λ job. IfSome job (IsJobMet matches.now)) }
-    ensures none { IfOk result (λ job. IfNone job (MeetsNoCommand matches.now)) }
+    ensures none { IfOk result (λ job. IfNone job (MeetsNoJob matches.now)) }
 {
     match matches.subcommand() {
-        Some((name, inner)) => job_of(alloc, name, inner),
+        Some((name, inner)) => {
+            if asks_twice(inner) {
+                Ok(None)
+            } else {
+                job_of(alloc, name, inner)
+            }
+        }
         None => Ok(None),
     }
 }
 
-/// The job that the words after the program's name ask for.
-pub fn read_words(alloc: Global, words: &[String]) -> Result<Job, Error>
-    ensures job { IfOk result (AsksFor (map string_bytes words.now)) }
+/// The job that arguments name.
+fn job_named(alloc: Global, words: &[String]) -> Result<Job, Error>
+    ensures job { IfOk result (Names (map string_bytes words.now)) }
     ensures refused { IfErr result (λ error. (kind_of error ≡ ErrorKind.OutOfMemory) ⊎ IsNoCommand (map string_bytes words.now)) }
 {
     let matches = command(alloc)?.try_get_matches_from(words)?;
     match job_met(alloc, &matches)? {
         Some(job) => Ok(job),
-        None => Err(command(alloc)?.error(ErrorKind::MissingSubcommand, "no command")?),
+        None => Err(command(alloc)?.error(ErrorKind::ArgumentConflict, TWICE)?),
+    }
+}
+
+/// The job, unless it writes a file which it reads, or a file twice.
+fn job_apart(alloc: Global, job: Job) -> Result<Job, Error>
+    ensures same { IfOk result (λ same. same ≡ job) }
+    ensures apart { OnOk result (has_clash (files_of job) ≡ false) }
+    ensures clashing { IfErr result (λ error. has_clash (files_of job) ≡ true) }
+{
+    if has_clash(files_of(&job)) {
+        Err(command(alloc)?.error(ErrorKind::ArgumentConflict, CLASH)?)
+    } else {
+        Ok(job)
+    }
+}
+
+/// The job that the arguments after the program's name ask for.
+pub fn read_words(alloc: Global, words: &[String]) -> Result<Job, Error>
+    ensures job { IfOk result (AsksFor (map string_bytes words.now)) }
+    ensures refused { IfErr result (λ error. (kind_of error ≡ ErrorKind.OutOfMemory) ⊎ IsNoCommand (map string_bytes words.now)) }
+{
+    match job_named(alloc, words) {
+        Ok(job) => job_apart(alloc, job),
+        Err(error) => Err(error),
     }
 }

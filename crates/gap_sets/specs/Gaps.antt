@@ -9,11 +9,11 @@ use Rattle.gap_sets.specs.declared.gap_set.TheConstants.{MAX_GAPS}
 abbrev pub SetOfGaps : Type 0
 SetOfGaps = set.FinSet nat_cmp
 
--- gap numbers are 0 to 63
+-- gap numbers are below `MAX_GAPS`
 abbrev pub IsGapSet : SetOfGaps → Type 0
 IsGapSet s = (gap : ℕ) → set.contains s gap ≡ true → gap < MAX_GAPS
 
--- the gaps of a set, ascending: the numbers from 0 to 63 that it contains
+-- the gaps of a set, ascending: the numbers below `MAX_GAPS` that it contains
 unfoldable pub numbers_of_set : SetOfGaps → List ℕ
 numbers_of_set s = filter (set.contains s) (range_with_len 0 MAX_GAPS)
 

@@ -1,6 +1,9 @@
 pub mod Fresh
 pub mod Refusals
+pub mod Parents
+pub mod Found
 pub mod Marks
+pub mod CloseFaults
 pub mod Moves
 pub mod SamePrograms
 pub mod Walks

@@ -1,11 +1,10 @@
 -- Receipts that are marked off against the record, one after the other.
-use Rattle.std.proofs.Common.{◌≡◌, ◌≢◌, ℕ, zero, suc, ◌+◌, ◌<◌, ◌≤◌, Bool, true, false, true≢false, List, [], ◌∷◌, Some, refl, sym, ap, ◌∙◌, subst, inl, inr, arith, length, length-set, set, cond, get_or, replicate}
+use Rattle.std.proofs.Common.{◌≡◌, ◌≢◌, ℕ, zero, suc, ◌+◌, ◌<◌, ◌≤◌, Bool, true, false, true≢false, List, [], ◌∷◌, Some, None, refl, sym, ap, ◌∙◌, subst, inl, inr, arith, length, length-set, set, cond, get_or, replicate, take}
 use Rattle.std.specs.Prelude.{slice_get}
 use Rattle.std.proofs.lemmas.Option.{same_Some, none-some, slice_get_within, slice_get_read, get_or_from_slice_get}
 use Rattle.std.proofs.lemmas.Bool.{cases_lt}
 use Rattle.std.proofs.lemmas.List.{get_or-replicate, length-replicate}
 use native.Mathlib.Decide.{ℕ_discrete}
-use Rattle.gap_sets.specs.declared.region.Region.{Region}
 use Rattle.search_core.specs.declared.entry.Entry.{Entry}
 use Rattle.cover_solver.specs.Facts.{Foreign}
 use Rattle.search_core.specs.declared.entry.Status.{Status}
@@ -18,17 +17,22 @@ use Rattle.search_core.proofs.Places.{get_here, get_else, get_old}
 use Rattle.hunt_board.specs.declared.settling.Event.{Event}
 use Rattle.hunt_board.specs.declared.settling.Event.TheVariants as event
 use Rattle.hunt_board.specs.declared.settling.Receipt.{Receipt}
-use Rattle.hunt_board.specs.Receipts.{IsEventOf as IsEventTold, IsReceiptOf, Stands, NameAll}
+use Rattle.hunt_board.specs.Receipts.{IsEventOf as IsEventTold, IsReceiptOf, Stands, StandApart, NameAll, IsFirstWrong}
 use Rattle.hunt_board.specs.Internal.Settled.{IsSameEvent, SaysSame}
-use Rattle.hunt_board.specs.Internal.Places.{Leads, ends, goes, IsMarked}
+use Rattle.hunt_board.specs.Internal.Marks.{HasMark, IsMarked, IsNotMarked}
+use Rattle.hunt_board.specs.Internal.Places.{Leads, StandsOnlyAt}
+use Rattle.hunt_board.proofs.Found.{same_end}
 
--- a walk ends at one place
-same_end : (entries : List Entry) (n : Region) (place a b : ℕ) → Leads entries n place a → Leads entries n place b → a ≡ b
-same_end entries n place a b (ends _ none) (ends _ none') = refl
-same_end entries n place a b (ends _ none) (goes _ child _ some rest) = absurd (none-some child (sym none ∙ some))
-same_end entries n place a b (goes _ child _ some rest) (ends _ none) = absurd (none-some child (sym none ∙ some))
-same_end entries n place a b (goes _ child _ some rest) (goes _ child' _ some' rest') =
-    same_end entries n child a b rest (subst (λ k. Leads entries n k b) (sym (same_Some child child' (sym some ∙ some'))) rest')
+-- what is at a place of a list's front
+get_take : (n : ℕ) (l : List Receipt) (i : ℕ) (r : Receipt) → slice_get (take n l) i ≡ Some r → (i < n) × (slice_get l i ≡ Some r)
+get_take zero l i r e = absurd (none-some r e)
+get_take (suc n) [] i r e = absurd (none-some r e)
+get_take (suc n) (q ∷ l) zero r e = (omega arith, e)
+get_take (suc n) (q ∷ l) (suc i) r e = let h = get_take n l i r e in let less = h.0 in (omega arith, h.1)
+
+-- a number that is at most another and differs
+lower : (a b : ℕ) → a ≤ b → a ≢ b → a < b
+lower a b most differ = elim (cases_lt a b) [ inl less ↦ less | inr not_less ↦ absurd (differ (omega arith)) ]
 
 -- how many are marked
 abbrev pub marked : List Bool → ℕ
@@ -59,12 +63,12 @@ pub record AreMarked (entries : List Entry) (receipts : List Receipt) (marks : L
   pub stand : (j : ℕ) (r : Receipt) → j < count → slice_get receipts j ≡ Some r → Stands entries r
   pub are_marked : (j place : ℕ) (r : Receipt) → j < count → slice_get receipts j ≡ Some r → Leads entries r.node 0 place → slice_get marks place ≡ Some true
   pub apart : (j i : ℕ) (q r : Receipt) → j < i → i < count → slice_get receipts j ≡ Some q → slice_get receipts i ≡ Some r → q.node ≢ r.node
-  pub named : (place : ℕ) (e : Entry) → slice_get marks place ≡ Some true → slice_get entries place ≡ Some e → (j : ℕ) × (r : Receipt) × (slice_get receipts j ≡ Some r) × IsReceiptOf e r
+  pub named : (place : ℕ) (e : Entry) → slice_get marks place ≡ Some true → slice_get entries place ≡ Some e → (j : ℕ) × (r : Receipt) × (j < count) × (slice_get receipts j ≡ Some r) × IsReceiptOf e r
   pub as_many : marked marks ≡ count
 
 module _ (entries : List Entry) (receipts : List Receipt) (marks : List Bool) (count : ℕ) (so : AreMarked entries receipts marks count) where
   -- one more is marked
-  module _ (x : Receipt) (here : slice_get receipts count ≡ Some x) (after : List Bool) (is : IsMarked entries x marks after) where
+  module _ (x : Receipt) (here : slice_get receipts count ≡ Some x) (is : HasMark entries x marks false) where
     is_x : (j : ℕ) (r : Receipt) → j ≡ count → slice_get receipts j ≡ Some r → x ≡ r
     is_x j r e there = same_Some x r (sym here ∙ ap (slice_get receipts) (sym e) ∙ there)
 
@@ -73,7 +77,7 @@ module _ (entries : List Entry) (receipts : List Receipt) (marks : List Bool) (c
 
     stays : (place : ℕ) → slice_get marks place ≡ Some true → slice_get (set marks is.place true) place ≡ Some true
     stays place e = elim (ℕ_discrete place is.place) [
-      | yes same ↦ ap (slice_get (set marks is.place true)) same ∙ get_here marks is.place false true is.unmarked
+      | yes same ↦ ap (slice_get (set marks is.place true)) same ∙ get_here marks is.place false true is.has
       | no other ↦ get_else marks is.place place true other ∙ e
     ]
 
@@ -88,12 +92,12 @@ module _ (entries : List Entry) (receipts : List Receipt) (marks : List Bool) (c
       | inl less ↦ stays place (so.are_marked j place r less there leads)
       | inr not_less ↦ (let same : x ≡ r = is_x j r (omega arith) there in
           let end : place ≡ is.place = same_end entries x.node 0 place is.place (subst (λ (y : Receipt). Leads entries y.node 0 place) (sym same) leads) is.leads in
-          ap (slice_get (set marks is.place true)) end ∙ get_here marks is.place false true is.unmarked)
+          ap (slice_get (set marks is.place true)) end ∙ get_here marks is.place false true is.has)
     ]
 
     new_node : (j : ℕ) (q : Receipt) → j < count → slice_get receipts j ≡ Some q → q.node ≢ x.node
     new_node j q less there same = true≢false (same_Some true false
-        (sym (so.are_marked j is.place q less there (subst (λ n. Leads entries n 0 is.place) (sym same) is.leads)) ∙ is.unmarked))
+        (sym (so.are_marked j is.place q less there (subst (λ n. Leads entries n 0 is.place) (sym same) is.leads)) ∙ is.has))
 
     apart_on : (j i : ℕ) (q r : Receipt) → j < i → i < count + 1 → slice_get receipts j ≡ Some q → slice_get receipts i ≡ Some r → q.node ≢ r.node
     apart_on j i q r before h there there' = elim (cases_lt i count) [
@@ -101,30 +105,62 @@ module _ (entries : List Entry) (receipts : List Receipt) (marks : List Bool) (c
       | inr not_less ↦ subst (λ (y : Receipt). q.node ≢ y.node) (is_x i r (omega arith) there') (new_node j q (omega arith) there)
     ]
 
-    named_on : (place : ℕ) (e : Entry) → slice_get (set marks is.place true) place ≡ Some true → slice_get entries place ≡ Some e → (j : ℕ) × (r : Receipt) × (slice_get receipts j ≡ Some r) × IsReceiptOf e r
+    named_on : (place : ℕ) (e : Entry) → slice_get (set marks is.place true) place ≡ Some true → slice_get entries place ≡ Some e → (j : ℕ) × (r : Receipt) × (j < count + 1) × (slice_get receipts j ≡ Some r) × IsReceiptOf e r
     named_on place e mark there = elim (get_old marks is.place place true true mark) [
-      | inl new ↦ (count, x, here, subst (λ (d : Entry). IsReceiptOf d x) (same_Some is.entry e (sym is.there ∙ ap (slice_get entries) (sym new.0) ∙ there)) is.is_receipt)
-      | inr old ↦ so.named place e old.1 there
+      | inl new ↦ (count, x, omega arith, here, subst (λ (d : Entry). IsReceiptOf d x) (same_Some is.entry e (sym is.there ∙ ap (slice_get entries) (sym new.0) ∙ there)) is.is_receipt)
+      | inr old ↦ (let was = so.named place e old.1 there in let h = was.2 in (was.0, was.1, omega arith, was.3, was.4))
     ]
 
-    pub one_more_marked : AreMarked entries receipts after (count + 1)
-    one_more_marked = subst (λ l. AreMarked entries receipts l (count + 1)) (sym is.marked) (record {
+    with_x : AreMarked entries receipts (set marks is.place true) (count + 1)
+    with_x = record {
       long = length-set marks is.place true ∙ so.long;
       stand = stand_on;
       are_marked = marked_on;
       apart = apart_on;
       named = named_on;
-      as_many = one_more marks is.place is.unmarked ∙ ap (λ n. n + 1) so.as_many;
-    })
+      as_many = one_more marks is.place is.has ∙ ap (λ n. n + 1) so.as_many;
+    }
+
+  pub one_more_marked : (x : Receipt) → slice_get receipts count ≡ Some x → (after : List Bool) → IsMarked entries x marks after → AreMarked entries receipts after (count + 1)
+  one_more_marked x here after is = subst (λ l. AreMarked entries receipts l (count + 1)) (sym is.marked) (with_x x here is.unmarked)
+
+  -- the receipts so far stand in the record, and no two are of one node
+  stand_so_far : (l : List Receipt) → ((i : ℕ) (r : Receipt) → slice_get l i ≡ Some r → (i < count) × (slice_get receipts i ≡ Some r)) → StandApart entries l
+  stand_so_far l some = record {
+    each = λ i r e. (let h = some i r e in so.stand i r h.0 h.1);
+    apart = λ j i q r before there there'. (let h = some j q there in let k = some i r there' in so.apart j i q r before k.0 h.1 k.1);
+  }
+
+  -- all of them are
+  all_stand : length receipts ≤ count → StandApart entries receipts
+  all_stand whole = stand_so_far receipts (λ i r e. ((let h = slice_get_within receipts i r e in omega arith), e))
 
   -- all are marked, and as many as the nodes
   pub all_named : length receipts ≤ count → length receipts ≡ length entries → NameAll entries receipts
   all_named whole as_many = record {
-    each = λ i r e. so.stand i r (let h = slice_get_within receipts i r e in omega arith) e;
-    apart = λ j i q r before there there'. so.apart j i q r before (let h = slice_get_within receipts i r there' in omega arith) there there';
+    stand = all_stand whole;
     as_many = as_many;
-    whole = λ place e there. so.named place e
-        (all_marked marks place (omega (arith, so.long, so.as_many)) (let h = slice_get_within entries place e there in let l = so.long in omega arith)) there;
+    whole = λ place e there. (let h = so.named place e
+        (all_marked marks place (omega (arith, so.long, so.as_many)) (let h = slice_get_within entries place e there in let l = so.long in omega arith)) there in (h.0, h.1, h.3, h.4));
+  }
+
+  -- all are marked, and not as many as the nodes
+  pub too_few : length receipts ≤ count → length receipts ≢ length entries → StandApart entries receipts × (length receipts < length entries)
+  too_few whole differ =
+      let few = few_marked marks in
+      let less : length receipts ≤ length entries = omega (arith, so.long, so.as_many) in
+      (all_stand whole, lower (length receipts) (length entries) less differ)
+
+  -- one is not marked
+  pub first_wrong : (x : Receipt) → slice_get receipts count ≡ Some x → (after : List Bool) → IsNotMarked entries x marks after → IsFirstWrong entries receipts count
+  first_wrong x here after not = record {
+    receipt = x;
+    there = here;
+    wrong = elim not.why [
+      | inl astray ↦ inl astray
+      | inr has ↦ inr (let was = so.named has.place has.entry has.has has.there in (was.0, was.1, was.2, was.3, was.4.node ∙ sym has.is_receipt.node))
+    ];
+    before = stand_so_far (take count receipts) (get_take count receipts);
   }
 
 -- none is marked at first
@@ -170,20 +206,67 @@ same_event Confirmed recorded.Confirmed (event.Split passed) h g = absurd g
 same_event Confirmed recorded.Confirmed event.Cut h g = absurd g
 same_event Confirmed recorded.Confirmed event.Confirmed h g = tt
 
--- the receipt's node is marked
-pub is_marked : (entries : List Entry) (r : Receipt) (marks : List Bool) (place : ℕ) (settled : Settled) (mark : Bool) → Leads entries r.node 0 place →
-    ((e : Entry) × (slice_get entries place ≡ Some e) × IsSettledAs e settled) → SaysSame settled r → length marks ≡ length entries → mark ≡ get_or marks place mark → mark ≡ false →
-    IsMarked entries r marks (set marks place true)
-is_marked entries r marks place settled mark leads (e, there, told) says long read unset = record {
-  place = place;
-  leads = leads;
-  entry = e;
-  there = there;
-  is_receipt = record {
+-- and the other way round
+event_same : (s : Status) (v : Recorded) (w : Event) → IsEventOf s v → IsEventTold s w → IsSameEvent v w
+event_same Open v w h g = absurd h
+event_same Held v w h g = absurd h
+event_same (Split f first) (recorded.Split run) (event.Split passed) h g = ap (λ (x : Foreign). x.passed) h ∙ g
+event_same (Split f first) (recorded.Split run) event.Cut h g = absurd g
+event_same (Split f first) (recorded.Split run) event.Confirmed h g = absurd g
+event_same (Split f first) recorded.Cut w h g = absurd h
+event_same (Split f first) recorded.Confirmed w h g = absurd h
+event_same Cut (recorded.Split run) w h g = absurd h
+event_same Cut recorded.Cut (event.Split passed) h g = absurd g
+event_same Cut recorded.Cut event.Cut h g = tt
+event_same Cut recorded.Cut event.Confirmed h g = absurd g
+event_same Cut recorded.Confirmed w h g = absurd h
+event_same Confirmed (recorded.Split run) w h g = absurd h
+event_same Confirmed recorded.Cut w h g = absurd h
+event_same Confirmed recorded.Confirmed (event.Split passed) h g = absurd g
+event_same Confirmed recorded.Confirmed event.Cut h g = absurd g
+event_same Confirmed recorded.Confirmed event.Confirmed h g = tt
+
+-- what the record says of a node is what its receipt says
+module _ (e : Entry) (settled : Settled) (r : Receipt) (told : IsSettledAs e settled) where
+  pub receipt_of : SaysSame settled r → IsReceiptOf e r
+  receipt_of says = record {
     node = says.node ∙ told.same_node;
     seat = says.seat ∙ told.same_seat;
     event = same_event e.status settled.event r.event told.is_event says.event;
-  };
-  unmarked = (let within = slice_get_within entries place e there in slice_get_read marks (length entries) place mark (sym long) within read) ∙ ap Some unset;
-  marked = refl;
+  }
+
+  says_same : IsReceiptOf e r → SaysSame settled r
+  says_same is = record {
+    node = is.node ∙ sym told.same_node;
+    seat = is.seat ∙ sym told.same_seat;
+    event = event_same e.status settled.event r.event told.is_event is.event;
+  }
+
+-- the mark of the receipt's node
+abbrev pub mark_of : (entries : List Entry) (r : Receipt) (marks : List Bool) (place : ℕ) (settled : Settled) (mark b : Bool) → Leads entries r.node 0 place →
+    ((e : Entry) × (slice_get entries place ≡ Some e) × IsSettledAs e settled) → SaysSame settled r → length marks ≡ length entries → mark ≡ get_or marks place mark → mark ≡ b →
+    HasMark entries r marks b
+mark_of entries r marks place settled mark b leads found says long read is = record {
+  place = place;
+  leads = leads;
+  entry = found.0;
+  there = found.1;
+  is_receipt = receipt_of found.0 settled r found.2 says;
+  has = (let within = slice_get_within entries place found.0 found.1 in slice_get_read marks (length entries) place mark (sym long) within read) ∙ ap Some is;
 }
+
+-- a receipt whose node stands at this place, or nowhere
+module _ (entries : List Entry) (r : Receipt) (place : ℕ) (only : StandsOnlyAt entries r.node place) where
+  stands_there : Stands entries r → (e : Entry) × (slice_get entries place ≡ Some e) × IsReceiptOf e r
+  stands_there (p, e, there, receipt) = (e, ap (slice_get entries) (sym (only p e there (sym receipt.node))) ∙ there, receipt)
+
+  -- nowhere, where no node is there
+  pub stands_nowhere : slice_get entries place ≡ None → ¬ Stands entries r
+  stands_nowhere none stands = let there = stands_there stands in none-some there.0 (sym none ∙ there.1)
+
+  -- nor where the record says another thing of the node
+  pub stands_not : (settled : Settled) → ((e : Entry) × (slice_get entries place ≡ Some e) × IsSettledAs e settled) → (¬ SaysSame settled r) → ¬ Stands entries r
+  stands_not settled (e, at, told) other stands =
+      let there = stands_there stands in
+      let same : there.0 ≡ e = same_Some there.0 e (sym there.1 ∙ at) in
+      other (says_same e settled r told (subst (λ (d : Entry). IsReceiptOf d r) same there.2))

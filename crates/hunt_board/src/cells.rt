@@ -37,8 +37,9 @@ impl Model for Posted {
 
     ghost use Rattle.gap_sets.specs.contracts.gap_set.GapSet as gap_set;
     ghost use Rattle.std.specs.Coded.{codes};
+    ghost use Rattle.tso_program.specs.Nodes.{tree_code};
 
-    ghost coded = { Prim.hlevel (codes, gap_set.the_row.coded) };
+    ghost coded = { Prim.hlevel (codes, gap_set.the_row.coded, tree_code) };
 
     ghost view = { λ p. record { place = p.place; cell = p.note.cell; run = p.note.known } };
 
@@ -48,9 +49,10 @@ impl Model for Posted {
 /// Why a run isn't posted. It is handed back.
 #[derive(Drop)]
 pub enum PostFault {
-    /// The row has no cell left.
+    /// The seat has posted as many runs as a row has cells.
     RowFull(ForeignRun),
-    /// Out of memory.
+    /// The seat has posted fewer. Out of memory: where each seat posts in a row of its own, its next cell is
+    /// there and empty.
     Refused(ForeignRun),
 }
 
@@ -84,13 +86,14 @@ impl RunCells {
         ensures place { IfOk result (λ posted. Some posted.place ≡ place_of seat index) }
         ensures back { IfErr result (λ fault. run_in fault ≡ run) }
         ensures full { ROW_CELLS ≤ index → result ≡ Err (PostFault.RowFull run) }
+        ensures refused { index < ROW_CELLS → IfErr result (λ fault. fault ≡ PostFault.Refused run) }
     {
         let Some(place) = place_of(seat, index) else {
             return Err(PostFault::RowFull(run));
         };
         match self.cells.get(place) {
             Some(cell) => set(self.alloc, cell, place, run),
-            None => Err(PostFault::RowFull(run)),
+            None => Err(PostFault::Refused(run)),
         }
     }
 
@@ -135,7 +138,7 @@ fn set(
     run: ForeignRun,
 ) -> Result<Posted, PostFault>
     ensures posted { IfOk result (λ posted. (posted.place ≡ place) × (posted.cell ≡ cell_name cell.now) × (posted.run ≡ Some run)) }
-    ensures back { IfErr result (λ fault. run_in fault ≡ run) }
+    ensures refused { IfErr result (λ fault. fault ≡ PostFault.Refused run) }
 {
     let boxed = match Box::new(alloc, run) {
         Ok(boxed) => boxed,
@@ -144,6 +147,6 @@ fn set(
     let mut note = cell.note();
     match cell.set_as(boxed, &mut note) {
         Ok(()) => Ok(Posted { place, note }),
-        Err(boxed) => Err(PostFault::RowFull(Box::into_inner(boxed))),
+        Err(boxed) => Err(PostFault::Refused(Box::into_inner(boxed))),
     }
 }

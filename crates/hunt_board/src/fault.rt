@@ -11,10 +11,11 @@ pub enum CloseFault {
     /// Some node is open or held.
     #[error("some node is open or held")]
     NotDone,
-    /// The receipt of this number, from 0, isn't in the record, or an earlier one is of the same node.
+    /// The receipt of this number, from 0, is the first that isn't in the record or is of the same node as an
+    /// earlier one.
     #[error("receipt number {0} is not in the record, or an earlier one is of the same node")]
     Receipt(usize),
-    /// There are fewer receipts than settled nodes.
+    /// Each receipt is in the record, no two are of one node, and there are fewer than settled nodes.
     #[error("there are not as many receipts as settled nodes")]
     Count,
     #[error("out of memory")]

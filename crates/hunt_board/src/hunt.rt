@@ -1,5 +1,5 @@
 //! The hunt: a search that several workers share.
-ghost use Rattle.std.specs.Prelude.{◌≡◌, ◌↔◌, ◌≤◌, ◌+◌, ℕ, Some, None, Err, All, IfOk, IfErr, IfSome, IfNone, OnOk, OnErr, IsSome, IsTrue};
+ghost use Rattle.std.specs.Prelude.{◌≡◌, ◌↔◌, ◌<◌, ◌≤◌, ◌+◌, ℕ, Some, None, Err, All, IfOk, IfErr, IfSome, IfNone, OnOk, OnErr, IsSome, IsTrue};
 ghost use Rattle.gap_sets.specs.Order.{total};
 ghost use Rattle.tso_program.specs.Shown.{asked};
 ghost use Rattle.tso_machine.specs.Outcomes.{AreGapsOf, IsTheAnswer};
@@ -58,8 +58,9 @@ impl Model for Hunt {
 
     ghost use Rattle.gap_sets.specs.contracts.gap_set.GapSet as gap_set;
     ghost use Rattle.std.specs.Coded.{codes};
+    ghost use Rattle.tso_program.specs.Nodes.{tree_code};
 
-    ghost coded = { Prim.hlevel (codes, gap_set.the_row.coded) };
+    ghost coded = { Prim.hlevel (codes, gap_set.the_row.coded, tree_code) };
 
     ghost use Rattle.std.specs.Prelude.{◌≡◌, map};
     ghost use Rattle.once_cell.specs.Once.{cell_name};
@@ -83,7 +84,7 @@ impl Hunt {
         ensures seats { IfOk result (λ made. AreFresh made.0 seats made.1.items) }
     {
         let program = tree.program().copy()?;
-        let shown = *tree.shown();
+        let shown = tree.shown().copy()?;
         let costs = tree.costs().copy()?;
         let (word, mut first) = CeilingWord::new(alloc, &program, &shown, &costs)?;
         let row = seats_of(alloc, &word, &mut first, seats)?;
@@ -198,6 +199,7 @@ impl Hunt {
         ensures unchanged { OnErr result (seat.new ≡ seat.old) }
         ensures back { IfErr result (λ fault. run_in fault ≡ run) }
         ensures full { ROW_CELLS ≤ seat.old.posted → result ≡ Err (PostFault.RowFull run) }
+        ensures refused { seat.old.posted < ROW_CELLS → IfErr result (λ fault. fault ≡ PostFault.Refused run) }
     {
         let posted = self.rows.post(seat.number, seat.posted, run)?;
         seat.posted += 1;
@@ -223,14 +225,15 @@ impl Hunt {
         self.rows.look(seat, index, &self.program, &self.shown)
     }
 
-    /// Ends the hunt with the answer, where no node is left and the receipts name the whole record.
+    /// Ends the hunt with the answer, where no node is left and the receipts name the whole record. A fault
+    /// of the receipts says that no node is left.
     pub fn close(self, seats: Vec<HuntSeat>, receipts: Vec<Receipt>) -> Result<Finished, CloseFault>
         requires seats { All (IsOf self) seats.items }
         ensures hunt { IfOk result (λ finished. (finished.question ≡ self.question) × (finished.costs ≡ self.costs)) }
         ensures answer { IfOk result (λ finished. IsTheAnswer self.question self.costs finished.served.gaps) }
         ensures done { IfOk result IsOutcome }
         ensures receipts { IfOk result (λ finished. NameAll finished.entries receipts.items) }
-        ensures fault { IfErr result (CloseFaultIs receipts.items) }
+        ensures fault { IfErr result (CloseFaultIs self receipts.items) }
     {
         let Hunt {
             alloc,

@@ -1,8 +1,10 @@
 //! Receipts against the record of a search.
-ghost use Rattle.std.specs.Prelude.{◌≡◌, ℕ, Some, IfOk, IfErr, IfSome, OnOk, IsTrue, MatchOption, length, slice_get, ◌<◌, replicate, false};
+ghost use Rattle.std.specs.Prelude.{◌≡◌, ◌↔◌, ◌<◌, ℕ, Some, IfOk, IfErr, IfSome, OnOk, IsTrue, length, replicate, false};
+ghost use Rattle.std.specs.Bool.{MatchBool};
 ghost use Rattle.gap_sets.specs.Regions.{open_gaps};
-ghost use Rattle.hunt_board.specs.Receipts.{NameAll, IsReceiptOf, CloseFaultIs};
-ghost use Rattle.hunt_board.specs.Internal.Places.{Leads, child_of, number_of_child, IsMarked};
+ghost use Rattle.hunt_board.specs.Receipts.{NameAll};
+ghost use Rattle.hunt_board.specs.Internal.Marks.{IsMarked, IsNotMarked, RecordFaultIs};
+ghost use Rattle.hunt_board.specs.Internal.Places.{Leads, StandsOnlyAt, child_of, number_of_child};
 ghost use Rattle.hunt_board.specs.Internal.Settled.{IsSameEvent, SaysSame};
 
 use crate::same::same_region;
@@ -19,7 +21,7 @@ pub(crate) fn check_receipts(
     receipts: &[Receipt],
 ) -> Result<(), CloseFault>
     ensures named { OnOk result (NameAll finished.now.entries receipts.now) }
-    ensures fault { IfErr result (CloseFaultIs receipts.now) }
+    ensures fault { IfErr result (RecordFaultIs finished.now.entries receipts.now) }
 {
     let nodes = finished.nodes();
     let mut named = unmarked(alloc, nodes)?;
@@ -44,13 +46,17 @@ fn unmarked(alloc: Global, count: usize) -> Result<Vec<bool>, AllocError>
 /// Marks the node of the receipt, where the receipt says how it was settled and it isn't marked yet.
 fn mark(finished: &Finished, named: &mut Vec<bool>, receipt: &Receipt) -> bool
     requires { length named.old.items ≡ length finished.now.entries }
-    ensures { IsTrue result → IsMarked finished.now.entries receipt.now named.old.items named.new.items }
+    ensures { MatchBool result (IsMarked finished.now.entries receipt.now named.old.items named.new.items)
+        (IsNotMarked finished.now.entries receipt.now named.old.items named.new.items) }
 {
     let place = place_of(finished, &receipt.node);
     let Some(settled) = finished.settled(place) else {
         return false;
     };
-    if named[place] || !is_receipt_of(&settled, receipt) {
+    if !is_receipt_of(&settled, receipt) {
+        return false;
+    }
+    if named[place] {
         return false;
     }
     named[place] = true;
@@ -59,7 +65,7 @@ fn mark(finished: &Finished, named: &mut Vec<bool>, receipt: &Receipt) -> bool
 
 /// Whether the receipt says this.
 fn is_receipt_of(settled: &Settled<'_>, receipt: &Receipt) -> bool
-    ensures { IsTrue result → SaysSame settled.now receipt.now }
+    ensures { IsTrue result ↔ SaysSame settled.now receipt.now }
 {
     settled.seat == receipt.seat
         && same_region(&settled.node, &receipt.node)
@@ -68,7 +74,7 @@ fn is_receipt_of(settled: &Settled<'_>, receipt: &Receipt) -> bool
 
 /// Whether the events are the same, of a split by the gaps that its run passes.
 fn is_same_event(recorded: search_core::Event<'_>, event: &Event) -> bool
-    ensures { IsTrue result → IsSameEvent recorded.entry event.now }
+    ensures { IsTrue result ↔ IsSameEvent recorded.entry event.now }
 {
     match (recorded, event) {
         (search_core::Event::Split(run), Event::Split(passed)) => run.passed().same(passed),
@@ -81,8 +87,11 @@ fn is_same_event(recorded: search_core::Event<'_>, event: &Event) -> bool
 /// Where the node of this region stands in the record, if it stands there at all: a walk from the root, at
 /// each split to the child of the first gap that the node's sets must have.
 fn place_of(finished: &Finished, node: &Region) -> usize
-    ensures { Leads finished.now.entries node.now 0 result }
+    ensures leads { Leads finished.now.entries node.now 0 result }
+    ensures only { StandsOnlyAt finished.now.entries node.now result }
 {
+    // For the proof alone: what holds of every record is known where its program is read.
+    let _ = finished.program();
     let mut place = 0;
     while let Some(child) = child_of(finished, place, node) {
         place = child;

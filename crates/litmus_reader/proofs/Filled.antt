@@ -10,10 +10,10 @@ use Rattle.std.proofs.lemmas.List.FromFn.{fill_by_all, length-map-range_with_len
 use Rattle.tso_program.specs.declared.instruction.Reg.{Reg}
 use Rattle.tso_program.specs.declared.instruction.Reg.TheVariants.{Eax, Ebx, Ecx, Edx, Esi, Edi}
 use Rattle.tso_program.specs.Instructions.{number}
-use Rattle.conditions.specs.declared.atom.Atom.{Atom}
-use Rattle.conditions.specs.declared.atom.Atom.TheVariants as atom
+use Rattle.tso_program.specs.declared.atom.Atom.{Atom}
+use Rattle.tso_program.specs.declared.atom.Atom.TheVariants as atom
 use Rattle.litmus_syntax.specs.Views.{PlaceView, Location, Register, BodyView}
-use Rattle.litmus_reader.specs.Names.{Names, all_registers, with_name}
+use Rattle.litmus_reader.specs.Names.{TextNames, all_registers, with_name}
 use Rattle.litmus_reader.specs.Places.{location_name, is_register, names_among}
 use Rattle.litmus_reader.specs.Meaning.{code_in}
 use Rattle.litmus_reader.specs.declared.label.Label.{Label}
@@ -177,14 +177,14 @@ noted_all n ps =
     ap (λ (table : List (List Bool)). fold noted (record { locations = []; registers = table }) ps) (all_same n (replicate 6 false)) ∙ noted_from n [] (λ _ _. false) ps
 
 -- noting what each part of a text names
-pub noted_parts : (n : ℕ) (es es' rs rs' os os' ss : List PlaceView) (first second third fourth last : Names) → es' ≡ es → rs' ≡ rs → os' ≡ os → first ≡ no_names n → second ≡ fold noted first es' → third ≡ fold noted second rs'
+pub noted_parts : (n : ℕ) (es es' rs rs' os os' ss : List PlaceView) (first second third fourth last : TextNames) → es' ≡ es → rs' ≡ rs → os' ≡ os → first ≡ no_names n → second ≡ fold noted first es' → third ≡ fold noted second rs'
     → fourth ≡ fold noted third os' → last ≡ fold noted fourth ss → last ≡ names_among n (es ++ (rs ++ (os ++ ss)))
 noted_parts n es es' rs rs' os os' ss first second third fourth last same_es same_rs same_os e f g h k =
     k
-    ∙ ap (λ (names : Names). fold noted names ss) h
-    ∙ ap (λ (names : Names). fold noted (fold noted names os') ss) g
-    ∙ ap (λ (names : Names). fold noted (fold noted (fold noted names rs') os') ss) f
-    ∙ ap (λ (names : Names). fold noted (fold noted (fold noted (fold noted names es') rs') os') ss) e
+    ∙ ap (λ (names : TextNames). fold noted names ss) h
+    ∙ ap (λ (names : TextNames). fold noted (fold noted names os') ss) g
+    ∙ ap (λ (names : TextNames). fold noted (fold noted (fold noted names rs') os') ss) f
+    ∙ ap (λ (names : TextNames). fold noted (fold noted (fold noted (fold noted names es') rs') os') ss) e
     ∙ ap (λ (ps : List PlaceView). fold noted (fold noted (fold noted (fold noted (no_names n) ps) rs') os') ss) same_es
     ∙ ap (λ (ps : List PlaceView). fold noted (fold noted (fold noted (fold noted (no_names n) es) ps) os') ss) same_rs
     ∙ ap (λ (ps : List PlaceView). fold noted (fold noted (fold noted (fold noted (no_names n) es) rs) ps) ss) same_os

@@ -13,7 +13,7 @@ use Rattle.litmus_reader.specs.declared.litmus.Litmus.{Litmus}
 use Rattle.litmus_reader.specs.declared.fault.ReadFault.{ReadFault}
 use Rattle.litmus_reader.specs.declared.fault.ReadFault.TheVariants.{OutOfMemory}
 use Rattle.litmus_reader.specs.Faults.{MatchFault}
-use Rattle.litmus_reader.specs.Names.{Names, number_in}
+use Rattle.litmus_reader.specs.Names.{TextNames, number_in}
 use Rattle.litmus_reader.specs.Places.{location_name, places, names_of}
 use Rattle.litmus_reader.specs.Meaning.{listing_of, condition_of, observed_of}
 use Rattle.litmus_reader.specs.Internal.Filling.{byte_in, byte_at, listing_by}
@@ -71,7 +71,7 @@ module _ (text : List ℕ) (read : Litmus Listing) (is : IsReadOf text read) whe
   filled : listing_by (number_in read.names.locations) position_in (length read.names.locations) is.read.body ≡ listing_of read.names.locations is.read.body
   filled =
       let body = is.read.body in
-      let of_text : Names → Type 0 = λ n. listing_by (number_in n.locations) position_in (length n.locations) body ≡ listing_of n.locations body in
+      let of_text : TextNames → Type 0 = λ n. listing_by (number_in n.locations) position_in (length n.locations) body ≡ listing_of n.locations body in
       let names = names_of body is.read.ending in
       subst of_text (sym is.read.names)
       (listing_filled names.locations body (in_order_once (filter_map location_name (places body is.read.ending))) (entries_stand body is.read.ending) is.read.parts.begins.0.1.1)

@@ -3,8 +3,8 @@ use Rattle.std.proofs.Common.{◌≡◌, ℕ, List, [], length, map, Option, Som
 use Rattle.std.specs.Prelude.{⊤, Err}
 use Rattle.text_tokens.specs.Tokens.{Tok}
 use Rattle.tso_program.specs.declared.listing.Listing.{Listing}
-use Rattle.conditions.specs.declared.atom.Atom.{Atom}
-use Rattle.conditions.specs.Tree.{Tree, tree_map}
+use Rattle.tso_program.specs.declared.atom.Atom.{Atom}
+use Rattle.tso_program.specs.Tree.{Tree, tree_map}
 use Rattle.conditions.proofs.Mapped.{spells_mapped, spells_unmapped}
 use Rattle.conditions.proofs.SpelledIsRead.{spells_one}
 use Rattle.conditions.specs.Grammar.{Spells, Sum}

@@ -4,7 +4,7 @@ use Rattle.std.proofs.Common.{arith, append_assoc}
 use Rattle.std.proofs.Math.Nat.{add-zero}
 use Rattle.litmus_syntax.specs.declared.cell.Cell.{Cell}
 use Rattle.litmus_syntax.specs.Views.{PlaceView, CellView, cell_view}
-use Rattle.litmus_reader.specs.Names.{Names}
+use Rattle.litmus_reader.specs.Names.{TextNames}
 use Rattle.litmus_reader.specs.Internal.Filling.{noted}
 use Rattle.litmus_reader.specs.Places.{cell_places, cells_places, row_places}
 use Rattle.std.specs.List.{filter_map}
@@ -30,7 +30,7 @@ cells_push t (b ∷ cs) c =
     ∙ ap (λ (n : ℕ). (cell_places t b ++ cells_places (t + 1) cs) ++ cell_places n c) (omega arith)
 
 -- one more cell, whose places are noted
-pub noted_more : (names : Names) (cells : List Cell) (i : ℕ) (d : Cell) → i < length cells
+pub noted_more : (names : TextNames) (cells : List Cell) (i : ℕ) (d : Cell) → i < length cells
     → fold noted names (row_places (map cell_view (take (i + 1) cells))) ≡ fold noted (fold noted names (row_places (map cell_view (take i cells)))) (cell_places i (cell_view (get_or cells i d)))
 noted_more names cells i d lt =
     let before = map cell_view (take i cells) in

@@ -8,9 +8,9 @@ use Rattle.std.proofs.lemmas.List.Elements.{Contains-append_cases, Contains-appe
 use Rattle.tso_program.specs.declared.instruction.Reg.{Reg}
 use Rattle.tso_program.specs.Instructions.{number}
 use Rattle.tso_program.specs.Names.{register_place, location_place}
-use Rattle.conditions.specs.declared.atom.Atom.{Atom}
-use Rattle.conditions.specs.Tree.{Tree}
-use Rattle.conditions.specs.Named.{with_named, MentionsRegister, MentionsLocation}
+use Rattle.tso_program.specs.declared.atom.Atom.{Atom}
+use Rattle.tso_program.specs.Tree.{Tree}
+use Rattle.tso_program.specs.Named.{with_named, MentionsRegister, MentionsLocation}
 use Rattle.conditions.proofs.Mentioned.{Has, IsWith, then_more, register_with_register, register_with_location, location_with_location, location_with_register, register_mentioned, location_mentioned}
 use Rattle.litmus_reader.specs.declared.observed.Observed.{Observed}
 use Rattle.litmus_reader.specs.declared.observed.Observed.TheVariants.{Location, Register}

@@ -6,7 +6,7 @@ use Rattle.text_tokens.specs.Tokens.{Tok, Word, Number, Sign, AreAllTokens}
 use Rattle.tso_program.specs.declared.instruction.Reg.{Reg}
 use Rattle.conditions.specs.declared.condition.Quantifier.{Quantifier}
 use Rattle.conditions.specs.declared.condition.Quantifier.TheVariants.{Exists, NotExists, Forall}
-use Rattle.conditions.specs.Tree.{Tree}
+use Rattle.tso_program.specs.Tree.{Tree}
 use Rattle.litmus_reader.specs.Texts.{AreParts}
 use Rattle.litmus_syntax.specs.Views.{PlaceView, Location, Register, EntryView, CodeView, LoadImm, Copy, Load, StoreImm, Store, Xchg, Fence, CmpImm, CmpReg, Je, Jne, Jmp, CellView, BodyView, SignView, Atom, Const, Not, And, Or, Open, Close, EndingView}
 use Rattle.litmus_syntax.specs.Words.{column_name}

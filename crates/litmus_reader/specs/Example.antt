@@ -5,11 +5,11 @@ use Rattle.text_tokens.specs.Tokens.{Tok, Word, Number, Sign}
 use Rattle.tso_program.specs.declared.instruction.Reg.TheVariants.{Eax}
 use Rattle.tso_program.specs.declared.instruction.Instr.TheVariants.{StoreImm, Load}
 use Rattle.tso_program.specs.declared.listing.Listing.{Listing}
-use Rattle.conditions.specs.declared.atom.Atom.TheVariants as atom
+use Rattle.tso_program.specs.declared.atom.Atom.TheVariants as atom
 use Rattle.conditions.specs.declared.condition.Quantifier.TheVariants.{Exists}
-use Rattle.conditions.specs.Tree as tree
+use Rattle.tso_program.specs.Tree as tree
 use Rattle.litmus_reader.specs.declared.litmus.Litmus.{Litmus}
-use Rattle.litmus_reader.specs.Names.{Names}
+use Rattle.litmus_reader.specs.Names.{TextNames}
 use Rattle.litmus_lines.specs.FirstLine.{IsFirstLine}
 use Rattle.litmus_reader.specs.Texts.{Means}
 
@@ -36,7 +36,7 @@ tokens =
     ++ Word (codes "exists") ∷ Sign the.OpenParen ∷ [] ++ eax_of 0 ++ Sign the.And ∷ [] ++ eax_of 1 ++ Sign the.CloseParen ∷ []
 
 -- two locations, x and y; EAX of both threads and EBX of thread 1
-abbrev pub names : Names
+abbrev pub names : TextNames
 names = record {
   locations = codes "x" ∷ codes "y" ∷ [];
   registers = (true ∷ false ∷ false ∷ false ∷ false ∷ false ∷ []) ∷ (true ∷ true ∷ false ∷ false ∷ false ∷ false ∷ []) ∷ [];

@@ -6,7 +6,7 @@ use Rattle.tso_program.specs.declared.instruction.Reg.{Reg}
 use Rattle.tso_program.specs.declared.instruction.Reg.TheVariants.{Eax, Ebx, Ecx, Edx, Esi, Edi}
 
 -- a text's locations by number, and for each thread which of its six registers are named
-pub record Names : Type 0 where
+pub record TextNames : Type 0 where
   pub locations : List (List ℕ)
   pub registers : List (List Bool)
 

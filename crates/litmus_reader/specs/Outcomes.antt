@@ -8,7 +8,7 @@ use Rattle.tso_program.specs.declared.outcome.Outcome.{Outcome}
 use Rattle.tso_program.specs.declared.shown.Shown.{Shown}
 use Rattle.tso_program.specs.Shown.{shows_register, shows_location}
 use Rattle.tso_program.specs.Instructions.{number}
-use Rattle.litmus_reader.specs.Names.{Names, all_registers}
+use Rattle.litmus_reader.specs.Names.{TextNames, all_registers}
 
 -- a register's name, in capitals
 abbrev pub register_name : Reg → List ℕ
@@ -32,30 +32,30 @@ abbrev pub location_item : List ℕ → ℕ → List ℕ
 location_item x n = x ++ value_text n
 
 -- whether the text names register r of thread t
-abbrev pub is_named : Names → ℕ → Reg → Bool
+abbrev pub is_named : TextNames → ℕ → Reg → Bool
 is_named names t r = slice_index_or (slice_index_or names.registers t []) (number r) false
 
 -- a register with its value, where it is shown and the text names it
-abbrev pub named_item : Names → Shown → ℕ → List ℕ → Reg → List (List ℕ)
+abbrev pub named_item : TextNames → Shown → ℕ → List ℕ → Reg → List (List ℕ)
 named_item names shown t values r = if shows_register shown t (number r) && is_named names t r then register_item t r (slice_index values (number r)) ∷ [] else []
 
 -- thread t's named registers with their values
-abbrev pub thread_items : Names → Shown → ℕ → List ℕ → List (List ℕ)
+abbrev pub thread_items : TextNames → Shown → ℕ → List ℕ → List (List ℕ)
 thread_items names shown t values = flat_map (named_item names shown t values) all_registers
 
 -- the items of the first so many threads
-abbrev pub register_items : Names → Shown → List (List ℕ) → ℕ → List (List ℕ)
+abbrev pub register_items : TextNames → Shown → List (List ℕ) → ℕ → List (List ℕ)
 register_items names shown registers threads = flat_map (λ t. thread_items names shown t (slice_index_or registers t [])) (range_with_len 0 threads)
 
 -- a location with its value, where it is shown
-abbrev pub shown_item : Names → Shown → ℕ → ℕ → List (List ℕ)
+abbrev pub shown_item : TextNames → Shown → ℕ → ℕ → List (List ℕ)
 shown_item names shown l value = if shows_location shown l then location_item (slice_index_or names.locations l []) value ∷ [] else []
 
 -- the items of the first so many locations
-abbrev pub location_items : Names → Shown → List ℕ → ℕ → List (List ℕ)
+abbrev pub location_items : TextNames → Shown → List ℕ → ℕ → List (List ℕ)
 location_items names shown memory locations = flat_map (λ l. shown_item names shown l (slice_index memory l)) (range_with_len 0 locations)
 
 -- an outcome as it is written: of what is shown each named register by thread and register order and each location by number, joined by one space
-abbrev pub outcome_text : Names → Shown → Outcome → List ℕ
+abbrev pub outcome_text : TextNames → Shown → Outcome → List ℕ
 outcome_text names shown outcome =
     join_with_byte 32 (register_items names shown outcome.registers (length outcome.registers) ++ location_items names shown outcome.memory (length outcome.memory))

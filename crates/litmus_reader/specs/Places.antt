@@ -5,7 +5,7 @@ use Rattle.std.specs.Option.{option_map_or}
 use Rattle.tso_program.specs.declared.instruction.Reg.{Reg}
 use Rattle.litmus_syntax.specs.Views.{PlaceView, Location, Register, EntryView, CodeView, LoadImm, Copy, Load, StoreImm, Store, Xchg, Fence, CmpImm, CmpReg, Je, Jne, Jmp, CellView, BodyView, SignView, Atom, Const, Not, And, Or, Open, Close, EndingView}
 use Rattle.litmus_syntax.specs.Places.{same_place}
-use Rattle.litmus_reader.specs.Names.{Names, all_registers, in_order}
+use Rattle.litmus_reader.specs.Names.{TextNames, all_registers, in_order}
 
 -- what an instruction of thread t names
 abbrev pub code_places : ℕ → CodeView → List PlaceView
@@ -61,12 +61,12 @@ abbrev pub is_register : ℕ → Reg → PlaceView → Bool
 is_register t r p = same_place p (Register t r)
 
 -- the names that places give: the locations in the order of their first appearance, and of each thread the registers
-abbrev pub names_among : ℕ → List PlaceView → Names
+abbrev pub names_among : ℕ → List PlaceView → TextNames
 names_among threads ps = record {
   locations = in_order (filter_map location_name ps);
   registers = map (λ t. map (λ r. list_any (is_register t r) ps) all_registers) (range_with_len 0 threads);
 }
 
 -- the names of a text
-abbrev pub names_of : BodyView → EndingView → Names
+abbrev pub names_of : BodyView → EndingView → TextNames
 names_of body ending = names_among body.threads (places body ending)

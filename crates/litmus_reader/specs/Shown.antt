@@ -1,16 +1,18 @@
 -- What a litmus text asks to be shown: the registers and locations that its condition and its `locations` name.
-use Rattle.std.specs.Prelude.{◌≡◌, ◌↔◌, ◌⊎◌, ℕ, ◌<◌, Bool, true, false, List, [], ◌∷◌, Contains}
+use Rattle.std.specs.Prelude.{◌≡◌, ◌↔◌, ◌⊎◌, ℕ, ◌<◌, true, List, [], ◌∷◌, Contains}
 use Rattle.std.specs.Ordering.{nat_cmp}
 use Rattle.std.specs.FinSet as set
 use Rattle.tso_program.specs.declared.instruction.Reg.{Reg}
 use Rattle.tso_program.specs.Instructions.{number}
 use Rattle.tso_program.specs.declared.shown.Shown.{Shown}
-use Rattle.tso_program.specs.declared.shown.Shown.TheVariants.{All, Only}
+use Rattle.tso_program.specs.declared.shown.Shown.TheVariants.{All, Only, Truth}
+use Rattle.tso_program.specs.declared.shown.ShownKind.{ShownKind}
+use Rattle.tso_program.specs.declared.shown.ShownKind.TheVariants as kind
 use Rattle.tso_program.specs.declared.listing.Listing.{Listing}
 use Rattle.tso_program.specs.Shown.{Question, asked, shows_register, shows_location}
-use Rattle.conditions.specs.declared.atom.Atom.{Atom}
-use Rattle.conditions.specs.Tree.{Tree}
-use Rattle.conditions.specs.Named.{with_register, with_location, with_named, MentionsRegister, MentionsLocation}
+use Rattle.tso_program.specs.declared.atom.Atom.{Atom}
+use Rattle.tso_program.specs.Tree.{Tree}
+use Rattle.tso_program.specs.Named.{with_register, with_location, with_named, MentionsRegister, MentionsLocation}
 use Rattle.litmus_reader.specs.declared.litmus.Litmus.{Litmus}
 use Rattle.litmus_reader.specs.declared.observed.Observed.{Observed}
 use Rattle.litmus_reader.specs.declared.observed.Observed.TheVariants.{Location, Register}
@@ -29,14 +31,15 @@ with_places names (place ∷ places) = with_places (with_place names place) plac
 abbrev pub shown_by : Tree Atom → List Observed → Shown
 shown_by formula observed = Only (with_places (with_named set.empty formula) observed)
 
--- what is shown of outcomes: all, or of observed ones what the condition and `locations` name
-abbrev pub shown_as : {P : Type 0} → Litmus P → Bool → Shown
-shown_as litmus false = All
-shown_as litmus true = shown_by litmus.condition.formula litmus.observed
+-- what is shown of outcomes: all, what the condition and `locations` name, or whether the condition's formula is true
+abbrev pub shown_as : {P : Type 0} → Litmus P → ShownKind → Shown
+shown_as litmus kind.Whole = All
+shown_as litmus kind.Observed = shown_by litmus.condition.formula litmus.observed
+shown_as litmus kind.Condition = Truth litmus.condition.formula
 
 -- the program, with what is shown of its outcomes
-abbrev pub question_of : Litmus Listing → Bool → Question
-question_of litmus observed = asked litmus.program (shown_as litmus observed)
+abbrev pub question_of : Litmus Listing → ShownKind → Question
+question_of litmus what = asked litmus.program (shown_as litmus what)
 
 -- register r of thread t is shown exactly where the formula mentions it or it is an observed place
 abbrev pub ShowsNamedRegisters : Tree Atom → List Observed → Shown → Type 0

@@ -7,7 +7,7 @@ use Rattle.tso_program.specs.declared.limits.ProgramFault.{ProgramFault}
 use Rattle.tso_program.specs.Limits.{IsWithinLimits, IsWithinFencedLimits, first_fault, first_fenced_fault}
 use Rattle.text_tokens.specs.Tokens.{Tok}
 use Rattle.text_tokens.specs.Lexing.{Lexes}
-use Rattle.conditions.specs.Tree.{Tree}
+use Rattle.tso_program.specs.Tree.{Tree}
 use Rattle.conditions.specs.Grammar.{Spells, Sum}
 use Rattle.litmus_syntax.specs.Views.{PlaceView, BodyView, EndingView}
 use Rattle.litmus_syntax.specs.Grammar.{IsBody, IsEnding}

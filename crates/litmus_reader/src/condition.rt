@@ -71,7 +71,7 @@ pub(crate) fn read_formula(
     ensures { ReadsFormula signs.now.refusal (numbered_signs (byte_in names.now.locations) (map sign_at_view signs.now.signs.items)) result }
 {
     let numbered = numbered(alloc, names, signs.signs.as_slice())?;
-    match Formula::read(alloc, numbered.as_slice()) {
+    match conditions::read_formula(alloc, numbered.as_slice()) {
         Ok(formula) => match signs.refusal {
             None => Ok(formula),
             Some(refusal) => Err(fault_at(tokens, refusal)),

@@ -20,10 +20,10 @@ pub struct NameTable {
 }
 
 impl Model for NameTable {
-    ghost use Rattle.litmus_reader.specs.Names.{Names};
+    ghost use Rattle.litmus_reader.specs.Names.{TextNames};
     ghost use Rattle.litmus_reader.specs.Internal.Filling.{texts};
 
-    ghost Value = { Names };
+    ghost Value = { TextNames };
 
     ghost view = { λ t. record { locations = texts t.locations.keys; registers = t.registers.items } };
 }

@@ -1,12 +1,13 @@
 //! What a litmus text asks to be shown.
-ghost use Rattle.std.specs.Prelude.{◌≡◌, ◌≢◌};
+ghost use Rattle.std.specs.Prelude.{◌≡◌, ◌≢◌, IfOk};
 ghost use Rattle.tso_program.specs.declared.shown.Shown.TheVariants.{All};
 ghost use Rattle.litmus_reader.specs.Shown.{with_place, with_places, shown_as, shown_by, ShowsNamedRegisters, ShowsNamedLocations};
 
 use crate::litmus::Litmus;
 use crate::observed::Observed;
 use conditions::{Formula, with_location, with_register};
-use tso_program::{Names, Shown};
+use std::alloc::AllocError;
+use tso_program::{Names, Shown, ShownKind};
 
 fn with_place(names: Names, place: Observed) -> Names
     ensures { result ≡ with_place names place }
@@ -46,10 +47,15 @@ impl<P> Litmus<P> {
         shown_by(&self.condition.formula, self.observed.as_slice())
     }
 
-    /// What is shown of outcomes: all of them, or of observed ones what [`Litmus::shown`] gives. Takes no memory.
-    pub fn shown_as(&self, observed: bool) -> Shown
-        ensures { result ≡ shown_as self.now observed }
+    /// What is shown of outcomes: all of them, what [`Litmus::shown`] gives, or whether the condition's formula is
+    /// true.
+    pub fn shown_as(&self, kind: ShownKind) -> Result<Shown, AllocError>
+        ensures { IfOk result (λ shown. shown ≡ shown_as self.now kind) }
     {
-        if observed { self.shown() } else { Shown::All }
+        match kind {
+            ShownKind::Whole => Ok(Shown::All),
+            ShownKind::Observed => Ok(self.shown()),
+            ShownKind::Condition => Ok(Shown::Truth(self.condition.formula.copy()?)),
+        }
     }
 }

@@ -1,6 +1,6 @@
 -- What the contracts of these calls cite, handed on from the crates where it stands.
 pub use Rattle.canonical_text.specs.Canonical
-pub use Rattle.conditions.specs.Truth
+pub use Rattle.tso_program.specs.Truth
 pub use Rattle.cost_text.specs.CostTexts
 pub use Rattle.cost_text.specs.GivenCosts
 pub use Rattle.litmus_reader.specs.Outcomes

@@ -5,8 +5,8 @@
 #![tactic(auto)]
 
 pub use canonical_text::{
-    canonical_text_is_read, printed_parts_are_read, push_code, store_buffering_is_written,
-    write_litmus,
+    canonical_text_is_read, printed_parts_are_read, push_code, push_condition,
+    store_buffering_is_written, write_litmus,
 };
 pub use conditions::{Atom, Condition, Formula, Quantifier, holds};
 pub use cost_text::{CostTextFault, given_costs, read_costs};

@@ -1,9 +1,10 @@
 -- What is reported of a text, from what its parts are.
-use Rattle.std.proofs.Common.{◌≡◌, ◌∙◌, ℕ, Bool, List, Option, Some, None, ap, length, subst}
+use Rattle.std.proofs.Common.{◌≡◌, ◌∙◌, ℕ, List, Option, Some, None, ap, length, subst}
 use Rattle.std.specs.Prelude.{unwrap_or}
 use Rattle.std.proofs.lemmas.List.{length-replicate}
 use Rattle.std.proofs.lemmas.List.FromFn.{length-map-range_with_len}
 use Rattle.tso_program.specs.declared.listing.Listing.{Listing}
+use Rattle.tso_program.specs.declared.shown.ShownKind.{ShownKind}
 use Rattle.tso_program.specs.Listings.{gap_count}
 use Rattle.litmus_reader.specs.declared.litmus.Litmus.{Litmus}
 use Rattle.litmus_reader.specs.Texts.{IsLitmus}
@@ -25,9 +26,9 @@ one_each p None costs is = ap length is ∙ length-replicate (gap_count p.thread
 one_each p (Some text) costs is = ap length is.costs_are ∙ length-map-range_with_len (λ gap. unwrap_or (said_of is.entries gap) 1) 0 (gap_count p.threads)
 
 module _ (litmus : List ℕ) (costs : Option (List ℕ)) where
-  pub placed_text : (observed : Bool) (texts : PlacedText) (source : Litmus Listing) (gap_costs : List ℕ) (placed : Placed) → IsLitmus litmus source → AreGiven source.program costs gap_costs
-      → IsPlacement (question_of source observed) gap_costs placed → AreWrittenTexts source (shown_as source observed) placed texts → IsPlacedText litmus costs observed texts
-  placed_text observed texts source gap_costs placed of_text given is written = record {
+  pub placed_text : (kind : ShownKind) (texts : PlacedText) (source : Litmus Listing) (gap_costs : List ℕ) (placed : Placed) → IsLitmus litmus source → AreGiven source.program costs gap_costs
+      → IsPlacement (question_of source kind) gap_costs placed → AreWrittenTexts source (shown_as source kind) gap_costs placed texts → IsPlacedText litmus costs kind texts
+  placed_text kind texts source gap_costs placed of_text given is written = record {
     source = source;
     of_text = of_text;
     gap_costs = gap_costs;
@@ -37,13 +38,15 @@ module _ (litmus : List ℕ) (costs : Option (List ℕ)) where
     headline = is.headline;
     program = written.program;
     again = written.again litmus of_text;
-    line = subst (λ (cost : ℕ). texts.answer.items ≡ answer_line source.program (shown_as source observed) placed.set cost) is.cost written.line;
+    line = subst (λ (cost : ℕ). texts.answer.items ≡ answer_line source.program (shown_as source kind) placed.set cost) is.cost written.line;
     certificate = record {
       claimed = placed.certificate;
       of_text = record { spelled = written.certificate; within = is.proof.within };
       claims = is.same_set;
       valid = is.proof.valid;
     };
+    document = written.document;
+    set = written.set;
   }
 
   module _ (workers : ℕ) where

@@ -1,15 +1,17 @@
 -- What is placed in the program of a litmus text, by its texts.
-use Rattle.std.specs.Prelude.{◌≡◌, ℕ, Bool, List, Option}
+use Rattle.std.specs.Prelude.{◌≡◌, ℕ, List, Option}
 use Rattle.gap_sets.specs.Gaps.{SetOfGaps}
 use Rattle.gap_sets.specs.Order.{total}
 use Rattle.tso_program.specs.declared.listing.Listing.{Listing}
 use Rattle.tso_program.specs.declared.shown.Shown.{Shown}
+use Rattle.tso_program.specs.declared.shown.ShownKind.{ShownKind}
 use Rattle.tso_program.specs.Shown.{Question}
 use Rattle.tso_machine.specs.Outcomes.{Headline, IsTheAnswer}
 use Rattle.litmus_reader.specs.declared.litmus.Litmus.{Litmus}
 use Rattle.litmus_reader.specs.Texts.{IsLitmus, IsFencedLitmus}
 use Rattle.canonical_text.specs.Canonical.{canonical_text, litmus_fenced_at}
 use Rattle.cost_text.specs.GivenCosts.{AreGiven}
+use Rattle.documents.specs.Documents.{IsPlacedDocument}
 use Rattle.cert_forest.specs.Certificates.{Certificate}
 use Rattle.cert_forest.specs.Limits.{IsCertificate}
 use Rattle.cert_forest.specs.Texts.{certificate_text}
@@ -28,23 +30,28 @@ pub record IsCertificateOf (q : Question) (costs : List ℕ) (gaps : SetOfGaps) 
 
 -- What the texts tell: the litmus text stands for this program, its gaps have these costs, these gaps are the answer, so that
 -- the headline holds of them; the program's text is the canonical one with an MFENCE in each of them, and is read as that
--- program; the line is made of them and of their total, and the certificate is one of them.
-pub record IsPlacedText (litmus : List ℕ) (costs : Option (List ℕ)) (observed : Bool) (texts : PlacedText) : Type 0 where
+-- program; the line is made of them and of their total, the certificate is one of them, the document says the same of them, and
+-- the set has them.
+pub record IsPlacedText (litmus : List ℕ) (costs : Option (List ℕ)) (kind : ShownKind) (texts : PlacedText) : Type 0 where
   pub source : Litmus Listing
   pub of_text : IsLitmus litmus source
   pub gap_costs : List ℕ
   pub given : AreGiven source.program costs gap_costs
   pub gaps : SetOfGaps
-  pub answer : IsTheAnswer (question_of source observed) gap_costs gaps
-  pub headline : Headline (question_of source observed) gap_costs gaps
+  pub answer : IsTheAnswer (question_of source kind) gap_costs gaps
+  pub headline : Headline (question_of source kind) gap_costs gaps
   pub program : texts.program.items ≡ canonical_text (litmus_fenced_at gaps source)
   pub again : IsFencedLitmus texts.program.items (litmus_fenced_at gaps source)
-  pub line : texts.answer.items ≡ answer_line source.program (shown_as source observed) gaps (total gap_costs gaps)
-  pub certificate : IsCertificateOf (question_of source observed) gap_costs gaps texts.certificate.items
+  pub line : texts.answer.items ≡ answer_line source.program (shown_as source kind) gaps (total gap_costs gaps)
+  pub certificate : IsCertificateOf (question_of source kind) gap_costs gaps texts.certificate.items
+  pub document : IsPlacedDocument source (shown_as source kind) gap_costs gaps texts.program.items texts.document.items
+  pub set : texts.gaps ≡ gaps
 
 -- the texts of what is placed
-pub record AreWrittenTexts (source : Litmus Listing) (shown : Shown) (placed : Placed) (texts : PlacedText) : Type 0 where
+pub record AreWrittenTexts (source : Litmus Listing) (shown : Shown) (costs : List ℕ) (placed : Placed) (texts : PlacedText) : Type 0 where
   pub program : texts.program.items ≡ canonical_text (litmus_fenced_at placed.set source)
   pub again : (text : List ℕ) → IsLitmus text source → IsFencedLitmus texts.program.items (litmus_fenced_at placed.set source)
   pub line : texts.answer.items ≡ answer_line source.program shown placed.set placed.cost
   pub certificate : texts.certificate.items ≡ certificate_text placed.certificate
+  pub document : IsPlacedDocument source shown costs placed.set texts.program.items texts.document.items
+  pub set : texts.gaps ≡ placed.set

@@ -4,9 +4,11 @@
 mod fault;
 mod placing;
 mod reading;
+mod watched;
 mod writing;
 
 pub use fault::TextFault;
 pub use placing::{Found, place_gaps, place_text};
-pub use reading::{read_gap_costs, read_program};
+pub use reading::{read_gap_costs, read_program, shown_of};
+pub use watched::{Effort, report_ahead};
 pub use writing::PlacedText;

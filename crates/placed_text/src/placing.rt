@@ -8,15 +8,17 @@ ghost use Rattle.placed_text.specs.PlacedTexts.{IsPlacedText};
 ghost use Rattle.placed_text.specs.TextFaults.{HasNoPlacement, HasNoPlacedText};
 
 use crate::TextFault;
-use crate::reading::{read_gap_costs, read_program};
+use crate::reading::{read_gap_costs, read_program, shown_of};
+use crate::watched::{Effort, Watched, report_ahead, report_outcomes};
 use crate::writing::{PlacedText, write_placed};
 use cover_solver::{SolveFault, Solver, sequential};
 use fence_place::{PlaceFault, Placed, place};
 use gap_sets::Costs;
 use std::alloc::Global;
 use std::sync::Wait;
+use std::sync::atomic::AtomicU64;
 use std::thread::Threads;
-use tso_program::{Program, Shown};
+use tso_program::{Program, Shown, ShownKind};
 
 /// What is placed in a program, and the solver that was asked.
 #[derive(Drop)]
@@ -25,7 +27,7 @@ pub struct Found {
     pub solver: Solver,
 }
 
-/// Finds the best set of a program's gaps that serves, by a solver of its own.
+/// Finds the best set of a program's gaps that serves, by a solver of its own, and reports how far it is.
 pub fn place_gaps<R: Threads + Sync, W: Wait + Sync>(
     rt: &R,
     wait: &W,
@@ -33,23 +35,36 @@ pub fn place_gaps<R: Threads + Sync, W: Wait + Sync>(
     program: &Program,
     shown: &Shown,
     costs: &Costs,
-    workers: u8,
+    effort: Effort,
 ) -> Result<Found, TextFault>
     requires { length costs.now ≡ gap_count program.now.threads }
     ensures placed { IfOk result (λ found. IsPlacement (asked program.now shown.now) costs.now found.placed) }
     ensures solver { IfOk result (λ found. found.solver.question ≡ asked program.now shown.now) }
-    ensures workers { OnOk result (¬ AreTooFewOrMany workers) }
-    ensures fault { IfErr result (HasNoPlacement workers) }
+    ensures workers { OnOk result (¬ AreTooFewOrMany effort.workers) }
+    ensures fault { IfErr result (HasNoPlacement effort.workers) }
 {
+    let progress = report_ahead(alloc, program, effort.progress);
     let table = match sequential(alloc, program, shown) {
         Ok(table) => table,
         Err(SolveFault::NoRun) => return Err(TextFault::Place(PlaceFault::NotCertified)),
         Err(SolveFault::OutOfMemory) => return Err(TextFault::OutOfMemory),
     };
+    report_outcomes(alloc, progress, table.outcomes().len());
     let Ok(solver) = Solver::new(alloc, program, &table) else {
         return Err(TextFault::OutOfMemory);
     };
-    match place(rt, wait, alloc, &solver, &table, costs, workers) {
+    let workers = effort.workers;
+    let placed = {
+        let watched = Watched {
+            solver: &solver,
+            costs,
+            alloc,
+            effort: Effort { workers, progress },
+            asked: AtomicU64::new(0),
+        };
+        place(rt, wait, alloc, &watched, &table, costs, workers)
+    };
+    match placed {
         Ok(placed) => Ok(Found { placed, solver }),
         Err(PlaceFault::OutOfMemory) => Err(TextFault::OutOfMemory),
         Err(fault) => Err(TextFault::Place(fault)),
@@ -58,28 +73,28 @@ pub fn place_gaps<R: Threads + Sync, W: Wait + Sync>(
 
 /// Places fences in the program of a litmus text, where its gaps cost what a text of costs says, and 1
 /// each without one: the best set of gaps after which the program has its sequential outcomes and no
-/// others. If `observed`, only what the condition and `locations` name tells outcomes apart.
+/// others. What is shown of outcomes, by its kind, tells them apart.
 ///
 /// The litmus text is judged first, then the costs, then the number of workers. With `rt` workers start threads, and
-/// with `wait` they wait for one another ([`fence_place::place`]).
+/// with `wait` they wait for one another ([`fence_place::place`]). [`Effort`] says where it reports how far it is.
 pub fn place_text<R: Threads + Sync, W: Wait + Sync>(
     rt: &R,
     wait: &W,
     alloc: Global,
     litmus: &[u8],
     costs: Option<&[u8]>,
-    observed: bool,
-    workers: u8,
+    kind: ShownKind,
+    effort: Effort,
 ) -> Result<PlacedText, TextFault>
-    ensures placed { IfOk result (IsPlacedText litmus.now (option_map (λ text. text.now) costs.entry) observed) }
-    ensures workers { OnOk result (¬ AreTooFewOrMany workers) }
-    ensures fault { IfErr result (HasNoPlacedText litmus.now (option_map (λ text. text.now) costs.entry) workers) }
+    ensures placed { IfOk result (IsPlacedText litmus.now (option_map (λ text. text.now) costs.entry) kind) }
+    ensures workers { OnOk result (¬ AreTooFewOrMany effort.workers) }
+    ensures fault { IfErr result (HasNoPlacedText litmus.now (option_map (λ text. text.now) costs.entry) effort.workers) }
 {
     let source = read_program(alloc, litmus)?;
     let costs = read_gap_costs(alloc, costs, &source.program)?;
-    let shown = source.shown_as(observed);
-    let found = place_gaps(rt, wait, alloc, &source.program, &shown, &costs, workers)?;
-    match write_placed(alloc, &source, &shown, &found.placed) {
+    let shown = shown_of(&source, kind)?;
+    let found = place_gaps(rt, wait, alloc, &source.program, &shown, &costs, effort)?;
+    match write_placed(alloc, &source, &shown, &costs, &found.placed) {
         Ok(texts) => Ok(texts),
         Err(_) => Err(TextFault::OutOfMemory),
     }

@@ -1,5 +1,6 @@
 //! What the texts stand for.
 ghost use Rattle.std.specs.Prelude.{◌≡◌, IfErr, IfOk, option_map};
+ghost use Rattle.litmus_reader.specs.Shown.{shown_as};
 ghost use Rattle.litmus_reader.specs.Texts.{IsLitmus};
 ghost use Rattle.cost_text.specs.GivenCosts.{AreGiven};
 ghost use Rattle.placed_text.specs.TextFaults.{HasNoProgram, HasNoCosts};
@@ -8,7 +9,7 @@ use crate::TextFault;
 use gap_sets::Costs;
 use litmus_text::{CostTextFault, Litmus, ReadFault, given_costs, read_litmus};
 use std::alloc::Global;
-use tso_program::Program;
+use tso_program::{Program, Shown, ShownKind};
 
 /// What a litmus text stands for.
 pub fn read_program(alloc: Global, text: &[u8]) -> Result<Litmus<Program>, TextFault>
@@ -19,6 +20,17 @@ pub fn read_program(alloc: Global, text: &[u8]) -> Result<Litmus<Program>, TextF
         Ok(litmus) => Ok(litmus),
         Err(ReadFault::OutOfMemory) => Err(TextFault::OutOfMemory),
         Err(fault) => Err(TextFault::Read(fault)),
+    }
+}
+
+/// What is shown of outcomes.
+pub fn shown_of(litmus: &Litmus<Program>, kind: ShownKind) -> Result<Shown, TextFault>
+    ensures shown { IfOk result (λ shown. shown ≡ shown_as litmus.now kind) }
+    ensures refused { IfErr result (λ fault. fault ≡ TextFault.OutOfMemory) }
+{
+    match litmus.shown_as(kind) {
+        Ok(shown) => Ok(shown),
+        Err(_) => Err(TextFault::OutOfMemory),
     }
 }
 

@@ -4,7 +4,9 @@ ghost use Rattle.tso_program.specs.Fences.{first_missing};
 ghost use Rattle.placed_text.specs.PlacedTexts.{AreWrittenTexts};
 
 use cert_forest::write_cert;
+use documents::placed_document;
 use fence_place::Placed;
+use gap_sets::{Costs, GapSet};
 use litmus_text::{Litmus, write_litmus};
 use report::answer_line;
 use std::alloc::{AllocError, Global};
@@ -19,6 +21,10 @@ pub struct PlacedText {
     pub answer: Vec<u8>,
     /// The certificate of the answer.
     pub certificate: Vec<u8>,
+    /// What is said of the answer, as JSON.
+    pub document: Vec<u8>,
+    /// The gaps of the answer.
+    pub gaps: GapSet,
 }
 
 /// Writes what is placed.
@@ -26,19 +32,23 @@ pub(crate) fn write_placed(
     alloc: Global,
     litmus: &Litmus<Program>,
     shown: &Shown,
+    costs: &Costs,
     placed: &Placed,
 ) -> Result<PlacedText, AllocError>
     requires { first_missing litmus.now.program placed.now.set ≡ None }
-    ensures { IfOk result (AreWrittenTexts litmus.now shown.now placed.now) }
+    ensures { IfOk result (AreWrittenTexts litmus.now shown.now costs.now placed.now) }
 {
     let program = match write_litmus(alloc, litmus, &placed.set) {
         Ok(program) => program,
         Err(FenceFault::NoSuchGap(_)) => unreachable!(),
         Err(FenceFault::OutOfMemory) => return Err(AllocError),
     };
+    let document = placed_document(alloc, litmus, shown, costs, &placed.set, &program)?;
     Ok(PlacedText {
         program,
         answer: answer_line(alloc, &litmus.program, shown, placed.set, placed.cost)?,
         certificate: write_cert(alloc, &placed.certificate)?,
+        document,
+        gaps: placed.set,
     })
 }

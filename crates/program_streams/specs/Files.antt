@@ -1,7 +1,7 @@
 -- The bytes of a file by its name, where `-` is an input.
 use Rattle.std.specs.Prelude.{◌≡◌, ◌≢◌, ℕ, ◌+◌, ◌≤◌, List, Option, Some, None, codes, length}
 use Rattle.program_streams.specs.declared.fault.FileFault.{FileFault}
-use Rattle.program_streams.specs.Streams.{HoldsBytes, IsReadFault, TakesBytes}
+use Rattle.program_streams.specs.Streams.{HoldsBytes, IsReadFault, TakesBytes, TakesUpTo}
 
 -- the bytes are all that is held, where that is known, and no more than the limit
 abbrev pub AreWithin : ℕ → Option (List ℕ) → List ℕ → Type 0
@@ -24,6 +24,12 @@ pub record IsLongFile (limit : ℕ) (name : List ℕ) (input : Option (List ℕ)
 -- why that file isn't read
 abbrev pub IsFileFault : ℕ → List ℕ → Option (List ℕ) → (List ℕ → Option (List ℕ)) → FileFault → Type 0
 IsFileFault limit name input files = IsReadFault (IsLongFile limit name input files)
+
+-- What is read of the input where the file of this name is: no more than one byte past the limit where it is `-`, and nothing
+-- otherwise.
+pub record ReadsOfInput (limit : ℕ) (name : List ℕ) (old new : Option (List ℕ)) : Type 0 where
+  pub of_input : name ≡ codes "-" → TakesUpTo old new (limit + 1)
+  pub of_file : name ≢ codes "-" → new ≡ old
 
 -- the bytes of the file of a name that may be given, no more than the limit
 abbrev pub AreOfFileIfNamed : ℕ → Option (List ℕ) → (List ℕ → Option (List ℕ)) → Option (List ℕ) → Type 0

@@ -16,6 +16,15 @@ pub enum FileFault {
     TooLong,
 }
 
+/// A file that could not be read, where `-` is the input.
+#[derive(Clone, Copy, Debug)]
+pub struct UnreadFile<'a> {
+    pub name: &'a str,
+    /// The most bytes that are read of it.
+    pub limit: usize,
+    pub fault: FileFault,
+}
+
 /// The line of why a file could not be used.
 pub fn file_line(alloc: Global, fault: FileFault) -> Result<Vec<u8>, AllocError>
     ensures { IfOk result (λ line. line.items ≡ file_line fault) }

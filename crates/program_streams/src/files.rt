@@ -2,18 +2,31 @@
 
 ghost use Rattle.std.specs.Prelude.{◌≡◌, ◌+◌, ◌<◌, ◌^◌, ℕ, List, Option, None, IfOk, IfErr, OnOk, option_map};
 ghost use Rattle.program_streams.specs.Streams.{HoldsBytes, IsReadFault};
-ghost use Rattle.program_streams.specs.Files.{AreWithin, IsTooLong, AreOfFile, IsFileFault, AreOfFileIfNamed, IsNamedFileFault, KeepOthers};
+ghost use Rattle.program_streams.specs.Files.{AreWithin, IsTooLong, AreOfFile, IsFileFault, AreOfFileIfNamed, IsNamedFileFault, KeepOthers, ReadsOfInput};
 
 use crate::fault::FileFault;
 use crate::streams::read_up_to;
 use std::alloc::Global;
 use std::fs;
 use std::fs::File;
-use std::io::Read;
+use std::io::{ErrorKind, Read};
 use std::rt::Files;
 
 /// The most bytes of a litmus file, of a cost file, and of a command line that is read from the input.
 pub const TEXT_LIMIT: usize = 1_048_576;
+
+/// What stands in the way of reading a file, as far as the system says.
+#[derive(Clone, Copy, PartialEq, Eq, Debug)]
+pub enum Obstacle {
+    /// There is no such file.
+    Missing,
+    /// The user may not read it.
+    Forbidden,
+    /// It is a directory.
+    Directory,
+    /// Nothing that is known.
+    Unknown,
+}
 
 /// Where files are found by their names.
 pub trait FileStore {
@@ -26,6 +39,9 @@ pub trait FileStore {
         requires { limit + 1 < 2 ^ 64 }
         ensures whole { IfOk result (λ bytes. AreWithin limit (held self.now name.now) bytes.items) }
         ensures err { IfErr result (IsReadFault (IsTooLong limit (held self.now name.now))) };
+
+    /// What stands in the way of reading a file, for a message: by now that may be something else than when it was read.
+    fn obstacle(&self, name: &str) -> Obstacle;
 }
 
 /// Where files are written by their names, too.
@@ -62,6 +78,33 @@ impl<F: Files> FileStore for SystemFiles<'_, F> {
             Err(_) => Err(FileFault::Read),
         }
     }
+
+    fn obstacle(&self, name: &str) -> Obstacle {
+        match fs::metadata(self.files, name) {
+            Ok(found) if found.is_dir() => Obstacle::Directory,
+            Ok(found) if found.is_file() => obstacle_at(self.files, name),
+            Ok(_) => Obstacle::Unknown,
+            Err(error) => obstacle_of(error.kind()),
+        }
+    }
+}
+
+/// What stands in the way of opening a file that is there, and is no pipe: opening one may wait.
+fn obstacle_at<F: Files>(files: &F, name: &str) -> Obstacle {
+    match File::open(files, name) {
+        Ok(_) => Obstacle::Unknown,
+        Err(error) => obstacle_of(error.kind()),
+    }
+}
+
+/// What an error says.
+fn obstacle_of(kind: ErrorKind) -> Obstacle {
+    match kind {
+        ErrorKind::NotFound | ErrorKind::NotADirectory => Obstacle::Missing,
+        ErrorKind::PermissionDenied => Obstacle::Forbidden,
+        ErrorKind::IsADirectory => Obstacle::Directory,
+        _ => Obstacle::Unknown,
+    }
 }
 
 impl<F: Files> WritableFileStore for SystemFiles<'_, F> {
@@ -84,6 +127,7 @@ pub fn named_bytes<S: FileStore, R: Read>(
     requires { limit + 1 < 2 ^ 64 }
     ensures whole { IfOk result (λ bytes. AreOfFile limit name.now (R.remaining input.old) (S.held files.now) bytes.items) }
     ensures err { IfErr result (IsFileFault limit name.now (R.remaining input.old) (S.held files.now)) }
+    ensures read { ReadsOfInput limit name.now (R.remaining input.old) (R.remaining input.new) }
 {
     if name == "-" {
         read_up_to(alloc, input, limit)

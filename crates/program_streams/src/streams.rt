@@ -79,6 +79,7 @@ pub fn read_up_to<R: Read>(alloc: Global, input: &mut R, limit: usize) -> Result
     ensures whole { IfOk result (λ bytes. HoldsBytes (R.remaining input.old) bytes.items) }
     ensures within { IfOk result (λ bytes. vec_len bytes ≤ limit) }
     ensures err { IfErr result (IsReadFault (TakesBytes (R.remaining input.old) (R.remaining input.new) (limit + 1))) }
+    ensures taken { TakesUpTo (R.remaining input.old) (R.remaining input.new) (limit + 1) }
 {
     let mut bytes = Vec::new(alloc);
     read_rest_up_to(input, &mut bytes, limit)?;
@@ -96,6 +97,7 @@ pub fn read_line_up_to<R: Read>(
     ensures line { IfOk result (λ line. TakesLine (R.remaining input.old) (R.remaining input.new) line.items) }
     ensures within { IfOk result (λ line. vec_len line ≤ limit) }
     ensures err { IfErr result (IsReadFault (TakesOfLine (R.remaining input.old) (R.remaining input.new) (limit + 1))) }
+    ensures taken { TakesUpTo (R.remaining input.old) (R.remaining input.new) (limit + 1) }
 {
     let mut line = Vec::new(alloc);
     let mut byte = [0u8; 1];

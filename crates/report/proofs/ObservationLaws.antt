@@ -6,9 +6,9 @@ use Rattle.std.proofs.lemmas.Bool.{cases_Bool}
 use Rattle.std.proofs.lemmas.List.Folds.{Any-from_list_any, list_any-from_Any, list_any_at, list_any_none, list_all_at}
 use Rattle.std.proofs.lemmas.List.Sums.{AllPass-from_list_all, list_all-from_AllPass}
 use Rattle.tso_program.specs.declared.outcome.Outcome.{Outcome}
-use Rattle.conditions.specs.declared.atom.Atom.{Atom}
-use Rattle.conditions.specs.Tree.{Tree}
-use Rattle.conditions.specs.Truth.{truth}
+use Rattle.tso_program.specs.declared.atom.Atom.{Atom}
+use Rattle.tso_program.specs.Tree.{Tree}
+use Rattle.tso_program.specs.Truth.{truth}
 use Rattle.report.specs.Observations.{some_meets, all_meet, frequency}
 use Rattle.report.specs.Laws.{ObservationsAreTold, Meets, FailsFormula}
 

@@ -5,8 +5,10 @@ use Rattle.gap_sets.specs.Gaps.{SetOfGaps}
 use Rattle.tso_program.specs.declared.listing.Listing.{Listing}
 use Rattle.tso_program.specs.declared.outcome.Outcome.{Outcome}
 use Rattle.tso_program.specs.declared.shown.Shown.{Shown}
-use Rattle.tso_program.specs.declared.shown.Shown.TheVariants.{All, Only}
-use Rattle.litmus_reader.specs.Names.{Names}
+use Rattle.tso_program.specs.declared.shown.Shown.TheVariants.{All, Only, Truth}
+use Rattle.tso_machine.specs.declared.label.Label.{Label}
+use Rattle.tso_machine.specs.RunTexts.{run_text}
+use Rattle.litmus_reader.specs.Names.{TextNames}
 use Rattle.litmus_reader.specs.Outcomes.{outcome_text}
 use Rattle.report.specs.Places.{gap_text, gaps_text}
 
@@ -15,7 +17,11 @@ abbrev pub after_space : List ℕ → List ℕ
 after_space [] = []
 after_space (b ∷ bs) = 32 ∷ b ∷ bs
 
-abbrev pub outcome_line : Names → Shown → Outcome → List ℕ
+-- the labels of a run
+abbrev pub labels_line : List Label → List ℕ
+labels_line labels = codes "run " ++ run_text labels ++ 10 ∷ []
+
+abbrev pub outcome_line : TextNames → Shown → Outcome → List ℕ
 outcome_line names shown outcome = codes "outcome:" ++ after_space (outcome_text names shown outcome) ++ 10 ∷ []
 
 -- the gaps by their places, ascending
@@ -26,14 +32,15 @@ passed_line p gaps = codes "passed" ++ gaps_text p.threads gaps ++ 10 ∷ []
 abbrev pub without_line : Listing → ℕ → List ℕ
 without_line p gap = codes "without" ++ gap_text p.threads gap ++ 10 ∷ []
 
--- what says that not all is shown
-abbrev pub observed : Shown → List ℕ
-observed All = []
-observed (Only names) = codes "observed "
+-- what says that not all is shown: values that are named, or the truth of the condition's formula
+abbrev pub shown_word : Shown → List ℕ
+shown_word All = []
+shown_word (Only names) = codes "observed "
+shown_word (Truth f) = codes "condition "
 
 -- a set of gaps by their places, ascending, and its cost, after a word that says what the set is
 abbrev pub set_line : List ℕ → Listing → Shown → SetOfGaps → ℕ → List ℕ
-set_line word p shown gaps cost = word ++ 32 ∷ observed shown ++ codes "cost " ++ decimal cost ++ codes " set" ++ gaps_text p.threads gaps ++ 10 ∷ []
+set_line word p shown gaps cost = word ++ 32 ∷ shown_word shown ++ codes "cost " ++ decimal cost ++ codes " set" ++ gaps_text p.threads gaps ++ 10 ∷ []
 
 -- the set that is the answer
 abbrev pub answer_line : Listing → Shown → SetOfGaps → ℕ → List ℕ

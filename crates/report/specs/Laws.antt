@@ -1,10 +1,10 @@
 -- What the observations say, outcome by outcome.
 use Rattle.std.specs.Prelude.{◌≡◌, ◌↔◌, true, false, List, [], codes, All, Any}
 use Rattle.tso_program.specs.declared.outcome.Outcome.{Outcome}
-use Rattle.conditions.specs.declared.atom.Atom.{Atom}
+use Rattle.tso_program.specs.declared.atom.Atom.{Atom}
 use Rattle.conditions.specs.declared.condition.Quantifier.TheVariants.{Exists, NotExists, Forall}
-use Rattle.conditions.specs.Tree.{Tree}
-use Rattle.conditions.specs.Truth.{truth}
+use Rattle.tso_program.specs.Tree.{Tree}
+use Rattle.tso_program.specs.Truth.{truth}
 use Rattle.report.specs.Observations.{frequency, is_true_of}
 
 -- an outcome that meets the formula, and one that does not

@@ -4,12 +4,12 @@
 use Rattle.std.specs.Prelude.{ℕ, Bool, List, [], ◌∷◌, ◌++◌, codes, not, if◌then◌else◌}
 use Rattle.std.specs.List.{list_all, list_any}
 use Rattle.tso_program.specs.declared.outcome.Outcome.{Outcome}
-use Rattle.conditions.specs.declared.atom.Atom.{Atom}
+use Rattle.tso_program.specs.declared.atom.Atom.{Atom}
 use Rattle.conditions.specs.declared.condition.Condition.{Condition}
 use Rattle.conditions.specs.declared.condition.Quantifier.{Quantifier}
 use Rattle.conditions.specs.declared.condition.Quantifier.TheVariants.{Exists, NotExists, Forall}
-use Rattle.conditions.specs.Tree.{Tree}
-use Rattle.conditions.specs.Truth.{truth}
+use Rattle.tso_program.specs.Tree.{Tree}
+use Rattle.tso_program.specs.Truth.{truth}
 
 -- whether some outcome meets the formula; whether all do
 abbrev pub some_meets : Tree Atom → List Outcome → Bool

@@ -21,8 +21,8 @@ fn all_meet(condition: &Condition, outcomes: &[Outcome]) -> bool
     outcomes.iter().all(|outcome| holds(condition, outcome))
 }
 
-/// How often the condition's formula is met.
-fn frequency(condition: &Condition, outcomes: &[Outcome]) -> &'static str
+/// How often the condition's formula is met: `Never`, `Sometimes` or `Always`. Of no outcomes it is `Never`.
+pub fn frequency(condition: &Condition, outcomes: &[Outcome]) -> &'static str
     ensures { result.now ≡ frequency condition.now.formula outcomes.now }
 {
     if !some_meets(condition, outcomes) {
@@ -34,8 +34,9 @@ fn frequency(condition: &Condition, outcomes: &[Outcome]) -> &'static str
     }
 }
 
-/// Whether the condition holds of the outcomes.
-fn is_true_of(condition: &Condition, outcomes: &[Outcome]) -> bool
+/// Whether the condition holds of the outcomes: `exists` where some outcome meets the formula, `~exists` where none does,
+/// `forall` where all do.
+pub fn is_true_of(condition: &Condition, outcomes: &[Outcome]) -> bool
     ensures { result ≡ is_true_of condition.now.quantifier condition.now.formula outcomes.now }
 {
     match condition.quantifier {

@@ -62,11 +62,16 @@ fn visit_of(visits: &[Visit], event: Event) -> Option<usize> {
     None
 }
 
-/// The edges of a shortest cycle through an event; none where there is no such cycle.
-fn cycle_through(alloc: Global, edges: &[Edge], event: Event) -> Result<Vec<Edge>, AllocError> {
-    let visits = visits_from(alloc, edges, event)?;
-    let mut cycle = Vec::new(alloc);
-    let mut last = visit_of(&visits, event);
+/// The edges of a shortest path between two events, in its order; none where there is no path.
+fn shortest_path(
+    alloc: Global,
+    edges: &[Edge],
+    from: Event,
+    to: Event,
+) -> Result<Vec<Edge>, AllocError> {
+    let visits = visits_from(alloc, edges, from)?;
+    let mut path = Vec::new(alloc);
+    let mut last = visit_of(&visits, to);
     for _ in 0..edges.len() {
         let Some(number) = last else {
             break;
@@ -74,24 +79,78 @@ fn cycle_through(alloc: Global, edges: &[Edge], event: Event) -> Result<Vec<Edge
         let Some(visit) = visits.get(number).copied() else {
             break;
         };
-        cycle.push(visit.edge)?;
+        path.push(visit.edge)?;
         last = visit.before;
     }
-    Ok(cycle)
+    path.as_mut_slice().reverse();
+    Ok(path)
 }
 
-/// The edges of a shortest cycle; none where there is no cycle.
-pub(crate) fn shortest_cycle(
+/// The edges of a shortest cycle, from the first of its accesses on; none where there is no cycle.
+fn shortest_cycle(
     alloc: Global,
     edges: &[Edge],
     accesses: &[Access],
 ) -> Result<Vec<Edge>, AllocError> {
     let mut shortest = Vec::new(alloc);
     for access in accesses {
-        let cycle = cycle_through(alloc, edges, Event::Access(access.step))?;
+        let event = Event::Access(access.step);
+        let cycle = shortest_path(alloc, edges, event, event)?;
         if shortest.is_empty() || (!cycle.is_empty() && cycle.len() < shortest.len()) {
             shortest = cycle;
         }
     }
     Ok(shortest)
+}
+
+/// The place in a list of edges where the first of their accesses has its edge.
+fn first_access(edges: &[Edge]) -> usize {
+    let mut first = 0;
+    let mut earliest = usize::MAX;
+    for (place, edge) in edges.iter().enumerate() {
+        if let Event::Access(step) = edge.from {
+            if step < earliest {
+                first = place;
+                earliest = step;
+            }
+        }
+    }
+    first
+}
+
+/// The edges of a shortest cycle over an edge, from the first of its accesses on; none where there is no cycle over it.
+fn cycle_over(alloc: Global, edges: &[Edge], over: Edge) -> Result<Vec<Edge>, AllocError> {
+    let mut cycle = shortest_path(alloc, edges, over.to, over.from)?;
+    if !cycle.is_empty() {
+        cycle.push(over)?;
+        let first = first_access(&cycle);
+        if first < cycle.len() {
+            cycle.as_mut_slice().rotate_left(first);
+        }
+    }
+    Ok(cycle)
+}
+
+/// The edges of a cycle that sequential consistency forbids, as it is walked from the first of its accesses on: a
+/// shortest one. Of several it is one over the edge that is given, if there is such a cycle. None where there is no
+/// cycle.
+pub(crate) fn forbidden_cycle(
+    alloc: Global,
+    edges: &[Edge],
+    accesses: &[Access],
+    over: Option<Edge>,
+) -> Result<Vec<Edge>, AllocError> {
+    let shortest = shortest_cycle(alloc, edges, accesses)?;
+    let Some(over) = over else {
+        return Ok(shortest);
+    };
+    if shortest.contains(&over) {
+        return Ok(shortest);
+    }
+    let other = cycle_over(alloc, edges, over)?;
+    if !other.is_empty() && other.len() == shortest.len() {
+        Ok(other)
+    } else {
+        Ok(shortest)
+    }
 }

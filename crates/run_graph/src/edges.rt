@@ -5,7 +5,7 @@ use std::alloc::{AllocError, Global};
 
 /// The relation of which an edge is.
 #[derive(Clone, Copy, PartialEq, Eq, Debug)]
-pub(crate) enum Relation {
+pub enum Relation {
     ProgramOrder,
     ReadsFrom,
     /// The order in which the writes of a location reach memory.
@@ -15,8 +15,8 @@ pub(crate) enum Relation {
 }
 
 impl Relation {
-    /// The short name that the graph has for it.
-    pub(crate) fn name(self) -> &'static str {
+    /// Its short name.
+    pub fn name(self) -> &'static str {
         match self {
             Relation::ProgramOrder => "po",
             Relation::ReadsFrom => "rf",
@@ -26,11 +26,12 @@ impl Relation {
     }
 }
 
+/// A pair of a relation.
 #[derive(Clone, Copy, PartialEq, Eq, Debug)]
-pub(crate) struct Edge {
-    pub(crate) from: Event,
-    pub(crate) to: Event,
-    pub(crate) relation: Relation,
+pub struct Edge {
+    pub from: Event,
+    pub to: Event,
+    pub relation: Relation,
 }
 
 /// The last access of the same thread before an access.
@@ -91,7 +92,8 @@ fn next_write(edges: &[Edge], write: Event) -> Option<Event> {
     None
 }
 
-/// The edge from a read to the write after the one that it reads from, which an XCHG is itself.
+/// The edge from a read to the write after the one that it reads from. An XCHG that reads the write just before its own
+/// has none: that edge would lead to itself.
 fn from_read(edges: &[Edge], access: &Access) -> Option<Edge> {
     let from = Event::Access(access.step);
     let to = next_write(edges, access.source?)?;
@@ -123,4 +125,30 @@ pub(crate) fn edges_of(alloc: Global, execution: &Execution) -> Result<Vec<Edge>
     push_coherence(&mut edges, execution)?;
     push_from_reads(&mut edges, &execution.accesses)?;
     Ok(edges)
+}
+
+/// The edge of program order that leads to an event.
+fn order_into(edges: &[Edge], to: Event) -> Option<Edge> {
+    for edge in edges {
+        if edge.relation == Relation::ProgramOrder && edge.to == to {
+            return Some(*edge);
+        }
+    }
+    None
+}
+
+/// The edge of program order that leads over the gap before an instruction of a thread, if there is one.
+pub(crate) fn edge_over(
+    edges: &[Edge],
+    accesses: &[Access],
+    thread: u8,
+    instruction: u8,
+) -> Option<Edge> {
+    for access in accesses {
+        if access.thread == thread && access.instruction >= instruction {
+            let to = Event::Access(access.step);
+            return order_into(edges, to);
+        }
+    }
+    None
 }

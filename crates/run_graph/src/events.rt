@@ -6,9 +6,9 @@ use std::alloc::{AllocError, Global};
 use tso_machine::Step;
 use tso_program::{Action, Program};
 
-/// A node of the graph.
+/// An event of a candidate execution.
 #[derive(Clone, Copy, PartialEq, Eq, Debug)]
-pub(crate) enum Event {
+pub enum Event {
     /// The initial write of a location.
     Initial(usize),
     /// The access of a step, by the step's number.
@@ -20,6 +20,8 @@ pub(crate) enum Event {
 pub(crate) struct Access {
     pub(crate) step: usize,
     pub(crate) thread: u8,
+    /// The number of the instruction in its thread.
+    pub(crate) instruction: u8,
     /// The instruction as it is written, what it reads and what it writes.
     pub(crate) text: Vec<u8>,
     /// The write that it reads from, if it reads.
@@ -155,10 +157,11 @@ impl Execution {
     fn add_access(
         &mut self,
         number: usize,
-        thread: u8,
+        step: &Step,
         effect: Effect,
         text: Vec<u8>,
     ) -> Result<(), AllocError> {
+        let thread = step.label.thread();
         let location = effect.location;
         let source = match effect.read {
             Some(_) => Some(self.source(thread, location)),
@@ -167,6 +170,7 @@ impl Execution {
         self.accesses.push(Access {
             step: number,
             thread,
+            instruction: step.before.local.place,
             text,
             source,
         })?;
@@ -191,7 +195,7 @@ impl Execution {
         let thread = step.label.thread();
         if let Some(effect) = effect_of(&litmus.program, step) {
             let text = access_text(alloc, litmus, step, effect)?;
-            self.add_access(number, thread, effect, text)?;
+            self.add_access(number, step, effect, text)?;
         }
         if written(&litmus.program, step).is_some() {
             if let Some(store) = self.oldest_waiting(thread) {

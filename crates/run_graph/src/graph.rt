@@ -1,8 +1,8 @@
 //! Graphs in Graphviz's language.
 
-use crate::cycle::shortest_cycle;
-use crate::edges::{Edge, Relation, edges_of};
-use crate::events::{Access, Event, Execution, execution_of};
+use crate::candidate::{Candidate, candidate_of};
+use crate::edges::{Edge, Relation};
+use crate::events::{Access, Event};
 use litmus_text::{Litmus, NameTable, location_name};
 use run_table::push_value;
 use std::alloc::{AllocError, Global};
@@ -176,35 +176,40 @@ impl RunGraph {
         &mut self,
         alloc: Global,
         litmus: &Litmus<Program>,
-        execution: &Execution,
+        candidate: &Candidate,
     ) -> Result<(), AllocError> {
-        let edges = edges_of(alloc, execution)?;
-        let cycle = shortest_cycle(alloc, &edges, &execution.accesses)?;
+        let Candidate {
+            execution,
+            edges,
+            cycle,
+        } = candidate;
         let run = self.runs;
-        push_initial_writes(alloc, &mut self.text, litmus, run, &edges)?;
+        push_initial_writes(alloc, &mut self.text, litmus, run, edges)?;
         push_threads(alloc, &mut self.text, litmus, run, &execution.accesses)?;
-        push_edges(alloc, &mut self.text, &litmus.names, run, &edges, &cycle)
+        push_edges(alloc, &mut self.text, &litmus.names, run, edges, cycle)
     }
 
     /// Adds the candidate execution of a run of a litmus text's program, under a title: an event for each access of a
     /// step, with the instruction as it is written and what it reads and writes, in a cluster for each thread; the
     /// initial writes that are read or overwritten; and the edges. The writes of a location are in the order in which
     /// they reach memory, and a read reads from the newest write to its location that waits in its thread's buffer, or
-    /// else from the last one in memory. XCHG is one event. The edges of a shortest cycle, if there is one, are red.
+    /// else from the last one in memory. XCHG is one event. The edges of the cycle that
+    /// [`candidate_of`](crate::candidate_of) finds, if there is one, are red.
     pub fn push_run(
         &mut self,
         alloc: Global,
         litmus: &Litmus<Program>,
         title: &[u8],
         steps: &[Step],
+        gap: Option<u8>,
     ) -> Result<(), AllocError> {
         let run = self.runs;
         let opening = format!(in alloc; "  subgraph cluster_run{run} {{\n    label=")?;
         self.text.extend_from_slice(opening.as_bytes())?;
         push_quoted(&mut self.text, title)?;
         self.text.extend_from_slice(b";\n")?;
-        let execution = execution_of(alloc, litmus, steps)?;
-        self.push_execution(alloc, litmus, &execution)?;
+        let candidate = candidate_of(alloc, litmus, steps, gap)?;
+        self.push_execution(alloc, litmus, &candidate)?;
         self.text.extend_from_slice(b"  }\n")?;
         self.runs = self.runs.saturating_add(1);
         Ok(())

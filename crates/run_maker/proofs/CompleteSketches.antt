@@ -1,18 +1,23 @@
 -- A complete sketch without a cycle is a consistent candidate: the sources are those that are chosen, and an order of the accesses
 -- gives the ranks.
-use Rattle.std.proofs.Common.{◌≡◌, ◌≢◌, ℕ, suc, ◌<◌, ◌≤◌, List, [], Some, IsSome, Contains, map, length, refl, sym, ap, ◌∙◌, subst, append-nil, inl, inr, arith}
-use Rattle.std.specs.Prelude.{slice_index}
+use Rattle.std.proofs.Common.{◌≡◌, ◌≢◌, ℕ, suc, ◌<◌, ◌≤◌, List, [], Option, Some, IsSome, Contains, map, length, refl, sym, ap, ◌∙◌, subst, append-nil, inl, inr, arith}
+use Rattle.std.specs.Prelude.{◌==◌, slice_index, slice_get}
 use Rattle.std.specs.List.{range_with_len}
 use Rattle.std.proofs.lemmas.Bool.{cases_lt}
 use Rattle.std.proofs.lemmas.List.FromFn.{length-map-range_with_len, get_or-map-range_with_len}
-use Rattle.std.proofs.lemmas.Option.{same_Some, slice_get_within}
+use Rattle.std.proofs.lemmas.Option.{same_Some, slice_get_within, slice_get-get_or, slice_get_past}
 use Rattle.tso_program.specs.declared.listing.Listing.{Listing}
 use Rattle.tso_program.specs.declared.outcome.Outcome.{Outcome}
 use Rattle.tso_program.specs.declared.shown.Shown.{Shown}
-use Rattle.tso_program.specs.declared.shown.Shown.TheVariants.{All}
-use Rattle.tso_program.specs.Shown.{shown_value, asked}
+use Rattle.tso_program.specs.declared.shown.Shown.TheVariants.{All, Only, Truth}
+use Rattle.tso_program.specs.Shown.{shown_value, show_memory, shown_values, show, asked}
+use Rattle.tso_program.specs.declared.atom.Atom.{Atom}
+use Rattle.tso_program.specs.declared.atom.Atom.TheVariants as atom
+use Rattle.tso_program.specs.Truth.{truth, is_true_at, is_value}
+use Rattle.tso_program.proofs.Kept.{memory_long, value_at as kept_value}
+use Rattle.tso_program.proofs.KnownTruths.{all_known}
 use Rattle.tso_program.specs.Listings.{action, start_of, code_of}
-use Rattle.tso_machine.specs.Machine.{Mode, Sequential, Fenced, IsRun}
+use Rattle.tso_machine.specs.Machine.{Machine, SequentialMachine, StoreBufferMachine, IsRun}
 use Rattle.candidate_executions.specs.declared.access.Access.{Access}
 use Rattle.candidate_executions.specs.declared.event.Event.{Event}
 use Rattle.candidate_executions.specs.declared.event.Event.TheVariants.{Initial, Access as At}
@@ -21,7 +26,7 @@ use Rattle.candidate_executions.specs.declared.event.Kind.TheVariants as union
 use Rattle.candidate_executions.specs.Traces.{fenced_gaps}
 use Rattle.candidate_executions.specs.Candidates.{Candidate, Writes, IsCandidate, EndsWith, HasOutcome, IsAccess}
 use Rattle.candidate_executions.specs.Consistency.{IsOfMode, Relates, Edge, IsAcyclic, IsConsistent}
-use Rattle.candidate_executions.specs.Sketches.{Completes, IsBefore, KnownRelates, KnownFromReads, MayBeLast, IsPair, KnownEdgeOfMode, MustEndAs, given_to}
+use Rattle.candidate_executions.specs.Sketches.{Completes, IsBefore, KnownRelates, KnownFromReads, MayBeLast, EndsInValues, KnownAtom, EndsAs, IsPair, KnownEdgeOfMode, MustEndAs, given_to}
 use Rattle.candidate_executions.specs.Orders.{followed_union, labels_along, IsOrder}
 use Rattle.candidate_executions.specs.RunCandidates.{IsCandidateOf}
 use Rattle.candidate_executions.proofs.Orders.AcyclicIsOrdered.{In}
@@ -45,15 +50,15 @@ use Rattle.run_maker.specs.Internal.Orders.{IsKnownOrder}
 use Rattle.exec_axioms.proofs.Completeness.{first_there, second_there}
 use Rattle.run_maker.proofs.PlacesInOrder.{place, place_before, place_same, chosen, chosen_is}
 
-consistent_by : (p : Listing) (m : Mode) (c : Candidate) → ((kind : Kind) → IsOfMode m kind → IsAcyclic (Edge p m c kind)) → IsConsistent p m c
-consistent_by p Sequential c each = each union.Sequential tt
-consistent_by p (Fenced gaps) c each = (each union.Location tt, each union.Global tt)
+consistent_by : (p : Listing) (m : Machine) (c : Candidate) → ((kind : Kind) → IsOfMode m kind → IsAcyclic (Edge p m c kind)) → IsConsistent p m c
+consistent_by p SequentialMachine c each = each union.Sequential tt
+consistent_by p (StoreBufferMachine gaps) c each = (each union.Location tt, each union.Global tt)
 
 module _ (s : ProgramSketch) (lawful : IsLawful s) (whole : IsComplete s) (acyclic : HasNoCycle s) (order : List Event) (is : IsKnownOrder s order) where
   abbrev p : Listing
   p = s.program
 
-  abbrev mode : Mode
+  abbrev mode : Machine
   mode = mode_in s
 
   abbrev R : Event → Event → Type 0
@@ -214,13 +219,41 @@ module _ (s : ProgramSketch) (lawful : IsLawful s) (whole : IsComplete s) (acycl
     | inr more ↦ more
   ]
 
-  pub must_end : (shown : Shown) → MustEndAs (asked s.program shown) (mode_in s) s.chosen end
-  must_end shown = record {
-    whole = whole.whole;
+  -- so a write that may be the last writes the location's value at the end
+  last_value : (l v : ℕ) (e : Event) → l < length p.memory → W e l v → MayBeLast p mode s.chosen l e → v ≡ slice_index end.memory l
+  last_value l v e h a may = one_end p mode become is_candidate l v (slice_index end.memory l) (e, a, is_last l v e a may) (has_outcome.memory l h)
+
+  shown_at : (shown : Shown) (l : ℕ) → l < length p.memory → slice_index (show_memory shown end.memory) l ≡ shown_value shown l (slice_index end.memory l)
+  shown_at shown l h = let long = has_outcome.long in kept_value shown end.memory l (omega arith)
+
+  values_end : (shown : Shown) → EndsInValues p mode s.chosen shown (shown_values shown end)
+  values_end shown = record {
     registers = refl;
-    long = has_outcome.long;
-    memory = λ l v e h a may. ap (shown_value shown l) (one_end p mode become is_candidate l v (slice_index end.memory l) (e, a, is_last l v e a may) (has_outcome.memory l h));
+    long = memory_long shown end.memory ∙ has_outcome.long;
+    memory = λ l v e h a may. (let long = has_outcome.long in
+        ap (shown_value shown l) (last_value l v e h a may) ∙ sym (shown_at shown l h));
   }
+
+  -- an atom that is true at the end is known to be
+  atom_known : (a : Atom) → KnownAtom p mode s.chosen (is_true_at end a) a
+  atom_known (atom.Register t r v) = (whole.whole t, refl)
+  atom_known (atom.Location l v) = (
+    λ h. (
+      whole.whole,
+      λ w (e, a, may). (let long = has_outcome.long in
+          let there : slice_get end.memory l ≡ Some (slice_index end.memory l) = slice_get-get_or end.memory l 0 (omega arith) in
+          ap (λ (n : ℕ). n == v) (last_value l w e h a may) ∙ sym (ap (λ (x : Option ℕ). is_value x v) there)),
+    ),
+    λ past. (let long = has_outcome.long in sym (ap (λ (x : Option ℕ). is_value x v) (slice_get_past end.memory l (omega arith)))),
+  )
+
+  ends_as : (shown : Shown) → EndsAs p mode s.chosen shown (show shown end)
+  ends_as All = (whole.whole, values_end All)
+  ends_as (Only names) = (whole.whole, values_end (Only names))
+  ends_as (Truth f) = record { truth = truth end f; known = all_known (KnownAtom p mode s.chosen) (is_true_at end) atom_known f; is_told = refl }
+
+  pub must_end : (shown : Shown) → MustEndAs (asked s.program shown) (mode_in s) s.chosen (show shown end)
+  must_end shown = ends_as shown
 
   runs_along : IsRun p mode (labels_along p mode (given_to s.chosen) (λ t. 0) order) end × IsCandidateOf p mode (labels_along p mode (given_to s.chosen) (λ t. 0) order) become
   runs_along = every_order p mode become order end is_candidate consistent is_order has_outcome
@@ -233,7 +266,7 @@ module _ (s : ProgramSketch) (lawful : IsLawful s) (whole : IsComplete s) (acycl
     has_outcome = has_outcome;
     of_completion = runs_along.1;
     must_end = must_end;
-    only = λ other has. ends_only s All end lawful (must_end All) has.0 other has.1 has.2;
+    only = λ other has. sym (ends_only s All end lawful (must_end All) has.0 other has.1 has.2);
   }
 
   -- the same with the one outcome as which the sketch must end

@@ -54,7 +54,7 @@ pub fn instruction_cell(
 }
 
 /// Whether a store to the location waits.
-fn waits(stores: &[Pending], location: u8) -> bool {
+pub fn waits(stores: &[Pending], location: u8) -> bool {
     for store in stores {
         if store.location == location {
             return true;

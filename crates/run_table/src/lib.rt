@@ -4,5 +4,5 @@
 mod cells;
 mod table;
 
-pub use cells::{action_of, instruction_cell, push_value, written};
+pub use cells::{action_of, instruction_cell, push_value, waits, written};
 pub use table::run_table;

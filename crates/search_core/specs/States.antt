@@ -3,6 +3,7 @@ use Rattle.std.specs.Prelude.{◌≡◌, ◌≤◌, ℕ, true, false, List, [], 
 use Rattle.gap_sets.specs.Regions.{all_sets}
 use Rattle.gap_sets.specs.declared.region.Region.{Region}
 use Rattle.tso_program.specs.Shown.{Question}
+use Rattle.tso_program.specs.declared.limits.TheConstants.{MAX_WORKERS}
 use Rattle.tso_program.specs.Limits.{IsWithinLimits}
 use Rattle.tree_laws.specs.GapTrees.{HaveCosts}
 use Rattle.cover_solver.specs.Facts.{Serving}
@@ -61,9 +62,9 @@ pub record IsSameSearch (s after : SearchState) : Type 0 where
   pub costs : after.costs ≡ s.costs
   pub seats : after.seats ≡ s.seats
 
--- a search has 1 to 32 seats
+-- a search has 1 to `MAX_WORKERS` seats
 abbrev pub IsSeatCount : ℕ → Type 0
-IsSeatCount seats = (1 ≤ seats) × (seats ≤ 32)
+IsSeatCount seats = (1 ≤ seats) × (seats ≤ MAX_WORKERS)
 
 -- only the node of all sets is there, and it is open
 pub record IsStart (s : SearchState) : Type 0 where

@@ -32,8 +32,9 @@ impl Model for Ceiling {
 
     ghost use Rattle.gap_sets.specs.contracts.gap_set.GapSet as gap_set;
     ghost use Rattle.std.specs.Coded.{codes};
+    ghost use Rattle.tso_program.specs.Nodes.{tree_code};
 
-    ghost coded = { Prim.hlevel (codes, gap_set.the_row.coded) };
+    ghost coded = { Prim.hlevel (codes, gap_set.the_row.coded, tree_code) };
 
     ghost use Rattle.search_core.specs.Internal.Limits.{bound_of};
 

@@ -12,7 +12,7 @@ use tso_program::{Program, Shown};
 #[derive(Drop)]
 pub struct Subject {
     program: Snapshot<Program>,
-    shown: Shown,
+    shown: Snapshot<Shown>,
     costs: Snapshot<Costs>,
 }
 
@@ -23,12 +23,13 @@ impl Model for Subject {
 
     ghost use Rattle.gap_sets.specs.contracts.gap_set.GapSet as gap_set;
     ghost use Rattle.std.specs.Coded.{codes};
+    ghost use Rattle.tso_program.specs.Nodes.{tree_code};
 
-    ghost coded = { Prim.hlevel (codes, gap_set.the_row.coded) };
+    ghost coded = { Prim.hlevel (codes, gap_set.the_row.coded, tree_code) };
 
     ghost use Rattle.tso_program.specs.Shown.{asked};
 
-    ghost view = { λ s. record { question = asked s.program.value s.shown; costs = s.costs.value } };
+    ghost view = { λ s. record { question = asked s.program.value s.shown.value; costs = s.costs.value } };
 }
 
 impl Subject {
@@ -38,7 +39,7 @@ impl Subject {
     {
         Subject {
             program: Snapshot::of(program),
-            shown: *shown,
+            shown: Snapshot::of(shown),
             costs: Snapshot::of(costs),
         }
     }

@@ -4,14 +4,17 @@ use crate::calls::{CALLS, Call, TestCall};
 use crate::input::{named, split_line, words_of};
 use crate::refusal::Refusal;
 use crate::{
-    certificates, fences, formulas, machines, observations, programs, sets, sketches, solver,
-    syntax, texts, tokens,
+    certificates, exchanges, fences, formulas, machines, observations, programs, sets, sketches,
+    solver, syntax, texts, tokens,
 };
 use litmus_text::{Litmus, read_litmus};
 use std::alloc::{AllocError, Global};
 use std::sync::Wait;
 use std::thread::Threads;
 use tso_program::Program;
+
+/// So many bytes are printed without another allocation.
+const ROOM: usize = 4_096;
 
 /// The answer to a call with the test of a litmus text.
 fn push_of_test<R: Threads + Sync, W: Wait + Sync>(
@@ -29,6 +32,7 @@ fn push_of_test<R: Threads + Sync, W: Wait + Sync>(
         TestCall::Canonical => fences::push_canonical(alloc, words, litmus, printed),
         TestCall::Gaps => programs::push_gaps_of(alloc, words, program, printed),
         TestCall::Fenced => programs::push_fenced(alloc, words, program, printed),
+        TestCall::Copy => programs::push_copy(program, printed),
         TestCall::Action => programs::push_action(words, program, printed),
         TestCall::Replay => machines::push_replayed(alloc, words, program, printed),
         TestCall::Sketch => sketches::push_sketch(alloc, words, program, printed),
@@ -78,6 +82,7 @@ fn push_of_call<R: Threads + Sync, W: Wait + Sync>(
         Call::Run => machines::push_run(alloc, text, printed),
         Call::Certificate => certificates::push_certificate(alloc, text, printed),
         Call::Check => certificates::push_checked(alloc, words, text, printed),
+        Call::Exchange => exchanges::push_exchanged(wait, alloc, words, text, printed),
         Call::Test(call) => push_of_litmus(rt, wait, alloc, call, words, text, printed),
     }
 }
@@ -117,7 +122,7 @@ pub fn answer<R: Threads + Sync, W: Wait + Sync>(
     alloc: Global,
     input: &[u8],
 ) -> Result<String, AllocError> {
-    let mut printed = String::new(alloc);
+    let mut printed = String::with_capacity(alloc, ROOM)?;
     match push_answer(rt, wait, alloc, input, &mut printed) {
         Ok(()) => Ok(printed),
         Err(refusal) => format!(in alloc; "refused {refusal}\n"),

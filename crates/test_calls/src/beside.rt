@@ -1,5 +1,5 @@
 //! What the seat of a hunt does beside the lock, one call for each word of a script.
-ghost use Rattle.std.specs.Prelude.{◌≡◌, IfOk};
+ghost use Rattle.std.specs.Prelude.{◌≡◌, IfErr, IfOk};
 ghost use Rattle.test_calls.specs.Hunts.{IsSound};
 
 use crate::fences::set_in;
@@ -24,7 +24,7 @@ pub fn push_ceiling(hunt: &Hunt, hand: &mut Hand, printed: &mut String) -> Resul
 }
 
 /// The set of these gaps, where it serves.
-fn served_by(alloc: Global, table: &SeqTable, gaps: &[u8]) -> Result<Served, Refusal>
+pub fn served_by(alloc: Global, table: &SeqTable, gaps: &[u8]) -> Result<Served, Refusal>
     ensures { IfOk result (λ served. served.question ≡ table.now.question) }
 {
     let set = set_in(table.program(), gap_set_of(alloc, gaps)?)?;
@@ -60,11 +60,12 @@ fn run_by(alloc: Global, table: &SeqTable, labels: &[u8]) -> Result<ForeignRun, 
     Ok(ForeignRun::new(alloc, table, labels.as_slice())?)
 }
 
-/// Posts the run. Whether the seat's row had a cell left.
-fn is_posted(hunt: &Hunt, hand: &mut Hand, run: ForeignRun) -> Result<bool, Refusal>
+/// Posts the run. Whether the seat's row had a cell left, or the run where memory is refused.
+fn is_posted(hunt: &Hunt, hand: &mut Hand, run: ForeignRun) -> Result<bool, ForeignRun>
     requires question { run.question ≡ hunt.now.question }
     requires sound { IsSound hunt.now hand.old }
-    ensures { IsSound hunt.now hand.new }
+    ensures sound { IsSound hunt.now hand.new }
+    ensures back { IfErr result (λ back. back ≡ run) }
 {
     match hunt.post(&mut hand.seat, run) {
         Ok(posted) => {
@@ -72,7 +73,29 @@ fn is_posted(hunt: &Hunt, hand: &mut Hand, run: ForeignRun) -> Result<bool, Refu
             Ok(true)
         }
         Err(PostFault::RowFull(_)) => Ok(false),
-        Err(PostFault::Refused(_)) => Err(Refusal::Memory(AllocError)),
+        Err(PostFault::Refused(run)) => Err(run),
+    }
+}
+
+/// The same. Where memory is refused, it prints so and posts the run that was handed back.
+fn is_posted_again(
+    hunt: &Hunt,
+    hand: &mut Hand,
+    run: ForeignRun,
+    printed: &mut String,
+) -> Result<bool, Refusal>
+    requires question { run.question ≡ hunt.now.question }
+    requires sound { IsSound hunt.now hand.old }
+    ensures { IsSound hunt.now hand.new }
+{
+    let back = match is_posted(hunt, hand, run) {
+        Ok(is_posted) => return Ok(is_posted),
+        Err(back) => back,
+    };
+    printed.push_str("refused post\n")?;
+    match is_posted(hunt, hand, back) {
+        Ok(is_posted) => Ok(is_posted),
+        Err(_) => Err(Refusal::Memory(AllocError)),
     }
 }
 
@@ -90,7 +113,7 @@ pub fn post(
     ensures { IsSound hunt.now hand.new }
 {
     let run = run_by(alloc, table, labels)?;
-    if is_posted(hunt, hand, run)? {
+    if is_posted_again(hunt, hand, run, printed)? {
         Ok(printed.push_str("posted\n")?)
     } else {
         Ok(printed.push_str("row full\n")?)
@@ -111,7 +134,9 @@ pub fn fill(
 {
     let run = run_by(alloc, table, labels)?;
     for _ in 0..ROW_CELLS {
-        let _ = is_posted(hunt, hand, run.copy(alloc)?)?;
+        if is_posted(hunt, hand, run.copy(alloc)?).is_err() {
+            return Err(Refusal::Memory(AllocError));
+        }
     }
     Ok(())
 }

@@ -20,6 +20,7 @@ pub enum Call {
     Run,
     Certificate,
     Check,
+    Exchange,
     Test(TestCall),
 }
 
@@ -30,6 +31,7 @@ pub enum TestCall {
     Canonical,
     Gaps,
     Fenced,
+    Copy,
     Action,
     Replay,
     Sketch,
@@ -43,14 +45,16 @@ pub enum SolverCall {
     Ask,
     Foreign,
     Search,
+    Records,
     Hunt,
+    HuntWith,
     Place,
     Gated(PlacerCall),
     Shared(PlacerCall),
     Lacking(PlacerCall),
 }
 
-pub const CALLS: [(&[u8], Call); 34] = [
+pub const CALLS: [(&[u8], Call); 38] = [
     (b"tokens", Call::Tokens),
     (b"plain-number", Call::PlainNumber),
     (b"body", Call::Body),
@@ -66,6 +70,7 @@ pub const CALLS: [(&[u8], Call); 34] = [
     (b"program", Call::Program),
     (b"gaps", Call::Test(TestCall::Gaps)),
     (b"fenced", Call::Test(TestCall::Fenced)),
+    (b"copy", Call::Test(TestCall::Copy)),
     (b"action", Call::Test(TestCall::Action)),
     (b"outcomes", Call::Outcomes),
     (b"replay", Call::Test(TestCall::Replay)),
@@ -73,6 +78,7 @@ pub const CALLS: [(&[u8], Call); 34] = [
     (b"sketch", Call::Test(TestCall::Sketch)),
     (b"certificate", Call::Certificate),
     (b"check", Call::Check),
+    (b"exchange", Call::Exchange),
     (
         b"sequential",
         Call::Test(TestCall::Solver(SolverCall::Sequential)),
@@ -83,7 +89,15 @@ pub const CALLS: [(&[u8], Call); 34] = [
         Call::Test(TestCall::Solver(SolverCall::Foreign)),
     ),
     (b"search", Call::Test(TestCall::Solver(SolverCall::Search))),
+    (
+        b"records",
+        Call::Test(TestCall::Solver(SolverCall::Records)),
+    ),
     (b"hunt", Call::Test(TestCall::Solver(SolverCall::Hunt))),
+    (
+        b"hunt-with",
+        Call::Test(TestCall::Solver(SolverCall::HuntWith)),
+    ),
     (b"place", Call::Test(TestCall::Solver(SolverCall::Place))),
     (
         b"place-gated",

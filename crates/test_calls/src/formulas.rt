@@ -3,7 +3,10 @@
 use crate::input::{named, push_bytes, split_line};
 use crate::machines::outcome_in;
 use crate::refusal::Refusal;
-use conditions::{Atom, Condition, Formula, Quantifier, Token, holds};
+use conditions::{
+    Atom, Condition, Formula, Quantifier, Token, enclosed_tokens, formula_tokens, holds,
+    read_formula,
+};
 use std::alloc::{AllocError, Global};
 use tso_program::{Outcome, Reg};
 
@@ -71,7 +74,7 @@ fn formula_of(alloc: Global, letters: &[u8]) -> Result<Formula, Refusal> {
     for letter in letters.chunks(1) {
         tokens.push(named(&TOKENS, letter)?)?;
     }
-    Ok(Formula::read(alloc, tokens.as_slice())?)
+    Ok(read_formula(alloc, tokens.as_slice())?)
 }
 
 fn push_line(tokens: &[Token], printed: &mut String) -> Result<(), AllocError> {
@@ -88,9 +91,9 @@ fn condition(
 ) -> Result<Condition, AllocError> {
     let condition = Condition {
         quantifier,
-        formula: formula.copy(alloc)?,
+        formula: formula.copy()?,
     };
-    condition.copy(alloc)
+    condition.copy()
 }
 
 fn push_holds(
@@ -127,12 +130,12 @@ fn push_truth(alloc: Global, formula: &Formula, printed: &mut String) -> Result<
 
 /// Whether a formula's tokens as a condition's spell it.
 fn is_read_again(alloc: Global, formula: &Formula, enclosed: &[Token]) -> Result<bool, Refusal> {
-    let again = Formula::read(alloc, enclosed)?;
+    let again = read_formula(alloc, enclosed)?;
     Ok(formula.same(&again))
 }
 
 fn push_tokens(alloc: Global, formula: &Formula, printed: &mut String) -> Result<(), AllocError> {
-    push_line(formula.tokens(alloc)?.as_slice(), printed)
+    push_line(formula_tokens(alloc, formula)?.as_slice(), printed)
 }
 
 /// Whether these tokens spell a formula; its own tokens, and these.
@@ -149,7 +152,7 @@ fn push_again(
 }
 
 fn push_spelled(alloc: Global, formula: &Formula, printed: &mut String) -> Result<(), Refusal> {
-    let enclosed = formula.enclosed_tokens(alloc)?;
+    let enclosed = enclosed_tokens(alloc, formula)?;
     push_again(alloc, formula, enclosed.as_slice(), printed)
 }
 

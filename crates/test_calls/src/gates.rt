@@ -2,6 +2,7 @@
 ghost use Rattle.std.specs.Prelude.{◌≡◌, false, IfOk};
 ghost use Rattle.std.specs.Coded.{codes};
 ghost use Rattle.tso_program.specs.contracts.shown.Names as names;
+ghost use Rattle.tso_program.specs.Nodes.{tree_code};
 
 use crate::input::byte_at;
 use crate::lines::push_gaps_after;
@@ -28,7 +29,7 @@ struct Gate {
     asked: AtomicU64,
     has_third: AtomicBool,
     is_late: AtomicBool,
-    ghost one_question: { first.question ≡ solver.question } by { Prim.hlevel (codes, names.the_row.coded) },
+    ghost one_question: { first.question ≡ solver.question } by { Prim.hlevel (codes, names.the_row.coded, tree_code) },
 }
 
 impl Gate {

@@ -1,6 +1,7 @@
 //! A hunt of one seat by its calls, one for each word of a script, at whose end the hunt is closed.
 ghost use Rattle.std.specs.Prelude.{◌≡◌, IfOk, IsTrue, Some};
 ghost use Rattle.tso_machine.specs.Outcomes.{AreGapsOf};
+ghost use Rattle.cover_solver.specs.Facts.{IsForeignValue};
 ghost use Rattle.cover_solver.specs.Verdicts.{IsVerdictOf, PassesNoneOf};
 ghost use Rattle.search_core.specs.Events.{IsBeatenBy};
 ghost use Rattle.hunt_board.specs.Seats.{IsOf};
@@ -8,17 +9,21 @@ ghost use Rattle.hunt_board.specs.Settlings.{IsLawful};
 ghost use Rattle.test_calls.specs.Hunts.{IsSound};
 
 use crate::beside::{fill, lower, post, push_ceiling, push_look, push_posted};
-use crate::input::{byte_of, named, split_at_byte};
+use crate::input::{named, split_at_byte};
 use crate::lines::push_gaps_after;
 use crate::placing::equal_costs;
 use crate::refusal::Refusal;
 use crate::search::{labels_of, push_region};
+use crate::settlings::{cut, settle_again};
 use cover_solver::{ForeignRun, Oracle, SeqTable, Solver, Verdict};
-use gap_sets::{Costs, GapSet, MAX_GAPS, Region};
+use gap_sets::{Costs, GapSet, Region};
 use hunt_board::{Event, Hunt, HuntSeat, Next, Posted, Receipt, Settling};
 use search_core::SearchTree;
 use std::alloc::{AllocError, Global};
 use std::sync::Wait;
+
+/// So many receipts are kept without another allocation.
+const FEW: usize = 8;
 
 /// What the script has in hand: its seat, the receipts of what it settled, and what shows that it posted its last run.
 #[derive(Drop)]
@@ -34,7 +39,8 @@ enum Step {
     Next,
     GiveBack,
     Drop,
-    Other,
+    Again,
+    Cut,
     Ceiling,
     Lower,
     Post,
@@ -43,11 +49,12 @@ enum Step {
     Look,
 }
 
-const STEPS: [(&[u8], Step); 10] = [
+const STEPS: [(&[u8], Step); 11] = [
     (b"next", Step::Next),
     (b"give", Step::GiveBack),
     (b"drop", Step::Drop),
-    (b"other", Step::Other),
+    (b"settle", Step::Again),
+    (b"cut", Step::Cut),
     (b"ceiling", Step::Ceiling),
     (b"lower", Step::Lower),
     (b"post", Step::Post),
@@ -57,7 +64,7 @@ const STEPS: [(&[u8], Step); 10] = [
 ];
 
 /// The node that the seat holds.
-fn held(seat: &HuntSeat) -> Result<Region, Refusal>
+pub fn held(seat: &HuntSeat) -> Result<Region, Refusal>
     ensures { IfOk result (λ node. seat.now.node ≡ Some node) }
 {
     match seat.node() {
@@ -67,8 +74,15 @@ fn held(seat: &HuntSeat) -> Result<Region, Refusal>
 }
 
 /// The run of these labels, where it splits the node.
-fn by_run(alloc: Global, table: &SeqTable, node: &Region, labels: &[u8]) -> Result<Verdict, Refusal>
-    ensures { IfOk result (IsVerdictOf table.now.question node.now.must) }
+pub fn run_past(
+    alloc: Global,
+    table: &SeqTable,
+    node: &Region,
+    labels: &[u8],
+) -> Result<ForeignRun, Refusal>
+    ensures of { IfOk result (λ run. run.question ≡ table.now.question) }
+    ensures foreign { IfOk result IsForeignValue }
+    ensures splits { IfOk result (PassesNoneOf node.now.must) }
 {
     let labels = labels_of(alloc, labels)?;
     let run = ForeignRun::new(alloc, table, labels.as_slice())?;
@@ -77,7 +91,7 @@ fn by_run(alloc: Global, table: &SeqTable, node: &Region, labels: &[u8]) -> Resu
     if !passes_none(&run, &node.must) {
         return Err(Refusal::Call);
     }
-    Ok(Verdict::Foreign(run))
+    Ok(run)
 }
 
 /// Whether the run passes no gap of the set.
@@ -121,7 +135,8 @@ fn settling_of(
 {
     let (name, labels) = split_at_byte(word, b':');
     if name == b"split".as_slice() {
-        return Ok(Settling::Asked(by_run(alloc, table, node, labels)?));
+        let run = run_past(alloc, table, node, labels)?;
+        return Ok(Settling::Asked(Verdict::Foreign(run)));
     }
     if name == b"ask".as_slice() {
         return Ok(Settling::Asked(by_solver(alloc, table, node)?));
@@ -132,7 +147,7 @@ fn settling_of(
     Err(Refusal::Call)
 }
 
-fn push_receipt(receipt: &Receipt, printed: &mut String) -> Result<(), AllocError> {
+pub fn push_receipt(receipt: &Receipt, printed: &mut String) -> Result<(), AllocError> {
     write!(printed, "seat {} ", receipt.seat)?;
     match receipt.event {
         Event::Split(passed) => push_gaps_after("split passed", &passed, printed)?,
@@ -197,19 +212,6 @@ fn settle<W: Wait>(
     Ok(push_receipt(&receipt, printed)?)
 }
 
-/// A receipt of another hunt: seat 0 confirmed the node whose sets must have this gap.
-fn other_receipt(gap: &[u8]) -> Result<Receipt, Refusal> {
-    let gap = byte_of(gap)?;
-    if gap >= MAX_GAPS {
-        return Err(Refusal::Call);
-    }
-    Ok(Receipt {
-        seat: 0,
-        node: Region::all().with(gap),
-        event: Event::Confirmed,
-    })
-}
-
 /// Does what a word names.
 fn push_step<W: Wait>(
     wait: &W,
@@ -235,10 +237,8 @@ fn push_step<W: Wait>(
             let _ = hand.receipts.pop();
             Ok(())
         }
-        Step::Other => {
-            let _ = hand.receipts.pop();
-            Ok(hand.receipts.push(other_receipt(rest)?)?)
-        }
+        Step::Again => settle_again(wait, alloc, table, hunt, hand, rest, printed),
+        Step::Cut => cut(wait, hunt, hand, printed),
         Step::Ceiling => Ok(push_ceiling(hunt, hand, printed)?),
         Step::Lower => lower(alloc, table, hunt, hand, rest),
         Step::Post => post(alloc, table, hunt, hand, rest, printed),
@@ -288,14 +288,16 @@ fn push_closed(
     Ok(printed.push('\n')?)
 }
 
-/// The lines of a script over a hunt for the best set of gaps, each of which costs 1, by one seat; and what the hunt ends with.
-pub fn push_hunted<W: Wait>(
+/// A hunt for the best set of gaps, each of which costs 1, by one seat, and what is in hand after a script.
+pub fn hunt_by<W: Wait>(
     wait: &W,
     alloc: Global,
     table: &SeqTable,
     script: &[&[u8]],
     printed: &mut String,
-) -> Result<(), Refusal> {
+) -> Result<(Hunt, Hand), Refusal>
+    ensures { IfOk result (λ made. IsSound made.0 made.1) }
+{
     let costs = equal_costs(alloc, table)?;
     let tree = SearchTree::new(alloc, table, &costs, 1)?;
     let (hunt, mut seats) = Hunt::new(alloc, tree, 1)?;
@@ -304,10 +306,17 @@ pub fn push_hunted<W: Wait>(
     };
     let mut hand = Hand {
         seat,
-        receipts: Vec::new(alloc),
+        receipts: Vec::with_capacity(alloc, FEW)?,
         posted: None,
     };
     push_script(wait, alloc, table, &hunt, &mut hand, script, printed)?;
+    Ok((hunt, hand))
+}
+
+/// What the hunt ends with, or why it does not end.
+pub fn push_end(alloc: Global, hunt: Hunt, hand: Hand, printed: &mut String) -> Result<(), Refusal>
+    requires { IsSound hunt hand }
+{
     let Hand {
         seat,
         receipts,
@@ -317,4 +326,16 @@ pub fn push_hunted<W: Wait>(
         Ok(()) => Ok(()),
         Err(refusal) => Ok(write!(printed, "refused {refusal}\n")?),
     }
+}
+
+/// The lines of a script over a hunt, and what the hunt ends with.
+pub fn push_hunted<W: Wait>(
+    wait: &W,
+    alloc: Global,
+    table: &SeqTable,
+    script: &[&[u8]],
+    printed: &mut String,
+) -> Result<(), Refusal> {
+    let (hunt, hand) = hunt_by(wait, alloc, table, script, printed)?;
+    push_end(alloc, hunt, hand, printed)
 }

@@ -2,14 +2,16 @@
 //! what they answer.
 //!
 //! The first line of its input names the call and gives its arguments, and the rest is the text that the call takes. After the names
-//! `sequential`, `ask`, `foreign`, `search`, `hunt`, `place` and the like the word `--observed` may stand, for what the litmus text names; of their
-//! answers, what a search may choose comes last. `tests/calls.tsv` and `tests/solver.tsv` have one input in each line.
+//! `sequential`, `ask`, `foreign`, `search`, `hunt`, `place` and the like the word `--observed` may stand, for what the litmus text names, or
+//! `--condition`, for the truth of its condition; of their answers, what a search may choose comes last. `tests/calls.tsv` and `tests/solver.tsv` have one input in each line.
 #![tactic(auto)]
 
 mod answer;
 mod beside;
 mod calls;
+mod ceilings;
 mod certificates;
+mod exchanges;
 mod fences;
 mod formulas;
 mod gates;
@@ -21,9 +23,11 @@ mod machines;
 mod observations;
 mod placing;
 mod programs;
+mod records;
 mod refusal;
 mod search;
 mod sets;
+mod settlings;
 mod sharing;
 mod sketches;
 mod solver;

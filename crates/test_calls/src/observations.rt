@@ -2,7 +2,7 @@
 
 use crate::input::{named, number_of, push_bytes, word_at};
 use crate::refusal::Refusal;
-use conditions::{Atom, Condition, Formula, Quantifier, Token};
+use conditions::{Atom, Condition, Quantifier, Token, read_formula};
 use report::{condition_line, observation_line};
 use std::alloc::{AllocError, Global};
 use tso_program::{Items, Outcome};
@@ -42,7 +42,7 @@ fn condition_of(alloc: Global, word: &[u8]) -> Result<Condition, Refusal> {
     let quantifier = named(&QUANTIFIERS, word)?;
     Ok(Condition {
         quantifier,
-        formula: Formula::read(alloc, &ENDS_AS_ONE)?,
+        formula: read_formula(alloc, &ENDS_AS_ONE)?,
     })
 }
 

@@ -142,3 +142,36 @@ pub fn push_placed<R: Threads + Sync, W: Wait + Sync>(
     let placed = placed_by(rt, wait, alloc, table, &solver, words)?;
     Ok(push_lines(&placed, &solver, printed)?)
 }
+
+/// What one hunt finds, without another search where it does not close: the first word is the number of workers, and the
+/// costs of the gaps may follow.
+fn hunted_with<R: Threads + Sync, W: Wait + Sync>(
+    rt: &R,
+    wait: &W,
+    alloc: Global,
+    table: &SeqTable,
+    solver: &Solver,
+    words: &[&[u8]],
+) -> Result<GapSet, Refusal>
+    requires { solver.now.question ≡ table.now.question }
+{
+    let workers = byte_at(words, 0)?;
+    let costs = costs_of(alloc, table, words)?;
+    let finished = hunt_with(rt, wait, alloc, solver, table, &costs, workers)?;
+    Ok(finished.served().set())
+}
+
+/// The set that one hunt finds.
+pub fn push_hunted_with<R: Threads + Sync, W: Wait + Sync>(
+    rt: &R,
+    wait: &W,
+    alloc: Global,
+    table: &SeqTable,
+    words: &[&[u8]],
+    printed: &mut String,
+) -> Result<(), Refusal> {
+    let solver = Solver::new(alloc, table.program(), table)?;
+    let set = hunted_with(rt, wait, alloc, table, &solver, words)?;
+    push_gaps_after("set", &set, printed)?;
+    Ok(printed.push('\n')?)
+}

@@ -93,6 +93,12 @@ fn push_listing(
     write!(printed, "threads {threads:?}\nmemory {memory:?}\n")
 }
 
+/// The copy of a program.
+pub fn push_copy(program: &Program, printed: &mut String) -> Result<(), Refusal> {
+    let copy = program.copy()?;
+    Ok(push_listing(copy.threads(), copy.memory(), printed)?)
+}
+
 /// A program with fences in some gaps, as a copy has it.
 pub fn push_fenced(
     alloc: Global,

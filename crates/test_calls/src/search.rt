@@ -2,11 +2,14 @@
 ghost use Rattle.std.specs.Prelude.{◌≡◌, ◌<◌};
 ghost use Rattle.search_core.specs.States.{IsSameSearch};
 
+use crate::ceilings::{Making, made};
 use crate::input::{named, parts_of, split_at_byte};
 use crate::lines::push_gaps_after;
 use crate::machines::labels_from;
 use crate::placing::equal_costs;
+use crate::records::push_record;
 use crate::refusal::Refusal;
+use crate::sharing::place_of_then;
 use cover_solver::{ForeignRun, Oracle, SeqTable, Served, Solver, Verdict};
 use gap_sets::Region;
 use search_core::{Reason, SearchTree};
@@ -22,14 +25,18 @@ enum Event {
     Take,
     Split,
     Cut,
+    CutBy(Making),
     Confirm,
     GiveBack,
 }
 
-const EVENTS: [(&[u8], Event); 5] = [
+const EVENTS: [(&[u8], Event); 8] = [
     (b"take", Event::Take),
     (b"split", Event::Split),
     (b"cut", Event::Cut),
+    (b"none", Event::CutBy(Making::None)),
+    (b"of", Event::CutBy(Making::Of)),
+    (b"at", Event::CutBy(Making::At)),
     (b"confirm", Event::Confirm),
     (b"give", Event::GiveBack),
 ];
@@ -112,6 +119,12 @@ fn push_event(
             tree.cut(seat, Reason::Best)?;
             "cut\n"
         }
+        Event::CutBy(making) => {
+            let ceiling = made(alloc, table, tree, making, labels)?;
+            write!(printed, "ceiling {:?}\n", ceiling.cost())?;
+            tree.cut(seat, Reason::Ceiling(ceiling))?;
+            "cut\n"
+        }
         Event::Confirm => {
             confirm(alloc, table, tree, seat)?;
             "confirmed\n"
@@ -124,7 +137,7 @@ fn push_event(
     Ok(printed.push_str(done)?)
 }
 
-/// Does what a word names: the event, the seat's number as its last digit, and labels after a colon.
+/// Does what a word names: the event, the seat's number as its last digit, and labels or gaps after a colon.
 fn push_step(
     alloc: Global,
     table: &SeqTable,
@@ -181,6 +194,9 @@ fn push_word(
     if word == b"answer".as_slice() {
         return push_answer(tree.answer(), printed);
     }
+    if word == b"done".as_slice() {
+        return write!(printed, "done {}\n", tree.is_done());
+    }
     match push_step(alloc, table, tree, word, printed) {
         Ok(()) => Ok(()),
         Err(refusal) => write!(printed, "refused {refusal}\n"),
@@ -197,6 +213,8 @@ fn push_script(
 ) -> Result<(), AllocError>
     requires seats { tree.old.seats ≡ 2 }
     requires of_table { tree.old.question ≡ table.now.question }
+    ensures seats { tree.new.seats ≡ 2 }
+    ensures of_table { tree.new.question ≡ table.now.question }
 {
     for word in script {
         push_word(alloc, table, tree, word, printed)?;
@@ -214,4 +232,42 @@ pub fn push_searched(
     let costs = equal_costs(alloc, table)?;
     let mut tree = SearchTree::new(alloc, table, &costs, SEATS)?;
     Ok(push_script(alloc, table, &mut tree, script, printed)?)
+}
+
+/// The record of a search that is done. One that is not goes on by the script, as it is handed back.
+fn push_finished(
+    alloc: Global,
+    table: &SeqTable,
+    tree: SearchTree,
+    script: &[&[u8]],
+    printed: &mut String,
+) -> Result<(), AllocError>
+    requires seats { tree.seats ≡ 2 }
+    requires of_table { tree.question ≡ table.now.question }
+{
+    let mut tree = match tree.finish() {
+        Ok(finished) => return push_record(&finished, printed),
+        Err(tree) => tree,
+    };
+    printed.push_str("not finished\n")?;
+    push_script(alloc, table, &mut tree, script, printed)?;
+    match tree.finish() {
+        Ok(finished) => push_record(&finished, printed),
+        Err(_) => printed.push_str("not finished\n"),
+    }
+}
+
+/// The lines of the words before `then` over a search, and its record where it is done; or else those of the words after
+/// it, and the record then.
+pub fn push_records(
+    alloc: Global,
+    table: &SeqTable,
+    words: &[&[u8]],
+    printed: &mut String,
+) -> Result<(), Refusal> {
+    let (script, rest) = words.split_at(place_of_then(words)?);
+    let costs = equal_costs(alloc, table)?;
+    let mut tree = SearchTree::new(alloc, table, &costs, SEATS)?;
+    push_script(alloc, table, &mut tree, script, printed)?;
+    Ok(push_finished(alloc, table, tree, rest.split_at(1).1, printed)?)
 }

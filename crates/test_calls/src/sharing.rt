@@ -3,6 +3,7 @@ ghost use Rattle.std.specs.Prelude.{◌≡◌, ◌<◌, false, IfOk, IfSome, len
 ghost use Rattle.cover_solver.specs.Verdicts.{IsVerdictOf};
 ghost use Rattle.std.specs.Coded.{codes};
 ghost use Rattle.tso_program.specs.contracts.shown.Names as names;
+ghost use Rattle.tso_program.specs.Nodes.{tree_code};
 
 use crate::hunts::passes_none;
 use crate::input::byte_at;
@@ -26,8 +27,8 @@ struct TwoRuns {
     second: ForeignRun,
     by_first: AtomicU64,
     by_second: AtomicU64,
-    ghost first_question: { first.question ≡ solver.question } by { Prim.hlevel (codes, names.the_row.coded) },
-    ghost second_question: { second.question ≡ solver.question } by { Prim.hlevel (codes, names.the_row.coded) },
+    ghost first_question: { first.question ≡ solver.question } by { Prim.hlevel (codes, names.the_row.coded, tree_code) },
+    ghost second_question: { second.question ≡ solver.question } by { Prim.hlevel (codes, names.the_row.coded, tree_code) },
 }
 
 /// That the set doesn't serve, by the run, where it passes no gap of the set.
@@ -75,7 +76,7 @@ fn run_from(
 }
 
 /// Which word is `then`.
-fn place_of_then(words: &[&[u8]]) -> Result<usize, Refusal>
+pub fn place_of_then(words: &[&[u8]]) -> Result<usize, Refusal>
     ensures { IfOk result (λ place. place < length words.now) }
 {
     for (place, word) in words.iter().enumerate() {

@@ -95,7 +95,7 @@ const KINDS: [(&[u8], Kind); 3] = [
 ];
 
 /// `sequential`, or the gaps that are fenced.
-fn mode_of(alloc: Global, word: &[u8]) -> Result<Mode, Refusal> {
+fn machine_of_model(alloc: Global, word: &[u8]) -> Result<Mode, Refusal> {
     if word == b"sequential".as_slice() {
         return Ok(Mode::Sequential);
     }
@@ -131,8 +131,10 @@ fn give(sketch: &mut Sketch, t: u8, value: u32) -> Result<bool, Refusal> {
 fn push_give(sketch: &mut Sketch, words: &[&[u8]], printed: &mut String) -> Result<(), Refusal> {
     let t = byte_at(words, 0)?;
     let value = number_of(word_at(words, 1)?)?;
-    let is_given = give(sketch, t, value)?;
-    Ok(write!(printed, "{is_given}")?)
+    match give(sketch, t, value) {
+        Ok(is_given) => Ok(write!(printed, "{is_given}")?),
+        Err(refusal) => Ok(write!(printed, "refused {refusal}")?),
+    }
 }
 
 fn push_values(sketch: &Sketch, location: u8, printed: &mut String) -> Result<(), AllocError> {
@@ -290,7 +292,7 @@ fn push_is_cycle(
 }
 
 fn push_ends(sketch: &Sketch, outcome: &Outcome, printed: &mut String) -> Result<(), AllocError> {
-    write!(printed, "{}", sketch.must_end_as(&Shown::All, outcome))
+    write!(printed, "{}", sketch.must_end_as(&Shown::All, outcome)?)
 }
 
 /// Whether each completion ends with an outcome: a word for each thread, and one for memory.
@@ -385,7 +387,7 @@ pub fn push_sketch(
     program: &Program,
     printed: &mut String,
 ) -> Result<(), Refusal> {
-    let mode = mode_of(alloc, word_at(words, 0)?)?;
+    let mode = machine_of_model(alloc, word_at(words, 0)?)?;
     let mut sketch = Sketch::new(alloc, program, mode)?;
     push_answers(alloc, &mut sketch, words, printed)
 }

@@ -6,16 +6,16 @@ use crate::hunts::push_hunted;
 use crate::lacking::push_lacking;
 use crate::lines::{push_foreign_run, push_serving, push_table};
 use crate::machines::labels_from;
-use crate::placing::push_placed;
+use crate::placing::{push_hunted_with, push_placed};
 use crate::refusal::Refusal;
-use crate::search::push_searched;
+use crate::search::{push_records, push_searched};
 use crate::sharing::push_shared;
 use cover_solver::{ForeignRun, Oracle, SeqTable, Solver, Verdict, sequential};
 use litmus_text::{Litmus, NameTable};
 use std::alloc::{AllocError, Global};
 use std::sync::Wait;
 use std::thread::Threads;
-use tso_program::{Program, Shown};
+use tso_program::{Program, ShownKind};
 
 /// What the solver says of the gaps that words name.
 fn verdict(alloc: Global, table: &SeqTable, words: &[&[u8]]) -> Result<Verdict, Refusal> {
@@ -81,7 +81,9 @@ fn push_of_table<R: Threads + Sync, W: Wait + Sync>(
         SolverCall::Ask => push_asked(alloc, names, table, words, printed),
         SolverCall::Foreign => push_foreign(alloc, names, table, words, printed),
         SolverCall::Search => push_searched(alloc, table, words, printed),
+        SolverCall::Records => push_records(alloc, table, words, printed),
         SolverCall::Hunt => push_hunted(wait, alloc, table, words, printed),
+        SolverCall::HuntWith => push_hunted_with(rt, wait, alloc, table, words, printed),
         SolverCall::Place => push_placed(rt, wait, alloc, table, words, printed),
         SolverCall::Gated(call) => push_gated(rt, wait, alloc, call, table, words, printed),
         SolverCall::Shared(call) => push_shared(rt, wait, alloc, call, table, words, printed),
@@ -89,17 +91,20 @@ fn push_of_table<R: Threads + Sync, W: Wait + Sync>(
     }
 }
 
-/// Whether the call asks for what the litmus text names alone, which the word `--observed` says, and the words after it.
-fn options<'w, 'i>(words: &'w [&'i [u8]]) -> (bool, &'w [&'i [u8]]) {
+/// What is shown of outcomes, which `--observed` or `--condition` says, and the words after it.
+fn options<'w, 'i>(words: &'w [&'i [u8]]) -> (ShownKind, &'w [&'i [u8]]) {
     match words.split_first() {
-        Some((option, rest)) if *option == b"--observed".as_slice() => (true, rest),
-        _ => (false, words),
+        Some((option, rest)) if *option == b"--observed".as_slice() => (ShownKind::Observed, rest),
+        Some((option, rest)) if *option == b"--condition".as_slice() => {
+            (ShownKind::Condition, rest)
+        }
+        _ => (ShownKind::Whole, words),
     }
 }
 
-/// The sequential outcomes of a test, of which all is shown or what the text names.
-fn table_of(alloc: Global, litmus: &Litmus<Program>, observed: bool) -> Result<SeqTable, Refusal> {
-    let shown = if observed { litmus.shown() } else { Shown::All };
+/// The sequential outcomes of a test, as far as they are shown.
+fn table_of(alloc: Global, litmus: &Litmus<Program>, kind: ShownKind) -> Result<SeqTable, Refusal> {
+    let shown = litmus.shown_as(kind)?;
     Ok(sequential(alloc, &litmus.program, &shown)?)
 }
 
@@ -113,7 +118,7 @@ pub fn push_answer<R: Threads + Sync, W: Wait + Sync>(
     litmus: &Litmus<Program>,
     printed: &mut String,
 ) -> Result<(), Refusal> {
-    let (observed, words) = options(words);
-    let table = table_of(alloc, litmus, observed)?;
+    let (kind, words) = options(words);
+    let table = table_of(alloc, litmus, kind)?;
     push_of_table(rt, wait, alloc, call, words, &litmus.names, &table, printed)
 }

@@ -2,6 +2,7 @@
 
 use crate::input::push_bytes;
 use crate::refusal::Refusal;
+use conditions::formula_tokens;
 use litmus_text::{Litmus, NameTable, read_fenced};
 use std::alloc::{AllocError, Global};
 use tso_program::{FencedProgram, Program, Reg, Thread};
@@ -78,7 +79,7 @@ fn push_condition<P>(
 ) -> Result<(), AllocError> {
     let observed = litmus.observed.as_slice();
     let condition = &litmus.condition;
-    let tokens = condition.formula.tokens(alloc)?;
+    let tokens = formula_tokens(alloc, &condition.formula)?;
     write!(
         printed,
         "observed {observed:?}\nquantifier {:?}\nformula {tokens:?}\n",

@@ -15,7 +15,7 @@ use Rattle.tso_program.specs.declared.shown.Shown.TheVariants.{Only}
 use Rattle.tso_program.specs.Names.{register_place, location_place}
 use Rattle.tso_program.specs.Shown.{Question, show, value_if}
 use Rattle.tso_program.specs.Listings.{gap_count, gap_number}
-use Rattle.tso_machine.specs.Machine.{Mode, Sequential, Fenced, start}
+use Rattle.tso_machine.specs.Machine.{Machine, SequentialMachine, StoreBufferMachine, start}
 use Rattle.the_answer.specs.OutcomeLists.{outcomes_within, most_labels, outcomes_of}
 use Rattle.the_answer.specs.Answers.{are_among, does_serve, cheaper, best_of, the_answer}
 use Rattle.gap_sets.specs.declared.gap_set.TheConstants.{MAX_GAPS}
@@ -42,12 +42,12 @@ shown_by_list names = ap show_by (fun_ext (λ k. set.contains-from_list_nat name
 
 module _ (seen : Outcome → Outcome) (p : Listing) where
   -- the outcomes, seen so
-  abbrev outcomes_by : Mode → List Outcome
+  abbrev outcomes_by : Machine → List Outcome
   outcomes_by mode = map seen (outcomes_within p mode (most_labels p) (start p))
 
   -- the test of a set by its gaps
   unfoldable pub serve_by : (ℕ → Bool) → Bool
-  serve_by has = are_among (outcomes_by (Fenced (λ t k. option_map_or has (gap_number p.threads t k) false))) (outcomes_by Sequential)
+  serve_by has = are_among (outcomes_by (StoreBufferMachine (λ t k. option_map_or has (gap_number p.threads t k) false))) (outcomes_by SequentialMachine)
 
 -- what a list of gaps costs
 abbrev pub total_by : List ℕ → List ℕ → ℕ

@@ -15,7 +15,7 @@ use Rattle.tso_program.specs.Limits.{JumpForward}
 use Rattle.tso_machine.specs.declared.label.Label.{Label}
 use Rattle.tso_machine.specs.declared.label.Label.TheVariants.{Exec, Flush}
 use Rattle.tso_machine.specs.declared.label.Pending.{Pending}
-use Rattle.tso_machine.specs.Machine.{Mode, State, start, step, run, is_empty, outcome_at, HasEnded, Allows}
+use Rattle.tso_machine.specs.Machine.{Machine, State, start, step, run, is_empty, outcome_at, HasEnded, Allows}
 use Rattle.tso_machine.proofs.Runs.{no_action}
 use Rattle.the_answer.specs.OutcomeLists.{is_stop, has_ended, threads_of, labels_to_try, outcomes_here, outcomes_within, most_labels, outcomes_of}
 use Rattle.the_answer.specs.Laws.{OutcomesAreListed}
@@ -70,7 +70,7 @@ label_is_tried : (p : Listing) (l : Label) → thread_of l < length p.threads �
 label_is_tried p l inside =
     in_flat_map (λ t. Exec t ∷ Flush t ∷ []) (threads_of p) (thread_of l) l (below_is_here (length p.threads) (thread_of l) inside) (label_of_thread l)
 
-module _ (p : Listing) (mode : Mode) where
+module _ (p : Listing) (mode : Machine) where
   -- a run from a state
   record RunsTo (s : State) (o : Outcome) : Type 0 where
     labels : List Label
@@ -135,11 +135,11 @@ module _ (p : Listing) (mode : Mode) where
           leads_there n s z l (outcome_at p last) does.inside q (ih z does.no_other (omega arith) r ended)
 
 -- the outcomes of the machine, whole
-abbrev whole_outcomes : Listing → Mode → List Outcome
+abbrev whole_outcomes : Listing → Machine → List Outcome
 whole_outcomes p mode = outcomes_within p mode (most_labels p) (start p)
 
 -- both ways
-whole_listed : (p : Listing) (mode : Mode) (o : Outcome) → JumpForward p.threads → Contains (whole_outcomes p mode) o ↔ Allows p mode o
+whole_listed : (p : Listing) (mode : Machine) (o : Outcome) → JumpForward p.threads → Contains (whole_outcomes p mode) o ↔ Allows p mode o
 whole_listed p mode o forward = (
   (λ here. let r = has_run p mode (most_labels p) (start p) o (λ t past. refl) here in (r.labels, (r.last, r.leads, r.ended, r.outcome))),
   (λ (labels, (last, leads, ended, is)).

@@ -12,7 +12,7 @@ use Rattle.tso_program.specs.Shown.{Question}
 use Rattle.tso_program.specs.Limits.{JumpForward}
 use Rattle.tso_program.specs.Fences.{gaps_in}
 use Rattle.tso_program.proofs.OutcomesOrdered.{outcomes_ordered, same_by_order}
-use Rattle.tso_machine.specs.Machine.{Sequential, Fenced}
+use Rattle.tso_machine.specs.Machine.{SequentialMachine, StoreBufferMachine}
 use Rattle.tso_machine.specs.Outcomes.{Serves, LeavesOutcome}
 use Rattle.fence_laws.proofs.SequentialIsBuffered.{sequential_is_allowed}
 use Rattle.the_answer.specs.OutcomeLists.{outcomes_of}
@@ -40,25 +40,25 @@ allowed_or_not q mode o forward = elim (cases_Bool (is_in (outcomes_of q mode) o
 
 module _ (q : Question) (gaps : SetOfGaps) (forward : JumpForward q.program.threads) where
   abbrev left : List Outcome
-  left = outcomes_of q (Fenced (gaps_in q.program gaps))
+  left = outcomes_of q (StoreBufferMachine (gaps_in q.program gaps))
 
   abbrev sequential : List Outcome
-  sequential = outcomes_of q Sequential
+  sequential = outcomes_of q SequentialMachine
 
   -- where the test passes each outcome is sequential
   passes_serves : does_serve q gaps ≡ true → Serves q gaps
   unfolding does_serve
   passes_serves e o = (
     (λ allowed.
-        let here = (outcomes_listed q (Fenced (gaps_in q.program gaps)) o forward).1 allowed in
-        (outcomes_listed q Sequential o forward).0 (found_is_here o sequential (each_passes (is_in sequential) left o e here))),
+        let here = (outcomes_listed q (StoreBufferMachine (gaps_in q.program gaps)) o forward).1 allowed in
+        (outcomes_listed q SequentialMachine o forward).0 (found_is_here o sequential (each_passes (is_in sequential) left o e here))),
     sequential_is_allowed q (gaps_in q.program gaps) o,
   )
 
   serves_passes : Serves q gaps → does_serve q gaps ≡ true
   unfolding does_serve
   serves_passes serves = all_pass (is_in sequential) left (λ o here.
-      here_is_found o sequential ((outcomes_listed q Sequential o forward).1 ((serves o).0 ((outcomes_listed q (Fenced (gaps_in q.program gaps)) o forward).0 here))))
+      here_is_found o sequential ((outcomes_listed q SequentialMachine o forward).1 ((serves o).0 ((outcomes_listed q (StoreBufferMachine (gaps_in q.program gaps)) o forward).0 here))))
 
   -- where it fails an outcome is found that is not
   fails_leaves : does_serve q gaps ≡ false → LeavesOutcome q gaps
@@ -67,8 +67,8 @@ module _ (q : Question) (gaps : SetOfGaps) (forward : JumpForward q.program.thre
       let (o, here, fails) = one_fails (is_in sequential) left e in
       record {
         outcome = o;
-        left = (outcomes_listed q (Fenced (gaps_in q.program gaps)) o forward).0 here;
-        foreign = λ allowed. (let no : false ≡ true = sym fails ∙ here_is_found o sequential ((outcomes_listed q Sequential o forward).1 allowed) in cc);
+        left = (outcomes_listed q (StoreBufferMachine (gaps_in q.program gaps)) o forward).0 here;
+        foreign = λ allowed. (let no : false ≡ true = sym fails ∙ here_is_found o sequential ((outcomes_listed q SequentialMachine o forward).1 allowed) in cc);
       }
 
   -- an outcome that is left makes the test fail

@@ -10,7 +10,7 @@ use Rattle.tso_program.specs.Fences.{Gaps}
 use Rattle.tso_machine.specs.declared.label.Label.{Label}
 use Rattle.tso_machine.specs.declared.label.Label.TheVariants.{Exec, Flush}
 use Rattle.tso_machine.specs.declared.label.Pending.{Pending}
-use Rattle.tso_machine.specs.Machine.{Mode, Sequential, Fenced, no_gaps, State, step}
+use Rattle.tso_machine.specs.Machine.{Machine, SequentialMachine, StoreBufferMachine, no_gaps, State, step}
 use Rattle.candidate_executions.proofs.Candidates.AllEvents.{no_code}
 use Rattle.candidate_executions.proofs.FromRuns.RunsAreShort.{run_bound}
 use Rattle.fence_laws.proofs.ChangedAt.{put_other}
@@ -70,9 +70,9 @@ module _ (p : Listing) where
         subst (λ (x : State). IsOfProgram p x t) (sym f.result) (stored_of s t f.oldest f.others none f.waiting)
 
   -- a step in either mode
-  pub of_program : (mode : Mode) (s z : State) (l : Label) → NoOtherThread p s → step p mode s l ≡ Some z → IsOfProgram p z (thread_of l)
-  of_program Sequential s z l none e = either_of no_gaps false s z l none e
-  of_program (Fenced gaps) s z l none e = either_of gaps true s z l none e
+  pub of_program : (mode : Machine) (s z : State) (l : Label) → NoOtherThread p s → step p mode s l ≡ Some z → IsOfProgram p z (thread_of l)
+  of_program SequentialMachine s z l none e = either_of no_gaps false s z l none e
+  of_program (StoreBufferMachine gaps) s z l none e = either_of gaps true s z l none e
 
 -- no thread is longer than the longest
 no_longer : (threads : List Thread) (t : ℕ) → length (code_of threads t) ≤ longest threads

@@ -11,23 +11,23 @@ use Rattle.tso_program.specs.declared.outcome.Outcome.{Outcome}
 use Rattle.tso_program.specs.Shown.{Question}
 use Rattle.tso_program.specs.Limits.{JumpForward, IsWithinLimits}
 use Rattle.tso_machine.specs.declared.label.Label.{Label}
-use Rattle.tso_machine.specs.Machine.{Mode, State, start, run}
+use Rattle.tso_machine.specs.Machine.{Machine, State, start, run}
 use Rattle.tso_machine.specs.Outcomes.{AllowsShown, Serves, LeavesOutcome, AreGapsOf, IsTheAnswer, Headline}
 use Rattle.the_answer.specs.OutcomeLists.{most_labels, outcomes_of}
 use Rattle.the_answer.specs.Answers.{does_serve, best_of, the_answer, least_cost}
 
 -- no run has more labels than that
 abbrev pub RunsAreBounded : Type 0
-RunsAreBounded = (p : Listing) (mode : Mode) (labels : List Label) (last : State) → JumpForward p.threads →
+RunsAreBounded = (p : Listing) (mode : Machine) (labels : List Label) (last : State) → JumpForward p.threads →
     run p mode (start p) labels ≡ Some last → length labels ≤ most_labels p
 
 -- the list has what the machine's runs show, and nothing else
 abbrev pub OutcomesAreListed : Type 0
-OutcomesAreListed = (q : Question) (mode : Mode) (o : Outcome) → JumpForward q.program.threads → Contains (outcomes_of q mode) o ↔ AllowsShown q mode o
+OutcomesAreListed = (q : Question) (mode : Machine) (o : Outcome) → JumpForward q.program.threads → Contains (outcomes_of q mode) o ↔ AllowsShown q mode o
 
 -- so it is decided whether some run of the machine shows an outcome
 abbrev pub EachOutcomeIsAllowedOrNot : Type 0
-EachOutcomeIsAllowedOrNot = (q : Question) (mode : Mode) (o : Outcome) → JumpForward q.program.threads → AllowsShown q mode o ⊎ ¬ AllowsShown q mode o
+EachOutcomeIsAllowedOrNot = (q : Question) (mode : Machine) (o : Outcome) → JumpForward q.program.threads → AllowsShown q mode o ⊎ ¬ AllowsShown q mode o
 
 -- what the test says of a set of gaps
 pub record TellsWhatServes (q : Question) (gaps : SetOfGaps) : Type 0 where

@@ -11,7 +11,7 @@ use Rattle.tso_program.specs.Listings.{action}
 use Rattle.tso_program.specs.Shown.{Question, show}
 use Rattle.tso_machine.specs.declared.label.Label.{Label}
 use Rattle.tso_machine.specs.declared.label.Label.TheVariants.{Exec, Flush}
-use Rattle.tso_machine.specs.Machine.{Mode, State, start, step, is_empty, outcome_at}
+use Rattle.tso_machine.specs.Machine.{Machine, State, start, step, is_empty, outcome_at}
 
 abbrev pub is_stop : Action → Bool
 is_stop Stop = true
@@ -38,7 +38,7 @@ abbrev pub outcomes_here : Listing → State → List Outcome
 outcomes_here p s = if list_all (has_ended p s) (threads_of p) then outcome_at p s ∷ [] else []
 
 -- the outcomes that at most so many steps lead to from a state
-abbrev pub outcomes_within : Listing → Mode → ℕ → State → List Outcome
+abbrev pub outcomes_within : Listing → Machine → ℕ → State → List Outcome
 outcomes_within p mode zero s = outcomes_here p s
 outcomes_within p mode (suc n) s =
     outcomes_here p s ++ flat_map (λ label. option_map_or (outcomes_within p mode n) (step p mode s label) []) (labels_to_try p)
@@ -53,5 +53,5 @@ abbrev pub most_labels : Listing → ℕ
 most_labels p = length p.threads * (longest p.threads + longest p.threads)
 
 -- what is shown of the outcomes of the mode's machine, each as often as runs have it
-unfoldable pub outcomes_of : Question → Mode → List Outcome
+unfoldable pub outcomes_of : Question → Machine → List Outcome
 outcomes_of q mode = map (show q.shown) (outcomes_within q.program mode (most_labels q.program) (start q.program))

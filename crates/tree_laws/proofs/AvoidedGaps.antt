@@ -9,7 +9,7 @@ use Rattle.tso_program.specs.Shown.{Question}
 use Rattle.tso_program.specs.Listings.{gap_number}
 use Rattle.tso_program.specs.Fences.{gaps_in}
 use Rattle.tso_machine.specs.declared.label.Label.{Label}
-use Rattle.tso_machine.specs.Machine.{Fenced, no_gaps, start, passes}
+use Rattle.tso_machine.specs.Machine.{StoreBufferMachine, no_gaps, start, passes}
 use Rattle.tso_machine.specs.Outcomes.{IsForeignRun, LeavesOutcome}
 use Rattle.tso_machine.proofs.Avoided.{run_fenced}
 use Rattle.tree_laws.specs.GapTrees.{PassesGap}
@@ -19,16 +19,16 @@ module _ (p : Listing) (gaps : SetOfGaps) (labels : List Label) where
   abbrev pub Avoids : Type 0
   Avoids = (gap : ℕ) → set.contains gaps gap ≡ true → ¬ PassesGap p labels gap
 
-  not_passed : Avoids → (t k : ℕ) → gaps_in p gaps t k ≡ true → passes p (Fenced no_gaps) (start p) labels t k ≡ false
+  not_passed : Avoids → (t k : ℕ) → gaps_in p gaps t k ≡ true → passes p (StoreBufferMachine no_gaps) (start p) labels t k ≡ false
   not_passed avoids t k there = by_number (gap_number p.threads t k) refl there
     where
-      by_test : (gap : ℕ) → gap_number p.threads t k ≡ Some gap → set.contains gaps gap ≡ true → (b : Bool) → passes p (Fenced no_gaps) (start p) labels t k ≡ b → b ≡ false
+      by_test : (gap : ℕ) → gap_number p.threads t k ≡ Some gap → set.contains gaps gap ≡ true → (b : Bool) → passes p (StoreBufferMachine no_gaps) (start p) labels t k ≡ b → b ≡ false
       by_test gap e h false q = refl
       by_test gap e h true q = absurd (avoids gap h (t, k, e, q))
 
-      by_number : (o : Option ℕ) → gap_number p.threads t k ≡ o → option_map_or (set.contains gaps) o false ≡ true → passes p (Fenced no_gaps) (start p) labels t k ≡ false
+      by_number : (o : Option ℕ) → gap_number p.threads t k ≡ o → option_map_or (set.contains gaps) o false ≡ true → passes p (StoreBufferMachine no_gaps) (start p) labels t k ≡ false
       by_number None e h = absurd cc
-      by_number (Some gap) e h = by_test gap e h (passes p (Fenced no_gaps) (start p) labels t k) refl
+      by_number (Some gap) e h = by_test gap e h (passes p (StoreBufferMachine no_gaps) (start p) labels t k) refl
 
 pub leaves_outcome : (q : Question) (gaps : SetOfGaps) (labels : List Label) (o : Outcome) → IsForeignRun q labels o → Avoids q.program gaps labels → LeavesOutcome q gaps
 leaves_outcome q gaps labels o f avoids =

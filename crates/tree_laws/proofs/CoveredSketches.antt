@@ -4,7 +4,7 @@ use Rattle.tso_program.specs.declared.listing.Listing.{Listing}
 use Rattle.tso_program.specs.declared.outcome.Outcome.{Outcome}
 use Rattle.tso_program.specs.Shown.{Question}
 use Rattle.tso_program.specs.Limits.{JumpForward}
-use Rattle.tso_machine.specs.Machine.{Mode}
+use Rattle.tso_machine.specs.Machine.{Machine}
 use Rattle.candidate_executions.specs.declared.event.Event.{Event}
 use Rattle.candidate_executions.specs.declared.event.Kind.{Kind}
 use Rattle.candidate_executions.specs.Candidates.{Candidate}
@@ -19,13 +19,13 @@ use Rattle.tree_laws.specs.Laws.{AValidCoverCovers}
 use Rattle.tree_laws.proofs.Lists.{none_here, first_or_later, mapped, found_is_here}
 
 -- a completion of one sketch that completes another
-of_other : (p : Listing) (mode : Mode) (k j : Sketch) (c : Candidate) → IsConsistentCompletion p mode k c → Completes j c → IsConsistentCompletion p mode j c
+of_other : (p : Listing) (mode : Machine) (k j : Sketch) (c : Candidate) → IsConsistentCompletion p mode k c → Completes j c → IsConsistentCompletion p mode j c
 of_other p mode k j c is completes = record { is_candidate = is.is_candidate; consistent = is.consistent; completes = completes }
 
-turned : (p : Listing) (mode : Mode) (k : Sketch) (d e : Event) → IsPair p mode k d e → IsPair p mode k e d
+turned : (p : Listing) (mode : Machine) (k : Sketch) (d e : Event) → IsPair p mode k d e → IsPair p mode k e d
 turned p mode k d e (differ, (l, v, w, first, second, not_first, not_second)) = ((λ q. differ (sym q)), (l, w, v, second, first, not_second, not_first))
 
-module _ (q : Question) (mode : Mode) (outcomes : List Outcome) (forward : JumpForward q.program.threads) where
+module _ (q : Question) (mode : Machine) (outcomes : List Outcome) (forward : JumpForward q.program.threads) where
   abbrev p : Listing
   p = q.program
 

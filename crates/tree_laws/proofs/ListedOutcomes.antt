@@ -2,11 +2,10 @@
 use Rattle.std.proofs.Common.{List, [], ◌∷◌, Contains, sym, ap, ◌∙◌, subst, inl, inr, ◌≡◌}
 use Rattle.tso_program.specs.declared.outcome.Outcome.{Outcome}
 use Rattle.tso_program.specs.Shown.{Question, show}
-use Rattle.tso_program.proofs.Kept.{shown_twice}
 use Rattle.tso_program.specs.Fences.{gaps_in}
 use Rattle.tso_program.specs.Limits.{JumpForward}
 use Rattle.tso_machine.specs.declared.label.Label.{Label}
-use Rattle.tso_machine.specs.Machine.{Mode, Sequential, Fenced}
+use Rattle.tso_machine.specs.Machine.{Machine, SequentialMachine, StoreBufferMachine}
 use Rattle.tso_machine.specs.Outcomes.{IsShownRun, AllowsShown, IsSequentialOutcome}
 use Rattle.candidate_executions.specs.Sketches.{empty_sketch}
 use Rattle.candidate_executions.proofs.Sketches.Choices.{empty_is_a_sketch}
@@ -21,14 +20,14 @@ use Rattle.tree_laws.proofs.Lists.{none_here, first_or_later}
 use Rattle.tree_laws.proofs.CoveredSketches.{valid_covers}
 
 pub listed : ACoveredListHasEachOutcome
-listed q mode outcomes o forward are_shown covered (labels, (whole, is_run, shown)) =
+listed q mode outcomes o forward covered (labels, (whole, is_run, shown)) =
     let (c, completes, has) = every_run_is_a_completion q.program mode labels whole forward is_run in
     let (known, in_list, (other, has_too, same)) = covered c completes in
     let one : whole ≡ other = outcomes_are_one q.program mode c whole other completes.is_candidate has has_too in
-    subst (λ (x : Outcome). Contains outcomes x) (sym (shown ∙ ap (show q.shown) one ∙ same ∙ are_shown known in_list)) in_list
+    subst (λ (x : Outcome). Contains outcomes x) (sym (shown ∙ ap (show q.shown) one ∙ sym same)) in_list
 
 -- a valid tree covers the sketch with no choice
-covered_from_nothing : (q : Question) (mode : Mode) (outcomes : List Outcome) (tree : Cover) → JumpForward q.program.threads →
+covered_from_nothing : (q : Question) (mode : Machine) (outcomes : List Outcome) (tree : Cover) → JumpForward q.program.threads →
     IsValidCover q mode outcomes tree (empty_sketch q.program) → IsCovered q mode outcomes (empty_sketch q.program)
 covered_from_nothing q mode outcomes tree forward valid = valid_covers q mode outcomes tree (empty_sketch q.program) forward (empty_is_a_sketch q.program mode) valid
 
@@ -38,23 +37,19 @@ of_runs q [] [] o replayed here = absurd (none_here o here)
 of_runs q [] (x ∷ xs) o replayed here = absurd replayed
 of_runs q (labels ∷ runs) [] o replayed here = absurd replayed
 of_runs q (labels ∷ runs) (x ∷ xs) o (is_run, others) here = elim (first_or_later x xs o here) [
-  | inl e ↦ (labels, subst (IsShownRun q Sequential labels) e is_run)
+  | inl e ↦ (labels, subst (IsShownRun q SequentialMachine labels) e is_run)
   | inr later ↦ of_runs q runs xs o others later
 ]
-
--- what a machine shows of an outcome shows all of itself
-pub allowed_is_shown : (q : Question) (mode : Mode) (o : Outcome) → AllowsShown q mode o → show q.shown o ≡ o
-allowed_is_shown q mode o (labels, (whole, is_run, shown)) = ap (show q.shown) shown ∙ shown_twice q.shown whole ∙ sym shown
 
 pub sequential_list : AValidTreeMakesTheSequentialList
 sequential_list q runs outcomes tree forward replayed valid o = (
   of_runs q runs outcomes o replayed,
-  listed q Sequential outcomes o forward (λ x here. allowed_is_shown q Sequential x (of_runs q runs outcomes x replayed here)) (covered_from_nothing q Sequential outcomes tree forward valid),
+  listed q SequentialMachine outcomes o forward (covered_from_nothing q SequentialMachine outcomes tree forward valid),
 )
 
 pub fenced_tree_serves : AValidFencedTreeServes
 fenced_tree_serves q gaps outcomes tree forward list valid o =
-    let mode : Mode = Fenced (gaps_in q.program gaps) in (
-      (λ allowed. (list o).0 (listed q mode outcomes o forward (λ x here. allowed_is_shown q Sequential x ((list x).0 here)) (covered_from_nothing q mode outcomes tree forward valid) allowed)),
+    let mode : Machine = StoreBufferMachine (gaps_in q.program gaps) in (
+      (λ allowed. (list o).0 (listed q mode outcomes o forward (covered_from_nothing q mode outcomes tree forward valid) allowed)),
       sequential_is_allowed q (gaps_in q.program gaps) o,
     )

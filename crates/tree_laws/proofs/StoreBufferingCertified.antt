@@ -5,7 +5,7 @@ use Rattle.std.specs.FinSet as set
 use Rattle.gap_sets.proofs.Examples.{total-these}
 use Rattle.tso_program.specs.Limits.{IsWithinLimits}
 use Rattle.tso_program.proofs.WithinLimits.{limits_are_the_refusals}
-use Rattle.tso_machine.specs.Machine.{Sequential}
+use Rattle.tso_machine.specs.Machine.{SequentialMachine}
 use Rattle.tso_machine.specs.Outcomes.{AreGapsOf}
 use Rattle.tso_machine.specs.Examples.{store_buffering}
 use Rattle.candidate_executions.specs.declared.event.Kind.TheVariants as union
@@ -33,7 +33,7 @@ valid = record {
   cost = sym (total-these costs (0 ∷ 1 ∷ []));
   outcomes = outcomes;
   replayed = replayed;
-  sequential = cover_is_valid Sequential union.Sequential sequential_cycle;
+  sequential = cover_is_valid SequentialMachine union.Sequential sequential_cycle;
   foreign = all_outside;
   fenced = cover_is_valid both_fenced union.Global fenced_cycle;
   least = gap_tree_is_valid;

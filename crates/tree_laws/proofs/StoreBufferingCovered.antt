@@ -6,7 +6,7 @@ use Rattle.std.proofs.lemmas.Option.{same_Some}
 use Rattle.tso_program.specs.declared.outcome.Outcome.{Outcome}
 use Rattle.tso_program.specs.declared.shown.Shown.TheVariants.{All}
 use Rattle.tso_program.specs.Shown.{Question, asked}
-use Rattle.tso_machine.specs.Machine.{Mode}
+use Rattle.tso_machine.specs.Machine.{Machine}
 use Rattle.tso_machine.specs.Examples.{store_buffering, ends_with}
 use Rattle.candidate_executions.specs.declared.access.Access.{Access}
 use Rattle.candidate_executions.specs.declared.event.Event.{Event}
@@ -47,7 +47,7 @@ thread_of (At t i) = t
 another_thread : (d e : Event × Event) → thread_of d.0 ≡ 0 → thread_of e.0 ≡ 1 → d ≡ e → ⊥
 another_thread d e first second same = let one : thread_of d.0 ≡ thread_of e.0 = ap (λ (z : Event × Event). thread_of z.0) same in omega arith
 
-module _ (mode : Mode) where
+module _ (mode : Machine) where
   first_next : HasNextValues store_buffering mode (empty_sketch store_buffering) 0 zero_one
   first_next = record { location = 1; next = refl; ascending = ascending; exact = values 1 (lit< tt) }
 
@@ -72,7 +72,7 @@ module _ (mode : Mode) where
       absurd (not_last a b l h (subst (λ (n : ℕ). MayBeLast store_buffering mode (both a b) l (Initial n)) (writes_initial mode a b m l v writes) last))
 
   ends : (a b : ℕ) → MustEndAs question mode (both a b) (end_of a b)
-  ends a b = record { whole = whole mode a b; registers = refl; long = refl; memory = λ l v e h. last_writes a b l v e h }
+  ends a b = (whole mode a b, record { registers = refl; long = refl; memory = λ l v e h. last_writes a b l v e h })
 
   -- under both values 0, the one source of a read is the initial write of its location
   only_initial : (l : ℕ) (s : Event) → Writes (access_by store_buffering mode (given_to (both 0 0))) s l 0 → Initial l ≡ s

@@ -3,7 +3,7 @@ use Rattle.std.proofs.Common.{◌≡◌, ◌≢◌, ℕ, Bool, true, false, [], 
 use Rattle.std.specs.FinSet as set
 use Rattle.gap_sets.specs.Laws.{these}
 use Rattle.tso_program.specs.Fences.{gaps_in}
-use Rattle.tso_machine.specs.Machine.{Mode, Sequential, Fenced}
+use Rattle.tso_machine.specs.Machine.{Machine, SequentialMachine, StoreBufferMachine}
 use Rattle.tso_machine.specs.Examples.{store_buffering}
 use Rattle.candidate_executions.specs.declared.event.Event.TheVariants.{Initial}
 use Rattle.candidate_executions.specs.declared.event.Kind.TheVariants as union
@@ -14,8 +14,8 @@ use Rattle.cert_forest.specs.StoreBuffering.{around}
 use Rattle.tree_laws.proofs.StoreBufferingCovered.{read_twice}
 
 -- the gaps 0:1 and 1:1
-abbrev pub both_fenced : Mode
-both_fenced = Fenced (gaps_in store_buffering (these (0 ∷ 1 ∷ [])))
+abbrev pub both_fenced : Machine
+both_fenced = StoreBufferMachine (gaps_in store_buffering (these (0 ∷ 1 ∷ [])))
 
 -- a fenced gap ends a section
 new_section : (b : Bool) (n m : ℕ) → b ≡ true → m ≡ n → m ≢ entered b n
@@ -28,7 +28,7 @@ first_fenced = set.contains-from_list_nat (0 ∷ 1 ∷ []) 0
 second_fenced : set.contains (these (0 ∷ 1 ∷ [])) 1 ≡ true
 second_fenced = set.contains-from_list_nat (0 ∷ 1 ∷ []) 1
 
-pub sequential_cycle : IsKnownCycle store_buffering Sequential (read_twice Sequential) union.Sequential (map event_of around)
+pub sequential_cycle : IsKnownCycle store_buffering SequentialMachine (read_twice SequentialMachine) union.Sequential (map event_of around)
 sequential_cycle = (
   (tt, (_, _, refl, refl, inl (refl, lit< tt))),
   (

@@ -7,7 +7,7 @@ use Rattle.tso_program.specs.Listings.{action, gap_number}
 use Rattle.tso_program.proofs.Gaps.{gap_below, gap_same}
 use Rattle.tso_machine.specs.declared.label.Label.{Label}
 use Rattle.tso_machine.specs.declared.label.Pending.{Pending}
-use Rattle.tso_machine.specs.Machine.{Sequential, Fenced, no_gaps, State, start, run, HasEnded, passes}
+use Rattle.tso_machine.specs.Machine.{SequentialMachine, StoreBufferMachine, no_gaps, State, start, run, HasEnded, passes}
 use Rattle.tso_machine.specs.Examples.{store_buffering, waiting_stores}
 use Rattle.tso_machine.proofs.Runs.{no_action, no_stores}
 use Rattle.tso_machine.proofs.Refused.{run_keeps}
@@ -22,7 +22,7 @@ abbrev IsDone : State → ℕ → Type 0
 IsDone s t = (action store_buffering.threads t (s.locals t) ≡ Stop) × (s.buffers t ≡ [])
 
 -- the two threads are at their ends, and there is no other
-ended : (labels : List Label) (last : State) → run store_buffering (Fenced no_gaps) (start store_buffering) labels ≡ Some last → IsDone last 0 → IsDone last 1 → HasEnded store_buffering last
+ended : (labels : List Label) (last : State) → run store_buffering (StoreBufferMachine no_gaps) (start store_buffering) labels ≡ Some last → IsDone last 0 → IsDone last 1 → HasEnded store_buffering last
 ended labels last runs first second zero = first
 ended labels last runs first second (suc zero) = second
 ended labels last runs first second (suc (suc t)) =
@@ -30,7 +30,7 @@ ended labels last runs first second (suc (suc t)) =
     (no_action store_buffering (suc (suc t)) (last.locals (suc (suc t))) out, run_keeps store_buffering (suc (suc t)) out no_gaps labels (start store_buffering) last refl runs)
 
 -- the same in the sequential machine, where no store waits
-ended_in_turn : (labels : List Label) (last : State) → run store_buffering Sequential (start store_buffering) labels ≡ Some last →
+ended_in_turn : (labels : List Label) (last : State) → run store_buffering SequentialMachine (start store_buffering) labels ≡ Some last →
     action store_buffering.threads 0 (last.locals 0) ≡ Stop → action store_buffering.threads 1 (last.locals 1) ≡ Stop → HasEnded store_buffering last
 ended_in_turn labels last runs first second t = (done t, ap (λ (f : ℕ → List Pending). f t) (no_stores store_buffering labels (start store_buffering) last runs))
   where
@@ -82,12 +82,12 @@ pub passed_below : (labels : List Label) (gap : ℕ) → PassesGap store_bufferi
 passed_below labels gap (t, k, number, passed) = gap_below store_buffering.threads t k gap number
 
 -- a gap that is not passed at its place is not passed
-not_at_place : (labels : List Label) (u j gap : ℕ) → gap_number store_buffering.threads u j ≡ Some gap → passes store_buffering (Fenced no_gaps) (start store_buffering) labels u j ≡ false →
+not_at_place : (labels : List Label) (u j gap : ℕ) → gap_number store_buffering.threads u j ≡ Some gap → passes store_buffering (StoreBufferMachine no_gaps) (start store_buffering) labels u j ≡ false →
     ¬ PassesGap store_buffering labels gap
 not_at_place labels u j gap there none (t, k, number, passed) =
     let (thread, place) = gap_same store_buffering.threads t k u j gap number there in
-    let at : passes store_buffering (Fenced no_gaps) (start store_buffering) labels t k ≡ passes store_buffering (Fenced no_gaps) (start store_buffering) labels u j =
-    λ i. passes store_buffering (Fenced no_gaps) (start store_buffering) labels (thread i) (place i) in
+    let at : passes store_buffering (StoreBufferMachine no_gaps) (start store_buffering) labels t k ≡ passes store_buffering (StoreBufferMachine no_gaps) (start store_buffering) labels u j =
+    λ i. passes store_buffering (StoreBufferMachine no_gaps) (start store_buffering) labels (thread i) (place i) in
     let no_way : true ≡ false = sym passed ∙ at ∙ none in cc
 
 pub both_passed : (gap : ℕ) → gap < 2 → PassesGap store_buffering waiting_stores gap

@@ -6,7 +6,7 @@ use Rattle.tso_program.specs.declared.instruction.Reg.TheVariants.{Eax}
 use Rattle.tso_program.specs.declared.instruction.Instr.{Instr}
 use Rattle.tso_program.specs.declared.instruction.Instr.TheVariants.{Load, StoreImm, Store, Xchg}
 use Rattle.tso_program.specs.Listings.{instr_at}
-use Rattle.tso_machine.specs.Machine.{Mode}
+use Rattle.tso_machine.specs.Machine.{Machine}
 use Rattle.tso_machine.specs.Examples.{store_buffering}
 use Rattle.candidate_executions.specs.declared.access.Access.{Access}
 use Rattle.candidate_executions.specs.declared.event.Event.TheVariants.{Initial, Access as At}
@@ -79,7 +79,7 @@ values l h v = (there, back)
 abbrev pub both : ℕ → ℕ → Sketch
 both a b = with_value (with_value (empty_sketch store_buffering) 0 a) 1 b
 
-module _ (mode : Mode) (a b : ℕ) where
+module _ (mode : Machine) (a b : ℕ) where
   pub whole : IsWhole store_buffering mode (both a b)
   whole zero = refl
   whole (suc zero) = refl

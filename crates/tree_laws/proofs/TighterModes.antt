@@ -1,14 +1,21 @@
 -- A cover tree that is valid in a mode is valid in each tighter one: of what is known of a sketch only sections change, and of two modes with gaps fenced they come no closer.
-use Rattle.std.proofs.Common.{◌≡◌, ◌⊎◌, ℕ, List, [], ◌∷◌, Some, IsSome, map, length, refl, sym, ap, ◌∙◌, subst, inl, inr}
+use Rattle.std.proofs.Common.{◌≡◌, ◌⊎◌, ℕ, Bool, List, [], ◌∷◌, Some, IsSome, map, length, refl, sym, ap, ◌∙◌, subst, inl, inr}
 use mathlib.Core.Path.{fun_ext}
 use Rattle.std.specs.List.{range_with_len}
 use Rattle.tso_program.specs.declared.action.Local.{Local}
 use Rattle.tso_program.specs.declared.listing.Listing.{Listing}
 use Rattle.tso_program.specs.declared.outcome.Outcome.{Outcome}
+use Rattle.tso_program.specs.declared.shown.Shown.{Shown}
+use Rattle.tso_program.specs.declared.shown.Shown.TheVariants.{All, Only, Truth}
+use Rattle.tso_program.specs.declared.atom.Atom.{Atom}
+use Rattle.tso_program.specs.declared.atom.Atom.TheVariants as atom
+use Rattle.tso_program.specs.Tree.{Tree}
+use Rattle.tso_program.specs.Truth.{is_true_at}
+use Rattle.tso_program.proofs.KnownTruths.{known_more}
 use Rattle.tso_program.specs.Shown.{Question, show_registers}
 use Rattle.tso_program.specs.Listings.{action, start_of, code_of}
 use Rattle.tso_program.specs.Fences.{Gaps}
-use Rattle.tso_machine.specs.Machine.{Mode, Sequential, Fenced, no_gaps}
+use Rattle.tso_machine.specs.Machine.{Machine, SequentialMachine, StoreBufferMachine, no_gaps}
 use Rattle.candidate_executions.specs.declared.access.Access.{Access}
 use Rattle.candidate_executions.specs.declared.event.Event.{Event}
 use Rattle.candidate_executions.specs.declared.event.Event.TheVariants.{Initial, Access as At}
@@ -17,7 +24,7 @@ use Rattle.candidate_executions.specs.declared.event.Kind.TheVariants as union
 use Rattle.candidate_executions.specs.Traces.{fenced_gaps, trace_by}
 use Rattle.candidate_executions.specs.Candidates.{access_by, Writes}
 use Rattle.candidate_executions.specs.Consistency.{Precedes, KeepsOrder, IsOfMode}
-use Rattle.candidate_executions.specs.Sketches.{Sketch, given_to, IsSourceOf, IsPair, with_value, with_source, with_pair, read_by, next_read, IsWhole, MayBeLast, MustEndAs, IsBefore, KnownFromReads, KnownRelates, KnownEdgeOfMode, IsKnownCycle}
+use Rattle.candidate_executions.specs.Sketches.{Sketch, given_to, IsSourceOf, IsPair, with_value, with_source, with_pair, read_by, next_read, IsWhole, MayBeLast, stopped, EndsInValues, KnownAtom, EndsAs, MustEndAs, IsBefore, KnownFromReads, KnownRelates, KnownEdgeOfMode, IsKnownCycle}
 use Rattle.candidate_executions.proofs.Orders.WiderRelations.{cycle_wider}
 use Rattle.cert_forest.specs.Trees.{Cover, Value, Source, Order, Cycle, Known, Covers, NoCover, MoreCovers}
 use Rattle.tree_laws.specs.CoverTrees.{event_of, HasNextValues, HasSources, HasNoOrder, MustEndAsNumber, IsValidCover, AreValidCovers}
@@ -31,20 +38,20 @@ none_among gaps t i h = absurd cc
 
 module _ (p : Listing) (k : Sketch) where
   -- an access is one of the mode, but for its section
-  abbrev IsAlso : Mode → Event → Access → Type 0
+  abbrev IsAlso : Machine → Event → Access → Type 0
   IsAlso mode e x = (y : Access) × (access_by p mode (given_to k) e ≡ Some y) × (bare x ≡ bare y)
 
   -- so each access of the first mode is one of the second
-  abbrev AreAlso : Mode → Mode → Type 0
+  abbrev AreAlso : Machine → Machine → Type 0
   AreAlso one other = (e : Event) (x : Access) → access_by p one (given_to k) e ≡ Some x → IsAlso other e x
 
   -- two modes have the same accesses but for their sections, and their traces end in one state
-  record AreAlike (one other : Mode) : Type 0 where
+  record AreAlike (one other : Machine) : Type 0 where
     forth : AreAlso one other
     back : AreAlso other one
     last : (t : ℕ) → (trace_by p one (given_to k) t).last ≡ (trace_by p other (given_to k) t).last
 
-  module _ (one other : Mode) (among : AreAmong (fenced_gaps one) (fenced_gaps other)) where
+  module _ (one other : Machine) (among : AreAmong (fenced_gaps one) (fenced_gaps other)) where
     wider : (t : ℕ) → IsWiderTrace 0 0 (trace_by p one (given_to k) t) (trace_by p other (given_to k) t)
     wider t = wider_trace (action p.threads t) (fenced_gaps one t) (fenced_gaps other t) (among t) (length (code_of p.threads t)) 0 0 (start_of p.threads t) (given_to k t)
 
@@ -59,17 +66,17 @@ module _ (p : Listing) (k : Sketch) where
     alike_wider : AreAlike one other
     alike_wider = record { forth = forth; back = back; last = λ t. (wider t).last }
 
-  turned_about : (one other : Mode) → AreAlike one other → AreAlike other one
+  turned_about : (one other : Machine) → AreAlike one other → AreAlike other one
   turned_about one other is = record { forth = is.back; back = is.forth; last = λ t. sym (is.last t) }
 
-  alike : (loose tight : Mode) → IsNoLooser loose tight → AreAlike loose tight
-  alike (Fenced fewer) (Fenced more) among = alike_wider (Fenced fewer) (Fenced more) among
-  alike (Fenced fewer) Sequential tighter = turned_about Sequential (Fenced fewer) (alike_wider Sequential (Fenced fewer) (none_among fewer))
-  alike Sequential (Fenced more) tighter = absurd tighter
-  alike Sequential Sequential tighter = alike_wider Sequential Sequential (λ t i h. h)
+  alike : (loose tight : Machine) → IsNoLooser loose tight → AreAlike loose tight
+  alike (StoreBufferMachine fewer) (StoreBufferMachine more) among = alike_wider (StoreBufferMachine fewer) (StoreBufferMachine more) among
+  alike (StoreBufferMachine fewer) SequentialMachine tighter = turned_about SequentialMachine (StoreBufferMachine fewer) (alike_wider SequentialMachine (StoreBufferMachine fewer) (none_among fewer))
+  alike SequentialMachine (StoreBufferMachine more) tighter = absurd tighter
+  alike SequentialMachine SequentialMachine tighter = alike_wider SequentialMachine SequentialMachine (λ t i h. h)
 
   -- what is a write or a source in a mode is in each that has its accesses
-  module _ (mode other : Mode) (too : AreAlso mode other) where
+  module _ (mode other : Machine) (too : AreAlso mode other) where
     writes : (e : Event) (l v : ℕ) → Writes (access_by p mode (given_to k)) e l v → Writes (access_by p other (given_to k)) e l v
     writes e l v (x, a, q, w) =
         let (y, b, s) = too e x a in
@@ -89,10 +96,10 @@ module _ (p : Listing) (k : Sketch) where
   -- where one access keeps its order before another, it still does with more gaps fenced
   module _ (fewer more : Gaps) (among : AreAmong fewer more) where
     abbrev loosely : Event → Access → Type 0
-    loosely e x = access_by p (Fenced fewer) (given_to k) e ≡ Some x
+    loosely e x = access_by p (StoreBufferMachine fewer) (given_to k) e ≡ Some x
 
     abbrev tightly : Event → Access → Type 0
-    tightly e x = access_by p (Fenced more) (given_to k) e ≡ Some x
+    tightly e x = access_by p (StoreBufferMachine more) (given_to k) e ≡ Some x
 
     keeps_order : (d e : Event) (x y z w : Access) → Precedes d e → loosely d x → loosely e y → tightly d z → tightly e w →
         bare x ≡ bare z → bare y ≡ bare w → KeepsOrder x y → KeepsOrder z w
@@ -101,10 +108,10 @@ module _ (p : Listing) (k : Sketch) where
     keeps_order (Initial l) e x y z w before a b c f q r (inr (inr apart)) = absurd before
     keeps_order (At t i) (Initial l) x y z w before a b c f q r (inr (inr apart)) = absurd before
     keeps_order (At t i) (At u j) x y z w before a b c f q r (inr (inr apart)) =
-        inr (inr (still_apart 0 0 _ _ i j x y z w (wider (Fenced fewer) (Fenced more) among t).accesses before.1 a (of_one_thread fewer y b) c (of_one_thread more w f) apart))
+        inr (inr (still_apart 0 0 _ _ i j x y z w (wider (StoreBufferMachine fewer) (StoreBufferMachine more) among t).accesses before.1 a (of_one_thread fewer y b) c (of_one_thread more w f) apart))
       where
-        of_one_thread : (gaps : Gaps) (v : Access) → access_by p (Fenced gaps) (given_to k) (At u j) ≡ Some v → access_by p (Fenced gaps) (given_to k) (At t j) ≡ Some v
-        of_one_thread gaps v h = subst (λ (n : ℕ). access_by p (Fenced gaps) (given_to k) (At n j) ≡ Some v) (sym before.0) h
+        of_one_thread : (gaps : Gaps) (v : Access) → access_by p (StoreBufferMachine gaps) (given_to k) (At u j) ≡ Some v → access_by p (StoreBufferMachine gaps) (given_to k) (At t j) ≡ Some v
+        of_one_thread gaps v h = subst (λ (n : ℕ). access_by p (StoreBufferMachine gaps) (given_to k) (At n j) ≡ Some v) (sym before.0) h
 
     fenced_relates : (kind : Kind) (d e : Event) (x y z w : Access) → loosely d x → loosely e y → tightly d z → tightly e w → bare x ≡ bare z → bare y ≡ bare w →
         KnownRelates k kind d x e y → KnownRelates k kind d z e w
@@ -128,11 +135,11 @@ module _ (p : Listing) (k : Sketch) where
       by_kind union.Global (inr (inr h)) = inr (inr h)
 
 -- the union of the mode that has the edges of this one
-abbrev kind_in : Mode → Kind → Kind
-kind_in Sequential kind = union.Sequential
-kind_in (Fenced gaps) kind = kind
+abbrev kind_in : Machine → Kind → Kind
+kind_in SequentialMachine kind = union.Sequential
+kind_in (StoreBufferMachine gaps) kind = kind
 
-module _ (p : Listing) (loose tight : Mode) (tighter : IsNoLooser loose tight) (k : Sketch) where
+module _ (p : Listing) (loose tight : Machine) (tighter : IsNoLooser loose tight) (k : Sketch) where
   both : AreAlike p k loose tight
   both = alike p k loose tight tighter
 
@@ -176,71 +183,95 @@ module _ (p : Listing) (loose tight : Mode) (tighter : IsNoLooser loose tight) (
       let (w, f, r) = both.forth e y b in
       by_modes loose tight tighter of_mode x y z w a b c f q r relates
     where
-      by_modes : (loose tight : Mode) → IsNoLooser loose tight → IsOfMode loose kind → (x y z w : Access) →
+      by_modes : (loose tight : Machine) → IsNoLooser loose tight → IsOfMode loose kind → (x y z w : Access) →
           access_by p loose (given_to k) d ≡ Some x → access_by p loose (given_to k) e ≡ Some y →
           access_by p tight (given_to k) d ≡ Some z → access_by p tight (given_to k) e ≡ Some w → bare x ≡ bare z → bare y ≡ bare w →
           KnownRelates k kind d x e y → KnownEdgeOfMode p tight k (kind_in tight kind) d e
-      by_modes (Fenced fewer) (Fenced more) among of_mode x y z w a b c f q r h =
+      by_modes (StoreBufferMachine fewer) (StoreBufferMachine more) among of_mode x y z w a b c f q r h =
           (of_mode, (z, w, c, f, fenced_relates p k fewer more among kind d e x y z w a b c f q r h))
-      by_modes Sequential (Fenced more) tighter of_mode x y z w a b c f q r h = absurd tighter
-      by_modes loose Sequential tighter of_mode x y z w a b c f q r h = (tt, (z, w, c, f, sequentially p k kind d e x y z w r h))
+      by_modes SequentialMachine (StoreBufferMachine more) tighter of_mode x y z w a b c f q r h = absurd tighter
+      by_modes loose SequentialMachine tighter of_mode x y z w a b c f q r h = (tt, (z, w, c, f, sequentially p k kind d e x y z w r h))
 
   cycle_forth : (kind : Kind) (es : List Event) → IsKnownCycle p loose k kind es → IsKnownCycle p tight k (kind_in tight kind) es
   cycle_forth kind = cycle_wider (KnownEdgeOfMode p loose k kind) (KnownEdgeOfMode p tight k (kind_in tight kind)) (edge_forth kind)
 
 -- the tree with cycles of the unions of the mode, each worked out
 abbrev mutual
-  turned : Mode → Cover → Cover
+  turned : Machine → Cover → Cover
   turned mode (Value t trees) = Value t (each_turned mode trees)
   turned mode (Source read trees) = Source read (each_turned mode trees)
   turned mode (Order first second one other) = Order first second (turned mode one) (turned mode other)
   turned mode (Cycle kind events) = Cycle (kind_in mode kind) events
   turned mode (Known number) = Known number
 
-  each_turned : Mode → Covers → Covers
+  each_turned : Machine → Covers → Covers
   each_turned mode NoCover = NoCover
   each_turned mode (MoreCovers tree trees) = MoreCovers (turned mode tree) (each_turned mode trees)
 
 mutual
-  turned_in_sequence : (tree : Cover) → turned Sequential tree ≡ in_sequence tree
+  turned_in_sequence : (tree : Cover) → turned SequentialMachine tree ≡ in_sequence tree
   turned_in_sequence (Value t trees) = ap (Value t) (each_turned_in_sequence trees)
   turned_in_sequence (Source read trees) = ap (Source read) (each_turned_in_sequence trees)
   turned_in_sequence (Order first second one other) = λ i. Order first second (turned_in_sequence one i) (turned_in_sequence other i)
   turned_in_sequence (Cycle kind events) = refl
   turned_in_sequence (Known number) = refl
 
-  each_turned_in_sequence : (trees : Covers) → each_turned Sequential trees ≡ each_in_sequence trees
+  each_turned_in_sequence : (trees : Covers) → each_turned SequentialMachine trees ≡ each_in_sequence trees
   each_turned_in_sequence NoCover = refl
   each_turned_in_sequence (MoreCovers tree trees) = λ i. MoreCovers (turned_in_sequence tree i) (each_turned_in_sequence trees i)
 
 mutual
-  turned_stays : (gaps : Gaps) (tree : Cover) → turned (Fenced gaps) tree ≡ tree
+  turned_stays : (gaps : Gaps) (tree : Cover) → turned (StoreBufferMachine gaps) tree ≡ tree
   turned_stays gaps (Value t trees) = ap (Value t) (each_turned_stays gaps trees)
   turned_stays gaps (Source read trees) = ap (Source read) (each_turned_stays gaps trees)
   turned_stays gaps (Order first second one other) = λ i. Order first second (turned_stays gaps one i) (turned_stays gaps other i)
   turned_stays gaps (Cycle kind events) = refl
   turned_stays gaps (Known number) = refl
 
-  each_turned_stays : (gaps : Gaps) (trees : Covers) → each_turned (Fenced gaps) trees ≡ trees
+  each_turned_stays : (gaps : Gaps) (trees : Covers) → each_turned (StoreBufferMachine gaps) trees ≡ trees
   each_turned_stays gaps NoCover = refl
   each_turned_stays gaps (MoreCovers tree trees) = λ i. MoreCovers (turned_stays gaps tree i) (each_turned_stays gaps trees i)
 
-turned_in_mode : (mode : Mode) (tree : Cover) → turned mode tree ≡ in_mode mode tree
-turned_in_mode Sequential tree = turned_in_sequence tree
-turned_in_mode (Fenced gaps) tree = turned_stays gaps tree
+turned_in_mode : (mode : Machine) (tree : Cover) → turned mode tree ≡ in_mode mode tree
+turned_in_mode SequentialMachine tree = turned_in_sequence tree
+turned_in_mode (StoreBufferMachine gaps) tree = turned_stays gaps tree
 
-module _ (q : Question) (loose tight : Mode) (tighter : IsNoLooser loose tight) where
+module _ (q : Question) (loose tight : Machine) (tighter : IsNoLooser loose tight) where
   abbrev p : Listing
   p = q.program
 
+  module _ (k : Sketch) (o : Outcome) where
+    same_stopped : stopped p tight k ≡ stopped p loose k
+    same_stopped = sym (ap (λ f. map f (range_with_len 0 (length p.threads))) (fun_ext (λ t. ap (λ (s : Local). s.registers) ((both p loose tight tighter k).last t))))
+
+    values_kept : (shown : Shown) → EndsInValues p loose k shown o → EndsInValues p tight k shown o
+    values_kept shown ends = record {
+      registers = ends.registers ∙ sym (ap (show_registers shown) same_stopped);
+      long = ends.long;
+      memory = λ l v e within w last. ends.memory l v e within (written_back p loose tight tighter k e l v w) (last_back p loose tight tighter k l e last);
+    }
+
+    atom_kept : (b : Bool) (a : Atom) → KnownAtom p loose k b a → KnownAtom p tight k b a
+    atom_kept b (atom.Register t r v) (none, known) = (
+      same_next p loose tight tighter k t ∙ none,
+      ap (λ (registers : List (List ℕ)). is_true_at (record { registers = registers; memory = [] }) (atom.Register t r v)) same_stopped ∙ known,
+    )
+    atom_kept b (atom.Location l v) (known, past) = (
+      λ h. (
+        whole_forth p loose tight tighter k (known h).0,
+        λ w (e, writes, last). (known h).1 w (e, written_back p loose tight tighter k e l w writes, last_back p loose tight tighter k l e last),
+      ),
+      past,
+    )
+
+    ends_kept : (shown : Shown) → EndsAs p loose k shown o → EndsAs p tight k shown o
+    ends_kept All (whole, ends) = (whole_forth p loose tight tighter k whole, values_kept All ends)
+    ends_kept (Only names) (whole, ends) = (whole_forth p loose tight tighter k whole, values_kept (Only names) ends)
+    ends_kept (Truth f) ends =
+        record { truth = ends.truth; known = known_more (KnownAtom p loose k) (KnownAtom p tight k) atom_kept ends.truth f ends.known; is_told = ends.is_told }
+
   must_end : (k : Sketch) (o : Outcome) → MustEndAs q loose k o → MustEndAs q tight k o
-  must_end k o must = record {
-    whole = whole_forth p loose tight tighter k must.whole;
-    registers = must.registers ∙ ap (λ f. show_registers q.shown (map f (range_with_len 0 (length p.threads))))
-        (fun_ext (λ t. ap (λ (s : Local). s.registers) ((both p loose tight tighter k).last t)));
-    long = must.long;
-    memory = λ l v e within w last. must.memory l v e within (written_back p loose tight tighter k e l v w) (last_back p loose tight tighter k l e last);
-  }
+  must_end k o must = ends_kept k o q.shown must
 
   module _ (outcomes : List Outcome) where
     known : (k : Sketch) (number : ℕ) → MustEndAsNumber q loose outcomes k number → MustEndAsNumber q tight outcomes k number

@@ -8,30 +8,31 @@ use Rattle.tso_program.specs.Shown.{Question}
 use Rattle.tso_program.specs.Listings.{gap_count}
 use Rattle.tso_program.specs.Fences.{gaps_in}
 use Rattle.tso_machine.specs.declared.label.Label.{Label}
-use Rattle.tso_machine.specs.Machine.{Sequential, Fenced, no_gaps}
+use Rattle.tso_machine.specs.Machine.{SequentialMachine, StoreBufferMachine, no_gaps}
 use Rattle.tso_machine.specs.Outcomes.{IsShownRun, AreGapsOf}
 use Rattle.candidate_executions.specs.Sketches.{empty_sketch}
 use Rattle.cert_forest.specs.Certificates.{Certificate}
+use Rattle.cert_forest.specs.Shows.{shows_of}
 use Rattle.tree_laws.specs.CoverTrees.{IsValidCover}
 use Rattle.tree_laws.specs.GapTrees.{IsValidGap}
 
 -- as many outcomes as runs, and each is what is shown of the outcome of its run of the sequential machine
 abbrev pub AreSequentialRuns : Question → List (List Label) → List Outcome → Type 0
-AreSequentialRuns q runs outcomes = AllZip (IsShownRun q Sequential) runs outcomes
+AreSequentialRuns q runs outcomes = AllZip (IsShownRun q SequentialMachine) runs outcomes
 
 -- a run of the store buffer machine with no gap fenced, and what is shown of its outcome is not in the list
 abbrev pub IsRunOutside : Question → List Outcome → List Label → Type 0
-IsRunOutside q outcomes labels = (o : Outcome) × IsShownRun q (Fenced no_gaps) labels o × (¬ Contains outcomes o)
+IsRunOutside q outcomes labels = (o : Outcome) × IsShownRun q (StoreBufferMachine no_gaps) labels o × (¬ Contains outcomes o)
 
 -- the certificate is valid for the question and the costs of the program's gaps
 pub record IsValidCertificate (q : Question) (costs : List ℕ) (c : Certificate) : Type 0 where
-  pub shown : c.shown ≡ q.shown
+  pub shown : c.shown ≡ shows_of q.shown
   pub of_program : AreGapsOf q.program c.gaps
   pub one_cost_each : length costs ≡ gap_count q.program.threads
   pub cost : c.cost ≡ total costs c.gaps
   pub outcomes : List Outcome
   pub replayed : AreSequentialRuns q c.seq_runs outcomes
-  pub sequential : IsValidCover q Sequential outcomes c.seq_tree (empty_sketch q.program)
+  pub sequential : IsValidCover q SequentialMachine outcomes c.seq_tree (empty_sketch q.program)
   pub foreign : All (IsRunOutside q outcomes) c.runs
-  pub fenced : IsValidCover q (Fenced (gaps_in q.program c.gaps)) outcomes c.fenced_tree (empty_sketch q.program)
+  pub fenced : IsValidCover q (StoreBufferMachine (gaps_in q.program c.gaps)) outcomes c.fenced_tree (empty_sketch q.program)
   pub least : IsValidGap q.program costs c.gaps c.runs c.gap_tree all_sets

@@ -5,7 +5,7 @@ use Rattle.std.specs.List.Sorted.{IsStrictlyIncreasing}
 use Rattle.tso_program.specs.declared.listing.Listing.{Listing}
 use Rattle.tso_program.specs.declared.outcome.Outcome.{Outcome}
 use Rattle.tso_program.specs.Shown.{Question}
-use Rattle.tso_machine.specs.Machine.{Mode}
+use Rattle.tso_machine.specs.Machine.{Machine}
 use Rattle.candidate_executions.specs.declared.access.Access.{Access}
 use Rattle.candidate_executions.specs.declared.event.Event.{Event}
 use Rattle.candidate_executions.specs.declared.event.Event.TheVariants.{Access as At}
@@ -19,7 +19,7 @@ use Rattle.cert_forest.specs.Trees.{Cover, Value, Source, Order, Cycle, Known, C
 abbrev pub event_of : AccessId → Event
 event_of a = At a.thread a.access
 
-module _ (p : Listing) (mode : Mode) where
+module _ (p : Listing) (mode : Machine) where
   -- thread t has a next read, and these are its location's values, ascending
   pub record HasNextValues (k : Sketch) (t : ℕ) (values : List ℕ) : Type 0 where
     pub location : ℕ
@@ -43,7 +43,7 @@ module _ (p : Listing) (mode : Mode) where
     pub is_pair : IsPair p mode k d e
     pub free : ¬ (Contains k.pairs (d, e) ⊎ Contains k.pairs (e, d))
 
-module _ (q : Question) (mode : Mode) (outcomes : List Outcome) where
+module _ (q : Question) (mode : Machine) (outcomes : List Outcome) where
   -- the sketch must end as the outcome of this number
   pub record MustEndAsNumber (k : Sketch) (number : ℕ) : Type 0 where
     pub outcome : Outcome
@@ -71,6 +71,6 @@ module _ (q : Question) (mode : Mode) (outcomes : List Outcome) where
     AreValidCovers (MoreCovers tree trees) [] = ⊥
     AreValidCovers (MoreCovers tree trees) (k ∷ ks) = IsValidCover tree k × AreValidCovers trees ks
 
-  -- what a valid tree means: each consistent completion of the sketch has an outcome of the list, as far as it is shown
+  -- what a valid tree means: of each consistent completion of the sketch an outcome of the list is shown
   abbrev pub IsCovered : Sketch → Type 0
   IsCovered k = (c : Candidate) → IsConsistentCompletion q.program mode k c → (o : Outcome) × Contains outcomes o × HasShownOutcome q mode c o

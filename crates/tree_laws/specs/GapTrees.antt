@@ -10,14 +10,14 @@ use Rattle.tso_program.specs.declared.listing.Listing.{Listing}
 use Rattle.tso_program.specs.Shown.{Question}
 use Rattle.tso_program.specs.Listings.{gap_count}
 use Rattle.tso_machine.specs.declared.label.Label.{Label}
-use Rattle.tso_machine.specs.Machine.{Fenced, no_gaps, start}
+use Rattle.tso_machine.specs.Machine.{StoreBufferMachine, no_gaps, start}
 use Rattle.tso_machine.specs.Modes.{Passes}
 use Rattle.tso_machine.specs.Outcomes.{Serves, LeavesOutcome, AreGapsOf}
 use Rattle.cert_forest.specs.Trees.{Gap, Split, Bound, GapTrees, NoGap, MoreGaps}
 
 -- with no gap fenced, the labels pass the gap of this number
 abbrev pub PassesGap : Listing → List Label → ℕ → Type 0
-PassesGap p labels gap = Passes p (Fenced no_gaps) (start p) labels gap
+PassesGap p labels gap = Passes p (StoreBufferMachine no_gaps) (start p) labels gap
 
 -- the labels pass it, and it is outside `never`
 abbrev pub IsOpenGap : Listing → List Label → SetOfGaps → ℕ → Type 0

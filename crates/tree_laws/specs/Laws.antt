@@ -6,11 +6,11 @@ use Rattle.gap_sets.specs.Regions.{all_sets, IsInRegion, children_of, HasNoneOf}
 use Rattle.gap_sets.specs.declared.region.Region.{Region}
 use Rattle.tso_program.specs.declared.listing.Listing.{Listing}
 use Rattle.tso_program.specs.declared.outcome.Outcome.{Outcome}
-use Rattle.tso_program.specs.Shown.{Question, show}
+use Rattle.tso_program.specs.Shown.{Question}
 use Rattle.tso_program.specs.Limits.{JumpForward, IsWithinLimits}
 use Rattle.tso_program.specs.Fences.{gaps_in}
 use Rattle.tso_machine.specs.declared.label.Label.{Label}
-use Rattle.tso_machine.specs.Machine.{Mode, Sequential, Fenced}
+use Rattle.tso_machine.specs.Machine.{Machine, SequentialMachine, StoreBufferMachine}
 use Rattle.tso_machine.specs.Outcomes.{AllowsShown, IsSequentialOutcome, Serves, IsForeignRun, EachBetterLeavesOutcome, IsTheAnswer, Headline}
 use Rattle.candidate_executions.specs.declared.event.Event.{Event}
 use Rattle.candidate_executions.specs.Sketches.{Sketch, empty_sketch, IsSketch, IsWhole}
@@ -23,17 +23,13 @@ use Rattle.tree_laws.specs.Certificates.{AreSequentialRuns, IsValidCertificate}
 
 -- a valid cover tree at a sketch covers it
 abbrev pub AValidCoverCovers : Type 0
-AValidCoverCovers = (q : Question) (mode : Mode) (outcomes : List Outcome) (tree : Cover) (k : Sketch) → JumpForward q.program.threads →
+AValidCoverCovers = (q : Question) (mode : Machine) (outcomes : List Outcome) (tree : Cover) (k : Sketch) → JumpForward q.program.threads →
     IsSketch q.program mode k → IsValidCover q mode outcomes tree k → IsCovered q mode outcomes k
-
--- each outcome of the list is what is shown of itself
-abbrev pub AreShown : Question → List Outcome → Type 0
-AreShown q outcomes = (o : Outcome) → Contains outcomes o → show q.shown o ≡ o
 
 -- where the sketch with no choice is covered, each outcome of the mode's machine is in the list
 abbrev pub ACoveredListHasEachOutcome : Type 0
-ACoveredListHasEachOutcome = (q : Question) (mode : Mode) (outcomes : List Outcome) (o : Outcome) → JumpForward q.program.threads →
-    AreShown q outcomes → IsCovered q mode outcomes (empty_sketch q.program) → AllowsShown q mode o → Contains outcomes o
+ACoveredListHasEachOutcome = (q : Question) (mode : Machine) (outcomes : List Outcome) (o : Outcome) → JumpForward q.program.threads →
+    IsCovered q mode outcomes (empty_sketch q.program) → AllowsShown q mode o → Contains outcomes o
 
 -- the list has the sequential outcomes and no others
 abbrev pub IsSequentialList : Question → List Outcome → Type 0
@@ -42,27 +38,27 @@ IsSequentialList q outcomes = (o : Outcome) → Contains outcomes o ↔ IsSequen
 -- sequential runs and a valid tree in sequential mode make the list of their outcomes the sequential outcomes
 abbrev pub AValidTreeMakesTheSequentialList : Type 0
 AValidTreeMakesTheSequentialList = (q : Question) (runs : List (List Label)) (outcomes : List Outcome) (tree : Cover) → JumpForward q.program.threads →
-    AreSequentialRuns q runs outcomes → IsValidCover q Sequential outcomes tree (empty_sketch q.program) → IsSequentialList q outcomes
+    AreSequentialRuns q runs outcomes → IsValidCover q SequentialMachine outcomes tree (empty_sketch q.program) → IsSequentialList q outcomes
 
 -- and a valid tree with the gaps of a set fenced, over that list, says that the set serves
 abbrev pub AValidFencedTreeServes : Type 0
 AValidFencedTreeServes = (q : Question) (gaps : SetOfGaps) (outcomes : List Outcome) (tree : Cover) → JumpForward q.program.threads →
-    IsSequentialList q outcomes → IsValidCover q (Fenced (gaps_in q.program gaps)) outcomes tree (empty_sketch q.program) → Serves q gaps
+    IsSequentialList q outcomes → IsValidCover q (StoreBufferMachine (gaps_in q.program gaps)) outcomes tree (empty_sketch q.program) → Serves q gaps
 
 -- A cover tree that is valid in a mode is valid in each mode that is no looser, its cycles being of that mode's unions: known
 -- edges only grow.
 abbrev pub ATighterModeKeepsACover : Type 0
-ATighterModeKeepsACover = (q : Question) (loose tight : Mode) (outcomes : List Outcome) (tree : Cover) (k : Sketch) → IsNoLooser loose tight →
+ATighterModeKeepsACover = (q : Question) (loose tight : Machine) (outcomes : List Outcome) (tree : Cover) (k : Sketch) → IsNoLooser loose tight →
     IsValidCover q loose outcomes tree k → IsValidCover q tight outcomes (in_mode tight tree) k
 
 -- the values of a thread's next read stay the same
 abbrev pub ATighterModeKeepsTheValues : Type 0
-ATighterModeKeepsTheValues = (p : Listing) (loose tight : Mode) (k : Sketch) (t : ℕ) (values : List ℕ) → IsNoLooser loose tight →
+ATighterModeKeepsTheValues = (p : Listing) (loose tight : Machine) (k : Sketch) (t : ℕ) (values : List ℕ) → IsNoLooser loose tight →
     HasNextValues p loose k t values → HasNextValues p tight k t values
 
 -- a sketch in which each read has its value stays one
 abbrev pub ATighterModeKeepsAWholeSketch : Type 0
-ATighterModeKeepsAWholeSketch = (p : Listing) (loose tight : Mode) (k : Sketch) → IsNoLooser loose tight → IsWhole p loose k → IsWhole p tight k
+ATighterModeKeepsAWholeSketch = (p : Listing) (loose tight : Machine) (k : Sketch) → IsNoLooser loose tight → IsWhole p loose k → IsWhole p tight k
 
 -- the labels are a foreign run
 abbrev pub IsForeign : Question → List Label → Type 0
@@ -91,7 +87,7 @@ TheRootHasEverySet = (q : Question) (costs : List ℕ) (answer : SetOfGaps) →
 
 -- trees in order are valid exactly where there are as many as sketches, each valid at its own
 abbrev pub CoversAreJudgedInOrder : Type 0
-CoversAreJudgedInOrder = (q : Question) (mode : Mode) (outcomes : List Outcome) (trees : List Cover) (ks : List Sketch) →
+CoversAreJudgedInOrder = (q : Question) (mode : Machine) (outcomes : List Outcome) (trees : List Cover) (ks : List Sketch) →
     AreValidCovers q mode outcomes (covers_of trees) ks ↔ AllZip (IsValidCover q mode outcomes) trees ks
 
 -- the same of gap trees and regions
@@ -101,12 +97,12 @@ GapsAreJudgedInOrder = (p : Listing) (costs : List ℕ) (answer : SetOfGaps) (ru
 
 -- what the children of a node are for is determined, and so their number: the values of a read
 abbrev pub TheValuesAreOneList : Type 0
-TheValuesAreOneList = (p : Listing) (mode : Mode) (k : Sketch) (t : ℕ) (xs ys : List ℕ) →
+TheValuesAreOneList = (p : Listing) (mode : Machine) (k : Sketch) (t : ℕ) (xs ys : List ℕ) →
     HasNextValues p mode k t xs → HasNextValues p mode k t ys → xs ≡ ys
 
 -- its sources
 abbrev pub TheSourcesAreOneList : Type 0
-TheSourcesAreOneList = (p : Listing) (mode : Mode) (k : Sketch) (e : Event) (xs ys : List Event) →
+TheSourcesAreOneList = (p : Listing) (mode : Machine) (k : Sketch) (e : Event) (xs ys : List Event) →
     HasSources p mode k e xs → HasSources p mode k e ys → xs ≡ ys
 
 -- the gaps that split a region

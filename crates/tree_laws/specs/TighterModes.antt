@@ -1,7 +1,7 @@
 -- Tighter modes, and a cover tree in one of them (this project's own definitions; docs/definitions.md).
 use Rattle.std.specs.Prelude.{◌≡◌, ℕ, true}
 use Rattle.tso_program.specs.Fences.{Gaps}
-use Rattle.tso_machine.specs.Machine.{Mode, Sequential, Fenced}
+use Rattle.tso_machine.specs.Machine.{Machine, SequentialMachine, StoreBufferMachine}
 use Rattle.candidate_executions.specs.declared.event.Kind.TheVariants as union
 use Rattle.cert_forest.specs.Trees.{Cover, Value, Source, Order, Cycle, Known, Covers, NoCover, MoreCovers}
 
@@ -10,11 +10,11 @@ abbrev pub AreAmong : Gaps → Gaps → Type 0
 AreAmong fewer more = (t i : ℕ) → fewer t i ≡ true → more t i ≡ true
 
 -- the second mode is no looser than the first: it fences each gap that the first does, or is sequential
-abbrev pub IsNoLooser : Mode → Mode → Type 0
-IsNoLooser (Fenced fewer) (Fenced more) = AreAmong fewer more
-IsNoLooser (Fenced fewer) Sequential = Unit {0}
-IsNoLooser Sequential Sequential = Unit {0}
-IsNoLooser Sequential (Fenced more) = ⊥
+abbrev pub IsNoLooser : Machine → Machine → Type 0
+IsNoLooser (StoreBufferMachine fewer) (StoreBufferMachine more) = AreAmong fewer more
+IsNoLooser (StoreBufferMachine fewer) SequentialMachine = Unit {0}
+IsNoLooser SequentialMachine SequentialMachine = Unit {0}
+IsNoLooser SequentialMachine (StoreBufferMachine more) = ⊥
 
 -- the same tree, each cycle being one of the union of sequential consistency
 abbrev mutual
@@ -30,6 +30,6 @@ abbrev mutual
   each_in_sequence (MoreCovers tree trees) = MoreCovers (in_sequence tree) (each_in_sequence trees)
 
 -- the same tree, with cycles of the unions of the mode: one with gaps fenced has those of each other such mode
-abbrev pub in_mode : Mode → Cover → Cover
-in_mode Sequential tree = in_sequence tree
-in_mode (Fenced gaps) tree = tree
+abbrev pub in_mode : Machine → Cover → Cover
+in_mode SequentialMachine tree = in_sequence tree
+in_mode (StoreBufferMachine gaps) tree = tree

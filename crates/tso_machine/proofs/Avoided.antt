@@ -8,12 +8,12 @@ use Rattle.tso_machine.specs.declared.label.Pending.{Pending}
 use Rattle.tso_program.specs.declared.listing.Listing.{Listing}
 use Rattle.tso_program.specs.Listings.{action}
 use Rattle.tso_program.specs.Fences.{Gaps}
-use Rattle.tso_machine.specs.Machine.{no_gaps, Fenced, State, past_gap, buffered, step, run, is_empty, from_some, passes_at, passes}
+use Rattle.tso_machine.specs.Machine.{no_gaps, StoreBufferMachine, State, past_gap, buffered, step, run, is_empty, from_some, passes_at, passes}
 
 module _ (p : Listing) (gaps : Gaps) where
   -- no gap of the set is passed
   abbrev Avoids : State → List Label → Type 0
-  Avoids s ls = (t k : ℕ) → gaps t k ≡ true → passes p (Fenced no_gaps) s ls t k ≡ false
+  Avoids s ls = (t k : ℕ) → gaps t k ≡ true → passes p (StoreBufferMachine no_gaps) s ls t k ≡ false
 
   now : (s : State) (t : ℕ) → passes_at s (Exec t) t (s.locals t).place ≡ not (is_empty (s.buffers t))
   now s t = rw (eq-eqb t t refl, eq-eqb (s.locals t).place (s.locals t).place refl) refl
@@ -24,7 +24,7 @@ module _ (p : Listing) (gaps : Gaps) where
   gap_same true (w ∷ ws) s f h = absurd (let z : true ≡ false = h refl in cc)
   gap_same false ws s f h = refl
 
-  same_step : (s : State) (l : Label) → ((t k : ℕ) → gaps t k ≡ true → passes_at s l t k ≡ false) → step p (Fenced gaps) s l ≡ step p (Fenced no_gaps) s l
+  same_step : (s : State) (l : Label) → ((t k : ℕ) → gaps t k ≡ true → passes_at s l t k ≡ false) → step p (StoreBufferMachine gaps) s l ≡ step p (StoreBufferMachine no_gaps) s l
   same_step s (Flush t) h = refl
   same_step s (Exec t) h = gap_same (gaps t (s.locals t).place) (s.buffers t) s (λ z. buffered z t (action p.threads t (s.locals t)))
       (λ g. sym (now s t) ∙ h t (s.locals t).place g)
@@ -43,7 +43,7 @@ module _ (p : Listing) (gaps : Gaps) where
   eq_of : (h g : ℕ) → (h == g) ≡ true → h ≡ g
   eq_of h g e = grind (arith, nat_tests)
 
-  step_avoids : (s next : State) (l : Label) → step p (Fenced gaps) s l ≡ Some next → (t k : ℕ) → gaps t k ≡ true → passes_at s l t k ≡ false
+  step_avoids : (s next : State) (l : Label) → step p (StoreBufferMachine gaps) s l ≡ Some next → (t k : ℕ) → gaps t k ≡ true → passes_at s l t k ≡ false
   step_avoids s next (Flush u) r t k g = refl
   step_avoids s next (Exec u) r t k g = at_other (u == t) ((s.locals t).place == k) (not (is_empty (s.buffers t))) true (λ a b.
       let ut : u ≡ t = eq_of u t a in
@@ -52,28 +52,28 @@ module _ (p : Listing) (gaps : Gaps) where
       subst (λ x. not (is_empty (s.buffers x)) ≡ false) ut
       (let_through (gaps u (s.locals u).place) (s.buffers u) s next (λ z. buffered z u (action p.threads u (s.locals u))) r fenced))
 
-  pub run_fenced : (ls : List Label) (s last : State) → run p (Fenced no_gaps) s ls ≡ Some last → Avoids s ls → run p (Fenced gaps) s ls ≡ Some last
+  pub run_fenced : (ls : List Label) (s last : State) → run p (StoreBufferMachine no_gaps) s ls ≡ Some last → Avoids s ls → run p (StoreBufferMachine gaps) s ls ≡ Some last
   run_fenced [] s last r a = r
   run_fenced (l ∷ ls) s last r a =
-      let e : step p (Fenced gaps) s l ≡ step p (Fenced no_gaps) s l = same_step s l (λ t k g. (or_parts _ _ (a t k g)).0) in
-      ap (option_and_then (λ z. run p (Fenced gaps) z ls)) e ∙
-      go (step p (Fenced no_gaps) s l) r (λ t k g. (or_parts _ _ (a t k g)).1) (λ z q b. run_fenced ls z last q b)
+      let e : step p (StoreBufferMachine gaps) s l ≡ step p (StoreBufferMachine no_gaps) s l = same_step s l (λ t k g. (or_parts _ _ (a t k g)).0) in
+      ap (option_and_then (λ z. run p (StoreBufferMachine gaps) z ls)) e ∙
+      go (step p (StoreBufferMachine no_gaps) s l) r (λ t k g. (or_parts _ _ (a t k g)).1) (λ z q b. run_fenced ls z last q b)
     where
-      go : (o : Option State) → option_and_then (λ z. run p (Fenced no_gaps) z ls) o ≡ Some last →
-          ((t k : ℕ) → gaps t k ≡ true → from_some (λ next. passes p (Fenced no_gaps) next ls t k) o ≡ false) →
-          ((z : State) → run p (Fenced no_gaps) z ls ≡ Some last → Avoids z ls → run p (Fenced gaps) z ls ≡ Some last) →
-          option_and_then (λ z. run p (Fenced gaps) z ls) o ≡ Some last
+      go : (o : Option State) → option_and_then (λ z. run p (StoreBufferMachine no_gaps) z ls) o ≡ Some last →
+          ((t k : ℕ) → gaps t k ≡ true → from_some (λ next. passes p (StoreBufferMachine no_gaps) next ls t k) o ≡ false) →
+          ((z : State) → run p (StoreBufferMachine no_gaps) z ls ≡ Some last → Avoids z ls → run p (StoreBufferMachine gaps) z ls ≡ Some last) →
+          option_and_then (λ z. run p (StoreBufferMachine gaps) z ls) o ≡ Some last
       go None r a ih = absurd cc
       go (Some z) r a ih = ih z r a
 
-  pub run_avoids : (ls : List Label) (s last : State) → run p (Fenced gaps) s ls ≡ Some last → Avoids s ls
+  pub run_avoids : (ls : List Label) (s last : State) → run p (StoreBufferMachine gaps) s ls ≡ Some last → Avoids s ls
   run_avoids [] s last r t k g = refl
-  run_avoids (l ∷ ls) s last r t k g = go (step p (Fenced gaps) s l) refl r (λ z q. run_avoids ls z last q t k g)
+  run_avoids (l ∷ ls) s last r t k g = go (step p (StoreBufferMachine gaps) s l) refl r (λ z q. run_avoids ls z last q t k g)
     where
-      go : (o : Option State) → step p (Fenced gaps) s l ≡ o → option_and_then (λ z. run p (Fenced gaps) z ls) o ≡ Some last →
-          ((z : State) → run p (Fenced gaps) z ls ≡ Some last → passes p (Fenced no_gaps) z ls t k ≡ false) → passes p (Fenced no_gaps) s (l ∷ ls) t k ≡ false
+      go : (o : Option State) → step p (StoreBufferMachine gaps) s l ≡ o → option_and_then (λ z. run p (StoreBufferMachine gaps) z ls) o ≡ Some last →
+          ((z : State) → run p (StoreBufferMachine gaps) z ls ≡ Some last → passes p (StoreBufferMachine no_gaps) z ls t k ≡ false) → passes p (StoreBufferMachine no_gaps) s (l ∷ ls) t k ≡ false
       go None q r rest = absurd cc
       go (Some z) q r rest =
           let here : (t k : ℕ) → gaps t k ≡ true → passes_at s l t k ≡ false = step_avoids s z l q in
-          let made : step p (Fenced no_gaps) s l ≡ Some z = sym (same_step s l here) ∙ q in
-          or_from (passes_at s l t k) _ (here t k g) (ap (from_some (λ next. passes p (Fenced no_gaps) next ls t k)) made ∙ rest z r)
+          let made : step p (StoreBufferMachine no_gaps) s l ≡ Some z = sym (same_step s l here) ∙ q in
+          or_from (passes_at s l t k) _ (here t k g) (ap (from_some (λ next. passes p (StoreBufferMachine no_gaps) next ls t k)) made ∙ rest z r)

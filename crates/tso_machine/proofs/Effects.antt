@@ -16,7 +16,7 @@ use Rattle.tso_program.specs.declared.action.Action.TheVariants.{Stop, Go, Wait,
 use Rattle.tso_program.specs.Actions.{loaded, IsLocated}
 use Rattle.tso_program.specs.Listings.{action}
 use Rattle.tso_machine.specs.Machine.{put, State, newest, found, is_empty, when_empty, past_gap, buffered, direct, step}
-use Rattle.tso_machine.specs.Modes.{mode_of}
+use Rattle.tso_machine.specs.Modes.{machine_of_model}
 use Rattle.tso_program.specs.Fences.{gaps_in}
 use Rattle.tso_machine.specs.Faults.{waits, StepFaultIs}
 use Rattle.tso_machine.specs.Internal.Cores.{Core, Cores, core_at, state_of, AreLocated, Fits, after_buffered, after_direct, after_action, ExecFaultIs}
@@ -72,7 +72,7 @@ module _ (s : Cores) (t : ℕ) (h : t < length s.cores) where
   pub exec_is : (p : Listing) (gaps : set.FinSet nat_cmp) (model : Model) (x : Core × List ℕ) →
       IsLocated (length s.memory) (action p.threads t (core_at s.cores t).local) →
       after_action (gaps_in p gaps t (core_at s.cores t).local.place) model (action p.threads t (core_at s.cores t).local) (core_at s.cores t) s.memory ≡ Some x →
-      step p (mode_of p gaps model) (state_of s) (Exec t) ≡ Some (becomes x)
+      step p (machine_of_model p gaps model) (state_of s) (Exec t) ≡ Some (becomes x)
   exec_is p gaps models.Sequential x w e = direct_is (action p.threads t (core_at s.cores t).local) x w e
   exec_is p gaps models.Buffered x w e =
       let a : Action = action p.threads t (core_at s.cores t).local in
@@ -114,7 +114,7 @@ held_by (y ∷ ys) false here e = ((λ z. cc), inr e)
 
 pub held_is : (p : Listing) (gaps : set.FinSet nat_cmp) (model : Model) (s : Cores) (t : ℕ) (fault : StepFault) →
     ExecFaultIs (gaps_in p gaps t (core_at s.cores t).local.place) model (action p.threads t (core_at s.cores t).local) (core_at s.cores t) fault →
-    StepFaultIs p (mode_of p gaps model) (state_of s) (Exec t) fault
+    StepFaultIs p (machine_of_model p gaps model) (state_of s) (Exec t) fault
 held_is p gaps model s t (Refused NoSuchThread) e = absurd e
 held_is p gaps model s t (Refused AtEnd) e = absurd e
 held_is p gaps model s t (Refused BufferEmpty) e = absurd e
@@ -137,7 +137,7 @@ module _ (p : Listing) (gaps : set.FinSet nat_cmp) (model : Model) (s : Cores) (
   gap_is n = ap (λ (c : Core). gaps_in p gaps t c.local.place) n.found ∙ sym n.gap
 
   pub exec_done : (x : Core × List ℕ) → IsNext → Fits p s → IsLocated (length p.memory) a → after_action here model a core s.memory ≡ Some x →
-      (step p (mode_of p gaps model) (state_of s) (Exec t) ≡ Some (state_of (record { cores = slice_set s.cores t x.0; memory = x.1 })))
+      (step p (machine_of_model p gaps model) (state_of s) (Exec t) ≡ Some (state_of (record { cores = slice_set s.cores t x.0; memory = x.1 })))
       × Fits p (record { cores = slice_set s.cores t x.0; memory = x.1 })
   exec_done x n fits w e =
       let same : after_action (gaps_in p gaps t (core_at s.cores t).local.place) model (action p.threads t (core_at s.cores t).local) (core_at s.cores t) s.memory ≡ Some x =
@@ -146,7 +146,7 @@ module _ (p : Listing) (gaps : set.FinSet nat_cmp) (model : Model) (s : Cores) (
       subst (λ b. IsLocated (length s.memory) b) (sym (action_is n)) (subst (λ m. IsLocated m a) (sym fits.locations) w) in
       (exec_is s t n.thread p gaps model x within same, exec_fits s t n.thread p _ model _ x fits within same)
 
-  pub exec_refused : (fault : StepFault) → IsNext → ExecFaultIs here model a core fault → StepFaultIs p (mode_of p gaps model) (state_of s) (Exec t) fault
+  pub exec_refused : (fault : StepFault) → IsNext → ExecFaultIs here model a core fault → StepFaultIs p (machine_of_model p gaps model) (state_of s) (Exec t) fault
   exec_refused fault n e = held_is p gaps model s t fault (subst (λ z. z) (λ j. ExecFaultIs (sym (gap_is n) j) model (sym (action_is n) j) (sym n.found j) fault) e)
 
 pub on_ok : {A E : Type 0} (r : Result A E) (P Q : Type 0) → (P → Q) → OnOk r P → OnOk r Q

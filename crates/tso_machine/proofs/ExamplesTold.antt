@@ -5,7 +5,7 @@ use Rattle.tso_program.specs.declared.listing.Listing.{Listing}
 use Rattle.tso_program.specs.Listings.{action}
 use Rattle.tso_machine.specs.declared.label.Label.{Label}
 use Rattle.tso_machine.specs.declared.label.Pending.{Pending}
-use Rattle.tso_machine.specs.Machine.{Sequential, Fenced, no_gaps, State, start, run, HasEnded}
+use Rattle.tso_machine.specs.Machine.{SequentialMachine, StoreBufferMachine, no_gaps, State, start, run, HasEnded}
 use Rattle.tso_machine.specs.Examples.{StoreBufferingIsTold, store_buffering, waiting_stores, in_turn, RIsTold, r, r_run, N6IsTold, n6, n6_run, LockedExchangeIsTold, locked_exchange, locked_run}
 use Rattle.tso_machine.proofs.Runs.{no_action, no_stores}
 use Rattle.tso_machine.proofs.Refused.{run_keeps}
@@ -15,7 +15,7 @@ abbrev IsDone : Listing → State → ℕ → Type 0
 IsDone p s t = (action p.threads t (s.locals t) ≡ Stop) × (s.buffers t ≡ [])
 
 -- of two threads, both are at their ends, and there is no other
-ended : (p : Listing) (labels : List Label) (last : State) → length p.threads ≡ 2 → run p (Fenced no_gaps) (start p) labels ≡ Some last → IsDone p last 0 → IsDone p last 1 → HasEnded p last
+ended : (p : Listing) (labels : List Label) (last : State) → length p.threads ≡ 2 → run p (StoreBufferMachine no_gaps) (start p) labels ≡ Some last → IsDone p last 0 → IsDone p last 1 → HasEnded p last
 ended p labels last two r first second zero = first
 ended p labels last two r first second (suc zero) = second
 ended p labels last two r first second (suc (suc t)) =
@@ -23,7 +23,7 @@ ended p labels last two r first second (suc (suc t)) =
     (no_action p (suc (suc t)) (last.locals (suc (suc t))) out, run_keeps p (suc (suc t)) out no_gaps labels (start p) last refl r)
 
 -- the same in the sequential machine, where no store waits
-ended_in_turn : (p : Listing) (labels : List Label) (last : State) → length p.threads ≡ 2 → run p Sequential (start p) labels ≡ Some last → action p.threads 0 (last.locals 0) ≡ Stop → action p.threads 1 (last.locals 1) ≡ Stop → HasEnded p last
+ended_in_turn : (p : Listing) (labels : List Label) (last : State) → length p.threads ≡ 2 → run p SequentialMachine (start p) labels ≡ Some last → action p.threads 0 (last.locals 0) ≡ Stop → action p.threads 1 (last.locals 1) ≡ Stop → HasEnded p last
 ended_in_turn p labels last two r first second t = (done t, ap (λ (f : ℕ → List Pending). f t) (no_stores p labels (start p) last r))
   where
     done : (t : ℕ) → action p.threads t (last.locals t) ≡ Stop

@@ -26,8 +26,8 @@ use Rattle.tso_machine.specs.declared.label.Cause.TheVariants.{NoSuchThread, AtE
 use Rattle.tso_machine.specs.declared.label.StepFault.TheVariants.{Refused}
 use Rattle.tso_machine.specs.declared.replaying.ReplayFault.{ReplayFault}
 use Rattle.tso_machine.specs.declared.replaying.ReplayFault.TheVariants as fault
-use Rattle.tso_machine.specs.Machine.{Mode, State, start, step, run}
-use Rattle.tso_machine.specs.Modes.{mode_of}
+use Rattle.tso_machine.specs.Machine.{Machine, State, start, step, run}
+use Rattle.tso_machine.specs.Modes.{machine_of_model}
 use Rattle.tso_machine.specs.Faults.{waits, IsFenced, Applies, Stops, EndsEarly, ReplayFaultIs, fault_of}
 use Rattle.tso_machine.proofs.Runs.{no_stores}
 use Rattle.tso_machine.proofs.Refused.{run_keeps, applies_none, stops_none}
@@ -66,8 +66,8 @@ no_gap p gaps t s stop = elim (cases_lt s.place (length (code_of p.threads t))) 
 
 -- two causes that both apply to a step of a replay are the same
 module _ (p : Listing) (gaps : SetOfGaps) (model : Model) where
-  abbrev mode : Mode
-  mode = mode_of p gaps model
+  abbrev mode : Machine
+  mode = machine_of_model p gaps model
 
   module _ (s : State) where
     no_thread_at_end : (label : Label) → Applies p mode s NoSuchThread label → Applies p mode s AtEnd label → ⊥
@@ -93,12 +93,12 @@ module _ (p : Listing) (gaps : SetOfGaps) (model : Model) where
       | inr e ↦ at_gap model e
     ]
       where
-        at_gap : (m : Model) → IsFenced (mode_of p gaps m) t (s.locals t).place → ⊥
+        at_gap : (m : Model) → IsFenced (machine_of_model p gaps m) t (s.locals t).place → ⊥
         at_gap models.Sequential e = e
         at_gap models.Buffered e = let z : false ≡ true = sym (no_gap p gaps t (s.locals t) a.1) ∙ e in cc
 
-  no_thread_held : (m : Model) (labels : List Label) (s : State) (label : Label) → run p (mode_of p gaps m) (start p) labels ≡ Some s →
-      Applies p (mode_of p gaps m) s NoSuchThread label → Applies p (mode_of p gaps m) s FenceWaits label → ⊥
+  no_thread_held : (m : Model) (labels : List Label) (s : State) (label : Label) → run p (machine_of_model p gaps m) (start p) labels ≡ Some s →
+      Applies p (machine_of_model p gaps m) s NoSuchThread label → Applies p (machine_of_model p gaps m) s FenceWaits label → ⊥
   no_thread_held m labels s (Flush t) r a b = b
   no_thread_held models.Sequential labels s (Exec t) r a b = b.0 (ap (λ (f : ℕ → List Pending). f t) (no_stores p labels (start p) s r))
   no_thread_held models.Buffered labels s (Exec t) r a b = b.0 (run_keeps p t a (gaps_in p gaps) labels (start p) s refl r)
@@ -123,7 +123,7 @@ module _ (p : Listing) (gaps : SetOfGaps) (model : Model) where
   one_cause labels s label FenceWaits FenceWaits r a b = refl
 
 -- no step follows one that isn't possible
-not_after : (p : Listing) (mode : Mode) (labels : List Label) (n m : ℕ) (s before after : State) (label : Label) → run p mode s (take n labels) ≡ Some before → slice_get labels n ≡ Some label →
+not_after : (p : Listing) (mode : Machine) (labels : List Label) (n m : ℕ) (s before after : State) (label : Label) → run p mode s (take n labels) ≡ Some before → slice_get labels n ≡ Some label →
     step p mode before label ≡ None → run p mode s (take m labels) ≡ Some after → n < m → ⊥
 not_after p mode [] n m s before after label r g e q lt = cc
 not_after p mode (x ∷ xs) n zero s before after label r g e q lt = omega arith
@@ -141,16 +141,16 @@ not_after p mode (x ∷ xs) (suc n) (suc m) s before after label r g e q lt = go
 
 module _ (p : Listing) (gaps : SetOfGaps) (model : Model) (labels : List Label) where
   abbrev IsStop : ℕ → Cause → Type 0
-  IsStop n cause = Stops p (mode_of p gaps model) labels n cause
+  IsStop n cause = Stops p (machine_of_model p gaps model) labels n cause
 
-  impossible : (n : ℕ) (cause : Cause) (s : IsStop n cause) → step p (mode_of p gaps model) s.before s.label ≡ None
-  impossible n cause s = applies_none p (mode_of p gaps model) (take n labels) s.before cause s.label s.reached s.why
+  impossible : (n : ℕ) (cause : Cause) (s : IsStop n cause) → step p (machine_of_model p gaps model) s.before s.label ≡ None
+  impossible n cause s = applies_none p (machine_of_model p gaps model) (take n labels) s.before cause s.label s.reached s.why
 
   same_step : (n m : ℕ) (cause other : Cause) → IsStop n cause → IsStop m other → n ≡ m
   same_step n m cause other a b = elim (cases_lt n m) [
-    | inl h ↦ absurd (not_after p (mode_of p gaps model) labels n m (start p) a.before b.before a.label a.reached a.there (impossible n cause a) b.reached h)
+    | inl h ↦ absurd (not_after p (machine_of_model p gaps model) labels n m (start p) a.before b.before a.label a.reached a.there (impossible n cause a) b.reached h)
     | inr h ↦ elim (cases_lt m n) [
-      | inl g ↦ absurd (not_after p (mode_of p gaps model) labels m n (start p) b.before a.before b.label b.reached b.there (impossible m other b) a.reached g)
+      | inl g ↦ absurd (not_after p (machine_of_model p gaps model) labels m n (start p) b.before a.before b.label b.reached b.there (impossible m other b) a.reached g)
       | inr g ↦ omega arith
     ]
   ]
@@ -159,7 +159,7 @@ module _ (p : Listing) (gaps : SetOfGaps) (model : Model) (labels : List Label) 
   same_cause n cause other a b =
       let state : b.before ≡ a.before = (let z : Some b.before ≡ Some a.before = sym b.reached ∙ a.reached in cc) in
       let label : b.label ≡ a.label = (let z : Some b.label ≡ Some a.label = sym b.there ∙ a.there in cc) in
-      let why : Applies p (mode_of p gaps model) a.before other a.label = subst (λ (x : State × Label). Applies p (mode_of p gaps model) x.0 other x.1) (λ i. (state i, label i)) b.why in
+      let why : Applies p (machine_of_model p gaps model) a.before other a.label = subst (λ (x : State × Label). Applies p (machine_of_model p gaps model) x.0 other x.1) (λ i. (state i, label i)) b.why in
       one_cause p gaps model (take n labels) a.before a.label cause other a.reached a.why why
 
   same_stop : (n m : ℕ) (cause other : Cause) → IsStop n cause → IsStop m other → (n ≡ m) × (cause ≡ other)
@@ -167,15 +167,15 @@ module _ (p : Listing) (gaps : SetOfGaps) (model : Model) (labels : List Label) 
       let same : n ≡ m = same_step n m cause other a b in
       (same, same_cause m cause other (subst (λ k. IsStop k cause) same a) b)
 
-  not_early : (n m : ℕ) (cause : Cause) → IsStop n cause → EndsEarly p (mode_of p gaps model) labels m → ⊥
-  not_early n m cause a b = let z : None ≡ Some b.last = sym (stops_none p (mode_of p gaps model) labels n cause a) ∙ b.reached in cc
+  not_early : (n m : ℕ) (cause : Cause) → IsStop n cause → EndsEarly p (machine_of_model p gaps model) labels m → ⊥
+  not_early n m cause a b = let z : None ≡ Some b.last = sym (stops_none p (machine_of_model p gaps model) labels n cause a) ∙ b.reached in cc
 
   -- a fault that fits and is not out of memory: some step is impossible, or some thread is unfinished
   data Told (why : ReplayFault) : Type 0 where
     stopped : (n : ℕ) (cause : Cause) → why ≡ fault_of (Refused cause) n → IsStop n cause → Told why
-    early : (n : ℕ) → why ≡ fault.NotEnded n → EndsEarly p (mode_of p gaps model) labels n → Told why
+    early : (n : ℕ) → why ≡ fault.NotEnded n → EndsEarly p (machine_of_model p gaps model) labels n → Told why
 
-  told : (why : ReplayFault) → why ≢ fault.OutOfMemory → ReplayFaultIs p (mode_of p gaps model) labels why → Told why
+  told : (why : ReplayFault) → why ≢ fault.OutOfMemory → ReplayFaultIs p (machine_of_model p gaps model) labels why → Told why
   told (fault.NoSuchThread n) known f = stopped n NoSuchThread refl f
   told (fault.AtEnd n) known f = stopped n AtEnd refl f
   told (fault.BufferEmpty n) known f = stopped n BufferEmpty refl f
@@ -191,6 +191,6 @@ module _ (p : Listing) (gaps : SetOfGaps) (model : Model) (labels : List Label) 
   same_told why other (early n e a) (early m e' b) = e ∙ ap fault.NotEnded (a.all ∙ sym b.all) ∙ sym e'
 
 pub one_fault : (p : Listing) (gaps : SetOfGaps) (model : Model) (labels : List Label) (why other : ReplayFault) → why ≢ fault.OutOfMemory → other ≢ fault.OutOfMemory →
-    ReplayFaultIs p (mode_of p gaps model) labels why → ReplayFaultIs p (mode_of p gaps model) labels other → why ≡ other
+    ReplayFaultIs p (machine_of_model p gaps model) labels why → ReplayFaultIs p (machine_of_model p gaps model) labels other → why ≡ other
 one_fault p gaps model labels why other known known_too fits also =
     same_told p gaps model labels why other (told p gaps model labels why known fits) (told p gaps model labels other known_too also)

@@ -14,7 +14,7 @@ use Rattle.tso_program.specs.declared.listing.Listing.{Listing}
 use Rattle.tso_program.specs.declared.action.Action.{Action}
 use Rattle.tso_program.specs.declared.action.Action.TheVariants.{Stop, Go, Wait, Read, Write, Swap}
 use Rattle.tso_program.specs.Listings.{action}
-use Rattle.tso_machine.specs.Machine.{put, Mode, Sequential, Fenced, State, start, step, run, buffered, direct, flushed, past_gap, when_empty, HasEnded, outcome_at, IsRun}
+use Rattle.tso_machine.specs.Machine.{put, Machine, SequentialMachine, StoreBufferMachine, State, start, step, run, buffered, direct, flushed, past_gap, when_empty, HasEnded, outcome_at, IsRun}
 use Rattle.tso_machine.specs.Faults.{waits, Applies, Stops, EndsEarly, ReplayFaultIs}
 use Rattle.tso_machine.proofs.Link.{put_other}
 use Rattle.tso_machine.proofs.Runs.{no_stores, no_action}
@@ -23,15 +23,15 @@ none_then : (o : Option State) → (let f : State → Option State = λ s. None 
 none_then (Some s) = refl
 none_then None = refl
 
-stop_none : (p : Listing) (mode : Mode) (s : State) (t : ℕ) → action p.threads t (s.locals t) ≡ Stop → step p mode s (Exec t) ≡ None
-stop_none p Sequential s t e = ap (direct s t) e
-stop_none p (Fenced gaps) s t e =
+stop_none : (p : Listing) (mode : Machine) (s : State) (t : ℕ) → action p.threads t (s.locals t) ≡ Stop → step p mode s (Exec t) ≡ None
+stop_none p SequentialMachine s t e = ap (direct s t) e
+stop_none p (StoreBufferMachine gaps) s t e =
     ap (λ a. option_and_then (λ z. buffered z t a) (past_gap (gaps t (s.locals t).place) (s.buffers t) s)) e
     ∙ none_then (past_gap (gaps t (s.locals t).place) (s.buffers t) s)
 
-flush_none : (p : Listing) (mode : Mode) (s : State) (t : ℕ) → s.buffers t ≡ [] → step p mode s (Flush t) ≡ None
-flush_none p Sequential s t e = refl
-flush_none p (Fenced gaps) s t e = ap (flushed s t) e
+flush_none : (p : Listing) (mode : Machine) (s : State) (t : ℕ) → s.buffers t ≡ [] → step p mode s (Flush t) ≡ None
+flush_none p SequentialMachine s t e = refl
+flush_none p (StoreBufferMachine gaps) s t e = ap (flushed s t) e
 
 closed : (ws : List Pending) (s : State) → ws ≢ [] → when_empty ws s ≡ None
 closed [] s h = absurd (h refl)
@@ -73,7 +73,7 @@ module _ (p : Listing) (t : ℕ) (out : length p.threads ≤ t) where
   kept_other : (bs : ℕ → List Pending) (u : ℕ) (ws : List Pending) → (t ≡ u → ⊥) → bs t ≡ [] → put bs u ws t ≡ []
   kept_other bs u ws n e = put_other bs u ws t n ∙ e
 
-  step_keeps : (gaps : ℕ → ℕ → Bool) (s : State) (label : Label) (next : State) → s.buffers t ≡ [] → step p (Fenced gaps) s label ≡ Some next → next.buffers t ≡ []
+  step_keeps : (gaps : ℕ → ℕ → Bool) (s : State) (label : Label) (next : State) → s.buffers t ≡ [] → step p (StoreBufferMachine gaps) s label ≡ Some next → next.buffers t ≡ []
   step_keeps gaps s (Flush u) next e r = by_buffer (s.buffers u) refl r
     where
       by_buffer : (ws : List Pending) → s.buffers u ≡ ws → flushed s u ws ≡ Some next → next.buffers t ≡ []
@@ -83,20 +83,20 @@ module _ (p : Listing) (t : ℕ) (out : length p.threads ≤ t) where
           let is : record s { buffers = put s.buffers u ws; memory = put s.memory w.location w.value } ≡ next = cc in
           subst (λ (z : State). z.buffers t ≡ []) is (kept_other s.buffers u ws other e)
   step_keeps gaps s (Exec u) next e r = elim (cases_eq t u) [
-    | inl same ↦ absurd (let z : None ≡ Some next = sym (stop_none p (Fenced gaps) s u (no_action p u (s.locals u) (subst (λ n. length p.threads ≤ n) same out))) ∙ r in cc)
+    | inl same ↦ absurd (let z : None ≡ Some next = sym (stop_none p (StoreBufferMachine gaps) s u (no_action p u (s.locals u) (subst (λ n. length p.threads ≤ n) same out))) ∙ r in cc)
     | inr other ↦ by_gap p t out s u next e other (gaps u (s.locals u).place) (s.buffers u) (action p.threads u (s.locals u)) r
   ]
 
-  pub run_keeps : (gaps : ℕ → ℕ → Bool) (labels : List Label) (s last : State) → s.buffers t ≡ [] → run p (Fenced gaps) s labels ≡ Some last → last.buffers t ≡ []
+  pub run_keeps : (gaps : ℕ → ℕ → Bool) (labels : List Label) (s last : State) → s.buffers t ≡ [] → run p (StoreBufferMachine gaps) s labels ≡ Some last → last.buffers t ≡ []
   run_keeps gaps [] s last e r = let q : s ≡ last = cc in subst (λ (z : State). z.buffers t ≡ []) q e
-  run_keeps gaps (label ∷ labels) s last e r = go (step p (Fenced gaps) s label) refl r (λ z h q. run_keeps gaps labels z last h q)
+  run_keeps gaps (label ∷ labels) s last e r = go (step p (StoreBufferMachine gaps) s label) refl r (λ z h q. run_keeps gaps labels z last h q)
     where
-      go : (o : Option State) → step p (Fenced gaps) s label ≡ o → option_and_then (λ z. run p (Fenced gaps) z labels) o ≡ Some last →
-          ((z : State) → z.buffers t ≡ [] → run p (Fenced gaps) z labels ≡ Some last → last.buffers t ≡ []) → last.buffers t ≡ []
+      go : (o : Option State) → step p (StoreBufferMachine gaps) s label ≡ o → option_and_then (λ z. run p (StoreBufferMachine gaps) z labels) o ≡ Some last →
+          ((z : State) → z.buffers t ≡ [] → run p (StoreBufferMachine gaps) z labels ≡ Some last → last.buffers t ≡ []) → last.buffers t ≡ []
       go None q r rest = absurd cc
       go (Some z) q r rest = rest z (step_keeps gaps s label z e q) r
 
-run_stops : (p : Listing) (mode : Mode) (labels : List Label) (n : ℕ) (s before : State) (label : Label) → run p mode s (take n labels) ≡ Some before → slice_get labels n ≡ Some label →
+run_stops : (p : Listing) (mode : Machine) (labels : List Label) (n : ℕ) (s before : State) (label : Label) → run p mode s (take n labels) ≡ Some before → slice_get labels n ≡ Some label →
     step p mode before label ≡ None → run p mode s labels ≡ None
 run_stops p mode [] n s before label r g e = absurd cc
 run_stops p mode (x ∷ xs) zero s before label r g e =
@@ -108,38 +108,38 @@ run_stops p mode (x ∷ xs) (suc n) s before label r g e = go (step p mode s x) 
     go (Some z) q rest = rest z q
 
 -- a step to which a cause applies is not possible
-pub applies_none : (p : Listing) (mode : Mode) (labels : List Label) (s : State) (cause : Cause) (label : Label) → run p mode (start p) labels ≡ Some s → Applies p mode s cause label → step p mode s label ≡ None
+pub applies_none : (p : Listing) (mode : Machine) (labels : List Label) (s : State) (cause : Cause) (label : Label) → run p mode (start p) labels ≡ Some s → Applies p mode s cause label → step p mode s label ≡ None
 applies_none p mode labels s NoSuchThread (Exec t) r a = stop_none p mode s t (no_action p t (s.locals t) a)
-applies_none p Sequential labels s NoSuchThread (Flush t) r a = refl
-applies_none p (Fenced gaps) labels s NoSuchThread (Flush t) r a = flush_none p (Fenced gaps) s t (run_keeps p t a gaps labels (start p) s refl r)
+applies_none p SequentialMachine labels s NoSuchThread (Flush t) r a = refl
+applies_none p (StoreBufferMachine gaps) labels s NoSuchThread (Flush t) r a = flush_none p (StoreBufferMachine gaps) s t (run_keeps p t a gaps labels (start p) s refl r)
 applies_none p mode labels s AtEnd (Exec t) r a = stop_none p mode s t a.1
 applies_none p mode labels s AtEnd (Flush t) r a = absurd a
 applies_none p mode labels s BufferEmpty (Exec t) r a = absurd a
 applies_none p mode labels s BufferEmpty (Flush t) r a = flush_none p mode s t a.1
-applies_none p Sequential labels s FenceWaits (Exec t) r a = absurd (a.0 (ap (λ (f : ℕ → List Pending). f t) (no_stores p labels (start p) s r)))
-applies_none p (Fenced gaps) labels s FenceWaits (Exec t) r a = held_none s t (gaps t (s.locals t).place) (action p.threads t (s.locals t)) a.0 a.1
+applies_none p SequentialMachine labels s FenceWaits (Exec t) r a = absurd (a.0 (ap (λ (f : ℕ → List Pending). f t) (no_stores p labels (start p) s r)))
+applies_none p (StoreBufferMachine gaps) labels s FenceWaits (Exec t) r a = held_none s t (gaps t (s.locals t).place) (action p.threads t (s.locals t)) a.0 a.1
 applies_none p mode labels s FenceWaits (Flush t) r a = absurd a
 
-pub stops_none : (p : Listing) (mode : Mode) (labels : List Label) (n : ℕ) (cause : Cause) → Stops p mode labels n cause → run p mode (start p) labels ≡ None
+pub stops_none : (p : Listing) (mode : Machine) (labels : List Label) (n : ℕ) (cause : Cause) → Stops p mode labels n cause → run p mode (start p) labels ≡ None
 stops_none p mode labels n cause s =
     run_stops p mode labels n (start p) s.before s.label s.reached s.there (applies_none p mode (take n labels) s.before cause s.label s.reached s.why)
 
 not_both : (A : Type 0) (o : Option State) (last : State) → o ≡ None → o ≡ Some last → A
 not_both A o last e f = absurd (let z : None ≡ Some last = sym e ∙ f in cc)
 
-early : (p : Listing) (mode : Mode) (labels : List Label) (n : ℕ) (last : State) (A : Type 0) → run p mode (start p) labels ≡ Some last → HasEnded p last → EndsEarly p mode labels n → A
+early : (p : Listing) (mode : Machine) (labels : List Label) (n : ℕ) (last : State) (A : Type 0) → run p mode (start p) labels ≡ Some last → HasEnded p last → EndsEarly p mode labels n → A
 early p mode labels n last A r ended e =
     let same : last ≡ e.last = (let z : Some last ≡ Some e.last = sym r ∙ e.reached in cc) in
     let done = subst (λ (s : State). HasEnded p s) same ended in
     elim e.unfinished.1 [ inl a ↦ absurd (a (done e.thread).0) | inr b ↦ absurd (b (done e.thread).1) ]
 
 -- labels are a run with one outcome at most
-pub one_outcome : (p : Listing) (mode : Mode) (labels : List Label) (o o' : Outcome) → IsRun p mode labels o → IsRun p mode labels o' → o ≡ o'
+pub one_outcome : (p : Listing) (mode : Machine) (labels : List Label) (o o' : Outcome) → IsRun p mode labels o → IsRun p mode labels o' → o ≡ o'
 one_outcome p mode labels o o' (last, r, ended, e) (last', r', ended', e') =
     let same : last ≡ last' = (let z : Some last ≡ Some last' = sym r ∙ r' in cc) in
     e ∙ ap (outcome_at p) same ∙ sym e'
 
-pub no_fault : (p : Listing) (mode : Mode) (labels : List Label) (o : Outcome) (why : ReplayFault) → IsRun p mode labels o → ReplayFaultIs p mode labels why → why ≡ fault.OutOfMemory
+pub no_fault : (p : Listing) (mode : Machine) (labels : List Label) (o : Outcome) (why : ReplayFault) → IsRun p mode labels o → ReplayFaultIs p mode labels why → why ≡ fault.OutOfMemory
 no_fault p mode labels o (fault.NoSuchThread n) (last, r, ended, e) f = not_both _ _ last (stops_none p mode labels n NoSuchThread f) r
 no_fault p mode labels o (fault.AtEnd n) (last, r, ended, e) f = not_both _ _ last (stops_none p mode labels n AtEnd f) r
 no_fault p mode labels o (fault.BufferEmpty n) (last, r, ended, e) f = not_both _ _ last (stops_none p mode labels n BufferEmpty f) r

@@ -26,8 +26,8 @@ use Rattle.tso_program.specs.declared.action.Action.{Action}
 use Rattle.tso_program.specs.declared.action.Action.TheVariants.{Stop, Go, Wait, Read, Write, Swap}
 use Rattle.tso_program.specs.Actions.{act}
 use Rattle.tso_program.specs.Listings.{action}
-use Rattle.tso_machine.specs.Machine.{Mode, Sequential, State, start, step, run, direct, is_empty, from_some, passes_at, passes, HasEnded}
-use Rattle.tso_machine.specs.Modes.{mode_of, Passes, ArePassed}
+use Rattle.tso_machine.specs.Machine.{Machine, SequentialMachine, State, start, step, run, direct, is_empty, from_some, passes_at, passes, HasEnded}
+use Rattle.tso_machine.specs.Modes.{machine_of_model, Passes, ArePassed}
 use Rattle.tso_machine.specs.Faults.{Applies, StepFaultIs, Stops, ReplayFaultIs, fault_of}
 use Rattle.tso_machine.specs.Internal.Cores.{Core, Cores, no_core, core_at, state_of, Fits, Finished, passed_gap, gap_passed_by}
 
@@ -44,12 +44,12 @@ and_then_end (Some s) = refl
 and_then_end None = refl
 
 -- in sequential mode no store ever waits
-pub no_stores : (p : Listing) (labels : List Label) (s last : State) → run p Sequential s labels ≡ Some last → last.buffers ≡ s.buffers
+pub no_stores : (p : Listing) (labels : List Label) (s last : State) → run p SequentialMachine s labels ≡ Some last → last.buffers ≡ s.buffers
 no_stores p [] s last e = let q : s ≡ last = cc in ap (λ (z : State). z.buffers) (sym q)
 no_stores p (Flush t ∷ labels) s last e = absurd cc
 no_stores p (Exec t ∷ labels) s last e = by_action (λ z r. no_stores p labels z last r) (action p.threads t (s.locals t)) e
   where
-    by_action : ((z : State) → run p Sequential z labels ≡ Some last → last.buffers ≡ z.buffers) → (a : Action) → option_and_then (λ next. run p Sequential next labels) (direct s t a) ≡ Some last → last.buffers ≡ s.buffers
+    by_action : ((z : State) → run p SequentialMachine z labels ≡ Some last → last.buffers ≡ z.buffers) → (a : Action) → option_and_then (λ next. run p SequentialMachine next labels) (direct s t a) ≡ Some last → last.buffers ≡ s.buffers
     by_action rest Stop r = absurd cc
     by_action rest (Go next) r = rest _ r
     by_action rest (Wait next) r = rest _ r
@@ -57,16 +57,16 @@ no_stores p (Exec t ∷ labels) s last e = by_action (λ z r. no_stores p labels
     by_action rest (Write l v next) r = rest _ r
     by_action rest (Swap l v to next) r = rest _ r
 
-pub no_stores_by : (p : Listing) (gaps : set.FinSet nat_cmp) (model : Model) (labels : List Label) (s : State) → run p (mode_of p gaps model) (start p) labels ≡ Some s →
+pub no_stores_by : (p : Listing) (gaps : set.FinSet nat_cmp) (model : Model) (labels : List Label) (s : State) → run p (machine_of_model p gaps model) (start p) labels ≡ Some s →
     model ≡ models.Sequential → (t : ℕ) → s.buffers t ≡ []
 no_stores_by p gaps model labels s r e t =
-    ap (λ (f : ℕ → List Pending). f t) (no_stores p labels (start p) s (subst (λ m. run p (mode_of p gaps m) (start p) labels ≡ Some s) e r))
+    ap (λ (f : ℕ → List Pending). f t) (no_stores p labels (start p) s (subst (λ m. run p (machine_of_model p gaps m) (start p) labels ≡ Some s) e r))
 
 -- a thread that is not there is at its end
 pub no_action : (p : Listing) (t : ℕ) (local : Local) → length p.threads ≤ t → action p.threads t local ≡ Stop
 no_action p t local h = ap (λ o. act (slice_get (option_map_or (λ (thread : Thread). thread.code) o []) local.place) local) (slice_get_past p.threads t h)
 
-module _ (p : Listing) (mode : Mode) where
+module _ (p : Listing) (mode : Machine) where
   run_more : (s : State) (labels : List Label) (label : Label) → run p mode s (labels ++ label ∷ []) ≡ option_and_then (λ t. step p mode t label) (run p mode s labels)
   run_more s [] label = and_then_end (step p mode s label)
   run_more s (first ∷ labels) label =
@@ -208,7 +208,7 @@ module _ (p : Listing) (s : Cores) where
       ap (λ x. gap_passed_by p.threads x (core_at s.cores x)) ut ∙ ap (λ z. if z then None else gap_number p.threads t (core_at s.cores t).local.place) w ∙ ap (gap_number p.threads t) pk ∙ n
 
   -- the set with the gap of one more step
-  pub passed_on : (mode : Mode) (labels : List Label) (n : ℕ) (d : Label) (gaps : set.FinSet nat_cmp) (o : Option ℕ) → n < length labels → run p mode (start p) (take n labels) ≡ Some (state_of s) →
+  pub passed_on : (mode : Machine) (labels : List Label) (n : ℕ) (d : Label) (gaps : set.FinSet nat_cmp) (o : Option ℕ) → n < length labels → run p mode (start p) (take n labels) ≡ Some (state_of s) →
       ArePassed p mode (take n labels) gaps → o ≡ passed_gap p.threads s.cores (get_or labels n d) → ArePassed p mode (take (n + 1) labels) (option_map_or (set.insert gaps) o gaps)
   passed_on mode labels n d gaps o h reached so_far is g = (forth, back)
     where
@@ -227,7 +227,7 @@ module _ (p : Listing) (s : Cores) where
         | inr a ↦ or_after _ _ (gap_some o g (is ∙ from_here (get_or labels n d) g (t, k, q, a)))
       ]
 
-pub none_passed : (p : Listing) (mode : Mode) (gaps : set.FinSet nat_cmp) → gaps ≡ set.empty → ArePassed p mode [] gaps
+pub none_passed : (p : Listing) (mode : Machine) (gaps : set.FinSet nat_cmp) → gaps ≡ set.empty → ArePassed p mode [] gaps
 none_passed p mode gaps is g = ((λ e. absurd (let z : false ≡ true = sym (ap (λ s. set.contains s g) is ∙ set.contains-empty nat_cmp g) ∙ e in cc)), (λ x. absurd (let z : false ≡ true = x.3 in cc)))
 
 pub match_some : (o : Option ℕ) (P : Type 0) (Q : ℕ → Type 0) → MatchOption o P Q → is_some o ≡ true → (t : ℕ) × Q t
@@ -239,7 +239,7 @@ match_none None P Q h e = h
 match_none (Some t) P Q h e = absurd cc
 
 -- in sequential mode no step passes a gap
-seq_passes : (p : Listing) (labels : List Label) (s : State) → ((t : ℕ) → s.buffers t ≡ []) → (t k : ℕ) → passes p Sequential s labels t k ≡ false
+seq_passes : (p : Listing) (labels : List Label) (s : State) → ((t : ℕ) → s.buffers t ≡ []) → (t k : ℕ) → passes p SequentialMachine s labels t k ≡ false
 seq_passes p [] s none t k = refl
 seq_passes p (Flush u ∷ labels) s none t k = refl
 seq_passes p (Exec u ∷ labels) s none t k =
@@ -251,7 +251,7 @@ seq_passes p (Exec u ∷ labels) s none t k =
     here true false ws e = refl
     here false b ws e = refl
 
-    by_action : ((z : State) → ((t : ℕ) → z.buffers t ≡ []) → passes p Sequential z labels t k ≡ false) → (a : Action) → from_some (λ next. passes p Sequential next labels t k) (direct s u a) ≡ false
+    by_action : ((z : State) → ((t : ℕ) → z.buffers t ≡ []) → passes p SequentialMachine z labels t k ≡ false) → (a : Action) → from_some (λ next. passes p SequentialMachine next labels t k) (direct s u a) ≡ false
     by_action rest Stop = refl
     by_action rest (Go next) = rest _ none
     by_action rest (Wait next) = rest _ none
@@ -259,12 +259,12 @@ seq_passes p (Exec u ∷ labels) s none t k =
     by_action rest (Write l v next) = rest _ none
     by_action rest (Swap l v to next) = rest _ none
 
-pub none_sequential : (p : Listing) (gaps : set.FinSet nat_cmp) (model : Model) (labels : List Label) (passed : set.FinSet nat_cmp) → ArePassed p (mode_of p gaps model) labels passed →
+pub none_sequential : (p : Listing) (gaps : set.FinSet nat_cmp) (model : Model) (labels : List Label) (passed : set.FinSet nat_cmp) → ArePassed p (machine_of_model p gaps model) labels passed →
     model ≡ models.Sequential → (gap : ℕ) → set.contains passed gap ≡ false
 none_sequential p gaps model labels passed are e gap = by_cases (set.contains passed gap) refl
   where
-    in_sequential : ArePassed p Sequential labels passed
-    in_sequential = subst (λ m. ArePassed p (mode_of p gaps m) labels passed) e are
+    in_sequential : ArePassed p SequentialMachine labels passed
+    in_sequential = subst (λ m. ArePassed p (machine_of_model p gaps m) labels passed) e are
 
     by_cases : (b : Bool) → set.contains passed gap ≡ b → b ≡ false
     by_cases false q = refl

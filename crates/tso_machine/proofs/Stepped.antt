@@ -4,12 +4,12 @@ use Rattle.std.proofs.lemmas.List.{take_more}
 use Rattle.tso_program.specs.declared.listing.Listing.{Listing}
 use Rattle.tso_machine.specs.declared.label.Label.{Label}
 use Rattle.tso_machine.specs.declared.stepping.Step.{Step}
-use Rattle.tso_machine.specs.Machine.{Mode, State, step, run}
+use Rattle.tso_machine.specs.Machine.{Machine, State, step, run}
 use Rattle.tso_machine.specs.Steps.{AreSteps, IsStepBetween}
 use Rattle.std.specs.Prelude.{Option}
 use Rattle.std.specs.Option.{option_and_then}
 
-module _ (p : Listing) (mode : Mode) where
+module _ (p : Listing) (mode : Machine) where
   one_more : (labels : List Label) (steps : List Step) (s before last : State) (label : Label) (made : Step) → AreSteps p mode s labels steps → run p mode s labels ≡ Some before
       → step p mode before label ≡ Some last → IsStepBetween before last label made → AreSteps p mode s (labels ++ label ∷ []) (steps ++ made ∷ [])
   one_more [] [] s before last label made so_far reached here is =

@@ -13,8 +13,8 @@ use Rattle.tso_program.specs.Shown.{show, asked}
 use Rattle.tso_machine.specs.declared.label.Label.{Label}
 use Rattle.tso_machine.specs.declared.label.Model.{Model}
 use Rattle.tso_machine.specs.declared.label.Model.TheVariants as models
-use Rattle.tso_machine.specs.Machine.{Fenced, no_gaps, IsRun}
-use Rattle.tso_machine.specs.Modes.{mode_of, unfenced, ArePassed}
+use Rattle.tso_machine.specs.Machine.{StoreBufferMachine, no_gaps, IsRun}
+use Rattle.tso_machine.specs.Modes.{machine_of_model, unfenced, ArePassed}
 use Rattle.tso_machine.specs.Outcomes.{IsReplayOf}
 
 -- the empty set has no gap
@@ -26,13 +26,13 @@ empty_fences_nothing p = fun_ext (λ t. fun_ext (λ k. none (gap_number p.thread
     none (Some gap) = set.contains-empty nat_cmp gap
 
 -- so with the empty set fenced a model's machine is the one with no gap fenced
-pub unfenced_is : (p : Listing) (model : Model) (empty : SetOfGaps) → empty ≡ set.empty → mode_of p empty model ≡ unfenced model
+pub unfenced_is : (p : Listing) (model : Model) (empty : SetOfGaps) → empty ≡ set.empty → machine_of_model p empty model ≡ unfenced model
 unfenced_is p models.Sequential empty same = refl
-unfenced_is p models.Buffered empty same = ap Fenced (ap (gaps_in p) same ∙ empty_fences_nothing p)
+unfenced_is p models.Buffered empty same = ap StoreBufferMachine (ap (gaps_in p) same ∙ empty_fences_nothing p)
 
 -- what a replay says of a run, where its outcome is as it is shown
 pub replayed_is : (p : Listing) (model : Model) (labels : List Label) (empty : SetOfGaps) → empty ≡ set.empty → (shown : Shown) (whole part : Outcome) (passed : SetOfGaps) →
-    IsRun p (mode_of p empty model) labels whole → ArePassed p (mode_of p empty model) labels passed → part ≡ show shown whole →
+    IsRun p (machine_of_model p empty model) labels whole → ArePassed p (machine_of_model p empty model) labels passed → part ≡ show shown whole →
     IsReplayOf (asked p shown) model labels (record { outcome = part; passed = passed })
 replayed_is p model labels empty is_empty shown whole part passed run are is = record {
   is_run = (whole, subst (λ m. IsRun p m labels whole) (unfenced_is p model empty is_empty) run, is);

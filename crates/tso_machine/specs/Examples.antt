@@ -8,7 +8,7 @@ use Rattle.tso_program.specs.declared.listing.Listing.{Listing}
 use Rattle.tso_program.specs.declared.outcome.Outcome.{Outcome}
 use Rattle.tso_machine.specs.declared.label.Label.{Label}
 use Rattle.tso_machine.specs.declared.label.Label.TheVariants.{Exec, Flush}
-use Rattle.tso_machine.specs.Machine.{Sequential, Fenced, no_gaps, start, IsRun, passes}
+use Rattle.tso_machine.specs.Machine.{SequentialMachine, StoreBufferMachine, no_gaps, start, IsRun, passes}
 
 -- registers that hold 0 but for EAX and EBX
 abbrev pub with_eax_ebx : ℕ → ℕ → List ℕ
@@ -28,11 +28,11 @@ ends_with eax ebx eax' ebx' x y = record { registers = with_eax_ebx eax ebx ∷ 
 
 -- the steps, with no gap fenced, pass the gap before instruction k of thread t
 abbrev pub PassesGapBefore : Listing → List Label → ℕ → ℕ → Type 0
-PassesGapBefore p labels t k = passes p (Fenced no_gaps) (start p) labels t k ≡ true
+PassesGapBefore p labels t k = passes p (StoreBufferMachine no_gaps) (start p) labels t k ≡ true
 
 -- they don't pass it
 abbrev pub PassesNotGap : Listing → List Label → ℕ → ℕ → Type 0
-PassesNotGap p labels t k = passes p (Fenced no_gaps) (start p) labels t k ≡ false
+PassesNotGap p labels t k = passes p (StoreBufferMachine no_gaps) (start p) labels t k ≡ false
 
 -- store buffering: both threads read 0 where stores wait, and pass both gaps
 abbrev pub store_buffering : Listing
@@ -46,10 +46,10 @@ in_turn = Exec 0 ∷ Exec 0 ∷ Exec 1 ∷ Exec 1 ∷ []
 
 abbrev pub StoreBufferingIsTold : Type 0
 StoreBufferingIsTold =
-    IsRun store_buffering (Fenced no_gaps) waiting_stores (ends_with 0 0 0 0 1 1)
+    IsRun store_buffering (StoreBufferMachine no_gaps) waiting_stores (ends_with 0 0 0 0 1 1)
     × PassesGapBefore store_buffering waiting_stores 0 1
     × PassesGapBefore store_buffering waiting_stores 1 1
-    × IsRun store_buffering Sequential in_turn (ends_with 0 0 1 0 1 1)
+    × IsRun store_buffering SequentialMachine in_turn (ends_with 0 0 1 0 1 1)
 
 -- R: the second thread reads 0 from x while its store to y waits, and that store is the last to y
 abbrev pub r : Listing
@@ -59,7 +59,7 @@ abbrev pub r_run : List Label
 r_run = Exec 1 ∷ Exec 1 ∷ Exec 0 ∷ Flush 0 ∷ Exec 0 ∷ Flush 0 ∷ Flush 1 ∷ []
 
 abbrev pub RIsTold : Type 0
-RIsTold = IsRun r (Fenced no_gaps) r_run (ends_with 0 0 0 0 1 2) × PassesNotGap r r_run 0 1 × PassesGapBefore r r_run 1 1
+RIsTold = IsRun r (StoreBufferMachine no_gaps) r_run (ends_with 0 0 0 0 1 2) × PassesNotGap r r_run 0 1 × PassesGapBefore r r_run 1 1
 
 -- n6: the first thread reads its own store to x, which waits, and that store is the last to x
 abbrev pub n6 : Listing
@@ -70,7 +70,7 @@ n6_run = Exec 0 ∷ Exec 0 ∷ Exec 0 ∷ Exec 1 ∷ Flush 1 ∷ Exec 1 ∷ Flus
 
 abbrev pub N6IsTold : Type 0
 N6IsTold =
-    IsRun n6 (Fenced no_gaps) n6_run (ends_with 1 0 0 0 1 2) × PassesGapBefore n6 n6_run 0 1 × PassesGapBefore n6 n6_run 0 2 × PassesNotGap n6 n6_run 1 1
+    IsRun n6 (StoreBufferMachine no_gaps) n6_run (ends_with 1 0 0 0 1 2) × PassesGapBefore n6 n6_run 0 1 × PassesGapBefore n6 n6_run 0 2 × PassesNotGap n6 n6_run 1 1
 
 -- an exchange in place of the first thread's store: only the second thread passes a gap
 abbrev pub locked_exchange : Listing
@@ -81,7 +81,7 @@ locked_run = Exec 1 ∷ Exec 1 ∷ Exec 0 ∷ Exec 0 ∷ Exec 0 ∷ Flush 1 ∷ 
 
 abbrev pub LockedExchangeIsTold : Type 0
 LockedExchangeIsTold =
-    IsRun locked_exchange (Fenced no_gaps) locked_run (ends_with 0 0 0 0 1 1)
+    IsRun locked_exchange (StoreBufferMachine no_gaps) locked_run (ends_with 0 0 0 0 1 1)
     × PassesNotGap locked_exchange locked_run 0 1
     × PassesNotGap locked_exchange locked_run 0 2
     × PassesGapBefore locked_exchange locked_run 1 1

@@ -8,7 +8,7 @@ use Rattle.tso_machine.specs.declared.label.StepFault.{StepFault}
 use Rattle.tso_machine.specs.declared.label.StepFault.TheVariants as step
 use Rattle.tso_machine.specs.declared.replaying.ReplayFault.{ReplayFault}
 use Rattle.tso_machine.specs.declared.replaying.ReplayFault.TheVariants as fault
-use Rattle.tso_machine.specs.Machine.{Mode, Sequential, Fenced, State, start, run}
+use Rattle.tso_machine.specs.Machine.{Machine, SequentialMachine, StoreBufferMachine, State, start, run}
 use Rattle.tso_program.specs.declared.listing.Listing.{Listing}
 use Rattle.tso_program.specs.declared.action.Action.{Action}
 use Rattle.tso_program.specs.declared.action.Action.TheVariants.{Stop, Go, Wait, Read, Write, Swap}
@@ -29,9 +29,9 @@ waits (Write l v next) = false
 waits (Swap l v to next) = true
 
 -- a fenced gap stands before instruction k of thread t
-abbrev pub IsFenced : Mode → ℕ → ℕ → Type 0
-IsFenced Sequential t k = ⊥
-IsFenced (Fenced gaps) t k = gaps t k ≡ true
+abbrev pub IsFenced : Machine → ℕ → ℕ → Type 0
+IsFenced SequentialMachine t k = ⊥
+IsFenced (StoreBufferMachine gaps) t k = gaps t k ≡ true
 
 module _ (p : Listing) (s : State) where
   -- the thread is at its end
@@ -48,7 +48,7 @@ module _ (p : Listing) (s : State) where
   abbrev pub IsUnfinished : ℕ → Type 0
   IsUnfinished t = (t < length p.threads) × ((action p.threads t (s.locals t) ≢ Stop) ⊎ (s.buffers t ≢ []))
 
-module _ (p : Listing) (mode : Mode) (s : State) where
+module _ (p : Listing) (mode : Machine) (s : State) where
   -- a store waits, and the instruction waits for it or a fenced gap stands before it
   abbrev pub HasToWait : Label → Type 0
   HasToWait (Exec t) = (s.buffers t ≢ []) × ((waits (action p.threads t (s.locals t)) ≡ true) ⊎ IsFenced mode t (s.locals t).place)
@@ -66,7 +66,7 @@ module _ (p : Listing) (mode : Mode) (s : State) where
   StepFaultIs label (step.Refused cause) = Applies cause label
   StepFaultIs label step.OutOfMemory = Unit {0}
 
-module _ (p : Listing) (mode : Mode) (labels : List Label) where
+module _ (p : Listing) (mode : Machine) (labels : List Label) where
   -- the steps before step n are possible, and then the cause applies to it
   pub record Stops (n : ℕ) (cause : Cause) : Type 0 where
     pub before : State

@@ -14,9 +14,9 @@ use Rattle.tso_machine.specs.declared.label.Label.TheVariants.{Exec, Flush}
 use Rattle.tso_machine.specs.declared.label.Pending.{Pending}
 
 -- sequential consistency, or store buffers with these gaps fenced
-pub data Mode : Type 0 where
-  Sequential : Mode
-  Fenced : (gaps : Gaps) → Mode
+pub data Machine : Type 0 where
+  SequentialMachine : Machine
+  StoreBufferMachine : (gaps : Gaps) → Machine
 
 -- no gap is fenced
 abbrev pub no_gaps : Gaps
@@ -86,14 +86,14 @@ past_gap true ws s = when_empty ws s
 past_gap false ws s = Some s
 
 -- one step, or none where the event is not possible
-abbrev pub step : Listing → Mode → State → Label → Option State
-step p Sequential s (Exec t) = direct s t (action p.threads t (s.locals t))
-step p Sequential s (Flush t) = None
-step p (Fenced gaps) s (Exec t) =
+abbrev pub step : Listing → Machine → State → Label → Option State
+step p SequentialMachine s (Exec t) = direct s t (action p.threads t (s.locals t))
+step p SequentialMachine s (Flush t) = None
+step p (StoreBufferMachine gaps) s (Exec t) =
     option_and_then (λ s'. buffered s' t (action p.threads t (s.locals t))) (past_gap (gaps t (s.locals t).place) (s.buffers t) s)
-step p (Fenced gaps) s (Flush t) = flushed s t (s.buffers t)
+step p (StoreBufferMachine gaps) s (Flush t) = flushed s t (s.buffers t)
 
-abbrev pub run : Listing → Mode → State → List Label → Option State
+abbrev pub run : Listing → Machine → State → List Label → Option State
 run p mode s [] = Some s
 run p mode s (l ∷ ls) = option_and_then (λ next. run p mode next ls) (step p mode s l)
 
@@ -111,11 +111,11 @@ abbrev pub HasEnded : Listing → State → Type 0
 HasEnded p s = (t : ℕ) → (action p.threads t (s.locals t) ≡ Stop) × (s.buffers t ≡ [])
 
 -- the labels are a run with this outcome
-abbrev pub IsRun : Listing → Mode → List Label → Outcome → Type 0
+abbrev pub IsRun : Listing → Machine → List Label → Outcome → Type 0
 IsRun p mode labels o = (last : State) × (run p mode (start p) labels ≡ Some last) × HasEnded p last × (o ≡ outcome_at p last)
 
 -- some run of the mode's machine has the outcome
-abbrev pub Allows : Listing → Mode → Outcome → Type 0
+abbrev pub Allows : Listing → Machine → Outcome → Type 0
 Allows p mode o = (labels : List Label) × IsRun p mode labels o
 
 abbrev pub is_empty : List Pending → Bool
@@ -132,6 +132,6 @@ passes_at s (Flush u) t k = false
 passes_at s (Exec u) t k = (u == t) && (((s.locals t).place == k) && not (is_empty (s.buffers t)))
 
 -- whether the run passes the gap before instruction k of thread t
-abbrev pub passes : Listing → Mode → State → List Label → ℕ → ℕ → Bool
+abbrev pub passes : Listing → Machine → State → List Label → ℕ → ℕ → Bool
 passes p mode s [] t k = false
 passes p mode s (l ∷ ls) t k = passes_at s l t k || from_some (λ next. passes p mode next ls t k) (step p mode s l)

@@ -9,28 +9,28 @@ use Rattle.tso_machine.specs.declared.label.Model.{Model}
 use Rattle.tso_machine.specs.declared.label.Model.TheVariants as models
 use Rattle.tso_machine.specs.declared.mode.Mode as own
 use Rattle.tso_machine.specs.declared.mode.Mode.TheVariants as modes
-use Rattle.tso_machine.specs.Machine.{Mode, Sequential, Fenced, no_gaps, State, start, passes}
+use Rattle.tso_machine.specs.Machine.{Machine, SequentialMachine, StoreBufferMachine, no_gaps, State, start, passes}
 use Rattle.tso_program.specs.declared.listing.Listing.{Listing}
 
 -- the machine of a model, with the gaps of a set fenced; the sequential machine has no use for the set
-abbrev pub mode_of : Listing → SetOfGaps → Model → Mode
-mode_of p gaps models.Sequential = Sequential
-mode_of p gaps models.Buffered = Fenced (gaps_in p gaps)
+abbrev pub machine_of_model : Listing → SetOfGaps → Model → Machine
+machine_of_model p gaps models.Sequential = SequentialMachine
+machine_of_model p gaps models.Buffered = StoreBufferMachine (gaps_in p gaps)
 
 -- the machine of a model, with no gap fenced
-abbrev pub unfenced : Model → Mode
-unfenced models.Sequential = Sequential
-unfenced models.Buffered = Fenced no_gaps
+abbrev pub unfenced : Model → Machine
+unfenced models.Sequential = SequentialMachine
+unfenced models.Buffered = StoreBufferMachine no_gaps
 
 -- the machine of a mode
-abbrev pub machine_mode : Listing → own.Mode → Mode
-machine_mode p modes.Sequential = Sequential
-machine_mode p (modes.Fenced gaps) = Fenced (gaps_in p gaps)
+abbrev pub machine_of_mode : Listing → own.Mode → Machine
+machine_of_mode p modes.Sequential = SequentialMachine
+machine_of_mode p (modes.Fenced gaps) = StoreBufferMachine (gaps_in p gaps)
 
 -- the steps pass the gap of this number
-abbrev pub Passes : Listing → Mode → State → List Label → ℕ → Type 0
+abbrev pub Passes : Listing → Machine → State → List Label → ℕ → Type 0
 Passes p mode s labels gap = (t : ℕ) × (k : ℕ) × (gap_number p.threads t k ≡ Some gap) × (passes p mode s labels t k ≡ true)
 
 -- the set has the gaps that the run passes, and no others
-abbrev pub ArePassed : Listing → Mode → List Label → SetOfGaps → Type 0
+abbrev pub ArePassed : Listing → Machine → List Label → SetOfGaps → Type 0
 ArePassed p mode labels gaps = (gap : ℕ) → (set.contains gaps gap ≡ true) ↔ Passes p mode (start p) labels gap

@@ -11,11 +11,11 @@ use Rattle.tso_program.specs.Fences.{Gaps, gaps_in, fence}
 use Rattle.tso_machine.specs.declared.label.Label.{Label}
 use Rattle.tso_machine.specs.declared.label.Model.{Model}
 use Rattle.tso_machine.specs.declared.replaying.Ended.{Ended}
-use Rattle.tso_machine.specs.Machine.{Mode, Sequential, Fenced, no_gaps, IsRun}
+use Rattle.tso_machine.specs.Machine.{Machine, SequentialMachine, StoreBufferMachine, no_gaps, IsRun}
 use Rattle.tso_machine.specs.Modes.{unfenced, ArePassed}
 
 -- the labels are a run of the mode's machine, and this is shown of its outcome
-abbrev pub IsShownRun : Question → Mode → List Label → Outcome → Type 0
+abbrev pub IsShownRun : Question → Machine → List Label → Outcome → Type 0
 IsShownRun q mode labels o = (whole : Outcome) × IsRun q.program mode labels whole × (o ≡ show q.shown whole)
 
 -- the labels are a run with no gap fenced, of which this outcome is shown, and which passes these gaps
@@ -24,16 +24,16 @@ pub record IsReplayOf (q : Question) (model : Model) (labels : List Label) (ende
   pub passed : ArePassed q.program (unfenced model) labels ended.passed
 
 -- some run of the mode's machine shows the outcome
-abbrev pub AllowsShown : Question → Mode → Outcome → Type 0
+abbrev pub AllowsShown : Question → Machine → Outcome → Type 0
 AllowsShown q mode o = (labels : List Label) × IsShownRun q mode labels o
 
 -- the outcome is one of the program's sequential outcomes
 abbrev pub IsSequentialOutcome : Question → Outcome → Type 0
-IsSequentialOutcome q o = AllowsShown q Sequential o
+IsSequentialOutcome q o = AllowsShown q SequentialMachine o
 
 -- the outcome is one of the program's store buffer outcomes, with these gaps fenced
 abbrev pub IsStoreBufferOutcome : Question → Gaps → Outcome → Type 0
-IsStoreBufferOutcome q gaps o = AllowsShown q (Fenced gaps) o
+IsStoreBufferOutcome q gaps o = AllowsShown q (StoreBufferMachine gaps) o
 
 -- the set serves: with its gaps fenced the program has its sequential outcomes and no others
 abbrev pub Serves : Question → SetOfGaps → Type 0
@@ -41,7 +41,7 @@ Serves q gaps = (o : Outcome) → IsStoreBufferOutcome q (gaps_in q.program gaps
 
 -- a run with no gap fenced whose outcome no sequential run has
 pub record IsForeignRun (q : Question) (labels : List Label) (o : Outcome) : Type 0 where
-  pub is_run : IsShownRun q (Fenced no_gaps) labels o
+  pub is_run : IsShownRun q (StoreBufferMachine no_gaps) labels o
   pub foreign : IsSequentialOutcome q o → ⊥
 
 -- with the gaps of the set fenced an outcome is left that no sequential run has
@@ -83,5 +83,5 @@ pub record FencedLeavesOutcome (q : Question) (gaps : SetOfGaps) : Type 0 where
 -- and fenced at any better set of its gaps it leaves an outcome that no sequential run has
 pub record Headline (q : Question) (costs : List ℕ) (gaps : SetOfGaps) : Type 0 where
   pub of_program : AreGapsOf q.program gaps
-  pub fenced : (o : Outcome) → IsFencedOutcome q gaps o ↔ IsSequentialOutcome q o
-  pub least : (other : SetOfGaps) → AreGapsOf q.program other → Better costs other gaps → FencedLeavesOutcome q other
+  pub exactly_sequential : (o : Outcome) → IsFencedOutcome q gaps o ↔ IsSequentialOutcome q o
+  pub each_better_leaves_an_outcome : (other : SetOfGaps) → AreGapsOf q.program other → Better costs other gaps → FencedLeavesOutcome q other

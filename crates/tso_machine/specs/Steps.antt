@@ -4,7 +4,7 @@ use Rattle.tso_program.specs.declared.listing.Listing.{Listing}
 use Rattle.tso_machine.specs.declared.label.Label.{Label}
 use Rattle.tso_machine.specs.declared.stepping.Step.{Step}
 use Rattle.tso_machine.specs.declared.stepping.ThreadState.{ThreadState}
-use Rattle.tso_machine.specs.Machine.{Mode, State, step}
+use Rattle.tso_machine.specs.Machine.{Machine, State, step}
 use Rattle.tso_machine.specs.Faults.{thread_of}
 
 -- thread t in a state
@@ -18,7 +18,7 @@ pub record IsStepBetween (before after : State) (label : Label) (made : Step) : 
   pub to : made.after ≡ thread_at after (thread_of label)
 
 -- the steps that the labels make from a state, in order
-abbrev pub AreSteps : Listing → Mode → State → List Label → List Step → Type 0
+abbrev pub AreSteps : Listing → Machine → State → List Label → List Step → Type 0
 AreSteps p mode s [] [] = Unit {0}
 AreSteps p mode s [] (made ∷ more) = ⊥
 AreSteps p mode s (label ∷ labels) [] = ⊥

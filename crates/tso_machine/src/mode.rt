@@ -2,7 +2,7 @@
 ghost use Rattle.std.specs.Prelude.{◌≡◌};
 ghost use Rattle.std.specs.FinSet as set;
 ghost use Rattle.tso_program.specs.declared.listing.Listing.{Listing};
-ghost use Rattle.tso_machine.specs.Modes.{mode_of, machine_mode};
+ghost use Rattle.tso_machine.specs.Modes.{machine_of_model, machine_of_mode};
 
 use crate::Model;
 use gap_sets::GapSet;
@@ -19,7 +19,7 @@ pub enum Mode {
 impl Mode {
     /// The mode of a model, with no gap fenced.
     pub fn unfenced(model: Model) -> Mode
-        ensures { (p : Listing) → machine_mode p result ≡ mode_of p set.empty model }
+        ensures { (p : Listing) → machine_of_mode p result ≡ machine_of_model p set.empty model }
     {
         match model {
             Model::Sequential => Mode::Sequential,
@@ -29,7 +29,7 @@ impl Mode {
 
     /// The model, and the gaps that are fenced.
     pub fn model_and_gaps(self) -> (Model, GapSet)
-        ensures { (p : Listing) → mode_of p result.1 result.0 ≡ machine_mode p self }
+        ensures { (p : Listing) → machine_of_model p result.1 result.0 ≡ machine_of_mode p self }
     {
         match self {
             Mode::Sequential => (Model::Sequential, GapSet::empty()),

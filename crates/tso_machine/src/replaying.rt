@@ -7,7 +7,7 @@ ghost use Rattle.tso_program.specs.Shown.{asked};
 ghost use Rattle.tso_machine.specs.declared.label.Model.TheVariants as models;
 ghost use Rattle.tso_machine.specs.declared.replaying.ReplayFault.TheVariants.{OutOfMemory};
 ghost use Rattle.tso_machine.specs.Machine.{IsRun};
-ghost use Rattle.tso_machine.specs.Modes.{mode_of, unfenced, ArePassed};
+ghost use Rattle.tso_machine.specs.Modes.{machine_of_model, unfenced, ArePassed};
 ghost use Rattle.tso_machine.specs.Outcomes.{IsReplayOf};
 ghost use Rattle.tso_machine.specs.Faults.{ReplayFaultIs, fault_of};
 ghost use Rattle.gap_sets.specs.declared.gap_set.TheConstants.{MAX_GAPS};
@@ -61,11 +61,11 @@ pub fn replay(
     model: Model,
     labels: &[Label],
 ) -> Result<Ended, ReplayFault>
-    ensures run { IfOk result (λ ended. IsRun program.now (mode_of program.now fenced.now model) labels.now ended.outcome) }
-    ensures passed { IfOk result (λ ended. ArePassed program.now (mode_of program.now fenced.now model) labels.now ended.passed) }
+    ensures run { IfOk result (λ ended. IsRun program.now (machine_of_model program.now fenced.now model) labels.now ended.outcome) }
+    ensures passed { IfOk result (λ ended. ArePassed program.now (machine_of_model program.now fenced.now model) labels.now ended.passed) }
     ensures sequential { IfOk result (λ ended. model ≡ models.Sequential → (gap : ℕ) → set.contains ended.passed gap ≡ false) }
-    ensures accepts { (outcome : Outcome) → IsRun program.now (mode_of program.now fenced.now model) labels.now outcome → MatchResult result (λ ended. ended.outcome ≡ outcome) (λ fault. fault ≡ OutOfMemory) }
-    ensures fault { IfErr result (ReplayFaultIs program.now (mode_of program.now fenced.now model) labels.now) }
+    ensures accepts { (outcome : Outcome) → IsRun program.now (machine_of_model program.now fenced.now model) labels.now outcome → MatchResult result (λ ended. ended.outcome ≡ outcome) (λ fault. fault ≡ OutOfMemory) }
+    ensures fault { IfErr result (ReplayFaultIs program.now (machine_of_model program.now fenced.now model) labels.now) }
 {
     let Ok(mut state) = State::start(alloc, program) else {
         return Err(ReplayFault::OutOfMemory);
@@ -100,10 +100,10 @@ pub fn replay_shown(
     ensures fault { IfErr result (ReplayFaultIs program.now (unfenced model) labels.now) }
 {
     match replay(alloc, program, &GapSet::empty(), model, labels) {
-        Ok(mut ended) => {
-            ended.outcome.show(shown);
-            Ok(ended)
-        }
+        Ok(mut ended) => match ended.outcome.show(alloc, shown) {
+            Ok(()) => Ok(ended),
+            Err(_) => Err(ReplayFault::OutOfMemory),
+        },
         Err(fault) => Err(fault),
     }
 }

@@ -5,8 +5,8 @@ ghost use Rattle.tso_machine.specs.declared.label.Label.TheVariants as event;
 ghost use Rattle.tso_machine.specs.declared.label.Model.TheVariants as models;
 ghost use Rattle.tso_program.specs.declared.action.Action.TheVariants.{Stop};
 ghost use Rattle.tso_machine.specs.Machine as machine;
-ghost use Rattle.tso_machine.specs.Machine.{Mode, HasEnded, outcome_at};
-ghost use Rattle.tso_machine.specs.Modes.{mode_of};
+ghost use Rattle.tso_machine.specs.Machine.{Machine, HasEnded, outcome_at};
+ghost use Rattle.tso_machine.specs.Modes.{machine_of_model};
 ghost use Rattle.tso_machine.specs.Internal.Cores.{state_of, first_cores, Fits, passed_gap, gap_passed_by, core_at, Finished};
 ghost use Rattle.tso_machine.specs.Faults.{thread_of, StepFaultIs, IsUnfinished};
 ghost use Rattle.tso_machine.specs.Steps.{thread_at};
@@ -59,7 +59,7 @@ impl State {
     ) -> Result<ThreadState, StepFault>
         requires { Fits program.now self.now }
         ensures found { IfOk result (λ thread. thread ≡ thread_at (state_of self.now) (thread_of label)) }
-        ensures err { (mode : Mode) (s : machine.State) → IfErr result (StepFaultIs program.now mode s label) }
+        ensures err { (mode : Machine) (s : machine.State) → IfErr result (StepFaultIs program.now mode s label) }
     {
         match self.cores.as_slice().get(label.thread() as usize) {
             Some(core) => match core.thread(alloc) {
@@ -132,8 +132,8 @@ impl State {
     ) -> Result<(), StepFault>
         requires fits { Fits program.now self.old }
         requires direct { model ≡ models.Sequential → (t : ℕ) → (state_of self.old).buffers t ≡ [] }
-        ensures ok { OnOk result (machine.step program.now (mode_of program.now fenced.now model) (state_of self.old) label ≡ Some (state_of self.new)) }
-        ensures err { IfErr result (StepFaultIs program.now (mode_of program.now fenced.now model) (state_of self.old) label) }
+        ensures ok { OnOk result (machine.step program.now (machine_of_model program.now fenced.now model) (state_of self.old) label ≡ Some (state_of self.new)) }
+        ensures err { IfErr result (StepFaultIs program.now (machine_of_model program.now fenced.now model) (state_of self.old) label) }
         ensures fits { OnOk result (Fits program.now self.new) }
     {
         match label {
@@ -150,8 +150,8 @@ impl State {
         t: u8,
     ) -> Result<(), StepFault>
         requires { Fits program.now self.old }
-        ensures ok { OnOk result (machine.step program.now (mode_of program.now fenced.now model) (state_of self.old) (event.Exec t) ≡ Some (state_of self.new)) }
-        ensures err { IfErr result (StepFaultIs program.now (mode_of program.now fenced.now model) (state_of self.old) (event.Exec t)) }
+        ensures ok { OnOk result (machine.step program.now (machine_of_model program.now fenced.now model) (state_of self.old) (event.Exec t) ≡ Some (state_of self.new)) }
+        ensures err { IfErr result (StepFaultIs program.now (machine_of_model program.now fenced.now model) (state_of self.old) (event.Exec t)) }
         ensures fits { OnOk result (Fits program.now self.new) }
     {
         let place = t as usize;
@@ -171,7 +171,7 @@ impl State {
     fn flush(&mut self, program: &Program, t: u8) -> Result<(), StepFault>
         requires { Fits program.now self.old }
         ensures ok { OnOk result (machine.flushed (state_of self.old) t ((state_of self.old).buffers t) ≡ Some (state_of self.new)) }
-        ensures err { (mode : Mode) → IfErr result (StepFaultIs program.now mode (state_of self.old) (event.Flush t)) }
+        ensures err { (mode : Machine) → IfErr result (StepFaultIs program.now mode (state_of self.old) (event.Flush t)) }
         ensures fits { OnOk result (Fits program.now self.new) }
     {
         let place = t as usize;

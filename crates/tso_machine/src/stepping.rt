@@ -1,7 +1,7 @@
 //! The steps of a run, one by one.
 ghost use Rattle.std.specs.Prelude.{◌≡◌, IfOk, IfErr, OnOk};
 ghost use Rattle.tso_machine.specs.Machine as machine;
-ghost use Rattle.tso_machine.specs.Modes.{mode_of};
+ghost use Rattle.tso_machine.specs.Modes.{machine_of_model};
 ghost use Rattle.tso_machine.specs.Faults.{thread_of, ReplayFaultIs, StepFaultIs};
 ghost use Rattle.tso_machine.specs.Steps.{AreSteps, IsStepBetween};
 ghost use Rattle.tso_machine.specs.Internal.Cores.{state_of, Fits};
@@ -42,9 +42,9 @@ fn make_step(
 ) -> Result<Step, StepFault>
     requires fits { Fits program.now state.old }
     requires direct { model ≡ models.Sequential → (t : ℕ) → (state_of state.old).buffers t ≡ [] }
-    ensures made { OnOk result (machine.step program.now (mode_of program.now fenced.now model) (state_of state.old) label ≡ Some (state_of state.new)) }
+    ensures made { OnOk result (machine.step program.now (machine_of_model program.now fenced.now model) (state_of state.old) label ≡ Some (state_of state.new)) }
     ensures step { IfOk result (IsStepBetween (state_of state.old) (state_of state.new) label) }
-    ensures err { IfErr result (StepFaultIs program.now (mode_of program.now fenced.now model) (state_of state.old) label) }
+    ensures err { IfErr result (StepFaultIs program.now (machine_of_model program.now fenced.now model) (state_of state.old) label) }
     ensures fits { OnOk result (Fits program.now state.new) }
 {
     let before = match state.thread(alloc, program, label) {
@@ -73,8 +73,8 @@ pub fn steps(
     model: Model,
     labels: &[Label],
 ) -> Result<Vec<Step>, ReplayFault>
-    ensures steps { IfOk result (λ steps. AreSteps program.now (mode_of program.now fenced.now model) (machine.start program.now) labels.now steps.items) }
-    ensures fault { IfErr result (ReplayFaultIs program.now (mode_of program.now fenced.now model) labels.now) }
+    ensures steps { IfOk result (λ steps. AreSteps program.now (machine_of_model program.now fenced.now model) (machine.start program.now) labels.now steps.items) }
+    ensures fault { IfErr result (ReplayFaultIs program.now (machine_of_model program.now fenced.now model) labels.now) }
 {
     let Ok(mut state) = State::start(alloc, program) else {
         return Err(ReplayFault::OutOfMemory);

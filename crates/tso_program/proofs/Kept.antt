@@ -1,14 +1,14 @@
 -- What is shown, value by value.
-use Rattle.std.proofs.Common.{◌≡◌, ℕ, ◌<◌, Bool, true, false, List, [], get_or, length, inl, inr, refl, sym, ap, ◌∙◌, arith}
+use Rattle.std.proofs.Common.{◌≡◌, ℕ, ◌<◌, Bool, true, false, List, [], get_or, length, inl, inr, refl, sym, ap, subst, ◌∙◌, arith}
 use Rattle.std.proofs.lemmas.Bool.{cases_lt}
 use Rattle.std.proofs.lemmas.Grind.{same_number_lists}
 use Rattle.std.proofs.lemmas.List.{ext_get_or, get_or_past}
 use Rattle.std.proofs.lemmas.List.FromFn.{fill_by_all, get_or-map-range_with_len, length-map-range_with_len}
 use Rattle.tso_program.specs.declared.outcome.Outcome.{Outcome}
 use Rattle.tso_program.specs.declared.shown.Shown.{Shown}
-use Rattle.tso_program.specs.declared.shown.Shown.TheVariants.{All, Only}
-use Rattle.tso_program.specs.Laws.{IsPartOf, register_in, value_in, WhatIsShownIsAlike, ShownRegistersAreKept, ShownLocationsAreKept, OtherRegistersAreZero, OtherLocationsAreZero, APartIsShownOfTheWhole, ShowingTwiceIsShowingOnce, EverythingShownIsTheOutcome}
-use Rattle.tso_program.specs.Shown.{shows_register, shows_location, value_if, shown_registers, shown_value, show_registers, show_memory, show}
+use Rattle.tso_program.specs.declared.shown.Shown.TheVariants.{All, Only, Truth}
+use Rattle.tso_program.specs.Laws.{IsPartOf, AreAlike, register_in, location_in, WhatIsShownIsAlike, ShownRegistersAreKept, ShownLocationsAreKept, OtherRegistersAreZero, OtherLocationsAreZero, EachIsReadOffAll, APartIsShownOfTheWhole, ShowingTwiceIsShowingOnce, EverythingShownIsTheOutcome}
+use Rattle.tso_program.specs.Shown.{shows_register, shows_location, value_if, shown_registers, shown_value, show_registers, show_memory, show, shown_values, ShowsValues}
 use Rattle.tso_program.proofs.PartsShown.{any_register, part_of_itself}
 
 -- what a part shows of a value that the whole shows
@@ -22,15 +22,18 @@ within false false v h = refl
 pub registers_long : (shown : Shown) (t : ℕ) (held : List ℕ) → length (shown_registers shown t held) ≡ length held
 registers_long All t held = refl
 registers_long (Only names) t held = length-map-range_with_len (λ r. value_if (shows_register (Only names) t r) (get_or held r 0)) 0 (length held)
+registers_long (Truth f) t held = length-map-range_with_len (λ r. value_if (shows_register (Truth f) t r) (get_or held r 0)) 0 (length held)
 
 pub register_at : (shown : Shown) (t : ℕ) (held : List ℕ) (r : ℕ) → r < length held → get_or (shown_registers shown t held) r 0 ≡ value_if (shows_register shown t r) (get_or held r 0)
 register_at All t held r h = refl
 register_at (Only names) t held r h = get_or-map-range_with_len (λ r. value_if (shows_register (Only names) t r) (get_or held r 0)) 0 (length held) r r 0 h (omega arith)
+register_at (Truth f) t held r h = get_or-map-range_with_len (λ r. value_if (shows_register (Truth f) t r) (get_or held r 0)) 0 (length held) r r 0 h (omega arith)
 
 pub registers_by : (shown : Shown) (t : ℕ) (held left : List ℕ) → length left ≡ length held →
     ((r : ℕ) → r < length held → get_or left r 0 ≡ value_if (shows_register shown t r) (get_or held r 0)) → left ≡ shown_registers shown t held
 registers_by All t held left long each = same_number_lists left held long (λ r h. each r (omega arith))
 registers_by (Only names) t held left long each = fill_by_all (λ r. value_if (shows_register (Only names) t r) (get_or held r 0)) left (length held) 0 long each
+registers_by (Truth f) t held left long each = fill_by_all (λ r. value_if (shows_register (Truth f) t r) (get_or held r 0)) left (length held) 0 long each
 
 registers_within : (small large : Shown) → IsPartOf small large → (t : ℕ) (held : List ℕ) → shown_registers small t (shown_registers large t held) ≡ shown_registers small t held
 registers_within small large part t held =
@@ -45,15 +48,18 @@ registers_within small large part t held =
 pub memory_long : (shown : Shown) (memory : List ℕ) → length (show_memory shown memory) ≡ length memory
 memory_long All memory = refl
 memory_long (Only names) memory = length-map-range_with_len (λ l. shown_value (Only names) l (get_or memory l 0)) 0 (length memory)
+memory_long (Truth f) memory = length-map-range_with_len (λ l. shown_value (Truth f) l (get_or memory l 0)) 0 (length memory)
 
 pub value_at : (shown : Shown) (memory : List ℕ) (l : ℕ) → l < length memory → get_or (show_memory shown memory) l 0 ≡ shown_value shown l (get_or memory l 0)
 value_at All memory l h = refl
 value_at (Only names) memory l h = get_or-map-range_with_len (λ l. shown_value (Only names) l (get_or memory l 0)) 0 (length memory) l l 0 h (omega arith)
+value_at (Truth f) memory l h = get_or-map-range_with_len (λ l. shown_value (Truth f) l (get_or memory l 0)) 0 (length memory) l l 0 h (omega arith)
 
 pub memory_by : (shown : Shown) (memory left : List ℕ) → length left ≡ length memory →
     ((l : ℕ) → l < length memory → get_or left l 0 ≡ shown_value shown l (get_or memory l 0)) → left ≡ show_memory shown memory
 memory_by All memory left long each = same_number_lists left memory long (λ l h. each l (omega arith))
 memory_by (Only names) memory left long each = fill_by_all (λ l. shown_value (Only names) l (get_or memory l 0)) left (length memory) 0 long each
+memory_by (Truth f) memory left long each = fill_by_all (λ l. shown_value (Truth f) l (get_or memory l 0)) left (length memory) 0 long each
 
 -- memories that show the same
 pub same_memory : (shown : Shown) (xs ys : List ℕ) → length xs ≡ length ys →
@@ -71,16 +77,19 @@ memory_within small large part memory = same_memory small (show_memory large mem
 pub threads_long : (shown : Shown) (registers : List (List ℕ)) → length (show_registers shown registers) ≡ length registers
 threads_long All registers = refl
 threads_long (Only names) registers = length-map-range_with_len (λ t. shown_registers (Only names) t (get_or registers t [])) 0 (length registers)
+threads_long (Truth f) registers = length-map-range_with_len (λ t. shown_registers (Truth f) t (get_or registers t [])) 0 (length registers)
 
 pub thread_at : (shown : Shown) (registers : List (List ℕ)) (t : ℕ) → t < length registers →
     get_or (show_registers shown registers) t [] ≡ shown_registers shown t (get_or registers t [])
 thread_at All registers t h = refl
 thread_at (Only names) registers t h = get_or-map-range_with_len (λ t. shown_registers (Only names) t (get_or registers t [])) 0 (length registers) t t [] h (omega arith)
+thread_at (Truth f) registers t h = get_or-map-range_with_len (λ t. shown_registers (Truth f) t (get_or registers t [])) 0 (length registers) t t [] h (omega arith)
 
 pub threads_by : (shown : Shown) (registers left : List (List ℕ)) → length left ≡ length registers →
     ((t : ℕ) → t < length registers → get_or left t [] ≡ shown_registers shown t (get_or registers t [])) → left ≡ show_registers shown registers
 threads_by All registers left long each = ext_get_or [] left registers long (λ t h. each t (omega arith))
 threads_by (Only names) registers left long each = fill_by_all (λ t. shown_registers (Only names) t (get_or registers t [])) left (length registers) [] long each
+threads_by (Truth f) registers left long each = fill_by_all (λ t. shown_registers (Truth f) t (get_or registers t [])) left (length registers) [] long each
 
 -- threads that show the same
 pub same_threads : (shown : Shown) (xs ys : List (List ℕ)) → length xs ≡ length ys →
@@ -95,13 +104,27 @@ threads_within small large part registers = same_threads small (show_registers l
 
 -- ---- an outcome
 
+-- where values are shown, the outcome is shown value by value
+pub by_values : (shown : Shown) (o : Outcome) → ShowsValues shown → show shown o ≡ shown_values shown o
+by_values All o of = refl
+by_values (Only names) o of = refl
+by_values (Truth f) o of = absurd of
+
 -- what a part shows of what the whole shows
 pub shown_within : APartIsShownOfTheWhole
-shown_within small large o part = λ i. record { registers = threads_within small large part o.registers i; memory = memory_within small large part o.memory i }
+shown_within small large part o =
+    let whole : show large o ≡ shown_values large o = by_values large o part.in_values in
+    let inner : shown_values small (shown_values large o) ≡ shown_values small o =
+    (λ i. record { registers = threads_within small large part o.registers i; memory = memory_within small large part o.memory i }) in
+    ap (show small) whole ∙ by_values small (shown_values large o) part.of_values ∙ inner ∙ sym (by_values small o part.of_values)
 
--- what is shown shows all of itself
+-- whatever is shown is read off the outcome itself
+pub off_all : EachIsReadOffAll
+off_all shown o = refl
+
+-- values that are shown show all of themselves
 pub shown_twice : ShowingTwiceIsShowingOnce
-shown_twice shown o = shown_within shown shown o (part_of_itself shown)
+shown_twice shown of = shown_within shown shown (part_of_itself shown of)
 
 -- where all is shown, the outcome itself is
 pub all_is_shown : EverythingShownIsTheOutcome
@@ -115,8 +138,9 @@ registers_in o t = get_or o.registers t []
 none_kept : (shown : Shown) (t : ℕ) → shown_registers shown t [] ≡ []
 none_kept All t = refl
 none_kept (Only names) t = refl
+none_kept (Truth f) t = refl
 
-thread_kept : (shown : Shown) (o : Outcome) (t : ℕ) → registers_in (show shown o) t ≡ shown_registers shown t (registers_in o t)
+thread_kept : (shown : Shown) (o : Outcome) (t : ℕ) → registers_in (shown_values shown o) t ≡ shown_registers shown t (registers_in o t)
 thread_kept shown o t = elim (cases_lt t (length o.registers)) [
   | inl h ↦ thread_at shown o.registers t h
   | inr h ↦ let long = threads_long shown o.registers in
@@ -128,7 +152,7 @@ hidden : (b : Bool) → value_if b 0 ≡ 0
 hidden true = refl
 hidden false = refl
 
-register_kept : (shown : Shown) (o : Outcome) (t r : ℕ) → register_in (show shown o) t r ≡ value_if (shows_register shown t r) (register_in o t r)
+register_kept : (shown : Shown) (o : Outcome) (t r : ℕ) → register_in (shown_values shown o) t r ≡ value_if (shows_register shown t r) (register_in o t r)
 register_kept shown o t r = ap (λ (held : List ℕ). get_or held r 0) (thread_kept shown o t) ∙ at_register (registers_in o t)
   where
     at_register : (held : List ℕ) → get_or (shown_registers shown t held) r 0 ≡ value_if (shows_register shown t r) (get_or held r 0)
@@ -139,7 +163,7 @@ register_kept shown o t r = ap (λ (held : List ℕ). get_or held r 0) (thread_k
           ∙ sym (ap (value_if (shows_register shown t r)) (get_or_past held r 0 h) ∙ hidden (shows_register shown t r))
     ]
 
-value_kept : (shown : Shown) (o : Outcome) (l : ℕ) → value_in (show shown o) l ≡ value_if (shows_location shown l) (value_in o l)
+value_kept : (shown : Shown) (o : Outcome) (l : ℕ) → location_in (shown_values shown o) l ≡ value_if (shows_location shown l) (location_in o l)
 value_kept shown o l = elim (cases_lt l (length o.memory)) [
   | inl h ↦ value_at shown o.memory l h
   | inr h ↦ let long = memory_long shown o.memory in
@@ -147,21 +171,29 @@ value_kept shown o l = elim (cases_lt l (length o.memory)) [
       ∙ sym (ap (shown_value shown l) (get_or_past o.memory l 0 h) ∙ hidden (shows_location shown l))
 ]
 
-pub alike : WhatIsShownIsAlike
-alike shown o = record {
+abbrev seen : (shown : Shown) (o : Outcome) → ShowsValues shown → shown_values shown o ≡ show shown o
+seen shown o of = sym (by_values shown o of)
+
+alike_values : (shown : Shown) (o : Outcome) → AreAlike (shown_values shown o) o
+alike_values shown o = record {
   threads = threads_long shown o.registers;
   registers = λ t. ap length (thread_kept shown o t) ∙ registers_long shown t (registers_in o t);
   locations = memory_long shown o.memory;
 }
 
+pub alike : WhatIsShownIsAlike
+alike shown o of = subst (λ (x : Outcome). AreAlike x o) (seen shown o of) (alike_values shown o)
+
 pub registers_kept : ShownRegistersAreKept
-registers_kept shown o t r h = register_kept shown o t r ∙ ap (λ (b : Bool). value_if b (register_in o t r)) h
+registers_kept shown o t r of h =
+    ap (λ (x : Outcome). register_in x t r) (by_values shown o of) ∙ register_kept shown o t r ∙ ap (λ (b : Bool). value_if b (register_in o t r)) h
 
 pub locations_kept : ShownLocationsAreKept
-locations_kept shown o l h = value_kept shown o l ∙ ap (λ (b : Bool). value_if b (value_in o l)) h
+locations_kept shown o l of h = ap (λ (x : Outcome). location_in x l) (by_values shown o of) ∙ value_kept shown o l ∙ ap (λ (b : Bool). value_if b (location_in o l)) h
 
 pub other_registers : OtherRegistersAreZero
-other_registers shown o t r h = register_kept shown o t r ∙ ap (λ (b : Bool). value_if b (register_in o t r)) h
+other_registers shown o t r of h =
+    ap (λ (x : Outcome). register_in x t r) (by_values shown o of) ∙ register_kept shown o t r ∙ ap (λ (b : Bool). value_if b (register_in o t r)) h
 
 pub other_locations : OtherLocationsAreZero
-other_locations shown o l h = value_kept shown o l ∙ ap (λ (b : Bool). value_if b (value_in o l)) h
+other_locations shown o l of h = ap (λ (x : Outcome). location_in x l) (by_values shown o of) ∙ value_kept shown o l ∙ ap (λ (b : Bool). value_if b (location_in o l)) h

@@ -1,8 +1,8 @@
 //! The laws of names and of what is shown: each function's contract is a theorem, and calling it does
 //! nothing.
-ghost use Rattle.tso_program.specs.Laws.{RegisterPlacesAreDistinct, LocationPlacesAreDistinct, RegistersLieApartFromLocations, EachPlaceIsNamed, WhatIsShownIsAlike, ShownRegistersAreKept, ShownLocationsAreKept, OtherRegistersAreZero, OtherLocationsAreZero, EachIsPartOfAll, APartIsShownOfTheWhole, ShowingTwiceIsShowingOnce, EverythingShownIsTheOutcome};
+ghost use Rattle.tso_program.specs.Laws.{RegisterPlacesAreDistinct, LocationPlacesAreDistinct, RegistersLieApartFromLocations, EachPlaceIsNamed, WhatIsShownIsAlike, ShownRegistersAreKept, ShownLocationsAreKept, OtherRegistersAreZero, OtherLocationsAreZero, EachIsPartOfAll, EachIsReadOffAll, ATruthIsReadOffItsAtoms, TruthsAreTold, APartIsShownOfTheWhole, ShowingTwiceIsShowingOnce, EverythingShownIsTheOutcome};
 
-/// No two registers or locations have one place, and each place below 56 is a register's or a location's.
+/// No two registers or locations have one place, and each place below `PLACES` is a register's or a location's.
 pub fn places_are_distinct()
     ensures registers { RegisterPlacesAreDistinct }
     ensures locations { LocationPlacesAreDistinct }
@@ -24,6 +24,14 @@ pub fn what_is_shown_is_kept()
 pub fn a_part_is_shown_of_the_whole()
     ensures part { APartIsShownOfTheWhole }
     ensures of_all { EachIsPartOfAll }
+    ensures off_all { EachIsReadOffAll }
     ensures twice { ShowingTwiceIsShowingOnce }
     ensures all { EverythingShownIsTheOutcome }
+{}
+
+/// A formula's truth can be read off what shows all that the formula speaks of, and is shown alike of two
+/// outcomes exactly where it is the same.
+pub fn a_truth_is_read_off()
+    ensures off { ATruthIsReadOffItsAtoms }
+    ensures told { TruthsAreTold }
 {}

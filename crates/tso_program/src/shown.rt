@@ -1,15 +1,17 @@
 //! What is shown of an outcome.
-ghost use Rattle.std.specs.Prelude.{◌≡◌, ◌↔◌, ◌<◌, IsTrue, length};
+ghost use Rattle.std.specs.Prelude.{◌≡◌, ◌↔◌, ◌<◌, IsTrue, IfOk, length};
 ghost use Rattle.std.specs.FinSet as set;
 ghost use Rattle.tso_program.specs.Instructions.{number};
 ghost use Rattle.gap_sets.specs.Gaps.{numbers_of_set};
 ghost use Rattle.tso_program.specs.Names.{register_place, location_place, ArePlaces};
 ghost use Rattle.tso_program.specs.declared.instruction.TheConstants.{REGISTERS};
 ghost use Rattle.tso_program.specs.declared.limits.TheConstants.{MAX_THREADS, MAX_LOCATIONS};
+ghost use Rattle.tso_program.specs.declared.shown.TheConstants.{PLACES};
 ghost use Rattle.tso_program.specs.Shown.{shows_register, shows_location, value_if, shown_registers, shown_value};
 
-use crate::{MAX_LOCATIONS, MAX_THREADS, REGISTERS, Reg};
+use crate::{Formula, MAX_LOCATIONS, MAX_THREADS, REGISTERS, Reg};
 use gap_sets::{GapSet, Gaps};
+use std::alloc::AllocError;
 use std::marker::Model;
 
 /// How many places of registers there are.
@@ -43,12 +45,25 @@ impl Model for Names {
 }
 
 /// What is shown of an outcome.
-#[derive(Clone, Copy, Debug)]
+#[derive(Drop)]
 pub enum Shown {
     /// Each register and each location.
     All,
     /// These alone.
     Only(Names),
+    /// Whether this formula is true.
+    Truth(Formula),
+}
+
+/// The kinds of what is shown.
+#[derive(Clone, Copy, Debug)]
+pub enum ShownKind {
+    /// Whole outcomes.
+    Whole,
+    /// The values that a test names.
+    Observed,
+    /// Whether a test's formula is true.
+    Condition,
 }
 
 fn register_place(t: usize, register: usize) -> usize
@@ -119,7 +134,7 @@ impl Names {
     /// These and the register or location at a place: register r of thread t is at `REGISTERS * t + r`, location l
     /// at `REGISTER_PLACES + l`.
     pub fn with_place(self, place: u8) -> Names
-        requires { place < 56 }
+        requires { place < PLACES }
         ensures { result ≡ set.insert self place }
     {
         Names {
@@ -151,7 +166,19 @@ impl Shown {
         match (self, other) {
             (Shown::All, Shown::All) => true,
             (Shown::Only(names), Shown::Only(others)) => names.same(others),
+            (Shown::Truth(formula), Shown::Truth(other)) => formula.same(other),
             _ => false,
+        }
+    }
+
+    /// The same. A formula is shared.
+    pub fn copy(&self) -> Result<Shown, AllocError>
+        ensures { IfOk result (λ other. other ≡ self.now) }
+    {
+        match self {
+            Shown::All => Ok(Shown::All),
+            Shown::Only(names) => Ok(Shown::Only(*names)),
+            Shown::Truth(formula) => Ok(Shown::Truth(formula.copy()?)),
         }
     }
 
@@ -165,6 +192,7 @@ impl Shown {
             Shown::Only(names) => {
                 t < MAX_THREADS && names.places.has(register_place(t, register) as u8)
             }
+            Shown::Truth(_) => false,
         }
     }
 
@@ -177,6 +205,7 @@ impl Shown {
             Shown::Only(names) => {
                 location < MAX_LOCATIONS && names.places.has(location_place(location) as u8)
             }
+            Shown::Truth(_) => false,
         }
     }
 

@@ -1,5 +1,5 @@
 -- Why the fences of a placement are needed, by texts.
-use Rattle.std.specs.Prelude.{◌≡◌, ℕ, Bool, List, [], ◌∷◌, ◌++◌, Option, codes}
+use Rattle.std.specs.Prelude.{◌≡◌, ℕ, Bool, true, false, List, [], ◌∷◌, ◌++◌, Option, codes, map}
 use Rattle.std.specs.List.{concat}
 use Rattle.std.specs.FinSet as set
 use Rattle.gap_sets.specs.Gaps.{SetOfGaps, numbers_of_set}
@@ -7,76 +7,123 @@ use Rattle.gap_sets.specs.Order.{total}
 use Rattle.tso_program.specs.declared.listing.Listing.{Listing}
 use Rattle.tso_program.specs.declared.outcome.Outcome.{Outcome}
 use Rattle.tso_program.specs.declared.shown.Shown.{Shown}
+use Rattle.tso_program.specs.declared.shown.Shown.TheVariants.{All, Only, Truth}
+use Rattle.tso_program.specs.declared.shown.ShownKind.{ShownKind}
 use Rattle.tso_program.specs.Fences.{gaps_in}
-use Rattle.tso_program.specs.Shown.{asked}
+use Rattle.tso_program.specs.Shown.{asked, show}
 use Rattle.tso_machine.specs.declared.label.Label.{Label}
-use Rattle.tso_machine.specs.Machine.{Fenced, no_gaps}
+use Rattle.tso_machine.specs.Machine.{StoreBufferMachine, no_gaps, IsRun}
 use Rattle.tso_machine.specs.Modes.{ArePassed}
 use Rattle.tso_machine.specs.Outcomes.{IsForeignRun, IsShownRun, IsTheAnswer}
-use Rattle.tso_machine.specs.RunTexts.{run_text}
+use Rattle.tso_program.specs.Truth.{truth}
 use Rattle.litmus_reader.specs.declared.litmus.Litmus.{Litmus}
 use Rattle.litmus_reader.specs.Texts.{IsLitmus}
 use Rattle.litmus_reader.specs.Shown.{shown_as, question_of}
 use Rattle.cost_text.specs.GivenCosts.{AreGiven}
-use Rattle.report.specs.Answers.{answer_line, outcome_line, passed_line, without_line}
-
--- the labels of a run
-abbrev pub labels_line : List Label → List ℕ
-labels_line labels = codes "run " ++ run_text labels ++ 10 ∷ []
+use Rattle.report.specs.Answers.{answer_line, labels_line, outcome_line, passed_line, without_line}
+use Rattle.documents.specs.declared.run.Setting.TheVariants.{Without}
+use Rattle.documents.specs.Documents.{IsWhyDocument}
+use Rattle.documents.specs.Runs.{TellsRun}
 
 -- what is said of an outcome that no sequential run has, and of an answer without a gap
 abbrev pub is_foreign : List ℕ
 is_foreign = codes "No sequential run has this outcome." ++ 10 ∷ []
 
+-- what is said of an outcome that meets the condition's formula, and of one that does not
+abbrev pub met_line : Bool → List ℕ
+met_line true = codes "This run meets the condition's formula." ++ 10 ∷ []
+met_line false = codes "This run does not meet the condition's formula; registers or memory end as they sequentially cannot." ++ 10 ∷ []
+
+-- what is said of a run that meets the condition's formula, or does not, as no sequential run does
+abbrev pub alone_line : Bool → List ℕ
+alone_line true = codes "This run meets the condition's formula, and no sequential run does." ++ 10 ∷ []
+alone_line false = codes "This run does not meet the condition's formula, and each sequential run does." ++ 10 ∷ []
+
+-- what is said of an outcome that no sequential run has, and whether it meets the condition's formula
+abbrev pub foreign_lines : Shown → Bool → List ℕ
+foreign_lines All meets = is_foreign ++ met_line meets
+foreign_lines (Only names) meets = is_foreign ++ met_line meets
+foreign_lines (Truth formula) meets = alone_line meets
+
+-- what is printed of the outcome: all of it where only a truth is shown
+abbrev pub printed_of : Shown → Shown
+printed_of All = All
+printed_of (Only names) = Only names
+printed_of (Truth formula) = All
+
 abbrev pub all_sequential : List ℕ
 all_sequential = codes "Every store buffer outcome is sequential." ++ 10 ∷ []
 
--- the gap, and a run with its table, what it leaves and the gaps that it passes
+-- what a run leaves, the gaps that it passes, that no sequential run leaves this, and whether it meets the condition
+abbrev pub ending_text : Litmus Listing → Shown → Outcome → SetOfGaps → List ℕ
+ending_text source shown outcome passed =
+    outcome_line source.names (printed_of shown) outcome ++ passed_line source.program passed ++ foreign_lines shown (truth outcome source.condition.formula)
+
+-- the gap, and a run with its table and how it ends
 abbrev pub reason_text : Litmus Listing → Shown → ℕ → List Label → List ℕ → Outcome → SetOfGaps → List ℕ
 reason_text source shown gap labels table outcome passed =
-    without_line source.program gap ++ labels_line labels ++ table ++ outcome_line source.names shown outcome ++ passed_line source.program passed ++ is_foreign
+    without_line source.program gap ++ labels_line labels ++ table ++ ending_text source shown outcome passed
 
--- Why a gap of a set is needed: the text has the labels of a run that is one with no gap fenced and with the set's other gaps
--- fenced, what is shown of its outcome, which no sequential run has, and the gaps that it passes.
-pub record IsReason (source : Litmus Listing) (shown : Shown) (gaps : SetOfGaps) (gap : ℕ) (text : List ℕ) : Type 0 where
+-- the text is that of a run, with some table of it
+abbrev pub IsReasonText : Litmus Listing → Shown → ℕ → List Label → Outcome → SetOfGaps → List ℕ → Type 0
+IsReasonText source shown gap labels outcome passed text = (table : List ℕ) × (text ≡ reason_text source shown gap labels table outcome passed)
+
+-- the lines of a reason, and what the document says of its run
+abbrev pub Told : Type 0
+Told = List ℕ × List ℕ
+
+-- Why a gap of a set is needed: the lines have the labels of a run that is one with no gap fenced and with the set's other gaps
+-- fenced, its outcome, of which is shown what no sequential run shows, and the gaps that it passes; the document says the same of it.
+pub record IsReason (source : Litmus Listing) (shown : Shown) (gaps : SetOfGaps) (gap : ℕ) (told : Told) : Type 0 where
   pub labels : List Label
   pub outcome : Outcome
-  pub foreign : IsForeignRun (asked source.program shown) labels outcome
-  pub fenced : IsShownRun (asked source.program shown) (Fenced (gaps_in source.program (set.remove gaps gap))) labels outcome
+  pub ends : IsRun source.program (StoreBufferMachine no_gaps) labels outcome
+  pub foreign : IsForeignRun (asked source.program shown) labels (show shown outcome)
+  pub fenced : IsShownRun (asked source.program shown) (StoreBufferMachine (gaps_in source.program (set.remove gaps gap))) labels (show shown outcome)
   pub passed : SetOfGaps
-  pub passes : ArePassed source.program (Fenced no_gaps) labels passed
-  pub table : List ℕ
-  pub printed : text ≡ reason_text source shown gap labels table outcome passed
+  pub passes : ArePassed source.program (StoreBufferMachine no_gaps) labels passed
+  pub printed : IsReasonText source shown gap labels outcome passed told.0
+  pub document : TellsRun source (printed_of shown) (Without gap) labels outcome passed told.1
 
 -- one for each of these gaps, in order
-abbrev pub AreReasons : Litmus Listing → Shown → SetOfGaps → List ℕ → List (List ℕ) → Type 0
+abbrev pub AreReasons : Litmus Listing → Shown → SetOfGaps → List ℕ → List Told → Type 0
 AreReasons source shown gaps [] [] = Unit {0}
-AreReasons source shown gaps [] (text ∷ texts) = ⊥
+AreReasons source shown gaps [] (told ∷ more) = ⊥
 AreReasons source shown gaps (gap ∷ more) [] = ⊥
-AreReasons source shown gaps (gap ∷ more) (text ∷ texts) = IsReason source shown gaps gap text × AreReasons source shown gaps more texts
+AreReasons source shown gaps (gap ∷ more) (told ∷ reasons) = IsReason source shown gaps gap told × AreReasons source shown gaps more reasons
 
--- the text has one for each of these gaps, in order
-abbrev pub TellsReasons : Litmus Listing → Shown → SetOfGaps → List ℕ → List ℕ → Type 0
-TellsReasons source shown gaps numbers text = (texts : List (List ℕ)) × AreReasons source shown gaps numbers texts × (text ≡ concat texts)
+-- the lines of reasons, one after the other
+abbrev pub lines_of : List Told → List ℕ
+lines_of reasons = concat (map (λ told. told.0) reasons)
+
+-- what the document says of each
+abbrev pub runs_of : List Told → List (List ℕ)
+runs_of reasons = map (λ told. told.1) reasons
+
+-- the text and the runs have one for each of these gaps, in order
+abbrev pub TellsReasons : Litmus Listing → Shown → SetOfGaps → List ℕ → List ℕ → List (List ℕ) → Type 0
+TellsReasons source shown gaps numbers text runs =
+    (reasons : List Told) × AreReasons source shown gaps numbers reasons × (text ≡ lines_of reasons) × (runs ≡ runs_of reasons)
 
 -- the text of the reasons; where it has no byte, the line that no gap is needed
 abbrev pub reasons_or_none : List ℕ → List ℕ
 reasons_or_none [] = all_sequential
 reasons_or_none (byte ∷ bytes) = byte ∷ bytes
 
--- the text has the line, and why each of the gaps is needed
-pub record TellsWhy (source : Litmus Listing) (shown : Shown) (gaps : SetOfGaps) (line text : List ℕ) : Type 0 where
-  pub reasons : List (List ℕ)
+-- the text has the line, and why each of the gaps is needed; the document has the gaps, their costs, and the same runs
+pub record TellsWhy (source : Litmus Listing) (shown : Shown) (costs : List ℕ) (gaps : SetOfGaps) (line text document : List ℕ) : Type 0 where
+  pub reasons : List Told
   pub each : AreReasons source shown gaps (numbers_of_set gaps) reasons
-  pub printed : text ≡ line ++ reasons_or_none (concat reasons)
+  pub printed : text ≡ line ++ reasons_or_none (lines_of reasons)
+  pub told : IsWhyDocument source shown costs gaps (runs_of reasons) document
 
 -- What the text tells: the litmus text stands for this program, its gaps have these costs, these gaps are the answer; the
--- text has the line of the answer, and why each gap of it is needed.
-pub record IsWhyText (litmus : List ℕ) (costs : Option (List ℕ)) (observed : Bool) (text : List ℕ) : Type 0 where
+-- text has the line of the answer, and why each gap of it is needed. The document says the same.
+pub record IsWhyText (litmus : List ℕ) (costs : Option (List ℕ)) (kind : ShownKind) (text document : List ℕ) : Type 0 where
   pub source : Litmus Listing
   pub of_text : IsLitmus litmus source
   pub gap_costs : List ℕ
   pub given : AreGiven source.program costs gap_costs
   pub gaps : SetOfGaps
-  pub answer : IsTheAnswer (question_of source observed) gap_costs gaps
-  pub told : TellsWhy source (shown_as source observed) gaps (answer_line source.program (shown_as source observed) gaps (total gap_costs gaps)) text
+  pub answer : IsTheAnswer (question_of source kind) gap_costs gaps
+  pub told : TellsWhy source (shown_as source kind) gap_costs gaps (answer_line source.program (shown_as source kind) gaps (total gap_costs gaps)) text document

@@ -1,23 +1,37 @@
 //! Why a gap of the answer is needed.
-ghost use Rattle.std.specs.Prelude.{◌≡◌, ◌<◌, true, IfOk, length};
+ghost use Rattle.std.specs.Prelude.{◌≡◌, ◌<◌, ◌++◌, true, IfOk, OnOk, length, map};
 ghost use Rattle.std.specs.FinSet as set;
 ghost use Rattle.gap_sets.specs.declared.gap_set.TheConstants.{MAX_GAPS};
+ghost use Rattle.tso_program.specs.declared.shown.Shown.TheVariants.{All};
 ghost use Rattle.tso_program.specs.Shown.{asked};
-ghost use Rattle.tso_machine.specs.Outcomes.{IsTheAnswer};
+ghost use Rattle.tso_machine.specs.declared.label.Model.TheVariants.{Buffered};
+ghost use Rattle.tso_machine.specs.Outcomes.{IsReplayOf, IsTheAnswer};
 ghost use Rattle.cover_solver.specs.Facts as facts;
 ghost use Rattle.cover_solver.specs.Verdicts.{PassesNoneOf};
 ghost use Rattle.tso_program.specs.Listings.{gap_count};
-ghost use Rattle.why_text.specs.WhyTexts.{labels_line, reason_text, IsReason};
+ghost use Rattle.report.specs.Answers.{labels_line, without_line};
+ghost use Rattle.why_text.specs.WhyTexts.{is_foreign, met_line, alone_line, foreign_lines, printed_of, ending_text, IsReasonText, IsReason};
 
 use cover_solver::{ForeignRun, Oracle, Solver, Verdict};
+use documents::{Setting, run_value};
 use gap_sets::{Costs, GapSet};
-use litmus_text::Litmus;
-use report::{outcome_line, passed_line, without_line};
+use json_text::JsonText;
+use litmus_text::{Litmus, holds};
+use report::{labels_line, outcome_line, passed_line, without_line};
 use run_graph::RunGraph;
 use run_table::run_table;
 use std::alloc::{AllocError, Global};
-use tso_machine::{Label, Model, Step, steps, write_run};
+use tso_machine::{Ended, Label, Model, Step, replay_shown, steps};
 use tso_program::{Program, Shown};
+
+/// Why a gap is needed.
+#[derive(Drop)]
+pub(crate) struct Reason {
+    /// What is printed.
+    pub(crate) lines: Vec<u8>,
+    /// What the document says of the run.
+    pub(crate) run: JsonText,
+}
 
 /// The other gaps of the answer don't serve: a run that passes none of them.
 pub(crate) fn run_without(
@@ -43,16 +57,6 @@ pub(crate) fn run_without(
     }
 }
 
-/// `run e0 f0` and the like
-fn labels_line(alloc: Global, labels: &[Label]) -> Result<Vec<u8>, AllocError>
-    ensures { IfOk result (λ line. line.items ≡ labels_line labels.now) }
-{
-    let mut line = Vec::from_slice(alloc, b"run ")?;
-    line.extend_from_slice(&write_run(alloc, labels)?)?;
-    line.push(b'\n')?;
-    Ok(line)
-}
-
 /// Adds a run to a graph, under the gap that it needs.
 fn push_graph(
     alloc: Global,
@@ -62,55 +66,149 @@ fn push_graph(
     steps: &[Step],
 ) -> Result<(), AllocError> {
     let line = without_line(alloc, &litmus.program, gap)?;
-    graph.push_run(alloc, litmus, line.trim_ascii_end(), steps)
+    graph.push_run(alloc, litmus, line.trim_ascii_end(), steps, Some(gap))
 }
 
-/// The table of a run where the other gaps of the answer are fenced, which is added to a graph.
-fn table_of(
+/// The steps of a run, where the other gaps of the answer are fenced.
+fn steps_of(
     alloc: Global,
-    graph: &mut RunGraph,
-    litmus: &Litmus<Program>,
     gaps: &GapSet,
     gap: u8,
     run: &ForeignRun,
-) -> Result<Vec<u8>, AllocError>
+) -> Result<Vec<Step>, AllocError>
     requires gap { gap < MAX_GAPS }
+    ensures labels { IfOk result (λ steps. map (λ step. step.label) steps.items ≡ run.now.labels) }
 {
     let others = gaps.without(gap);
-    let steps = match steps(alloc, run.program(), &others, Model::Buffered, run.labels()) {
-        Ok(steps) => steps,
-        Err(_) => return Err(AllocError),
-    };
-    push_graph(alloc, graph, litmus, gap, &steps)?;
-    run_table(alloc, litmus, &steps)
+    match steps(alloc, run.program(), &others, Model::Buffered, run.labels()) {
+        Ok(steps) => Ok(steps),
+        Err(_) => Err(AllocError),
+    }
 }
 
-/// A gap, and a run: its labels, its table, what it leaves, the gaps that it passes, and that no sequential run leaves
-/// this.
-fn lines_with(
+/// What a run leaves, all of it, and the gaps that it passes.
+fn ended_of(alloc: Global, run: &ForeignRun) -> Result<Ended, AllocError>
+    ensures { IfOk result (IsReplayOf (asked run.now.question.program All) Buffered run.now.labels) }
+{
+    match replay_shown(
+        alloc,
+        run.program(),
+        &Shown::All,
+        Model::Buffered,
+        run.labels(),
+    ) {
+        Ok(ended) => Ok(ended),
+        Err(_) => Err(AllocError),
+    }
+}
+
+/// What is printed of an outcome of which this is shown. It takes no memory.
+fn printed_of(shown: &Shown) -> Shown
+    ensures { result ≡ printed_of shown.now }
+{
+    match shown {
+        Shown::All => Shown::All,
+        Shown::Only(names) => Shown::Only(*names),
+        Shown::Truth(_) => Shown::All,
+    }
+}
+
+/// Whether a run's outcome meets the condition's formula, as a sentence.
+fn met_line(meets: bool) -> &'static [u8]
+    ensures { result.now ≡ met_line meets }
+{
+    if meets {
+        b"This run meets the condition's formula.\n"
+    } else {
+        b"This run does not meet the condition's formula; registers or memory end as they sequentially cannot.\n"
+    }
+}
+
+/// Whether a run meets the condition's formula, as no sequential run does, as a sentence.
+fn alone_line(meets: bool) -> &'static [u8]
+    ensures { result.now ≡ alone_line meets }
+{
+    if meets {
+        b"This run meets the condition's formula, and no sequential run does.\n"
+    } else {
+        b"This run does not meet the condition's formula, and each sequential run does.\n"
+    }
+}
+
+/// Adds that no sequential run has this outcome, and whether it meets the condition's formula.
+fn push_outcome(out: &mut Vec<u8>, meets: bool) -> Result<(), AllocError>
+    ensures { OnOk result (out.new.items ≡ out.old.items ++ is_foreign ++ met_line meets) }
+{
+    out.extend_from_slice(b"No sequential run has this outcome.\n")?;
+    out.extend_from_slice(met_line(meets))
+}
+
+/// Adds that no sequential run leaves what is shown, and whether the condition's formula is met.
+fn push_foreign(out: &mut Vec<u8>, shown: &Shown, meets: bool) -> Result<(), AllocError>
+    ensures { OnOk result (out.new.items ≡ out.old.items ++ foreign_lines shown.now meets) }
+{
+    match shown {
+        Shown::All | Shown::Only(_) => push_outcome(out, meets),
+        Shown::Truth(_) => out.extend_from_slice(alone_line(meets)),
+    }
+}
+
+/// What a run leaves, the gaps that it passes, that no sequential run leaves this, and whether it meets the condition.
+fn ending_lines(
     alloc: Global,
     litmus: &Litmus<Program>,
     shown: &Shown,
-    gap: u8,
-    run: &ForeignRun,
-    table: &[u8],
+    ended: &Ended,
 ) -> Result<Vec<u8>, AllocError>
-    ensures { IfOk result (λ lines. lines.items ≡ reason_text litmus.now shown.now gap run.now.labels table.now run.now.outcome run.now.passed) }
+    ensures { IfOk result (λ lines. lines.items ≡ ending_text litmus.now shown.now ended.now.outcome ended.now.passed) }
 {
-    let labels = labels_line(alloc, run.labels())?;
-    let outcome = outcome_line(alloc, &litmus.names, shown, run.outcome())?;
-    let passed = passed_line(alloc, &litmus.program, &run.passed())?;
-    let mut lines = without_line(alloc, &litmus.program, gap)?;
-    lines.extend_from_slice(&labels)?;
-    lines.extend_from_slice(table)?;
-    lines.extend_from_slice(&outcome)?;
+    let printed = printed_of(shown);
+    let passed = passed_line(alloc, &litmus.program, &ended.passed)?;
+    let meets = holds(&litmus.condition, &ended.outcome);
+    let mut lines = outcome_line(alloc, &litmus.names, &printed, &ended.outcome)?;
     lines.extend_from_slice(&passed)?;
-    lines.extend_from_slice(b"No sequential run has this outcome.\n")?;
+    push_foreign(&mut lines, shown, meets)?;
     Ok(lines)
 }
 
+/// A gap, and a run: its labels, its table, and how it ends.
+fn lines_with(
+    alloc: Global,
+    program: &Program,
+    gap: u8,
+    labels: &[Label],
+    table: &[u8],
+    ending: &[u8],
+) -> Result<Vec<u8>, AllocError>
+    ensures { IfOk result (λ lines. lines.items ≡ without_line program.now gap ++ labels_line labels.now ++ table.now ++ ending.now) }
+{
+    let labels = labels_line(alloc, labels)?;
+    let mut lines = without_line(alloc, program, gap)?;
+    lines.extend_from_slice(&labels)?;
+    lines.extend_from_slice(table)?;
+    lines.extend_from_slice(ending)?;
+    Ok(lines)
+}
+
+/// The lines of a run and of how it ends.
+fn reason_lines(
+    alloc: Global,
+    litmus: &Litmus<Program>,
+    shown: &Shown,
+    gap: u8,
+    run: &ForeignRun,
+    steps: &[Step],
+    ended: &Ended,
+) -> Result<Vec<u8>, AllocError>
+    ensures { IfOk result (λ lines. IsReasonText litmus.now shown.now gap run.now.labels ended.now.outcome ended.now.passed lines.items) }
+{
+    let table = run_table(alloc, litmus, steps)?;
+    let ending = ending_lines(alloc, litmus, shown, ended)?;
+    lines_with(alloc, &litmus.program, gap, run.labels(), &table, &ending)
+}
+
 /// Why a gap of the answer is needed, by a run that passes none of the others, and that is added to a graph.
-pub(crate) fn reason_lines(
+pub(crate) fn reason_of(
     alloc: Global,
     graph: &mut RunGraph,
     litmus: &Litmus<Program>,
@@ -118,13 +216,26 @@ pub(crate) fn reason_lines(
     gaps: &GapSet,
     gap: u8,
     run: &ForeignRun,
-) -> Result<Vec<u8>, AllocError>
+) -> Result<Reason, AllocError>
     requires question { run.now.question ≡ asked litmus.now.program shown.now }
     requires foreign { facts.IsForeignValue run.now }
     requires avoids { PassesNoneOf (set.remove gaps.now gap) run.now }
     requires gap { gap < MAX_GAPS }
-    ensures { IfOk result (λ lines. IsReason litmus.now shown.now gaps.now gap lines.items) }
+    ensures { IfOk result (λ reason. IsReason litmus.now shown.now gaps.now gap (reason.lines.items, reason.run)) }
 {
-    let table = table_of(alloc, graph, litmus, gaps, gap, run)?;
-    lines_with(alloc, litmus, shown, gap, run, &table)
+    let all = steps_of(alloc, gaps, gap, run)?;
+    let steps = all.as_slice();
+    push_graph(alloc, graph, litmus, gap, steps)?;
+    let ended = ended_of(alloc, run)?;
+    let lines = reason_lines(alloc, litmus, shown, gap, run, steps, &ended)?;
+    let printed = printed_of(shown);
+    let said = run_value(
+        alloc,
+        litmus,
+        &printed,
+        Setting::Without(gap),
+        steps,
+        &ended,
+    )?;
+    Ok(Reason { lines, run: said })
 }

@@ -3,7 +3,7 @@ use Rattle.std.proofs.Common.{◌≡◌, ℕ, ◌<◌, ◌⊎◌, Option, Some, 
 use Rattle.std.proofs.lemmas.Bool.{cases_lt, cases_eq}
 use Rattle.std.proofs.lemmas.Option.{same_Some}
 use Rattle.tso_program.specs.declared.listing.Listing.{Listing}
-use Rattle.tso_machine.specs.Machine.{Mode}
+use Rattle.tso_machine.specs.Machine.{Machine}
 use Rattle.candidate_executions.specs.declared.access.Access.{Access}
 use Rattle.candidate_executions.specs.declared.event.Event.{Event}
 use Rattle.candidate_executions.specs.declared.event.Event.TheVariants.{Initial, Access as At}
@@ -53,7 +53,7 @@ same_thread (Initial l) e = inr (λ z. z)
 same_thread (At t i) (Initial l) = inr (λ z. z)
 same_thread (At t i) (At u j) = cases_eq t u
 
-module _ (p : Listing) (mode : Mode) (c : Candidate) where
+module _ (p : Listing) (mode : Machine) (c : Candidate) where
   kept : (x y : Access) → Dec₁ (KeepsOrder x y)
   kept x y = either (some x.read) (either (some y.written) (negate (cases_eq x.section y.section)))
 

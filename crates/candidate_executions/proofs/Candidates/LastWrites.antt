@@ -5,7 +5,7 @@ use Rattle.std.proofs.lemmas.Option.{same_Some, slice_get_within}
 use Rattle.std.proofs.lemmas.Grind.{same_number_lists}
 use Rattle.tso_program.specs.declared.listing.Listing.{Listing}
 use Rattle.tso_program.specs.Listings.{action, start_of}
-use Rattle.tso_machine.specs.Machine.{Mode}
+use Rattle.tso_machine.specs.Machine.{Machine}
 use Rattle.candidate_executions.specs.declared.access.Access.{Access}
 use Rattle.candidate_executions.specs.declared.event.Event.{Event}
 use Rattle.candidate_executions.specs.declared.event.Event.TheVariants.{Initial, Access as At}
@@ -16,7 +16,7 @@ use Rattle.candidate_executions.proofs.Orders.AcyclicIsOrdered.{In}
 use Rattle.candidate_executions.proofs.Candidates.AllEvents.{no_code, of_all, all_in}
 
 -- a location ends with one value
-pub one_end : (p : Listing) (mode : Mode) (c : Candidate) → IsCandidate p mode c → (l v w : ℕ) → EndsWith p mode c l v → EndsWith p mode c l w → v ≡ w
+pub one_end : (p : Listing) (mode : Machine) (c : Candidate) → IsCandidate p mode c → (l v w : ℕ) → EndsWith p mode c l v → EndsWith p mode c l w → v ≡ w
 one_end p mode c is l v w a b =
     let r : c.rank a.0 ≡ c.rank b.0 = (let x = b.2 a.0 v a.1 in let y = a.2 b.0 w b.1 in omega arith) in
     let e : a.0 ≡ b.0 = is.ranks a.0 b.0 l v w a.1 b.1 r in
@@ -34,7 +34,7 @@ outcomes_are_one p mode c o q is a b = λ i. record { registers = registers i; m
         (λ l h. let n : l < length p.memory = subst (λ z. l < z) a.long h in
         one_end p mode c is l (slice_index o.memory l) (slice_index q.memory l) (a.memory l n) (b.memory l n))
 
-module _ (p : Listing) (mode : Mode) (c : Candidate) (l : ℕ) where
+module _ (p : Listing) (mode : Machine) (c : Candidate) (l : ℕ) where
   -- a write to the location that comes after these
   record After (es : List Event) : Type 0 where
     pub event : Event

@@ -2,7 +2,7 @@
 use Rattle.std.proofs.Common.{◌≡◌, ℕ, zero, suc, ◌<◌, List, [], ◌∷◌, Option, Some, None, IsSome, Contains, refl, sym, ap, ◌∙◌, subst, inl, inr, arith}
 use Rattle.std.proofs.lemmas.Option.{same_Some}
 use Rattle.tso_program.specs.declared.listing.Listing.{Listing}
-use Rattle.tso_machine.specs.Machine.{Mode}
+use Rattle.tso_machine.specs.Machine.{Machine}
 use Rattle.candidate_executions.specs.declared.access.Access.{Access}
 use Rattle.candidate_executions.specs.declared.event.Event.{Event}
 use Rattle.candidate_executions.specs.declared.event.Event.TheVariants.{Initial, Access as At}
@@ -21,7 +21,7 @@ no_order (At t i) l h = h
 unread : (y : Access) → y.read ≡ None → IsSome y.read → ⊥
 unread y q h = let z : IsSome {T = ℕ} None = rw q at h in cc
 
-module _ (p : Listing) (mode : Mode) (c : Candidate) (is : IsCandidate p mode c) where
+module _ (p : Listing) (mode : Machine) (c : Candidate) (is : IsCandidate p mode c) where
   least : (e : Event) (x y : Access) (l : ℕ) → access p mode c e ≡ Some x → x.location ≡ y.location → IsSome x.written →
       access p mode c (Initial l) ≡ Some y → c.rank e < c.rank (Initial l) → ⊥
   least e x y l a q w b n =
@@ -72,7 +72,7 @@ module _ (R : Event → Event → Type 0) (x : Event) (closed : (d : Event) → 
   not_in_cycle (e ∷ es) r (suc k, n, q) = not_passed e e es r (k, omega arith, q)
 
 -- the same of known edges
-module _ (p : Listing) (mode : Mode) (k : Sketch) (fits : IsSketch p mode k) where
+module _ (p : Listing) (mode : Machine) (k : Sketch) (fits : IsSketch p mode k) where
   no_before : (d : Event) (l : ℕ) (y : Access) → access_by p mode (given_to k) (Initial l) ≡ Some y → IsBefore k d (Initial l) y → ⊥
   no_before d l y b (inl h) = let (m, v, w, wd, we, nd, ne) = (fits.pairs d (Initial l) h).1 in
       let same : m ≡ l = sym we.2 ∙ sym (ap (λ (z : Access). z.location) (same_Some _ we.0 we.1)) in

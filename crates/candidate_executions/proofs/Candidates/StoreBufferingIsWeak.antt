@@ -3,7 +3,7 @@ use Rattle.std.proofs.Common.{◌≡◌, ◌≢◌, ℕ, zero, suc, ◌-◌, ◌
 use Rattle.std.proofs.lemmas.Option.{same_Some}
 use Rattle.tso_program.specs.declared.action.Action.TheVariants.{Stop}
 use Rattle.tso_program.specs.Listings.{action}
-use Rattle.tso_machine.specs.Machine.{Sequential, Fenced, no_gaps}
+use Rattle.tso_machine.specs.Machine.{SequentialMachine, StoreBufferMachine, no_gaps}
 use Rattle.tso_machine.specs.Examples.{store_buffering}
 use Rattle.candidate_executions.specs.declared.access.Access.{Access}
 use Rattle.candidate_executions.specs.declared.event.Event.{Event}
@@ -18,7 +18,7 @@ use Rattle.candidate_executions.proofs.Orders.ForwardIsAcyclic.{Pair, Less, acyc
 abbrev around : List Event
 around = At 0 0 ∷ At 0 1 ∷ At 1 0 ∷ At 1 1 ∷ []
 
-whole_cycle : IsCycle (Edge store_buffering Sequential both_zero union.Sequential) around
+whole_cycle : IsCycle (Edge store_buffering SequentialMachine both_zero union.Sequential) around
 whole_cycle = (
   (_, _, refl, refl, inl (refl, lit< tt)),
   (
@@ -30,7 +30,7 @@ whole_cycle = (
   ),
 )
 
-fenced_cycle : IsCycle (Edge store_buffering (Fenced both_gaps) both_zero union.Global) around
+fenced_cycle : IsCycle (Edge store_buffering (StoreBufferMachine both_gaps) both_zero union.Global) around
 fenced_cycle = (
   (_, _, refl, refl, inl ((refl, lit< tt), inr (inr (λ e. omega (arith, e))))),
   (
@@ -42,10 +42,10 @@ fenced_cycle = (
   ),
 )
 
-not_both : IsConsistent store_buffering (Fenced both_gaps) both_zero → ⊥
+not_both : IsConsistent store_buffering (StoreBufferMachine both_gaps) both_zero → ⊥
 not_both h = h.1 around fenced_cycle
 
-not_sequentially : IsConsistent store_buffering Sequential both_zero → ⊥
+not_sequentially : IsConsistent store_buffering SequentialMachine both_zero → ⊥
 not_sequentially h = h around whole_cycle
 
 -- with no fence it is consistent: the initial writes come first, then the reads, then the stores
@@ -60,19 +60,19 @@ write_of t = record { section = 0; location = t; read = None; written = Some 1 }
 abbrev read_of : ℕ → Access
 read_of t = record { section = 0; location = 1 - t; read = Some 0; written = None }
 
-writes : (t : ℕ) (x : Access) → access store_buffering (Fenced no_gaps) both_zero (At t zero) ≡ Some x → (t < 2) × (x ≡ write_of t)
+writes : (t : ℕ) (x : Access) → access store_buffering (StoreBufferMachine no_gaps) both_zero (At t zero) ≡ Some x → (t < 2) × (x ≡ write_of t)
 writes zero x a = (lit< tt, sym (same_Some (write_of 0) x a))
 writes (suc zero) x a = (lit< tt, sym (same_Some (write_of 1) x a))
 writes (suc (suc t)) x a = absurd cc
 
-reads : (t j : ℕ) (x : Access) → access store_buffering (Fenced no_gaps) both_zero (At t (suc j)) ≡ Some x → (t < 2) × (j ≡ 0) × (x ≡ read_of t)
+reads : (t j : ℕ) (x : Access) → access store_buffering (StoreBufferMachine no_gaps) both_zero (At t (suc j)) ≡ Some x → (t < 2) × (j ≡ 0) × (x ≡ read_of t)
 reads zero zero x a = (lit< tt, refl, sym (same_Some (read_of 0) x a))
 reads zero (suc j) x a = absurd cc
 reads (suc zero) zero x a = (lit< tt, refl, sym (same_Some (read_of 1) x a))
 reads (suc zero) (suc j) x a = absurd cc
 reads (suc (suc t)) j x a = absurd cc
 
-initials : (l : ℕ) (x : Access) → access store_buffering (Fenced no_gaps) both_zero (Initial l) ≡ Some x → x.read ≡ None
+initials : (l : ℕ) (x : Access) → access store_buffering (StoreBufferMachine no_gaps) both_zero (Initial l) ≡ Some x → x.read ≡ None
 initials l x a = sym (ap (λ (z : Access). z.read) (same_Some _ x a))
 
 -- the two unions at once
@@ -89,14 +89,14 @@ no_read x q h = let z : IsSome {T = ℕ} None = rw q at h in cc
 no_write : (x : Access) → x.written ≡ None → IsSome x.written → ⊥
 no_write x q h = let z : IsSome {T = ℕ} None = rw q at h in cc
 
-into_initial : (d : Event) (l : ℕ) (x y : Access) → access store_buffering (Fenced no_gaps) both_zero (Initial l) ≡ Some y → Both d x (Initial l) y → ⊥
+into_initial : (d : Event) (l : ℕ) (x y : Access) → access store_buffering (StoreBufferMachine no_gaps) both_zero (Initial l) ≡ Some y → Both d x (Initial l) y → ⊥
 into_initial (Initial k) l x y b (inl p) = p.0
 into_initial (At t i) l x y b (inl p) = p.0
 into_initial d l x y b (inr (inl r)) = no_read y (initials l y b) r.0
 into_initial d l x y b (inr (inr (inl o))) = let z = o.3 in omega arith
 into_initial d l x y b (inr (inr (inr f))) = let z = f.4 in omega arith
 
-goes_up : (d e : Event) (x y : Access) → access store_buffering (Fenced no_gaps) both_zero d ≡ Some x → access store_buffering (Fenced no_gaps) both_zero e ≡ Some y → Both d x e y → Less (key d) (key e)
+goes_up : (d e : Event) (x y : Access) → access store_buffering (StoreBufferMachine no_gaps) both_zero d ≡ Some x → access store_buffering (StoreBufferMachine no_gaps) both_zero e ≡ Some y → Both d x e y → Less (key d) (key e)
 goes_up d (Initial l) x y a b r = absurd (into_initial d l x y b r)
 goes_up (Initial l) (At u zero) x y a b r = inl (lit< tt)
 goes_up (Initial l) (At u (suc j)) x y a b r = inl (lit< tt)
@@ -123,14 +123,14 @@ goes_up (At t zero) (At u zero) x y a b (inr (inr m)) = absurd (
     let z : t ≡ u = sym (ap (λ (z : Access). z.location) f) ∙ (elim m [ inl o ↦ o.0 | inr r ↦ r.0 ] ∙ ap (λ (z : Access). z.location) g) in
     elim m [ inl o ↦ (let n = o.3 in omega arith) | inr r ↦ no_read x (ap (λ (z : Access). z.read) f) r.1 ])
 
-consistent_unfenced : IsConsistent store_buffering (Fenced no_gaps) both_zero
+consistent_unfenced : IsConsistent store_buffering (StoreBufferMachine no_gaps) both_zero
 consistent_unfenced = (
   acyclic_by _ key (λ d e r. goes_up d e r.0 r.1 r.2 r.3 (elim r.4 [ inl a ↦ inl (a.0, inl a.1) | inr a ↦ inr a ])),
   acyclic_by _ key (λ d e r. goes_up d e r.0 r.1 r.2 r.3 (elim r.4 [ inl a ↦ inl (a.0, inr a.1) | inr a ↦ elim a [ inl b ↦ inr (inl b.0) | inr b ↦ inr (inr b) ] ])),
 )
 
 -- a write is the initial one of its location, or its thread's store
-which_write : (e : Event) (l v : ℕ) → Writes (access store_buffering (Fenced no_gaps) both_zero) e l v → (e ≡ Initial l) ⊎ ((e ≡ At l 0) × (l < 2))
+which_write : (e : Event) (l v : ℕ) → Writes (access store_buffering (StoreBufferMachine no_gaps) both_zero) e l v → (e ≡ Initial l) ⊎ ((e ≡ At l 0) × (l < 2))
 which_write (Initial k) l v a = inl (ap Initial (ap (λ (z : Access). z.location) (same_Some _ a.0 a.1) ∙ a.2))
 which_write (At t zero) l v a =
     let f = writes t a.0 a.1 in
@@ -139,7 +139,7 @@ which_write (At t zero) l v a =
 which_write (At t (suc j)) l v a = absurd (no_write a.0 (ap (λ (z : Access). z.written) (reads t j a.0 a.1).2) (rw a.3 refl))
 
 -- a read gives 0, of the other thread's location
-which_read : (e : Event) (x : Access) (v : ℕ) → access store_buffering (Fenced no_gaps) both_zero e ≡ Some x → x.read ≡ Some v →
+which_read : (e : Event) (x : Access) (v : ℕ) → access store_buffering (StoreBufferMachine no_gaps) both_zero e ≡ Some x → x.read ≡ Some v →
     (v ≡ 0) × (both_zero.source e ≡ Initial x.location) × (e ≢ Initial x.location) × (slice_index store_buffering.memory x.location ≡ 0)
 which_read (Initial l) x v a r = absurd (no_read x (initials l x a) (rw r refl))
 which_read (At t zero) x v a r = absurd (no_read x (ap (λ (z : Access). z.read) (writes t x a).1) (rw r refl))
@@ -159,11 +159,11 @@ which_read (At t (suc j)) x v a r =
     holds_zero (suc zero) h = refl
     holds_zero (suc (suc t)) h = absurd (omega arith)
 
-is_candidate : IsCandidate store_buffering (Fenced no_gaps) both_zero
+is_candidate : IsCandidate store_buffering (StoreBufferMachine no_gaps) both_zero
 is_candidate = record {
   whole = whole;
   values = λ e x v a r. let f = which_read e x v a r in inl (f.0 ∙ sym f.3);
-  sources = λ e x v a r. let f = which_read e x v a r in ((λ q. f.2 (sym q ∙ f.1)), subst (λ z. Writes (access store_buffering (Fenced no_gaps) both_zero) z x.location v) (sym f.1) (_, refl, refl, ap Some (f.3 ∙ sym f.0)));
+  sources = λ e x v a r. let f = which_read e x v a r in ((λ q. f.2 (sym q ∙ f.1)), subst (λ z. Writes (access store_buffering (StoreBufferMachine no_gaps) both_zero) z x.location v) (sym f.1) (_, refl, refl, ap Some (f.3 ∙ sym f.0)));
   ranks = λ d e l v w a b q. elim (which_write d l v a) [
     | inl f ↦ elim (which_write e l w b) [
       | inl g ↦ f ∙ sym g
@@ -177,23 +177,23 @@ is_candidate = record {
   initial = λ e l v a. omega arith;
 }
   where
-    whole : (t : ℕ) → (action store_buffering.threads t (trace_of store_buffering (Fenced no_gaps) both_zero t).last ≡ Stop) ×
-        ((trace_of store_buffering (Fenced no_gaps) both_zero t).unused ≡ [])
+    whole : (t : ℕ) → (action store_buffering.threads t (trace_of store_buffering (StoreBufferMachine no_gaps) both_zero t).last ≡ Stop) ×
+        ((trace_of store_buffering (StoreBufferMachine no_gaps) both_zero t).unused ≡ [])
     whole zero = (refl, refl)
     whole (suc zero) = (refl, refl)
     whole (suc (suc t)) = (refl, refl)
 
 -- each location ends with its thread's store
-outcome : HasOutcome store_buffering (Fenced no_gaps) both_zero zeros_read
+outcome : HasOutcome store_buffering (StoreBufferMachine no_gaps) both_zero zeros_read
 outcome = record { registers = refl; long = refl; memory = ends }
   where
-    last : (l : ℕ) (d : Event) (w : ℕ) → Writes (access store_buffering (Fenced no_gaps) both_zero) d l w → both_zero.rank d ≤ both_zero.rank (At l 0)
+    last : (l : ℕ) (d : Event) (w : ℕ) → Writes (access store_buffering (StoreBufferMachine no_gaps) both_zero) d l w → both_zero.rank d ≤ both_zero.rank (At l 0)
     last l d w a = elim (which_write d l w a) [
       | inl f ↦ (let z = ap both_zero.rank f in omega arith)
       | inr f ↦ (let z = ap both_zero.rank f.0 in omega arith)
     ]
 
-    ends : (l : ℕ) → l < 2 → EndsWith store_buffering (Fenced no_gaps) both_zero l (slice_index zeros_read.memory l)
+    ends : (l : ℕ) → l < 2 → EndsWith store_buffering (StoreBufferMachine no_gaps) both_zero l (slice_index zeros_read.memory l)
     ends zero h = (At 0 0, (_, refl, refl, refl), last 0)
     ends (suc zero) h = (At 1 0, (_, refl, refl, refl), last 1)
     ends (suc (suc l)) h = absurd (omega arith)

@@ -9,7 +9,7 @@ use Rattle.tso_program.specs.declared.action.Action.TheVariants.{Stop, Go, Wait,
 use Rattle.tso_program.specs.Listings.{action}
 use Rattle.tso_program.specs.Actions.{loaded}
 use Rattle.tso_program.specs.Fences.{Gaps}
-use Rattle.tso_machine.specs.Machine.{put, Fenced, State, newest, found, when_empty, past_gap, buffered, flushed, step, run}
+use Rattle.tso_machine.specs.Machine.{put, StoreBufferMachine, State, newest, found, when_empty, past_gap, buffered, flushed, step, run}
 use Rattle.tso_machine.specs.declared.label.Label.{Label}
 use Rattle.tso_machine.specs.declared.label.Label.TheVariants.{Exec, Flush}
 use Rattle.tso_machine.specs.declared.label.Pending.{Pending}
@@ -19,7 +19,7 @@ use Rattle.candidate_executions.proofs.FromRuns.FlushesDue.{due}
 
 -- an instruction is executed where a fenced gap before it lets it
 pub exec_ok : (p : Listing) (gaps : Gaps) (s s' : State) (t : ℕ) → (gaps t (s.locals t).place ≡ true → s.buffers t ≡ []) → buffered s t (action p.threads t (s.locals t)) ≡ Some s' →
-    step p (Fenced gaps) s (Exec t) ≡ Some s'
+    step p (StoreBufferMachine gaps) s (Exec t) ≡ Some s'
 exec_ok p gaps s s' t g h = go (gaps t (s.locals t).place) g
   where
     go : (b : Bool) → (b ≡ true → s.buffers t ≡ []) → option_and_then (λ z. buffered z t (action p.threads t (s.locals t))) (past_gap b (s.buffers t) s) ≡ Some s'
@@ -45,13 +45,13 @@ shrunk bs u t n w ws rest e h = elim (cases_eq t u) [
 
 -- a run that ends with an empty buffer flushes each store that waits
 pub enough : (p : Listing) (gaps : Gaps) (t : ℕ) (last : State) → last.buffers t ≡ [] → (ls : List Label) (s : State) (n : ℕ) →
-    run p (Fenced gaps) s ls ≡ Some last → length (s.buffers t) ≤ length (due t n ls)
+    run p (StoreBufferMachine gaps) s ls ≡ Some last → length (s.buffers t) ≤ length (due t n ls)
 enough p gaps t last z [] s n h = let e : s ≡ last = cc in rw (e, z) (omega arith)
-enough p gaps t last z (Exec u ∷ ls) s n h = exec_by last (λ next. run p (Fenced gaps) next ls) p gaps s u _ h
+enough p gaps t last z (Exec u ∷ ls) s n h = exec_by last (λ next. run p (StoreBufferMachine gaps) next ls) p gaps s u _ h
     (λ next e g r. enough p gaps t last z ls _ (suc n) r)
     (λ next e g r. enough p gaps t last z ls _ (suc n) r)
     (λ l to next e g r. enough p gaps t last z ls _ (suc n) r)
     (λ l v next e g r. grown s.buffers u t (record { location = l; value = v }) (length (due t (suc n) ls)) (enough p gaps t last z ls _ (suc n) r))
     (λ l v to next e g r. enough p gaps t last z ls _ (suc n) r)
-enough p gaps t last z (Flush u ∷ ls) s n h = flush_by last (λ next. run p (Fenced gaps) next ls) p gaps s u _ h
+enough p gaps t last z (Flush u ∷ ls) s n h = flush_by last (λ next. run p (StoreBufferMachine gaps) next ls) p gaps s u _ h
     (λ w ws e r. shrunk s.buffers u t n w ws (due t (suc n) ls) e (enough p gaps t last z ls _ (suc n) r))

@@ -6,11 +6,11 @@ use Rattle.candidate_executions.specs.Candidates.{Candidate}
 use Rattle.std.specs.Option.{option_map_or}
 use Rattle.tso_program.specs.declared.listing.Listing.{Listing}
 use Rattle.tso_machine.specs.declared.label.Label.{Label}
-use Rattle.tso_machine.specs.Machine.{Mode, State, step}
+use Rattle.tso_machine.specs.Machine.{Machine, State, step}
 use Rattle.candidate_executions.specs.RunCandidates.{Origins, Mark, Takes, Arrives, origins_after, marks_at, marks}
 
 -- one step, and then the rest
-pub marks_step : (p : Listing) (mode : Mode) (l : Label) (labels : List Label) (s s' : State) (o o' : Origins) (ms : List Mark) → step p mode s l ≡ Some s' →
+pub marks_step : (p : Listing) (mode : Machine) (l : Label) (labels : List Label) (s s' : State) (o o' : Origins) (ms : List Mark) → step p mode s l ≡ Some s' →
     origins_after p mode s o l ≡ o' → marks_at p mode s o l ≡ ms → marks p mode s o (l ∷ labels) ≡ ms ++ marks p mode s' o' labels
 marks_step p mode l labels s s' o o' ms e f h =
     ap (λ x. marks_at p mode s o l ++ option_map_or (λ next. marks p mode next (origins_after p mode s o l) labels) x []) e ∙ (λ i. h i ++ marks p mode s' (f i) labels)

@@ -10,7 +10,7 @@ use Rattle.tso_program.specs.declared.action.Action.TheVariants.{Stop, Go, Wait,
 use Rattle.tso_program.specs.declared.outcome.Outcome.{Outcome}
 use Rattle.tso_program.specs.Actions.{loaded}
 use Rattle.tso_program.specs.Listings.{action, start_of, code_of}
-use Rattle.tso_machine.specs.Machine.{Mode}
+use Rattle.tso_machine.specs.Machine.{Machine}
 use Rattle.candidate_executions.specs.declared.access.Access.{Access}
 use Rattle.candidate_executions.specs.declared.event.Event.{Event}
 use Rattle.candidate_executions.specs.declared.event.Event.TheVariants.{Initial, Access as At}
@@ -52,48 +52,48 @@ module _ (does : Local → Action) (gap other : ℕ → Bool) where
       by_action n m (Swap l w to next) (v ∷ given) rest = alike_after (exchange_of n l v w) (exchange_of m l v w) _ _ refl (rest (suc n) (suc m) (loaded to v next) given)
 
 module _ (p : Listing) (c : Candidate) where
-  threads_alike : (mode other : Mode) (t : ℕ) → Alike (trace_of p mode c t) (trace_of p other c t)
+  threads_alike : (mode other : Machine) (t : ℕ) → Alike (trace_of p mode c t) (trace_of p other c t)
   threads_alike mode other t = alike (action p.threads t) (fenced_gaps mode t) (fenced_gaps other t) (length (code_of p.threads t)) 0 0 (start_of p.threads t) (c.given t)
 
-  accesses_alike : (mode other : Mode) (e : Event) → option_map bare (access p mode c e) ≡ option_map bare (access p other c e)
+  accesses_alike : (mode other : Machine) (e : Event) → option_map bare (access p mode c e) ≡ option_map bare (access p other c e)
   accesses_alike mode other (Initial l) = refl
   accesses_alike mode other (At t i) =
       sym (slice_get-map bare (trace_of p mode c t).accesses i)
       ∙ (ap (λ (xs : List Access). slice_get xs i) (threads_alike mode other t).accesses ∙ slice_get-map bare (trace_of p other c t).accesses i)
 
   -- an access of the one mode is one of the other
-  abbrev IsAlso : Mode → Event → Access → Type 0
+  abbrev IsAlso : Machine → Event → Access → Type 0
   IsAlso other e x = (y : Access) × (access p other c e ≡ Some y) × (bare x ≡ bare y)
 
-  also : (mode other : Mode) (e : Event) (x : Access) → access p mode c e ≡ Some x → IsAlso other e x
+  also : (mode other : Machine) (e : Event) (x : Access) → access p mode c e ≡ Some x → IsAlso other e x
   also mode other e x a = found (access p other c e) (sym (accesses_alike mode other e) ∙ ap (option_map bare) a)
     where
       found : (o : Option Access) → option_map bare o ≡ Some (bare x) → (y : Access) × (o ≡ Some y) × (bare x ≡ bare y)
       found None h = absurd cc
       found (Some y) h = (y, refl, sym (same_Some (bare y) (bare x) h))
 
-  writes : (mode other : Mode) (e : Event) (l v : ℕ) → Writes (access p mode c) e l v → Writes (access p other c) e l v
+  writes : (mode other : Machine) (e : Event) (l v : ℕ) → Writes (access p mode c) e l v → Writes (access p other c) e l v
   writes mode other e l v (x, a, q, w) =
       let (y, b, s) = also mode other e x a in
       (y, b, sym (ap (λ (z : Access). z.location) s) ∙ q, sym (ap (λ (z : Access). z.written) s) ∙ w)
 
-  pub reads_too : (mode other : Mode) (e : Event) (v : ℕ) → ReadsValue (access p mode c) e v → ReadsValue (access p other c) e v
+  pub reads_too : (mode other : Machine) (e : Event) (v : ℕ) → ReadsValue (access p mode c) e v → ReadsValue (access p other c) e v
   reads_too mode other e v (x, a, r) =
       let (y, b, s) = also mode other e x a in
       (y, b, sym (ap (λ (z : Access). z.read) s) ∙ r)
 
-  pub stored_too : (mode other : Mode) (e : Event) → IsStored (access p mode c) e → IsStored (access p other c) e
+  pub stored_too : (mode other : Machine) (e : Event) → IsStored (access p mode c) e → IsStored (access p other c) e
   stored_too mode other (Initial l) w = w
   stored_too mode other (At t i) (x, a, w) =
       let (y, b, s) = also mode other (At t i) x a in
       (y, b, subst (λ (z : Access). IsSome z.written) s w)
 
-  pub in_order_too : (mode other : Mode) (m y : Mark) → ArriveInOrder (access p mode c) c m y → ArriveInOrder (access p other c) c m y
+  pub in_order_too : (mode other : Machine) (m y : Mark) → ArriveInOrder (access p mode c) c m y → ArriveInOrder (access p other c) c m y
   in_order_too mode other (Takes e v d) y h = tt
   in_order_too mode other (Arrives d) (Takes e v f) h = tt
   in_order_too mode other (Arrives d) (Arrives e) h = λ l v w a b. h l v w (writes other mode d l v a) (writes other mode e l w b)
 
-  pub candidate_too : (mode other : Mode) → IsCandidate p mode c → IsCandidate p other c
+  pub candidate_too : (mode other : Machine) → IsCandidate p mode c → IsCandidate p other c
   candidate_too mode other is = record {
     whole = λ t. let a = threads_alike mode other t in (ap (action p.threads t) (sym a.last) ∙ (is.whole t).0, sym a.unused ∙ (is.whole t).1);
     values = λ e x v a r. let (y, b, s) = also other mode e x a in
@@ -105,18 +105,18 @@ module _ (p : Listing) (c : Candidate) where
     initial = λ e l v a. is.initial e l v (writes other mode e l v a);
   }
 
-  pub outcome_too : (mode other : Mode) (o : Outcome) → HasOutcome p mode c o → HasOutcome p other c o
+  pub outcome_too : (mode other : Machine) (o : Outcome) → HasOutcome p mode c o → HasOutcome p other c o
   outcome_too mode other o out = record {
     registers = out.registers ∙ ap (λ f. map f (range_with_len 0 (length p.threads))) (fun_ext (λ t. ap (λ (z : Local). z.registers) (threads_alike mode other t).last));
     long = out.long;
     memory = λ l b. let (e, w, newest) = out.memory l b in (e, writes mode other e l _ w, λ d v a. newest d v (writes other mode d l v a));
   }
 
-  edges_too : (mode other : Mode) (d e : Event) → Edge p mode c union.Sequential d e → Edge p other c union.Sequential d e
+  edges_too : (mode other : Machine) (d e : Event) → Edge p mode c union.Sequential d e → Edge p other c union.Sequential d e
   edges_too mode other d e (x, y, a, b, r) =
       let (x', a', s) = also mode other d x a in
       let (y', b', q) = also mode other e y b in
       (x', y', a', b', subst (λ (z : Access). Relates c union.Sequential d (bare x') e z) q (subst (λ (z : Access). Relates c union.Sequential d z e (bare y)) s r))
 
-  pub acyclic_too : (mode other : Mode) → IsAcyclic (Edge p mode c union.Sequential) → IsAcyclic (Edge p other c union.Sequential)
+  pub acyclic_too : (mode other : Machine) → IsAcyclic (Edge p mode c union.Sequential) → IsAcyclic (Edge p other c union.Sequential)
   acyclic_too mode other = acyclic_narrower (Edge p other c union.Sequential) (Edge p mode c union.Sequential) (edges_too other mode)

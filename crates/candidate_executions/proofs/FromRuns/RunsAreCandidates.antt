@@ -10,7 +10,7 @@ use Rattle.tso_program.specs.Listings.{action, start_of, code_of}
 use Rattle.tso_program.specs.Fences.{Gaps}
 use Rattle.tso_program.specs.declared.outcome.Outcome.{Outcome}
 use Rattle.tso_program.specs.Limits.{JumpForward}
-use Rattle.tso_machine.specs.Machine.{Mode, Sequential, Fenced, State, run, start, outcome_at, HasEnded, IsRun}
+use Rattle.tso_machine.specs.Machine.{Machine, SequentialMachine, StoreBufferMachine, State, run, start, outcome_at, HasEnded, IsRun}
 use Rattle.tso_machine.specs.declared.label.Label.{Label}
 use Rattle.candidate_executions.specs.declared.access.Access.{Access}
 use Rattle.candidate_executions.specs.declared.event.Event.{Event}
@@ -61,11 +61,11 @@ at_start init ls = record {
 }
 
 module _ (p : Listing) (gaps : Gaps) (forward : JumpForward p.threads) (labels : List Label) (last : State)
-    (runs : run p (Fenced gaps) (start p) labels ≡ Some last) (ended : HasEnded p last) where
+    (runs : run p (StoreBufferMachine gaps) (start p) labels ≡ Some last) (ended : HasEnded p last) where
   abbrev init : ℕ → ℕ
   init = slice_index p.memory
 
-  rest : Rest p gaps init last (start_of p.threads) (λ t. 0) (λ t. []) (λ t. []) 1 (marks_of p (Fenced gaps) labels)
+  rest : Rest p gaps init last (start_of p.threads) (λ t. 0) (λ t. []) (λ t. []) 1 (marks_of p (StoreBufferMachine gaps) labels)
   rest = played p gaps init last (λ t. (ended t).1) labels (start p) first_origins 1 (λ t. 0) (λ t. []) (at_start init labels) (valued_start p) runs
 
   abbrev h : History
@@ -80,8 +80,8 @@ module _ (p : Listing) (gaps : Gaps) (forward : JumpForward p.threads) (labels :
   abbrev c : Candidate
   c = candidate_with h (λ t. values (h t))
 
-  abbrev mode : Mode
-  mode = Fenced gaps
+  abbrev mode : Machine
+  mode = StoreBufferMachine gaps
 
   trace_is : (t : ℕ) → trace_of p mode c t ≡ record { accesses = accesses (h t); last = last.locals t; unused = [] }
   trace_is t =
@@ -258,9 +258,9 @@ module _ (p : Listing) (gaps : Gaps) (forward : JumpForward p.threads) (labels :
   pub is_one : (c : Candidate) × IsCandidate p mode c × IsConsistent p mode c × HasOutcome p mode c (outcome_at p last) × IsCandidateOf p mode labels c
   is_one = (c, is_candidate, consistent, has_outcome, is_candidate_of)
 
-pub fenced_run : (p : Listing) (gaps : Gaps) (labels : List Label) (o : Outcome) → JumpForward p.threads → IsRun p (Fenced gaps) labels o → HasItsCandidate p (Fenced gaps) labels o
+pub fenced_run : (p : Listing) (gaps : Gaps) (labels : List Label) (o : Outcome) → JumpForward p.threads → IsRun p (StoreBufferMachine gaps) labels o → HasItsCandidate p (StoreBufferMachine gaps) labels o
 fenced_run p gaps labels o forward r =
-    subst (λ z. HasItsCandidate p (Fenced gaps) labels z) (sym r.3)
+    subst (λ z. HasItsCandidate p (StoreBufferMachine gaps) labels z) (sym r.3)
     (is_one p gaps forward labels r.0 r.1 r.2)
 
 -- A sequential run is also one that waits at each gap, so all program order is kept. Of a sequential candidate no section counts.
@@ -268,7 +268,7 @@ abbrev each_gap : Gaps
 each_gap t k = true
 
 module _ (p : Listing) (forward : JumpForward p.threads) (labels : List Label) (last : State)
-    (runs : run p (Fenced each_gap) (start p) labels ≡ Some last) (ended : HasEnded p last) where
+    (runs : run p (StoreBufferMachine each_gap) (start p) labels ≡ Some last) (ended : HasEnded p last) where
   abbrev past : History
   past = h p each_gap forward labels last runs ended
 
@@ -277,50 +277,50 @@ module _ (p : Listing) (forward : JumpForward p.threads) (labels : List Label) (
 
   all_kept : (t j i : ℕ) (d e : Entry) → Holds past t j d → Holds past t i e → j < i → d.moment < e.moment
   all_kept t j i d e a b n =
-      let x : access p (Fenced each_gap) its (At t j) ≡ Some d.access = held p each_gap forward labels last runs ended t j d a in
-      let y : access p (Fenced each_gap) its (At t i) ≡ Some e.access = held p each_gap forward labels last runs ended t i e b in
+      let x : access p (StoreBufferMachine each_gap) its (At t j) ≡ Some d.access = held p each_gap forward labels last runs ended t j d a in
+      let y : access p (StoreBufferMachine each_gap) its (At t i) ≡ Some e.access = held p each_gap forward labels last runs ended t i e b in
       let z : d.access.section < e.access.section = rising (action p.threads t) (length (code_of p.threads t)) 0 (start_of p.threads t) (values (past t)) j i d.access e.access n x y in
       (good p each_gap forward labels last runs ended).kept t j i d e a b n (inr (inr (λ q. omega arith)))
 
-  is_sequential : IsConsistent p Sequential its
-  is_sequential = acyclic_too p its (Fenced each_gap) Sequential (whole_acyclic (init p each_gap forward labels last runs ended) past (good p each_gap forward labels last runs ended)
-      (access p (Fenced each_gap) its) (shows p each_gap forward labels last runs ended) all_kept (λ t. values (past t)))
+  is_sequential : IsConsistent p SequentialMachine its
+  is_sequential = acyclic_too p its (StoreBufferMachine each_gap) SequentialMachine (whole_acyclic (init p each_gap forward labels last runs ended) past (good p each_gap forward labels last runs ended)
+      (access p (StoreBufferMachine each_gap) its) (shows p each_gap forward labels last runs ended) all_kept (λ t. values (past t)))
 
-  to_candidate_of : (js : List Label) → marks_of p Sequential js ≡ marks_of p (Fenced each_gap) labels → IsCandidateOf p Sequential js its
+  to_candidate_of : (js : List Label) → marks_of p SequentialMachine js ≡ marks_of p (StoreBufferMachine each_gap) labels → IsCandidateOf p SequentialMachine js its
   to_candidate_of js same =
       let x = is_candidate_of p each_gap forward labels last runs ended in
       let reads = reads_too p its in
       let stored = stored_too p its in
       record {
         takes = λ e d v. (
-          λ i. let a = (x.takes e d v).0 (subst (λ ms. Contains ms (Takes e v d)) same i) in (reads (Fenced each_gap) Sequential e v a.0, a.1),
-          λ a. subst (λ ms. Contains ms (Takes e v d)) (sym same) ((x.takes e d v).1 (reads Sequential (Fenced each_gap) e v a.0, a.1)),
+          λ i. let a = (x.takes e d v).0 (subst (λ ms. Contains ms (Takes e v d)) same i) in (reads (StoreBufferMachine each_gap) SequentialMachine e v a.0, a.1),
+          λ a. subst (λ ms. Contains ms (Takes e v d)) (sym same) ((x.takes e d v).1 (reads SequentialMachine (StoreBufferMachine each_gap) e v a.0, a.1)),
         );
         arrives = λ e. (
-          λ i. stored (Fenced each_gap) Sequential e ((x.arrives e).0 (subst (λ ms. Contains ms (Arrives e)) same i)),
-          λ a. subst (λ ms. Contains ms (Arrives e)) (sym same) ((x.arrives e).1 (stored Sequential (Fenced each_gap) e a)),
+          λ i. stored (StoreBufferMachine each_gap) SequentialMachine e ((x.arrives e).0 (subst (λ ms. Contains ms (Arrives e)) same i)),
+          λ a. subst (λ ms. Contains ms (Arrives e)) (sym same) ((x.arrives e).1 (stored SequentialMachine (StoreBufferMachine each_gap) e a)),
         );
-        order = subst (λ ms. AllPairs (ArriveInOrder (access p Sequential its) its) ms) (sym same) (λ i j d a b. in_order_too p its (Fenced each_gap) Sequential _ _ (x.order i j d a b));
+        order = subst (λ ms. AllPairs (ArriveInOrder (access p SequentialMachine its) its) ms) (sym same) (λ i j d a b. in_order_too p its (StoreBufferMachine each_gap) SequentialMachine _ _ (x.order i j d a b));
       }
 
-  pub is_sequential_one : (js : List Label) → marks_of p Sequential js ≡ marks_of p (Fenced each_gap) labels → HasItsCandidate p Sequential js (outcome_at p last)
+  pub is_sequential_one : (js : List Label) → marks_of p SequentialMachine js ≡ marks_of p (StoreBufferMachine each_gap) labels → HasItsCandidate p SequentialMachine js (outcome_at p last)
   is_sequential_one js same = (
     its,
-    candidate_too p its (Fenced each_gap) Sequential (is_candidate p each_gap forward labels last runs ended),
+    candidate_too p its (StoreBufferMachine each_gap) SequentialMachine (is_candidate p each_gap forward labels last runs ended),
     is_sequential,
-    outcome_too p its (Fenced each_gap) Sequential (outcome_at p last) (has_outcome p each_gap forward labels last runs ended),
+    outcome_too p its (StoreBufferMachine each_gap) SequentialMachine (outcome_at p last) (has_outcome p each_gap forward labels last runs ended),
     to_candidate_of js same,
   )
 
-pub sequential_run : (p : Listing) (labels : List Label) (o : Outcome) → JumpForward p.threads → IsRun p Sequential labels o → HasItsCandidate p Sequential labels o
+pub sequential_run : (p : Listing) (labels : List Label) (o : Outcome) → JumpForward p.threads → IsRun p SequentialMachine labels o → HasItsCandidate p SequentialMachine labels o
 sequential_run p labels o forward r =
     let (js, s, same) = embed p each_gap r.0 labels (start p) first_origins (λ t. refl) (λ t. refl) r.1 in
-    subst (λ z. HasItsCandidate p Sequential labels z) (sym r.3)
+    subst (λ z. HasItsCandidate p SequentialMachine labels z) (sym r.3)
     (is_sequential_one p forward js r.0 s r.2 labels same)
 
 pub every_run : EveryRunIsACandidate
-every_run p Sequential labels o = sequential_run p labels o
-every_run p (Fenced gaps) labels o = fenced_run p gaps labels o
+every_run p SequentialMachine labels o = sequential_run p labels o
+every_run p (StoreBufferMachine gaps) labels o = fenced_run p gaps labels o
 
 pub every_run_is_a_completion : EveryRunIsACompletion
 every_run_is_a_completion p mode labels o forward r =

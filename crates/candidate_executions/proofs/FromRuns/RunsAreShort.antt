@@ -9,7 +9,7 @@ use Rattle.tso_program.specs.declared.action.Action.TheVariants.{Stop, Go, Wait,
 use Rattle.tso_program.specs.Actions.{loaded}
 use Rattle.tso_program.specs.Listings.{action, code_of}
 use Rattle.tso_program.specs.Limits.{JumpForward}
-use Rattle.tso_machine.specs.Machine.{Mode, Sequential, Fenced, State, put, when_empty, past_gap, buffered, flushed, direct, step, run, start}
+use Rattle.tso_machine.specs.Machine.{Machine, SequentialMachine, StoreBufferMachine, State, put, when_empty, past_gap, buffered, flushed, direct, step, run, start}
 use Rattle.tso_machine.specs.declared.label.Label.{Label}
 use Rattle.tso_machine.specs.declared.label.Label.TheVariants.{Exec, Flush}
 use Rattle.tso_machine.specs.declared.label.Pending.{Pending}
@@ -124,14 +124,14 @@ module _ (p : Listing) (forward : JumpForward p.threads) where
       here : t < length p.threads
       here = elim (cases_lt t (length p.threads)) [ inl l ↦ l | inr g ↦ absurd (let q : [] ≡ w ∷ ws = sym (past t g) ∙ e in cc) ]
 
-  step_less : (mode : Mode) (s s' : State) (l : Label) → Past s → step p mode s l ≡ Some s' → Less s s'
-  step_less Sequential s s' (Exec t) past h = direct_less s s' t (action p.threads t (s.locals t)) past (advance p forward t (s.locals t)) h
-  step_less Sequential s s' (Flush t) past h = absurd cc
-  step_less (Fenced gaps) s s' (Exec t) past h = buffered_less s s' t (action p.threads t (s.locals t)) past (advance p forward t (s.locals t))
+  step_less : (mode : Machine) (s s' : State) (l : Label) → Past s → step p mode s l ≡ Some s' → Less s s'
+  step_less SequentialMachine s s' (Exec t) past h = direct_less s s' t (action p.threads t (s.locals t)) past (advance p forward t (s.locals t)) h
+  step_less SequentialMachine s s' (Flush t) past h = absurd cc
+  step_less (StoreBufferMachine gaps) s s' (Exec t) past h = buffered_less s s' t (action p.threads t (s.locals t)) past (advance p forward t (s.locals t))
       (after_gap (gaps t (s.locals t).place) (s.buffers t) s s' (λ x. buffered x t (action p.threads t (s.locals t))) h)
-  step_less (Fenced gaps) s s' (Flush t) past h = flush_less s s' t (s.buffers t) past refl h
+  step_less (StoreBufferMachine gaps) s s' (Flush t) past h = flush_less s s' t (s.buffers t) past refl h
 
-  run_short : (mode : Mode) (labels : List Label) (s last : State) → Past s → run p mode s labels ≡ Some last → length labels ≤ total (room s) (length p.threads)
+  run_short : (mode : Machine) (labels : List Label) (s last : State) → Past s → run p mode s labels ≡ Some last → length labels ≤ total (room s) (length p.threads)
   run_short mode [] s last past h = omega arith
   run_short mode (l ∷ labels) s last past h = go (step p mode s l) refl h (run_short mode labels)
     where
@@ -141,7 +141,7 @@ module _ (p : Listing) (forward : JumpForward p.threads) where
       go (Some s') e h ih = let (less, past') = step_less mode s s' l past e in let rest = ih s' last past' h in omega arith
 
   -- with at most k instructions a thread
-  pub run_bound : (mode : Mode) (labels : List Label) (last : State) (k : ℕ) → ((t : ℕ) → length (code_of p.threads t) ≤ k) → run p mode (start p) labels ≡ Some last → length labels ≤ length p.threads * (k + k)
+  pub run_bound : (mode : Machine) (labels : List Label) (last : State) (k : ℕ) → ((t : ℕ) → length (code_of p.threads t) ≤ k) → run p mode (start p) labels ≡ Some last → length labels ≤ length p.threads * (k + k)
   run_bound mode labels last k few h =
       let short = run_short mode labels (start p) last (λ t g. refl) h in
       let most = total_bound (room (start p)) (k + k) (length p.threads) (λ t. let z = few t in omega arith) in

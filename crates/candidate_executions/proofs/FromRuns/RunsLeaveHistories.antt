@@ -11,7 +11,7 @@ use Rattle.tso_program.specs.declared.action.Action.TheVariants.{Go, Wait, Read,
 use Rattle.tso_program.specs.Listings.{action}
 use Rattle.tso_program.specs.Actions.{loaded}
 use Rattle.tso_program.specs.Fences.{Gaps}
-use Rattle.tso_machine.specs.Machine.{put, Fenced, State, newest, found, when_empty, flushed, run}
+use Rattle.tso_machine.specs.Machine.{put, StoreBufferMachine, State, newest, found, when_empty, flushed, run}
 use Rattle.tso_machine.specs.declared.label.Label.{Label}
 use Rattle.tso_machine.specs.declared.label.Label.TheVariants.{Exec, Flush}
 use Rattle.tso_machine.specs.declared.label.Pending.{Pending}
@@ -186,40 +186,40 @@ module _ (p : Listing) (gaps : Gaps) (init : ℕ → ℕ) (last : State) where
       }
 
   pub played : ((t : ℕ) → last.buffers t ≡ []) → (ls : List Label) (s : State) (o : Origins) (n : ℕ) (section : ℕ → ℕ) (past : History) →
-      Inv init past s.buffers s.memory o n section ls → Valued p s.locals s.buffers s.memory → run p (Fenced gaps) s ls ≡ Some last →
-      Rest s.locals section past o.waiting n (marks p (Fenced gaps) s o ls)
+      Inv init past s.buffers s.memory o n section ls → Valued p s.locals s.buffers s.memory → run p (StoreBufferMachine gaps) s ls ≡ Some last →
+      Rest s.locals section past o.waiting n (marks p (StoreBufferMachine gaps) s o ls)
   played empty [] s o n section past inv vd r = let e : s ≡ last = cc in
       subst (λ (z : State). Rest z.locals section past o.waiting n []) (sym e)
       (at_end past o n section empty (subst (λ (z : State). Inv init past z.buffers z.memory o n section []) e inv))
-  played empty (Flush t ∷ ls) s o n section past inv vd r = flush_by last (λ next. run p (Fenced gaps) next ls) p gaps s t _ r
+  played empty (Flush t ∷ ls) s o n section past inv vd r = flush_by last (λ next. run p (StoreBufferMachine gaps) next ls) p gaps s t _ r
       (λ w ws e r.
       let first = head init past s.buffers s.memory o n section t w ws ls e inv in
       let others = others_wait init past s.buffers s.memory o n section t w ws ls e inv in
       let s' : State = record s { buffers = put s.buffers t ws; memory = put s.memory w.location w.value } in
       let o' = after_it init past s.buffers s.memory o n section t w ws ls e inv in
-      let same : marks p (Fenced gaps) s o (Flush t ∷ ls) ≡ Arrives (At t first.index) ∷ marks p (Fenced gaps) s' o' ls =
-      marks_step p (Fenced gaps) (Flush t) ls s s' o o' (Arrives (At t first.index) ∷ []) (ap (flushed s t) e) (ap (flushed_origins o t) others.1) (ap flushed_marks others.1) in
+      let same : marks p (StoreBufferMachine gaps) s o (Flush t ∷ ls) ≡ Arrives (At t first.index) ∷ marks p (StoreBufferMachine gaps) s' o' ls =
+      marks_step p (StoreBufferMachine gaps) (Flush t) ls s s' o o' (Arrives (At t first.index) ∷ []) (ap (flushed s t) e) (ap (flushed_origins o t) others.1) (ap flushed_marks others.1) in
       subst (λ ms. Rest s.locals section past o.waiting n ms) (sym same)
-      (rest_flush s.locals section past o.waiting (put o.waiting t others.0) n (At t first.index) (marks p (Fenced gaps) s' o' ls)
+      (rest_flush s.locals section past o.waiting (put o.waiting t others.0) n (At t first.index) (marks p (StoreBufferMachine gaps) s' o' ls)
       (waits_flush o.waiting t w.location (At t first.index) others.0 others.1)
       (λ future. moment_old past future t first.index first.entry first.holds ∙ sym (same_Some n first.entry.moment first.at))
       (played empty ls s' o' (suc n) section past (inv_flush init past s.buffers s.memory o n section t w ws ls e inv) (valued_flush p s vd t w ws e) r)))
-  played empty (Exec t ∷ ls) s o n section past inv vd r = exec_by last (λ next. run p (Fenced gaps) next ls) p gaps s t _ r
+  played empty (Exec t ∷ ls) s o n section past inv vd r = exec_by last (λ next. run p (StoreBufferMachine gaps) next ls) p gaps s t _ r
       (λ next e g r.
       let s' : State = record s { locals = put s.locals t next } in
-      let same : marks p (Fenced gaps) s o (Exec t ∷ ls) ≡ marks p (Fenced gaps) s' o ls =
-      marks_step p (Fenced gaps) (Exec t) ls s s' o o [] (exec_ok p gaps s s' t g (rw e refl)) (ap (buffered_origins o t) e) (ap (buffered_marks s o t) e) in
+      let same : marks p (StoreBufferMachine gaps) s o (Exec t ∷ ls) ≡ marks p (StoreBufferMachine gaps) s' o ls =
+      marks_step p (StoreBufferMachine gaps) (Exec t) ls s s' o o [] (exec_ok p gaps s s' t g (rw e refl)) (ap (buffered_origins o t) e) (ap (buffered_marks s o t) e) in
       subst (λ ms. Rest s.locals section past o.waiting n ms) (sym same)
-      (rest_quiet s.locals section past t next (inside t) o.waiting n (marks p (Fenced gaps) s' o ls)
+      (rest_quiet s.locals section past t next (inside t) o.waiting n (marks p (StoreBufferMachine gaps) s' o ls)
       (λ k given. trace_go (action p.threads t) (gaps t) k (section t) (s.locals t) next e given)
       (played empty ls s' o (suc n) (put section t (inside t)) past (tick init past s.buffers s.memory o n (put section t (inside t)) t ls
       (inv_section init past s.buffers s.memory o n section (Exec t ∷ ls) t (inside t) (entered_cases (gap t) (section t) (s.buffers t) g) inv)) (valued_local p s vd t next (knows (Go next) e)) r)))
       (λ next e b r.
       let s' : State = record s { locals = put s.locals t next } in
-      let same : marks p (Fenced gaps) s o (Exec t ∷ ls) ≡ marks p (Fenced gaps) s' o ls =
-      marks_step p (Fenced gaps) (Exec t) ls s s' o o [] (exec_ok p gaps s s' t (λ g. b) (rw e (ap (λ ws. when_empty ws s') b))) (ap (buffered_origins o t) e) (ap (buffered_marks s o t) e) in
+      let same : marks p (StoreBufferMachine gaps) s o (Exec t ∷ ls) ≡ marks p (StoreBufferMachine gaps) s' o ls =
+      marks_step p (StoreBufferMachine gaps) (Exec t) ls s s' o o [] (exec_ok p gaps s s' t (λ g. b) (rw e (ap (λ ws. when_empty ws s') b))) (ap (buffered_origins o t) e) (ap (buffered_marks s o t) e) in
       subst (λ ms. Rest s.locals section past o.waiting n ms) (sym same)
-      (rest_quiet s.locals section past t next (suc (inside t)) o.waiting n (marks p (Fenced gaps) s' o ls)
+      (rest_quiet s.locals section past t next (suc (inside t)) o.waiting n (marks p (StoreBufferMachine gaps) s' o ls)
       (λ k given. trace_wait (action p.threads t) (gaps t) k (section t) (s.locals t) next e given)
       (played empty ls s' o (suc n) (put section t (suc (inside t))) past (tick init past s.buffers s.memory o n (put section t (suc (inside t))) t ls
       (inv_section init past s.buffers s.memory o n section (Exec t ∷ ls) t (suc (inside t)) (inr b) inv)) (valued_local p s vd t next (knows (Wait next) e)) r)))
@@ -233,11 +233,11 @@ module _ (p : Listing) (gaps : Gaps) (init : ℕ → ℕ) (last : State) where
       let s' : State = record s { locals = put s.locals t (loaded to v next) } in
       let first : List Mark = Takes (At t (length (past t))) v x.source ∷ [] in
       let here = inv.made t in
-      let same : marks p (Fenced gaps) s o (Exec t ∷ ls) ≡ first ++ marks p (Fenced gaps) s' (with_made o t) ls =
-      marks_step p (Fenced gaps) (Exec t) ls s s' o (with_made o t) first (exec_ok p gaps s s' t g (rw e refl)) (ap (buffered_origins o t) e)
+      let same : marks p (StoreBufferMachine gaps) s o (Exec t ∷ ls) ≡ first ++ marks p (StoreBufferMachine gaps) s' (with_made o t) ls =
+      marks_step p (StoreBufferMachine gaps) (Exec t) ls s s' o (with_made o t) first (exec_ok p gaps s s' t g (rw e refl)) (ap (buffered_origins o t) e)
       (ap (buffered_marks s o t) e ∙ (λ i. Takes (At t (here i)) v (seen.found_is i) ∷ [])) in
       subst (λ ms. Rest s.locals section past o.waiting n ms) (sym same)
-      (rest_entry s.locals section past t (loaded to v next) (inside t) o.waiting n (marks p (Fenced gaps) s' (with_made o t) ls) x (put section t (inside t)) (put_same section t (inside t)) (put_other section t (inside t))
+      (rest_entry s.locals section past t (loaded to v next) (inside t) o.waiting n (marks p (StoreBufferMachine gaps) s' (with_made o t) ls) x (put section t (inside t)) (put_same section t (inside t)) (put_other section t (inside t))
       (λ k given. rw (put_same section t (inside t)) (trace_read (action p.threads t) (gaps t) k (section t) (s.locals t) l to v next e given))
       (λ x q. subst (λ z. IsValueOf p l z) (same_Some v x q) (found_value p s vd t l)) o.waiting first (shown_load past t x o.waiting n v refl refl)
       (played empty ls s' (with_made o t) (suc n) (put section t (inside t)) (with_entry past t x)
@@ -252,10 +252,10 @@ module _ (p : Listing) (gaps : Gaps) (init : ℕ → ℕ) (last : State) where
       let s' : State = record s { locals = put s.locals t next; buffers = put s.buffers t (s.buffers t ++ record { location = l; value = v } ∷ []) } in
       let ws : List (ℕ × Event) = o.waiting t ++ (l, At t (o.made t)) ∷ [] in
       let o' : Origins = with_made (with_waiting o t ws) t in
-      let same : marks p (Fenced gaps) s o (Exec t ∷ ls) ≡ marks p (Fenced gaps) s' o' ls =
-      marks_step p (Fenced gaps) (Exec t) ls s s' o o' [] (exec_ok p gaps s s' t g (rw e refl)) (ap (buffered_origins o t) e) (ap (buffered_marks s o t) e) in
+      let same : marks p (StoreBufferMachine gaps) s o (Exec t ∷ ls) ≡ marks p (StoreBufferMachine gaps) s' o' ls =
+      marks_step p (StoreBufferMachine gaps) (Exec t) ls s s' o o' [] (exec_ok p gaps s s' t g (rw e refl)) (ap (buffered_origins o t) e) (ap (buffered_marks s o t) e) in
       subst (λ ms. Rest s.locals section past o.waiting n ms) (sym same)
-      (rest_entry s.locals section past t next (inside t) o.waiting n (marks p (Fenced gaps) s' o' ls) x (put section t (inside t)) (put_same section t (inside t)) (put_other section t (inside t))
+      (rest_entry s.locals section past t next (inside t) o.waiting n (marks p (StoreBufferMachine gaps) s' o' ls) x (put section t (inside t)) (put_same section t (inside t)) (put_other section t (inside t))
       (λ k given. rw (put_same section t (inside t)) (trace_write (action p.threads t) (gaps t) k (section t) (s.locals t) l v next e given))
       (λ x q. absurd cc) (put o.waiting t ws) []
       (subst (λ z. IsShownAs past t x o.waiting (put o.waiting t (o.waiting t ++ (l, At t z) ∷ [])) n []) (sym (inv.made t)) (shown_store past t x o.waiting n l refl refl))
@@ -272,11 +272,11 @@ module _ (p : Listing) (gaps : Gaps) (init : ℕ → ℕ) (last : State) where
       let o' : Origins = with_made (with_memory o l (At t (o.made t))) t in
       let here = inv.made t in
       let first : List Mark = Takes (At t (length (past t))) v x.source ∷ Arrives (At t (length (past t))) ∷ [] in
-      let same : marks p (Fenced gaps) s o (Exec t ∷ ls) ≡ first ++ marks p (Fenced gaps) s' o' ls =
-      marks_step p (Fenced gaps) (Exec t) ls s s' o o' first (exec_ok p gaps s s' t (λ g. b) (rw e (ap (λ ws. when_empty ws s') b))) (ap (buffered_origins o t) e)
+      let same : marks p (StoreBufferMachine gaps) s o (Exec t ∷ ls) ≡ first ++ marks p (StoreBufferMachine gaps) s' o' ls =
+      marks_step p (StoreBufferMachine gaps) (Exec t) ls s s' o o' first (exec_ok p gaps s s' t (λ g. b) (rw e (ap (λ ws. when_empty ws s') b))) (ap (buffered_origins o t) e)
       (ap (buffered_marks s o t) e ∙ (λ i. Takes (At t (here i)) v (seen.found_is i) ∷ Arrives (At t (here i)) ∷ [])) in
       subst (λ ms. Rest s.locals section past o.waiting n ms) (sym same)
-      (rest_entry s.locals section past t (loaded to v next) (suc (inside t)) o.waiting n (marks p (Fenced gaps) s' o' ls) x section2 (put_same (put section t (inside t)) t (suc (inside t)))
+      (rest_entry s.locals section past t (loaded to v next) (suc (inside t)) o.waiting n (marks p (StoreBufferMachine gaps) s' o' ls) x section2 (put_same (put section t (inside t)) t (suc (inside t)))
       (λ u q. put_other (put section t (inside t)) t (suc (inside t)) u q ∙ put_other section t (inside t) u q)
       (λ k given. rw (put_same section t (inside t)) (trace_swap (action p.threads t) (gaps t) k (section t) (s.locals t) l w to v next e given))
       (λ x q. subst (λ z. IsValueOf p l z) (same_Some v x q) (vd.stored l)) o.waiting first (shown_exchange past t x o.waiting n v refl refl refl)

@@ -9,7 +9,7 @@ use Rattle.tso_program.specs.declared.action.Action.{Action}
 use Rattle.tso_program.specs.declared.action.Action.TheVariants.{Stop, Go, Wait, Read, Write, Swap}
 use Rattle.tso_program.specs.Listings.{action}
 use Rattle.tso_program.specs.Fences.{Gaps}
-use Rattle.tso_machine.specs.Machine.{put, Sequential, Fenced, State, newest, found, past_gap, buffered, flushed, direct, run}
+use Rattle.tso_machine.specs.Machine.{put, SequentialMachine, StoreBufferMachine, State, newest, found, past_gap, buffered, flushed, direct, run}
 use Rattle.tso_machine.specs.declared.label.Label.{Label}
 use Rattle.tso_machine.specs.declared.label.Label.TheVariants.{Exec, Flush}
 use Rattle.tso_machine.specs.declared.label.Pending.{Pending}
@@ -24,14 +24,14 @@ use Rattle.candidate_executions.proofs.FromRuns.MarksAlong.{marks_step}
 module _ (p : Listing) (gaps : Gaps) where
   -- labels that lead from s to s', and show these marks
   abbrev Leads : State → Origins → State → Origins → List Mark → Type 0
-  Leads s o s' o' ms = (js : List Label) × ((ls : List Label) → (run p (Fenced gaps) s (js ++ ls) ≡ run p (Fenced gaps) s' ls) ×
-      (marks p (Fenced gaps) s o (js ++ ls) ≡ ms ++ marks p (Fenced gaps) s' o' ls))
+  Leads s o s' o' ms = (js : List Label) × ((ls : List Label) → (run p (StoreBufferMachine gaps) s (js ++ ls) ≡ run p (StoreBufferMachine gaps) s' ls) ×
+      (marks p (StoreBufferMachine gaps) s o (js ++ ls) ≡ ms ++ marks p (StoreBufferMachine gaps) s' o' ls))
 
   by_step : (s s' : State) (o o' : Origins) (t : ℕ) (ms : List Mark) → s.buffers t ≡ [] → buffered s t (action p.threads t (s.locals t)) ≡ Some s' →
       buffered_origins o t (action p.threads t (s.locals t)) ≡ o' → buffered_marks s o t (action p.threads t (s.locals t)) ≡ ms → Leads s o s' o' ms
   by_step s s' o o' t ms empty e f h = (
     Exec t ∷ [],
-    λ ls. (exec_step p gaps s s' t empty e ls, marks_step p (Fenced gaps) (Exec t) ls s s' o o' ms (exec_ok p gaps s s' t (λ g. empty) e) f h),
+    λ ls. (exec_step p gaps s s' t empty e ls, marks_step p (StoreBufferMachine gaps) (Exec t) ls s s' o o' ms (exec_ok p gaps s s' t (λ g. empty) e) f h),
   )
 
   one_step : (s s' : State) (o : Origins) (t : ℕ) → s.buffers t ≡ [] → o.waiting t ≡ [] → (a : Action) → action p.threads t (s.locals t) ≡ a → direct s t a ≡ Some s' →
@@ -50,10 +50,10 @@ module _ (p : Listing) (gaps : Gaps) where
       let back : flushed_origins o₁ t ((l, here) ∷ []) ≡ o₂ = ap (λ w. record { made = put o.made t (suc (o.made t)); waiting = w; memory = put o.memory l here }) (put_back o.waiting t ws [] none) in (
         Exec t ∷ Flush t ∷ [],
         λ ls. (
-          exec_step p gaps s (stored p gaps s t l v next) t empty (rw e refl) (Flush t ∷ ls) ∙ ap (option_and_then (λ next. run p (Fenced gaps) next ls)) (stored_flushed p gaps s s' t l v next empty h),
-          marks_step p (Fenced gaps) (Exec t) (Flush t ∷ ls) s (stored p gaps s t l v next) o o₁ [] (exec_ok p gaps s (stored p gaps s t l v next) t (λ g. empty) (rw e refl))
+          exec_step p gaps s (stored p gaps s t l v next) t empty (rw e refl) (Flush t ∷ ls) ∙ ap (option_and_then (λ next. run p (StoreBufferMachine gaps) next ls)) (stored_flushed p gaps s s' t l v next empty h),
+          marks_step p (StoreBufferMachine gaps) (Exec t) (Flush t ∷ ls) s (stored p gaps s t l v next) o o₁ [] (exec_ok p gaps s (stored p gaps s t l v next) t (λ g. empty) (rw e refl))
               (ap (buffered_origins o t) e) (ap (buffered_marks s o t) e)
-              ∙ marks_step p (Fenced gaps) (Flush t) ls (stored p gaps s t l v next) s' o₁ o₂ (Arrives here ∷ []) (stored_flushed p gaps s s' t l v next empty h)
+              ∙ marks_step p (StoreBufferMachine gaps) (Flush t) ls (stored p gaps s t l v next) s' o₁ o₂ (Arrives here ∷ []) (stored_flushed p gaps s s' t l v next empty h)
               (ap (flushed_origins o₁ t) waits ∙ back) (ap flushed_marks waits),
         ),
       )
@@ -70,15 +70,15 @@ module _ (p : Listing) (gaps : Gaps) where
 
   -- labels of the same run, which shows the same
   abbrev Embedded : State → Origins → List Label → State → Type 0
-  Embedded s o ls last = (js : List Label) × (run p (Fenced gaps) s js ≡ Some last) × (marks p Sequential s o ls ≡ marks p (Fenced gaps) s o js)
+  Embedded s o ls last = (js : List Label) × (run p (StoreBufferMachine gaps) s js ≡ Some last) × (marks p SequentialMachine s o ls ≡ marks p (StoreBufferMachine gaps) s o js)
 
-  pub embed : (last : State) (ls : List Label) (s : State) (o : Origins) → ((t : ℕ) → s.buffers t ≡ []) → ((t : ℕ) → o.waiting t ≡ []) → run p Sequential s ls ≡ Some last → Embedded s o ls last
+  pub embed : (last : State) (ls : List Label) (s : State) (o : Origins) → ((t : ℕ) → s.buffers t ≡ []) → ((t : ℕ) → o.waiting t ≡ []) → run p SequentialMachine s ls ≡ Some last → Embedded s o ls last
   embed last [] s o empty none r = ([], r, refl)
   embed last (Flush t ∷ ls) s o empty none r = absurd cc
   embed last (Exec t ∷ ls) s o empty none r = go (direct s t (action p.threads t (s.locals t))) refl r (embed last ls)
     where
-      go : (r : Option State) → direct s t (action p.threads t (s.locals t)) ≡ r → option_and_then (λ next. run p Sequential next ls) r ≡ Some last →
-          ((s : State) (o : Origins) → ((t : ℕ) → s.buffers t ≡ []) → ((t : ℕ) → o.waiting t ≡ []) → run p Sequential s ls ≡ Some last → Embedded s o ls last) →
+      go : (r : Option State) → direct s t (action p.threads t (s.locals t)) ≡ r → option_and_then (λ next. run p SequentialMachine next ls) r ≡ Some last →
+          ((s : State) (o : Origins) → ((t : ℕ) → s.buffers t ≡ []) → ((t : ℕ) → o.waiting t ≡ []) → run p SequentialMachine s ls ≡ Some last → Embedded s o ls last) →
           Embedded s o (Exec t ∷ ls) last
       go None e r ih = absurd cc
       go (Some s') e r ih =
@@ -87,6 +87,6 @@ module _ (p : Listing) (gaps : Gaps) where
           (λ u. ap (λ (w : ℕ → List (ℕ × Event)). w u) (same_waiting o t (action p.threads t (s.locals t))) ∙ none u) r in (
             is ++ js,
             (f js).0 ∙ g,
-            marks_step p Sequential (Exec t) ls s s' o (direct_origins o t (action p.threads t (s.locals t))) (direct_marks s o t (action p.threads t (s.locals t))) e refl refl
+            marks_step p SequentialMachine (Exec t) ls s s' o (direct_origins o t (action p.threads t (s.locals t))) (direct_marks s o t (action p.threads t (s.locals t))) e refl refl
                 ∙ (ap (λ x. direct_marks s o t (action p.threads t (s.locals t)) ++ x) same ∙ sym (f js).1),
           )

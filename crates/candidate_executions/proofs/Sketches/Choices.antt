@@ -8,7 +8,7 @@ use Rattle.tso_program.specs.declared.action.Action.TheVariants.{Stop}
 use Rattle.tso_program.specs.declared.listing.Listing.{Listing}
 use Rattle.tso_program.specs.Listings.{action, start_of, code_of}
 use Rattle.tso_program.specs.Limits.{JumpForward}
-use Rattle.tso_machine.specs.Machine.{Mode}
+use Rattle.tso_machine.specs.Machine.{Machine}
 use Rattle.candidate_executions.specs.declared.access.Access.{Access}
 use Rattle.candidate_executions.specs.declared.event.Event.{Event}
 use Rattle.candidate_executions.specs.declared.event.Event.TheVariants.{Initial, Access as At}
@@ -27,14 +27,14 @@ only x y (zero, h, e) = e
 only x y (suc k, h, e) = absurd (omega arith)
 
 -- events keep what they read and write when values are added
-pub keeps : (p : Listing) (mode : Mode) (given more : ℕ → List ℕ) → ((t : ℕ) → IsPrefixOf (given t) (more t)) → (e : Event) (x : Access) →
+pub keeps : (p : Listing) (mode : Machine) (given more : ℕ → List ℕ) → ((t : ℕ) → IsPrefixOf (given t) (more t)) → (e : Event) (x : Access) →
     access_by p mode given e ≡ Some x → access_by p mode more e ≡ Some x
 keeps p mode given more h (Initial l) x a = a
 keeps p mode given more h (At t i) x a = let (rest, q) = h t in
     subst (λ g. slice_get (trace (action p.threads t) (fenced_gaps mode t) (length (code_of p.threads t)) 0 (start_of p.threads t) g).accesses i ≡ Some x) q
     (trace_more (action p.threads t) (fenced_gaps mode t) (length (code_of p.threads t)) 0 (start_of p.threads t) (given t) rest i x a)
 
-pub keeps_writes : (p : Listing) (mode : Mode) (given more : ℕ → List ℕ) → ((t : ℕ) → IsPrefixOf (given t) (more t)) → (e : Event) (l v : ℕ) →
+pub keeps_writes : (p : Listing) (mode : Machine) (given more : ℕ → List ℕ) → ((t : ℕ) → IsPrefixOf (given t) (more t)) → (e : Event) (l v : ℕ) →
     Writes (access_by p mode given) e l v → Writes (access_by p mode more) e l v
 keeps_writes p mode given more h e l v w = (w.0, keeps p mode given more h e w.0 w.1, w.2, w.3)
 
@@ -47,7 +47,7 @@ empty_is_a_sketch p mode = record {
 }
 
 -- a thread with a next read has its given values
-there_by : (p : Listing) (mode : Mode) (k : Sketch) → IsSketch p mode k → (t l : ℕ) → next_read p mode k t ≡ Some l → t < length k.given
+there_by : (p : Listing) (mode : Machine) (k : Sketch) → IsSketch p mode k → (t l : ℕ) → next_read p mode k t ≡ Some l → t < length k.given
 there_by p mode k fits t l next = let h = reads_there p mode k t l next in let many = fits.each_thread in omega arith
 
 pub a_value_keeps_a_sketch : AValueKeepsASketch
@@ -89,7 +89,7 @@ a_pair_keeps_a_sketch p mode k d e fits is = record {
   ];
 }
 
-module _ (p : Listing) (mode : Mode) (k : Sketch) (c : Candidate) (fits : IsSketch p mode k) (is : IsCandidate p mode c) (completes : Completes k c) where
+module _ (p : Listing) (mode : Machine) (k : Sketch) (c : Candidate) (fits : IsSketch p mode k) (is : IsCandidate p mode c) (completes : Completes k c) where
   -- one source more
   more_sources : (e s : Event) → c.source e ≡ s → Completes (with_source k e s) c
   more_sources e s q = record {
@@ -155,18 +155,22 @@ module _ (p : Listing) (mode : Mode) (k : Sketch) (c : Candidate) (fits : IsSket
               more_values t v rest (there_by p mode k fits t l next) q,
             )
 
+    -- the values of a thread each of whose reads has one
+    pub given_whole : (t : ℕ) → next_read p mode k t ≡ None → c.given t ≡ given_to k t
+    given_whole t whole =
+        let (rest, q) = completes.given t in
+        let ends : action p.threads t (plays t (given_to k t)).last ≡ Stop =
+        end_or_read (action p.threads t) (fenced_gaps mode t) (length (code_of p.threads t)) (λ s. advance p forward t s) (length (code_of p.threads t)) 0
+        (start_of p.threads t) (given_to k t) (omega arith) whole in
+        let all : plays t (given_to k t ++ rest) ≡ spare (plays t (given_to k t)) rest =
+        at_end (action p.threads t) (fenced_gaps mode t) (length (code_of p.threads t)) 0 (start_of p.threads t) (given_to k t) rest ends in
+        let left : (plays t (c.given t)).unused ≡ (plays t (given_to k t)).unused ++ rest = subst (λ g. (plays t g).unused ≡ (plays t (given_to k t)).unused ++ rest) q (ap (λ (z : Trace). z.unused) all) in
+        let none : rest ≡ [] = sym (ap (λ z. z ++ rest) (fits.used t)) ∙ (sym left ∙ (is.whole t).1) in
+        sym q ∙ (ap (λ z. given_to k t ++ z) none ∙ append-nil (given_to k t))
+
     module _ (whole : IsWhole p mode k) where
       pub same_given : (t : ℕ) → c.given t ≡ given_to k t
-      same_given t =
-          let (rest, q) = completes.given t in
-          let ends : action p.threads t (plays t (given_to k t)).last ≡ Stop =
-          end_or_read (action p.threads t) (fenced_gaps mode t) (length (code_of p.threads t)) (λ s. advance p forward t s) (length (code_of p.threads t)) 0
-          (start_of p.threads t) (given_to k t) (omega arith) (whole t) in
-          let all : plays t (given_to k t ++ rest) ≡ spare (plays t (given_to k t)) rest =
-          at_end (action p.threads t) (fenced_gaps mode t) (length (code_of p.threads t)) 0 (start_of p.threads t) (given_to k t) rest ends in
-          let left : (plays t (c.given t)).unused ≡ (plays t (given_to k t)).unused ++ rest = subst (λ g. (plays t g).unused ≡ (plays t (given_to k t)).unused ++ rest) q (ap (λ (z : Trace). z.unused) all) in
-          let none : rest ≡ [] = sym (ap (λ z. z ++ rest) (fits.used t)) ∙ (sym left ∙ (is.whole t).1) in
-          sym q ∙ (ap (λ z. given_to k t ++ z) none ∙ append-nil (given_to k t))
+      same_given t = given_whole t (whole t)
 
       pub all_given : c.given ≡ given_to k
       all_given = fun_ext same_given

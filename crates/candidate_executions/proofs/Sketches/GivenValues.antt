@@ -4,7 +4,7 @@ use Rattle.std.specs.Prelude.{slice_get, unwrap_or}
 use Rattle.std.proofs.lemmas.Bool.{cases_eq, cases_lt}
 use Rattle.tso_program.specs.declared.listing.Thread.{Thread}
 use Rattle.tso_program.specs.declared.listing.Listing.{Listing}
-use Rattle.tso_machine.specs.Machine.{Mode}
+use Rattle.tso_machine.specs.Machine.{Machine}
 use Rattle.tso_machine.proofs.Runs.{no_action}
 use Rattle.candidate_executions.specs.Traces.{trace_by}
 use Rattle.candidate_executions.specs.Sketches.{Sketch, empty_sketch, given_to, IsPrefixOf, with_value, read_by, next_read}
@@ -33,7 +33,7 @@ longer k t v h u = elim (cases_eq u t) [
 ]
 
 -- a thread with a next read is there
-pub reads_there : (p : Listing) (mode : Mode) (k : Sketch) (t l : ℕ) → next_read p mode k t ≡ Some l → t < length p.threads
+pub reads_there : (p : Listing) (mode : Machine) (k : Sketch) (t l : ℕ) → next_read p mode k t ≡ Some l → t < length p.threads
 reads_there p mode k t l next = elim (cases_lt t (length p.threads)) [
   | inl h ↦ h
   | inr h ↦ absurd (let z : None ≡ Some l = sym (ap read_by (no_action p t (trace_by p mode (given_to k) t).last h)) ∙ next in cc)

@@ -1,7 +1,7 @@
 -- A cycle of known edges, of a union of the mode, leaves a sketch no consistent completion.
 use Rattle.std.proofs.Common.{List, [], ◌∷◌}
 use Rattle.tso_program.specs.declared.listing.Listing.{Listing}
-use Rattle.tso_machine.specs.Machine.{Mode, Sequential, Fenced}
+use Rattle.tso_machine.specs.Machine.{Machine, SequentialMachine, StoreBufferMachine}
 use Rattle.candidate_executions.specs.declared.event.Event.{Event}
 use Rattle.candidate_executions.specs.declared.event.Kind.{Kind}
 use Rattle.candidate_executions.specs.declared.event.Kind.TheVariants as union
@@ -20,15 +20,15 @@ some_edge R [] h = absurd h
 some_edge R (e ∷ es) h = (e, first_edge R es e e h)
 
 -- a consistent candidate has no cycle of a union of its mode
-no_cycle : (p : Listing) (mode : Mode) (c : Candidate) (kind : Kind) → IsOfMode mode kind → IsConsistent p mode c → IsAcyclic (Edge p mode c kind)
-no_cycle p Sequential c union.Sequential of_mode consistent = consistent
-no_cycle p Sequential c union.Location of_mode consistent = absurd of_mode
-no_cycle p Sequential c union.Global of_mode consistent = absurd of_mode
-no_cycle p (Fenced gaps) c union.Sequential of_mode consistent = absurd of_mode
-no_cycle p (Fenced gaps) c union.Location of_mode consistent = consistent.0
-no_cycle p (Fenced gaps) c union.Global of_mode consistent = consistent.1
+no_cycle : (p : Listing) (mode : Machine) (c : Candidate) (kind : Kind) → IsOfMode mode kind → IsConsistent p mode c → IsAcyclic (Edge p mode c kind)
+no_cycle p SequentialMachine c union.Sequential of_mode consistent = consistent
+no_cycle p SequentialMachine c union.Location of_mode consistent = absurd of_mode
+no_cycle p SequentialMachine c union.Global of_mode consistent = absurd of_mode
+no_cycle p (StoreBufferMachine gaps) c union.Sequential of_mode consistent = absurd of_mode
+no_cycle p (StoreBufferMachine gaps) c union.Location of_mode consistent = consistent.0
+no_cycle p (StoreBufferMachine gaps) c union.Global of_mode consistent = consistent.1
 
-pub known_cycle_refutes : (p : Listing) (mode : Mode) (k : Sketch) (kind : Kind) (es : List Event) → IsSketch p mode k → IsKnownCycle p mode k kind es →
+pub known_cycle_refutes : (p : Listing) (mode : Machine) (k : Sketch) (kind : Kind) (es : List Event) → IsSketch p mode k → IsKnownCycle p mode k kind es →
     (c : Candidate) → IsConsistentCompletion p mode k c → ⊥
 known_cycle_refutes p mode k kind es fits h c is =
     let known = cycle_wider (KnownEdgeOfMode p mode k kind) (KnownEdge p mode k kind) (λ d e r. r.1) es h in

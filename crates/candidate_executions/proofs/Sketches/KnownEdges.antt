@@ -3,7 +3,7 @@ use Rattle.std.proofs.Common.{◌≡◌, ◌≢◌, ℕ, ◌<◌, List, ◌++◌
 use Rattle.std.proofs.lemmas.Option.{same_Some}
 use Rattle.tso_program.specs.declared.listing.Listing.{Listing}
 use Rattle.tso_program.specs.Listings.{action, start_of, code_of}
-use Rattle.tso_machine.specs.Machine.{Mode}
+use Rattle.tso_machine.specs.Machine.{Machine}
 use Rattle.candidate_executions.specs.declared.access.Access.{Access}
 use Rattle.candidate_executions.specs.declared.event.Event.{Event}
 use Rattle.candidate_executions.specs.declared.event.Event.TheVariants.{Initial, Access as At}
@@ -19,7 +19,7 @@ use Rattle.candidate_executions.proofs.Candidates.WrittenValues.{stored_as, some
 use Rattle.candidate_executions.proofs.Sketches.MoreValues.{trace_more}
 use Rattle.candidate_executions.proofs.Sketches.GivenValues.{none_given}
 
-module _ (p : Listing) (mode : Mode) (k : Sketch) (fits : IsSketch p mode k) (c : Candidate) (is : IsCandidate p mode c) (completes : Completes k c) where
+module _ (p : Listing) (mode : Machine) (k : Sketch) (fits : IsSketch p mode k) (c : Candidate) (is : IsCandidate p mode c) (completes : Completes k c) where
   grows : (e : Event) (x : Access) → access_by p mode (given_to k) e ≡ Some x → access p mode c e ≡ Some x
   grows (Initial l) x a = a
   grows (At t i) x a = let (rest, q) = completes.given t in
@@ -93,7 +93,7 @@ completes_empty p c = record {
 }
 
 -- a cycle of known edges is one of each completion, which is then not consistent
-module _ (p : Listing) (mode : Mode) (k : Sketch) (fits : IsSketch p mode k) (c : Candidate) (is : IsCandidate p mode c) (completes : Completes k c) where
+module _ (p : Listing) (mode : Machine) (k : Sketch) (fits : IsSketch p mode k) (c : Candidate) (is : IsCandidate p mode c) (completes : Completes k c) where
   pub known_cycle : (kind : Kind) (es : List Event) → IsCycle (KnownEdge p mode k kind) es → IsCycle (Edge p mode c kind) es
   known_cycle kind = cycle_wider (KnownEdge p mode k kind) (Edge p mode c kind) (known_edge p mode k fits c is completes kind)
 

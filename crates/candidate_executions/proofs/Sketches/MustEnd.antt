@@ -1,32 +1,40 @@
 -- Where a sketch must end as an outcome, the same is shown of each completion's.
-use Rattle.std.proofs.Common.{◌≡◌, ℕ, ◌<◌, ◌≤◌, List, slice_index, length, map, refl, sym, ap, ◌∙◌, subst, inl, inr, arith}
+use Rattle.std.proofs.Common.{◌≡◌, ℕ, ◌<◌, ◌≤◌, Bool, List, [], Option, Some, None, slice_index, length, map, refl, sym, ap, ◌∙◌, subst, inl, inr, arith}
 use Rattle.std.specs.List.{range_with_len}
 use Rattle.std.proofs.lemmas.List.FromFn.{get_or-map-range_with_len, length-map-range_with_len}
-use Rattle.std.proofs.lemmas.Option.{same_Some}
+use Rattle.std.proofs.lemmas.Option.{same_Some, slice_get-get_or, slice_get_past}
+use Rattle.std.specs.Prelude.{option_and_then, slice_get}
+use Rattle.std.proofs.lemmas.Bool.{cases_lt}
 use Rattle.tso_program.specs.declared.listing.Listing.{Listing}
 use Rattle.tso_program.specs.declared.outcome.Outcome.{Outcome}
-use Rattle.tso_program.specs.Shown.{Question, shown_value, show_registers, show_memory}
-use Rattle.tso_program.proofs.Kept.{same_memory}
+use Rattle.tso_program.specs.declared.shown.Shown.{Shown}
+use Rattle.tso_program.specs.declared.shown.Shown.TheVariants.{All, Only, Truth}
+use Rattle.tso_program.specs.declared.atom.Atom.{Atom}
+use Rattle.tso_program.specs.declared.atom.Atom.TheVariants as atom
+use Rattle.tso_program.specs.Tree.{Tree}
+use Rattle.tso_program.specs.Truth.{truth, is_true_at, is_value}
+use Rattle.tso_program.proofs.KnownTruths.{known_is_true}
+use Rattle.tso_program.specs.Shown.{Question, shown_value, show_registers, show_memory, shown_values, show, told}
+use Rattle.tso_program.proofs.Kept.{memory_by}
+use Rattle.tso_program.specs.Instructions.{number}
+use Rattle.tso_program.specs.Listings.{action, start_of, code_of}
 use Rattle.tso_program.specs.Limits.{JumpForward}
-use Rattle.tso_machine.specs.Machine.{Mode}
+use Rattle.tso_machine.specs.Machine.{Machine}
 use Rattle.candidate_executions.specs.declared.access.Access.{Access}
 use Rattle.candidate_executions.specs.declared.event.Event.{Event}
 use Rattle.candidate_executions.specs.declared.event.Event.TheVariants.{Initial}
-use Rattle.candidate_executions.specs.Traces.{trace_by}
+use Rattle.candidate_executions.specs.Traces.{Trace, trace, trace_by, fenced_gaps}
 use Rattle.candidate_executions.specs.Candidates.{Candidate, access, access_by, Writes, IsCandidate, EndsWith, HasOutcome, HasShownOutcome}
-use Rattle.candidate_executions.specs.Sketches.{Sketch, given_to, Completes, IsSketch, MayBeLast, MustEndAs}
+use Rattle.candidate_executions.specs.Sketches.{Sketch, given_to, Completes, IsSketch, MayBeLast, stopped, MayEndWith, EndsInValues, KnownAtom, EndsInTruth, EndsAs, IsWhole, MustEndAs, next_read}
 use Rattle.candidate_executions.specs.Laws.{EachCompletionEndsSo}
-use Rattle.candidate_executions.proofs.Sketches.Choices.{all_given, keeps_writes}
+use Rattle.candidate_executions.proofs.Sketches.Choices.{all_given, given_whole, keeps_writes}
 use Rattle.candidate_executions.proofs.Candidates.LastWrites.{ends_with}
 use Rattle.candidate_executions.proofs.Candidates.EdgesAreDecidable.{same_event}
 
-module _ (q : Question) (mode : Mode) (k : Sketch) (c : Candidate) (o : Outcome) (forward : JumpForward q.program.threads) (fits : IsSketch q.program mode k)
-    (is : IsCandidate q.program mode c) (completes : Completes k c) (must : MustEndAs q mode k o) where
+module _ (q : Question) (mode : Machine) (k : Sketch) (c : Candidate) (o : Outcome) (forward : JumpForward q.program.threads) (fits : IsSketch q.program mode k)
+    (is : IsCandidate q.program mode c) (completes : Completes k c) where
   abbrev p : Listing
   p = q.program
-
-  same : c.given ≡ given_to k
-  same = all_given p mode k c fits is completes forward must.whole
 
   -- the last write of a location may be its last by what is chosen
   may_be_last : (l v : ℕ) (e : Event) → Writes (access p mode c) e l v → ((d : Event) (w : ℕ) → Writes (access p mode c) d l w → c.rank d ≤ c.rank e) → MayBeLast p mode k l e
@@ -71,22 +79,79 @@ module _ (q : Question) (mode : Mode) (k : Sketch) (c : Candidate) (o : Outcome)
     memory = λ l h. subst (EndsWith p mode c l) (sym (value_there l h)) (ends_with p mode c l).1;
   }
 
-  -- its values are shown as those of the outcome that the sketch must end as
-  value_shown : (l : ℕ) → l < length p.memory → shown_value q.shown l (last_value l) ≡ shown_value q.shown l (slice_index o.memory l)
-  value_shown l h =
-      let (e, w, last) = (ends_with p mode c l).1 in
-      must.memory l (last_value l) e h (subst (λ g. Writes (access_by p mode g) e l (last_value l)) same w) (may_be_last l (last_value l) e w last)
+  module _ (all : IsWhole p mode k) where
+    same : c.given ≡ given_to k
+    same = all_given p mode k c fits is completes forward all
 
-  memory_shown : show_memory q.shown whole.memory ≡ show_memory q.shown o.memory
-  memory_shown = same_memory q.shown whole.memory o.memory (is_outcome.long ∙ sym must.long)
-      (λ l h. let below : l < length p.memory = subst (λ n. l < n) is_outcome.long h in ap (shown_value q.shown l) (value_there l below) ∙ value_shown l below)
+    -- a location's last value is that of a write that may be the last by what is chosen
+    may_end : (l v : ℕ) → EndsWith p mode c l v → MayEndWith p mode k l v
+    may_end l v (e, w, last) = (e, subst (λ g. Writes (access_by p mode g) e l v) same w, may_be_last l v e w last)
 
-  registers_shown : show_registers q.shown whole.registers ≡ show_registers q.shown o.registers
-  registers_shown =
-      ap (λ (g : ℕ → List ℕ). show_registers q.shown (map (λ t. (trace_by p mode g t).last.registers) (range_with_len 0 (length p.threads)))) same ∙ sym must.registers
+    same_registers : whole.registers ≡ stopped p mode k
+    same_registers = ap (λ (g : ℕ → List ℕ). map (λ t. (trace_by p mode g t).last.registers) (range_with_len 0 (length p.threads))) same
 
-  pub ends_so : HasShownOutcome q mode c o
-  ends_so = (whole, is_outcome, λ i. record { registers = registers_shown i; memory = memory_shown i })
+    values_shown : (shown : Shown) → EndsInValues p mode k shown o → o ≡ shown_values shown whole
+    values_shown shown ends = λ i. record { registers = registers i; memory = memory i }
+      where
+        registers : o.registers ≡ show_registers shown whole.registers
+        registers = ends.registers ∙ sym (ap (show_registers shown) same_registers)
+
+        memory : o.memory ≡ show_memory shown whole.memory
+        memory = memory_by shown whole.memory o.memory (ends.long ∙ sym is_outcome.long)
+            (λ l h. let below : l < length p.memory = subst (λ n. l < n) is_outcome.long h in
+            let (e, w, last) = may_end l (last_value l) (ends_with p mode c l).1 in
+            sym (ends.memory l (last_value l) e below w last) ∙ ap (shown_value shown l) (sym (value_there l below)))
+
+  -- the registers where threads with these values stop
+  abbrev ends_by : (ℕ → List ℕ) → List (List ℕ)
+  ends_by given = map (λ t. (trace_by p mode given t).last.registers) (range_with_len 0 (length p.threads))
+
+  ends_long : (given : ℕ → List ℕ) → length (ends_by given) ≡ length p.threads
+  ends_long given = length-map-range_with_len (λ t. (trace_by p mode given t).last.registers) 0 (length p.threads)
+
+  ends_at : (given : ℕ → List ℕ) (t : ℕ) → t < length p.threads → slice_get (ends_by given) t ≡ Some (trace_by p mode given t).last.registers
+  ends_at given t h =
+      let long : length (ends_by given) ≡ length p.threads = ends_long given in
+      slice_get-get_or (ends_by given) t [] (omega arith) ∙ ap Some (get_or-map-range_with_len (λ t. (trace_by p mode given t).last.registers) 0 (length p.threads) t t [] h (omega arith))
+
+  ends_past : (given : ℕ → List ℕ) (t : ℕ) → length p.threads ≤ t → slice_get (ends_by given) t ≡ None
+  ends_past given t h =
+      let long : length (ends_by given) ≡ length p.threads = ends_long given in
+      slice_get_past (ends_by given) t (omega arith)
+
+  -- a thread each of whose reads has its value stops where it stops in each completion
+  stops_there : (t : ℕ) → next_read p mode k t ≡ None → slice_get (ends_by c.given) t ≡ slice_get (ends_by (given_to k)) t
+  stops_there t none = elim (cases_lt t (length p.threads)) [
+    | inl h ↦
+        let same : trace_by p mode c.given t ≡ trace_by p mode (given_to k) t =
+        ap (trace (action p.threads t) (fenced_gaps mode t) (length (code_of p.threads t)) 0 (start_of p.threads t)) (given_whole p mode k c fits is completes forward t none) in
+        ends_at c.given t h ∙ ap (λ (x : Trace). Some x.last.registers) same ∙ sym (ends_at (given_to k) t h)
+    | inr h ↦ ends_past c.given t h ∙ sym (ends_past (given_to k) t h)
+  ]
+
+  atom_known : (b : Bool) (a : Atom) → KnownAtom p mode k b a → is_true_at whole a ≡ b
+  atom_known b (atom.Register t r v) (none, known) =
+      ap (λ (x : Option (List ℕ)). is_value (option_and_then (λ registers. slice_get registers (number r)) x) v) (stops_there t none) ∙ known
+  atom_known b (atom.Location l v) (known, past) = elim (cases_lt l (length p.memory)) [
+    | inl h ↦
+        let long : length whole.memory ≡ length p.memory = is_outcome.long in
+        let there : slice_get whole.memory l ≡ Some (last_value l) = slice_get-get_or whole.memory l 0 (omega arith) ∙ ap Some (value_there l h) in
+        ap (λ (x : Option ℕ). is_value x v) there ∙ (known h).1 (last_value l) (may_end (known h).0 l (last_value l) (ends_with p mode c l).1)
+    | inr h ↦
+        let long : length whole.memory ≡ length p.memory = is_outcome.long in
+        ap (λ (x : Option ℕ). is_value x v) (slice_get_past whole.memory l (omega arith)) ∙ past h
+  ]
+
+  truth_shown : (f : Tree Atom) → EndsInTruth p mode k f o → o ≡ told (truth whole f)
+  truth_shown f ends = ends.is_told ∙ sym (ap told (known_is_true (KnownAtom p mode k) (is_true_at whole) atom_known ends.truth f ends.known))
+
+  shown_so : (shown : Shown) → EndsAs p mode k shown o → o ≡ show shown whole
+  shown_so All (all, ends) = values_shown all All ends
+  shown_so (Only names) (all, ends) = values_shown all (Only names) ends
+  shown_so (Truth f) ends = truth_shown f ends
+
+  pub ends_so : MustEndAs q mode k o → HasShownOutcome q mode c o
+  ends_so must = (whole, is_outcome, shown_so q.shown must)
 
 pub each_ends_so : EachCompletionEndsSo
 each_ends_so q mode k c o forward fits is completes must = ends_so q mode k c o forward fits is completes must

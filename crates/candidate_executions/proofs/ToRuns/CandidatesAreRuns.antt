@@ -3,7 +3,7 @@ use Rattle.std.proofs.Common.{List}
 use Rattle.tso_program.specs.declared.listing.Listing.{Listing}
 use Rattle.tso_program.specs.declared.outcome.Outcome.{Outcome}
 use Rattle.tso_machine.specs.declared.label.Label.{Label}
-use Rattle.tso_machine.specs.Machine.{Mode, Sequential, Fenced, IsRun}
+use Rattle.tso_machine.specs.Machine.{Machine, SequentialMachine, StoreBufferMachine, IsRun}
 use Rattle.candidate_executions.specs.declared.event.Event.{Event}
 use Rattle.candidate_executions.specs.declared.event.Kind.TheVariants as union
 use Rattle.candidate_executions.specs.Candidates.{Candidate, access, IsCandidate, HasOutcome}
@@ -16,15 +16,15 @@ use Rattle.candidate_executions.proofs.ToRuns.CandidatesHaveRuns.{IsRunAlong, ru
 use Rattle.candidate_executions.proofs.ToRuns.SequentialOrders.{runs_directly_along}
 use Rattle.candidate_executions.proofs.ToRuns.MarksOfOrders.{candidate_of_order}
 
-pub linear_is_run : (p : Listing) (mode : Mode) (c : Candidate) (o : Outcome) (order : List Event) → IsCandidate p mode c → IsConsistent p mode c →
+pub linear_is_run : (p : Listing) (mode : Machine) (c : Candidate) (o : Outcome) (order : List Event) → IsCandidate p mode c → IsConsistent p mode c →
     IsLinear (access p mode c) (Edge p mode c (followed_union mode)) order → HasOutcome p mode c o → IsRunAlong p mode c order (labels_along p mode c.given (λ t. 0) order) o
-linear_is_run p Sequential c o order is ok linear out = runs_directly_along p c o order is ok linear out
-linear_is_run p (Fenced gaps) c o order is ok linear out = runs_along p gaps c o order is ok.0 linear out
+linear_is_run p SequentialMachine c o order is ok linear out = runs_directly_along p c o order is ok linear out
+linear_is_run p (StoreBufferMachine gaps) c o order is ok linear out = runs_along p gaps c o order is ok.0 linear out
 
-abbrev along : (p : Listing) (mode : Mode) (c : Candidate) (order : List Event) → List Label
+abbrev along : (p : Listing) (mode : Machine) (c : Candidate) (order : List Event) → List Label
 along p mode c order = labels_along p mode c.given (λ t. 0) order
 
-run_of : (p : Listing) (mode : Mode) (c : Candidate) (o : Outcome) (order : List Event) → IsCandidate p mode c → IsConsistent p mode c →
+run_of : (p : Listing) (mode : Machine) (c : Candidate) (o : Outcome) (order : List Event) → IsCandidate p mode c → IsConsistent p mode c →
     IsLinear (access p mode c) (Edge p mode c (followed_union mode)) order → HasOutcome p mode c o → IsRun p mode (along p mode c order) o × IsCandidateOf p mode (along p mode c order) c
 run_of p mode c o order is ok linear out =
     let (runs, shows) = linear_is_run p mode c o order is ok linear out in
@@ -34,5 +34,5 @@ pub every_order : EveryOrderIsARun
 every_order p mode c order o is ok ordered out = run_of p mode c o order is ok (order_is_linear p mode c order ordered) out
 
 pub every_candidate : EveryCandidateIsARun
-every_candidate p Sequential c o is ok out = let (order, l) = linear p Sequential c union.Sequential ok in let (runs, of) = run_of p Sequential c o order is ok l out in (along p Sequential c order, runs, of)
-every_candidate p (Fenced gaps) c o is ok out = let (order, l) = linear p (Fenced gaps) c union.Global ok.1 in let (runs, of) = run_of p (Fenced gaps) c o order is ok l out in (along p (Fenced gaps) c order, runs, of)
+every_candidate p SequentialMachine c o is ok out = let (order, l) = linear p SequentialMachine c union.Sequential ok in let (runs, of) = run_of p SequentialMachine c o order is ok l out in (along p SequentialMachine c order, runs, of)
+every_candidate p (StoreBufferMachine gaps) c o is ok out = let (order, l) = linear p (StoreBufferMachine gaps) c union.Global ok.1 in let (runs, of) = run_of p (StoreBufferMachine gaps) c o order is ok l out in (along p (StoreBufferMachine gaps) c order, runs, of)

@@ -10,7 +10,7 @@ use Rattle.tso_program.specs.declared.action.Local.{Local}
 use Rattle.tso_program.specs.Listings.{code_of}
 use Rattle.tso_program.specs.Fences.{Gaps}
 use Rattle.tso_program.specs.declared.outcome.Outcome.{Outcome}
-use Rattle.tso_machine.specs.Machine.{Mode, Fenced, State, start, IsRun, outcome_at}
+use Rattle.tso_machine.specs.Machine.{Machine, StoreBufferMachine, State, start, IsRun, outcome_at}
 use Rattle.tso_machine.specs.declared.label.Label.{Label}
 use Rattle.candidate_executions.specs.declared.access.Access.{Access}
 use Rattle.candidate_executions.specs.declared.event.Event.{Event}
@@ -30,7 +30,7 @@ use Rattle.candidate_executions.proofs.ToRuns.EventsAreReached.{Goal, Sim}
 use Rattle.candidate_executions.proofs.ToRuns.RunsAreFinished.{sim_all}
 use Rattle.candidate_executions.proofs.Candidates.NothingIntoInitial.{no_edge}
 
-module _ (p : Listing) (gaps : Gaps) (c : Candidate) (is : IsCandidate p (Fenced gaps) c) (loc : IsAcyclic (Edge p (Fenced gaps) c union.Location)) where
+module _ (p : Listing) (gaps : Gaps) (c : Candidate) (is : IsCandidate p (StoreBufferMachine gaps) c) (loc : IsAcyclic (Edge p (StoreBufferMachine gaps) c union.Location)) where
   -- at the start everything is to come
   pub begin : (order : List Event) → IsLinear (at p gaps c is loc) (G p gaps c is loc) order → Sim p gaps c is loc (start p) first_origins (λ t. 0) order
   begin order linear = record {
@@ -72,7 +72,7 @@ module _ (p : Listing) (gaps : Gaps) (c : Candidate) (is : IsCandidate p (Fenced
   }
     where
       closed : (d e : Event) → (In d order → ⊥) → In e order → G p gaps c is loc e d → ⊥
-      closed (Initial l) e n h g = no_edge p (Fenced gaps) c is union.Global e l g
+      closed (Initial l) e n h g = no_edge p (StoreBufferMachine gaps) c is union.Global e l g
       closed (At t i) e n h g = n (linear.holds t i g.1 g.3)
 
       written : (d : Event) (l w : ℕ) → W p gaps c is loc d l w → (In d order → ⊥) → c.rank d ≤ c.rank (Initial l)
@@ -80,7 +80,7 @@ module _ (p : Listing) (gaps : Gaps) (c : Candidate) (is : IsCandidate p (Fenced
       written (At t i) l w a n = absurd (n (linear.holds t i a.0 a.1))
 
 -- the outcome of a candidate is that of a state which has its registers and its last writes
-pub same_outcome : (p : Listing) (mode : Mode) (c : Candidate) (o : Outcome) (last : State) → IsCandidate p mode c → HasOutcome p mode c o →
+pub same_outcome : (p : Listing) (mode : Machine) (c : Candidate) (o : Outcome) (last : State) → IsCandidate p mode c → HasOutcome p mode c o →
     ((t : ℕ) → last.locals t ≡ (trace_of p mode c t).last) → ((l : ℕ) → EndsWith p mode c l (last.memory l)) → o ≡ outcome_at p last
 same_outcome p mode c o last is out locals ends = λ i. record { registers = registers i; memory = memory i }
   where
@@ -94,18 +94,18 @@ same_outcome p mode c o last is out locals ends = λ i. record { registers = reg
         ∙ sym (get_or-map-range_with_len last.memory 0 (length p.memory) k k 0 n (omega arith)))
 
 -- a run with the outcome, which shows what the events show
-abbrev pub IsRunAlong : Listing → Mode → Candidate → List Event → List Label → Outcome → Type 0
+abbrev pub IsRunAlong : Listing → Machine → Candidate → List Event → List Label → Outcome → Type 0
 IsRunAlong p mode c order labels o = IsRun p mode labels o × (marks_of p mode labels ≡ shown_along (access p mode c) c order)
 
 -- what a run comes to is the outcome
-pub with_outcome : (p : Listing) (machine : Mode) (gaps : Gaps) (c : Candidate) (o : Outcome) (is : IsCandidate p (Fenced gaps) c) (loc : IsAcyclic (Edge p (Fenced gaps) c union.Location)) →
-    HasOutcome p (Fenced gaps) c o → (order : List Event) (labels : List Label) → Goal p gaps c is loc machine (start p) first_origins order labels →
-    IsRun p machine labels o × (marks_of p machine labels ≡ shown_along (access p (Fenced gaps) c) c order)
+pub with_outcome : (p : Listing) (machine : Machine) (gaps : Gaps) (c : Candidate) (o : Outcome) (is : IsCandidate p (StoreBufferMachine gaps) c) (loc : IsAcyclic (Edge p (StoreBufferMachine gaps) c union.Location)) →
+    HasOutcome p (StoreBufferMachine gaps) c o → (order : List Event) (labels : List Label) → Goal p gaps c is loc machine (start p) first_origins order labels →
+    IsRun p machine labels o × (marks_of p machine labels ≡ shown_along (access p (StoreBufferMachine gaps) c) c order)
 with_outcome p machine gaps c o is loc out order labels (last, r, f, m) =
-    ((last, r, (λ t. (rw (f.0 t).0 (is.whole t).0, (f.0 t).1)), same_outcome p (Fenced gaps) c o last is out (λ t. (f.0 t).0) f.1), m)
+    ((last, r, (λ t. (rw (f.0 t).0 (is.whole t).0, (f.0 t).1)), same_outcome p (StoreBufferMachine gaps) c o last is out (λ t. (f.0 t).0) f.1), m)
 
 -- along each order that the union Global allows
-pub runs_along : (p : Listing) (gaps : Gaps) (c : Candidate) (o : Outcome) (order : List Event) → IsCandidate p (Fenced gaps) c → IsAcyclic (Edge p (Fenced gaps) c union.Location) →
-    IsLinear (access p (Fenced gaps) c) (Edge p (Fenced gaps) c union.Global) order → HasOutcome p (Fenced gaps) c o → IsRunAlong p (Fenced gaps) c order (labels_along p (Fenced gaps) c.given (λ t. 0) order) o
+pub runs_along : (p : Listing) (gaps : Gaps) (c : Candidate) (o : Outcome) (order : List Event) → IsCandidate p (StoreBufferMachine gaps) c → IsAcyclic (Edge p (StoreBufferMachine gaps) c union.Location) →
+    IsLinear (access p (StoreBufferMachine gaps) c) (Edge p (StoreBufferMachine gaps) c union.Global) order → HasOutcome p (StoreBufferMachine gaps) c o → IsRunAlong p (StoreBufferMachine gaps) c order (labels_along p (StoreBufferMachine gaps) c.given (λ t. 0) order) o
 runs_along p gaps c o order is loc linear out =
-    with_outcome p (Fenced gaps) gaps c o is loc out order (labels_along p (Fenced gaps) c.given (λ t. 0) order) (sim_all p gaps c is loc order (start p) first_origins (λ t. 0) (begin p gaps c is loc order linear))
+    with_outcome p (StoreBufferMachine gaps) gaps c o is loc out order (labels_along p (StoreBufferMachine gaps) c.given (λ t. 0) order) (sim_all p gaps c is loc order (start p) first_origins (λ t. 0) (begin p gaps c is loc order linear))

@@ -9,7 +9,7 @@ use Rattle.tso_program.specs.declared.action.Action.{Action}
 use Rattle.tso_program.specs.declared.action.Action.TheVariants.{Stop, Go, Wait, Read, Write, Swap}
 use Rattle.tso_program.specs.Listings.{action}
 use Rattle.tso_program.specs.Fences.{Gaps}
-use Rattle.tso_machine.specs.Machine.{Mode, put, Fenced, State, newest, found, when_empty, flushed, step, run}
+use Rattle.tso_machine.specs.Machine.{Machine, put, StoreBufferMachine, State, newest, found, when_empty, flushed, step, run}
 use Rattle.tso_machine.specs.declared.label.Label.{Label}
 use Rattle.tso_machine.specs.declared.label.Label.TheVariants.{Exec, Flush}
 use Rattle.tso_machine.specs.declared.label.Pending.{Pending}
@@ -33,7 +33,7 @@ use Rattle.candidate_executions.proofs.FromRuns.MarksAlong.{marks_step, shown_al
 use Rattle.candidate_executions.proofs.ToRuns.ReadsTheRightValue.{not_kept, clear, no_waits, right_write, right_value}
 use Rattle.candidate_executions.proofs.ToRuns.StandingOn.{mode, final, left, Stand, Share, MadeNext, quiet_stands, write_stands, other_stands, read_stands, shared_next, has_still, has_new, flush_stands}
 
-module _ (p : Listing) (gaps : Gaps) (c : Candidate) (is : IsCandidate p (Fenced gaps) c) (loc : IsAcyclic (Edge p (Fenced gaps) c union.Location)) where
+module _ (p : Listing) (gaps : Gaps) (c : Candidate) (is : IsCandidate p (StoreBufferMachine gaps) c) (loc : IsAcyclic (Edge p (StoreBufferMachine gaps) c union.Location)) where
   -- what a run has to come to
   abbrev pub Final : State → Type 0
   Final last = ((t : ℕ) → (last.locals t ≡ final p gaps c is loc t) × (last.buffers t ≡ [])) × ((l : ℕ) → EndsWith p (mode p gaps c is loc) c l (last.memory l))
@@ -41,10 +41,10 @@ module _ (p : Listing) (gaps : Gaps) (c : Candidate) (is : IsCandidate p (Fenced
   abbrev pub shown : List Event → List Mark
   shown rest = shown_along (at p gaps c is loc) c rest
 
-  abbrev pub Goal : Mode → State → Origins → List Event → List Label → Type 0
+  abbrev pub Goal : Machine → State → Origins → List Event → List Label → Type 0
   Goal machine s o rest labels = (last : State) × (run p machine s labels ≡ Some last) × Final last × (marks p machine s o labels ≡ shown rest)
 
-  pub first_step : (machine : Mode) (l : Label) (labels : List Label) (s s' : State) (o o' : Origins) (rest rest' : List Event) (ms : List Mark) → step p machine s l ≡ Some s' →
+  pub first_step : (machine : Machine) (l : Label) (labels : List Label) (s s' : State) (o o' : Origins) (rest rest' : List Event) (ms : List Mark) → step p machine s l ≡ Some s' →
       origins_after p machine s o l ≡ o' → marks_at p machine s o l ≡ ms → ms ++ shown rest' ≡ shown rest → Goal machine s' o' rest' labels → Goal machine s o rest (l ∷ labels)
   first_step machine l labels s s' o o' rest rest' ms e f h k g = (
     g.0,

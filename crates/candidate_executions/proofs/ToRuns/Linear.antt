@@ -5,7 +5,7 @@ use Rattle.std.proofs.lemmas.Bool.{cases_lt}
 use Rattle.std.proofs.lemmas.Option.{slice_get_within}
 use Rattle.tso_program.specs.declared.listing.Listing.{Listing}
 use Rattle.tso_program.specs.Listings.{action, start_of}
-use Rattle.tso_machine.specs.Machine.{Mode}
+use Rattle.tso_machine.specs.Machine.{Machine}
 use Rattle.candidate_executions.specs.declared.access.Access.{Access}
 use Rattle.candidate_executions.specs.declared.event.Event.{Event}
 use Rattle.candidate_executions.specs.declared.event.Event.TheVariants.{Initial, Access as At}
@@ -53,7 +53,7 @@ pub pairs_ordered : (R : Event → Event → Type 0) (es : List Event) → AllPa
 pairs_ordered R [] h = tt
 pairs_ordered R (x ∷ es) h = ((λ e i. first_pairs (λ d e. R e d → ⊥) x es h e i), pairs_ordered R es (later_pairs (λ d e. R e d → ⊥) x es h))
 
-module _ (p : Listing) (mode : Mode) (c : Candidate) where
+module _ (p : Listing) (mode : Machine) (c : Candidate) where
   pub order_is_linear : (order : List Event) → IsOrder p mode c order → IsLinear (access p mode c) (Edge p mode c (followed_union mode)) order
   order_is_linear order is = record {
     holds = λ t i y a. contains_in order (At t i) ((is.accesses (At t i)).1 (slice_get_within (trace_of p mode c t).accesses i y a));

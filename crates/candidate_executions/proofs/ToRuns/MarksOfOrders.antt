@@ -6,7 +6,7 @@ use Rattle.std.proofs.lemmas.Option.{same_Some}
 use Rattle.std.proofs.lemmas.List.Elements.{Contains-append_left, Contains-append_right, Contains-append_cases}
 use Rattle.tso_program.specs.declared.listing.Listing.{Listing}
 use Rattle.tso_machine.specs.declared.label.Label.{Label}
-use Rattle.tso_machine.specs.Machine.{Mode}
+use Rattle.tso_machine.specs.Machine.{Machine}
 use Rattle.candidate_executions.specs.declared.access.Access.{Access}
 use Rattle.candidate_executions.specs.declared.event.Event.{Event}
 use Rattle.candidate_executions.specs.declared.event.Event.TheVariants.{Initial, Access as At}
@@ -84,7 +84,7 @@ module _ (at : Event → Option Access) (c : Candidate) where
   ]
 
 -- each union has the write order
-write_edge : (p : Listing) (mode : Mode) (c : Candidate) (kind : Kind) (d e : Event) (l v w : ℕ) → Writes (access p mode c) d l v → Writes (access p mode c) e l w → c.rank d < c.rank e → Edge p mode c kind d e
+write_edge : (p : Listing) (mode : Machine) (c : Candidate) (kind : Kind) (d e : Event) (l v w : ℕ) → Writes (access p mode c) d l v → Writes (access p mode c) e l w → c.rank d < c.rank e → Edge p mode c kind d e
 write_edge p mode c kind d e l v w a b less = (a.0, b.0, a.1, b.1, go kind)
   where
     written : WriteOrder c d a.0 e b.0
@@ -95,7 +95,7 @@ write_edge p mode c kind d e l v w a b less = (a.0, b.0, a.1, b.1, go kind)
     go union.Location = inr (inr (inl written))
     go union.Global = inr (inr (inl written))
 
-module _ (p : Listing) (mode : Mode) (c : Candidate) (is : IsCandidate p mode c) (kind : Kind) where
+module _ (p : Listing) (mode : Machine) (c : Candidate) (is : IsCandidate p mode c) (kind : Kind) where
   abbrev at : Event → Option Access
   at = access p mode c
 

@@ -5,7 +5,7 @@ use Rattle.std.proofs.lemmas.Option.{same_Some, slice_get-map}
 use Rattle.tso_program.specs.declared.listing.Listing.{Listing}
 use Rattle.tso_program.specs.declared.action.Local.{Local}
 use Rattle.tso_program.specs.Fences.{Gaps}
-use Rattle.tso_machine.specs.Machine.{Fenced, newest, found}
+use Rattle.tso_machine.specs.Machine.{StoreBufferMachine, newest, found}
 use Rattle.tso_machine.specs.declared.label.Pending.{Pending}
 use Rattle.candidate_executions.specs.declared.access.Access.{Access}
 use Rattle.candidate_executions.specs.declared.event.Event.{Event}
@@ -20,7 +20,7 @@ use Rattle.candidate_executions.proofs.Orders.AcyclicIsOrdered.{In}
 use Rattle.candidate_executions.proofs.Candidates.WrittenValues.{stored_as, store_of, in_or_not, get_mapped, some_written}
 use Rattle.candidate_executions.proofs.ToRuns.Standing.{at, G, Lo, W, kept_edge, place_edge, write_lo, write_g, from_lo, from_g, reads_lo, reads_g, same_value, two_lo, store, own, Stands, Has, Shared}
 
-module _ (p : Listing) (gaps : Gaps) (c : Candidate) (is : IsCandidate p (Fenced gaps) c) (loc : IsAcyclic (Edge p (Fenced gaps) c union.Location)) where
+module _ (p : Listing) (gaps : Gaps) (c : Candidate) (is : IsCandidate p (StoreBufferMachine gaps) c) (loc : IsAcyclic (Edge p (StoreBufferMachine gaps) c union.Location)) where
   module _ (t i : ℕ) (rest : List Event) (y : Access) (here : at p gaps c is loc (At t i) ≡ Some y) (local : Local) (buffer : List Pending) (waits : List (ℕ × Event)) (count : ℕ) (memory : ℕ → ℕ) (origins : ℕ → Event) (fuel executed : ℕ)
       (mine : Stands p gaps c is loc t local buffer waits count (At t i ∷ rest) fuel executed) (shared : Shared p gaps c is loc memory origins (At t i ∷ rest)) where
     -- a store that waits and is kept before the event would stand before it in the order

@@ -10,7 +10,7 @@ use Rattle.tso_program.specs.declared.action.Action.{Action}
 use Rattle.tso_program.specs.declared.action.Action.TheVariants.{Stop, Go, Wait, Read, Write, Swap}
 use Rattle.tso_program.specs.Listings.{action, start_of, code_of}
 use Rattle.tso_program.specs.Fences.{Gaps}
-use Rattle.tso_machine.specs.Machine.{Mode, put, Fenced, State, when_empty, step}
+use Rattle.tso_machine.specs.Machine.{Machine, put, StoreBufferMachine, State, when_empty, step}
 use Rattle.tso_machine.specs.declared.label.Label.{Label}
 use Rattle.tso_machine.specs.declared.label.Label.TheVariants.{Exec}
 use Rattle.candidate_executions.specs.declared.event.Event.{Event}
@@ -29,7 +29,7 @@ use Rattle.candidate_executions.proofs.ToRuns.StandingOn.{mode, final, left, Sta
 use Rattle.candidate_executions.proofs.ToRuns.EventsAreReached.{Goal, first_step, Sim, reach}
 use Rattle.candidate_executions.proofs.Candidates.AllEvents.{no_code}
 
-module _ (p : Listing) (gaps : Gaps) (c : Candidate) (is : IsCandidate p (Fenced gaps) c) (loc : IsAcyclic (Edge p (Fenced gaps) c union.Location)) where
+module _ (p : Listing) (gaps : Gaps) (c : Candidate) (is : IsCandidate p (StoreBufferMachine gaps) c) (loc : IsAcyclic (Edge p (StoreBufferMachine gaps) c union.Location)) where
   -- only instructions that touch no memory are left
   abbrev pub nothing : ℕ → Trace
   nothing t = record { accesses = []; last = final p gaps c is loc t; unused = [] }
@@ -50,11 +50,11 @@ module _ (p : Listing) (gaps : Gaps) (c : Candidate) (is : IsCandidate p (Fenced
   moved s next t i = record { empty = i.empty; ends = i.ends }
 
   -- an instruction that touches the thread alone is possible with an empty buffer, and shows nothing
-  abbrev pub IsQuiet : Mode → Type 0
+  abbrev pub IsQuiet : Machine → Type 0
   IsQuiet machine = (s : State) (o : Origins) (t : ℕ) (next : Local) → s.buffers t ≡ [] → (action p.threads t (s.locals t) ≡ Go next) ⊎ (action p.threads t (s.locals t) ≡ Wait next) →
       (step p machine s (Exec t) ≡ Some (record s { locals = put s.locals t next })) × (origins_after p machine s o (Exec t) ≡ o) × (marks_at p machine s o (Exec t) ≡ [])
 
-  module _ (machine : Mode) (quiet : IsQuiet machine) (o : Origins) (done : ℕ → ℕ) where
+  module _ (machine : Machine) (quiet : IsQuiet machine) (o : Origins) (done : ℕ → ℕ) where
     abbrev ends_from : ℕ → List Label
     ends_from m = to_ends (steps_by p c.given) done m
 
@@ -140,7 +140,7 @@ module _ (p : Listing) (gaps : Gaps) (c : Candidate) (is : IsCandidate p (Fenced
       dropped (suc d) (x ∷ xs) [] e h = absurd cc
       dropped (suc d) (x ∷ xs) (y ∷ ys) e h = dropped d xs ys (omega arith) h
 
-  pub finish : (machine : Mode) → IsQuiet machine → (s : State) (o : Origins) (done : ℕ → ℕ) → Sim p gaps c is loc s o done [] → Goal p gaps c is loc machine s o [] (to_ends (steps_by p c.given) done (length p.threads))
+  pub finish : (machine : Machine) → IsQuiet machine → (s : State) (o : Origins) (done : ℕ → ℕ) → Sim p gaps c is loc s o done [] → Goal p gaps c is loc machine s o [] (to_ends (steps_by p c.given) done (length p.threads))
   finish machine quiet s o done sim = finish_all machine quiet o done (length p.threads) s (record { empty = empty; ends = ends }) (λ t h. lefts t)
       (λ t h. let (k, n, g, e, i) = lefts t in still t k n (s.locals t) g h e)
     where

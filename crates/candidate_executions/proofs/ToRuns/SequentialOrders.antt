@@ -10,7 +10,7 @@ use Rattle.tso_program.specs.declared.action.Action.{Action}
 use Rattle.tso_program.specs.declared.action.Action.TheVariants.{Stop, Go, Wait, Read, Write, Swap}
 use Rattle.tso_program.specs.Listings.{action}
 use Rattle.tso_program.specs.declared.outcome.Outcome.{Outcome}
-use Rattle.tso_machine.specs.Machine.{put, Sequential, Fenced, no_gaps, State, newest, found, step, start}
+use Rattle.tso_machine.specs.Machine.{put, SequentialMachine, StoreBufferMachine, no_gaps, State, newest, found, step, start}
 use Rattle.tso_machine.specs.declared.label.Label.{Label}
 use Rattle.tso_machine.specs.declared.label.Label.TheVariants.{Exec}
 use Rattle.candidate_executions.specs.declared.access.Access.{Access}
@@ -38,18 +38,18 @@ use Rattle.candidate_executions.proofs.ToRuns.CandidatesHaveRuns.{begin, IsRunAl
 
 module _ (p : Listing) (c : Candidate) where
   abbrev S : Event → Event → Type 0
-  S = Edge p Sequential c union.Sequential
+  S = Edge p SequentialMachine c union.Sequential
 
-  of_location : (d e : Event) → Edge p (Fenced no_gaps) c union.Location d e → S d e
+  of_location : (d e : Event) → Edge p (StoreBufferMachine no_gaps) c union.Location d e → S d e
   of_location d e r = (r.0, r.1, r.2, r.3, elim r.4 [ inl a ↦ inl a.0 | inr a ↦ inr a ])
 
-  of_global : (d e : Event) → Edge p (Fenced no_gaps) c union.Global d e → S d e
+  of_global : (d e : Event) → Edge p (StoreBufferMachine no_gaps) c union.Global d e → S d e
   of_global d e r = (r.0, r.1, r.2, r.3, elim r.4 [ inl a ↦ inl a.0 | inr a ↦ elim a [ inl b ↦ inr (inl b.0) | inr b ↦ inr (inr b) ] ])
 
-  buffered_candidate : IsCandidate p Sequential c → IsCandidate p (Fenced no_gaps) c
+  buffered_candidate : IsCandidate p SequentialMachine c → IsCandidate p (StoreBufferMachine no_gaps) c
   buffered_candidate is = record { whole = is.whole; values = is.values; sources = is.sources; ranks = is.ranks; initial = is.initial }
 
-module _ (p : Listing) (c : Candidate) (is : IsCandidate p (Fenced no_gaps) c) (loc : IsAcyclic (Edge p (Fenced no_gaps) c union.Location)) where
+module _ (p : Listing) (c : Candidate) (is : IsCandidate p (StoreBufferMachine no_gaps) c) (loc : IsAcyclic (Edge p (StoreBufferMachine no_gaps) c union.Location)) where
   abbrev Mine : ℕ → State → Origins → List Event → ℕ → ℕ → Type 0
   Mine t s o rest k e = Stand p no_gaps c is loc t (s.locals t) (s.buffers t) (o.waiting t) (o.made t) rest k e
 
@@ -57,7 +57,7 @@ module _ (p : Listing) (c : Candidate) (is : IsCandidate p (Fenced no_gaps) c) (
   Sims s o done rest = Sim p no_gaps c is loc s o done rest
 
   abbrev Goals : State → Origins → List Event → List Label → Type 0
-  Goals s o rest labels = Goal p no_gaps c is loc Sequential s o rest labels
+  Goals s o rest labels = Goal p no_gaps c is loc SequentialMachine s o rest labels
 
   -- no store waits
   abbrev Empty : State → Type 0
@@ -88,12 +88,12 @@ module _ (p : Listing) (c : Candidate) (is : IsCandidate p (Fenced no_gaps) c) (
       to_come = later (action p.threads t) (suc k) e (s.locals t) mine.given (i - mine.done) n
           (ap (λ (z : Steps). slice_get z.accesses (i - mine.done)) mine.counts ∙ (get_drop mine.done i (steps_by p c.given t).accesses ge ∙ made))
 
-      exec_first : (s' : State) (o' : Origins) (rest' : List Event) (ms : List Mark) → step p Sequential s (Exec t) ≡ Some s' → origins_after p Sequential s o (Exec t) ≡ o' →
-          marks_at p Sequential s o (Exec t) ≡ ms → ms ++ shown p no_gaps c is loc rest' ≡ shown p no_gaps c is loc all → Goals s' o' rest' (execs t (n - suc e) ++ labels) → Goals s o all (execs t (n - e) ++ labels)
+      exec_first : (s' : State) (o' : Origins) (rest' : List Event) (ms : List Mark) → step p SequentialMachine s (Exec t) ≡ Some s' → origins_after p SequentialMachine s o (Exec t) ≡ o' →
+          marks_at p SequentialMachine s o (Exec t) ≡ ms → ms ++ shown p no_gaps c is loc rest' ≡ shown p no_gaps c is loc all → Goals s' o' rest' (execs t (n - suc e) ++ labels) → Goals s o all (execs t (n - e) ++ labels)
       exec_first s' o' rest' ms st f h m g = let lt = to_come in let q : suc (n - suc e) ≡ n - e = omega arith in
-          subst (λ x. Goals s o all (execs t x ++ labels)) q (first_step p no_gaps c is loc Sequential (Exec t) (execs t (n - suc e) ++ labels) s s' o o' all rest' ms st f h m g)
+          subst (λ x. Goals s o all (execs t x ++ labels)) q (first_step p no_gaps c is loc SequentialMachine (Exec t) (execs t (n - suc e) ++ labels) s s' o o' all rest' ms st f h m g)
 
-      goes_on : (next : Local) → step p Sequential s (Exec t) ≡ Some (record s { locals = put s.locals t next }) → origins_after p Sequential s o (Exec t) ≡ o → marks_at p Sequential s o (Exec t) ≡ [] →
+      goes_on : (next : Local) → step p SequentialMachine s (Exec t) ≡ Some (record s { locals = put s.locals t next }) → origins_after p SequentialMachine s o (Exec t) ≡ o → marks_at p SequentialMachine s o (Exec t) ≡ [] →
           (x : ℕ) (given : List ℕ) → mine.section ≤ x →
           trace (action p.threads t) (no_gaps t) k x next given ≡ left p no_gaps c is loc t mine.done →
           steps (action p.threads t) k (suc e) next given ≡ steps_from p no_gaps c is loc t mine.done → Goals s o all (execs t (n - e) ++ labels)
@@ -243,27 +243,27 @@ module _ (p : Listing) (c : Candidate) (is : IsCandidate p (Fenced no_gaps) c) (
       | inr ge ↦ on_action k e s o empty others mine shared ge low high (λ s o empty a x h z. reach_direct k (suc e) s o empty a x h (omega arith) z) (action p.threads t (s.locals t)) refl mine.given mine.plays mine.counts
     ]
 
-  quiet_direct : IsQuiet p no_gaps c is loc Sequential
+  quiet_direct : IsQuiet p no_gaps c is loc SequentialMachine
   quiet_direct s o t next empty (inl q) = (rw q refl, ap (direct_origins o t) q, ap (direct_marks s o t) q)
   quiet_direct s o t next empty (inr q) = (rw q refl, ap (direct_origins o t) q, ap (direct_marks s o t) q)
 
-  direct_all : (rest : List Event) (s : State) (o : Origins) (done : ℕ → ℕ) → Ordered (S p c) rest → Empty s → Sims s o done rest → Goals s o rest (labels_along p Sequential c.given done rest)
-  direct_all [] s o done ordered empty sim = finish p no_gaps c is loc Sequential quiet_direct s o done sim
+  direct_all : (rest : List Event) (s : State) (o : Origins) (done : ℕ → ℕ) → Ordered (S p c) rest → Empty s → Sims s o done rest → Goals s o rest (labels_along p SequentialMachine c.given done rest)
+  direct_all [] s o done ordered empty sim = finish p no_gaps c is loc SequentialMachine quiet_direct s o done sim
   direct_all (Initial l ∷ rest) s o done ordered empty sim = absurd (sim.shared.initial l (inl refl))
   direct_all (At t i ∷ rest) s o done ordered empty sim =
       let (y, here) = sim.shared.known t i (inl refl) in
       let (n, made, is_n) = step_of p no_gaps c is loc t i y here in
       let (k, mine) = sim.threads t in
       let low : done t ≤ done t + (n - done t) = omega arith in
-      let run = reach_direct t i rest y here ordered.0 done n made (labels_along p Sequential c.given (put done t (done t + (n - done t))) rest)
+      let run = reach_direct t i rest y here ordered.0 done n made (labels_along p SequentialMachine c.given (put done t (done t + (n - done t))) rest)
       (λ s o empty sim. direct_all rest s o (put done t (done t + (n - done t))) ordered.1 empty sim) k (done t) s o empty (λ u n. sim.threads u) mine sim.shared (omega arith) low in
-      subst (λ z. Goals s o (At t i ∷ rest) (execs t (z - done t) ++ labels_along p Sequential c.given (put done t (done t + (z - done t))) rest)) (sym is_n) run
+      subst (λ z. Goals s o (At t i ∷ rest) (execs t (z - done t) ++ labels_along p SequentialMachine c.given (put done t (done t + (z - done t))) rest)) (sym is_n) run
 
-pub runs_directly_along : (p : Listing) (c : Candidate) (o : Outcome) (order : List Event) → IsCandidate p Sequential c → IsAcyclic (S p c) →
-    IsLinear (access p Sequential c) (S p c) order → HasOutcome p Sequential c o → IsRunAlong p Sequential c order (labels_along p Sequential c.given (λ t. 0) order) o
+pub runs_directly_along : (p : Listing) (c : Candidate) (o : Outcome) (order : List Event) → IsCandidate p SequentialMachine c → IsAcyclic (S p c) →
+    IsLinear (access p SequentialMachine c) (S p c) order → HasOutcome p SequentialMachine c o → IsRunAlong p SequentialMachine c order (labels_along p SequentialMachine c.given (λ t. 0) order) o
 runs_directly_along p c o order is ok linear out =
     let is' = buffered_candidate p c is in
-    let loc = acyclic_narrower (Edge p (Fenced no_gaps) c union.Location) (S p c) (of_location p c) ok in
+    let loc = acyclic_narrower (Edge p (StoreBufferMachine no_gaps) c union.Location) (S p c) (of_location p c) ok in
     let linear' : IsLinear (at p no_gaps c is' loc) (G p no_gaps c is' loc) order = record {
       holds = linear.holds;
       known = linear.known;
@@ -271,5 +271,5 @@ runs_directly_along p c o order is ok linear out =
       distinct = linear.distinct;
       ordered = ordered_narrower (G p no_gaps c is' loc) (S p c) (of_global p c) order linear.ordered;
     } in
-    with_outcome p Sequential no_gaps c o is' loc (record { registers = out.registers; long = out.long; memory = out.memory }) order (labels_along p Sequential c.given (λ t. 0) order)
+    with_outcome p SequentialMachine no_gaps c o is' loc (record { registers = out.registers; long = out.long; memory = out.memory }) order (labels_along p SequentialMachine c.given (λ t. 0) order)
     (direct_all p c is' loc order (start p) first_origins (λ t. 0) linear.ordered (λ t. refl) (begin p no_gaps c is' loc order linear'))

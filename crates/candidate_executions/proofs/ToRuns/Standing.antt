@@ -5,7 +5,7 @@ use Rattle.tso_program.specs.declared.listing.Listing.{Listing}
 use Rattle.tso_program.specs.declared.action.Local.{Local}
 use Rattle.tso_program.specs.Listings.{action}
 use Rattle.tso_program.specs.Fences.{Gaps}
-use Rattle.tso_machine.specs.Machine.{Mode, Fenced}
+use Rattle.tso_machine.specs.Machine.{Machine, StoreBufferMachine}
 use Rattle.tso_machine.specs.declared.label.Pending.{Pending}
 use Rattle.candidate_executions.specs.declared.access.Access.{Access}
 use Rattle.candidate_executions.specs.declared.event.Event.{Event}
@@ -18,9 +18,9 @@ use Rattle.candidate_executions.specs.Consistency.{SameThread, KeepsOrder, Edge,
 use Rattle.candidate_executions.proofs.Orders.AcyclicIsOrdered.{In, Distinct, Ordered}
 use Rattle.candidate_executions.proofs.Candidates.WrittenValues.{store_of}
 
-module _ (p : Listing) (gaps : Gaps) (c : Candidate) (is : IsCandidate p (Fenced gaps) c) (loc : IsAcyclic (Edge p (Fenced gaps) c union.Location)) where
-  abbrev pub mode : Mode
-  mode = Fenced gaps
+module _ (p : Listing) (gaps : Gaps) (c : Candidate) (is : IsCandidate p (StoreBufferMachine gaps) c) (loc : IsAcyclic (Edge p (StoreBufferMachine gaps) c union.Location)) where
+  abbrev pub mode : Machine
+  mode = StoreBufferMachine gaps
 
   abbrev pub at : Event → Option Access
   at = access p mode c

@@ -7,7 +7,7 @@ use Rattle.tso_program.specs.declared.listing.Listing.{Listing}
 use Rattle.tso_program.specs.declared.action.Local.{Local}
 use Rattle.tso_program.specs.Listings.{action}
 use Rattle.tso_program.specs.Fences.{Gaps}
-use Rattle.tso_machine.specs.Machine.{Mode, Fenced}
+use Rattle.tso_machine.specs.Machine.{Machine, StoreBufferMachine}
 use Rattle.tso_machine.specs.declared.label.Pending.{Pending}
 use Rattle.candidate_executions.specs.declared.access.Access.{Access}
 use Rattle.candidate_executions.specs.declared.event.Event.{Event}
@@ -24,9 +24,9 @@ use Rattle.candidate_executions.proofs.Candidates.WrittenValues.{store_of}
 use Rattle.candidate_executions.proofs.ToRuns.Standing.{at, acc, G, W, store, own, write_g, steps_from, Stands, Has, Shared}
 use Rattle.candidate_executions.proofs.ToRuns.ReadsTheRightValue.{not_kept}
 
-module _ (p : Listing) (gaps : Gaps) (c : Candidate) (is : IsCandidate p (Fenced gaps) c) (loc : IsAcyclic (Edge p (Fenced gaps) c union.Location)) where
-  abbrev pub mode : Mode
-  mode = Fenced gaps
+module _ (p : Listing) (gaps : Gaps) (c : Candidate) (is : IsCandidate p (StoreBufferMachine gaps) c) (loc : IsAcyclic (Edge p (StoreBufferMachine gaps) c union.Location)) where
+  abbrev pub mode : Machine
+  mode = StoreBufferMachine gaps
 
   abbrev pub final : ℕ → Local
   final t = (trace_of p mode c t).last

@@ -12,7 +12,7 @@ use Rattle.tso_machine.specs.declared.label.Label.{Label}
 use Rattle.tso_machine.specs.declared.label.Model.{Model}
 use Rattle.tso_machine.specs.declared.replaying.ReplayFault.{ReplayFault}
 use Rattle.tso_machine.specs.declared.replaying.ReplayFault.TheVariants as replays
-use Rattle.tso_machine.specs.Machine.{Mode, Fenced, no_gaps}
+use Rattle.tso_machine.specs.Machine.{Machine, StoreBufferMachine, no_gaps}
 use Rattle.tso_machine.specs.Modes.{unfenced, ArePassed}
 use Rattle.tso_machine.specs.Outcomes.{IsShownRun}
 use Rattle.cert_check.specs.declared.fault.RunsFault.{RunsFault}
@@ -38,7 +38,7 @@ RunsFaultIs p model runs (why.NoRun number) = IsFirstWithout (IsRunOf p (unfence
 RunsFaultIs p model runs why.OutOfMemory = Unit {0}
 
 -- the labels of this number are no run of the machine; out of memory says nothing
-abbrev pub IsNoRunAt : Listing → Mode → List Label → ℕ → RunsFault → Type 0
+abbrev pub IsNoRunAt : Listing → Machine → List Label → ℕ → RunsFault → Type 0
 IsNoRunAt p machine labels number (why.NoRun n) = (n ≡ number) × (IsRunOf p machine labels → ⊥)
 IsNoRunAt p machine labels number why.OutOfMemory = Unit {0}
 
@@ -49,4 +49,4 @@ IsFaultFrom fault number why.OutOfMemory = fault ≡ replays.OutOfMemory
 
 -- each of the runs passes the gaps of its number, with no gap fenced
 abbrev pub HavePassed : Listing → List (List Label) → List SetOfGaps → Type 0
-HavePassed p runs passed = AllZip (ArePassed p (Fenced no_gaps)) runs passed
+HavePassed p runs passed = AllZip (ArePassed p (StoreBufferMachine no_gaps)) runs passed

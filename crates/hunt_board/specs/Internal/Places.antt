@@ -1,5 +1,5 @@
 -- Where a node stands in the record of a search: a walk from the root, at each split to the child of the first gap that the node's sets must have.
-use Rattle.std.specs.Prelude.{◌≡◌, ℕ, ◌+◌, Bool, true, false, List, Option, Some, None, slice_get, slice_set}
+use Rattle.std.specs.Prelude.{◌≡◌, ℕ, ◌+◌, List, Option, Some, None, slice_get}
 use Rattle.std.specs.Option.{option_map}
 use Rattle.std.specs.List.{position_from}
 use Rattle.std.specs.FinSet as set
@@ -9,8 +9,6 @@ use Rattle.gap_sets.specs.declared.region.Region.{Region}
 use Rattle.search_core.specs.declared.entry.Entry.{Entry}
 use Rattle.search_core.specs.declared.entry.Status.{Status}
 use Rattle.search_core.specs.declared.entry.Status.TheVariants.{Open, Held, Split, Cut, Confirmed}
-use Rattle.hunt_board.specs.declared.settling.Receipt.{Receipt}
-use Rattle.hunt_board.specs.Receipts.{IsReceiptOf}
 
 -- which of the gaps that the run passes and the sets may have is the first one that they must have
 abbrev pub number_of_child : SetOfGaps → SetOfGaps → SetOfGaps → Option ℕ
@@ -36,12 +34,6 @@ pub data Leads (entries : List Entry) (n : Region) : ℕ → ℕ → Type 0 wher
   ends : (place : ℕ) → child_of entries place n ≡ None → Leads entries n place place
   goes : (place child end : ℕ) → child_of entries place n ≡ Some child → Leads entries n child end → Leads entries n place end
 
--- the receipt says how the node was settled to which the walk leads; it is marked now and was not before
-pub record IsMarked (entries : List Entry) (r : Receipt) (before after : List Bool) : Type 0 where
-  pub place : ℕ
-  pub leads : Leads entries r.node 0 place
-  pub entry : Entry
-  pub there : slice_get entries place ≡ Some entry
-  pub is_receipt : IsReceiptOf entry r
-  pub unmarked : slice_get before place ≡ Some false
-  pub marked : after ≡ slice_set before place true
+-- the node stands at no other place
+abbrev pub StandsOnlyAt : List Entry → Region → ℕ → Type 0
+StandsOnlyAt entries n place = (p : ℕ) (e : Entry) → slice_get entries p ≡ Some e → e.node ≡ n → p ≡ place

@@ -6,10 +6,10 @@ use Rattle.tso_program.specs.declared.instruction.Reg.{Reg}
 use Rattle.tso_program.specs.declared.listing.Thread.{Thread}
 use Rattle.tso_program.specs.declared.listing.Listing.{Listing}
 use Rattle.tso_program.specs.Instructions.{number}
-use Rattle.conditions.specs.declared.atom.Atom.{Atom}
-use Rattle.conditions.specs.declared.atom.Atom.TheVariants as atom
+use Rattle.tso_program.specs.declared.atom.Atom.{Atom}
+use Rattle.tso_program.specs.declared.atom.Atom.TheVariants as atom
 use Rattle.litmus_syntax.specs.Views.{PlaceView, Location, Register, EntryView, CellView, BodyView}
-use Rattle.litmus_reader.specs.Names.{Names, all_registers, with_name, number_in}
+use Rattle.litmus_reader.specs.Names.{TextNames, all_registers, with_name, number_in}
 use Rattle.litmus_reader.specs.declared.label.Label.{Label}
 use Rattle.litmus_reader.specs.Labels.{thread_labels, label_in, position_in}
 use Rattle.litmus_reader.specs.Meaning.{atom_of, code_in}
@@ -47,11 +47,11 @@ abbrev pub with_put : {X : Type 0} → List (List X) → ℕ → ℕ → X → L
 with_put table t r x = slice_set table t (slice_set (slice_index_or table t []) r x)
 
 -- the names where nothing is named
-abbrev pub no_names : ℕ → Names
+abbrev pub no_names : ℕ → TextNames
 no_names threads = record { locations = []; registers = replicate threads (replicate 6 false) }
 
 -- the names with those of one more place
-abbrev pub noted : Names → PlaceView → Names
+abbrev pub noted : TextNames → PlaceView → TextNames
 noted names (Location x) = record names { locations = with_name names.locations x }
 noted names (Register t r) = record names { registers = with_put names.registers t (number r) true }
 

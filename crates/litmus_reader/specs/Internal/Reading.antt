@@ -5,8 +5,8 @@ use Rattle.tso_program.specs.declared.listing.Listing.{Listing}
 use Rattle.tso_program.specs.Limits.{IsWithinLimits, IsWithinFencedLimits, first_fault, first_fenced_fault}
 use Rattle.text_tokens.specs.Tokens.{Tok}
 use Rattle.text_tokens.specs.Lexing.{Lexes}
-use Rattle.conditions.specs.declared.atom.Atom.{Atom}
-use Rattle.conditions.specs.Tree.{Tree}
+use Rattle.tso_program.specs.declared.atom.Atom.{Atom}
+use Rattle.tso_program.specs.Tree.{Tree}
 use Rattle.conditions.specs.Grammar.{Sign, sign_map}
 use Rattle.conditions.specs.Reads.{SpellsOnly, SpellsNone}
 use Rattle.litmus_syntax.specs.declared.fault.Refusal.{Refusal}

@@ -1,7 +1,7 @@
 use Rattle.std.proofs.Common.{ℕ, List, ◌++◌, get_or, ap, ◌∙◌}
 use Rattle.text_tokens.specs.Pieces.{text_of}
 use Rattle.tso_program.specs.declared.instruction.Reg.TheVariants.{Eax}
-use Rattle.conditions.specs.declared.atom.Atom.TheVariants as atom
+use Rattle.tso_program.specs.declared.atom.Atom.TheVariants as atom
 use Rattle.conditions.specs.declared.token.Token.{Token}
 use Rattle.conditions.specs.declared.token.Token.TheVariants as token
 use Rattle.conditions.specs.Tokens.{sign_of_token}

@@ -2,7 +2,7 @@ use Rattle.std.proofs.Common.{All, sym, subst}
 use Rattle.gap_sets.specs.Regions.{all_sets}
 use Rattle.tso_program.specs.Shown.{asked}
 use Rattle.tso_program.specs.Fences.{gaps_in}
-use Rattle.tso_machine.specs.Machine.{Fenced}
+use Rattle.tso_machine.specs.Machine.{StoreBufferMachine}
 use Rattle.candidate_executions.specs.Sketches.{empty_sketch}
 use Rattle.tree_laws.specs.CoverTrees.{IsValidCover}
 use Rattle.tree_laws.specs.GapTrees.{IsValidGap}
@@ -45,7 +45,7 @@ returns-clause-valid c =
     } in
     let serving : HasServingSet q costs claim outs = record {
       runs = foreign;
-      fenced = subst (λ xs. IsValidCover q (Fenced (gaps_in q.program claim.gaps)) xs claim.fenced_tree (empty_sketch q.program)) c.deref-2.ensures.value c.in_ok-check_fenced.ensures.fenced;
+      fenced = subst (λ xs. IsValidCover q (StoreBufferMachine (gaps_in q.program claim.gaps)) xs claim.fenced_tree (empty_sketch q.program)) c.deref-2.ensures.value c.in_ok-check_fenced.ensures.fenced;
     } in
     let passed = subst (HavePassed q.program claim.runs) (sym c.deref-3.ensures.value) c.in_ok-passed.ensures.passed in
     on_ok c.check_gaps.result (IsValidGap q.program costs claim.gaps claim.runs claim.gap_tree all_sets) (IsValidCertificate q costs claim) (assembled q costs claim outs serving) (c.check_gaps.ensures.least q.program passed)
@@ -65,7 +65,7 @@ returns-clause-fault c =
     } in
     let serving : HasServingSet q costs claim outs = record {
       runs = foreign;
-      fenced = subst (λ xs. IsValidCover q (Fenced (gaps_in q.program claim.gaps)) xs claim.fenced_tree (empty_sketch q.program)) c.deref-2.ensures.value c.in_ok-check_fenced.ensures.fenced;
+      fenced = subst (λ xs. IsValidCover q (StoreBufferMachine (gaps_in q.program claim.gaps)) xs claim.fenced_tree (empty_sketch q.program)) c.deref-2.ensures.value c.in_ok-check_fenced.ensures.fenced;
     } in
     let passed = subst (HavePassed q.program claim.runs) (sym c.deref-3.ensures.value) c.in_ok-passed.ensures.passed in
     c.check_gaps.ensures.fault q outs passed serving

@@ -1,7 +1,7 @@
 use Rattle.tso_program.specs.Shown.{asked}
 use Rattle.cert_check.proofs.Assembled.{each_outside, first_not_foreign}
 use Rattle.cert_check.proofs.Replayed.{zip_left, of_shown}
-use Rattle.tso_machine.specs.Machine.{Fenced, no_gaps}
+use Rattle.tso_machine.specs.Machine.{StoreBufferMachine, no_gaps}
 use Rattle.tso_machine.specs.Outcomes.{IsShownRun}
 use Rattle.cert_check.specs.Faults.{IsRunOf}
 use Rattle.cert_check.proofs.checker.foreign_runs.Goals as goal
@@ -12,7 +12,7 @@ returns-in-Some-clause-fault c = rw (← c.certificate.view_is) (λ costs has.
     let outcomes = c.in-Ok.replays.outcomes.items in
     let each = c.in-Ok.ensures.replays.are_runs in (
       c.args.listed.now,
-      record { complete = has; runs = zip_left (IsShownRun q (Fenced no_gaps)) (IsRunOf q.program (Fenced no_gaps)) (of_shown q (Fenced no_gaps)) _ outcomes each },
+      record { complete = has; runs = zip_left (IsShownRun q (StoreBufferMachine no_gaps)) (IsRunOf q.program (StoreBufferMachine no_gaps)) (of_shown q (StoreBufferMachine no_gaps)) _ outcomes each },
       first_not_foreign q c.args.listed.now _ outcomes c.in-Some.number each (rw c.deref.ensures.value at (rw c.in-Some.is at c.in_ok-known.ensures)),
     ))
 

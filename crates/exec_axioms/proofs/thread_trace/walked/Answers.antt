@@ -1,7 +1,7 @@
 use Rattle.std.proofs.Common.{◌∙◌, ap, subst, length, arith}
 use Rattle.tso_program.specs.Listings.{action, code_of}
 use Rattle.candidate_executions.specs.Traces.{fenced_gaps, trace_by, entered}
-use Rattle.tso_machine.specs.Modes.{machine_mode}
+use Rattle.tso_machine.specs.Modes.{machine_of_mode}
 use Rattle.exec_axioms.specs.ThreadTraces.{GoesOn}
 use Rattle.exec_axioms.proofs.EventsCounted.{thread_few}
 use Rattle.exec_axioms.proofs.TraceSteps.{begun, stepped, halted, finished, code_there, registers_there, entered_by}
@@ -11,7 +11,7 @@ pub loop-step-init : goal.loop-step-init
 loop-step-init c =
     let there = code_there c.args.program.now.threads c.threads.result.now c.args.t c.len-step-end.result c.index-threads-t.result c.threads.ensures.value c.requires c.index-threads-t.is c.len-step-end.ensures in
     record {
-      made = begun c.args.program.now (machine_mode c.args.program.now c.args.mode) c.args.t c.args.given.now c.index-threads-t.result c.in_ok-walk.walk c.requires there.0 c.in_ok-walk.ensures.start;
+      made = begun c.args.program.now (machine_of_mode c.args.program.now c.args.mode) c.args.t c.args.given.now c.index-threads-t.result c.in_ok-walk.walk c.requires there.0 c.in_ok-walk.ensures.start;
       sections = omega (arith, ap (λ w. w.section) c.in_ok-walk.ensures.start);
     }
 
@@ -36,7 +36,7 @@ loop-step-preserved c =
     let entering = c.enter.ensures ∙ ap (λ b. record c.loop-step.walk { section = entered b c.loop-step.walk.section }) c.ends_section-fenced.ensures in
     let goes = subst (λ a. GoesOn c.enter.new.self.section c.enter.new.self c.go_on.new.self a c.args.given.now c.in_ok-go_on.field-0) c.action-action.ensures.value c.in_ok-go_on.ensures.goes in
     record {
-      made = stepped _ (action c.args.program.now.threads c.args.t) (fenced_gaps (machine_mode c.args.program.now c.args.mode) c.args.t) (length (code_of c.args.program.now.threads c.args.t)) c.loop-step.step c.args.given.now
+      made = stepped _ (action c.args.program.now.threads c.args.t) (fenced_gaps (machine_of_mode c.args.program.now c.args.mode) c.args.t) (length (code_of c.args.program.now.threads c.args.t)) c.loop-step.step c.args.given.now
           c.loop-step.walk c.enter.new.self c.go_on.new.self c.in_ok-go_on.field-0 (omega arith) c.loop-step.invariant.made entering goes c.if-not-branch.false;
       sections = omega arith;
     }
@@ -46,9 +46,9 @@ returns-then-not-branch c =
     let there = code_there c.args.program.now.threads c.threads.result.now c.args.t c.len-step-end.result c.index-threads-t.result c.threads.ensures.value c.requires c.index-threads-t.is c.len-step-end.ensures in
     let entering = c.enter.ensures ∙ ap (λ b. record c.loop-step.walk { section = entered b c.loop-step.walk.section }) c.ends_section-fenced.ensures in
     let goes = subst (λ a. GoesOn c.enter.new.self.section c.enter.new.self c.go_on.new.self a c.args.given.now c.in_ok-go_on.field-0) c.action-action.ensures.value c.in_ok-go_on.ensures.goes in
-    let made = halted _ (action c.args.program.now.threads c.args.t) (fenced_gaps (machine_mode c.args.program.now c.args.mode) c.args.t) (length (code_of c.args.program.now.threads c.args.t)) c.loop-step.step c.args.given.now
+    let made = halted _ (action c.args.program.now.threads c.args.t) (fenced_gaps (machine_of_mode c.args.program.now c.args.mode) c.args.t) (length (code_of c.args.program.now.threads c.args.t)) c.loop-step.step c.args.given.now
     c.loop-step.walk c.enter.new.self c.go_on.new.self c.in_ok-go_on.field-0 (omega arith) c.loop-step.invariant.made entering goes c.if-not-branch.true in
-    let few = thread_few c.args.program.now (machine_mode c.args.program.now c.args.mode) (λ u. c.args.given.now) c.threads.ensures.within c.args.t c.requires in
+    let few = thread_few c.args.program.now (machine_of_mode c.args.program.now c.args.mode) (λ u. c.args.given.now) c.threads.ensures.within c.args.t c.requires in
     let same = ap length made.0 in
     record {
       accesses = made.0;
@@ -60,8 +60,8 @@ returns-then-not-branch c =
 pub returns : goal.returns
 returns c =
     let there = code_there c.args.program.now.threads c.threads.result.now c.args.t c.len-step-end.result c.index-threads-t.result c.threads.ensures.value c.requires c.index-threads-t.is c.len-step-end.ensures in
-    let made = finished (trace_by c.args.program.now (machine_mode c.args.program.now c.args.mode) (λ u. c.args.given.now) c.args.t) (action c.args.program.now.threads c.args.t) (fenced_gaps (machine_mode c.args.program.now c.args.mode) c.args.t) (length (code_of c.args.program.now.threads c.args.t)) c.loop-step.step c.args.given.now c.loop-step.walk (omega arith) c.loop-step.invariant.made in
-    let few = thread_few c.args.program.now (machine_mode c.args.program.now c.args.mode) (λ u. c.args.given.now) c.threads.ensures.within c.args.t c.requires in
+    let made = finished (trace_by c.args.program.now (machine_of_mode c.args.program.now c.args.mode) (λ u. c.args.given.now) c.args.t) (action c.args.program.now.threads c.args.t) (fenced_gaps (machine_of_mode c.args.program.now c.args.mode) c.args.t) (length (code_of c.args.program.now.threads c.args.t)) c.loop-step.step c.args.given.now c.loop-step.walk (omega arith) c.loop-step.invariant.made in
+    let few = thread_few c.args.program.now (machine_of_mode c.args.program.now c.args.mode) (λ u. c.args.given.now) c.threads.ensures.within c.args.t c.requires in
     let same = ap length made.0 in
     record {
       accesses = made.0;

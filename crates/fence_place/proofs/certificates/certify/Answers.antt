@@ -2,6 +2,8 @@ use Rattle.std.proofs.Common.{◌≡◌, ◌∙◌, ℕ, List, sym, ap, subst}
 use Rattle.gap_sets.specs.Order.{total}
 use Rattle.tso_machine.specs.declared.label.Label.{Label}
 use Rattle.cert_forest.specs.Certificates.{Certificate}
+use Rattle.cert_forest.specs.Limits.{AreShownPlaces}
+use Rattle.cert_forest.specs.Shows.{shows_of}
 use Rattle.cert_forest.specs.Views.{cover, gap}
 use Rattle.cover_solver.specs.Facts.{Serving, IsServing}
 use Rattle.fence_place.specs.Recorded.{IsRecorded}
@@ -18,7 +20,7 @@ returns-clause-proof c =
     let cost : c.total.result ≡ total o.costs c.set-set.result = c.total.ensures.value ∙ ap (λ (l : List ℕ). total l c.set-set.result) c.costs.ensures.value in
     let low = c.total.ensures.limit in
     let with_runs : List (List Label) → Certificate = λ (runs : List (List Label)). record {
-      shown = c.shown-shown.result.now;
+      shown = c.of-shows.result;
       gaps = c.set-set.result;
       cost = c.total.result;
       seq_runs = c.in_ok-seq_runs.seq_runs;
@@ -31,8 +33,8 @@ returns-clause-proof c =
     (is_proof t o c.in_ok-runs.numbers.items (with_runs c.in_ok-runs.runs)
     c.program.ensures.table c.served-served.ensures.outcome (subst IsServing is_served c.program-2.ensures.serving) low c.requires c.served-served.ensures.answer.0 c.served-served.ensures.answer.1
     (record {
-      same_shown = c.shown-shown.ensures;
-      places = c.names_have_places.ensures;
+      same_shown = c.of-shows.ensures ∙ ap shows_of c.shown-shown.ensures;
+      places = subst AreShownPlaces (sym c.of-shows.ensures) c.names_have_places.ensures;
       same_gaps = same_gaps;
       cost = cost;
       seq_runs = c.in_ok-seq_runs.ensures ∙ c.runs-2.ensures;

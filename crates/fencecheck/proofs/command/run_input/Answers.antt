@@ -18,5 +18,5 @@ returns-in-Ok-clause-printed g c =
 pub returns-in-Err-clause-printed : goal.returns-in-Err-clause-printed
 returns-in-Err-clause-printed g c =
     let why = c.in-Err.fault in
-    prints_line c.file_line.result 1 (file_line why) (IsReplyToInput (g.R.Read.remaining c.args.input.now)) _ _ c.print.result
-    (no_input why c.in-Err.ensures.err) c.file_line.ensures c.print.ensures
+    prints_line c.file_line.result 1 (file_line why) (IsReplyToInput (g.R.Read.remaining c.args.input.now)) _ _ c.refuse.result
+    (no_input why c.in-Err.ensures.err) c.file_line.ensures c.refuse.ensures

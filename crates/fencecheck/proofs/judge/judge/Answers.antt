@@ -1,37 +1,44 @@
-use Rattle.std.proofs.Common.{◌≡◌, refl, sym, ap, ◌∙◌, subst}
+use Rattle.std.proofs.Common.{◌≡◌, inr, refl, sym, ap, ◌∙◌, subst}
 use Rattle.tso_program.specs.declared.listing.Listing.{Listing}
 use Rattle.tso_program.specs.declared.shown.Shown.{Shown}
-use Rattle.tso_program.specs.declared.shown.Shown.TheVariants.{All, Only}
 use Rattle.tso_program.specs.Shown.{asked}
 use Rattle.litmus_reader.specs.declared.litmus.Litmus.{Litmus}
+use Rattle.cert_forest.specs.declared.shows.Shows.{Shows}
+use Rattle.cert_forest.specs.declared.shows.Shows.TheVariants.{All, Only, Condition}
+use Rattle.cert_forest.specs.Shows.{shows_of}
 use Rattle.cert_forest.specs.Certificates.{Certificate}
 use Rattle.cert_check.specs.Faults.{CheckFaultIs}
 use Rattle.fencecheck.specs.Verdicts.{handed_in}
 use Rattle.fencecheck.proofs.judge.judge.Goals as goal
 
 -- what is handed in is what is asked
-asked_once : (litmus : Litmus Listing) (shown : Shown) → handed_in litmus (handed_in litmus shown) ≡ handed_in litmus shown
+asked_once : (litmus : Litmus Listing) (claimed : Shows) → handed_in litmus (shows_of (handed_in litmus claimed)) ≡ handed_in litmus claimed
 asked_once litmus All = refl
 asked_once litmus (Only names) = refl
+asked_once litmus Condition = refl
 
 pub returns-in-Err-read_cert-clause-refused : goal.returns-in-Err-read_cert-clause-refused
 returns-in-Err-read_cert-clause-refused c =
     let why = c.in-Err-read_cert.ensures in
     (c.in-Ok.litmus, c.in-Ok.ensures.found, record { trailing = why.trailing; more = why.more; none = why.only })
 
-pub returns-in-Err-costs_of-clause-refused : goal.returns-in-Err-costs_of-clause-refused
-returns-in-Err-costs_of-clause-refused c =
-    (c.in-Ok.litmus, c.in-Ok-read_cert.certificate, record { of_program = c.in-Ok.ensures.found; of_certificate = c.in-Ok-read_cert.ensures.found }, c.in-Err-costs_of.ensures.none)
+pub returns-in-Err-given_costs-clause-refused : goal.returns-in-Err-given_costs-clause-refused
+returns-in-Err-given_costs-clause-refused c =
+    (c.in-Ok.litmus, c.in-Ok-read_cert.certificate, record { of_program = c.in-Ok.ensures.found; of_certificate = c.in-Ok-read_cert.ensures.found }, c.in-Err-given_costs.ensures.none)
+
+pub returns-in-Err-handed_in-clause-refused : goal.returns-in-Err-handed_in-clause-refused
+returns-in-Err-handed_in-clause-refused c =
+    (c.in-Ok.litmus, c.in-Ok.ensures.found, record { trailing = λ place same. absurd cc; more = λ place more. inr refl; none = λ certificate is. refl })
 
 pub returns-in-Ok-checked_line-clause-accepted : goal.returns-in-Ok-checked_line-clause-accepted
 returns-in-Ok-checked_line-clause-accepted c = record {
   told = record {
     program = c.in-Ok.litmus;
     of_text = c.in-Ok.ensures.found;
-    gap_costs = c.in-Ok-costs_of.costs;
-    given = c.in-Ok-costs_of.ensures.costs;
-    shown = c.handed_in-shown.result;
-    as_asked = subst (λ shown. handed_in c.in-Ok.litmus shown ≡ shown) (sym c.handed_in-shown.ensures) (asked_once c.in-Ok.litmus c.certificate.inside.shown);
+    gap_costs = c.in-Ok-given_costs.costs;
+    given = c.in-Ok-given_costs.ensures.costs;
+    shown = c.in-Ok-handed_in.shown;
+    as_asked = subst (λ (shown : Shown). handed_in c.in-Ok.litmus (shows_of shown) ≡ shown) (sym c.in-Ok-handed_in.ensures) (asked_once c.in-Ok.litmus c.certificate.inside.shown);
     gaps = c.in-Ok-read_cert.certificate.gaps;
     headline = c.in-Ok-checked_line.ensures.headline;
     printed = c.in-Ok-checked_line.ensures.line;
@@ -46,8 +53,8 @@ pub returns-clause-refused : goal.returns-clause-refused
 returns-clause-refused c = (
   c.in-Ok.litmus,
   c.in-Ok-read_cert.certificate,
-  c.in-Ok-costs_of.costs,
+  c.in-Ok-given_costs.costs,
   record { of_program = c.in-Ok.ensures.found; of_certificate = c.in-Ok-read_cert.ensures.found },
-  c.in-Ok-costs_of.ensures.costs,
-  subst (λ shown. CheckFaultIs (asked c.in-Ok.litmus.program shown) c.in-Ok-costs_of.costs c.in-Ok-read_cert.certificate c.in-Err-checked_line.fault) (c.handed_in-shown.ensures ∙ ap (λ (claimed : Certificate). handed_in c.in-Ok.litmus claimed.shown) c.certificate.view_is) c.in-Err-checked_line.ensures.refused,
+  c.in-Ok-given_costs.ensures.costs,
+  subst (λ shown. CheckFaultIs (asked c.in-Ok.litmus.program shown) c.in-Ok-given_costs.costs c.in-Ok-read_cert.certificate c.in-Err-checked_line.fault) (c.in-Ok-handed_in.ensures ∙ ap (λ (claimed : Certificate). handed_in c.in-Ok.litmus claimed.shown) c.certificate.view_is) c.in-Err-checked_line.ensures.refused,
 )

@@ -1,16 +1,25 @@
 use Rattle.fencer.proofs.command.run_job.Goals as goal
 
 pub returns-in-Replay-clause-told : goal.returns-in-Replay-clause-told
-returns-in-Replay-clause-told g c = rw c.in-Replay.is c.run_replay.ensures
+returns-in-Replay-clause-told g c = rw c.in-Replay.is c.run_replay.ensures.told
+
+pub returns-in-Replay-clause-read : goal.returns-in-Replay-clause-read
+returns-in-Replay-clause-read g c = rw c.in-Replay.is c.run_replay.ensures.read
 
 pub returns-in-Trace-clause-told : goal.returns-in-Trace-clause-told
-returns-in-Trace-clause-told g c = rw c.in-Trace.is (rw c.as_deref.ensures.value at c.run_trace.ensures.told)
+returns-in-Trace-clause-told g c = rw c.in-Trace.is c.run_trace.ensures.told
 
 pub returns-in-Trace-clause-others : goal.returns-in-Trace-clause-others
-returns-in-Trace-clause-others g c = rw c.in-Trace.is (rw c.as_deref.ensures.value at c.run_trace.ensures.others)
+returns-in-Trace-clause-others g c = rw c.in-Trace.is c.run_trace.ensures.others
+
+pub returns-in-Trace-clause-read : goal.returns-in-Trace-clause-read
+returns-in-Trace-clause-read g c = rw c.in-Trace.is c.run_trace.ensures.read
 
 pub returns-in-Outcomes-clause-told : goal.returns-in-Outcomes-clause-told
-returns-in-Outcomes-clause-told g c = rw c.in-Outcomes.is (rw c.as_str.ensures.value at c.run_outcomes.ensures)
+returns-in-Outcomes-clause-told g c = rw c.in-Outcomes.is c.run_outcomes.ensures.told
+
+pub returns-in-Outcomes-clause-read : goal.returns-in-Outcomes-clause-read
+returns-in-Outcomes-clause-read g c = rw c.in-Outcomes.is c.run_outcomes.ensures.read
 
 pub returns-in-Place-clause-told : goal.returns-in-Place-clause-told
 returns-in-Place-clause-told g c = rw c.in-Place.is c.run_place.ensures.told
@@ -18,8 +27,20 @@ returns-in-Place-clause-told g c = rw c.in-Place.is c.run_place.ensures.told
 pub returns-in-Place-clause-others : goal.returns-in-Place-clause-others
 returns-in-Place-clause-others g c = rw c.in-Place.is c.run_place.ensures.others
 
+pub returns-in-Place-clause-read : goal.returns-in-Place-clause-read
+returns-in-Place-clause-read g c = rw c.in-Place.is c.run_place.ensures.read
+
 pub returns-in-Why-clause-told : goal.returns-in-Why-clause-told
-returns-in-Why-clause-told g c = rw c.in-Why.is (rw c.as_deref-in-Why.ensures.value at c.run_why.ensures.told)
+returns-in-Why-clause-told g c = rw c.in-Why.is c.run_why.ensures.told
 
 pub returns-in-Why-clause-others : goal.returns-in-Why-clause-others
-returns-in-Why-clause-others g c = rw c.in-Why.is (rw c.as_deref-in-Why.ensures.value at c.run_why.ensures.others)
+returns-in-Why-clause-others g c = rw c.in-Why.is c.run_why.ensures.others
+
+pub returns-in-Why-clause-read : goal.returns-in-Why-clause-read
+returns-in-Why-clause-read g c = rw c.in-Why.is c.run_why.ensures.read
+
+pub returns-in-Gaps-clause-told : goal.returns-in-Gaps-clause-told
+returns-in-Gaps-clause-told g c = rw c.in-Gaps.is c.run_gaps.ensures.told
+
+pub returns-in-Gaps-clause-read : goal.returns-in-Gaps-clause-read
+returns-in-Gaps-clause-read g c = rw c.in-Gaps.is c.run_gaps.ensures.read

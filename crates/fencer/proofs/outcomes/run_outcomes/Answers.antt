@@ -1,21 +1,30 @@
+use Rattle.std.specs.Prelude.{string_bytes}
 use Rattle.program_streams.specs.FileLines.{file_line}
-use Rattle.program_streams.proofs.Printed.{prints_line, prints_more}
+use Rattle.program_streams.proofs.Printed.{prints_more}
+use Rattle.fencer.proofs.PrintedRefusals.{prints_refusal}
 use Rattle.fencer.specs.Outcomes.{AreOutcomes, HasNoList, PrintsOutcomes}
 use Rattle.fencer.specs.Refusals.{IsTold}
 use Rattle.fencer.specs.TextAnswers.{no_file}
 use Rattle.fencer.proofs.Told.{told_answer}
 use Rattle.fencer.proofs.outcomes.run_outcomes.Goals as goal
 
-pub returns-in-Ok : goal.returns-in-Ok
-returns-in-Ok g c =
+pub returns-in-Ok-clause-told : goal.returns-in-Ok-clause-told
+returns-in-Ok-clause-told g c =
     let input = g.R.Read.remaining c.args.input.now in
     let files = g.S.FileStore.held c.args.files.now in
-    prints_more (IsTold c.outcomes_lines.result) (AreOutcomes c.args.model c.args.observed c.args.litmus.now input files) _ _ c.print_answer.result
-    (told_answer (PrintsOutcomes c.args.model c.args.observed) HasNoList c.args.litmus.now input files c.in-Ok.bytes.items c.in-Ok.ensures.whole c.outcomes_lines.result
-    (rw c.deref.ensures.value at c.outcomes_lines.ensures.list) (rw c.deref.ensures.value at c.outcomes_lines.ensures.refused))
+    let asked = c.args.asked.now in
+    prints_more (IsTold c.args.asked.now.json c.outcomes_reply-reply.result) (AreOutcomes asked input files) _ _ c.print_answer.result
+    (told_answer (PrintsOutcomes asked) HasNoList asked.json (string_bytes asked.litmus) input files c.in-Ok.bytes.items (rw c.as_str-litmus.ensures.value at c.in-Ok.ensures.whole) c.outcomes_reply-reply.result
+    (rw c.deref-in-Ok.ensures.value at c.outcomes_reply-reply.ensures.list) (rw c.deref-in-Ok.ensures.value at c.outcomes_reply-reply.ensures.refused))
     c.print_answer.ensures
 
-pub returns-in-Err : goal.returns-in-Err
-returns-in-Err g c =
-    prints_line c.file_line.result 1 (file_line c.in-Err.fault) (AreOutcomes c.args.model c.args.observed c.args.litmus.now (g.R.Read.remaining c.args.input.now) (g.S.FileStore.held c.args.files.now)) _ _ c.print.result
-    (no_file c.in-Err.fault c.in-Err.ensures.err) c.file_line.ensures c.print.ensures
+pub returns-in-Err-clause-told : goal.returns-in-Err-clause-told
+returns-in-Err-clause-told g c =
+    prints_refusal c.args.asked.now.json c.file_line.result (file_line c.in-Err.fault) _ _ _ c.tell_refusal.result
+    (λ text says. no_file c.in-Err.fault text (rw c.as_str-litmus.ensures.value at c.in-Err.ensures.err) says) c.file_line.ensures c.tell_refusal.ensures
+
+pub returns-in-Ok-clause-read : goal.returns-in-Ok-clause-read
+returns-in-Ok-clause-read g c = rw c.as_str-litmus.ensures.value at c.named_bytes.ensures.read
+
+pub returns-in-Err-clause-read : goal.returns-in-Err-clause-read
+returns-in-Err-clause-read g c = rw c.as_str-litmus.ensures.value at c.named_bytes.ensures.read

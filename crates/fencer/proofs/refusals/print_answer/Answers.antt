@@ -1,13 +1,15 @@
 use Rattle.std.proofs.Common.{Ok, refl}
 use Rattle.std.specs.declared.alloc.AllocError.{AllocError}
-use Rattle.program_streams.proofs.Printed.{prints_line, prints_made}
+use Rattle.program_streams.proofs.Printed.{prints_made}
+use Rattle.fencer.proofs.PrintedRefusals.{prints_refusal}
 use Rattle.fencer.specs.Refusals.{refusal_line, IsTold}
 use Rattle.fencer.proofs.refusals.print_answer.Goals as goal
 
 pub returns-in-Ok : goal.returns-in-Ok
 returns-in-Ok g c =
-    prints_made {E = AllocError} (Ok c.in-Ok.lines) 0 (IsTold c.args.answer) _ _ c.print.result (rw c.in-Ok.is (refl, refl)) c.print.ensures
+    prints_made {E = AllocError} (Ok c.in-Ok.reply.lines) c.in-Ok.reply.status (IsTold c.args.json c.args.answer) _ _ c.print.result (rw c.in-Ok.is (refl, refl)) c.print.ensures
 
 pub returns-in-Err : goal.returns-in-Err
 returns-in-Err g c =
-    prints_line c.refusal_line.result 1 (refusal_line c.in-Err.why) (IsTold c.args.answer) _ _ c.print-in-Err.result (rw c.in-Err.is (refl, refl)) c.refusal_line.ensures c.print-in-Err.ensures
+    prints_refusal c.args.json c.refusal_line.result (refusal_line c.in-Err.why) (IsTold c.args.json c.args.answer) _ _ c.tell_refusal.result
+    (λ text says. rw c.in-Err.is (refl, says)) c.refusal_line.ensures c.tell_refusal.ensures

@@ -1,14 +1,18 @@
+use Rattle.std.proofs.Common.{refl}
 use Rattle.fencer.proofs.replays.replay_lines.Goals as goal
 
 pub returns-in-Ok-clause-run : goal.returns-in-Ok-clause-run
-returns-in-Ok-clause-run c = record {
-  litmus = c.in_ok-litmus.litmus;
-  spelled = c.in_ok-litmus.ensures.found;
-  steps = c.in_ok-steps.steps.items;
-  read = c.in_ok-steps.ensures.found;
-  outcome = c.in_ok-ended.ended.outcome;
-  run = rw (c.empty.ensures, c.deref.ensures.value) at c.in_ok-ended.ensures.run;
-  passed = c.in_ok-ended.ended.passed;
-  passes = rw (c.empty.ensures, c.deref.ensures.value) at c.in_ok-ended.ensures.passed;
-  printed = c.in-Ok.ensures;
-}
+returns-in-Ok-clause-run c = (
+  refl,
+  record {
+    litmus = c.in_ok-litmus.litmus;
+    spelled = c.in_ok-litmus.ensures.found;
+    steps = c.in_ok-steps.steps.items;
+    read = c.in_ok-steps.ensures.found;
+    outcome = c.in_ok-ended.ended.outcome;
+    run = rw (c.empty.ensures, c.deref.ensures.value) at c.in_ok-ended.ensures.run;
+    passed = c.in_ok-ended.ended.passed;
+    passes = rw (c.empty.ensures, c.deref.ensures.value) at c.in_ok-ended.ensures.passed;
+    printed = c.in-Ok.ensures;
+  },
+)

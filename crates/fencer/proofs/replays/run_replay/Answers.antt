@@ -1,23 +1,31 @@
 use Rattle.std.specs.Prelude.{string_bytes}
 use Rattle.program_streams.specs.FileLines.{file_line}
-use Rattle.program_streams.proofs.Printed.{prints_line, prints_more}
-use Rattle.fencer.specs.Replays.{label_words_text, HasNoRun, IsReplay, PrintsRun}
+use Rattle.std.proofs.Common.{false}
+use Rattle.program_streams.proofs.Printed.{prints_more}
+use Rattle.fencer.proofs.PrintedRefusals.{prints_refusal}
+use Rattle.fencer.specs.Replays.{label_words_text, HasNoRun, IsReplay, ShowsRun}
 use Rattle.fencer.specs.Refusals.{IsTold}
 use Rattle.fencer.specs.TextAnswers.{no_file}
 use Rattle.fencer.proofs.Told.{told_answer}
 use Rattle.fencer.proofs.replays.run_replay.Goals as goal
 
-pub returns-in-Ok : goal.returns-in-Ok
-returns-in-Ok g c =
+pub returns-in-Ok-clause-told : goal.returns-in-Ok-clause-told
+returns-in-Ok-clause-told g c =
     let labels = label_words_text c.args.asked.now.labels.items in
     let input = g.R.Read.remaining c.args.input.now in
     let files = g.S.FileStore.held c.args.files.now in
-    prints_more (IsTold c.replay_lines.result) (IsReplay c.args.asked.now.model labels (string_bytes c.args.asked.now.litmus) input files) _ _ c.print_answer.result
-    (told_answer (PrintsRun c.args.asked.now.model labels) (HasNoRun c.args.asked.now.model labels) (string_bytes c.args.asked.now.litmus) input files c.in-Ok.bytes.items (rw c.as_str.ensures.value at c.in-Ok.ensures.whole) c.replay_lines.result
-    (rw (c.deref.ensures.value, c.as_slice.ensures.value) at c.replay_lines.ensures.run) (rw (c.deref.ensures.value, c.as_slice.ensures.value) at c.replay_lines.ensures.refused))
+    prints_more (IsTold false c.replay_lines.result) (IsReplay c.args.asked.now.model labels (string_bytes c.args.asked.now.litmus) input files) _ _ c.print_answer.result
+    (told_answer (ShowsRun c.args.asked.now.model labels) (HasNoRun c.args.asked.now.model labels) false (string_bytes c.args.asked.now.litmus) input files c.in-Ok.bytes.items (rw c.as_str.ensures.value at c.in-Ok.ensures.whole) c.replay_lines.result
+    (rw (c.deref-in-Ok.ensures.value, c.as_slice-in-Ok.ensures.value) at c.replay_lines.ensures.run) (rw (c.deref-in-Ok.ensures.value, c.as_slice-in-Ok.ensures.value) at c.replay_lines.ensures.refused))
     c.print_answer.ensures
 
-pub returns-in-Err : goal.returns-in-Err
-returns-in-Err g c =
-    prints_line c.file_line.result 1 (file_line c.in-Err.fault) (IsReplay c.args.asked.now.model (label_words_text c.args.asked.now.labels.items) (string_bytes c.args.asked.now.litmus) (g.R.Read.remaining c.args.input.now) (g.S.FileStore.held c.args.files.now)) _ _ c.print.result
-    (no_file c.in-Err.fault (rw c.as_str.ensures.value at c.in-Err.ensures.err)) c.file_line.ensures c.print.ensures
+pub returns-in-Err-clause-told : goal.returns-in-Err-clause-told
+returns-in-Err-clause-told g c =
+    prints_refusal false c.file_line.result (file_line c.in-Err.fault) _ _ _ c.tell_refusal.result
+    (λ text says. no_file c.in-Err.fault text (rw c.as_str.ensures.value at c.in-Err.ensures.err) says) c.file_line.ensures c.tell_refusal.ensures
+
+pub returns-in-Ok-clause-read : goal.returns-in-Ok-clause-read
+returns-in-Ok-clause-read g c = rw c.as_str.ensures.value at c.named_bytes.ensures.read
+
+pub returns-in-Err-clause-read : goal.returns-in-Err-clause-read
+returns-in-Err-clause-read g c = rw c.as_str.ensures.value at c.named_bytes.ensures.read

@@ -1,21 +1,9 @@
-use Rattle.std.proofs.Common.{◌++◌, refl}
-use Rattle.tso_program.specs.declared.shown.Shown.TheVariants.{All}
-use Rattle.report.specs.Answers.{outcome_line, passed_line}
 use Rattle.fencer.proofs.traces.trace_answer.Goals as goal
 
-pub returns-in-Ok-clause-run : goal.returns-in-Ok-clause-run
-returns-in-Ok-clause-run c = record {
-  ending = outcome_line c.in_ok-litmus.litmus.names All c.in_ok-ended.ended.outcome ++ passed_line c.in_ok-litmus.litmus.program c.in_ok-ended.ended.passed;
-  run = record {
-    litmus = c.in_ok-litmus.litmus;
-    spelled = c.in_ok-litmus.ensures.found;
-    steps = c.in_ok-labels.labels.items;
-    read = c.in_ok-labels.ensures.found;
-    outcome = c.in_ok-ended.ended.outcome;
-    run = rw (c.empty.ensures, c.deref.ensures.value) at c.in_ok-ended.ensures.run;
-    passed = c.in_ok-ended.ended.passed;
-    passes = rw (c.empty.ensures, c.deref.ensures.value) at c.in_ok-ended.ensures.passed;
-    printed = refl;
-  };
-  printed = (c.in_ok-drawings.drawings.table.items, c.in-Ok.ensures);
+pub returns-in-Ok-clause-told : goal.returns-in-Ok-clause-told
+returns-in-Ok-clause-told c = record {
+  lines = c.in_ok-said.said.lines.items;
+  document = c.in_ok-said.said.document.items;
+  traced = c.in_ok-said.ensures.run;
+  delivered = rw c.as_deref.ensures.value at c.in-Ok.ensures;
 }

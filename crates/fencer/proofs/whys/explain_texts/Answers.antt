@@ -1,15 +1,15 @@
 use Rattle.std.proofs.Common.{refl}
-use Rattle.program_streams.proofs.Printed.{prints_line, prints_more}
+use Rattle.program_streams.proofs.Printed.{prints_more}
+use Rattle.fencer.proofs.PrintedRefusals.{prints_refusal}
 use Rattle.fencer.specs.Placements.{text_fault_line}
 use Rattle.fencer.specs.Whys.{explained, refused_for}
 use Rattle.fencer.proofs.whys.explain_texts.Goals as goal
 
 pub returns-in-Ok-clause-told : goal.returns-in-Ok-clause-told
 returns-in-Ok-clause-told g c =
-    prints_more _ _ _ _ c.deliver.result
-    (λ status text is. explained c.in-Ok.reasons.lines.items c.in-Ok.reasons.graph.items status text (rw (c.deref.ensures.value, c.as_deref-costs.ensures.value) at c.in-Ok.ensures.told) is) c.deliver.ensures.told
+    prints_more _ _ _ _ c.deliver.result (λ status text is. explained c.in-Ok.answer status text c.in-Ok.ensures.told is) (rw (c.as_deref-page.ensures.value, c.as_deref-graphs.ensures.value) at c.deliver.ensures.told)
 
 pub returns-in-Err-clause-told : goal.returns-in-Err-clause-told
 returns-in-Err-clause-told g c =
-    prints_line c.text_fault_line.result 1 (text_fault_line c.in-Err.fault) _ _ _ c.print.result
-    (refused_for c.in-Err.fault (rw (c.deref.ensures.value, c.as_deref-costs.ensures.value) at c.in-Err.ensures.fault) (λ name. refl)) c.text_fault_line.ensures c.print.ensures
+    prints_refusal c.args.asked.now.placement.json c.text_fault_line.result (text_fault_line c.in-Err.fault) _ _ _ c.tell_refusal.result
+    (λ text says. refused_for c.in-Err.fault text c.in-Err.ensures.fault says (λ name. refl)) c.text_fault_line.ensures c.tell_refusal.ensures

@@ -1,14 +1,22 @@
 use Rattle.std.proofs.Common.{refl}
 use Rattle.std.specs.Prelude.{option_map}
-use Rattle.program_streams.proofs.Printed.{prints_line, prints_more}
+use Rattle.program_streams.proofs.Printed.{prints_more}
+use Rattle.fencer.proofs.PrintedRefusals.{prints_refusal}
 use Rattle.program_streams.specs.FileLines.{file_line}
 use Rattle.fencer.specs.Whys.{of_texts, no_texts}
 use Rattle.fencer.proofs.whys.run_why.Goals as goal
 
 pub returns-in-Ok-clause-told : goal.returns-in-Ok-clause-told
 returns-in-Ok-clause-told g c =
-    prints_more _ _ _ _ c.explain_texts.result (λ status text is. of_texts c.in-Ok.texts.litmus.items (option_map (λ text. text.items) c.in-Ok.texts.costs) status text c.in-Ok.ensures.texts is) c.explain_texts.ensures.told
+    prints_more _ _ _ _ c.explain_texts.result (λ status text is. of_texts c.in-Ok.texts.litmus.items (option_map (λ text. text.items) c.in-Ok.texts.costs) status text (rw (c.as_str-litmus.ensures.value, c.as_deref-costs.ensures.value) at c.in-Ok.ensures.texts) is) c.explain_texts.ensures.told
 
 pub returns-in-Err-clause-told : goal.returns-in-Err-clause-told
 returns-in-Err-clause-told g c =
-    prints_line c.file_line.result 1 (file_line c.in-Err.fault) _ _ _ c.print.result (no_texts c.in-Err.fault c.in-Err.ensures.err (λ name. refl)) c.file_line.ensures c.print.ensures
+    prints_refusal c.args.asked.now.placement.json c.file_line.result (file_line c.in-Err.file.fault) _ _ _ c.tell_refusal.result
+    (λ text says. no_texts c.in-Err.file.fault text (rw (c.as_str-litmus.ensures.value, c.as_deref-costs.ensures.value) at c.in-Err.ensures.err) says (λ name. refl)) c.file_line.ensures c.tell_refusal.ensures
+
+pub returns-in-Ok-clause-read : goal.returns-in-Ok-clause-read
+returns-in-Ok-clause-read g c = rw c.as_str-litmus.ensures.value at c.read_texts.ensures.read
+
+pub returns-in-Err-clause-read : goal.returns-in-Err-clause-read
+returns-in-Err-clause-read g c = rw c.as_str-litmus.ensures.value at c.read_texts.ensures.read

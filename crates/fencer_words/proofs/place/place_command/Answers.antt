@@ -9,17 +9,40 @@ returns c =
     let costs = c.in_ok-arg.ensures in
     let workers = c.in_ok-arg-2.ensures in
     let certificate = c.in_ok-arg-3.ensures in
-    let observed = c.in_ok-arg-4.ensures in
-    IfOk-weaker c.arg-5.result _ _ (λ command h. record {
+    let output = c.in_ok-arg-4.ensures in
+    let observed = c.in_ok-arg-5.ensures in
+    let condition = c.in_ok-arg-6.ensures in
+    let check = c.in_ok-arg-7.ensures in
+    let json = c.in_ok-arg-8.ensures in
+    let progress = c.in_ok-arg-9.ensures in
+    IfOk-weaker c.arg-10.result _ _ (λ command h. record {
       shape = h.shape c.litmus_arg.ensures.own
+          ∙ ap₂ with_rule (progress.shape c.progress_arg.ensures.own
+          ∙ ap₂ with_rule (json.shape c.json_arg.ensures.own
+          ∙ ap₂ with_rule (check.shape c.flag_arg.ensures.own
+          ∙ ap₂ with_rule (condition.shape c.condition_arg.ensures.own
           ∙ ap₂ with_rule (observed.shape c.observed_arg.ensures.own
+          ∙ ap₂ with_rule (output.shape c.file_arg-3.ensures.own
           ∙ ap₂ with_rule (certificate.shape c.file_arg-2.ensures.own
           ∙ ap₂ with_rule (workers.shape c.workers_arg.ensures.own
-          ∙ ap₂ with_rule (costs.shape c.file_arg.ensures.own ∙ ap₂ with_rule c.described_command.ensures.app c.file_arg.ensures.rule) c.workers_arg.ensures.rule) c.file_arg-2.ensures.rule) c.observed_arg.ensures.rule) c.litmus_arg.ensures.rule;
+          ∙ ap₂ with_rule (costs.shape c.file_arg.ensures.own ∙ ap₂ with_rule c.described_command.ensures.app c.file_arg.ensures.rule) c.workers_arg.ensures.rule) c.file_arg-2.ensures.rule) c.file_arg-3.ensures.rule) c.observed_arg.ensures.rule) c.condition_arg.ensures.rule) c.flag_arg.ensures.rule) c.json_arg.ensures.rule) c.progress_arg.ensures.rule) c.litmus_arg.ensures.rule;
       no_globals = neither _ _ _ h.globals
+          (neither _ _ _ progress.globals
+          (neither _ _ _ json.globals
+          (neither _ _ _ check.globals
+          (neither _ _ _ condition.globals
           (neither _ _ _ observed.globals
+          (neither _ _ _ output.globals
           (neither _ _ _ certificate.globals
-          (neither _ _ _ workers.globals (neither _ _ _ costs.globals c.described_command.ensures.local c.file_arg.ensures.own) c.workers_arg.ensures.own)
-          c.file_arg-2.ensures.own) c.observed_arg.ensures.own)
+          (neither _ _ _ workers.globals
+          (neither _ _ _ costs.globals c.described_command.ensures.local c.file_arg.ensures.own)
+          c.workers_arg.ensures.own)
+          c.file_arg-2.ensures.own)
+          c.file_arg-3.ensures.own)
+          c.observed_arg.ensures.own)
+          c.condition_arg.ensures.own)
+          c.flag_arg.ensures.own)
+          c.json_arg.ensures.own)
+          c.progress_arg.ensures.own)
           c.litmus_arg.ensures.own;
-    }) c.arg-5.ensures
+    }) c.arg-10.ensures

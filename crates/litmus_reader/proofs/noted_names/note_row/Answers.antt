@@ -1,7 +1,7 @@
 use Rattle.std.proofs.Common.{sym, ap, ◌∙◌, fold, take, map}
 use Rattle.litmus_syntax.specs.declared.cell.Cell.{Cell}
 use Rattle.litmus_syntax.specs.Views.{cell_view}
-use Rattle.litmus_reader.specs.Names.{Names}
+use Rattle.litmus_reader.specs.Names.{TextNames}
 use Rattle.litmus_reader.specs.Internal.Filling.{noted}
 use Rattle.litmus_reader.specs.Places.{cell_places, row_places}
 use Rattle.litmus_reader.proofs.Rows.{noted_more}
@@ -13,6 +13,6 @@ loop-thread-preserved c =
     let own = c.index-row-thread.result in
     let before = fold noted c.args.names.now (row_places (map cell_view (take t c.args.row.now))) in
     c.in_ok-note_cell.ensures
-    ∙ ap (λ (names : Names). fold noted names (cell_places t (cell_view own))) c.loop-thread.invariant
+    ∙ ap (λ (names : TextNames). fold noted names (cell_places t (cell_view own))) c.loop-thread.invariant
     ∙ ap (λ (cell : Cell). fold noted before (cell_places t (cell_view cell))) c.index-row-thread.is
     ∙ sym (noted_more c.args.names.now c.args.row.now t own c.loop-thread-test.true)

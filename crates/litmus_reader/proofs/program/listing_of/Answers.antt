@@ -1,6 +1,6 @@
 use Rattle.std.proofs.Common.{◌≡◌, List, map, ap, ◌∙◌}
 use Rattle.std.specs.List.{range_with_len}
-use Rattle.conditions.specs.declared.atom.Atom.{Atom}
+use Rattle.tso_program.specs.declared.atom.Atom.{Atom}
 use Rattle.litmus_syntax.specs.declared.entry.Entry.{Entry}
 use Rattle.litmus_syntax.specs.Views.{entry_view, body_view}
 use Rattle.litmus_reader.specs.Internal.Filling.{byte_in, entry_atoms, memory_from, registers_from}

@@ -2,8 +2,8 @@ use Rattle.std.proofs.Common.{◌≡◌, ◌∙◌, take, Some, sym, ap, subst, 
 use Rattle.std.proofs.lemmas.List.{take_all}
 use Rattle.tso_machine.specs.declared.label.Label.TheVariants.{Exec}
 use Rattle.tso_program.specs.declared.listing.Listing.{Listing}
-use Rattle.tso_machine.specs.Machine.{Mode, start, HasEnded}
-use Rattle.tso_machine.specs.Modes.{mode_of}
+use Rattle.tso_machine.specs.Machine.{Machine, start, HasEnded}
+use Rattle.tso_machine.specs.Modes.{machine_of_model}
 use Rattle.tso_machine.specs.Faults.{IsUnfinished}
 use Rattle.tso_machine.specs.Internal.Cores.{Cores, state_of, Fits}
 use Rattle.tso_machine.proofs.Link.{state_of_first, first_fits, outcome_is}
@@ -14,7 +14,7 @@ use Rattle.tso_machine.proofs.replaying.replay.Goals as goal
 pub loop-n-init : goal.loop-n-init
 loop-n-init c = record {
   reached = ap Some (sym (state_of_first c.args.program.now) ∙ ap state_of (sym c.in-Ok.ensures));
-  gaps = none_passed c.args.program.now (mode_of c.args.program.now c.args.fenced.now c.args.model) c.empty-passed.result c.empty-passed.ensures;
+  gaps = none_passed c.args.program.now (machine_of_model c.args.program.now c.args.fenced.now c.args.model) c.empty-passed.result c.empty-passed.ensures;
   fits = subst (λ (s : Cores). Fits c.args.program.now s) (sym c.in-Ok.ensures) (first_fits c.args.program.now);
 }
 
@@ -24,16 +24,16 @@ step-requires-clause-direct c =
 
 pub returns-in-Err-clause-fault : goal.returns-in-Err-clause-fault
 returns-in-Err-clause-fault c =
-    rw c.fault_at.ensures (faulted c.args.program.now (mode_of c.args.program.now c.args.fenced.now c.args.model) c.args.labels.now c.loop-n.n (Exec 0) (state_of c.loop-n.state) c.in-Err.fault (omega arith) c.loop-n.invariant.reached c.in-Err.ensures.err)
+    rw c.fault_at.ensures (faulted c.args.program.now (machine_of_model c.args.program.now c.args.fenced.now c.args.model) c.args.labels.now c.loop-n.n (Exec 0) (state_of c.loop-n.state) c.in-Err.fault (omega arith) c.loop-n.invariant.reached c.in-Err.ensures.err)
 
 pub returns-in-Err-clause-accepts : goal.returns-in-Err-clause-accepts
 returns-in-Err-clause-accepts c = λ outcome is_run.
-    no_fault c.args.program.now (mode_of c.args.program.now c.args.fenced.now c.args.model) c.args.labels.now outcome c.fault_at.result is_run (returns-in-Err-clause-fault c)
+    no_fault c.args.program.now (machine_of_model c.args.program.now c.args.fenced.now c.args.model) c.args.labels.now outcome c.fault_at.result is_run (returns-in-Err-clause-fault c)
 
 pub loop-n-preserved : goal.loop-n-preserved
 loop-n-preserved c =
     let p : Listing = c.args.program.now in
-    let mode : Mode = mode_of p c.args.fenced.now c.args.model in
+    let mode : Machine = machine_of_model p c.args.fenced.now c.args.model in
     record {
       reached = run_on p mode (start p) c.args.labels.now c.loop-n.n (Exec 0) (state_of c.loop-n.state) (state_of c.step.new.self) (omega arith) c.loop-n.invariant.reached c.in_default-step.ensures.ok;
       gaps = rw c.with_gap-passed.ensures (passed_on p c.loop-n.state mode c.args.labels.now c.loop-n.n (Exec 0) c.loop-n.passed c.passed_gap-gap.result (omega arith) c.loop-n.invariant.reached c.loop-n.invariant.gaps c.passed_gap-gap.ensures.value);
@@ -49,7 +49,7 @@ returns-then-is_some-clause-fault c =
 
 pub returns-then-is_some-clause-accepts : goal.returns-then-is_some-clause-accepts
 returns-then-is_some-clause-accepts c = λ outcome is_run.
-    no_fault c.args.program.now (mode_of c.args.program.now c.args.fenced.now c.args.model) c.args.labels.now outcome _ is_run (returns-then-is_some-clause-fault c)
+    no_fault c.args.program.now (machine_of_model c.args.program.now c.args.fenced.now c.args.model) c.args.labels.now outcome _ is_run (returns-then-is_some-clause-fault c)
 
 pub returns-in-Ok-outcome-clause-run : goal.returns-in-Ok-outcome-clause-run
 returns-in-Ok-outcome-clause-run c =
@@ -60,7 +60,7 @@ returns-in-Ok-outcome-clause-run c =
 
 pub returns-in-Ok-outcome-clause-accepts : goal.returns-in-Ok-outcome-clause-accepts
 returns-in-Ok-outcome-clause-accepts c = λ outcome is_run.
-    one_outcome c.args.program.now (mode_of c.args.program.now c.args.fenced.now c.args.model) c.args.labels.now c.in-Ok-outcome.outcome outcome (returns-in-Ok-outcome-clause-run c) is_run
+    one_outcome c.args.program.now (machine_of_model c.args.program.now c.args.fenced.now c.args.model) c.args.labels.now c.in-Ok-outcome.outcome outcome (returns-in-Ok-outcome-clause-run c) is_run
 
 pub returns-in-Ok-outcome-clause-sequential : goal.returns-in-Ok-outcome-clause-sequential
 returns-in-Ok-outcome-clause-sequential c =

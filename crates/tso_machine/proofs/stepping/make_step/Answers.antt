@@ -1,9 +1,9 @@
-use Rattle.tso_machine.specs.Modes.{mode_of}
+use Rattle.tso_machine.specs.Modes.{machine_of_model}
 use Rattle.tso_machine.specs.Internal.Cores.{state_of}
 use Rattle.tso_machine.proofs.stepping.make_step.Goals as goal
 
 pub returns-in-Err-clause-err : goal.returns-in-Err-clause-err
-returns-in-Err-clause-err c = c.in-Err.ensures.err (mode_of c.args.program.now c.args.fenced.now c.args.model) (state_of c.args.state.now)
+returns-in-Err-clause-err c = c.in-Err.ensures.err (machine_of_model c.args.program.now c.args.fenced.now c.args.model) (state_of c.args.state.now)
 
 pub returns-in-Err-thread-clause-err : goal.returns-in-Err-thread-clause-err
-returns-in-Err-thread-clause-err c = c.in-Err-thread.ensures.err (mode_of c.args.program.now c.args.fenced.now c.args.model) (state_of c.args.state.now)
+returns-in-Err-thread-clause-err c = c.in-Err-thread.ensures.err (machine_of_model c.args.program.now c.args.fenced.now c.args.model) (state_of c.args.state.now)

@@ -1,8 +1,8 @@
 use Rattle.std.proofs.Common.{◌∙◌, take, Some, sym, ap, subst, arith}
 use Rattle.tso_machine.specs.declared.label.Label.TheVariants.{Exec}
 use Rattle.tso_program.specs.declared.listing.Listing.{Listing}
-use Rattle.tso_machine.specs.Machine.{Mode, start}
-use Rattle.tso_machine.specs.Modes.{mode_of}
+use Rattle.tso_machine.specs.Machine.{Machine, start}
+use Rattle.tso_machine.specs.Modes.{machine_of_model}
 use Rattle.tso_machine.specs.Internal.Cores.{Cores, state_of, Fits}
 use Rattle.tso_machine.proofs.Link.{state_of_first, first_fits}
 use Rattle.tso_machine.proofs.Runs.{run_on, faulted, no_stores_by}
@@ -22,12 +22,12 @@ make_step-requires-clause-direct c =
 
 pub returns-in-Err-clause-fault : goal.returns-in-Err-clause-fault
 returns-in-Err-clause-fault c =
-    rw c.fault_at.ensures (faulted c.args.program.now (mode_of c.args.program.now c.args.fenced.now c.args.model) c.args.labels.now c.loop-n.n (Exec 0) (state_of c.loop-n.state) c.in-Err.fault (omega arith) c.loop-n.invariant.reached c.in-Err.ensures.err)
+    rw c.fault_at.ensures (faulted c.args.program.now (machine_of_model c.args.program.now c.args.fenced.now c.args.model) c.args.labels.now c.loop-n.n (Exec 0) (state_of c.loop-n.state) c.in-Err.fault (omega arith) c.loop-n.invariant.reached c.in-Err.ensures.err)
 
 pub loop-n-preserved : goal.loop-n-preserved
 loop-n-preserved c =
     let p : Listing = c.args.program.now in
-    let mode : Mode = mode_of p c.args.fenced.now c.args.model in
+    let mode : Machine = machine_of_model p c.args.fenced.now c.args.model in
     record {
       reached = run_on p mode (start p) c.args.labels.now c.loop-n.n (Exec 0) (state_of c.loop-n.state) (state_of c.make_step.new.state) (omega arith) c.loop-n.invariant.reached c.in-Ok-make_step.ensures.made;
       made = rw c.in-Ok-push.ensures.items (steps_on p mode (start p) c.args.labels.now c.loop-n.n (Exec 0) c.loop-n.steps.items (state_of c.loop-n.state) (state_of c.make_step.new.state) c.in-Ok-make_step.step (omega arith)

@@ -1,6 +1,6 @@
 use Rattle.std.proofs.Common.{◌≡◌, take, Some}
 use Rattle.tso_machine.specs.Machine.{run, start}
-use Rattle.tso_machine.specs.Modes.{mode_of}
+use Rattle.tso_machine.specs.Modes.{machine_of_model}
 use Rattle.tso_machine.specs.Steps.{AreSteps}
 use Rattle.tso_machine.specs.Internal.Cores.{state_of, Fits}
 use Rattle.tso_machine.proofs.stepping.steps.Given as goal
@@ -8,7 +8,7 @@ use Rattle.tso_machine.proofs.stepping.steps.Given as goal
 -- the labels so far lead to the state, by these steps
 abbrev pub invariant-loop-n : goal.invariant-loop-n
 invariant-loop-n l = record {
-  reached : run l.program (mode_of l.program l.fenced l.model) (start l.program) (take l.n l.labels) ≡ Some (state_of l.state);
-  made : AreSteps l.program (mode_of l.program l.fenced l.model) (start l.program) (take l.n l.labels) l.steps.items;
+  reached : run l.program (machine_of_model l.program l.fenced l.model) (start l.program) (take l.n l.labels) ≡ Some (state_of l.state);
+  made : AreSteps l.program (machine_of_model l.program l.fenced l.model) (start l.program) (take l.n l.labels) l.steps.items;
   fits : Fits l.program l.state;
 }

@@ -4,7 +4,7 @@ use Rattle.why_text.proofs.explaining.reasons.Goals as goal
 
 pub loop-gap-init : goal.loop-gap-init
 loop-gap-init c = record {
-  told = ([], tt, c.new-lines.ensures.items);
+  told = ([], tt, c.new-lines.ensures.items, c.new-runs.ensures);
   to_come = subst (AreHeld c.args.set.now) (sym (c.into_iter-gap-iterator.ensures.into_iter_gives ∙ c.iter-gap-items.ensures.value)) (numbers_are_held c.args.set.now c.len.ensures.gaps);
 }
 
@@ -16,6 +16,7 @@ run_without-requires-clause-held c = (first_held c.args.set.now c.loop-gap.gap-i
 
 pub loop-gap-preserved : goal.loop-gap-preserved
 loop-gap-preserved c = record {
-  told = rw (c.in_ok-extend_from_slice.ensures.items, c.deref.ensures.value) (tells_more c.args.litmus.now c.args.shown.now c.args.set.now c.loop-gap.yielded c.loop-gap.lines.items c.in-Some.gap c.in_ok-reason.reason.items c.loop-gap.invariant.told c.in_ok-reason.ensures);
+  told = rw (c.in_ok-add.ensures, c.in_ok-extend_from_slice.ensures.items, c.deref.ensures.value)
+      (tells_more c.args.litmus.now c.args.shown.now c.args.set.now c.loop-gap.yielded c.loop-gap.lines.items c.loop-gap.runs c.in-Some.gap (c.in_ok-reason.reason.lines.items, c.in_ok-reason.reason.run) c.loop-gap.invariant.told c.in_ok-reason.ensures);
   to_come = (first_held c.args.set.now c.loop-gap.gap-iterator c.in-Some.gap c.next.new.self c.in-Some.ensures.steps c.loop-gap.invariant.to_come).1;
 }

@@ -1,7 +1,7 @@
-use Rattle.std.proofs.Common.{Contains, IfSome, sym, subst}
+use Rattle.std.proofs.Common.{IfSome, sym, subst}
 use Rattle.std.specs.Option.{IsSomeAnd}
 use Rattle.tso_program.specs.Shown.{asked}
-use Rattle.tso_machine.specs.Modes.{machine_mode}
+use Rattle.tso_machine.specs.Modes.{machine_of_mode}
 use Rattle.tso_machine.specs.Outcomes.{IsShownRun}
 use Rattle.cover_solver.specs.declared.listed.Listed.{Listed}
 use Rattle.cover_solver.specs.declared.listed.Listed.TheVariants.{Open}
@@ -15,7 +15,7 @@ pub returns-in_ok-add-clause-grows : goal.returns-in_ok-add-clause-grows
 returns-in_ok-add-clause-grows c =
     let q = asked c.args.sketch.now.program c.args.shown.now in
     let mode = c.in-Open.mode in
-    let machine = machine_mode c.args.sketch.now.program mode in
+    let machine = machine_of_mode c.args.sketch.now.program mode in
     let new = c.add.new.self in
     let is_run = subst (λ found. IfSome found (λ run. IsShownRun q machine run.labels.items run.outcome)) c.in-Some.is c.in_ok-run.ensures.run in
     subst (λ (old : Listed). Grows q old (Open new mode)) (sym c.in-Open.is)
@@ -26,7 +26,7 @@ returns-in_ok-add-clause-own c same =
     let outcomes = c.add.new.self.listed.items in
     let outcome = c.in-Some.run'.outcome in
     let made = subst (λ found. IsSomeAnd found (IsShownRunOf c.args.sketch.now c.args.shown.now)) c.in-Some.is (c.in_ok-run.ensures.own same) in
-    (outcome, made.must_end, subst (Contains outcomes) (sym made.as_shown) (numbered_is_listed outcomes c.in_ok-add.field-0 outcome c.in_ok-add.ensures.number))
+    (outcome, made.must_end, numbered_is_listed outcomes c.in_ok-add.field-0 outcome c.in_ok-add.ensures.number)
 
 pub returns-in_default-2-clause-grows : goal.returns-in_default-2-clause-grows
 returns-in_default-2-clause-grows c =

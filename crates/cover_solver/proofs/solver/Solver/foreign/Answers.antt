@@ -1,12 +1,12 @@
 use Rattle.std.proofs.Common.{◌≡◌, true, sym, subst, ap, ◌∙◌}
 use Rattle.std.specs.FinSet as set
 use Rattle.tso_program.specs.Shown.{Question, asked}
-use Rattle.tso_machine.specs.Machine.{Fenced, no_gaps}
+use Rattle.tso_machine.specs.Machine.{StoreBufferMachine, no_gaps}
 use Rattle.tso_machine.specs.Faults.{ReplayFaultIs}
 use Rattle.tso_machine.specs.Modes.{ArePassed}
 use Rattle.tso_machine.specs.Outcomes.{IsShownRun, IsForeignRun}
 use Rattle.cover_solver.specs.Facts.{Asked, IsListOf}
-use Rattle.cover_solver.proofs.Tables.{foreign_again, passes_none, replays_unfenced}
+use Rattle.cover_solver.proofs.Tables.{foreign_again, passes_none, replays_unfenced, same_question}
 use Rattle.cover_solver.proofs.solver.Solver.foreign.Goals as goal
 
 pub of-requires-clause-foreign : goal.of-requires-clause-foreign
@@ -17,19 +17,19 @@ of-requires-clause-foreign c =
     let found = c.in-Ok.ended.outcome in
     let question = ap (λ (a : Asked). a.question) c.self.view_is in
     let list = subst (λ (a : Asked). IsListOf a.question a.outcomes) c.self.view_is c.self.invariant.0 in
-    let again = subst (λ (q : Question). IsShownRun q (Fenced no_gaps) labels found) question
-    (subst (λ ls. IsShownRun (asked c.self.inside.program shown) (Fenced no_gaps) ls found) c.deref.ensures.value c.in-Ok.ensures.replay.is_run) in
-    subst (λ (q : Question). IsForeignRun q labels found) (sym (ap (λ p. asked p shown) c.in_ok-program-in-Ok.ensures ∙ question))
+    let again = subst (λ (q : Question). IsShownRun q (StoreBufferMachine no_gaps) labels found) question
+    (subst (λ ls. IsShownRun (asked c.self.inside.program shown) (StoreBufferMachine no_gaps) ls found) c.deref.ensures.value c.in-Ok.ensures.replay.is_run) in
+    subst (λ (q : Question). IsForeignRun q labels found) (sym (same_question (asked c.self.inside.program shown) c.in_ok-program-in-Ok.program c.in_ok-shown-in-Ok.shown c.in_ok-program-in-Ok.ensures c.in_ok-shown-in-Ok.ensures ∙ question))
     (foreign_again s.question c.args.set.now s.outcomes labels c.args.run.outcome found c.in-Ok.ended.passed list c.requires.is_run c.requires.new again)
 
 pub of-requires-clause-passed : goal.of-requires-clause-passed
 of-requires-clause-passed c =
     let labels = c.args.run.labels.items in
-    subst (λ p. ArePassed p (Fenced no_gaps) labels c.in-Ok.ended.passed) (sym c.in_ok-program-in-Ok.ensures)
-    (subst (λ ls. ArePassed c.self.inside.program (Fenced no_gaps) ls c.in-Ok.ended.passed) c.deref.ensures.value c.in-Ok.ensures.replay.passed)
+    subst (λ p. ArePassed p (StoreBufferMachine no_gaps) labels c.in-Ok.ended.passed) (sym c.in_ok-program-in-Ok.ensures)
+    (subst (λ ls. ArePassed c.self.inside.program (StoreBufferMachine no_gaps) ls c.in-Ok.ended.passed) c.deref.ensures.value c.in-Ok.ensures.replay.passed)
 
-pub returns-in_ok-program-in-Ok : goal.returns-in_ok-program-in-Ok
-returns-in_ok-program-in-Ok c =
+pub returns-in_ok-shown-in-Ok : goal.returns-in_ok-shown-in-Ok
+returns-in_ok-shown-in-Ok c =
     let s = c.args.self.now in
     let labels = c.args.run.labels.items in
     let shown = c.self.inside.shown in
@@ -37,11 +37,11 @@ returns-in_ok-program-in-Ok c =
     let passed = c.in-Ok.ended.passed in
     let question = ap (λ (a : Asked). a.question) c.self.view_is in
     let list = subst (λ (a : Asked). IsListOf a.question a.outcomes) c.self.view_is c.self.invariant.0 in
-    let again = subst (λ (q : Question). IsShownRun q (Fenced no_gaps) labels found) question
-    (subst (λ ls. IsShownRun (asked c.self.inside.program shown) (Fenced no_gaps) ls found) c.deref.ensures.value c.in-Ok.ensures.replay.is_run) in
-    let are = subst (λ (q : Question). ArePassed q.program (Fenced no_gaps) labels passed) question
-    (subst (λ ls. ArePassed c.self.inside.program (Fenced no_gaps) ls passed) c.deref.ensures.value c.in-Ok.ensures.replay.passed) in (
-      c.of.ensures.question ∙ ap (λ p. asked p shown) c.in_ok-program-in-Ok.ensures ∙ question,
+    let again = subst (λ (q : Question). IsShownRun q (StoreBufferMachine no_gaps) labels found) question
+    (subst (λ ls. IsShownRun (asked c.self.inside.program shown) (StoreBufferMachine no_gaps) ls found) c.deref.ensures.value c.in-Ok.ensures.replay.is_run) in
+    let are = subst (λ (q : Question). ArePassed q.program (StoreBufferMachine no_gaps) labels passed) question
+    (subst (λ ls. ArePassed c.self.inside.program (StoreBufferMachine no_gaps) ls passed) c.deref.ensures.value c.in-Ok.ensures.replay.passed) in (
+      c.of.ensures.question ∙ same_question (asked c.self.inside.program shown) c.in_ok-program-in-Ok.program c.in_ok-shown-in-Ok.shown c.in_ok-program-in-Ok.ensures c.in_ok-shown-in-Ok.ensures ∙ question,
       c.of.ensures.foreign,
       (λ gap passes. passes_none s.question c.args.set.now s.outcomes labels c.args.run.outcome found passed list c.requires.is_run c.requires.new again are gap
           (subst (λ gaps. set.contains gaps gap ≡ true) c.of.ensures.passed passes)),
@@ -53,5 +53,5 @@ of_run-requires c =
     let labels = c.args.run.labels.items in
     let question = ap (λ (a : Asked). a.question) c.self.view_is in
     replays_unfenced s.question c.args.set.now labels c.args.run.outcome c.in-Err.fault c.requires.is_run
-    (subst (λ (q : Question). ReplayFaultIs q.program (Fenced no_gaps) labels c.in-Err.fault) question
-    (subst (λ ls. ReplayFaultIs c.self.inside.program (Fenced no_gaps) ls c.in-Err.fault) c.deref.ensures.value c.in-Err.ensures.fault))
+    (subst (λ (q : Question). ReplayFaultIs q.program (StoreBufferMachine no_gaps) labels c.in-Err.fault) question
+    (subst (λ ls. ReplayFaultIs c.self.inside.program (StoreBufferMachine no_gaps) ls c.in-Err.fault) c.deref.ensures.value c.in-Err.ensures.fault))

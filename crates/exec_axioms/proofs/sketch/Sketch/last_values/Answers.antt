@@ -6,7 +6,7 @@ use Rattle.candidate_executions.specs.declared.event.Event.{Event}
 use Rattle.candidate_executions.specs.declared.event.Event.TheVariants.{Initial}
 use Rattle.candidate_executions.specs.Candidates.{IsAccess}
 use Rattle.candidate_executions.specs.Sketches.{IsWhole, given_to}
-use Rattle.tso_machine.specs.Modes.{machine_mode}
+use Rattle.tso_machine.specs.Modes.{machine_of_mode}
 use Rattle.exec_axioms.specs.Rows.{NumberedTraces}
 use Rattle.exec_axioms.specs.ProgramSketches.{ProgramSketch, mode_in}
 use Rattle.exec_axioms.specs.Kept.{view_of}
@@ -50,6 +50,6 @@ returns c =
     let whole = subst (λ (s : ProgramSketch). IsWhole s.program (mode_in s) s.chosen) (sym c.self.view_is) c.requires in
     values_all c.args.self.now c.args.shown.now events c.loop-d.values
     (λ e. subst (λ (s : ProgramSketch). Contains events e ↔ IsOwn s e) c.self.view_is
-    (subst (λ (es : List Event). Contains es e ↔ IsAccess c.self.inside.program (machine_mode c.self.inside.program c.self.inside.mode) (given_to chosen) e) (sym same)
+    (subst (λ (es : List Event). Contains es e ↔ IsAccess c.self.inside.program (machine_of_mode c.self.inside.program c.self.inside.mode) (given_to chosen) e) (sym same)
     (number_exact c.self.inside.program c.self.inside.mode (arc_value c.self.inside.traces).thread_traces c.self.inside.sources.items c.self.inside.pairs.items c.self.invariant.kept (arc_value c.self.inside.traces).events (c.self.invariant.rows.all whole) e)))
     (subst (λ (es : List Event). AreLastValues c.args.self.now c.args.shown.now (Contains es) c.loop-d.values) (take_all c.loop-d.d events c.loop-d-test.false) c.loop-d.invariant)

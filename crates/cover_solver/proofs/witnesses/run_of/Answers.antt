@@ -1,0 +1,20 @@
+use Rattle.std.proofs.Common.{◌≡◌, List, Some, slice_get, sym, subst}
+use Rattle.tso_program.specs.declared.outcome.Outcome.{Outcome}
+use Rattle.tso_machine.specs.declared.label.Label.{Label}
+use Rattle.tso_machine.specs.Outcomes.{IsShownRun}
+use Rattle.cover_solver.specs.Ordered.{BelongsAt}
+use Rattle.cover_solver.proofs.Inserted.{not_there}
+use Rattle.cover_solver.proofs.Witnessed.{run_at}
+use Rattle.cover_solver.proofs.witnesses.run_of.Goals as goal
+
+pub returns-in_ok-from_slice-in-Some : goal.returns-in_ok-from_slice-in-Some
+returns-in_ok-from_slice-in-Some c q machine are =
+    let outcomes = c.args.found.now.outcomes.items in
+    let outcome = c.args.outcome.now in
+    let at = subst (λ (os : List Outcome). slice_get os c.in-Ok.place ≡ Some outcome) c.deref.ensures.value c.in-Ok.ensures.there in
+    subst (λ (labels : List Label). IsShownRun q machine labels outcome) (sym c.in_ok-from_slice-in-Some.ensures.items)
+    (run_at q machine c.args.found.now.runs outcomes c.in-Ok.place outcome c.in-Some.labels.now are at c.in-Some.ensures)
+
+pub returns-in-Err : goal.returns-in-Err
+returns-in-Err c =
+    not_there c.args.found.now.outcomes.items c.args.outcome.now c.in-Err.field-0 (subst (λ (os : List Outcome). BelongsAt os c.args.outcome.now c.in-Err.field-0) c.deref.ensures.value c.in-Err.ensures.belongs)

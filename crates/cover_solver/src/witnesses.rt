@@ -1,0 +1,48 @@
+//! Runs whose outcomes meet a formula.
+ghost use Rattle.std.specs.Prelude.{◌≡◌, IfOk, IfErr, MatchOption, Contains};
+ghost use Rattle.tso_machine.specs.Modes.{machine_of_mode};
+ghost use Rattle.tso_machine.specs.Machine.{Machine};
+ghost use Rattle.tso_machine.specs.Outcomes.{IsShownRun};
+ghost use Rattle.tso_program.specs.Shown.{Question};
+ghost use Rattle.cover_solver.specs.Found.{IsInOrder, AreRunsOf};
+ghost use Rattle.cover_solver.specs.Witnesses.{IsWitness, HasNoWitness};
+
+use crate::all_outcomes::all_outcomes;
+use crate::fault::SolveFault;
+use crate::found::Found;
+use crate::ordered::place_of;
+use exec_axioms::Mode;
+use std::alloc::{AllocError, Global};
+use tso_machine::Label;
+use tso_program::{Formula, Outcome, Program, Shown};
+
+/// A run of the machine of a mode with this truth of the formula at its outcome. `None` where no run has one.
+pub fn witness(
+    alloc: Global,
+    program: &Program,
+    mode: Mode,
+    formula: &Formula,
+    truth: bool,
+) -> Result<Option<Vec<Label>>, SolveFault>
+    ensures found { IfOk result (λ found. MatchOption found (HasNoWitness program.now (machine_of_mode program.now mode) formula.now truth) (λ labels. IsWitness program.now (machine_of_mode program.now mode) formula.now truth labels.items)) }
+    ensures fault { IfErr result (λ fault. fault ≡ SolveFault.OutOfMemory) }
+{
+    let shown = Shown::Truth(formula.copy()?);
+    let all = all_outcomes(alloc, program, &shown, mode)?;
+    let told = Outcome::told(alloc, truth)?;
+    Ok(run_of(alloc, &all.found, &told)?)
+}
+
+/// The run of an outcome that is found.
+fn run_of(alloc: Global, found: &Found, outcome: &Outcome) -> Result<Option<Vec<Label>>, AllocError>
+    requires { IsInOrder found.now }
+    ensures { IfOk result (λ run. MatchOption run (Contains found.now.outcomes.items outcome.now → ⊥) (λ labels. (q : Question) (machine : Machine) → AreRunsOf q machine found.now.runs found.now.outcomes.items → IsShownRun q machine labels.items outcome.now)) }
+{
+    match place_of(&found.outcomes, outcome) {
+        Ok(place) => match found.runs.get(place) {
+            Some(labels) => Ok(Some(Vec::from_slice(alloc, labels)?)),
+            None => unreachable!(),
+        },
+        Err(_) => Ok(None),
+    }
+}

@@ -1,0 +1,25 @@
+-- Steps, one more; and the labels of the steps of a run.
+use Rattle.std.proofs.Common.{◌≡◌, List, [], ◌∷◌, ◌++◌, map, refl}
+use Rattle.tso_program.specs.declared.listing.Listing.{Listing}
+use Rattle.tso_machine.specs.declared.label.Label.{Label}
+use Rattle.tso_machine.specs.declared.stepping.Step.{Step}
+use Rattle.tso_machine.specs.Machine.{Machine, State}
+use Rattle.tso_machine.specs.Steps.{AreSteps}
+use Rattle.documents.specs.declared.step.StepPart.{StepPart}
+use Rattle.documents.specs.Runs.{HasLabel, HaveLabels}
+
+pub one_more_step : (labels : List Label) (parts : List StepPart) (label : Label) (part : StepPart) → HaveLabels labels parts → HasLabel label part → HaveLabels (labels ++ label ∷ []) (parts ++ part ∷ [])
+one_more_step [] [] label part have has = (has, tt)
+one_more_step [] (first ∷ parts) label part have has = absurd have
+one_more_step (first ∷ labels) [] label part have has = absurd have
+one_more_step (first ∷ labels) (one ∷ parts) label part have has = (have.0, one_more_step labels parts label part have.1 has)
+
+-- the steps that labels make have these labels
+pub labels_of_steps : (p : Listing) (machine : Machine) (s : State) (labels : List Label) (steps : List Step) → AreSteps p machine s labels steps → map (λ step. step.label) steps ≡ labels
+labels_of_steps p machine s [] [] are = refl
+labels_of_steps p machine s [] (made ∷ more) are = absurd are
+labels_of_steps p machine s (label ∷ labels) [] are = absurd are
+labels_of_steps p machine s (label ∷ labels) (made ∷ more) (next, one, between, rest) =
+    let here : made.label ≡ label = between.labelled in
+    let there : map (λ step. step.label) more ≡ labels = labels_of_steps p machine next labels more rest in
+    λ i. here i ∷ there i

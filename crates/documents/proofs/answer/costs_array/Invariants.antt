@@ -1,0 +1,9 @@
+use Rattle.std.proofs.Common.{◌≡◌, map}
+use Rattle.std.specs.Prelude.{slice_index}
+use Rattle.std.specs.List.{range_with_len}
+use Rattle.documents.specs.Parts.{gap_value}
+use Rattle.documents.proofs.answer.costs_array.Given as goal
+
+-- the gaps so far
+abbrev pub invariant-loop-gap : goal.invariant-loop-gap
+invariant-loop-gap l = l.array ≡ map (λ gap. gap_value l.program.threads gap (slice_index l.costs gap)) (range_with_len 0 l.gap)

@@ -1,0 +1,7 @@
+use Rattle.std.proofs.Common.{◌≡◌, map}
+use Rattle.documents.specs.Parts.{quoted_gap}
+use Rattle.documents.proofs.named.gap_names.Given as goal
+
+-- the gaps so far
+abbrev pub invariant-loop-gap : goal.invariant-loop-gap
+invariant-loop-gap l = l.array ≡ map (quoted_gap l.program.threads) l.yielded

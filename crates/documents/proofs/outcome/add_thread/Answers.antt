@@ -1,0 +1,13 @@
+use Rattle.std.proofs.Common.{List, ◌++◌, get_or, ap, ◌∙◌, ℕ}
+use Rattle.tso_program.specs.declared.instruction.Reg.TheVariants.{Eax}
+use Rattle.litmus_reader.specs.Names.{all_registers}
+use Rattle.litmus_reader.proofs.Joined.{flat_more}
+use Rattle.documents.specs.Parts.{register_value}
+use Rattle.documents.proofs.outcome.add_thread.Goals as goal
+
+pub loop-register-preserved : goal.loop-register-preserved
+loop-register-preserved c =
+    let item = register_value c.args.names.now c.args.shown.now c.args.thread c.args.values in
+    c.in_ok-add_register.ensures
+    ∙ ap (λ (ts : List (List ℕ)). ts ++ item (get_or all_registers c.loop-register.register-index Eax)) c.loop-register.invariant
+    ∙ flat_more item c.args.array.now all_registers c.loop-register.register-index Eax c.loop-register-test.true

@@ -1,0 +1,9 @@
+use Rattle.std.proofs.Common.{◌≡◌, ◌++◌, take}
+use Rattle.std.specs.List.{flat_map}
+use Rattle.litmus_reader.specs.Names.{all_registers}
+use Rattle.documents.specs.Parts.{register_value}
+use Rattle.documents.proofs.outcome.add_thread.Given as goal
+
+-- the items of the registers so far
+abbrev pub invariant-loop-register : goal.invariant-loop-register
+invariant-loop-register l = l.array ≡ l.initial.array ++ flat_map (register_value l.names l.shown l.thread l.values) (take l.register-index all_registers)

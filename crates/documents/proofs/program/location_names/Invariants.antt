@@ -1,0 +1,7 @@
+use Rattle.std.proofs.Common.{◌≡◌, map, take}
+use Rattle.json_text.specs.Texts.{quoted}
+use Rattle.documents.proofs.program.location_names.Given as goal
+
+-- the names so far
+abbrev pub invariant-loop-number : goal.invariant-loop-number
+invariant-loop-number l = l.array ≡ map quoted (take l.number l.names.locations)

@@ -1,0 +1,38 @@
+use Rattle.std.proofs.Common.{◌∙◌, ◌≡◌, ℕ, List, [], ◌∷◌, ◌++◌, map, take, get_or, ap, sym, subst, arith}
+use Rattle.std.proofs.Math.Seq.{take-length}
+use Rattle.std.proofs.lemmas.List.{map_more, map-append}
+use Rattle.std.proofs.lemmas.Result.{IfOk-weaker}
+use Rattle.tso_machine.specs.declared.label.Label.{Label}
+use Rattle.tso_machine.specs.declared.stepping.Step.{Step}
+use Rattle.json_text.specs.Texts.{array_text}
+use Rattle.documents.specs.Runs.{step_text, HasLabel, HaveLabels}
+use Rattle.documents.proofs.Steps.{one_more_step}
+use Rattle.documents.proofs.step.steps_array.Goals as goal
+
+pub loop-step-init : goal.loop-step-init
+loop-step-init c = ([], tt, c.new-array.ensures)
+
+pub loop-step-preserved : goal.loop-step-preserved
+loop-step-preserved c =
+    let steps = c.args.steps.now in
+    let i = c.loop-step.step-index in
+    let d = c.step-item.result in
+    let label : Step → Label = λ step. step.label in
+    let parts = c.loop-step.invariant.0 in
+    let part = c.in_ok-part.part in
+    let has : HasLabel (label (get_or steps i d)) part = subst (λ (s : Step). HasLabel s.label part) c.step-item.is c.in_ok-part.ensures in (
+      parts ++ part ∷ [],
+      rw (map_more label steps i d c.loop-step-test.true) (one_more_step (map label (take i steps)) parts (label (get_or steps i d)) part c.loop-step.invariant.1 has),
+      c.in_ok-add.ensures ∙ ap (λ (json : List ℕ). c.loop-step.array ++ json ∷ []) c.in_ok-step_text.ensures
+          ∙ ap (λ (texts : List (List ℕ)). texts ++ step_text part ∷ []) c.loop-step.invariant.2 ∙ sym (map-append step_text parts (part ∷ [])),
+    )
+
+pub returns : goal.returns
+returns c =
+    let steps = c.args.steps.now in
+    let all : take c.loop-step.step-index steps ≡ steps = ap (λ (n : ℕ). take n steps) (omega arith) ∙ take-length steps in
+    IfOk-weaker c.into_json.result _ _ (λ json is. (
+      c.loop-step.invariant.0,
+      subst (λ (ss : List Step). HaveLabels (map (λ step. step.label) ss) c.loop-step.invariant.0) all c.loop-step.invariant.1,
+      is ∙ ap array_text c.loop-step.invariant.2,
+    )) c.into_json.ensures

@@ -1,0 +1,8 @@
+use Rattle.std.proofs.Common.{◌≡◌, List, map, take}
+use Rattle.documents.specs.declared.step.StepPart.{StepPart}
+use Rattle.documents.specs.Runs.{step_text, HaveLabels}
+use Rattle.documents.proofs.step.steps_array.Given as goal
+
+-- the steps so far
+abbrev pub invariant-loop-step : goal.invariant-loop-step
+invariant-loop-step l = (parts : List StepPart) × HaveLabels (map (λ step. step.label) (take l.step-index l.steps)) parts × (l.array ≡ map step_text parts)

@@ -1,0 +1,79 @@
+-- The documents of the commands.
+use Rattle.std.specs.Prelude.{◌≡◌, ℕ, ◌-◌, List, [], ◌∷◌, ◌++◌, codes, drop, length, min, take}
+use Rattle.gap_sets.specs.Gaps.{SetOfGaps}
+use Rattle.tso_program.specs.declared.listing.Listing.{Listing}
+use Rattle.tso_program.specs.declared.outcome.Outcome.{Outcome}
+use Rattle.tso_program.specs.declared.shown.Shown.{Shown}
+use Rattle.tso_program.specs.declared.shown.Shown.TheVariants.{All}
+use Rattle.tso_machine.specs.declared.label.Label.{Label}
+use Rattle.tso_machine.specs.declared.label.Model.{Model}
+use Rattle.litmus_reader.specs.declared.litmus.Litmus.{Litmus}
+use Rattle.report.specs.Observations.{frequency, is_true_of}
+use Rattle.json_text.specs.Texts.{quoted, array_text, member, object_text, truth_text}
+use Rattle.documents.specs.declared.program.ProgramPart.{ProgramPart}
+use Rattle.documents.specs.declared.run.Setting.TheVariants.{Machine}
+use Rattle.documents.specs.Parts.{program_members, IsProgram, answer_members, is_observed, outcomes_array}
+use Rattle.documents.specs.Runs.{setting_member, TellsRun}
+
+-- the version
+abbrev pub format_member : List ℕ
+format_member = member (codes "format") (quoted (codes "fencer 1"))
+
+-- the members up to what is said of the answer, a run or outcomes
+abbrev pub command_members : List ℕ → ProgramPart → List (List ℕ)
+command_members command part = format_member ∷ member (codes "command") (quoted command) ∷ program_members part
+
+pub record TellsHeading (source : Litmus Listing) (command : List ℕ) (members : List (List ℕ)) : Type 0 where
+  pub part : ProgramPart
+  pub is : IsProgram source part
+  pub printed : members ≡ command_members command part
+
+-- one line
+abbrev pub document_of : List (List ℕ) → List ℕ
+document_of members = object_text members ++ 10 ∷ []
+
+-- the document of a command: what is said of the program, and then these members
+pub record IsDocument (source : Litmus Listing) (command : List ℕ) (members : List (List ℕ)) (text : List ℕ) : Type 0 where
+  pub part : ProgramPart
+  pub is : IsProgram source part
+  pub printed : text ≡ document_of (command_members command part ++ members)
+
+-- of a placement: the gaps with their costs, the answer, and the text of the fenced program
+abbrev pub IsPlacedDocument : Litmus Listing → Shown → List ℕ → SetOfGaps → List ℕ → List ℕ → Type 0
+IsPlacedDocument source shown costs gaps fenced =
+    IsDocument source (codes "place") (answer_members source.program shown costs gaps ++ member (codes "fenced") (quoted fenced) ∷ [])
+
+-- of why the gaps of the answer are needed: the same with these texts of runs
+abbrev pub IsWhyDocument : Litmus Listing → Shown → List ℕ → SetOfGaps → List (List ℕ) → List ℕ → Type 0
+IsWhyDocument source shown costs gaps runs =
+    IsDocument source (codes "why") (answer_members source.program shown costs gaps ++ member (codes "runs") (array_text runs) ∷ [])
+
+-- of a run of a machine, of which all is shown
+pub record IsTraceDocument (source : Litmus Listing) (model : Model) (labels : List Label) (outcome : Outcome) (passed : SetOfGaps) (text : List ℕ) : Type 0 where
+  pub run : List ℕ
+  pub told : TellsRun source All (Machine model) labels outcome passed run
+  pub document : IsDocument source (codes "trace") (member (codes "run") run ∷ []) text
+
+-- of outcomes in a machine: as far as they are shown, and what they show of the condition
+abbrev pub IsOutcomesDocument : Litmus Listing → Shown → Model → List Outcome → List ℕ → Type 0
+IsOutcomesDocument source shown model outcomes =
+    IsDocument source (codes "outcomes") (setting_member source.program (Machine model) ∷ member (codes "observed") (truth_text (is_observed shown))
+    ∷ member (codes "outcomes") (outcomes_array source.names shown outcomes) ∷ member (codes "observation") (quoted (frequency source.condition.formula outcomes))
+    ∷ member (codes "holds") (truth_text (is_true_of source.condition.quantifier source.condition.formula outcomes)) ∷ [])
+
+-- the second members are the first and more
+pub record AddsMembers (before after : List (List ℕ)) : Type 0 where
+  pub members : List (List ℕ)
+  pub added : after ≡ before ++ members
+
+-- what the line of a refusal says after `refused `, without its end
+abbrev pub after_refused : List ℕ → List ℕ
+after_refused line = drop (min (length line) 8) line
+
+abbrev pub reason_of : List ℕ → List ℕ
+reason_of line = take (length (after_refused line) - 1) (after_refused line)
+
+-- of a refusal, with the reason that the line of standard output gives
+pub record IsRefusalDocument (line text : List ℕ) : Type 0 where
+  pub members : List (List ℕ)
+  pub printed : text ≡ document_of (format_member ∷ member (codes "refused") (quoted (reason_of line)) ∷ members)

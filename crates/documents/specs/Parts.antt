@@ -1,0 +1,124 @@
+-- What documents say of programs, outcomes and answers.
+use Rattle.std.specs.Prelude.{◌≡◌, ℕ, Bool, true, false, List, [], ◌∷◌, ◌++◌, ◌&&◌, codes, length, map, slice_index, slice_index_or, if◌then◌else◌}
+use Rattle.std.specs.Fmt.{decimal}
+use Rattle.std.specs.List.{flat_map, range_with_len}
+use Rattle.std.specs.Option.{option_map_or}
+use Rattle.gap_sets.specs.Gaps.{SetOfGaps, numbers_of_set}
+use Rattle.gap_sets.specs.Order.{total}
+use Rattle.tso_program.specs.declared.instruction.Reg.{Reg}
+use Rattle.tso_program.specs.declared.listing.Listing.{Listing}
+use Rattle.tso_program.specs.declared.listing.Thread.{Thread}
+use Rattle.tso_program.specs.declared.outcome.Outcome.{Outcome}
+use Rattle.tso_program.specs.declared.shown.Shown.{Shown}
+use Rattle.tso_program.specs.declared.shown.Shown.TheVariants.{All, Only, Truth}
+use Rattle.tso_program.specs.Instructions.{number}
+use Rattle.tso_program.specs.Listings.{gap_place}
+use Rattle.tso_program.specs.Shown.{shows_register, shows_location}
+use Rattle.litmus_reader.specs.declared.litmus.Litmus.{Litmus}
+use Rattle.litmus_reader.specs.Names.{TextNames, all_registers}
+use Rattle.litmus_reader.specs.Outcomes.{register_name, is_named}
+use Rattle.json_text.specs.Texts.{quoted, array_text, member, object_text, truth_text}
+use Rattle.documents.specs.declared.program.ProgramPart.{ProgramPart}
+
+-- ---- gaps
+
+-- `t:k`
+abbrev pub place_name : ℕ × ℕ → List ℕ
+place_name place = decimal place.0 ++ 58 ∷ decimal place.1
+
+-- the gap of this number by its place
+abbrev pub gap_name : List Thread → ℕ → List ℕ
+gap_name threads gap = option_map_or place_name (gap_place threads gap) []
+
+abbrev pub quoted_gap : List Thread → ℕ → List ℕ
+quoted_gap threads gap = quoted (gap_name threads gap)
+
+-- gaps by their places, ascending
+abbrev pub gaps_array : List Thread → SetOfGaps → List ℕ
+gaps_array threads gaps = array_text (map (quoted_gap threads) (numbers_of_set gaps))
+
+-- ---- what is shown of an outcome
+
+abbrev pub named_value : List ℕ → ℕ → List ℕ
+named_value name value = object_text (member (codes "name") (quoted name) ∷ member (codes "value") (decimal value) ∷ [])
+
+-- `t:REG`
+abbrev pub register_name_at : ℕ → Reg → List ℕ
+register_name_at t r = decimal t ++ (codes ":" ++ register_name r)
+
+-- a register with its value, where it is shown and the text names it
+abbrev pub register_value : TextNames → Shown → ℕ → List ℕ → Reg → List (List ℕ)
+register_value names shown t values r =
+    if shows_register shown t (number r) && is_named names t r then named_value (register_name_at t r) (slice_index values (number r)) ∷ [] else []
+
+-- thread t's named registers with their values
+abbrev pub thread_values : TextNames → Shown → ℕ → List ℕ → List (List ℕ)
+thread_values names shown t values = flat_map (register_value names shown t values) all_registers
+
+-- those of the first so many threads
+abbrev pub register_values : TextNames → Shown → List (List ℕ) → ℕ → List (List ℕ)
+register_values names shown registers threads = flat_map (λ t. thread_values names shown t (slice_index_or registers t [])) (range_with_len 0 threads)
+
+-- a location with its value, where it is shown
+abbrev pub location_value : TextNames → Shown → ℕ → ℕ → List (List ℕ)
+location_value names shown l value = if shows_location shown l then named_value (slice_index_or names.locations l []) value ∷ [] else []
+
+-- the first so many locations
+abbrev pub location_values : TextNames → Shown → List ℕ → ℕ → List (List ℕ)
+location_values names shown memory locations = flat_map (λ l. location_value names shown l (slice_index memory l)) (range_with_len 0 locations)
+
+-- each named register by thread and register order, then each location by number, as far as it is shown
+abbrev pub outcome_array : TextNames → Shown → Outcome → List ℕ
+outcome_array names shown outcome =
+    array_text (register_values names shown outcome.registers (length outcome.registers) ++ location_values names shown outcome.memory (length outcome.memory))
+
+abbrev pub outcomes_array : TextNames → Shown → List Outcome → List ℕ
+outcomes_array names shown outcomes = array_text (map (outcome_array names shown) outcomes)
+
+-- ---- the answer
+
+-- a gap with what it costs
+abbrev pub gap_value : List Thread → ℕ → ℕ → List ℕ
+gap_value threads gap cost = object_text (member (codes "gap") (quoted_gap threads gap) ∷ member (codes "cost") (decimal cost) ∷ [])
+
+-- each gap, ascending
+abbrev pub costs_array : List Thread → List ℕ → List ℕ
+costs_array threads costs = array_text (map (λ gap. gap_value threads gap (slice_index costs gap)) (range_with_len 0 (length costs)))
+
+-- whether values that are named tell outcomes apart
+abbrev pub is_observed : Shown → Bool
+is_observed All = false
+is_observed (Only names) = true
+is_observed (Truth f) = false
+
+-- that the truth of the condition's formula tells outcomes apart, where it does
+abbrev pub condition_members : Shown → List (List ℕ)
+condition_members All = []
+condition_members (Only names) = []
+condition_members (Truth f) = member (codes "condition") (truth_text true) ∷ []
+
+-- the set, what it costs, and what tells outcomes apart, where not all does
+abbrev pub answer_value : Listing → Shown → List ℕ → SetOfGaps → List ℕ
+answer_value p shown costs gaps =
+    object_text (member (codes "set") (gaps_array p.threads gaps) ∷ member (codes "cost") (decimal (total costs gaps)) ∷ member (codes "observed") (truth_text (is_observed shown)) ∷ condition_members shown)
+
+abbrev pub answer_members : Listing → Shown → List ℕ → SetOfGaps → List (List ℕ)
+answer_members p shown costs gaps = member (codes "gaps") (costs_array p.threads costs) ∷ member (codes "answer") (answer_value p shown costs gaps) ∷ []
+
+-- ---- the program
+
+abbrev pub program_members : ProgramPart → List (List ℕ)
+program_members part =
+    member (codes "test") part.test ∷ member (codes "condition") part.condition ∷ member (codes "locations") part.locations
+    ∷ member (codes "registers") part.registers ∷ member (codes "initial") part.initial ∷ member (codes "threads") part.threads ∷ []
+
+-- the test's name is that of the text, and the locations are its locations, by number
+pub record IsProgram (source : Litmus Listing) (part : ProgramPart) : Type 0 where
+  pub test : part.test ≡ quoted source.name
+  pub locations : part.locations ≡ array_text (map quoted source.names.locations)
+
+-- the second members are the first and those of a program
+pub record TellsProgram (source : Litmus Listing) (before after : List (List ℕ)) : Type 0 where
+  pub part : ProgramPart
+  pub is : IsProgram source part
+  pub added : after ≡ before ++ program_members part

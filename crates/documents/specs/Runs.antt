@@ -1,0 +1,60 @@
+-- What documents say of runs.
+use Rattle.std.specs.Prelude.{◌≡◌, ℕ, List, [], ◌∷◌, codes, map}
+use Rattle.gap_sets.specs.Gaps.{SetOfGaps}
+use Rattle.tso_program.specs.declared.listing.Listing.{Listing}
+use Rattle.tso_program.specs.declared.outcome.Outcome.{Outcome}
+use Rattle.tso_program.specs.declared.shown.Shown.{Shown}
+use Rattle.tso_machine.specs.declared.label.Label.{Label}
+use Rattle.tso_machine.specs.declared.label.Model.{Model}
+use Rattle.tso_machine.specs.declared.label.Model.TheVariants as models
+use Rattle.tso_machine.specs.RunTexts.{spelling}
+use Rattle.tso_program.specs.Truth.{truth}
+use Rattle.litmus_reader.specs.declared.litmus.Litmus.{Litmus}
+use Rattle.json_text.specs.Texts.{quoted, array_text, member, object_text, truth_text}
+use Rattle.documents.specs.declared.run.Setting.{Setting}
+use Rattle.documents.specs.declared.run.Setting.TheVariants.{Without, Machine}
+use Rattle.documents.specs.declared.step.StepPart.{StepPart}
+use Rattle.documents.specs.Parts.{quoted_gap, gaps_array, outcome_array}
+
+-- ---- steps
+
+abbrev pub step_text : StepPart → List ℕ
+step_text part =
+    object_text (member (codes "label") part.label ∷ member (codes "instruction") part.instruction ∷ member (codes "reads") part.reads ∷ member (codes "stores") part.stores
+    ∷ member (codes "reaches") part.reaches ∷ member (codes "buffer") part.buffer ∷ member (codes "memory") part.memory ∷ member (codes "registers") part.registers ∷ [])
+
+-- a step with this label
+abbrev pub HasLabel : Label → StepPart → Type 0
+HasLabel label part = part.label ≡ quoted (spelling label)
+
+-- a step for each label
+abbrev pub HaveLabels : List Label → List StepPart → Type 0
+HaveLabels [] [] = Unit {0}
+HaveLabels [] (part ∷ parts) = ⊥
+HaveLabels (label ∷ labels) [] = ⊥
+HaveLabels (label ∷ labels) (part ∷ parts) = HasLabel label part × HaveLabels labels parts
+
+-- the text has a step for each label
+abbrev pub TellsSteps : List Label → List ℕ → Type 0
+TellsSteps labels text = (parts : List StepPart) × HaveLabels labels parts × (text ≡ array_text (map step_text parts))
+
+-- ---- runs
+
+abbrev pub model_name : Model → List ℕ
+model_name models.Sequential = codes "sequential"
+model_name models.Buffered = codes "buffered"
+
+-- which run it is
+abbrev pub setting_member : Listing → Setting → List ℕ
+setting_member p (Without gap) = member (codes "without") (quoted_gap p.threads gap)
+setting_member p (Machine model) = member (codes "model") (quoted (model_name model))
+
+-- The text of a run: which one it is, a step for each of its labels, what is shown of what it leaves, whether that meets the
+-- condition's formula, the gaps that it passes, and its candidate execution.
+pub record TellsRun (source : Litmus Listing) (shown : Shown) (setting : Setting) (labels : List Label) (outcome : Outcome) (passed : SetOfGaps) (text : List ℕ) : Type 0 where
+  pub steps : List ℕ
+  pub each : TellsSteps labels steps
+  pub execution : List ℕ
+  pub printed : text ≡ object_text (setting_member source.program setting ∷ member (codes "steps") steps
+      ∷ member (codes "outcome") (outcome_array source.names shown outcome) ∷ member (codes "meets_condition") (truth_text (truth outcome source.condition.formula))
+      ∷ member (codes "passed") (gaps_array source.program.threads passed) ∷ member (codes "execution") execution ∷ [])

@@ -1,0 +1,88 @@
+//! The answer of a placement.
+ghost use Rattle.std.specs.Prelude.{◌≡◌, ◌++◌, ◌<◌, ◌≤◌, IfOk, OnOk, length};
+ghost use Rattle.gap_sets.specs.Order.{total};
+ghost use Rattle.documents.specs.Parts.{gap_value, costs_array, is_observed, condition_members, answer_value, answer_members};
+
+use crate::named::{gap_name, gap_names};
+use gap_sets::{Costs, GapSet};
+use json_text::{JsonArray, JsonObject, JsonText};
+use litmus_text::Litmus;
+use std::alloc::{AllocError, Global};
+use tso_program::{Program, Shown};
+
+/// A gap with what it costs.
+fn gap_value(alloc: Global, program: &Program, gap: u8, cost: u32) -> Result<JsonText, AllocError>
+    ensures { IfOk result (λ json. json ≡ gap_value program.now.threads gap cost) }
+{
+    let mut object = JsonObject::new(alloc);
+    object.add("gap", gap_name(alloc, program, gap)?)?;
+    object.add("cost", JsonText::number(alloc, u64::from(cost))?)?;
+    object.into_json()
+}
+
+/// Each gap with what it costs, ascending.
+fn costs_array(alloc: Global, program: &Program, costs: &[u32]) -> Result<JsonText, AllocError>
+    requires { length costs.now ≤ 255 }
+    ensures { IfOk result (λ json. json ≡ costs_array program.now.threads costs.now) }
+{
+    let mut array = JsonArray::new(alloc);
+    for (gap, cost) in costs.iter().enumerate() {
+        array.add(gap_value(alloc, program, gap as u8, *cost)?)?;
+    }
+    array.into_json()
+}
+
+/// Whether values that are named tell outcomes apart.
+pub(crate) fn is_observed(shown: &Shown) -> bool
+    ensures { result ≡ is_observed shown.now }
+{
+    match shown {
+        Shown::All => false,
+        Shown::Only(_) => true,
+        Shown::Truth(_) => false,
+    }
+}
+
+/// Adds that the truth of the condition's formula tells outcomes apart, where it does.
+fn add_condition(alloc: Global, object: &mut JsonObject, shown: &Shown) -> Result<(), AllocError>
+    ensures { OnOk result (object.new ≡ object.old ++ condition_members shown.now) }
+{
+    match shown {
+        Shown::All | Shown::Only(_) => Ok(()),
+        Shown::Truth(_) => object.add("condition", JsonText::truth(alloc, true)?),
+    }
+}
+
+/// The set that is the answer, and what it costs.
+fn answer_value(
+    alloc: Global,
+    program: &Program,
+    shown: &Shown,
+    costs: &Costs,
+    set: &GapSet,
+) -> Result<JsonText, AllocError>
+    ensures { IfOk result (λ json. json ≡ answer_value program.now shown.now costs.now set.now) }
+{
+    let mut object = JsonObject::new(alloc);
+    object.add("set", gap_names(alloc, program, set)?)?;
+    object.add("cost", JsonText::number(alloc, costs.total(set))?)?;
+    object.add("observed", JsonText::truth(alloc, is_observed(shown))?)?;
+    add_condition(alloc, &mut object, shown)?;
+    object.into_json()
+}
+
+/// Adds the gaps with their costs, and the answer.
+pub(crate) fn add_answer(
+    alloc: Global,
+    object: &mut JsonObject,
+    litmus: &Litmus<Program>,
+    shown: &Shown,
+    costs: &Costs,
+    set: &GapSet,
+) -> Result<(), AllocError>
+    ensures { OnOk result (object.new ≡ object.old ++ answer_members litmus.now.program shown.now costs.now set.now) }
+{
+    let program = &litmus.program;
+    object.add("gaps", costs_array(alloc, program, costs.as_slice())?)?;
+    object.add("answer", answer_value(alloc, program, shown, costs, set)?)
+}

@@ -1,0 +1,142 @@
+//! The documents of the commands.
+ghost use Rattle.std.specs.Prelude.{◌≡◌, ◌∷◌, ◌++◌, [], IfOk, OnOk, map};
+ghost use Rattle.json_text.specs.Safe.{IsSafe};
+ghost use Rattle.json_text.specs.Texts.{quoted};
+ghost use Rattle.report.specs.Observations.{frequency};
+ghost use Rattle.documents.specs.Documents.{document_of, format_member, IsWhyDocument, IsPlacedDocument, IsTraceDocument, IsOutcomesDocument, TellsHeading};
+
+use crate::answer::{add_answer, is_observed};
+use crate::outcome::outcomes_array;
+use crate::program::add_program;
+use crate::run::{Setting, add_model, run_value};
+use gap_sets::{Costs, GapSet};
+use json_text::{JsonArray, JsonObject, JsonText};
+use litmus_text::{Condition, Litmus};
+use report::{frequency, is_true_of};
+use std::alloc::{AllocError, Global};
+use tso_machine::{Ended, Model, Step};
+use tso_program::{Outcome, Program, Shown};
+
+/// The beginning of each document. The version changes where a field changes its meaning or goes away.
+pub(crate) fn add_format(alloc: Global, object: &mut JsonObject) -> Result<(), AllocError>
+    ensures { OnOk result (object.new ≡ object.old ++ format_member ∷ []) }
+{
+    let format = JsonText::string(alloc, b"fencer 1")?;
+    object.add("format", format)
+}
+
+/// A document's object up to what is said of the program.
+fn begun(alloc: Global, command: &[u8], litmus: &Litmus<Program>) -> Result<JsonObject, AllocError>
+    ensures { IfOk result (TellsHeading litmus.now command.now) }
+{
+    let mut object = JsonObject::new(alloc);
+    add_format(alloc, &mut object)?;
+    let name = JsonText::string(alloc, command)?;
+    object.add("command", name)?;
+    add_program(alloc, &mut object, litmus)?;
+    Ok(object)
+}
+
+/// A document, which is one line.
+pub(crate) fn document_of(object: JsonObject) -> Result<Vec<u8>, AllocError>
+    ensures text { IfOk result (λ document. document.items ≡ document_of object) }
+    ensures safe { IfOk result (λ document. IsSafe document.items) }
+{
+    let text = object.into_json()?;
+    let mut document = text.into_bytes();
+    document.push(b'\n')?;
+    Ok(document)
+}
+
+/// The document of a placement, with the program with its fences in canonical text.
+pub fn placed_document(
+    alloc: Global,
+    litmus: &Litmus<Program>,
+    shown: &Shown,
+    costs: &Costs,
+    set: &GapSet,
+    fenced: &[u8],
+) -> Result<Vec<u8>, AllocError>
+    ensures told { IfOk result (λ document. IsPlacedDocument litmus.now shown.now costs.now set.now fenced.now document.items) }
+    ensures safe { IfOk result (λ document. IsSafe document.items) }
+{
+    let mut object = begun(alloc, b"place", litmus)?;
+    add_answer(alloc, &mut object, litmus, shown, costs, set)?;
+    let text = JsonText::string(alloc, fenced)?;
+    object.add("fenced", text)?;
+    document_of(object)
+}
+
+/// The document of why the gaps of an answer are needed, with a run for each of them.
+pub fn why_document(
+    alloc: Global,
+    litmus: &Litmus<Program>,
+    shown: &Shown,
+    costs: &Costs,
+    set: &GapSet,
+    runs: JsonArray,
+) -> Result<Vec<u8>, AllocError>
+    ensures told { IfOk result (λ document. IsWhyDocument litmus.now shown.now costs.now set.now runs document.items) }
+    ensures safe { IfOk result (λ document. IsSafe document.items) }
+{
+    let mut object = begun(alloc, b"why", litmus)?;
+    add_answer(alloc, &mut object, litmus, shown, costs, set)?;
+    let runs = runs.into_json()?;
+    object.add("runs", runs)?;
+    document_of(object)
+}
+
+/// The document of a run of a machine with no gap fenced, of which all is shown.
+pub fn trace_document(
+    alloc: Global,
+    litmus: &Litmus<Program>,
+    model: Model,
+    steps: &[Step],
+    ended: &Ended,
+) -> Result<Vec<u8>, AllocError>
+    ensures told { IfOk result (λ document. IsTraceDocument litmus.now model (map (λ step. step.label) steps.now) ended.now.outcome ended.now.passed document.items) }
+    ensures safe { IfOk result (λ document. IsSafe document.items) }
+{
+    let setting = Setting::Machine(model);
+    let told = run_value(alloc, litmus, &Shown::All, setting, steps, ended)?;
+    let mut object = begun(alloc, b"trace", litmus)?;
+    object.add("run", told)?;
+    document_of(object)
+}
+
+/// How often the condition's formula is met.
+fn observation(
+    alloc: Global,
+    condition: &Condition,
+    outcomes: &[Outcome],
+) -> Result<JsonText, AllocError>
+    ensures { IfOk result (λ json. json ≡ quoted (frequency condition.now.formula outcomes.now)) }
+{
+    let word = frequency(condition, outcomes);
+    JsonText::string(alloc, word.as_bytes())
+}
+
+/// The document of a program's outcomes in a machine.
+pub fn outcomes_document(
+    alloc: Global,
+    litmus: &Litmus<Program>,
+    shown: &Shown,
+    model: Model,
+    outcomes: &[Outcome],
+) -> Result<Vec<u8>, AllocError>
+    ensures told { IfOk result (λ document. IsOutcomesDocument litmus.now shown.now model outcomes.now document.items) }
+    ensures safe { IfOk result (λ document. IsSafe document.items) }
+{
+    let condition = &litmus.condition;
+    let observed = JsonText::truth(alloc, is_observed(shown))?;
+    let list = outcomes_array(alloc, &litmus.names, shown, outcomes)?;
+    let often = observation(alloc, condition, outcomes)?;
+    let holds = JsonText::truth(alloc, is_true_of(condition, outcomes))?;
+    let mut object = begun(alloc, b"outcomes", litmus)?;
+    add_model(alloc, &mut object, model)?;
+    object.add("observed", observed)?;
+    object.add("outcomes", list)?;
+    object.add("observation", often)?;
+    object.add("holds", holds)?;
+    document_of(object)
+}

@@ -1,0 +1,97 @@
+//! Runs.
+ghost use Rattle.std.specs.Prelude.{◌≡◌, ◌++◌, ◌∷◌, [], IfOk, OnOk, map};
+ghost use Rattle.tso_program.specs.declared.listing.Listing.{Listing};
+ghost use Rattle.documents.specs.Runs.{model_name, setting_member, TellsRun};
+
+use crate::execution::execution_value;
+use crate::named::{gap_name, gap_names};
+use crate::outcome::outcome_array;
+use crate::step::steps_array;
+use json_text::{JsonObject, JsonText};
+use litmus_text::{Litmus, holds};
+use std::alloc::{AllocError, Global};
+use tso_machine::{Ended, Model, Step};
+use tso_program::{Program, Shown};
+
+/// Which run it is.
+#[derive(Clone, Copy, PartialEq, Eq, Debug)]
+pub enum Setting {
+    /// The run for which this gap of an answer is needed.
+    Without(u8),
+    /// A run of this machine.
+    Machine(Model),
+}
+
+impl Setting {
+    /// The gap over which the run's cycle leads, where one is meant.
+    fn gap(self) -> Option<u8> {
+        match self {
+            Setting::Without(gap) => Some(gap),
+            Setting::Machine(_) => None,
+        }
+    }
+}
+
+/// The name of a machine.
+pub(crate) fn model_name(model: Model) -> &'static str
+    ensures { result.now ≡ model_name model }
+{
+    match model {
+        Model::Sequential => "sequential",
+        Model::Buffered => "buffered",
+    }
+}
+
+/// Adds a machine.
+pub(crate) fn add_model(
+    alloc: Global,
+    object: &mut JsonObject,
+    model: Model,
+) -> Result<(), AllocError>
+    ensures { (program : Listing) → OnOk result (object.new ≡ object.old ++ setting_member program (Setting.Machine model) ∷ []) }
+{
+    let name = JsonText::string(alloc, model_name(model).as_bytes())?;
+    object.add("model", name)
+}
+
+/// Adds which run it is.
+fn add_setting(
+    alloc: Global,
+    object: &mut JsonObject,
+    program: &Program,
+    setting: Setting,
+) -> Result<(), AllocError>
+    ensures { OnOk result (object.new ≡ object.old ++ setting_member program.now setting ∷ []) }
+{
+    match setting {
+        Setting::Without(gap) => object.add("without", gap_name(alloc, program, gap)?),
+        Setting::Machine(model) => add_model(alloc, object, model),
+    }
+}
+
+/// What is said of a run of a litmus text's program: its steps, what it leaves as far as it is shown, whether that meets
+/// the condition's formula, the gaps that it passes, and its candidate execution.
+pub fn run_value(
+    alloc: Global,
+    litmus: &Litmus<Program>,
+    shown: &Shown,
+    setting: Setting,
+    steps: &[Step],
+    ended: &Ended,
+) -> Result<JsonText, AllocError>
+    ensures { IfOk result (TellsRun litmus.now shown.now setting (map (λ step. step.label) steps.now) ended.now.outcome ended.now.passed) }
+{
+    let each = steps_array(alloc, litmus, steps)?;
+    let outcome = outcome_array(alloc, &litmus.names, shown, &ended.outcome)?;
+    let meets = JsonText::truth(alloc, holds(&litmus.condition, &ended.outcome))?;
+    let passed = gap_names(alloc, &litmus.program, &ended.passed)?;
+    let execution = execution_value(alloc, litmus, steps, setting.gap())?;
+    let mut object = JsonObject::new(alloc);
+    add_setting(alloc, &mut object, &litmus.program, setting)?;
+    object.add("steps", each)?;
+    object.add("outcome", outcome)?;
+    object.add("meets_condition", meets)?;
+    object.add("passed", passed)?;
+    object.add("execution", execution)?;
+    object.into_json()
+}

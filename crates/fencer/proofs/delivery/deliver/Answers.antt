@@ -1,0 +1,17 @@
+use Rattle.std.proofs.Common.{Ok}
+use Rattle.std.specs.declared.alloc.AllocError.{AllocError}
+use Rattle.program_streams.specs.declared.fault.FileFault.TheVariants as file
+use Rattle.program_streams.proofs.Printed.{prints_made}
+use Rattle.fencer.proofs.PrintedRefusals.{prints_refusal}
+use Rattle.program_streams.specs.FileLines.{file_line}
+use Rattle.fencer.specs.Deliveries.{kept, not_kept}
+use Rattle.fencer.proofs.delivery.deliver.Goals as goal
+
+pub returns-in-Ok-clause-told : goal.returns-in-Ok-clause-told
+returns-in-Ok-clause-told g c =
+    prints_made {E = AllocError} (Ok c.args.answer.lines) c.args.answer.status _ _ _ c.print.result (kept c.in-Ok.ensures.kept) c.print.ensures
+
+pub returns-in-Err-clause-told : goal.returns-in-Err-clause-told
+returns-in-Err-clause-told g c =
+    prints_refusal c.args.answer.json c.file_line.result (file_line file.Write) _ _ _ c.tell_refusal.result
+    (λ text says. not_kept text c.in-Err.ensures.named says) c.file_line.ensures c.tell_refusal.ensures

@@ -1,0 +1,15 @@
+use Rattle.std.proofs.Common.{Ok}
+use Rattle.std.specs.declared.alloc.AllocError.{AllocError}
+use Rattle.program_streams.proofs.Printed.{prints_made}
+use Rattle.fencer.proofs.PrintedRefusals.{prints_refused_line}
+use Rattle.fencer.specs.GapTexts.{listed, refused_for}
+use Rattle.fencer.specs.Placements.{text_fault_line}
+use Rattle.fencer.proofs.gaps.gaps_of_texts.Goals as goal
+
+pub returns-in-Ok : goal.returns-in-Ok
+returns-in-Ok g c =
+    prints_made {E = AllocError} (Ok c.in-Ok.lines) 0 _ _ _ c.print.result (listed c.in-Ok.lines.items c.in-Ok.ensures.lines) c.print.ensures
+
+pub returns-in-Err : goal.returns-in-Err
+returns-in-Err g c =
+    prints_refused_line c.text_fault_line.result (text_fault_line c.in-Err.fault) _ _ _ c.tell_refusal.result (refused_for c.in-Err.fault c.in-Err.ensures.fault) c.text_fault_line.ensures c.tell_refusal.ensures

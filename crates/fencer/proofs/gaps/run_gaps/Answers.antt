@@ -1,0 +1,20 @@
+use Rattle.std.specs.Prelude.{option_map}
+use Rattle.program_streams.proofs.Printed.{prints_more}
+use Rattle.fencer.proofs.PrintedRefusals.{prints_refused_line}
+use Rattle.program_streams.specs.FileLines.{file_line}
+use Rattle.fencer.specs.GapTexts.{of_texts, no_texts}
+use Rattle.fencer.proofs.gaps.run_gaps.Goals as goal
+
+pub returns-in-Ok-clause-told : goal.returns-in-Ok-clause-told
+returns-in-Ok-clause-told g c =
+    prints_more _ _ _ _ c.gaps_of_texts.result (λ status text is. of_texts c.in-Ok.texts.litmus.items (option_map (λ text. text.items) c.in-Ok.texts.costs) status text (rw (c.as_str.ensures.value, c.as_deref-costs.ensures.value) at c.in-Ok.ensures.texts) is) c.gaps_of_texts.ensures
+
+pub returns-in-Err-clause-told : goal.returns-in-Err-clause-told
+returns-in-Err-clause-told g c =
+    prints_refused_line c.file_line.result (file_line c.in-Err.file.fault) _ _ _ c.tell_refusal.result (no_texts c.in-Err.file.fault (rw (c.as_str.ensures.value, c.as_deref-costs.ensures.value) at c.in-Err.ensures.err)) c.file_line.ensures c.tell_refusal.ensures
+
+pub returns-in-Ok-clause-read : goal.returns-in-Ok-clause-read
+returns-in-Ok-clause-read g c = rw c.as_str.ensures.value at c.read_texts.ensures.read
+
+pub returns-in-Err-clause-read : goal.returns-in-Err-clause-read
+returns-in-Err-clause-read g c = rw c.as_str.ensures.value at c.read_texts.ensures.read

@@ -1,0 +1,15 @@
+use Rattle.std.proofs.Common.{List, subst}
+use Rattle.std.specs.FinSet as set
+use Rattle.tso_machine.specs.declared.label.Label.{Label}
+use Rattle.tso_machine.specs.Machine as machine
+use Rattle.tso_machine.specs.Modes.{machine_of_model}
+use Rattle.documents.specs.Documents.{IsTraceDocument}
+use Rattle.documents.proofs.Steps.{labels_of_steps}
+use Rattle.fencer.proofs.traces.drawings_of.Goals as goal
+
+pub returns-in-Ok-drawn-clause-told : goal.returns-in-Ok-drawn-clause-told
+returns-in-Ok-drawn-clause-told c =
+    let p = c.args.litmus.now.program in
+    subst (λ (labels : List Label). IsTraceDocument c.args.litmus.now c.args.model labels c.args.ended.now.outcome c.args.ended.now.passed c.in-Ok-drawn.drawings.document.items)
+    (labels_of_steps p (machine_of_model p set.empty c.args.model) (machine.start p) c.args.labels.now c.in-Ok.steps.items (rw c.empty.ensures at c.in-Ok.ensures.steps))
+    (rw c.deref.ensures.value at c.in-Ok-drawn.ensures)

@@ -1,0 +1,54 @@
+-- What is printed for the gaps of a program.
+use Rattle.std.specs.Prelude.{◌≡◌, ℕ, Bool, true, false, List, Option, Some, None, string_bytes, ⊤}
+use Rattle.program_streams.specs.declared.fault.FileFault.{FileFault}
+use Rattle.program_streams.specs.FileLines.{file_line}
+use Rattle.tso_program.specs.declared.listing.Listing.{Listing}
+use Rattle.litmus_reader.specs.declared.litmus.Litmus.{Litmus}
+use Rattle.litmus_reader.specs.Texts.{IsLitmus}
+use Rattle.cost_text.specs.CostTexts.{IsCostText}
+use Rattle.cost_text.specs.GivenCosts.{AreGiven}
+use Rattle.gap_list.specs.CostFiles.{cost_file_text}
+use Rattle.gap_list.specs.Lists.{IsGapList}
+use Rattle.placed_text.specs.declared.fault.TextFault.{TextFault}
+use Rattle.placed_text.specs.declared.fault.TextFault.TheVariants as fault
+use Rattle.placed_text.specs.TextFaults.{AreNoCosts, IsRefusedText}
+use Rattle.fencer_words.specs.declared.job.GapQuery.{GapQuery}
+use Rattle.fencer_words.specs.CommandFiles.{name_of}
+use Rattle.fencer.specs.InputTexts.{AreTexts, HasNoTexts}
+use Rattle.fencer.specs.Placements.{text_fault_line}
+
+-- the costs that the list names: those of a text, where one is given
+abbrev pub costs_shown : Option (List ℕ) → List ℕ → Option (List ℕ)
+costs_shown None costs = None
+costs_shown (Some text) costs = Some costs
+
+-- the list of the gaps; or the cost file of all of them, which is read as their costs
+abbrev pub IsGapText : Bool → Litmus Listing → Option (List ℕ) → List ℕ → List ℕ → Type 0
+IsGapText false source text costs lines = IsGapList source (costs_shown text costs) lines
+IsGapText true source text costs lines = (lines ≡ cost_file_text source.program.threads costs) × IsCostText lines source.program.threads costs
+
+-- the lines are those of the gaps of the program that the litmus text spells, with these costs
+pub record PrintsGaps (template : Bool) (litmus : List ℕ) (costs : Option (List ℕ)) (lines : List ℕ) : Type 0 where
+  pub source : Litmus Listing
+  pub of_text : IsLitmus litmus source
+  pub gap_costs : List ℕ
+  pub given : AreGiven source.program costs gap_costs
+  pub printed : IsGapText template source costs gap_costs lines
+
+-- why there are no such lines: the litmus text is judged first, then the costs
+abbrev pub HasNoGaps : List ℕ → Option (List ℕ) → TextFault → Type 0
+HasNoGaps litmus costs (fault.Read why) = IsRefusedText litmus why
+HasNoGaps litmus costs (fault.CostText why) = (source : Litmus Listing) × IsLitmus litmus source × AreNoCosts source.program costs why
+HasNoGaps litmus costs (fault.Place why) = ⊥
+HasNoGaps litmus costs fault.OutOfMemory = ⊤
+
+-- the answer to texts, with its status; or why there is none
+pub data AreGapsOfTexts (template : Bool) (litmus : List ℕ) (costs : Option (List ℕ)) : ℕ → List ℕ → Type 0 where
+  listed : (lines : List ℕ) → PrintsGaps template litmus costs lines → AreGapsOfTexts template litmus costs 0 lines
+  refused_for : (why : TextFault) → HasNoGaps litmus costs why → AreGapsOfTexts template litmus costs 1 (text_fault_line why)
+
+-- the answer to what is asked; or why a file isn't read
+pub data AreGaps (q : GapQuery) (input : Option (List ℕ)) (files : List ℕ → Option (List ℕ)) : ℕ → List ℕ → Type 0 where
+  of_texts : (litmus : List ℕ) (costs : Option (List ℕ)) (status : ℕ) (text : List ℕ) → AreTexts (string_bytes q.litmus) (name_of q.costs) input files litmus costs
+      → AreGapsOfTexts q.template litmus costs status text → AreGaps q input files status text
+  no_texts : (why : FileFault) → HasNoTexts (string_bytes q.litmus) (name_of q.costs) input files why → AreGaps q input files 1 (file_line why)

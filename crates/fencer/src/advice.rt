@@ -1,0 +1,91 @@
+//! What is said to people of a refusal, on standard error.
+
+ghost use Rattle.std.specs.Prelude.{◌≡◌};
+
+use crate::refusals::Refusal;
+use crate::texts::Texts;
+use messages::{
+    Message, Source, costs_message, file_or_input, litmus_message, replay_message, run_message,
+    unread_message, unwritten_message,
+};
+use placed_text::TextFault;
+use program_streams::{FileFault, FileStore, TEXT_LIMIT, UnreadFile};
+use std::alloc::{AllocError, Global};
+
+/// What an answer is asked about: the text of a litmus file, and labels where there are any.
+#[derive(Clone, Copy, Debug)]
+pub(crate) struct Subject<'a> {
+    pub(crate) name: &'a str,
+    pub(crate) text: &'a [u8],
+    pub(crate) labels: &'a [String],
+}
+
+/// A text that is not read.
+pub(crate) fn unread_text<'a>(name: &'a str, fault: FileFault) -> UnreadFile<'a>
+    ensures { result.fault ≡ fault }
+{
+    let limit = TEXT_LIMIT;
+    UnreadFile { name, limit, fault }
+}
+
+/// A litmus text that is not read, of a file or of the input.
+pub(crate) fn unread_litmus<'a>(name: &'a str, fault: FileFault) -> UnreadFile<'a>
+    ensures { result.fault ≡ fault }
+{
+    unread_text(file_or_input(name), fault)
+}
+
+/// Why a file is not read.
+pub(crate) fn unread_advice<S: FileStore>(
+    alloc: Global,
+    files: &S,
+    file: UnreadFile<'_>,
+) -> Result<Message, AllocError> {
+    unread_message(alloc, file, files.obstacle(file.name))
+}
+
+/// That a file is not written.
+pub(crate) fn unwritten_advice(alloc: Global, name: Option<&str>) -> Result<Message, AllocError> {
+    unwritten_message(alloc, name.unwrap_or(""))
+}
+
+/// Why there is no answer.
+pub(crate) fn refusal_advice(
+    alloc: Global,
+    subject: Subject<'_>,
+    why: Refusal,
+) -> Result<Message, AllocError> {
+    let Subject { name, text, labels } = subject;
+    match why {
+        Refusal::Litmus(fault) => litmus_message(alloc, Source::new(name, text), fault),
+        Refusal::Run(fault) => run_message(alloc, name, labels, fault),
+        Refusal::Replay(fault) => replay_message(alloc, name, labels, fault),
+        Refusal::Solve(fault) => {
+            let text = format!(in alloc; "{fault}")?;
+            Message::of_file(alloc, name, text.as_str())
+        }
+    }
+}
+
+/// Why a litmus text or a text of costs, of files of these names, has no answer.
+pub(crate) fn text_fault_advice(
+    alloc: Global,
+    named: (&str, Option<&str>),
+    texts: &Texts,
+    fault: TextFault,
+) -> Result<Message, AllocError> {
+    let (litmus, cost_file) = named;
+    let name = file_or_input(litmus);
+    match fault {
+        TextFault::Read(why) => litmus_message(alloc, Source::new(name, &texts.litmus), why),
+        TextFault::CostText(why) => {
+            let costs = texts.costs.as_deref().unwrap_or(b"");
+            let source = Source::new(cost_file.unwrap_or(""), costs);
+            costs_message(alloc, source, why, &texts.litmus)
+        }
+        TextFault::Place(_) | TextFault::OutOfMemory => {
+            let text = format!(in alloc; "{fault}")?;
+            Message::of_file(alloc, name, text.as_str())
+        }
+    }
+}

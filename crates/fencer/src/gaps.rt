@@ -1,0 +1,98 @@
+//! Gaps: the list of a program's gaps or the cost file of all of them, or why there is none.
+
+ghost use Rattle.std.specs.Prelude.{◌≡◌, IfErr, IfOk, length, option_map, string_bytes};
+ghost use Rattle.program_streams.specs.Streams.{Prints};
+ghost use Rattle.tso_program.specs.Listings.{gap_count};
+ghost use Rattle.program_streams.specs.Files.{ReadsOfInput};
+ghost use Rattle.fencer.specs.GapTexts.{AreGaps, AreGapsOfTexts, HasNoGaps, IsGapText, PrintsGaps, costs_shown};
+
+use crate::advice::{text_fault_advice, unread_advice};
+use crate::place::text_fault_line;
+use crate::refused::tell_refusal;
+use crate::texts::{Texts, read_texts};
+use fencer_words::GapQuery;
+use gap_list::{cost_file, gap_list};
+use gap_sets::Costs;
+use litmus_text::Litmus;
+use placed_text::{TextFault, read_gap_costs, read_program};
+use program_streams::{Console, FileStore, TEXT_LIMIT, file_line, print};
+use std::alloc::{AllocError, Global};
+use std::io::Read;
+use tso_program::Program;
+
+/// The costs, where a text of them is given.
+fn costs_shown<'a>(text: Option<&[u8]>, costs: &'a Costs) -> Option<&'a Costs>
+    ensures { option_map (λ costs. costs.now) result ≡ costs_shown (option_map (λ text. text.now) text.entry) costs.now }
+{
+    match text {
+        Some(_) => Some(costs),
+        None => None,
+    }
+}
+
+/// The list of the gaps, with their costs where a text of them is given, or the cost file of all of them.
+fn written_gaps(
+    alloc: Global,
+    template: bool,
+    texts: &Texts,
+    source: &Litmus<Program>,
+    costs: &Costs,
+) -> Result<Vec<u8>, AllocError>
+    requires { length costs.now ≡ gap_count source.now.program.threads }
+    ensures { IfOk result (λ lines. IsGapText template source.now (option_map (λ text. text.items) texts.now.costs) costs.now lines.items) }
+{
+    if template {
+        cost_file(alloc, &source.program, costs)
+    } else {
+        let shown = costs_shown(texts.costs.as_deref(), costs);
+        gap_list(alloc, &texts.litmus, source, shown)
+    }
+}
+
+/// What is printed of the gaps of the program of a text.
+fn gap_lines(alloc: Global, template: bool, texts: &Texts) -> Result<Vec<u8>, TextFault>
+    ensures lines { IfOk result (λ lines. PrintsGaps template texts.now.litmus.items (option_map (λ text. text.items) texts.now.costs) lines.items) }
+    ensures fault { IfErr result (HasNoGaps texts.now.litmus.items (option_map (λ text. text.items) texts.now.costs)) }
+{
+    let source = read_program(alloc, &texts.litmus)?;
+    let costs = read_gap_costs(alloc, texts.costs.as_deref(), &source.program)?;
+    match written_gaps(alloc, template, texts, &source, &costs) {
+        Ok(lines) => Ok(lines),
+        Err(_) => Err(TextFault::OutOfMemory),
+    }
+}
+
+/// Judges texts, prints what is asked of their gaps, and returns the status.
+fn gaps_of_texts<W: Console>(alloc: Global, asked: &GapQuery, texts: &Texts, output: &mut W) -> u8
+    ensures { Prints (AreGapsOfTexts asked.now.template texts.now.litmus.items (option_map (λ text. text.items) texts.now.costs)) (W.contents output.old) (W.contents output.new) result }
+{
+    match gap_lines(alloc, asked.template, texts) {
+        Ok(lines) => print(output, Ok(lines), 0),
+        Err(fault) => {
+            let named = (asked.litmus.as_str(), asked.costs.as_deref());
+            let message = text_fault_advice(alloc, named, texts, fault);
+            tell_refusal(alloc, false, text_fault_line(alloc, fault), message, output)
+        }
+    }
+}
+
+/// Lists the gaps of the program of a litmus file, or prints a cost file of all of them, and returns the status.
+pub fn run_gaps<S: FileStore, R: Read, W: Console>(
+    alloc: Global,
+    files: &S,
+    asked: &GapQuery,
+    input: &mut R,
+    output: &mut W,
+) -> u8
+    ensures told { Prints (AreGaps asked.now (R.remaining input.old) (S.held files.now)) (W.contents output.old) (W.contents output.new) result }
+    ensures read { ReadsOfInput TEXT_LIMIT (string_bytes asked.now.litmus) (R.remaining input.old) (R.remaining input.new) }
+{
+    let costs = asked.costs.as_deref();
+    match read_texts(alloc, files, asked.litmus.as_str(), costs, input) {
+        Ok(texts) => gaps_of_texts(alloc, asked, &texts, output),
+        Err(file) => {
+            let message = unread_advice(alloc, files, file);
+            tell_refusal(alloc, false, file_line(alloc, file.fault), message, output)
+        }
+    }
+}

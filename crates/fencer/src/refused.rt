@@ -1,0 +1,74 @@
+//! How a refusal is reported: its line or its document, and a message for people.
+
+ghost use Rattle.std.specs.Prelude.{IfOk, IsOkAnd};
+ghost use Rattle.program_streams.specs.Streams.{Prints};
+ghost use Rattle.fencer.specs.Refused.{IsRefused, RefusalSays};
+
+use documents::{Message as Said, refusal_document};
+use messages::Message;
+use program_streams::{Console, refuse};
+use std::alloc::{AllocError, Global};
+
+/// What a document says of a message. Of one that could not be made it says nothing.
+fn said_of(message: &Result<Message, AllocError>) -> Said<'_> {
+    match message {
+        Ok(message) => Said {
+            file: message.file.as_bytes(),
+            line: message.line,
+            column: message.column,
+            word: message.word.as_bytes(),
+            text: message.text.as_bytes(),
+        },
+        Err(_) => Said {
+            file: b"",
+            line: None,
+            column: None,
+            word: b"",
+            text: b"",
+        },
+    }
+}
+
+/// The message as one line.
+fn written(alloc: Global, message: &Result<Message, AllocError>) -> Result<Vec<u8>, AllocError> {
+    match message {
+        Ok(message) => message.written(alloc),
+        Err(_) => Err(AllocError),
+    }
+}
+
+/// The line of a refusal, or its document where that is asked for.
+fn refusal_text(
+    alloc: Global,
+    json: bool,
+    line: Result<Vec<u8>, AllocError>,
+    message: &Result<Message, AllocError>,
+) -> Result<Vec<u8>, AllocError>
+    ensures { IfOk result (λ text. IsOkAnd line (λ line. RefusalSays json line.items text.items)) }
+{
+    match line {
+        Ok(line) => {
+            if json {
+                refusal_document(alloc, &line, &said_of(message))
+            } else {
+                Ok(line)
+            }
+        }
+        Err(fault) => Err(fault),
+    }
+}
+
+/// Prints the line of a refusal, or its document where that is asked for, then tells its message, and returns the
+/// status, which is 1.
+pub(crate) fn tell_refusal<W: Console>(
+    alloc: Global,
+    json: bool,
+    line: Result<Vec<u8>, AllocError>,
+    message: Result<Message, AllocError>,
+    output: &mut W,
+) -> u8
+    ensures { Prints (IsRefused json line) (W.contents output.old) (W.contents output.new) result }
+{
+    let text = refusal_text(alloc, json, line, &message);
+    refuse(output, text, written(alloc, &message))
+}

@@ -1,0 +1,44 @@
+-- The files that a job names, and where their names clash.
+use Rattle.std.specs.Prelude.{ℕ, Bool, false, ◌||◌, List, Option, Some, None, codes, option_map, string_bytes, if◌then◌else◌}
+use Rattle.std.specs.Str.{bytes_eq}
+use Rattle.std.specs.declared.string.String.{String}
+use Rattle.fencer_words.specs.declared.job.Job.{Job}
+use Rattle.fencer_words.specs.declared.job.Job.TheVariants.{Replay, Trace, Outcomes, Place, Why, Gaps}
+
+-- the name of a file, where one is given
+abbrev pub name_of : {Z : Type 0} → Option (String Z) → Option (List ℕ)
+name_of name = option_map string_bytes name
+
+-- the litmus file, where it is not the program's input
+abbrev pub file_of_litmus : List ℕ → Option (List ℕ)
+file_of_litmus litmus = if bytes_eq litmus (codes "-") then None else Some litmus
+
+-- the files that are read, the litmus file and that of costs, and those that are written, where they are named
+pub record FileNames : Type 0 where
+  pub litmus : Option (List ℕ)
+  pub costs : Option (List ℕ)
+  pub first : Option (List ℕ)
+  pub second : Option (List ℕ)
+
+-- of a job: the first file that is written has the fenced program or the page, the second the certificate or the graphs
+abbrev pub files_of : Job → FileNames
+files_of (Replay asked) = record { litmus = file_of_litmus (string_bytes asked.litmus); costs = None; first = None; second = None }
+files_of (Trace asked) = record { litmus = file_of_litmus (string_bytes asked.run.litmus); costs = None; first = name_of asked.page; second = name_of asked.graph }
+files_of (Outcomes asked) = record { litmus = file_of_litmus (string_bytes asked.litmus); costs = None; first = None; second = None }
+files_of (Place asked) = record { litmus = file_of_litmus (string_bytes asked.litmus); costs = name_of asked.costs; first = name_of asked.output; second = name_of asked.certificate }
+files_of (Why asked) = record { litmus = file_of_litmus (string_bytes asked.placement.litmus); costs = name_of asked.placement.costs; first = name_of asked.page; second = name_of asked.graphs }
+files_of (Gaps asked) = record { litmus = file_of_litmus (string_bytes asked.litmus); costs = name_of asked.costs; first = None; second = None }
+
+-- both names are given, and are the same
+abbrev pub is_same : Option (List ℕ) → Option (List ℕ) → Bool
+is_same None other = false
+is_same (Some name) None = false
+is_same (Some name) (Some other) = bytes_eq name other
+
+-- a file that is written is one that is read, or is written twice
+abbrev pub has_clash : FileNames → Bool
+has_clash names =
+    is_same names.first names.litmus
+    || (is_same names.first names.costs
+    || (is_same names.second names.litmus
+    || (is_same names.second names.costs || is_same names.first names.second)))

@@ -1,0 +1,2 @@
+pub mod CostFileLaws
+pub mod Ranges

@@ -1,0 +1,13 @@
+use Rattle.std.proofs.Common.{List, ℕ, sym, subst}
+use Rattle.std.proofs.lemmas.Result.{IfOk-weaker}
+use Rattle.cost_text.specs.CostTexts.{IsCostText}
+use Rattle.gap_list.proofs.CostFileLaws.{cost_file_is_read}
+use Rattle.gap_list.proofs.cost_lines.cost_file.Goals as goal
+
+pub returns-clause-read : goal.returns-clause-read
+returns-clause-read c =
+    let program = c.args.program.now in
+    let costs = c.args.costs.now in
+    IfOk-weaker c.entries.result _ _
+    (λ text is. subst (λ (bytes : List ℕ). IsCostText bytes program.threads costs) (sym is) (cost_file_is_read program.threads program.memory costs c.threads.ensures.within c.len.ensures.limits c.requires))
+    c.entries.ensures

@@ -1,0 +1,8 @@
+use Rattle.std.proofs.Common.{◌≡◌}
+use Rattle.std.specs.List.{flat_map, range_with_len}
+use Rattle.gap_list.specs.CostFiles.{entry_text}
+use Rattle.gap_list.proofs.cost_lines.entries.Given as goal
+
+-- the gaps so far have their lines
+abbrev pub invariant-loop-gap : goal.invariant-loop-gap
+invariant-loop-gap l = l.out.items ≡ flat_map (entry_text l.program.threads l.costs) (range_with_len 0 l.gap)

@@ -1,0 +1,2 @@
+pub mod CostFiles
+pub mod Lists

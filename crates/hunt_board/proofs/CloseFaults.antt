@@ -1,0 +1,22 @@
+-- Faults of receipts against the record of a hunt that is done.
+use Rattle.std.proofs.Common.{◌≡◌, List, Result, Ok, Err, sym, subst}
+use Rattle.std.specs.Prelude.{IfErr, IsErrAnd}
+use Rattle.search_core.specs.Records.{Outcome, IsOutcome}
+use Rattle.hunt_board.specs.declared.settling.Receipt.{Receipt}
+use Rattle.hunt_board.specs.declared.fault.CloseFault.{CloseFault}
+use Rattle.hunt_board.specs.declared.fault.CloseFault.TheVariants as fault
+use Rattle.hunt_board.specs.Seats.{HuntView}
+use Rattle.hunt_board.specs.Receipts.{CloseFaultIs}
+use Rattle.hunt_board.specs.Internal.Marks.{RecordFaultIs}
+
+-- against the record that the hunt has left
+pub of_record : (h : HuntView) (o : Outcome) (receipts : List Receipt) (why : CloseFault) → IsOutcome o → o.question ≡ h.question → o.costs ≡ h.costs → RecordFaultIs o.entries receipts why → CloseFaultIs h receipts why
+of_record h o receipts fault.NotDone is question costs never = absurd never
+of_record h o receipts (fault.Receipt i) is question costs wrong = (o, record { outcome = is; question = question; costs = costs }, wrong)
+of_record h o receipts fault.Count is question costs few = (o, record { outcome = is; question = question; costs = costs }, few.0, few.1)
+of_record h o receipts fault.OutOfMemory is question costs any = tt
+
+-- a fault that is passed on as it is
+pub passed_on : {T E : Type 0} (r : Result T E) (why : E) (P : E → Type 0) → IsErrAnd r (λ x. x ≡ why) → P why → IfErr r P
+passed_on (Ok v) why P h p = tt
+passed_on (Err x) why P h p = subst P (sym h) p

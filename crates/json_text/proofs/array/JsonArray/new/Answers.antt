@@ -1,0 +1,7 @@
+use Rattle.std.proofs.Common.{ap}
+use Rattle.json_text.specs.Internal.Lists.{bytes_of_each}
+use Rattle.json_text.specs.Values.{NoElement}
+use Rattle.json_text.proofs.array.JsonArray.new.Goals as goal
+
+pub invariant_of-result : goal.invariant_of-result
+invariant_of-result c = record { items = NoElement; are = ap bytes_of_each c.new.ensures.items }

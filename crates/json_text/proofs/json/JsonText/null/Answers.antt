@@ -1,0 +1,5 @@
+use Rattle.json_text.specs.Values.{Null}
+use Rattle.json_text.proofs.json.JsonText.null.Goals as goal
+
+pub invariant_of-result : goal.invariant_of-result
+invariant_of-result c = record { value = Null; is = c.in_ok-bytes.ensures.items }

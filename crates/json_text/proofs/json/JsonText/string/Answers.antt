@@ -1,0 +1,5 @@
+use Rattle.json_text.specs.Values.{Text}
+use Rattle.json_text.proofs.json.JsonText.string.Goals as goal
+
+pub invariant_of-result : goal.invariant_of-result
+invariant_of-result c = record { value = Text c.args.text.now; is = c.in_ok-bytes.ensures }

@@ -1,0 +1,4 @@
+pub mod Internal
+pub mod Safe
+pub mod Texts
+pub mod Values

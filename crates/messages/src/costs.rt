@@ -1,0 +1,139 @@
+//! Cost files that can't be read.
+
+use crate::message::{Message, shown_word};
+use crate::source::{Source, from, line_start};
+use cost_text::CostTextFault;
+use gap_sets::CostFault;
+use litmus_reader::read_litmus;
+use std::alloc::{AllocError, Global};
+use text_tokens::{are_digits, line_spaces_len};
+use tso_program::Program;
+
+/// The offsets of what a line of a cost file says, in its text.
+#[derive(Clone, Copy, Debug)]
+struct Pieces {
+    gap: usize,
+    cost: usize,
+    /// What follows the cost.
+    more: usize,
+}
+
+/// The offset of the next piece after the one at an offset.
+fn next_piece(source: Source<'_>, offset: usize) -> usize {
+    let after = offset.saturating_add(source.piece(offset).len());
+    after.saturating_add(line_spaces_len(from(source.text, after)))
+}
+
+fn pieces_of(source: Source<'_>, line: usize) -> Pieces {
+    let start = line_start(source.text, line);
+    let gap = start.saturating_add(line_spaces_len(from(source.text, start)));
+    let cost = next_piece(source, gap);
+    let more = next_piece(source, cost);
+    Pieces { gap, cost, more }
+}
+
+/// Whether these are digits, `:` and digits.
+fn is_gap(piece: &[u8]) -> bool {
+    let mut numbers = piece.split(|byte| *byte == b':');
+    let thread = numbers.next().unwrap_or(b"");
+    let instruction = numbers.next().unwrap_or(b"");
+    is_number(thread) && is_number(instruction) && numbers.next().is_none()
+}
+
+fn is_number(bytes: &[u8]) -> bool {
+    !bytes.is_empty() && are_digits(bytes)
+}
+
+/// What is said of a line that is not of the form of a cost line.
+fn line_message(alloc: Global, source: Source<'_>, pieces: Pieces) -> Result<Message, AllocError> {
+    let (offset, said) = if !is_gap(source.piece(pieces.gap)) {
+        (
+            pieces.gap,
+            "is no gap; a line is a gap and its cost, as `0:1 5`",
+        )
+    } else if !is_number(source.piece(pieces.cost)) {
+        (
+            pieces.cost,
+            "is no cost; a line is a gap and its cost, as `0:1 5`",
+        )
+    } else {
+        (pieces.more, "cannot stand after a cost")
+    };
+    let piece = source.piece(offset);
+    let word = if piece.is_empty() { b"\n" } else { piece };
+    Message::at_word(alloc, source, offset, word, said)
+}
+
+/// The gaps of the program of a litmus text, from the first to the last of each thread.
+fn gaps_text(alloc: Global, program: &Program) -> Result<String, AllocError> {
+    let mut text = String::new(alloc);
+    for (thread, own) in program.threads().iter().enumerate() {
+        let last = own.code.len().saturating_sub(1);
+        let comma = if text.is_empty() { "" } else { ", " };
+        match last {
+            0 => {}
+            1 => write!(text, "{comma}{thread}:1")?,
+            _ => write!(text, "{comma}{thread}:1 to {thread}:{last}")?,
+        }
+    }
+    if text.is_empty() {
+        text.push_str("no gap")?;
+    }
+    Ok(text)
+}
+
+/// What is said of a gap that the program of a litmus text lacks.
+fn missing_gap_message(
+    alloc: Global,
+    source: Source<'_>,
+    pieces: Pieces,
+    litmus: &[u8],
+) -> Result<Message, AllocError> {
+    let piece = source.piece(pieces.gap);
+    let gaps = match read_litmus(alloc, litmus) {
+        Ok(litmus) => gaps_text(alloc, &litmus.program)?,
+        Err(_) => String::from_str(alloc, "others")?,
+    };
+    let gap = shown_word(alloc, piece)?;
+    let text = format!(in alloc; "gap {gap} is not a gap of this program; it has {gaps}")?;
+    let mut message = Message::at_word(alloc, source, pieces.gap, piece, "")?;
+    message.text = text;
+    Ok(message)
+}
+
+fn cost_message(
+    alloc: Global,
+    source: Source<'_>,
+    pieces: Pieces,
+    fault: CostFault,
+) -> Result<Message, AllocError> {
+    let said = match fault {
+        CostFault::Zero(_) => "is too small; a cost is from 1 to 1000000",
+        _ => "is too large; a cost is from 1 to 1000000",
+    };
+    Message::at_word(alloc, source, pieces.cost, source.piece(pieces.cost), said)
+}
+
+/// Why a text is none of costs for the program of a litmus text.
+pub fn costs_message(
+    alloc: Global,
+    source: Source<'_>,
+    fault: CostTextFault,
+    litmus: &[u8],
+) -> Result<Message, AllocError> {
+    match fault {
+        CostTextFault::Line(line) => line_message(alloc, source, pieces_of(source, line)),
+        CostTextFault::NoSuchGap(line) => {
+            missing_gap_message(alloc, source, pieces_of(source, line), litmus)
+        }
+        CostTextFault::Repeated(line) => {
+            let gap = pieces_of(source, line).gap;
+            let said = "has a cost by an earlier line";
+            Message::at_word(alloc, source, gap, source.piece(gap), said)
+        }
+        CostTextFault::Cost(line, inner) => {
+            cost_message(alloc, source, pieces_of(source, line), inner)
+        }
+        CostTextFault::OutOfMemory => Message::of_file(alloc, source.name, "out of memory"),
+    }
+}

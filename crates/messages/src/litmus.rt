@@ -1,0 +1,198 @@
+//! Litmus texts that can't be read.
+
+use crate::message::{Message, shown_word};
+use crate::refusals::{instruction_left, refusal_of};
+use crate::rules::said_of;
+use crate::source::{Source, from, line_of, line_start};
+use crate::tokens::{spot_of, word_at};
+use litmus_lines::{read_first_line, skip_lines};
+use litmus_reader::ReadFault;
+use litmus_syntax::{Part, Refusal, read_body};
+use std::alloc::{AllocError, Global};
+use std::str;
+use text_tokens::{Token, lex, line_spaces_len};
+use tso_program::ProgramFault;
+
+/// What is said of a first line that begins so.
+const FIRST_LINES: &[(&str, &str)] = &[
+    (
+        "\u{feff}",
+        "is a byte order mark, with which no litmus text begins",
+    ),
+    (
+        "(*",
+        "begins a comment, which cannot stand before the first line, `X86` and a name",
+    ),
+    (
+        "X86_64",
+        "is not read; write X86, with registers of 32 bits",
+    ),
+    (
+        "X86 ",
+        "is followed by one name without spaces, and nothing else",
+    ),
+    (
+        "X86\t",
+        "is followed by one name without spaces, and nothing else",
+    ),
+    ("x86", "is written X86"),
+];
+
+/// Why a text isn't a litmus text.
+pub fn litmus_message(
+    alloc: Global,
+    source: Source<'_>,
+    fault: ReadFault,
+) -> Result<Message, AllocError> {
+    match fault {
+        ReadFault::NotUtf8(_) => utf8_message(alloc, source),
+        ReadFault::OutOfMemory => Message::of_file(alloc, source.name, "out of memory"),
+        _ => match read_first_line(source.text) {
+            Ok((_, lines)) => lines_message(alloc, source, lines, fault),
+            Err(_) => first_line_message(alloc, source, fault),
+        },
+    }
+}
+
+/// What is said of the first byte that is not UTF-8.
+fn utf8_message(alloc: Global, source: Source<'_>) -> Result<Message, AllocError> {
+    let offset = match str::from_utf8(source.text) {
+        Ok(_) => 0,
+        Err(error) => error.valid_up_to(),
+    };
+    let rest = from(source.text, offset);
+    let byte = rest.split_at(rest.len().min(1)).0;
+    Message::at_word(alloc, source, offset, byte, "is not UTF-8")
+}
+
+fn said_of_first_line(line: &[u8]) -> &'static str {
+    for (front, said) in FIRST_LINES {
+        if line.starts_with(front.as_bytes()) {
+            return said;
+        }
+    }
+    "cannot stand here; the first line is `X86` and a name"
+}
+
+fn first_line_message(
+    alloc: Global,
+    source: Source<'_>,
+    fault: ReadFault,
+) -> Result<Message, AllocError> {
+    match fault {
+        ReadFault::Ended(_) => {
+            let said = "ends in its first line, which is `X86` and a name";
+            Message::at_word(alloc, source, source.text.len(), b"", said)
+        }
+        _ => {
+            let said = said_of_first_line(source.text);
+            Message::at_word(alloc, source, 0, word_at(source.text), said)
+        }
+    }
+}
+
+/// What is said of a text after its first line.
+fn lines_message(
+    alloc: Global,
+    source: Source<'_>,
+    lines: &[u8],
+    fault: ReadFault,
+) -> Result<Message, AllocError> {
+    match skip_lines(source.text, lines) {
+        Ok(rest) => tokens_message(alloc, source, rest, fault),
+        Err(_) => skipped_message(alloc, source, fault),
+    }
+}
+
+/// What is said of a line between the first one and `{`.
+fn skipped_message(
+    alloc: Global,
+    source: Source<'_>,
+    fault: ReadFault,
+) -> Result<Message, AllocError> {
+    match fault {
+        ReadFault::Header(line) => {
+            let start = line_start(source.text, line as usize);
+            let blanks = line_spaces_len(from(source.text, start));
+            let offset = start.saturating_add(blanks);
+            let word = word_at(line_of(from(source.text, offset)));
+            let said = "cannot stand here; before `{` stand lines in quotes and lines `NAME=..`";
+            Message::at_word(alloc, source, offset, word, said)
+        }
+        _ => {
+            let said = "ends before `{`, where initial values begin";
+            Message::at_word(alloc, source, source.text.len(), b"", said)
+        }
+    }
+}
+
+/// What is said of a text from `{` on.
+fn tokens_message(
+    alloc: Global,
+    source: Source<'_>,
+    rest: &[u8],
+    fault: ReadFault,
+) -> Result<Message, AllocError> {
+    if let ReadFault::Program(line, inner) = fault {
+        return program_message(alloc, source, rest, line, inner);
+    }
+    let tokens = lex(alloc, rest, 1)?;
+    let offset = source.text.len().saturating_sub(rest.len());
+    match refusal_of(alloc, tokens.as_slice()) {
+        Some(refusal) => {
+            let spot = spot_of(rest, tokens.as_slice(), refusal, offset);
+            Message::at_word(alloc, source, spot.offset, spot.shown, said_of(&spot))
+        }
+        None => Message::of_file(alloc, source.name, "out of memory"),
+    }
+}
+
+/// What is said of a program that breaks a limit, with the line of its header row.
+fn program_message(
+    alloc: Global,
+    source: Source<'_>,
+    rest: &[u8],
+    line: u32,
+    fault: ProgramFault,
+) -> Result<Message, AllocError> {
+    if let ProgramFault::BackwardJump(thread, instruction) = fault {
+        let tokens = lex(alloc, rest, 1)?;
+        if let Some(left) = jump_left(alloc, tokens.as_slice(), thread, instruction) {
+            return backward_message(alloc, source, tokens.as_slice(), rest, left);
+        }
+    }
+    let text = format!(in alloc; "{fault}")?;
+    Message::at_line(alloc, source, line as usize, text.as_str())
+}
+
+/// What is said of a jump back, where so many tokens are left at its mnemonic.
+fn backward_message(
+    alloc: Global,
+    source: Source<'_>,
+    tokens: &[Token],
+    rest: &[u8],
+    left: usize,
+) -> Result<Message, AllocError> {
+    let offset = source.text.len().saturating_sub(rest.len());
+    let part = Part::Label;
+    let jump = spot_of(rest, tokens, Refusal { part, left }, offset);
+    let left = left.saturating_sub(1);
+    let label = spot_of(rest, tokens, Refusal { part, left }, offset);
+    let name = shown_word(alloc, label.word)?;
+    let said = format!(in alloc;
+        "{name} jumps back; loops are not read, write a fixed number of tries (docs/guide.md)"
+    )?;
+    Message::at_word(alloc, source, jump.offset, jump.word, said.as_str())
+}
+
+/// The tokens left at the mnemonic of a jump.
+fn jump_left(alloc: Global, tokens: &[Token], thread: u8, instruction: u8) -> Option<usize> {
+    match read_body(alloc, tokens) {
+        Ok((body, _)) => instruction_left(
+            body.rows.as_slice(),
+            usize::from(thread),
+            usize::from(instruction),
+        ),
+        Err(_) => None,
+    }
+}

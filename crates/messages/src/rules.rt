@@ -1,0 +1,142 @@
+//! What is said about a word that can't stand where it does: the tables.
+//!
+//! A table has a line for each rule: the words before, `#`, the words of which the rule is, `#`, and the rest of a
+//! sentence that begins with the word. Words in a list are separated by spaces, without regard to capitals; an empty
+//! list holds every word. A kind of token is a word in angle brackets. The first rule that is of a word counts.
+
+use crate::tokens::Spot;
+use litmus_syntax::Part;
+
+/// Whether a list holds a word.
+fn lists(list: &str, word: &[u8]) -> bool {
+    list.as_bytes()
+        .split(|byte| *byte == b' ')
+        .any(|one| one.eq_ignore_ascii_case(word))
+}
+
+fn is_of(before: &str, words: &str, spot: &Spot<'_>) -> bool {
+    (before.is_empty() || lists(before, spot.before))
+        && (words.is_empty() || lists(words, spot.word) || lists(words, spot.kind))
+}
+
+/// What a rule says, if it is of this token.
+fn said_by<'r>(rule: &'r str, spot: &Spot<'_>) -> Option<&'r str> {
+    let (before, rest) = rule.split_once('#')?;
+    let (words, said) = rest.split_once('#')?;
+    if is_of(before.trim(), words.trim(), spot) {
+        Some(said.trim())
+    } else {
+        None
+    }
+}
+
+/// What the tables say of a token.
+pub(crate) fn said_of(spot: &Spot<'_>) -> &'static str {
+    for rule in rules_of(spot.part).lines() {
+        if let Some(said) = said_by(rule, spot) {
+            return said;
+        }
+    }
+    "cannot stand here"
+}
+
+fn rules_of(part: Part) -> &'static str {
+    match part {
+        Part::Header => HEADER,
+        Part::Initial => INITIAL,
+        Part::Row => ROW,
+        Part::Instruction => INSTRUCTION,
+        Part::Operand => OPERAND,
+        Part::Label => LABEL,
+        Part::Condition => CONDITION,
+        Part::Number => NUMBER,
+        Part::Ended => ENDED,
+    }
+}
+
+/// The header row.
+const HEADER: &str = "\
+} | # # cannot stand here; threads are named `P0`, `P1` and so on, with `|` between them
+# # cannot stand here; after a thread's name `|` or `;` does
+";
+
+/// Initial values.
+const INITIAL: &str = "\
+= # # is no number; addresses and registers as values (`0:EBX=x`) are not read
+: # # is no register; these are EAX, EBX, ECX, EDX, ESI and EDI
+{ ; # EAX EBX ECX EDX ESI EDI # is a register; its value is given with its thread, as `0:EAX=1`
+{ ; # <number> # begins a register that is given twice, or whose thread is not in the header row
+{ ; # <word> [ # begins a location that is given twice, or that cannot have this name
+int long char unsigned int32_t int64_t uint32_t uint64_t volatile # # cannot stand here; typed initial values (`int x=1`) are not read, write `x=1`
+# # cannot stand here; an initial value is `x=1`, `[x]=1` or `0:EAX=1`, with `;` between two
+";
+
+/// The end of a row.
+const ROW: &str = "\
+# # ends a row with another number of cells than the header row has
+";
+
+/// What stands in a cell, but operands.
+const INSTRUCTION: &str = "\
+; # <not_exists> # is not read; a condition is `exists`, `~exists` or `forall`, and a formula
+| ; : # INC DEC ADD SUB AND OR XOR NEG NOT MUL IMUL DIV SHL SHR SAL SAR LEA TEST # is arithmetic, which is not read; MOV, XCHG, MFENCE, CMP, JE, JNE and JMP are
+| ; : # LOCK CMPXCHG XADD # is not read; of locked instructions XCHG is, which is written without LOCK
+| ; : # SFENCE LFENCE # is not read; it orders nothing that this machine leaves unordered, so leave it out
+| ; : # JZ JNZ # is not read; write JE or JNE
+| ; : # MOVB MOVW MOVL MOVQ MOVD MOVNTI # is not read; write MOV, which moves 32 bits
+| ; : # <word> # is no instruction that is read; these are MOV, XCHG, MFENCE, CMP, JE, JNE and JMP
+| ; : # # cannot stand here; a cell is empty, or has labels `NAME:` and an instruction
+# # cannot stand here; after an instruction `|` or `;` does
+";
+
+/// Operands.
+const OPERAND: &str = "\
+# RAX RBX RCX RDX RSI RDI RBP RSP AX BX CX DX AL BL CL DL EBP ESP # is not read; registers are EAX, EBX, ECX, EDX, ESI and EDI
+# BYTE WORD DWORD QWORD PTR # is not read; write `[x]`, of which 32 bits are read and written
+[ # # is no location's name; addresses in registers are not read
+$ # # is no number
+JE JNE JMP # # cannot stand here; a jump names a label of its thread
+CMP # # is no register; CMP compares a register with a register or a number
+MOV XCHG , # <word> # is no register; these are EAX, EBX, ECX, EDX, ESI and EDI, and a location is written `[x]`
+MOV XCHG # # cannot stand here; the first operand is a register or a location `[x]`
+, # # cannot stand here; MOV is `REG,$1`, `REG,REG`, `REG,[x]`, `[x],$1` or `[x],REG`, XCHG `[x],REG`
+# # cannot stand here; after an operand `,` does, and after a location's name `]`
+";
+
+/// Labels, and the names to which jumps lead.
+const LABEL: &str = "\
+# locations exists forall filter not true false # cannot be the name of a label
+JE JNE JMP # # is no label of this thread
+# # is a label of this thread already
+";
+
+/// What follows the rows.
+const CONDITION: &str = "\
+# filter # is not read; join its formula to that of the condition
+= # > # cannot stand here; `a => b` is not read, write `not a \\/ b`
+# => # cannot stand here; `a => b` is not read, write `not a \\/ b`
+# != ! <> < <= > >= == = # cannot stand here; values are compared by `=` alone, write `not x=1` for `x!=1`
+# | & && # cannot stand here; `/\\` is and, `\\/` is or
+= # # is no number; a register or location on both sides (`0:EBX=x`) is not read
+: # # is no register; these are EAX, EBX, ECX, EDX, ESI and EDI
+( [ ; /\\ \\/ ~ not exists forall # <number> # is no thread of the header row
+( /\\ \\/ ~ not exists forall # # cannot stand here; `0:EAX=1`, `x=1`, `[x]=1`, `true`, `false`, `not` or `(` does
+locations # # cannot stand here; the list of locations begins with `[`
+] # <word> # cannot stand here; a condition is `exists`, `~exists` or `forall`, and a formula
+# # cannot stand here; a formula goes on with `=`, `/\\`, `\\/` or `)`, or ends
+";
+
+/// What is no number where one may stand.
+const NUMBER: &str = "\
+# <hexadecimal> # is hexadecimal; numbers are decimal
+# <negative> # is negative; numbers are from 0 to 4294967295
+# <large> # is too large; numbers are from 0 to 4294967295
+# # is no number; these are decimal digits alone
+";
+
+/// The end of the text.
+const ENDED: &str = "\
+# <unfinished> # begins what does not end: a comment, `/\\` or `\\/`
+; # # ends without a condition: `exists`, `~exists` or `forall`, and a formula
+# # ends here, and more is needed
+";

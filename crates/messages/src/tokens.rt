@@ -1,0 +1,171 @@
+//! Tokens of a litmus text, as they lie in it.
+
+use crate::source::{continues_character, from};
+use litmus_syntax::{Part, Refusal};
+use text_tokens::{
+    Bad, Token, after_space, are_digits, digits_len, is_white_space, is_word_byte, line_spaces_len,
+};
+
+/// A token that can't stand where it does.
+#[derive(Clone, Copy, Debug)]
+pub(crate) struct Spot<'t> {
+    pub(crate) part: Part,
+    /// The offset of its first byte.
+    pub(crate) offset: usize,
+    /// Its bytes; none at the end of the text.
+    pub(crate) word: &'t [u8],
+    /// The bytes that a message shows: those of the token, and of a word after it that belongs to it.
+    pub(crate) shown: &'t [u8],
+    /// The bytes of the token before it.
+    pub(crate) before: &'t [u8],
+    /// What kind of token it is, in angle brackets.
+    pub(crate) kind: &'static [u8],
+}
+
+/// The refused one of the tokens of a text, which begins at an offset of the whole one.
+pub(crate) fn spot_of<'t>(
+    text: &'t [u8],
+    tokens: &[Token],
+    refusal: Refusal,
+    offset: usize,
+) -> Spot<'t> {
+    let index = tokens.len().saturating_sub(refusal.left);
+    let rest = from_token(text, tokens, index);
+    let word = word_at(rest);
+    let shown = two_words(rest, word);
+    Spot {
+        part: refusal.part,
+        offset: offset.saturating_add(text.len().saturating_sub(rest.len())),
+        word,
+        shown,
+        before: token_before(text, tokens, index),
+        kind: kind_of(tokens.get(index), word, shown),
+    }
+}
+
+/// The word with which a text begins, with the one after it where they belong together: LOCK and its instruction, and the
+/// quantifier `not exists`.
+fn two_words<'t>(text: &'t [u8], word: &'t [u8]) -> &'t [u8] {
+    let rest = from(text, word.len());
+    let blanks = line_spaces_len(rest);
+    let after = from(rest, blanks);
+    let second = after.split_at(letters_len(after).min(after.len())).0;
+    let begins = word.eq_ignore_ascii_case(b"LOCK") && !second.is_empty();
+    let is_quantifier = word.eq_ignore_ascii_case(b"NOT") && second.eq_ignore_ascii_case(b"EXISTS");
+    if begins || is_quantifier {
+        let len = word
+            .len()
+            .saturating_add(blanks)
+            .saturating_add(second.len());
+        text.split_at(len.min(text.len())).0
+    } else {
+        word
+    }
+}
+
+/// The bytes of the token before the one with this index.
+fn token_before<'t>(text: &'t [u8], tokens: &[Token], index: usize) -> &'t [u8] {
+    let before = index.saturating_sub(1);
+    let rest = from_token(text, tokens, before);
+    match tokens.get(before) {
+        Some(token) => rest.split_at(token_len(token, rest).min(rest.len())).0,
+        None => b"",
+    }
+}
+
+/// The text from the token with this index on.
+fn from_token<'t>(text: &'t [u8], tokens: &[Token], index: usize) -> &'t [u8] {
+    let mut rest = without_space(text);
+    for token in tokens.iter().take(index) {
+        rest = without_space(from(rest, token_len(token, rest)));
+    }
+    rest
+}
+
+/// How many bytes the token takes with which a text begins.
+fn token_len(token: &Token, text: &[u8]) -> usize {
+    match token {
+        Token::Word(word) => word.len(),
+        Token::Number(_) => digits_len(text),
+        Token::Mark(mark) => mark.text().len(),
+        Token::Bad(_) => 0,
+    }
+}
+
+/// The text after the white space and the comments at its front; after the white space alone where a comment does not
+/// end.
+fn without_space(text: &[u8]) -> &[u8] {
+    match after_space(text) {
+        Some(rest) => rest,
+        None => {
+            let len = text
+                .iter()
+                .take_while(|byte| is_white_space(**byte))
+                .count();
+            from(text, len)
+        }
+    }
+}
+
+/// The word with which a text begins: letters and digits, signs of comparison or of a connective, or one character.
+pub(crate) fn word_at(text: &[u8]) -> &[u8] {
+    let signs = text.iter().take_while(|byte| is_sign(**byte)).count();
+    let letters = letters_len(from(text, signs));
+    let len = if signs == 0 || text.starts_with(b"-") {
+        signs.saturating_add(letters)
+    } else {
+        signs
+    };
+    text.split_at(len.max(character_len(text)).min(text.len()))
+        .0
+}
+
+fn is_sign(byte: u8) -> bool {
+    b"!<>=&-/\\".contains(&byte)
+}
+
+fn letters_len(text: &[u8]) -> usize {
+    text.iter().take_while(|byte| is_word_byte(**byte)).count()
+}
+
+/// How many bytes the first character takes.
+fn character_len(text: &[u8]) -> usize {
+    let later = from(text, 1)
+        .iter()
+        .take_while(|byte| continues_character(**byte))
+        .count();
+    later.saturating_add(1)
+}
+
+fn kind_of(token: Option<&Token>, word: &[u8], shown: &[u8]) -> &'static [u8] {
+    match token {
+        None => b"<end>",
+        Some(Token::Word(_)) => word_kind(word, shown),
+        Some(Token::Number(_)) => b"<number>",
+        Some(Token::Mark(_)) => b"<mark>",
+        Some(Token::Bad(Bad::Number)) => number_kind(word),
+        Some(Token::Bad(Bad::Minus)) => b"<negative>",
+        Some(Token::Bad(Bad::Unfinished)) => b"<unfinished>",
+        Some(Token::Bad(Bad::Stray)) => b"<stray>",
+    }
+}
+
+/// What a word is: the quantifier `not exists`, or any other.
+fn word_kind(word: &[u8], shown: &[u8]) -> &'static [u8] {
+    if shown.len() > word.len() && word.eq_ignore_ascii_case(b"NOT") {
+        b"<not_exists>"
+    } else {
+        b"<word>"
+    }
+}
+
+/// What is wrong with a number.
+fn number_kind(word: &[u8]) -> &'static [u8] {
+    if word.starts_with(b"0x") || word.starts_with(b"0X") {
+        b"<hexadecimal>"
+    } else if are_digits(word) {
+        b"<large>"
+    } else {
+        b"<digits>"
+    }
+}

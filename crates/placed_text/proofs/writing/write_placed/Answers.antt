@@ -1,0 +1,12 @@
+use Rattle.std.proofs.Common.{refl}
+use Rattle.placed_text.proofs.writing.write_placed.Goals as goal
+
+pub returns : goal.returns
+returns c = record {
+  program = c.in-Ok.ensures.text;
+  again = c.in-Ok.ensures.again;
+  line = c.in_ok-answer_line.ensures;
+  certificate = c.in_ok-write_cert.ensures;
+  document = rw c.deref.ensures.value at c.in_ok-document.ensures.told;
+  set = refl;
+}

@@ -1,0 +1,155 @@
+// The page: what the answer is, and a player for each of its fences, or for the one run of a trace.
+
+const main = document.getElementById("page");
+
+const introduction = [
+  "On x86 a store first waits in its thread's store buffer. Until it reaches memory no other thread sees it, and the ",
+  "thread's later loads do not wait for it. An MFENCE makes its thread wait until the buffer is empty.",
+];
+
+// What the outcomes are compared by.
+function comparedWords() {
+  if (given.answer.condition) {
+    return ", as far as the file's condition tells them apart";
+  }
+  return given.answer.observed
+    ? " in the registers and locations that the file's condition and its locations line name" : "";
+}
+
+// How many fences a thread gets: `2 in P0`.
+function fencesByThread(gaps) {
+  const counts = given.threads.map((_, thread) => gaps.filter(gap => gapPlace(gap)[0] === thread).length);
+  return counts.map((count, thread) => count > 0 ? `${count} in ${threadName(thread)}` : "").filter(Boolean);
+}
+
+// The answer in a sentence.
+function answerWords(gaps) {
+  const isOne = gaps.length === 1;
+  const places = gaps.length <= 3 ? listed(gaps.map(gap => html("span", {}, "before ", ...placeOf(gap))))
+    : listed(fencesByThread(gaps));
+  const fences = isOne ? "an MFENCE " : gaps.length <= 3 ? "MFENCE " : `${gaps.length} MFENCEs, `;
+  const cost = `${isOne ? "It costs" : "Together they cost"} ${given.answer.cost}`;
+  return ["A cheapest set of fences: ", fences, ...places, `. ${cost}; no cheaper set is enough.`];
+}
+
+function showNoFence() {
+  document.title = `${given.test} needs no fence`;
+  main.replaceChildren(
+    html("h1", {}, `${given.test} needs no fence`),
+    html("p", { class: "lead" }, `Every outcome is sequential${comparedWords()}: store buffers show nothing here that `
+      + "would not happen if each instruction took effect at once."),
+    html("p", { class: "soft" }, introduction),
+    region("program", "the program", html("h2", {}, "The program"), threadColumns(null),
+      html("p", { class: "note" }, "The file's condition: ", code(given.condition))));
+}
+
+function showAnswer(gaps) {
+  const isOne = gaps.length === 1;
+  document.title = `${given.test}: why ${isOne ? "a fence is" : "fences are"} needed`;
+  main.replaceChildren(
+    html("h1", {}, `Why ${given.test} needs ${isOne ? "a fence" : gaps.length + " fences"}`),
+    html("p", { class: "lead" }, answerWords(gaps)),
+    html("p", { class: "soft" }, introduction, " In a sequential run there are no store buffers: each instruction ",
+      `takes effect at once. With ${isOne ? "this fence" : "these fences"} the program has exactly the outcomes of its `,
+      `sequential runs${comparedWords()}.`),
+    html("p", { class: "choice" }, isOne
+      ? "Without it, this run becomes possible, and no sequential run has its outcome:"
+      : "Leave out one of them, and a run becomes possible whose outcome no sequential run has:"));
+  showRuns(given.runs.map(run => new Run(run)));
+}
+
+// Tabs, one for each fence, over the player of its run.
+function showRuns(runs) {
+  const panel = html("div", { role: "tabpanel", id: "panel", "aria-labelledby": "tab0" });
+  const tabs = runs.map(({ gap }, i) => html("button", {
+    type: "button", role: "tab", id: "tab" + i, "aria-controls": "panel",
+    on: { click: () => pick(i, 0), keydown: event => pickByKey(event, i) },
+  }, "without the fence before ", ...placeOf(gap), html("small", {}, ` (${gap})`)));
+  let player = null;
+
+  function pick(chosen, steps) {
+    if (player !== null) {
+      player.stop();
+    }
+    tabs.forEach((tab, i) => {
+      tab.setAttribute("aria-selected", i === chosen);
+      tab.tabIndex = i === chosen ? 0 : -1;
+    });
+    panel.setAttribute("aria-labelledby", "tab" + chosen);
+    player = new Player(runs[chosen]);
+    panel.replaceChildren(player.body);
+    player.start(steps);
+  }
+
+  function pickByKey(event, i) {
+    const target = { ArrowRight: i + 1, ArrowLeft: i - 1, Home: 0, End: tabs.length - 1 }[event.key];
+    if (target !== undefined) {
+      event.preventDefault();
+      event.stopPropagation();
+      const chosen = (target + tabs.length) % tabs.length;
+      pick(chosen, 0);
+      tabs[chosen].focus();
+    }
+  }
+
+  main.append(html("div", { role: "tablist", "aria-label": "the fences of the answer" }, tabs), panel);
+  const [gap, steps] = address();
+  const named = runs.findIndex(run => run.gap === gap);
+  pick(Math.max(0, named), named < 0 ? 0 : steps);
+  listenToKeys(() => player);
+}
+
+// The one run of `fencer trace`.
+function showTrace() {
+  const run = new Run(given.run);
+  const isBuffered = given.run.model === "buffered";
+  document.title = `${given.test}: a run`;
+  const player = new Player(run);
+  main.replaceChildren(
+    html("h1", {}, `A run of ${given.test}`),
+    html("p", { class: "lead" }, isBuffered ? "A run on the machine with store buffers."
+      : "A sequential run: each instruction takes effect at once."),
+    html("p", { class: "soft" }, isBuffered ? introduction : ""),
+    player.body);
+  player.start(address()[1]);
+  listenToKeys(() => player);
+}
+
+// The gap and the step that the page's address names.
+function address() {
+  const [gap, steps] = location.hash.slice(1).split("/");
+  return [gap, Number(steps) || 0];
+}
+
+// Steps by Left and Right anywhere, and by Home and End in the player, but not where the focused element has a use of
+// its own for them.
+function listenToKeys(player) {
+  document.addEventListener("keydown", event => {
+    const hasOwnUse = event.target.matches("input[type=range], .scroll, [role=tab]");
+    if (event.altKey || event.ctrlKey || event.metaKey || hasOwnUse) {
+      return;
+    }
+    const { at, run: { last } } = player();
+    const inPlayer = event.target.closest(".player, .moments") !== null;
+    const targets = { ArrowRight: at + 1, ArrowLeft: at - 1, ...(inPlayer ? { Home: 0, End: last } : {}) };
+    const target = targets[event.key];
+    if (target !== undefined) {
+      event.preventDefault();
+      player().step(target);
+    }
+  });
+}
+
+function show() {
+  if (given.format !== "fencer 1" || !["why", "trace"].includes(given.command)) {
+    main.replaceChildren(html("p", {}, "This page shows documents of fencer why and fencer trace, format 1."));
+  } else if (given.command === "trace") {
+    showTrace();
+  } else if (given.answer.set.length > 0) {
+    showAnswer(given.answer.set);
+  } else {
+    showNoFence();
+  }
+}
+
+show();

@@ -1,0 +1,182 @@
+// The sentences about a run.
+
+// What a step after the passed gap does with the stores that waited there and have not reached memory yet: its words,
+// and whether it is where the fence is missing; null if it does nothing with them.
+function momentOf(run, i, late) {
+  const step = run.steps[i];
+  const thread = threadName(run.threads[i]);
+  const isOwn = run.threads[i] === run.gapThread;
+  const newest = access => late.filter(store => access && store.location === access.location).slice(-1);
+  if (i === run.pass) {
+    return { say: passingWords(run, late), isBad: true };
+  }
+  if (isOwn && step.reads && step.reads.from === "memory") {
+    const own = listed(assignments(late));
+    return { say: [`${thread} reads `, code(assignment(step.reads)), ", ahead of its own waiting ", ...own, "."] };
+  }
+  if (!isOwn && newest(step.reads).length > 0) {
+    const hidden = assignments(newest(step.reads));
+    return {
+      say: [`${thread} reads `, code(assignment(step.reads)), `: ${threadName(run.gapThread)}'s `, ...hidden,
+        " still waits, and no other thread sees it."],
+    };
+  }
+  if (!isOwn && newest(step.reaches).length > 0) {
+    return { say: [`${thread}'s store `, code(assignment(step.reaches)), " reaches memory first."] };
+  }
+  if (isOwn && step.instruction === null) {
+    const end = late.length > 1 ? " reaches memory only now." : " reaches memory only now: too late.";
+    return { say: [`${thread}'s store `, code(assignment(step.reaches)), end] };
+  }
+  return null;
+}
+
+function passingWords(run, late) {
+  const { reads } = run.steps[run.pass];
+  return [
+    `${threadName(run.gapThread)} goes on to `, code(run.text(run.pass)),
+    late.length > 1 ? " while its stores " : " while its store ", ...listed(assignments(late)),
+    late.length > 1 ? " still wait in its buffer" : " still waits in its buffer",
+    ...(reads ? [", and reads ", code(assignment(reads))] : []),
+    ". A fence here would have made it wait.",
+  ];
+}
+
+// What happens in the last of some steps.
+function stepWords(run, steps) {
+  if (steps === 0) {
+    return ["Before the first step: nothing has been executed, and the store buffers are empty. Press Next, or the",
+      " right arrow key."];
+  }
+  const i = steps - 1;
+  const step = run.steps[i];
+  const thread = threadName(run.threads[i]);
+  if (step.instruction === null) {
+    return [`${thread}'s oldest waiting store leaves its buffer: `, code(assignment(step.reaches)),
+      " is in memory now, where every thread sees it."];
+  }
+  const say = [`${thread} executes `, code(run.text(i)), ...effectWords(run, i)];
+  if (i === run.pass) {
+    say.push(html("span", { class: "verdict" }, ` Its own ${run.waiting.map(assignment).join(" ")} still `
+      + `${run.waiting.length > 1 ? "wait" : "waits"}: the fence that is left out would have made ${thread} wait here `
+      + "until its buffer is empty."));
+  }
+  return say;
+}
+
+// What an instruction does, after its text.
+function effectWords(run, i) {
+  const step = run.steps[i];
+  const { reads, stores, reaches } = step;
+  if (reads && stores) {
+    return [": with its buffer empty, it reads ", code(assignment(reads)), " and stores ", code(assignment(stores)),
+      " in memory, at once."];
+  }
+  if (stores && reaches) {
+    return [": ", code(assignment(stores)), " is in memory at once, where every thread sees it."];
+  }
+  if (stores) {
+    const found = step.memory[given.locations.indexOf(stores.location)];
+    return [": ", code(assignment(stores)), " goes into its store buffer. No other thread sees it yet; memory still ",
+      "has ", code(`${stores.location}=${found}`), "."];
+  }
+  return reads ? loadWords(run, i) : localWords(run, i);
+}
+
+function loadWords(run, i) {
+  const { reads } = run.steps[i];
+  const from = reads.from === "buffer" ? " from its own store buffer, where only it can see it." : " from memory.";
+  const say = [" and reads ", code(assignment(reads)), from];
+  run.states[i].buffers.forEach((buffer, thread) => {
+    const hidden = buffer.filter(store => store.location === reads.location).slice(-1);
+    if (thread !== run.threads[i] && hidden.length > 0) {
+      say.push(` It cannot see ${threadName(thread)}'s `, ...assignments(hidden), ", which still waits.");
+    }
+  });
+  return say;
+}
+
+// An instruction that neither reads nor stores: where the run goes on tells whether a jump was taken.
+function localWords(run, i) {
+  const text = run.text(i);
+  if (text === "MFENCE") {
+    return [": its store buffer is empty, so the fence lets it go on."];
+  }
+  if (!text.startsWith("J")) {
+    return ["."];
+  }
+  const next = run.next(i + 1, run.threads[i]);
+  return [next === run.steps[i].instruction + 1 ? ", and goes on with the next instruction." : ", and jumps ahead."];
+}
+
+// An outcome is the final values of all that is compared, so a condition that names a part of it may be met elsewhere too.
+const elsewhere = ". Sequential runs may do so too, with other final values.";
+
+// Whether the run's outcome is what the file's condition is about.
+function conditionWords(run) {
+  const condition = code(given.condition);
+  const quantifier = given.condition.split(" ")[0];
+  if (quantifier === "~exists") {
+    return run.meets_condition
+      ? ["It is what the file says must not happen: ", condition, elsewhere]
+      : ["What must not happen, ", condition, ", does not happen in this run; but registers or memory end as they ",
+        "sequentially cannot."];
+  }
+  if (quantifier === "exists") {
+    return run.meets_condition
+      ? ["It is what the file asks for: ", condition, elsewhere]
+      : ["It is not what the file asks for, ", condition, "; but registers or memory end as they ",
+        "sequentially cannot."];
+  }
+  return run.meets_condition
+    ? ["The file's condition, ", condition, ", is met by this run; but registers or memory end as they sequentially ",
+      "cannot."]
+    : ["It breaks the file's condition: ", condition, elsewhere];
+}
+
+// Whether the run meets the formula of the file's condition, as no sequential run does.
+function aloneWords(run) {
+  return run.meets_condition
+    ? " This run meets the formula of the file's condition, and no sequential run does: "
+    : " This run does not meet the formula of the file's condition, and each sequential run does: ";
+}
+
+// How the run ends. That no sequential run has the outcome is said by `fencer why`, not by `fencer trace`.
+function verdictWords(run) {
+  if (run.gap === null) {
+    const meets = run.run.meets_condition ? " It meets" : " It does not meet";
+    return [code(outcomeText(run.run)), meets + " the formula of the file's condition: ", code(given.condition), "."];
+  }
+  if (given.answer.condition) {
+    return [code(outcomeText(run.run)), html("span", { class: "verdict" }, aloneWords(run.run)), code(given.condition), "."];
+  }
+  return [code(outcomeText(run.run)), html("span", { class: "verdict" }, " No sequential run has this outcome. "),
+    ...conditionWords(run.run)];
+}
+
+// The cycle of the candidate execution, a sentence for each edge.
+function cycleWords(run) {
+  const name = event => [threadName(run.threads[event]) + "'s ", code(run.text(event))];
+  const edges = run.cycle();
+  return edges.map(({ relation, from, to }, i) => {
+    const last = i === edges.length - 1 ? ": back at the first access." : ".";
+    return html("li", {}, name(from), " ", edgeWords(run, relation, from, name(to), to), " (",
+      html("b", {}, relation), ")", last);
+  });
+}
+
+function edgeWords(run, relation, from, target, to) {
+  const { reads, stores } = run.steps[from];
+  if (relation === "po") {
+    return ["comes before ", ...target, " in the program"];
+  }
+  if (relation === "rf") {
+    return ["stores ", code(assignment(stores)), ", which ", ...target, " reads"];
+  }
+  if (relation === "co") {
+    return ["stores ", code(assignment(stores)), ", and then ", ...target, " overwrites it"];
+  }
+  const overwritten = run.steps[to].stores;
+  return ["reads ", code(assignment(reads)), ", so it comes before ", ...target, ", which stores ",
+    code(assignment(overwritten))];
+}

@@ -1,0 +1,1519 @@
+//! The page around its document, which `page/make.py` makes from the files beside it. Do not edit it here.
+
+/// The page up to the document.
+pub(crate) const HEAD: &[u8] = b"\
+<!doctype html>\n\
+<html lang=\"en\">\n\
+<head>\n\
+<meta charset=\"utf-8\">\n\
+<meta name=\"viewport\" content=\"width=device-width, initial-scale=1\">\n\
+<title>Runs of a litmus test</title>\n\
+<style>\n\
+/* Colors: --now is what the step does, --wait a store that waits, --bad what goes wrong, --fence a fence. */\n\
+:root {\n\
+\x20 color-scheme: light;\n\
+\x20 --bg: #f6f7f8;\n\
+\x20 --card: #fff;\n\
+\x20 --ink: #1b2026;\n\
+\x20 --soft: #56606b;\n\
+\x20 --line: #d3d8de;\n\
+\x20 --now: #0a51bd;\n\
+\x20 --now-bg: #e3edfd;\n\
+\x20 --wait: #7a4a00;\n\
+\x20 --wait-bg: #ffedc2;\n\
+\x20 --bad: #b01b17;\n\
+\x20 --bad-bg: #fdecea;\n\
+\x20 --fence: #1a6b3c;\n\
+\x20 --fence-bg: #e4f4ea;\n\
+\x20 --mono: ui-monospace, \"SF Mono\", Menlo, Consolas, \"DejaVu Sans Mono\", monospace;\n\
+\x20 --sans: system-ui, \"Segoe UI\", \"DejaVu Sans\", sans-serif;\n\
+}\n\
+\n\
+@media screen and (prefers-color-scheme: dark) {\n\
+\x20 :root {\n\
+\x20   color-scheme: dark;\n\
+\x20   --bg: #13161a;\n\
+\x20   --card: #1b2026;\n\
+\x20   --ink: #e8ebef;\n\
+\x20   --soft: #a6b0bb;\n\
+\x20   --line: #3a424c;\n\
+\x20   --now: #8fbcff;\n\
+\x20   --now-bg: #1b3157;\n\
+\x20   --wait: #ffd27a;\n\
+\x20   --wait-bg: #44350f;\n\
+\x20   --bad: #ff938b;\n\
+\x20   --bad-bg: #47211f;\n\
+\x20   --fence: #7fd6a3;\n\
+\x20   --fence-bg: #173524;\n\
+\x20 }\n\
+}\n\
+\n\
+/* Texts */\n\
+* { box-sizing: border-box; }\n\
+body { margin: 0; background: var(--bg); color: var(--ink); font: 16px/1.5 var(--sans); }\n\
+main { max-width: 78rem; margin: 0 auto; padding: 1.2rem 1rem 3rem; overflow-wrap: anywhere; }\n\
+h1 { font-size: 1.6rem; line-height: 1.25; margin: 0 0 0.5rem; }\n\
+h2 { font-size: 1.05rem; margin: 0 0 0.5rem; }\n\
+h3, h4 { font-size: 0.85rem; margin: 0; }\n\
+p { margin: 0 0 0.6rem; max-width: 95ch; }\n\
+.lead { font-size: 1.15rem; }\n\
+.soft { color: var(--soft); }\n\
+.note { margin: 0.6rem 0 0; font-size: 0.9rem; }\n\
+.choice { margin: 0.9rem 0 0.3rem; font-weight: 600; }\n\
+.verdict { color: var(--bad); font-weight: 600; }\n\
+code, .code, table, .cell, .slot, svg text {\n\
+\x20 font-family: var(--mono);\n\
+\x20 font-size: 0.85em;\n\
+\x20 font-variant-ligatures: none;\n\
+}\n\
+code { white-space: nowrap; }\n\
+.long { white-space: normal; }\n\
+.command { user-select: all; }\n\
+\n\
+/* Cards and controls */\n\
+.card {\n\
+\x20 background: var(--card);\n\
+\x20 border: 1px solid var(--line);\n\
+\x20 border-radius: 10px;\n\
+\x20 padding: 0.9rem 1rem;\n\
+\x20 margin: 0 0 0.9rem;\n\
+\x20 min-width: 0;\n\
+}\n\
+.scroll { overflow-x: auto; position: relative; }\n\
+button {\n\
+\x20 font: inherit;\n\
+\x20 color: inherit;\n\
+\x20 background: var(--card);\n\
+\x20 border: 1px solid var(--line);\n\
+\x20 border-radius: 7px;\n\
+\x20 padding: 0.3rem 0.7rem;\n\
+\x20 min-height: 2.2rem;\n\
+\x20 cursor: pointer;\n\
+}\n\
+button:hover { border-color: var(--now); }\n\
+button[aria-disabled=true] { color: var(--soft); cursor: default; border-style: dashed; }\n\
+:focus-visible { outline: 3px solid var(--now); outline-offset: 2px; }\n\
+[role=tablist] { display: flex; flex-wrap: wrap; gap: 0.4rem; margin: 0.2rem 0 0.9rem; align-items: center; }\n\
+[role=tab][aria-selected=true] { background: var(--now-bg); border-color: var(--now); font-weight: 600; }\n\
+[role=tab] small { color: var(--soft); font-weight: 400; }\n\
+.bar { position: sticky; top: 0; z-index: 3; }\n\
+.controls { display: flex; flex-wrap: wrap; gap: 0.4rem; align-items: center; }\n\
+.controls button { padding: 0.3rem 0.6rem; }\n\
+.place { display: flex; flex: 1 1 18rem; gap: 0.6rem; align-items: center; }\n\
+.place input { flex: 1; accent-color: var(--now); height: 2.2rem; margin: 0; min-width: 8rem; }\n\
+.count { min-width: 6.5rem; }\n\
+.say { margin: 0.5rem 0 0; min-height: 4.5em; max-width: none; }\n\
+\n\
+/* The panel: one column, or the texts left and the machine right */\n\
+.panel, .duo, .right { min-width: 0; }\n\
+@media screen and (min-width: 62rem) {\n\
+\x20 .side .duo {\n\
+\x20   display: grid;\n\
+\x20   grid-template: auto 1fr / repeat(2, minmax(0, 1fr));\n\
+\x20   column-gap: 0.9rem;\n\
+\x20   align-items: start;\n\
+\x20 }\n\
+\x20 .side .wrong { grid-area: 1 / 1; }\n\
+\x20 .side .right { grid-area: 1 / 2 / span 2; }\n\
+\x20 .side .table { grid-area: 2 / 1; }\n\
+}\n\
+\n\
+/* The moments */\n\
+.moments { margin: 0; padding: 0; list-style: none; }\n\
+.moments li { display: flex; gap: 0.6rem; align-items: baseline; padding: 0.15rem 0; }\n\
+.moments button { padding: 0 0.5rem; min-height: 1.7rem; font-size: 0.85rem; min-width: 5.2rem; }\n\
+.moments .bad { color: var(--bad); font-weight: 600; }\n\
+.moments [aria-current] { border-color: var(--now); background: var(--now-bg); }\n\
+.where { flex: none; display: grid; gap: 0.2rem; }\n\
+\n\
+/* The machine */\n\
+.stage { position: relative; display: grid; gap: 2.4rem; }\n\
+.threads { display: grid; gap: 0.8rem; align-items: end; }\n\
+.thread {\n\
+\x20 container-type: inline-size;\n\
+\x20 border: 1px solid var(--line);\n\
+\x20 border-radius: 8px;\n\
+\x20 padding: 0.5rem;\n\
+\x20 min-width: 0;\n\
+\x20 display: grid;\n\
+\x20 gap: 0.6rem;\n\
+\x20 align-self: stretch;\n\
+\x20 align-content: space-between;\n\
+}\n\
+.code { list-style: none; margin: 0.3rem 0 0; padding: 0; max-height: 27rem; overflow-y: auto; position: relative; }\n\
+.code li {\n\
+\x20 padding: 0.12rem 0.3rem 0.12rem 1.7rem;\n\
+\x20 position: relative;\n\
+\x20 border-radius: 4px;\n\
+\x20 border: 1px solid transparent;\n\
+}\n\
+.code li[data-number]::before {\n\
+\x20 content: attr(data-number);\n\
+\x20 position: absolute;\n\
+\x20 left: 0;\n\
+\x20 width: 1.3rem;\n\
+\x20 text-align: right;\n\
+\x20 color: var(--soft);\n\
+}\n\
+.code .label, .code .done { color: var(--soft); }\n\
+.code .now { background: var(--now-bg); border-color: var(--now); color: var(--ink); font-weight: 600; }\n\
+.code .fence {\n\
+\x20 padding-left: 0.5rem;\n\
+\x20 margin: 0.1rem 0;\n\
+\x20 background: var(--fence-bg);\n\
+\x20 border: 1px solid var(--fence);\n\
+\x20 color: var(--fence);\n\
+\x20 font-weight: 600;\n\
+}\n\
+.code .out { background: none; border: 2px dashed var(--bad); color: var(--bad); }\n\
+.code .passing { background: var(--bad-bg); }\n\
+.fence small { font-weight: 400; display: inline-block; }\n\
+.low { display: grid; grid-template-columns: minmax(0, 2fr) minmax(5.4rem, 3fr); gap: 0.5rem; }\n\
+.low h4 { font-size: 0.8rem; white-space: nowrap; }\n\
+.low .none { font-size: 0.8rem; margin: 0; }\n\
+.cells { display: flex; flex-wrap: wrap; gap: 0.4rem; margin: 0.2rem 0 0; padding: 0; list-style: none; }\n\
+.cell { border: 1px solid var(--line); border-radius: 5px; padding: 0.15rem 0.5rem; background: var(--card); }\n\
+.cell b, .cell s { margin-left: 0.35em; }\n\
+.cell s { color: var(--soft); }\n\
+.moved { border-color: var(--now); background: var(--now-bg); box-shadow: 0 0 0 1px var(--now); }\n\
+\n\
+/* A store buffer is open towards the memory below it. Its oldest store is the lowest. */\n\
+.buffer { display: flex; flex-direction: column; }\n\
+.buffer ol {\n\
+\x20 flex: 1;\n\
+\x20 display: flex;\n\
+\x20 flex-direction: column-reverse;\n\
+\x20 gap: 3px;\n\
+\x20 list-style: none;\n\
+\x20 margin: 0.2rem 0 0;\n\
+\x20 padding: 4px;\n\
+\x20 border: 2px solid var(--wait);\n\
+\x20 border-bottom-style: dotted;\n\
+\x20 border-radius: 6px 6px 0 0;\n\
+}\n\
+.slot {\n\
+\x20 border-radius: 4px;\n\
+\x20 min-height: 1.75rem;\n\
+\x20 padding: 0.15rem 0.4rem;\n\
+\x20 border: 1px dashed var(--line);\n\
+\x20 text-align: center;\n\
+}\n\
+.slot.full { background: var(--wait-bg); color: var(--wait); border: 1px solid var(--wait); font-weight: 600; }\n\
+.memory {\n\
+\x20 border: 2px solid var(--ink);\n\
+\x20 border-radius: 8px;\n\
+\x20 padding: 0.5rem 0.7rem;\n\
+\x20 display: flex;\n\
+\x20 flex-direction: column-reverse;\n\
+\x20 gap: 0.4rem;\n\
+}\n\
+.memory h3 { text-align: center; }\n\
+.memory .cells { justify-content: space-evenly; }\n\
+.memory .cell { font-size: 1.05em; padding: 0.3rem 0.9rem; }\n\
+\n\
+/* A narrow column of the machine */\n\
+@container (max-width: 11.5rem) {\n\
+\x20 .low { grid-template-columns: minmax(3.6rem, auto) minmax(3.4rem, 1fr); gap: 0.3rem; }\n\
+\x20 .low h4 { white-space: normal; font-size: 0.75rem; overflow-wrap: normal; }\n\
+\x20 .low .cell, .slot { padding: 0.15rem 0.2rem; }\n\
+\x20 .buffer ol { padding: 2px; }\n\
+}\n\
+\n\
+/* What moves */\n\
+.arrows { position: absolute; inset: 0; width: 100%; height: 100%; pointer-events: none; overflow: visible; }\n\
+.arrows path { fill: none; stroke: var(--now); stroke-width: 2.5; }\n\
+.arrows rect { fill: var(--now); }\n\
+.arrows text { fill: var(--card); font-weight: 700; font-size: 12px; }\n\
+.token {\n\
+\x20 position: absolute;\n\
+\x20 left: 0;\n\
+\x20 top: 0;\n\
+\x20 background: var(--now);\n\
+\x20 color: var(--card);\n\
+\x20 font: 700 13px var(--mono);\n\
+\x20 padding: 0.1rem 0.45rem;\n\
+\x20 border-radius: 99px;\n\
+\x20 pointer-events: none;\n\
+\x20 z-index: 2;\n\
+}\n\
+\n\
+/* The table: its head stays in sight, so its box has no padding above */\n\
+.table { max-height: 32rem; overflow-y: auto; padding-top: 0; }\n\
+table { border-collapse: collapse; width: 100%; }\n\
+caption { text-align: left; font: 600 1.05rem/1.5 var(--sans); padding: 0.9rem 0 0.4rem; }\n\
+th, td {\n\
+\x20 text-align: left;\n\
+\x20 padding: 0.2rem 0.45rem;\n\
+\x20 border-bottom: 1px solid var(--line);\n\
+\x20 vertical-align: top;\n\
+\x20 overflow-wrap: normal;\n\
+\x20 white-space: nowrap;\n\
+}\n\
+th { color: var(--soft); font-weight: 600; white-space: normal; position: sticky; top: 0; background: var(--card); }\n\
+td:nth-child(5) { white-space: normal; min-width: 10em; }\n\
+tbody tr { cursor: pointer; }\n\
+tbody tr:hover { background: var(--bg); }\n\
+tr[aria-current] td { background: var(--now-bg); font-weight: 600; }\n\
+tr.pass td:first-child { box-shadow: inset 4px 0 var(--bad); }\n\
+tr.later td { color: var(--soft); }\n\
+\n\
+/* The candidate execution */\n\
+.split { display: flex; flex-wrap: wrap; gap: 0.9rem; align-items: flex-start; }\n\
+.split > * { flex: 1 1 24rem; min-width: 0; }\n\
+.split > .scroll { flex: 1 1 auto; max-width: 100%; } /* a wide graph has a row of its own */\n\
+.graph svg { display: block; max-width: 100%; height: auto; }\n\
+.graph text { font-size: 12.5px; fill: var(--ink); }\n\
+.graph .node { fill: var(--card); stroke: var(--line); stroke-width: 1.5; }\n\
+.graph .in { stroke: var(--bad); stroke-width: 2.5; }\n\
+.graph .here { fill: var(--now-bg); }\n\
+.graph path { fill: none; stroke: var(--soft); stroke-width: 1.2; }\n\
+.graph path.red { stroke: var(--bad); stroke-width: 2.6; }\n\
+.graph .tag { paint-order: stroke; stroke: var(--card); stroke-width: 5px; fill: var(--soft); }\n\
+.graph .tag.red { fill: var(--bad); font-weight: 700; }\n\
+.graph .cut { stroke: var(--bad); stroke-width: 2; stroke-dasharray: 5 3; }\n\
+.cycle { padding-left: 1.4rem; margin: 0 0 0.6rem; }\n\
+.cycle li { padding: 0.12rem 0; }\n\
+.cycle b { color: var(--bad); }\n\
+\n\
+/* Telephones, and windows as narrow */\n\
+@media (max-width: 40rem) {\n\
+\x20 main { padding: 0.8rem 0.6rem 2rem; }\n\
+\x20 .card { padding: 0.7rem 0.6rem; }\n\
+\x20 .table { padding-top: 0; max-height: 24rem; }\n\
+\x20 h1 { font-size: 1.3rem; }\n\
+\x20 .bar { position: static; }\n\
+\x20 .slot { min-height: 1.6rem; }\n\
+\x20 th:nth-child(3), td:nth-child(3) { display: none; }\n\
+}\n\
+\n\
+/* Paper: white, without controls, and without arrows, since they are placed for the screen's layout */\n\
+@media print {\n\
+\x20 :root { font-size: 10.5px; }\n\
+\x20 body { background: #fff; font-size: 1rem; }\n\
+\x20 * { print-color-adjust: exact; }\n\
+\x20 .controls, .pick, .arrows { display: none; }\n\
+\x20 .bar { position: static; }\n\
+\x20 .code, .table { max-height: none; }\n\
+\x20 .card { break-inside: avoid; }\n\
+}\n\
+</style>\n\
+</head>\n\
+<body>\n\
+<main id=\"page\">\n\
+<noscript><p>This page draws itself with JavaScript, from the JSON document in its source.</p></noscript>\n\
+</main>\n\
+<script type=\"application/json\" id=\"data\">\n\
+";
+
+/// The page after the document.
+pub(crate) const TAIL: &[u8] = b"\
+</script>\n\
+<script>\n\
+\"use strict\";\n\
+\n\
+// The document that the page shows, and the words and elements that all parts of the page use.\n\
+\n\
+const given = JSON.parse(document.getElementById(\"data\").textContent);\n\
+\n\
+// Gives an element its attributes, listeners and children. A child is an element or a text, never markup, since the\n\
+// names of the document may hold anything. An attribute that is null or false is left out.\n\
+function furnish(element, { on = {}, ...attributes }, children) {\n\
+\x20 for (const [event, listener] of Object.entries(on)) {\n\
+\x20   element.addEventListener(event, listener);\n\
+\x20 }\n\
+\x20 for (const [name, value] of Object.entries(attributes)) {\n\
+\x20   if (value !== null && value !== false) {\n\
+\x20     element.setAttribute(name, value === true ? \"\" : value);\n\
+\x20   }\n\
+\x20 }\n\
+\x20 element.append(...children.flat().filter(child => child !== null && child !== \"\"));\n\
+\x20 return element;\n\
+}\n\
+\n\
+const html = (tag, attributes = {}, ...children) => furnish(document.createElement(tag), attributes, children);\n\
+\n\
+const svg = (tag, attributes = {}, ...children) =>\n\
+\x20 furnish(document.createElementNS(\"http://www.w3.org/2000/svg\", tag), attributes, children);\n\
+\n\
+const all = (root, selector) => [...root.querySelectorAll(selector)];\n\
+\n\
+// Marks an element as the current one of its kind, for style sheets and for screen readers.\n\
+function mark(element, isCurrent) {\n\
+\x20 if (isCurrent) {\n\
+\x20   element.setAttribute(\"aria-current\", \"step\");\n\
+\x20 } else {\n\
+\x20   element.removeAttribute(\"aria-current\");\n\
+\x20 }\n\
+}\n\
+\n\
+// Texts up to this length are not broken.\n\
+const SHORT_CODE = 24;\n\
+\n\
+const code = text => html(\"code\", text.length > SHORT_CODE ? { class: \"long\" } : {}, text);\n\
+\n\
+const threadName = thread => \"P\" + thread;\n\
+\n\
+// `x=1`, of a store or of what is read.\n\
+const assignment = access => `${access.location}=${access.value}`;\n\
+\n\
+const assignments = accesses => accesses.map(access => code(assignment(access)));\n\
+\n\
+// The parts as they are listed in a sentence: `a, b and c`.\n\
+function listed(parts, last = \" and \") {\n\
+\x20 return parts.flatMap((part, i) => i === 0 ? [part] : [i === parts.length - 1 ? last : \", \", part]);\n\
+}\n\
+\n\
+// The thread and the instruction of a gap.\n\
+const gapPlace = gap => gap.split(\":\").map(Number);\n\
+\n\
+const gapCost = gap => given.gaps.find(priced => priced.gap === gap).cost;\n\
+\n\
+const gapsOfAnswer = () => given.answer ? given.answer.set : [];\n\
+\n\
+const instructionText = (thread, number) => given.threads[thread].instructions[number].text;\n\
+\n\
+// The instruction that a gap lies before, and its thread.\n\
+function placeOf(gap) {\n\
+\x20 const [thread, number] = gapPlace(gap);\n\
+\x20 return [code(instructionText(thread, number)), \" of \" + threadName(thread)];\n\
+}\n\
+\n\
+const outcomeText = run => run.outcome.map(({ name, value }) => `${name}=${value};`).join(\" \");\n\
+\n\
+const initialText = location => `${location}=${given.initial.memory[given.locations.indexOf(location)]}`;\n\
+// A run, as far as its steps show it: the state after each step, and the moments that matter. Nothing is executed\n\
+// here: each value comes from the document.\n\
+\n\
+class Run {\n\
+\x20 constructor(run) {\n\
+\x20   this.run = run;\n\
+\x20   this.steps = run.steps;\n\
+\x20   this.threads = run.steps.map(step => Number(step.label.slice(1)));\n\
+\x20   this.states = this.findStates();\n\
+\x20   this.moments = [];\n\
+\x20   this.gap = run.without ?? null;\n\
+\x20   if (this.gap !== null) {\n\
+\x20     this.findGap();\n\
+\x20     this.findMoments();\n\
+\x20   }\n\
+\x20 }\n\
+\n\
+\x20 get last() {\n\
+\x20   return this.steps.length;\n\
+\x20 }\n\
+\n\
+\x20 // The whole state before the first step, and after each one.\n\
+\x20 findStates() {\n\
+\x20   const states = [{\n\
+\x20     memory: given.initial.memory,\n\
+\x20     registers: given.initial.registers,\n\
+\x20     buffers: given.threads.map(() => []),\n\
+\x20   }];\n\
+\x20   this.steps.forEach((step, i) => {\n\
+\x20     const before = states[i];\n\
+\x20     const own = (values, value) => values.map((other, thread) => thread === this.threads[i] ? value : other);\n\
+\x20     states.push({\n\
+\x20       memory: step.memory,\n\
+\x20       registers: own(before.registers, step.registers),\n\
+\x20       buffers: own(before.buffers, step.buffer),\n\
+\x20     });\n\
+\x20   });\n\
+\x20   return states;\n\
+\x20 }\n\
+\n\
+\x20 // The instruction that a thread executes next after some steps, or the number of its instructions where it has ended.\n\
+\x20 next(steps, thread) {\n\
+\x20   const executes = (step, i) => i >= steps && this.threads[i] === thread && step.instruction !== null;\n\
+\x20   const found = this.steps.find(executes);\n\
+\x20   return found ? found.instruction : given.threads[thread].instructions.length;\n\
+\x20 }\n\
+\n\
+\x20 // Whether a step reads or stores.\n\
+\x20 isAccess(i) {\n\
+\x20   return this.steps[i].reads !== null || this.steps[i].stores !== null;\n\
+\x20 }\n\
+\n\
+\x20 text(i) {\n\
+\x20   return instructionText(this.threads[i], this.steps[i].instruction);\n\
+\x20 }\n\
+\n\
+\x20 // The step that passes the gap that is left out, and the stores that wait there, the oldest first.\n\
+\x20 findGap() {\n\
+\x20   [this.gapThread, this.gapInstruction] = gapPlace(this.gap);\n\
+\x20   this.pass = this.steps.findIndex((step, i) =>\n\
+\x20     this.threads[i] === this.gapThread && step.instruction === this.gapInstruction);\n\
+\x20   this.waiting = this.states[this.pass].buffers[this.gapThread];\n\
+\x20 }\n\
+\n\
+\x20 // The moments from the step that passes the gap to the one at which the last store that waited there has reached\n\
+\x20 // memory: `arrival`. Moments with the same words are one moment with several steps.\n\
+\x20 findMoments() {\n\
+\x20   let late = this.waiting;\n\
+\x20   for (let i = this.pass; late.length > 0 && i < this.last; i++) {\n\
+\x20     const moment = momentOf(this, i, late);\n\
+\x20     if (moment !== null) {\n\
+\x20       this.addMoment(i + 1, moment);\n\
+\x20     }\n\
+\x20     if (this.threads[i] === this.gapThread && this.steps[i].instruction === null) {\n\
+\x20       late = late.slice(1);\n\
+\x20       this.arrival = i;\n\
+\x20     }\n\
+\x20   }\n\
+\x20 }\n\
+\n\
+\x20 addMoment(step, { say, isBad }) {\n\
+\x20   const words = say.map(part => part.textContent ?? part).join(\"\");\n\
+\x20   const same = this.moments.find(moment => moment.words === words);\n\
+\x20   if (same) {\n\
+\x20     same.steps.push(step);\n\
+\x20   } else {\n\
+\x20     this.moments.push({ steps: [step], words, say, isBad });\n\
+\x20   }\n\
+\x20 }\n\
+\n\
+\x20 // The edges of the cycle: where each one comes from, where it leads to, and its relation.\n\
+\x20 cycle() {\n\
+\x20   const { cycle } = this.run.execution;\n\
+\x20   return cycle.map(({ event, relation }, i) => ({\n\
+\x20     relation,\n\
+\x20     from: event,\n\
+\x20     to: cycle[(i + 1) % cycle.length].event,\n\
+\x20   }));\n\
+\x20 }\n\
+\n\
+\x20 // Whether a pair of events of one thread lies around the gap that is left out.\n\
+\x20 isAroundGap(from, to) {\n\
+\x20   return this.gap !== null && this.threads[from] === this.gapThread && this.threads[to] === this.gapThread\n\
+\x20     && this.steps[from].instruction < this.gapInstruction && this.gapInstruction <= this.steps[to].instruction;\n\
+\x20 }\n\
+}\n\
+// The sentences about a run.\n\
+\n\
+// What a step after the passed gap does with the stores that waited there and have not reached memory yet: its words,\n\
+// and whether it is where the fence is missing; null if it does nothing with them.\n\
+function momentOf(run, i, late) {\n\
+\x20 const step = run.steps[i];\n\
+\x20 const thread = threadName(run.threads[i]);\n\
+\x20 const isOwn = run.threads[i] === run.gapThread;\n\
+\x20 const newest = access => late.filter(store => access && store.location === access.location).slice(-1);\n\
+\x20 if (i === run.pass) {\n\
+\x20   return { say: passingWords(run, late), isBad: true };\n\
+\x20 }\n\
+\x20 if (isOwn && step.reads && step.reads.from === \"memory\") {\n\
+\x20   const own = listed(assignments(late));\n\
+\x20   return { say: [`${thread} reads `, code(assignment(step.reads)), \", ahead of its own waiting \", ...own, \".\"] };\n\
+\x20 }\n\
+\x20 if (!isOwn && newest(step.reads).length > 0) {\n\
+\x20   const hidden = assignments(newest(step.reads));\n\
+\x20   return {\n\
+\x20     say: [`${thread} reads `, code(assignment(step.reads)), `: ${threadName(run.gapThread)}'s `, ...hidden,\n\
+\x20       \" still waits, and no other thread sees it.\"],\n\
+\x20   };\n\
+\x20 }\n\
+\x20 if (!isOwn && newest(step.reaches).length > 0) {\n\
+\x20   return { say: [`${thread}'s store `, code(assignment(step.reaches)), \" reaches memory first.\"] };\n\
+\x20 }\n\
+\x20 if (isOwn && step.instruction === null) {\n\
+\x20   const end = late.length > 1 ? \" reaches memory only now.\" : \" reaches memory only now: too late.\";\n\
+\x20   return { say: [`${thread}'s store `, code(assignment(step.reaches)), end] };\n\
+\x20 }\n\
+\x20 return null;\n\
+}\n\
+\n\
+function passingWords(run, late) {\n\
+\x20 const { reads } = run.steps[run.pass];\n\
+\x20 return [\n\
+\x20   `${threadName(run.gapThread)} goes on to `, code(run.text(run.pass)),\n\
+\x20   late.length > 1 ? \" while its stores \" : \" while its store \", ...listed(assignments(late)),\n\
+\x20   late.length > 1 ? \" still wait in its buffer\" : \" still waits in its buffer\",\n\
+\x20   ...(reads ? [\", and reads \", code(assignment(reads))] : []),\n\
+\x20   \". A fence here would have made it wait.\",\n\
+\x20 ];\n\
+}\n\
+\n\
+// What happens in the last of some steps.\n\
+function stepWords(run, steps) {\n\
+\x20 if (steps === 0) {\n\
+\x20   return [\"Before the first step: nothing has been executed, and the store buffers are empty. Press Next, or the\",\n\
+\x20     \" right arrow key.\"];\n\
+\x20 }\n\
+\x20 const i = steps - 1;\n\
+\x20 const step = run.steps[i];\n\
+\x20 const thread = threadName(run.threads[i]);\n\
+\x20 if (step.instruction === null) {\n\
+\x20   return [`${thread}'s oldest waiting store leaves its buffer: `, code(assignment(step.reaches)),\n\
+\x20     \" is in memory now, where every thread sees it.\"];\n\
+\x20 }\n\
+\x20 const say = [`${thread} executes `, code(run.text(i)), ...effectWords(run, i)];\n\
+\x20 if (i === run.pass) {\n\
+\x20   say.push(html(\"span\", { class: \"verdict\" }, ` Its own ${run.waiting.map(assignment).join(\" \")} still `\n\
+\x20     + `${run.waiting.length > 1 ? \"wait\" : \"waits\"}: the fence that is left out would have made ${thread} wait here `\n\
+\x20     + \"until its buffer is empty.\"));\n\
+\x20 }\n\
+\x20 return say;\n\
+}\n\
+\n\
+// What an instruction does, after its text.\n\
+function effectWords(run, i) {\n\
+\x20 const step = run.steps[i];\n\
+\x20 const { reads, stores, reaches } = step;\n\
+\x20 if (reads && stores) {\n\
+\x20   return [\": with its buffer empty, it reads \", code(assignment(reads)), \" and stores \", code(assignment(stores)),\n\
+\x20     \" in memory, at once.\"];\n\
+\x20 }\n\
+\x20 if (stores && reaches) {\n\
+\x20   return [\": \", code(assignment(stores)), \" is in memory at once, where every thread sees it.\"];\n\
+\x20 }\n\
+\x20 if (stores) {\n\
+\x20   const found = step.memory[given.locations.indexOf(stores.location)];\n\
+\x20   return [\": \", code(assignment(stores)), \" goes into its store buffer. No other thread sees it yet; memory still \",\n\
+\x20     \"has \", code(`${stores.location}=${found}`), \".\"];\n\
+\x20 }\n\
+\x20 return reads ? loadWords(run, i) : localWords(run, i);\n\
+}\n\
+\n\
+function loadWords(run, i) {\n\
+\x20 const { reads } = run.steps[i];\n\
+\x20 const from = reads.from === \"buffer\" ? \" from its own store buffer, where only it can see it.\" : \" from memory.\";\n\
+\x20 const say = [\" and reads \", code(assignment(reads)), from];\n\
+\x20 run.states[i].buffers.forEach((buffer, thread) => {\n\
+\x20   const hidden = buffer.filter(store => store.location === reads.location).slice(-1);\n\
+\x20   if (thread !== run.threads[i] && hidden.length > 0) {\n\
+\x20     say.push(` It cannot see ${threadName(thread)}'s `, ...assignments(hidden), \", which still waits.\");\n\
+\x20   }\n\
+\x20 });\n\
+\x20 return say;\n\
+}\n\
+\n\
+// An instruction that neither reads nor stores: where the run goes on tells whether a jump was taken.\n\
+function localWords(run, i) {\n\
+\x20 const text = run.text(i);\n\
+\x20 if (text === \"MFENCE\") {\n\
+\x20   return [\": its store buffer is empty, so the fence lets it go on.\"];\n\
+\x20 }\n\
+\x20 if (!text.startsWith(\"J\")) {\n\
+\x20   return [\".\"];\n\
+\x20 }\n\
+\x20 const next = run.next(i + 1, run.threads[i]);\n\
+\x20 return [next === run.steps[i].instruction + 1 ? \", and goes on with the next instruction.\" : \", and jumps ahead.\"];\n\
+}\n\
+\n\
+// An outcome is the final values of all that is compared, so a condition that names a part of it may be met elsewhere too.\n\
+const elsewhere = \". Sequential runs may do so too, with other final values.\";\n\
+\n\
+// Whether the run's outcome is what the file's condition is about.\n\
+function conditionWords(run) {\n\
+\x20 const condition = code(given.condition);\n\
+\x20 const quantifier = given.condition.split(\" \")[0];\n\
+\x20 if (quantifier === \"~exists\") {\n\
+\x20   return run.meets_condition\n\
+\x20     ? [\"It is what the file says must not happen: \", condition, elsewhere]\n\
+\x20     : [\"What must not happen, \", condition, \", does not happen in this run; but registers or memory end as they \",\n\
+\x20       \"sequentially cannot.\"];\n\
+\x20 }\n\
+\x20 if (quantifier === \"exists\") {\n\
+\x20   return run.meets_condition\n\
+\x20     ? [\"It is what the file asks for: \", condition, elsewhere]\n\
+\x20     : [\"It is not what the file asks for, \", condition, \"; but registers or memory end as they \",\n\
+\x20       \"sequentially cannot.\"];\n\
+\x20 }\n\
+\x20 return run.meets_condition\n\
+\x20   ? [\"The file's condition, \", condition, \", is met by this run; but registers or memory end as they sequentially \",\n\
+\x20     \"cannot.\"]\n\
+\x20   : [\"It breaks the file's condition: \", condition, elsewhere];\n\
+}\n\
+\n\
+// Whether the run meets the formula of the file's condition, as no sequential run does.\n\
+function aloneWords(run) {\n\
+\x20 return run.meets_condition\n\
+\x20   ? \" This run meets the formula of the file's condition, and no sequential run does: \"\n\
+\x20   : \" This run does not meet the formula of the file's condition, and each sequential run does: \";\n\
+}\n\
+\n\
+// How the run ends. That no sequential run has the outcome is said by `fencer why`, not by `fencer trace`.\n\
+function verdictWords(run) {\n\
+\x20 if (run.gap === null) {\n\
+\x20   const meets = run.run.meets_condition ? \" It meets\" : \" It does not meet\";\n\
+\x20   return [code(outcomeText(run.run)), meets + \" the formula of the file's condition: \", code(given.condition), \".\"];\n\
+\x20 }\n\
+\x20 if (given.answer.condition) {\n\
+\x20   return [code(outcomeText(run.run)), html(\"span\", { class: \"verdict\" }, aloneWords(run.run)), code(given.condition), \".\"];\n\
+\x20 }\n\
+\x20 return [code(outcomeText(run.run)), html(\"span\", { class: \"verdict\" }, \" No sequential run has this outcome. \"),\n\
+\x20   ...conditionWords(run.run)];\n\
+}\n\
+\n\
+// The cycle of the candidate execution, a sentence for each edge.\n\
+function cycleWords(run) {\n\
+\x20 const name = event => [threadName(run.threads[event]) + \"'s \", code(run.text(event))];\n\
+\x20 const edges = run.cycle();\n\
+\x20 return edges.map(({ relation, from, to }, i) => {\n\
+\x20   const last = i === edges.length - 1 ? \": back at the first access.\" : \".\";\n\
+\x20   return html(\"li\", {}, name(from), \" \", edgeWords(run, relation, from, name(to), to), \" (\",\n\
+\x20     html(\"b\", {}, relation), \")\", last);\n\
+\x20 });\n\
+}\n\
+\n\
+function edgeWords(run, relation, from, target, to) {\n\
+\x20 const { reads, stores } = run.steps[from];\n\
+\x20 if (relation === \"po\") {\n\
+\x20   return [\"comes before \", ...target, \" in the program\"];\n\
+\x20 }\n\
+\x20 if (relation === \"rf\") {\n\
+\x20   return [\"stores \", code(assignment(stores)), \", which \", ...target, \" reads\"];\n\
+\x20 }\n\
+\x20 if (relation === \"co\") {\n\
+\x20   return [\"stores \", code(assignment(stores)), \", and then \", ...target, \" overwrites it\"];\n\
+\x20 }\n\
+\x20 const overwritten = run.steps[to].stores;\n\
+\x20 return [\"reads \", code(assignment(reads)), \", so it comes before \", ...target, \", which stores \",\n\
+\x20   code(assignment(overwritten))];\n\
+}\n\
+// The machine as a picture: the program in a column for each thread, below it the thread's registers and its store\n\
+// buffer, and the memory at the bottom.\n\
+\n\
+// The cells of registers or locations, as a list.\n\
+const cellList = (label, names) =>\n\
+\x20 html(\"ul\", { class: \"cells\", \"aria-label\": label },\n\
+\x20   names.map(name => html(\"li\", { class: \"cell\" }, name, html(\"b\"), html(\"s\"))));\n\
+\n\
+// The lines of a thread's program: its labels and instructions, and the fences of the answer.\n\
+function programLines({ instructions, end }, thread, leftOut) {\n\
+\x20 const lines = instructions.flatMap(({ labels, text }, number) => {\n\
+\x20   const gap = `${thread}:${number}`;\n\
+\x20   const label = html(\"span\", { class: \"label\" }, labels.map(name => name + \": \").join(\"\"));\n\
+\x20   const line = html(\"li\", { \"data-number\": number, \"data-at\": gap }, label, text);\n\
+\x20   return gapsOfAnswer().includes(gap) ? [fenceLine(gap, gap === leftOut), line] : [line];\n\
+\x20 });\n\
+\x20 if (end.length > 0) {\n\
+\x20   const label = html(\"span\", { class: \"label\" }, end.map(name => name + \":\").join(\" \"));\n\
+\x20   lines.push(html(\"li\", { \"data-at\": `${thread}:${instructions.length}` }, label));\n\
+\x20 }\n\
+\x20 return lines;\n\
+}\n\
+\n\
+const fenceLine = (gap, isOut) =>\n\
+\x20 html(\"li\", { class: isOut ? \"fence out\" : \"fence\", \"data-gap\": gap }, \"MFENCE \",\n\
+\x20   html(\"small\", {}, `${isOut ? \"left out, \" : \"\"}cost ${gapCost(gap)}`));\n\
+\n\
+// A store buffer with room for as many stores as ever wait in it. Its newest store is at the top.\n\
+function bufferBox(thread, depth) {\n\
+\x20 return html(\"div\", { class: \"buffer\" }, html(\"h4\", {}, \"store buffer\"),\n\
+\x20   html(\"ol\", { \"aria-label\": `store buffer of ${threadName(thread)}, oldest first` },\n\
+\x20     Array.from({ length: depth }, () => html(\"li\", { class: \"slot\" }))));\n\
+}\n\
+\n\
+function registerBox(thread) {\n\
+\x20 const names = given.registers[thread];\n\
+\x20 return html(\"div\", {}, html(\"h4\", {}, \"registers\"),\n\
+\x20   names.length > 0 ? cellList(`registers of ${threadName(thread)}`, names)\n\
+\x20     : html(\"p\", { class: \"soft none\" }, \"none\"));\n\
+}\n\
+\n\
+// A thread's column. Without a run it is the program alone.\n\
+function threadColumn(program, thread, run) {\n\
+\x20 const lines = programLines(program, thread, run ? run.gap : null);\n\
+\x20 const depth = run ? Math.max(1, ...run.states.map(state => state.buffers[thread].length)) : 0;\n\
+\x20 return html(\"section\", { class: \"thread\", \"aria-label\": \"thread \" + threadName(thread) },\n\
+\x20   html(\"div\", {}, html(\"h3\", {}, threadName(thread)), html(\"ol\", { class: \"code\" }, lines)),\n\
+\x20   run ? html(\"div\", { class: \"low\" }, registerBox(thread), bufferBox(thread, depth)) : \"\");\n\
+}\n\
+\n\
+function threadColumns(run) {\n\
+\x20 const style = `grid-template-columns: repeat(${given.threads.length}, minmax(9.4rem, 1fr))`;\n\
+\x20 return html(\"div\", { class: \"threads\", style },\n\
+\x20   given.threads.map((program, thread) => threadColumn(program, thread, run)));\n\
+}\n\
+\n\
+// Whether the columns have room in half the page: up to this many characters, with the numbers of the lines.\n\
+const HALF_PAGE = 68;\n\
+\n\
+function isNarrow() {\n\
+\x20 const texts = given.threads.flatMap(({ instructions }) => instructions.map(({ text }) => text.length + 4));\n\
+\x20 return given.threads.length * Math.max(0, ...texts) <= HALF_PAGE;\n\
+}\n\
+\n\
+// The register that a load or an exchange puts its value in: the operand that is no location.\n\
+function loadedRegister(run, i) {\n\
+\x20 const operands = run.text(i).split(\" \")[1].split(\",\");\n\
+\x20 return operands.find(operand => !operand.startsWith(\"[\"));\n\
+}\n\
+\n\
+// Shows values in cells, each with its former value where it changes. The cell that is written is lit also where its\n\
+// value stays the same.\n\
+function showValues(cells, values, former, written) {\n\
+\x20 cells.forEach((cell, i) => {\n\
+\x20   const hasChanged = values[i] !== former[i];\n\
+\x20   cell.querySelector(\"b\").textContent = values[i];\n\
+\x20   cell.querySelector(\"s\").textContent = hasChanged ? former[i] : \"\";\n\
+\x20   cell.classList.toggle(\"moved\", hasChanged || cell.firstChild.data === written);\n\
+\x20 });\n\
+}\n\
+\n\
+class Machine {\n\
+\x20 constructor(run) {\n\
+\x20   this.run = run;\n\
+\x20   this.columns = threadColumns(run);\n\
+\x20   this.threads = all(this.columns, \".thread\");\n\
+\x20   this.memory = html(\"section\", { class: \"memory\", \"aria-label\": \"memory\" },\n\
+\x20     html(\"h3\", {}, \"memory, shared by all threads\"), cellList(\"memory\", given.locations));\n\
+\x20   this.arrows = svg(\"svg\", { class: \"arrows\", \"aria-hidden\": \"true\" });\n\
+\x20   this.stage = html(\"div\", { class: \"stage\" }, this.columns, this.memory, this.arrows);\n\
+\x20 }\n\
+\n\
+\x20 // Shows the state after some steps.\n\
+\x20 show(steps) {\n\
+\x20   const state = this.run.states[steps];\n\
+\x20   const former = this.run.states[Math.max(0, steps - 1)];\n\
+\x20   const step = steps > 0 ? this.run.steps[steps - 1] : null;\n\
+\x20   this.threads.forEach((column, thread) => this.showThread(column, thread, steps));\n\
+\x20   const reached = step && step.reaches ? step.reaches.location : null;\n\
+\x20   showValues(all(this.memory, \".cell\"), state.memory, former.memory, reached);\n\
+\x20   const fence = this.stage.querySelector(\".out\");\n\
+\x20   if (fence) {\n\
+\x20     fence.classList.toggle(\"passing\", steps > this.run.pass && steps <= this.run.arrival);\n\
+\x20   }\n\
+\x20 }\n\
+\n\
+\x20 showThread(column, thread, steps) {\n\
+\x20   const step = steps > 0 && this.run.threads[steps - 1] === thread ? this.run.steps[steps - 1] : null;\n\
+\x20   const former = this.run.states[Math.max(0, steps - 1)];\n\
+\x20   const state = this.run.states[steps];\n\
+\x20   this.showPlace(column, step ? step.instruction : null, this.run.next(steps, thread));\n\
+\x20   const buffer = state.buffers[thread];\n\
+\x20   all(column, \".slot\").forEach((slot, i) => {\n\
+\x20     slot.textContent = i < buffer.length ? assignment(buffer[i]) : \"\";\n\
+\x20     slot.classList.toggle(\"full\", i < buffer.length);\n\
+\x20   });\n\
+\x20   const loaded = step && step.reads ? loadedRegister(this.run, steps - 1) : null;\n\
+\x20   showValues(all(column, \".cell\"), state.registers[thread], former.registers[thread], loaded);\n\
+\x20 }\n\
+\n\
+\x20 // Lights the instruction that the step executes, and greys the ones before the next.\n\
+\x20 showPlace(column, executed, next) {\n\
+\x20   const lines = column.querySelector(\".code\");\n\
+\x20   all(lines, \"[data-at]\").forEach(line => {\n\
+\x20     const number = gapPlace(line.dataset.at)[1];\n\
+\x20     const isNow = number === executed;\n\
+\x20     line.classList.toggle(\"now\", isNow);\n\
+\x20     line.classList.toggle(\"done\", !isNow && number < next);\n\
+\x20     mark(line, isNow);\n\
+\x20     if (isNow) {\n\
+\x20       lines.scrollTop = Math.max(0, line.offsetTop - lines.clientHeight / 2);\n\
+\x20     }\n\
+\x20   });\n\
+\x20 }\n\
+}\n\
+// What moves in a step: an arrow over the machine from where it was to where it is, and where motion is welcome a token\n\
+// that goes along it.\n\
+\n\
+const calm = matchMedia(\"(prefers-reduced-motion: reduce)\");\n\
+\n\
+// An arrow that is less high than this has no label.\n\
+const LABEL_HEIGHT = 34;\n\
+\n\
+// Points on elements, measured from the stage.\n\
+class Places {\n\
+\x20 constructor(stage) {\n\
+\x20   this.origin = stage.getBoundingClientRect();\n\
+\x20 }\n\
+\n\
+\x20 top(element) {\n\
+\x20   const { left, top, width } = element.getBoundingClientRect();\n\
+\x20   return [left - this.origin.left + width / 2, top - this.origin.top];\n\
+\x20 }\n\
+\n\
+\x20 bottom(element) {\n\
+\x20   const { left, bottom, width } = element.getBoundingClientRect();\n\
+\x20   return [left - this.origin.left + width / 2, bottom - this.origin.top];\n\
+\x20 }\n\
+\n\
+\x20 // The lower right corner, where no text is.\n\
+\x20 corner(element) {\n\
+\x20   const { right, bottom } = element.getBoundingClientRect();\n\
+\x20   return [right - this.origin.left - 24, bottom - this.origin.top];\n\
+\x20 }\n\
+}\n\
+\n\
+// The ends of the arrows of a step, and what moves along each.\n\
+function movesOf(machine, steps) {\n\
+\x20 const { run } = machine;\n\
+\x20 const { reads, stores, reaches, buffer } = run.steps[steps - 1];\n\
+\x20 const column = machine.threads[run.threads[steps - 1]];\n\
+\x20 const places = new Places(machine.stage);\n\
+\x20 const slots = all(column, \".slot\");\n\
+\x20 const cell = location => all(machine.memory, \".cell\")[given.locations.indexOf(location)];\n\
+\x20 const moves = [];\n\
+\x20 if (reads) {\n\
+\x20   const waiting = run.states[steps - 1].buffers[run.threads[steps - 1]].map(store => store.location);\n\
+\x20   const source = reads.from === \"buffer\" ? slots[waiting.lastIndexOf(reads.location)] : cell(reads.location);\n\
+\x20   moves.push({ from: places.top(source), to: places.bottom(column.querySelector(\".cell.moved\")), value: reads });\n\
+\x20 }\n\
+\x20 if (stores && !reaches) {\n\
+\x20   const target = slots[buffer.length - 1];\n\
+\x20   moves.push({ from: places.corner(column.querySelector(\".now\")), to: places.top(target), value: stores });\n\
+\x20 }\n\
+\x20 if (reaches) {\n\
+\x20   const from = stores ? places.corner(column.querySelector(\".now\")) : places.bottom(slots[0]);\n\
+\x20   moves.push({ from, to: places.top(cell(reaches.location)), value: reaches });\n\
+\x20 }\n\
+\x20 return moves;\n\
+}\n\
+\n\
+// Where an arrow's label stands: on the way between the threads and the memory where the arrow leads over it, since no\n\
+// text is there. Of two arrows the first has its label nearer to its start.\n\
+function labelSpot(machine, line, move, isFirstOfTwo) {\n\
+\x20 const length = line.getTotalLength();\n\
+\x20 const spots = Array.from({ length: 21 }, (_, i) => line.getPointAtLength(length * i / 20));\n\
+\x20 if (isFirstOfTwo) {\n\
+\x20   return spots[7];\n\
+\x20 }\n\
+\x20 const way = machine.memory.getBoundingClientRect().top - machine.stage.getBoundingClientRect().top - 19;\n\
+\x20 if (Math.max(move.from[1], move.to[1]) <= way) {\n\
+\x20   return spots[10];\n\
+\x20 }\n\
+\x20 return spots.reduce((best, spot) => Math.abs(best.y - way) <= Math.abs(spot.y - way) ? best : spot);\n\
+}\n\
+\n\
+function drawMove(machine, move, isFirstOfTwo, flies) {\n\
+\x20 const [[x1, y1], [x2, y2]] = [move.from, move.to];\n\
+\x20 const bend = (y2 - y1) / 2;\n\
+\x20 const path = `M${x1},${y1} C${x1},${y1 + bend} ${x2},${y2 - bend} ${x2},${y2}`;\n\
+\x20 const line = svg(\"path\", { d: path, \"marker-end\": \"url(#head)\" });\n\
+\x20 const label = assignment(move.value);\n\
+\x20 machine.arrows.append(line);\n\
+\x20 if (Math.abs(y2 - y1) > LABEL_HEIGHT) {\n\
+\x20   drawLabel(machine.arrows, label, labelSpot(machine, line, move, isFirstOfTwo));\n\
+\x20 }\n\
+\x20 if (flies && !calm.matches) {\n\
+\x20   fly(machine.stage, path, label);\n\
+\x20 }\n\
+}\n\
+\n\
+// Draws a label, above those that are there.\n\
+function drawLabel(arrows, label, { x, y }) {\n\
+\x20 const width = label.length * 8 + 12;\n\
+\x20 const isInTheWay = ({ x: left, y: top, width: size }) =>\n\
+\x20   Math.abs(left + size / 2 - x) < (size + width) / 2 && Math.abs(top + 10 - y) < 20;\n\
+\x20 const height = all(arrows, \"rect\").map(box => box.getBBox()).some(isInTheWay) ? y - 22 : y;\n\
+\x20 arrows.append(\n\
+\x20   svg(\"rect\", { x: x - width / 2, y: height - 10, width, height: 20, rx: 10 }),\n\
+\x20   svg(\"text\", { x, y: height + 4, \"text-anchor\": \"middle\" }, label));\n\
+}\n\
+\n\
+function fly(stage, path, label) {\n\
+\x20 const style = `offset-path: path(\"${path}\"); offset-rotate: 0deg`;\n\
+\x20 const token = html(\"div\", { class: \"token\", \"aria-hidden\": \"true\", style }, label);\n\
+\x20 stage.append(token);\n\
+\x20 const flight = [{ offsetDistance: \"0%\" }, { offsetDistance: \"100%\" }];\n\
+\x20 token.animate(flight, { duration: 750, easing: \"ease-in-out\" }).onfinish = () => token.remove();\n\
+}\n\
+\n\
+// A marker with the head of an arrow.\n\
+function arrowHead(id, color, size) {\n\
+\x20 const head = svg(\"path\", { d: \"M0,0 L10,5 L0,10 z\", style: `fill: var(${color}); stroke: none` });\n\
+\x20 return svg(\"marker\", {\n\
+\x20   id, viewBox: \"0 0 10 10\", refX: 9, refY: 5, markerWidth: size, markerHeight: size, markerUnits: \"userSpaceOnUse\",\n\
+\x20   orient: \"auto\",\n\
+\x20 }, head);\n\
+}\n\
+\n\
+// Draws the arrows of the last of some steps anew.\n\
+function drawArrows(machine, steps, flies) {\n\
+\x20 machine.arrows.replaceChildren(svg(\"defs\", {}, arrowHead(\"head\", \"--now\", 12)));\n\
+\x20 all(machine.stage, \".token\").forEach(token => token.remove());\n\
+\x20 if (steps === 0 || !machine.stage.isConnected) {\n\
+\x20   return;\n\
+\x20 }\n\
+\x20 const moves = movesOf(machine, steps);\n\
+\x20 moves.forEach((move, i) => drawMove(machine, move, moves.length > 1 && i === 0, flies));\n\
+}\n\
+// The candidate execution as a picture: threads as columns in program order, and the initial writes above them.\n\
+\n\
+const GRAPH = { left: 50, height: 46, row: 92, lane: 20, initialHeight: 28 };\n\
+\n\
+// What an event does, as it is written in its box: `R x=0  W x=1`.\n\
+function accessText(step) {\n\
+\x20 const parts = [step.reads && \"R \" + assignment(step.reads), step.stores && \"W \" + assignment(step.stores)];\n\
+\x20 return parts.filter(Boolean).join(\"  \");\n\
+}\n\
+\n\
+class Graph {\n\
+\x20 // Without `isWhole` it has the threads of the cycle alone, with program order and the edges of the cycle.\n\
+\x20 constructor(run, isWhole) {\n\
+\x20   this.run = run;\n\
+\x20   this.events = run.steps.map((_, i) => i).filter(i => run.isAccess(i));\n\
+\x20   const texts = this.events.flatMap(i => [run.text(i), accessText(run.steps[i])]);\n\
+\x20   this.width = 20 + 7.6 * Math.max(0, ...texts.map(text => text.length));\n\
+\x20   this.cycle = run.cycle();\n\
+\x20   const inCycle = this.cycle.map(edge => run.threads[edge.from]);\n\
+\x20   this.columns = given.threads.map((_, thread) => thread)\n\
+\x20     .filter(thread => isWhole || inCycle.length === 0 || inCycle.includes(thread));\n\
+\x20   this.edges = this.chosenEdges(isWhole);\n\
+\x20   this.spots = new Map();\n\
+\x20   this.placeEvents();\n\
+\x20   this.placeInitialWrites();\n\
+\x20   this.lanes = 0;\n\
+\x20 }\n\
+\n\
+\x20 // The edges that are shown, those of the cycle last, so that they lie above the others.\n\
+\x20 chosenEdges(isWhole) {\n\
+\x20   const { execution } = this.run.run;\n\
+\x20   const isRed = (relation, from, to) =>\n\
+\x20     this.cycle.some(edge => edge.relation === relation && edge.from === from && edge.to === to);\n\
+\x20   const edges = [\"po\", \"rf\", \"co\", \"fr\"].flatMap(relation => execution[relation].map(([from, to]) =>\n\
+\x20     ({ relation, from, to, isRed: isRed(relation, from, to) })));\n\
+\x20   const isShown = edge => isWhole || edge.isRed\n\
+\x20     || edge.relation === \"po\" && this.columns.includes(this.run.threads[edge.from]);\n\
+\x20   return edges.filter(isShown).sort((a, b) => a.isRed - b.isRed);\n\
+\x20 }\n\
+\n\
+\x20 // Initial writes stand in a row at the top, if an edge leads from one.\n\
+\x20 get initialLocations() {\n\
+\x20   return given.locations.filter(location => this.edges.some(edge => edge.from === location));\n\
+\x20 }\n\
+\n\
+\x20 placeEvents() {\n\
+\x20   const top = this.initialLocations.length > 0 ? 104 : 34;\n\
+\x20   const rows = given.threads.map(() => 0);\n\
+\x20   for (const i of this.events) {\n\
+\x20     const thread = this.run.threads[i];\n\
+\x20     const column = this.columns.indexOf(thread);\n\
+\x20     if (column >= 0) {\n\
+\x20       const row = rows[thread]++;\n\
+\x20       const x = GRAPH.left + column * (this.width + 90);\n\
+\x20       this.spots.set(i, { thread, column, row, x, y: top + GRAPH.row * row });\n\
+\x20     }\n\
+\x20   }\n\
+\x20   this.top = top;\n\
+\x20   this.bottom = top + GRAPH.row * (Math.max(...rows) - 1) + GRAPH.height + 16;\n\
+\x20   this.used = this.columns.filter(thread => rows[thread] > 0);\n\
+\x20 }\n\
+\n\
+\x20 placeInitialWrites() {\n\
+\x20   const locations = this.initialLocations;\n\
+\x20   const texts = locations.map(location => 7.8 * `W ${initialText(location)}`.length + 20);\n\
+\x20   this.initialWidth = Math.max(90, ...texts);\n\
+\x20   const row = locations.length * (this.initialWidth + 14);\n\
+\x20   this.wide = Math.max(2 * GRAPH.left + (this.width + 90) * (this.columns.length - 1) + this.width, row);\n\
+\x20   locations.forEach((location, i) => {\n\
+\x20     const x = (this.wide - row) / 2 + i * (this.initialWidth + 14) + 7;\n\
+\x20     this.spots.set(location, { thread: -1, column: -1, row: -1, x, y: 10 });\n\
+\x20   });\n\
+\x20 }\n\
+\n\
+\x20 // The line of an edge, and where its relation is written.\n\
+\x20 route({ relation, from, to }, i) {\n\
+\x20   const a = this.spots.get(from);\n\
+\x20   const b = this.spots.get(to);\n\
+\x20   const shift = ((i % 3) - 1) * 8; // so that lines between the same boxes lie apart\n\
+\x20   if (a.thread < 0) {\n\
+\x20     return this.routeFromInitial(a, b, shift);\n\
+\x20   }\n\
+\x20   if (relation === \"po\") {\n\
+\x20     const x = a.x + this.width / 2;\n\
+\x20     return { path: `M${x},${a.y + GRAPH.height} L${x},${b.y}`, x: x + 14, y: (a.y + GRAPH.height + b.y) / 2 + 4 };\n\
+\x20   }\n\
+\x20   if (a.thread === b.thread) {\n\
+\x20     return this.routeInThread(a, b);\n\
+\x20   }\n\
+\x20   return Math.abs(a.column - b.column) > 1 ? this.routeBelow(a, b, shift) : this.routeAcross(a, b, shift);\n\
+\x20 }\n\
+\n\
+\x20 routeFromInitial(a, b, shift) {\n\
+\x20   const x = a.x + this.initialWidth / 2;\n\
+\x20   const y = a.y + GRAPH.initialHeight;\n\
+\x20   if (b.row === 0) {\n\
+\x20     const end = b.x + this.width / 2 + shift * 2;\n\
+\x20     const path = `M${x},${y} C${x},${y + 42} ${end},${b.y - 34} ${end},${b.y}`;\n\
+\x20     return { path, x: (x + 3 * end) / 4, y: (y + 3 * b.y) / 4 - 6 };\n\
+\x20   }\n\
+\x20   const isLeft = b.column < this.columns.length / 2;\n\
+\x20   const end = isLeft ? b.x : b.x + this.width;\n\
+\x20   const bow = isLeft ? -46 : 46;\n\
+\x20   const height = b.y + GRAPH.height / 2 + shift;\n\
+\x20   const path = `M${x},${y} C${x},${y + 42} ${end + bow},${height} ${end},${height}`;\n\
+\x20   return { path, x: end + bow * 0.6, y: height - 9 };\n\
+\x20 }\n\
+\n\
+\x20 routeInThread(a, b) {\n\
+\x20   const bow = a.x - 26 - 9 * Math.abs(a.row - b.row);\n\
+\x20   const from = a.y + GRAPH.height / 2 + 6;\n\
+\x20   const to = b.y + GRAPH.height / 2 - 6;\n\
+\x20   const path = `M${a.x},${from} C${bow},${from} ${bow},${to} ${a.x},${to}`;\n\
+\x20   return { path, x: a.x + (bow - a.x) * 0.75, y: (from + to) / 2 };\n\
+\x20 }\n\
+\n\
+\x20 routeAcross(a, b, shift) {\n\
+\x20   const side = b.x > a.x ? 1 : -1;\n\
+\x20   const [x1, x2] = this.sides(a, b);\n\
+\x20   const y1 = a.y + GRAPH.height / 2 + shift;\n\
+\x20   const y2 = b.y + GRAPH.height / 2 + shift;\n\
+\x20   const path = `M${x1},${y1} C${x1 + 46 * side},${y1} ${x2 - 46 * side},${y2} ${x2},${y2}`;\n\
+\x20   return { path, x: x1 + 24 * side, y: y1 + (y2 - y1) * 0.16 + 4 };\n\
+\x20 }\n\
+\n\
+\x20 // Below all boxes, in a lane of its own, since other columns lie between.\n\
+\x20 routeBelow(a, b, shift) {\n\
+\x20   const side = b.x > a.x ? 1 : -1;\n\
+\x20   const [x1, x2] = this.sides(a, b);\n\
+\x20   const y = this.bottom + GRAPH.lane * this.lanes++;\n\
+\x20   const out = (16 + 4 * this.lanes) * side;\n\
+\x20   const y1 = a.y + GRAPH.height / 2 + shift;\n\
+\x20   const y2 = b.y + GRAPH.height / 2 + shift;\n\
+\x20   return { path: `M${x1},${y1} H${x1 + out} V${y} H${x2 - out} V${y2} H${x2}`, x: (x1 + x2) / 2, y: y + 4 };\n\
+\x20 }\n\
+\n\
+\x20 sides(a, b) {\n\
+\x20   return b.x > a.x ? [a.x + this.width, b.x] : [a.x, b.x + this.width];\n\
+\x20 }\n\
+\n\
+\x20 drawEdge(edge, i) {\n\
+\x20   const { path, x, y } = this.route(edge, i);\n\
+\x20   const red = edge.isRed ? \" red\" : \"\";\n\
+\x20   return {\n\
+\x20     line: svg(\"path\", {\n\
+\x20       d: path, class: \"edge\" + red, \"marker-end\": edge.isRed ? \"url(#red)\" : \"url(#grey)\",\n\
+\x20       \"data-edge\": `${edge.relation} ${edge.from} ${edge.to}`,\n\
+\x20     }),\n\
+\x20     tag: svg(\"text\", { x, y, \"text-anchor\": \"middle\", class: \"tag\" + red }, edge.relation),\n\
+\x20   };\n\
+\x20 }\n\
+\n\
+\x20 // The missing fence, across the edge of program order that leads over its gap.\n\
+\x20 drawGap() {\n\
+\x20   const edge = this.edges.find(({ relation, from, to }) => relation === \"po\" && this.run.isAroundGap(from, to));\n\
+\x20   if (!edge) {\n\
+\x20     return [];\n\
+\x20   }\n\
+\x20   const { x, y: top } = this.spots.get(edge.from);\n\
+\x20   const y = (top + GRAPH.height + this.spots.get(edge.to).y) / 2;\n\
+\x20   return [\n\
+\x20     svg(\"line\", { class: \"cut\", x1: x + 6, x2: x + this.width - 6, y1: y, y2: y }),\n\
+\x20     svg(\"text\", { x: x + this.width / 2 - 8, y: y - 6, \"text-anchor\": \"end\", class: \"tag red\" }, \"no fence\"),\n\
+\x20   ];\n\
+\x20 }\n\
+\n\
+\x20 drawEvent(event, { x, y, thread }) {\n\
+\x20   const middle = (width, height, text, weight) =>\n\
+\x20     svg(\"text\", { x: x + width / 2, y: y + height, \"text-anchor\": \"middle\", \"font-weight\": weight }, text);\n\
+\x20   if (thread < 0) {\n\
+\x20     return svg(\"g\", { \"data-event\": event },\n\
+\x20       svg(\"rect\", { class: \"node\", x, y, width: this.initialWidth, height: GRAPH.initialHeight, rx: 14 }),\n\
+\x20       middle(this.initialWidth, 18, `W ${initialText(event)}`, null));\n\
+\x20   }\n\
+\x20   const inCycle = this.cycle.some(edge => edge.from === event);\n\
+\x20   return svg(\"g\", { \"data-event\": event },\n\
+\x20     svg(\"rect\", { class: inCycle ? \"node in\" : \"node\", x, y, width: this.width, height: GRAPH.height, rx: 6 }),\n\
+\x20     middle(this.width, 19, this.run.text(event), null),\n\
+\x20     middle(this.width, 37, accessText(this.run.steps[event]), 700));\n\
+\x20 }\n\
+\n\
+\x20 draw() {\n\
+\x20   const edges = this.edges.map((edge, i) => this.drawEdge(edge, i));\n\
+\x20   const nodes = [...this.spots].map(([event, spot]) => this.drawEvent(event, spot));\n\
+\x20   const heads = this.used.map(thread => {\n\
+\x20     const x = GRAPH.left + this.columns.indexOf(thread) * (this.width + 90);\n\
+\x20     return svg(\"text\", { x, y: this.top - 8, \"font-weight\": 700 }, threadName(thread));\n\
+\x20   });\n\
+\x20   const height = this.bottom + GRAPH.lane * this.lanes;\n\
+\x20   const label = this.cycle.length > 0\n\
+\x20     ? \"The candidate execution; its forbidden cycle is in words in the list beside it\"\n\
+\x20     : \"The candidate execution, which has no forbidden cycle\";\n\
+\x20   return svg(\"svg\", {\n\
+\x20     role: \"img\", \"aria-label\": label, width: this.wide, height, viewBox: `0 0 ${this.wide} ${height}`,\n\
+\x20     style: `min-width: ${Math.round(this.wide * 0.8)}px`,\n\
+\x20   }, svg(\"defs\", {}, arrowHead(\"red\", \"--bad\", 11), arrowHead(\"grey\", \"--soft\", 11)),\n\
+\x20   edges.map(edge => edge.line), this.drawGap(), nodes, edges.map(edge => edge.tag), heads);\n\
+\x20 }\n\
+}\n\
+// The player: a run that a reader steps through, with what goes wrong in it, the machine, the table and the graph.\n\
+\n\
+const PLAY_INTERVAL = 1800;\n\
+const ADDRESS_DELAY = 400;\n\
+\n\
+// What the table says of a step, a cell each.\n\
+function stepCells(run, i) {\n\
+\x20 const { label, instruction, reads, stores, reaches, buffer } = run.steps[i];\n\
+\x20 const source = reads && (reads.from === \"buffer\" ? \"its buffer\" : \"memory\");\n\
+\x20 const effects = [reads && `reads ${assignment(reads)} from ${source}`, stores && `stores ${assignment(stores)}`];\n\
+\x20 return [\n\
+\x20   String(i + 1),\n\
+\x20   label,\n\
+\x20   threadName(run.threads[i]),\n\
+\x20   instruction === null ? \"\xe2\x80\x93\" : run.text(i),\n\
+\x20   effects.filter(Boolean).join(\", \") || \"\xe2\x80\x93\",\n\
+\x20   buffer.map(assignment).join(\" \") || \"\xe2\x80\x93\",\n\
+\x20   reaches ? assignment(reaches) : \"\xe2\x80\x93\",\n\
+\x20 ];\n\
+}\n\
+\n\
+const TABLE_HEADS = [\"#\", \"step\", \"thread\", \"instruction\", \"reads and stores\", \"still waits\", \"reaches memory\"];\n\
+\n\
+// A part of the page that a reader can scroll, also by keyboard.\n\
+const region = (kind, label, ...children) =>\n\
+\x20 html(\"section\", { class: `card scroll ${kind}`, role: \"region\", tabindex: 0, \"aria-label\": label }, children);\n\
+\n\
+class Player {\n\
+\x20 constructor(run) {\n\
+\x20   this.run = run;\n\
+\x20   this.at = 0;\n\
+\x20   this.timer = null;\n\
+\x20   this.machine = new Machine(run);\n\
+\x20   this.makeControls();\n\
+\x20   this.rows = run.steps.map((_, i) => this.row(i));\n\
+\x20   this.table = this.tableBox();\n\
+\x20   this.holder = html(\"div\", { class: \"scroll\", role: \"region\", tabindex: 0, \"aria-label\": \"candidate execution\" });\n\
+\x20   this.whole = html(\"input\", { type: \"checkbox\", on: { change: () => this.drawGraph() } });\n\
+\x20   this.body = this.panel();\n\
+\x20 }\n\
+\n\
+\x20 makeControls() {\n\
+\x20   const button = (name, label, act) =>\n\
+\x20     html(\"button\", { type: \"button\", \"aria-label\": name, on: { click: act } }, label);\n\
+\x20   this.first = button(\"Start\", \"Start\", () => this.step(0));\n\
+\x20   this.back = button(\"Back\", \"\xe2\x97\x80 Back\", () => this.step(this.at - 1));\n\
+\x20   this.play = html(\"button\", { type: \"button\", on: { click: () => this.turnPlaying() } }, \"\xe2\x96\xb6 Play\");\n\
+\x20   this.forward = button(\"Next\", \"Next \xe2\x96\xb6\", () => this.step(this.at + 1));\n\
+\x20   this.final = button(\"End\", \"End\", () => this.step(this.run.last));\n\
+\x20   this.slider = html(\"input\", {\n\
+\x20     type: \"range\", id: \"step\", min: 0, max: this.run.last, value: 0, \"aria-label\": \"step of the run\",\n\
+\x20     on: { input: () => this.step(Number(this.slider.value)) },\n\
+\x20   });\n\
+\x20   this.count = html(\"span\", { class: \"count soft\" });\n\
+\x20   this.say = html(\"p\", { class: \"say\", \"aria-live\": \"polite\" });\n\
+\x20 }\n\
+\n\
+\x20 // The parts in the order in which they are read. Where it is narrow, the machine stands beside the texts.\n\
+\x20 panel() {\n\
+\x20   const buttons = [this.first, this.back, this.play, this.forward, this.final];\n\
+\x20   const bar = html(\"section\", { class: \"card bar player\", \"aria-label\": \"player\" },\n\
+\x20     html(\"div\", { class: \"controls\" }, buttons, html(\"div\", { class: \"place\" }, this.slider, this.count)), this.say);\n\
+\x20   const machine = html(\"div\", { class: \"right\" }, bar, region(\"machine\", \"the machine\", this.machine.stage));\n\
+\x20   const duo = html(\"div\", { class: \"duo\" }, this.momentBox(), machine, this.table);\n\
+\x20   return html(\"div\", { class: isNarrow() ? \"panel side\" : \"panel\" }, duo, this.graphBox());\n\
+\x20 }\n\
+\n\
+\x20 // The moments that matter, each with buttons to its steps.\n\
+\x20 momentBox() {\n\
+\x20   const end = { steps: [this.run.last], say: [\"The run ends with \", ...verdictWords(this.run)] };\n\
+\x20   const lines = [...this.run.moments, end].map(({ steps, isBad, say }) => html(\"li\", { class: isBad ? \"bad\" : \"\" },\n\
+\x20     html(\"span\", { class: \"where\" }, steps.map(step => this.stepButton(step))), html(\"span\", {}, say)));\n\
+\x20   const title = this.run.gap === null ? \"How the run ends\" : \"What goes wrong without this fence\";\n\
+\x20   return html(\"section\", { class: \"card wrong\" }, html(\"h2\", {}, title), html(\"ol\", { class: \"moments\" }, lines),\n\
+\x20     this.otherGaps());\n\
+\x20 }\n\
+\n\
+\x20 stepButton(step) {\n\
+\x20   return html(\"button\", { type: \"button\", \"data-step\": step, on: { click: () => this.step(step) } }, `step ${step}`);\n\
+\x20 }\n\
+\n\
+\x20 // The other gaps that the run passes: a fence in one of them serves too, against this run.\n\
+\x20 otherGaps() {\n\
+\x20   const others = this.run.run.passed.filter(gap => gap !== this.run.gap);\n\
+\x20   if (this.run.gap === null) {\n\
+\x20     const passed = others.length > 0 ? `It passes ${others.join(\", \")}.` : \"It passes no gap.\";\n\
+\x20     return html(\"p\", { class: \"soft note passed\" }, passed,\n\
+\x20       \" A run passes a gap where its thread goes on with a store waiting; a fence there prevents the run.\");\n\
+\x20   }\n\
+\x20   const places = others.map(gap => html(\"span\", {}, \"before \", ...placeOf(gap), ` (${gap}, cost ${gapCost(gap)})`));\n\
+\x20   return places.length === 0 ? \"\"\n\
+\x20     : html(\"p\", { class: \"soft note also\" }, \"A fence \", ...listed(places, \" or \"), \" would prevent this run too.\");\n\
+\x20 }\n\
+\n\
+\x20 row(i) {\n\
+\x20   const cells = stepCells(this.run, i).map(text => html(\"td\", {}, text));\n\
+\x20   return html(\"tr\", { class: i === this.run.pass ? \"pass\" : \"\", on: { click: () => this.step(i + 1) } }, cells);\n\
+\x20 }\n\
+\n\
+\x20 tableBox() {\n\
+\x20   const heads = TABLE_HEADS.map(text => html(\"th\", { scope: \"col\" }, text));\n\
+\x20   const model = this.run.run.model === \"sequential\" ? \"--model sequential \" : \"\";\n\
+\x20   const command = `fencer trace ${model}LITMUS ${this.run.steps.map(step => step.label).join(\" \")}`;\n\
+\x20   return region(\"table\", \"the run as a table\",\n\
+\x20     html(\"table\", {}, html(\"caption\", {}, \"The run, step by step\"), html(\"thead\", {}, html(\"tr\", {}, heads)),\n\
+\x20       html(\"tbody\", {}, this.rows)),\n\
+\x20     html(\"p\", { class: \"soft note\" }, \"e0: P0 executes its next instruction. f0: the oldest store of P0's buffer \",\n\
+\x20       \"reaches memory. This command shows the same run, with your file as LITMUS: \",\n\
+\x20       html(\"code\", { class: \"long command\" }, command)));\n\
+\x20 }\n\
+\n\
+\x20 graphBox() {\n\
+\x20   const title = this.run.gap === null ? \"The candidate execution\" : \"Why no sequential run does this\";\n\
+\x20   return html(\"section\", { class: \"card graph\" }, html(\"h2\", {}, title),\n\
+\x20     html(\"div\", { class: \"split\" }, this.holder, html(\"div\", {}, this.cycleBox(),\n\
+\x20       html(\"p\", { class: \"soft\" }, \"po: program order. rf: a read reads from this write. co: the order in which \",\n\
+\x20         \"stores reach memory. fr: a read comes before the write that replaces what it read.\"),\n\
+\x20       html(\"label\", { class: \"pick\" }, this.whole, \" show every thread, edge and initial value\"))));\n\
+\x20 }\n\
+\n\
+\x20 cycleBox() {\n\
+\x20   const sentences = cycleWords(this.run);\n\
+\x20   if (sentences.length === 0) {\n\
+\x20     return [html(\"p\", { class: \"acyclic\" }, \"There is no cycle: some sequential run has the same reads and writes.\")];\n\
+\x20   }\n\
+\x20   const close = this.run.gap === null\n\
+\x20     ? \"sequential run has these reads and writes. Another sequential run may still have the same outcome.\"\n\
+\x20     : \"sequential run has these reads and writes. fencer also checked that no other sequential run has this outcome.\";\n\
+\x20   const isOver = this.run.gap === null || this.run.cycle().some(({ from, to }) => this.run.isAroundGap(from, to));\n\
+\x20   return [\n\
+\x20     html(\"p\", {}, \"Suppose that the accesses took effect one after the other, each thread's in program order. Then:\"),\n\
+\x20     html(\"ol\", { class: \"cycle\" }, sentences),\n\
+\x20     html(\"p\", {}, \"So the first access would come before itself, which is impossible: no \", close),\n\
+\x20     isOver ? \"\" : html(\"p\", { class: \"aside\" },\n\
+\x20       \"This cycle does not lead over the fence that is left out, but over other gaps that the run passes.\"),\n\
+\x20   ];\n\
+\x20 }\n\
+\n\
+\x20 drawGraph() {\n\
+\x20   this.holder.replaceChildren(new Graph(this.run, this.whole.checked).draw());\n\
+\x20   this.markEvent();\n\
+\x20 }\n\
+\n\
+\x20 markEvent() {\n\
+\x20   for (const event of all(this.holder, \"[data-event]\")) {\n\
+\x20     event.firstChild.classList.toggle(\"here\", event.dataset.event === String(this.at - 1));\n\
+\x20   }\n\
+\x20 }\n\
+\n\
+\x20 // Called once the body is on the page.\n\
+\x20 start(steps) {\n\
+\x20   this.drawGraph();\n\
+\x20   this.show(steps);\n\
+\x20   const redraw = () => drawArrows(this.machine, this.at, false);\n\
+\x20   new ResizeObserver(redraw).observe(this.machine.stage);\n\
+\x20   all(this.machine.stage, \".code\").forEach(lines => lines.addEventListener(\"scroll\", redraw));\n\
+\x20 }\n\
+\n\
+\x20 // Goes to a step that a reader asks for.\n\
+\x20 step(steps) {\n\
+\x20   this.stop();\n\
+\x20   this.show(steps);\n\
+\x20 }\n\
+\n\
+\x20 stop() {\n\
+\x20   clearInterval(this.timer);\n\
+\x20   this.timer = null;\n\
+\x20   this.play.textContent = \"\xe2\x96\xb6 Play\";\n\
+\x20 }\n\
+\n\
+\x20 turnPlaying() {\n\
+\x20   if (this.timer !== null) {\n\
+\x20     return this.stop();\n\
+\x20   }\n\
+\x20   if (this.at === this.run.last) {\n\
+\x20     this.show(0);\n\
+\x20   }\n\
+\x20   this.play.textContent = \"\xe2\x8f\xb8 Pause\";\n\
+\x20   this.timer = setInterval(() => this.at < this.run.last ? this.show(this.at + 1) : this.stop(), PLAY_INTERVAL);\n\
+\x20   return undefined;\n\
+\x20 }\n\
+\n\
+\x20 // Shows the state after some steps.\n\
+\x20 show(steps) {\n\
+\x20   const target = Math.max(0, Math.min(this.run.last, steps));\n\
+\x20   const flies = target === this.at + 1;\n\
+\x20   this.at = target;\n\
+\x20   this.showControls();\n\
+\x20   this.machine.show(target);\n\
+\x20   this.showRows();\n\
+\x20   for (const button of all(this.body, \".moments button\")) {\n\
+\x20     mark(button, Number(button.dataset.step) === target);\n\
+\x20   }\n\
+\x20   this.markEvent();\n\
+\x20   drawArrows(this.machine, target, flies);\n\
+\x20   addressLater(this.run.gap, target);\n\
+\x20 }\n\
+\n\
+\x20 showControls() {\n\
+\x20   const { at, run: { last } } = this;\n\
+\x20   this.slider.value = at;\n\
+\x20   this.slider.setAttribute(\"aria-valuetext\", at > 0 ? `step ${at} of ${last}` : \"start\");\n\
+\x20   this.count.textContent = at > 0 ? `Step ${at} of ${last}` : \"Start\";\n\
+\x20   const end = at === last ? [html(\"span\", { class: \"verdict\" }, \" The outcome is \"), ...verdictWords(this.run)] : [];\n\
+\x20   this.say.replaceChildren(...stepWords(this.run, at), ...end);\n\
+\x20   // A button that is disabled would lose the focus, and with it the keyboard.\n\
+\x20   for (const [button, limit] of [[this.first, 0], [this.back, 0], [this.forward, last], [this.final, last]]) {\n\
+\x20     button.setAttribute(\"aria-disabled\", at === limit);\n\
+\x20   }\n\
+\x20 }\n\
+\n\
+\x20 showRows() {\n\
+\x20   this.rows.forEach((row, i) => {\n\
+\x20     mark(row, i === this.at - 1);\n\
+\x20     row.classList.toggle(\"later\", i >= this.at);\n\
+\x20   });\n\
+\x20   const row = this.rows[this.at - 1];\n\
+\x20   const { scrollTop, clientHeight } = this.table;\n\
+\x20   if (row && (row.offsetTop < scrollTop + 40 || row.offsetTop > scrollTop + clientHeight - 60)) {\n\
+\x20     this.table.scrollTop = row.offsetTop - clientHeight / 2;\n\
+\x20   }\n\
+\x20 }\n\
+}\n\
+\n\
+let addressTimer = null;\n\
+\n\
+// The page's address names the fence and the step, once stepping rests: browsers ration changes of it.\n\
+function addressLater(gap, steps) {\n\
+\x20 clearTimeout(addressTimer);\n\
+\x20 addressTimer = setTimeout(() => history.replaceState(null, \"\", `#${gap ?? \"run\"}/${steps}`), ADDRESS_DELAY);\n\
+}\n\
+// The page: what the answer is, and a player for each of its fences, or for the one run of a trace.\n\
+\n\
+const main = document.getElementById(\"page\");\n\
+\n\
+const introduction = [\n\
+\x20 \"On x86 a store first waits in its thread's store buffer. Until it reaches memory no other thread sees it, and the \",\n\
+\x20 \"thread's later loads do not wait for it. An MFENCE makes its thread wait until the buffer is empty.\",\n\
+];\n\
+\n\
+// What the outcomes are compared by.\n\
+function comparedWords() {\n\
+\x20 if (given.answer.condition) {\n\
+\x20   return \", as far as the file's condition tells them apart\";\n\
+\x20 }\n\
+\x20 return given.answer.observed\n\
+\x20   ? \" in the registers and locations that the file's condition and its locations line name\" : \"\";\n\
+}\n\
+\n\
+// How many fences a thread gets: `2 in P0`.\n\
+function fencesByThread(gaps) {\n\
+\x20 const counts = given.threads.map((_, thread) => gaps.filter(gap => gapPlace(gap)[0] === thread).length);\n\
+\x20 return counts.map((count, thread) => count > 0 ? `${count} in ${threadName(thread)}` : \"\").filter(Boolean);\n\
+}\n\
+\n\
+// The answer in a sentence.\n\
+function answerWords(gaps) {\n\
+\x20 const isOne = gaps.length === 1;\n\
+\x20 const places = gaps.length <= 3 ? listed(gaps.map(gap => html(\"span\", {}, \"before \", ...placeOf(gap))))\n\
+\x20   : listed(fencesByThread(gaps));\n\
+\x20 const fences = isOne ? \"an MFENCE \" : gaps.length <= 3 ? \"MFENCE \" : `${gaps.length} MFENCEs, `;\n\
+\x20 const cost = `${isOne ? \"It costs\" : \"Together they cost\"} ${given.answer.cost}`;\n\
+\x20 return [\"A cheapest set of fences: \", fences, ...places, `. ${cost}; no cheaper set is enough.`];\n\
+}\n\
+\n\
+function showNoFence() {\n\
+\x20 document.title = `${given.test} needs no fence`;\n\
+\x20 main.replaceChildren(\n\
+\x20   html(\"h1\", {}, `${given.test} needs no fence`),\n\
+\x20   html(\"p\", { class: \"lead\" }, `Every outcome is sequential${comparedWords()}: store buffers show nothing here that `\n\
+\x20     + \"would not happen if each instruction took effect at once.\"),\n\
+\x20   html(\"p\", { class: \"soft\" }, introduction),\n\
+\x20   region(\"program\", \"the program\", html(\"h2\", {}, \"The program\"), threadColumns(null),\n\
+\x20     html(\"p\", { class: \"note\" }, \"The file's condition: \", code(given.condition))));\n\
+}\n\
+\n\
+function showAnswer(gaps) {\n\
+\x20 const isOne = gaps.length === 1;\n\
+\x20 document.title = `${given.test}: why ${isOne ? \"a fence is\" : \"fences are\"} needed`;\n\
+\x20 main.replaceChildren(\n\
+\x20   html(\"h1\", {}, `Why ${given.test} needs ${isOne ? \"a fence\" : gaps.length + \" fences\"}`),\n\
+\x20   html(\"p\", { class: \"lead\" }, answerWords(gaps)),\n\
+\x20   html(\"p\", { class: \"soft\" }, introduction, \" In a sequential run there are no store buffers: each instruction \",\n\
+\x20     `takes effect at once. With ${isOne ? \"this fence\" : \"these fences\"} the program has exactly the outcomes of its `,\n\
+\x20     `sequential runs${comparedWords()}.`),\n\
+\x20   html(\"p\", { class: \"choice\" }, isOne\n\
+\x20     ? \"Without it, this run becomes possible, and no sequential run has its outcome:\"\n\
+\x20     : \"Leave out one of them, and a run becomes possible whose outcome no sequential run has:\"));\n\
+\x20 showRuns(given.runs.map(run => new Run(run)));\n\
+}\n\
+\n\
+// Tabs, one for each fence, over the player of its run.\n\
+function showRuns(runs) {\n\
+\x20 const panel = html(\"div\", { role: \"tabpanel\", id: \"panel\", \"aria-labelledby\": \"tab0\" });\n\
+\x20 const tabs = runs.map(({ gap }, i) => html(\"button\", {\n\
+\x20   type: \"button\", role: \"tab\", id: \"tab\" + i, \"aria-controls\": \"panel\",\n\
+\x20   on: { click: () => pick(i, 0), keydown: event => pickByKey(event, i) },\n\
+\x20 }, \"without the fence before \", ...placeOf(gap), html(\"small\", {}, ` (${gap})`)));\n\
+\x20 let player = null;\n\
+\n\
+\x20 function pick(chosen, steps) {\n\
+\x20   if (player !== null) {\n\
+\x20     player.stop();\n\
+\x20   }\n\
+\x20   tabs.forEach((tab, i) => {\n\
+\x20     tab.setAttribute(\"aria-selected\", i === chosen);\n\
+\x20     tab.tabIndex = i === chosen ? 0 : -1;\n\
+\x20   });\n\
+\x20   panel.setAttribute(\"aria-labelledby\", \"tab\" + chosen);\n\
+\x20   player = new Player(runs[chosen]);\n\
+\x20   panel.replaceChildren(player.body);\n\
+\x20   player.start(steps);\n\
+\x20 }\n\
+\n\
+\x20 function pickByKey(event, i) {\n\
+\x20   const target = { ArrowRight: i + 1, ArrowLeft: i - 1, Home: 0, End: tabs.length - 1 }[event.key];\n\
+\x20   if (target !== undefined) {\n\
+\x20     event.preventDefault();\n\
+\x20     event.stopPropagation();\n\
+\x20     const chosen = (target + tabs.length) % tabs.length;\n\
+\x20     pick(chosen, 0);\n\
+\x20     tabs[chosen].focus();\n\
+\x20   }\n\
+\x20 }\n\
+\n\
+\x20 main.append(html(\"div\", { role: \"tablist\", \"aria-label\": \"the fences of the answer\" }, tabs), panel);\n\
+\x20 const [gap, steps] = address();\n\
+\x20 const named = runs.findIndex(run => run.gap === gap);\n\
+\x20 pick(Math.max(0, named), named < 0 ? 0 : steps);\n\
+\x20 listenToKeys(() => player);\n\
+}\n\
+\n\
+// The one run of `fencer trace`.\n\
+function showTrace() {\n\
+\x20 const run = new Run(given.run);\n\
+\x20 const isBuffered = given.run.model === \"buffered\";\n\
+\x20 document.title = `${given.test}: a run`;\n\
+\x20 const player = new Player(run);\n\
+\x20 main.replaceChildren(\n\
+\x20   html(\"h1\", {}, `A run of ${given.test}`),\n\
+\x20   html(\"p\", { class: \"lead\" }, isBuffered ? \"A run on the machine with store buffers.\"\n\
+\x20     : \"A sequential run: each instruction takes effect at once.\"),\n\
+\x20   html(\"p\", { class: \"soft\" }, isBuffered ? introduction : \"\"),\n\
+\x20   player.body);\n\
+\x20 player.start(address()[1]);\n\
+\x20 listenToKeys(() => player);\n\
+}\n\
+\n\
+// The gap and the step that the page's address names.\n\
+function address() {\n\
+\x20 const [gap, steps] = location.hash.slice(1).split(\"/\");\n\
+\x20 return [gap, Number(steps) || 0];\n\
+}\n\
+\n\
+// Steps by Left and Right anywhere, and by Home and End in the player, but not where the focused element has a use of\n\
+// its own for them.\n\
+function listenToKeys(player) {\n\
+\x20 document.addEventListener(\"keydown\", event => {\n\
+\x20   const hasOwnUse = event.target.matches(\"input[type=range], .scroll, [role=tab]\");\n\
+\x20   if (event.altKey || event.ctrlKey || event.metaKey || hasOwnUse) {\n\
+\x20     return;\n\
+\x20   }\n\
+\x20   const { at, run: { last } } = player();\n\
+\x20   const inPlayer = event.target.closest(\".player, .moments\") !== null;\n\
+\x20   const targets = { ArrowRight: at + 1, ArrowLeft: at - 1, ...(inPlayer ? { Home: 0, End: last } : {}) };\n\
+\x20   const target = targets[event.key];\n\
+\x20   if (target !== undefined) {\n\
+\x20     event.preventDefault();\n\
+\x20     player().step(target);\n\
+\x20   }\n\
+\x20 });\n\
+}\n\
+\n\
+function show() {\n\
+\x20 if (given.format !== \"fencer 1\" || ![\"why\", \"trace\"].includes(given.command)) {\n\
+\x20   main.replaceChildren(html(\"p\", {}, \"This page shows documents of fencer why and fencer trace, format 1.\"));\n\
+\x20 } else if (given.command === \"trace\") {\n\
+\x20   showTrace();\n\
+\x20 } else if (given.answer.set.length > 0) {\n\
+\x20   showAnswer(given.answer.set);\n\
+\x20 } else {\n\
+\x20   showNoFence();\n\
+\x20 }\n\
+}\n\
+\n\
+show();\n\
+</script>\n\
+</body>\n\
+</html>\n\
+";

@@ -1,0 +1,11 @@
+-- A cost text gives the gaps of a program one list of costs.
+use Rattle.std.proofs.Common.{Some, None, sym, ◌∙◌}
+use Rattle.cost_text.proofs.TextLaws.{costs_once}
+use Rattle.text_laws.specs.Laws.{ATextGivesOneListOfCosts, TheCostsAreOneList}
+
+pub text_costs_once : ATextGivesOneListOfCosts
+text_costs_once = costs_once
+
+pub given_costs_once : TheCostsAreOneList
+given_costs_once p None one other h g = h ∙ sym g
+given_costs_once p (Some text) one other h g = costs_once text p.threads one other h g

@@ -1,0 +1,18 @@
+use Rattle.std.proofs.Common.{◌≡◌, ◌∙◌, List, map, ap, subst}
+use Rattle.tso_machine.specs.declared.label.Label.{Label}
+use Rattle.tso_machine.specs.declared.stepping.Step.{Step}
+use Rattle.documents.specs.declared.run.Setting.TheVariants.{Without}
+use Rattle.documents.specs.Runs.{TellsRun}
+use Rattle.why_text.specs.WhyTexts.{printed_of}
+use Rattle.why_text.proofs.ReasonTexts as texts
+use Rattle.why_text.proofs.reasons.reason_of.Goals as goal
+
+pub returns : goal.returns
+returns c =
+    let run = c.args.run.now in
+    let ended = c.in_ok-ended.ended in
+    let labels : map (λ step. step.label) c.as_slice-steps.result.now ≡ run.labels = ap (λ (steps : List Step). map (λ step. step.label) steps) c.as_slice-steps.ensures.value ∙ c.in_ok-all.ensures.labels in
+    texts.reason_of c.args.litmus.now c.args.shown.now c.args.gaps.now c.args.gap run ended (c.in_ok-lines.lines.items, c.in_ok-said.said) c.requires.question c.requires.foreign
+    c.requires.avoids c.in_ok-ended.ensures c.in_ok-lines.ensures
+    (subst (λ (ls : List Label). TellsRun c.args.litmus.now (printed_of c.args.shown.now) (Without c.args.gap) ls ended.outcome ended.passed c.in_ok-said.said) labels
+    (rw c.printed_of-printed.ensures at c.in_ok-said.ensures))

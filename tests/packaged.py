@@ -1,0 +1,126 @@
+"""The package: made from the proved builds, unpacked where neither the toolchain nor the repository is, and installed from there."""
+import os
+import re
+import shutil
+import subprocess
+import tarfile
+import tempfile
+
+import wrapper
+
+TOP = wrapper.TOP
+NAME = "fencer-0.1.0-x86_64-linux"
+PATH = "/usr/bin:/bin"
+COMPLETED = {
+    "fencer pl": {"place"},
+    "fencer --ver": {"--version"},
+    "fencer place --cer": {"--certificate"},
+    "fencer outcomes --model s": {"sequential"},
+    "fencer place examples/S": {"examples/SB.litmus"},
+    "fencer place exam": {"examples"},
+}
+
+
+def repository(folder, programs):
+    """A clone with what the package is made of."""
+    clone = wrapper.Clone(folder, programs)
+    shutil.copy(os.path.join(TOP, "package"), clone.top)
+    for name in (".ci/package", "docs", "examples"):
+        shutil.copytree(os.path.join(TOP, name), os.path.join(clone.top, name))
+    return clone
+
+
+def ran(words, folder, **given):
+    """What a command prints in a folder, with neither the toolchain nor the repository on its path."""
+    environment = {"PATH": PATH, "HOME": folder, "LC_ALL": "C.UTF-8", **given}
+    found = subprocess.run(words, cwd=folder, env=environment, stdin=subprocess.DEVNULL, capture_output=True, timeout=60)
+    return found.returncode, found.stdout.decode(), found.stderr.decode()
+
+
+def missing_cases(tell, clone):
+    """Without a proved build of each program there is no package."""
+    said = "package: the proved build of {} is missing or older than its sources; ./build or .ci/run makes it\n"
+    found = clone.call("package")
+    tell("no proved build", found == (1, "", said.format("fencer")), found)
+    clone.put("fencer", 2_000)
+    found = clone.call("package")
+    tell("one proved build", found == (1, "", said.format("fencecheck")), found)
+    clone.put("fencecheck", 500)
+    found = clone.call("package")
+    tell("an old proved build", found == (1, "", said.format("fencecheck")), found)
+    tell("no package is made without proved builds", not os.path.exists(os.path.join(clone.top, "out")))
+    clone.put("fencecheck", 2_000)
+
+
+def program_cases(tell, folder):
+    """The programs answer as the README says, and their documents are there."""
+    readme = wrapper.text_of(os.path.join(folder, "README.md"))
+    tell("nothing is left open in the package's README", "@" not in readme, readme)
+    shown = re.findall(r"^    (\./.*)$", readme, flags=re.M)
+    answers = [ran(["bash", "-c", line], folder) for line in shown]
+    firsts = [(status, text.split("\n")[0], said) for status, text, said in answers]
+    tell("what the package's README shows", firsts == [(0, "answer cost 2 set 0:1 1:1", ""), (0, "accepted cost 2 set 0:1 1:1", "")], firsts)
+    named = re.findall(r"`((?:docs|examples)/[\w.]+)`", readme)
+    there = all(os.path.exists(os.path.join(folder, it)) for it in named)
+    tell("the documents that the package's README names", len(named) >= 5 and there, named)
+    for example in sorted(os.listdir(os.path.join(TOP, "examples"))):
+        tell(f"the package has examples/{example}", os.path.exists(os.path.join(folder, "examples", example)))
+
+
+def installed_cases(tell, folder, home):
+    """The line of the README puts the programs, the manual pages and the completions in place."""
+    line = re.search(r"^    (mkdir .*)$", wrapper.text_of(os.path.join(folder, "README.md")), flags=re.M)[1]
+    found = ran(["bash", "-c", line], folder, HOME=home)
+    tell("the package is installed", found == (0, "", ""), found)
+    local = os.path.join(home, ".local")
+    found = ran(["fencer", "place", os.path.join(folder, "examples", "n6.litmus")], home, PATH=os.path.join(local, "bin") + ":" + PATH)
+    tell("the installed program", (found[0], found[1].split("\n")[0], found[2]) == (0, "answer cost 1 set 0:1", ""), found)
+    pages = sorted(os.listdir(os.path.join(local, "share", "man", "man1")))
+    tell("a manual page for each command", {"fencer.1", "fencecheck.1", "fencer-place.1", "fencer-why.1"} <= set(pages), pages)
+    if shutil.which("groff", path=PATH):
+        for page in pages:
+            page_cases(tell, os.path.join(local, "share", "man", "man1", page), home, os.path.join(local, "bin"))
+    completion = os.path.join(local, "share", "bash-completion", "completions", "fencer")
+    for typed, wanted in COMPLETED.items():
+        tell(f"completion of {typed}", completed(completion, typed, folder) == wanted, completed(completion, typed, folder))
+
+
+def page_cases(tell, page, home, programs):
+    """A manual page is laid out without a warning, and has each word of the help in order."""
+    status, text, said = ran(["groff", "-man", "-Tascii", "-P-cbou", "-ww", "-rHY=0", "-rLL=1000n", page], home)
+    tell(f"{os.path.basename(page)} is laid out", (status, said) == (0, ""), said)
+    words = os.path.basename(page).removesuffix(".1").split("-", 1)
+    _, helped, _ = ran([os.path.join(programs, words[0]), *words[1:], "--help"], home)
+    rows = re.findall(r"^ +(\S.*?)(?: {2,}(.*))?$", helped, flags=re.M)
+    wanted = [part for row in rows for part in row if part]
+    lacking = [it for it in wanted if " ".join(it.split()) not in " ".join(text.split())]
+    tell(f"{os.path.basename(page)} has the rows of the help", not lacking, (lacking, text))
+
+
+def completed(completion, typed, folder):
+    """What bash offers for a line that has been typed up to here."""
+    script = f"""source {completion}
+COMP_WORDS=({typed}) COMP_CWORD=$((${{#COMP_WORDS[@]}} - 1))
+_fencer fencer "${{COMP_WORDS[-1]}}" "${{COMP_WORDS[-2]}}"
+printf '%s\\n' "${{COMPREPLY[@]}}" """
+    _, found, said = ran(["bash", "-u", "-c", script], folder)
+    return set(found.split()) | set(said.split())
+
+
+def cases(tell, programs):
+    with tempfile.TemporaryDirectory() as folder:
+        clone = repository(folder, programs)
+        missing_cases(tell, clone)
+        status, found, said = clone.call("package")
+        archive = os.path.join(clone.top, "out", f"{NAME}.tar.gz")
+        made = status == 0 and found.startswith(f"out/{NAME}.tar.gz, ") and os.path.exists(archive)
+        tell("the package is made", made, (status, found, said))
+        if not made:
+            return
+        with tempfile.TemporaryDirectory() as elsewhere, tarfile.open(archive) as packed:
+            names = packed.getnames()
+            tell("all of the package is in one folder", all(it == NAME or it.startswith(NAME + "/") for it in names), names)
+            packed.extractall(elsewhere)
+            shutil.rmtree(clone.top)
+            program_cases(tell, os.path.join(elsewhere, NAME))
+            installed_cases(tell, os.path.join(elsewhere, NAME), os.path.join(elsewhere, "home"))

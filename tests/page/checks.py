@@ -1,0 +1,437 @@
+"""Compares what a page shows with its document: each step of each run, and what is shown once for a run.
+
+The sentences, marks and places that are expected here are worked out from the document, apart from the page's script."""
+import json
+import os
+import re
+import time
+
+HERE = os.path.dirname(os.path.abspath(__file__))
+with open(os.path.join(HERE, "shown.js"), encoding="utf-8") as file:
+    SHOWN = file.read()
+HEADS = ["#", "step", "thread", "instruction", "reads and stores", "still waits", "reaches memory"]
+CONTROLS = ("button", "slider", "tab", "tabpanel", "checkbox", "region", "image", "table")
+WIDTHS = (1200, 500, 360)
+SILENT = ("Runtime.exceptionThrown", "Log.entryAdded", "Runtime.consoleAPICalled")
+ADDRESS_DELAY = 0.6
+
+
+class Wrong(Exception):
+    """What is shown is not what the document says."""
+
+
+counts = {"checks": 0}
+
+
+def same(shown, wanted, what):
+    counts["checks"] += 1
+    if shown != wanted:
+        raise Wrong(f"{what}:\n  shown  {shown}\n  wanted {wanted}")
+
+
+def right(holds, what):
+    same(bool(holds), True, what)
+
+
+def shown(browser, call):
+    return browser.evaluate("(() => {" + SHOWN + f"return {call}; }})()")
+
+
+def assignment(access):
+    return f"{access['location']}={access['value']}"
+
+
+def gap_place(gap):
+    return tuple(map(int, gap.split(":")))
+
+
+def listed(parts, last):
+    return last.join(filter(None, [", ".join(parts[:-1]), parts[-1]])) if parts else ""
+
+
+def register_of(text):
+    """The register that a load or an exchange puts its value in."""
+    return next(word for word in text.split(" ", 1)[1].split(",") if word[0] != "[")
+
+
+class Run:
+    """A run of a document, with the states that its steps give."""
+
+    def __init__(self, document, run):
+        self.document, self.run, self.steps = document, run, run["steps"]
+        self.gap = run.get("without")
+        self.where = f"{document['test']} without {self.gap}" if self.gap else f"a run of {document['test']}"
+        self.threads = [int(step["label"][1:]) for step in self.steps]
+        self.outcome = " ".join(f"{item['name']}={item['value']};" for item in run["outcome"])
+        self.cycle = run["execution"]["cycle"]
+        self.states = list(self.all_states())
+        self.slots = [max([1] + [len(buffers[thread]) for _, _, buffers in self.states]) for thread in range(len(document["threads"]))]
+        if self.gap:
+            self.find_gap()
+
+    def all_states(self):
+        """Memory, registers and buffers before the first step, and after each one."""
+        initial = self.document["initial"]
+        memory, registers, buffers = initial["memory"], initial["registers"], [[] for _ in self.document["threads"]]
+        yield memory, registers, buffers
+        for step, mine in zip(self.steps, self.threads):
+            memory = step["memory"]
+            registers = [step["registers"] if thread == mine else other for thread, other in enumerate(registers)]
+            buffers = [step["buffer"] if thread == mine else other for thread, other in enumerate(buffers)]
+            yield memory, registers, buffers
+
+    def find_gap(self):
+        """The step that passes the gap, and the one at which the last store that waits there reaches memory."""
+        thread, instruction = gap_place(self.gap)
+        self.passing = next(i for i, step in enumerate(self.steps) if (self.threads[i], step["instruction"]) == (thread, instruction))
+        left = len(self.states[self.passing][2][thread])
+        arrivals = [i for i, step in enumerate(self.steps) if i >= self.passing and step["label"] == f"f{thread}"]
+        self.arrival = arrivals[left - 1]
+
+    def text(self, i):
+        number = self.steps[i]["instruction"]
+        return None if number is None else self.document["threads"][self.threads[i]]["instructions"][number]["text"]
+
+    def edges(self):
+        return [(edge["relation"], edge["event"], self.cycle[(i + 1) % len(self.cycle)]["event"]) for i, edge in enumerate(self.cycle)]
+
+    def is_around_gap(self, first, second):
+        if not self.gap:
+            return False
+        thread, number = gap_place(self.gap)
+        return self.threads[first] == self.threads[second] == thread and self.steps[first]["instruction"] < number <= self.steps[second]["instruction"]
+
+    def shown_threads(self, whole):
+        """The threads that the graph shows."""
+        some = {self.threads[edge["event"]] for edge in self.cycle}
+        return {thread for thread in range(len(self.document["threads"])) if whole or not some or thread in some}
+
+    def command(self):
+        model = "--model sequential " if self.run.get("model") == "sequential" else ""
+        return f"fencer trace {model}LITMUS " + " ".join(step["label"] for step in self.steps)
+
+
+def cells(names, values, former, written):
+    return [[name, str(value), str(old) if value != old else "", value != old or name == written] for name, value, old in zip(names, values, former)]
+
+
+def programs(document):
+    def labels(names):
+        return "".join(name + ": " for name in names)
+    return [[labels(line["labels"]) + line["text"] for line in thread["instructions"]] + ([labels(thread["end"]).strip()] if thread["end"] else [])
+            for thread in document["threads"]]
+
+
+def is_within(point, box):
+    return box[0] - 1.5 <= point[0] <= box[2] + 1.5 and box[1] - 1.5 <= point[1] <= box[3] + 1.5  # slots stand 3 apart
+
+
+def check_step(run, n, page):
+    """All that is shown after n steps."""
+    last, where = len(run.steps), f"{run.where}, step {n}"
+    step = run.steps[n - 1] if n else None
+    memory, former = run.states[n][0], run.states[max(0, n - 1)][0]
+    same(page["count"], f"Step {n} of {last}" if n else "Start", where + ": count")
+    same(page["slider"], str(n), where + ": slider")
+    same(page["valueText"], f"step {n} of {last}" if n else "start", where + ": the slider's text")
+    reached = step and step["reaches"] and step["reaches"]["location"]
+    same(page["memory"], cells(run.document["locations"], memory, former, reached), where + ": memory")
+    for thread, column in enumerate(page["threads"]):
+        check_thread(run, n, thread, column)
+    passing = run.gap and run.passing < n <= run.arrival
+    same(page["passing"], [run.gap] if passing else [], where + ": the fence is passed")
+    same(page["unused"], [n == 0, n == 0, False, n == last, n == last], where + ": buttons")
+    same(set(page["moments"]) <= {f"step {n}"}, True, where + ": moments")
+    same((page["row"], page["later"]), ([str(n)] if n else [], last - n), where + ": rows")
+    is_event = n and (step["reads"] or step["stores"]) and run.threads[n - 1] in run.shown_threads(False)
+    same(page["here"], [str(n - 1)] if is_event else [], where + ": event")
+    check_words(run, n, page["said"])
+    check_arrows(run, n, page)
+
+
+def check_thread(run, n, thread, column):
+    where = f"{run.where}, step {n}, P{thread}"
+    mine = n > 0 and run.threads[n - 1] == thread
+    number = run.steps[n - 1]["instruction"] if mine else None
+    now = [] if number is None else [f"{thread}:{number}"]
+    same((column["now"], column["lit"]), (now, now), where + ": instruction")
+    same(column["full"], [assignment(store) for store in run.states[n][2][thread]], where + ": buffer, oldest first")
+    bottoms = [slot[3] for slot in column["slots"]]
+    same(bottoms, sorted(bottoms, reverse=True), where + ": the oldest store is the lowest")
+    same(len(column["slots"]), run.slots[thread], where + ": slots")
+    loaded = register_of(run.text(n - 1)) if mine and run.steps[n - 1]["reads"] else None
+    former = run.states[max(0, n - 1)][1][thread]
+    same(column["cells"], cells(run.document["registers"][thread], run.states[n][1][thread], former, loaded), where + ": registers")
+    coming = [run.steps[i]["instruction"] for i in range(n, len(run.steps)) if run.threads[i] == thread and run.steps[i]["instruction"] is not None]
+    next_one = coming[0] if coming else len(run.document["threads"][thread]["instructions"])
+    same(column["done"], [f"{thread}:{k}" for k in range(next_one) if f"{thread}:{k}" not in now], where + ": what is done")
+
+
+def check_words(run, n, said):
+    where = f"{run.where}, step {n}: sentence"
+    last = n == len(run.steps)
+    same(verdict(run) in said, bool(last and run.gap), where + ", verdict")
+    same(f"The outcome is {run.outcome}" in said, last, where + ", outcome")
+    same("the fence that is left out would have made" in said, bool(run.gap) and n - 1 == run.passing, where + ", the fence")
+    if n == 0:
+        return
+    step, text = run.steps[n - 1], run.text(n - 1)
+    right((text or assignment(step["reaches"])) in said, where + ", what")
+    for part in ("reads", "stores"):
+        right(not step[part] or assignment(step[part]) in said, f"{where}, {part}")
+    if step["reads"] and not step["stores"]:
+        same("from its own store buffer" in said, step["reads"]["from"] == "buffer", where + ", from where")
+    if step["stores"]:
+        same("goes into its store buffer" in said, not step["reaches"], where + ", to where")
+
+
+def check_arrows(run, n, page):
+    """What moves: an arrow from where it was to where it is now."""
+    where, wanted = f"{run.where}, step {n}: arrow", []
+    if n:
+        step, thread = run.steps[n - 1], run.threads[n - 1]
+        column, locations = page["threads"][thread], run.document["locations"]
+        if step["reads"]:
+            own = [i for i, store in enumerate(run.states[n - 1][2][thread]) if store["location"] == step["reads"]["location"]]
+            source = column["slots"][own[-1]] if step["reads"]["from"] == "buffer" else page["locations"][locations.index(step["reads"]["location"])]
+            wanted.append((source, column["registers"][run.document["registers"][thread].index(register_of(run.text(n - 1)))]))
+        if step["stores"] and not step["reaches"]:
+            wanted.append((None, column["slots"][len(step["buffer"]) - 1]))
+        if step["reaches"]:
+            wanted.append((None if step["stores"] else column["slots"][0], page["locations"][locations.index(step["reaches"]["location"])]))
+    same(len(page["arrows"]), len(wanted), where)
+    for points, (source, target) in zip(page["arrows"], wanted):
+        right(source is None or is_within(points[:2], source), f"{where} from {points[:2]} {source}")
+        right(is_within(points[-2:], target), f"{where} to {points[-2:]} {target}")
+
+
+def rows(run):
+    """The table of a run."""
+    for i, step in enumerate(run.steps):
+        does = []
+        if step["reads"]:
+            does.append(f"reads {assignment(step['reads'])} from {'its buffer' if step['reads']['from'] == 'buffer' else 'memory'}")
+        if step["stores"]:
+            does.append("stores " + assignment(step["stores"]))
+        yield [str(i + 1), step["label"], f"P{run.threads[i]}", run.text(i) or "–", ", ".join(does) or "–",
+               " ".join(map(assignment, step["buffer"])) or "–", assignment(step["reaches"]) if step["reaches"] else "–"]
+
+
+def place_words(document, gap):
+    thread, number = gap_place(gap)
+    return f"before {document['threads'][thread]['instructions'][number]['text']} of P{thread}"
+
+
+def verdict(run):
+    """That no sequential run ends so."""
+    if "condition" not in run.document.get("answer", {}):
+        return "No sequential run has this outcome."
+    if run.run["meets_condition"]:
+        return "This run meets the formula of the file's condition, and no sequential run does: "
+    return "This run does not meet the formula of the file's condition, and each sequential run does: "
+
+
+def condition_words(document, meets):
+    """What is said of the run's outcome and the file's condition."""
+    quantifier = document["condition"].split(" ")[0]
+    begins = {
+        ("~exists", True): "It is what the file says must not happen: ",
+        ("~exists", False): "What must not happen, ",
+        ("exists", True): "It is what the file asks for: ",
+        ("exists", False): "It is not what the file asks for, ",
+        ("forall", True): "The file's condition, ",
+        ("forall", False): "It breaks the file's condition: ",
+    }[quantifier, meets] + document["condition"]
+    ends = ". Sequential runs may do so too, with other final values." if meets == (quantifier != "forall") else ""
+    return begins + ends
+
+
+def check_run(run, page):
+    """What is shown once for a run."""
+    document, where = run.document, run.where
+    gaps = document["answer"]["set"] if run.gap else []
+    cost = {gap["gap"]: gap["cost"] for gap in document.get("gaps", [])}
+    tabs = [[f"without the fence {place_words(document, gap)} ({gap})", "true" if gap == run.gap else "false", 0 if gap == run.gap else -1] for gap in gaps]
+    same(page["tabs"], tabs, where + ": tabs")
+    fences = [[gap, f"MFENCE {'left out, ' if gap == run.gap else ''}cost {cost[gap]}", gap == run.gap, gap] for gap in gaps]
+    same(page["fences"], fences, where + ": fences, each before its instruction")
+    same(page["programs"], programs(document), where + ": program")
+    same((page["heads"], page["rows"]), (HEADS, list(rows(run))), where + ": table")
+    same(page["commands"], [run.command()], where + ": command")
+    same(page["pass"], run.passing if run.gap else -1, where + ": the row that passes the gap")
+    end = f"step {len(run.steps)}The run ends with {run.outcome} "
+    right(page["moments"][-1].startswith(end), where + ": how it ends")
+    if not run.gap:
+        same(len(page["moments"]), 1, where + ": moments")
+        said = f"It passes {', '.join(run.run['passed'])}." if run.run["passed"] else "It passes no gap."
+        return right(page["passed"][0].startswith(said), where + ": passed gaps")
+    first = f"step {run.passing + 1}P{gap_place(run.gap)[0]} goes on to {run.text(run.passing)} while"
+    right(page["moments"][0].startswith(first), where + ": the first moment")
+    reads = run.steps[run.passing]["reads"]
+    right(not reads or f"and reads {assignment(reads)}." in page["moments"][0], where + ": what is read there")
+    alone = "condition" in document["answer"]
+    said = end + verdict(run) + (document["condition"] if alone else " " + condition_words(document, run.run["meets_condition"]))
+    right(page["moments"][-1].startswith(said), where + ": condition")
+    others = [f"{place_words(document, gap)} ({gap}, cost {cost[gap]})" for gap in run.run["passed"] if gap != run.gap]
+    same(page["also"], [f"A fence {listed(others, ' or ')} would prevent this run too."] if others else [], where + ": other gaps")
+    return None
+
+
+def check_graph(run, page, whole):
+    """The candidate execution: its cycle's threads and edges, or all of it."""
+    where, execution, cycle = run.where + (", whole graph" if whole else ", graph"), run.run["execution"], run.edges()
+    threads = run.shown_threads(whole)
+    edges = [[f"{relation} {first} {second}", (relation, first, second) in cycle]
+             for relation in ("po", "rf", "co", "fr") for first, second in execution[relation]
+             if whole or (relation, first, second) in cycle or relation == "po" and run.threads[first] in threads]
+    same(sorted(page["edges"]), sorted(edges), where + ": edges")
+    events = [str(i) for i, step in enumerate(run.steps) if (step["reads"] or step["stores"]) and run.threads[i] in threads]
+    initial = {first for relation in ("rf", "co") for first, _ in execution[relation] if isinstance(first, str)} if whole else set()
+    same(sorted(page["events"]), sorted([*events, *initial]), where + ": events")
+    same(sorted(page["red"]), sorted(str(first) for _, first, _ in cycle), where + ": red events")
+    right(page["isInside"], where + ": the texts lie in their boxes")
+    same(len(page["cycle"]), len(cycle), where + ": sentences")
+    for sentence, (relation, first, second) in zip(page["cycle"], cycle):
+        begins = f"P{run.threads[first]}'s {run.text(first)} "
+        right(sentence.startswith(begins) and f"P{run.threads[second]}'s {run.text(second)}" in sentence and f"({relation})" in sentence, f"{where}: {sentence}")
+    around = [1 for first, second in execution["po"] if run.threads[first] in threads and run.is_around_gap(first, second)]
+    same(page["cuts"], len(around), where + ": the fence that is left out")
+    leads_over = any(run.is_around_gap(first, second) for _, first, second in cycle)
+    same(page["aside"], 1 if run.gap and not leads_over else 0, where + ": whether the cycle leads over the fence")
+    same(page["acyclic"], 0 if cycle else 1, where + ": no cycle")
+
+
+def check_whole_run(browser, run, presses):
+    check_run(run, shown(browser, "pageShown()"))
+    check_graph(run, shown(browser, "graphShown()"), False)
+    browser.evaluate("document.querySelector('.pick input').click()")
+    check_graph(run, shown(browser, "graphShown()"), True)
+    browser.evaluate("document.querySelector('.pick input').click(), document.activeElement.blur()")
+    last = len(run.steps)
+    pages = shown(browser, f"runShown({last})")
+    for n, page in enumerate(pages):
+        check_step(run, min(n, last), page)
+    if presses:
+        check_presses(browser, run)
+
+
+def check_presses(browser, run):
+    """Each button, the slider, and the keys that step."""
+    last = len(run.steps)
+
+    def button(number):
+        return lambda: browser.click(f".controls button:nth-of-type({number})")
+
+    presses = [(lambda: browser.key("ArrowLeft"), last - 1), (button(1), 0), (button(4), 1), (button(2), 0), (lambda: browser.key("End"), last),
+               (lambda: browser.key("Home"), 0), (button(5), last), (lambda: browser.evaluate("document.querySelector('#step').focus()"), last),
+               (lambda: browser.key("Home"), 0), (lambda: browser.key("ArrowRight"), 1), (lambda: browser.key("End"), last),
+               (lambda: browser.key("ArrowLeft"), last - 1), (lambda: browser.click("tbody tr:nth-child(2) td"), 2)]
+    if run.gap:
+        presses.append((lambda: browser.click(".moments button"), run.passing + 1))
+    for press, n in presses:
+        press()
+        check_step(run, n, shown(browser, "stepShown()"))
+
+
+def check_answer(browser, document):
+    """What is said above the runs."""
+    page, gaps = shown(browser, "pageShown()"), document["answer"]["set"]
+    some = len(gaps)
+    same(page["heading"], f"Why {document['test']} needs {'a fence' if some == 1 else f'{some} fences'}", "heading")
+    for gap in gaps if some <= 3 else []:
+        right(place_words(document, gap) in page["lead"], "the answer in a sentence")
+    right(f"cost{'s' if some == 1 else ''} {document['answer']['cost']}; no cheaper" in page["lead"], "cost")
+    same((page["scripts"], page["foreign"], page["panels"]), (2, 0, 1), "nothing of the document becomes markup")
+    same("that the file's condition and its locations line name" in page["text"], document["answer"]["observed"], "what is observed")
+    same("as far as the file's condition tells them apart" in page["text"], "condition" in document["answer"], "what the condition tells apart")
+
+
+def check_tab_keys(browser, some):
+    browser.click("#tab0")
+    for key, wanted in [("ArrowRight", 1), ("ArrowLeft", 0), ("ArrowLeft", some - 1), ("Home", 0), ("End", some - 1)]:
+        browser.key(key)
+        chosen = browser.evaluate("[document.activeElement.id, document.querySelector('[aria-selected=true]').id]")
+        same(chosen, [f"tab{wanted}", f"tab{wanted}"], "tabs by " + key)
+
+
+def check_address(browser, path, run):
+    browser.open(path, f"{run.gap or 'run'}/2")
+    check_step(run, 2, shown(browser, "stepShown()"))
+    same(browser.evaluate("document.querySelectorAll('.token').length"), 0, "no motion on opening")
+    browser.key("ArrowLeft")
+    time.sleep(ADDRESS_DELAY)
+    same(browser.evaluate("location.hash"), f"#{run.gap or 'run'}/1", "address")
+
+
+def check_looks(browser, path, run):
+    """Contrast, width, motion, names for screen readers, and paper."""
+    at, last = run.gap or "run", len(run.steps)
+    for calm in (False, True):
+        browser.open(path, at + "/0", calm=calm)
+        wanted = not calm and bool(run.steps[0]["stores"] or run.steps[0]["reads"])
+        same(shown(browser, "tokensOfStep()") > 0, wanted, f"{run.where}: motion, unwanted {calm}")
+    for dark in (False, True):
+        for width in WIDTHS:
+            browser.open(path, f"{at}/0", width=width, dark=dark)
+            for n in (0, 2, last):
+                browser.evaluate(f"(() => {{ const slider = document.querySelector('#step'); slider.value = {n}; slider.dispatchEvent(new Event('input')); }})()")
+                same(shown(browser, "faintTexts()"), [], f"{run.where}: contrast at {width}, dark {dark}")
+                right(browser.evaluate("document.documentElement.scrollWidth <= innerWidth"), f"{run.where}: fits {width}")
+    nodes = browser.call("Accessibility.getFullAXTree")["nodes"]
+    names = [(node["role"]["value"], node.get("name", {}).get("value", "")) for node in nodes if not node["ignored"]]
+    for control in CONTROLS if run.gap else ("button", "slider", "region", "table"):
+        right(any(role == control for role, _ in names), f"{run.where}: there is a {control}")
+        right(all(name for role, name in names if role == control), f"{run.where}: each {control} has a name")
+    browser.open(path, at + "/2", media="print", dark=True)
+    found = browser.evaluate("['.controls', '.arrows'].map(part => getComputedStyle(document.querySelector(part)).display)")
+    same((found, browser.evaluate("getComputedStyle(document.body).backgroundColor")), (["none", "none"], "rgb(255, 255, 255)"), "paper")
+
+
+def check_play(browser, path):
+    browser.open(path, calm=True)
+    browser.click(".controls button:nth-of-type(3)")
+    time.sleep(2)
+    same(browser.evaluate("document.querySelector('#step').value"), "1", "play")
+    browser.click(".controls button:nth-of-type(3)")
+    time.sleep(2)
+    same(browser.evaluate("document.querySelector('#step').value"), "1", "pause")
+
+
+def check_silence(browser):
+    """No exception, no line on the console, and no request but for the page itself."""
+    for event in browser.events:
+        right(event["method"] not in SILENT, f"silence: {event}")
+        if event["method"] == "Network.requestWillBeSent":
+            right(re.match("file:|data:|about:", event["params"]["request"]["url"]), f"no network: {event}")
+
+
+def check_no_fence(browser, document):
+    page = shown(browser, "pageShown()")
+    same(page["heading"], document["test"] + " needs no fence", "heading")
+    right("Every outcome is sequential" in page["text"], "empty answer")
+    same((page["controls"], page["tabs"]), (0, []), "no player")
+    same(page["programs"], programs(document), "program")
+    right(f"The file's condition: {document['condition']}" in page["text"], "condition")
+
+
+def check_page(browser, path, document, thorough):
+    """Opens a page and compares it with its document; thorough adds keys, buttons and looks."""
+    browser.open(path, calm=True)
+    runs = [Run(document, run) for run in document.get("runs", [document.get("run")])]
+    if not runs:
+        check_no_fence(browser, document)
+    elif runs[0].gap:
+        check_answer(browser, document)
+    else:
+        same(shown(browser, "pageShown()")["heading"], f"A run of {document['test']}", "heading")
+    for i, run in enumerate(runs):
+        if run.gap:
+            browser.evaluate(f"document.querySelector('#tab{i}').click(), document.activeElement.blur()")
+        check_whole_run(browser, run, thorough and i == 0)
+    if thorough and len(runs) > 1:
+        check_tab_keys(browser, len(runs))
+    check_silence(browser)
+    if thorough and runs:
+        check_address(browser, path, runs[-1])
+        check_looks(browser, path, runs[0])
+        check_silence(browser)

@@ -1,0 +1,206 @@
+"""What is reported of a long search on standard error, with `--progress` or on a terminal, and that nothing else changes by it.
+
+The combinations of traces are worked out here alone, from the program that a document of `fencer outcomes --json` has.
+"""
+import functools
+import glob
+import json
+import os
+import pty
+import re
+import subprocess
+import tempfile
+
+from harness import HERE, TOP
+
+REGISTERS = ("EAX", "EBX", "ECX", "EDX", "ESI", "EDI")
+MOST_TRACES = 10_000_000
+MOST_CERTIFIED = 100_000_000
+LONG = 1_000_000
+WARNING = "fencer: warning: with more than 100000000 combinations the search may end without an answer or a certificate"
+ASKED = re.compile(r"fencer: sets asked: (\d+)(?:; the answer costs at least (\d+))?")
+EXAMPLES = [os.path.join(TOP, "examples", name + ".litmus") for name in ("SB", "MP", "R", "2+2W", "IRIW", "n6", "nothing")]
+
+
+class Program:
+    """Instructions as (name, first operand, second operand), first values and labels, of a document's program."""
+
+    def __init__(self, document):
+        self.locations, self.memory = document["locations"], document["initial"]["memory"]
+        self.code = [[split(cell["text"]) for cell in thread["instructions"]] for thread in document["threads"]]
+        self.labels = [{label: place for place, cell in enumerate([*thread["instructions"], {"labels": thread["end"]}]) for label in cell["labels"]} for thread in document["threads"]]
+        self.registers = [tuple(dict(zip(names, first)).get(register, 0) for register in REGISTERS) for names, first in zip(document["registers"], document["initial"]["registers"])]
+
+    def values(self, location):
+        """What a location may hold."""
+        every = [instruction for code in self.code for instruction in code]
+        stored = {int(second[1:]) for name, first, second in every if name == "MOV" and first == location and second[0] == "$"}
+        values = stored | {self.memory[self.locations.index(location[1:-1])]}
+        if any(first == location and second in REGISTERS for name, first, second in every if name in ("MOV", "XCHG")):
+            numbers = {int(word[1:]) for _, *words in every for word in words if word[:1] == "$"}
+            values |= numbers | {0} | set(self.memory) | {value for first in self.registers for value in first}
+        return values
+
+    def traces(self, t):
+        """How many traces thread t has."""
+        code = self.code[t]
+
+        @functools.lru_cache(maxsize=None)
+        def count(place, registers, flag):
+            if place == len(code):
+                return 1
+            name, first, second = code[place]
+
+            def value(word):
+                return registers[REGISTERS.index(word)] if word in REGISTERS else int(word[1:])
+
+            def loaded(register, number):
+                index = REGISTERS.index(register)
+                return (*registers[:index], number, *registers[index + 1:])
+
+            if name in ("JMP", "JE", "JNE"):
+                taken = {"JMP": True, "JE": flag, "JNE": not flag}[name]
+                return count(self.labels[t][first] if taken else place + 1, registers, flag)
+            if name == "CMP":
+                return count(place + 1, registers, value(first) == value(second))
+            if name == "XCHG" or name == "MOV" and second[0] == "[":
+                register, location = (second, first) if name == "XCHG" else (first, second)
+                return sum(count(place + 1, loaded(register, number), flag) for number in self.values(location))
+            if name == "MOV" and first in REGISTERS:
+                return count(place + 1, loaded(first, value(second)), flag)
+            return count(place + 1, registers, flag)
+
+        return count(0, self.registers[t], False)
+
+    def combinations(self):
+        """How many combinations of traces there are."""
+        product = 1
+        for t in range(len(self.code)):
+            product *= self.traces(t)
+        return product
+
+
+def split(text):
+    """The name and the two operands of an instruction."""
+    name, _, operands = text.partition(" ")
+    return (name, *(operands.split(",") + ["", ""])[:2])
+
+
+def ahead(program):
+    """The lines before a search."""
+    count = program.combinations()
+    return [f"fencer: combinations of traces: {count}", *([WARNING] if count > MOST_CERTIFIED else [])]
+
+
+def ran(program, words, **more):
+    """The status of a call, what it prints, and the lines on standard error."""
+    call = subprocess.run([program, *words], stdout=subprocess.PIPE, stderr=more.pop("stderr", subprocess.PIPE), timeout=120, **more)
+    return (call.returncode, call.stdout), (call.stderr or b"").decode().splitlines()
+
+
+def read_program(fencer, path):
+    return Program(json.loads(ran(fencer, ["outcomes", "--json", path])[0][1]))
+
+
+def check_search(said, sequential, cost, bounded):
+    """Whether the lines of a search are right, after those before it."""
+    asked = [ASKED.fullmatch(line) for line in said[1:]]
+    if said[:1] != [f"fencer: sequential outcomes: {sequential}"] or not all(asked):
+        return False
+    bounds = [int(line[2]) for line in asked if line[2]]
+    doubled = [int(line[1]) for line in asked] == [2**i for i in range(len(asked))]
+    return doubled and bounds == sorted(bounds) and len(bounds) == (len(asked) if bounded else 0) and all(bound <= cost for bound in bounds)
+
+
+def search_cases(tell, fencer, path):
+    """What is reported of one file, by each command."""
+    name, lines = os.path.basename(path), ahead(read_program(fencer, path))
+    sequential = int(ran(fencer, ["outcomes", "--model", "sequential", path])[0][1].split()[1])
+    for command in (["outcomes"], ["outcomes", "--observed", "--check", "--json"], ["place"], ["place", "--workers", "4"], ["place", "--json", "--check"], ["why"]):
+        plain, silent = ran(fencer, [*command, path])
+        found, said = ran(fencer, [*command, "--progress", path])
+        what = f"progress of {' '.join(command)} {name}"
+        tell(f"{what}: the answer is the same", (found, silent) == (plain, []), (found, silent))
+        tell(f"{what}: what lies ahead", said[:len(lines)] == lines, f"wanted {lines}\n  found  {said}")
+        rest = said[len(lines):]
+        if command[0] == "outcomes":
+            tell(f"{what}: nothing else", rest == [], rest)
+        elif "--json" not in command:
+            cost = int(re.match(rb"answer cost (\d+)", plain[1])[1])
+            tell(f"{what}: the search", check_search(rest, sequential, cost, "4" not in command), rest)
+
+
+def lost_cases(tell, fencer):
+    """Standard error that is closed, or that takes nothing."""
+    path = EXAMPLES[0]
+    for command in ("outcomes", "place", "why"):
+        plain = ran(fencer, [command, path])[0]
+        closed = ran(fencer, [command, "--progress", path], stderr=None, preexec_fn=lambda: os.close(2))[0]
+        with open("/dev/full", "wb") as full:
+            unwritten = ran(fencer, [command, "--progress", path], stderr=full)[0]
+        tell(f"progress of {command} that can't be written", plain == closed == unwritten, (closed, unwritten))
+
+
+def on_terminal(fencer, words):
+    """What a call prints, and says on a terminal."""
+    ours, theirs = pty.openpty()
+    with subprocess.Popen([fencer, *words], stdout=subprocess.PIPE, stderr=theirs) as call:
+        os.close(theirs)
+        printed = call.stdout.read()
+    said = b""
+    while True:
+        try:
+            part = os.read(ours, 4096)
+        except OSError:
+            part = b""
+        if not part:
+            break
+        said += part
+    os.close(ours)
+    return printed, said.decode().splitlines()
+
+
+def terminal_cases(tell, fencer):
+    """On a terminal long searches are reported, and short ones with `--progress` alone."""
+    short = EXAMPLES[0]
+    tell("a short search says nothing on a terminal", on_terminal(fencer, ["place", short])[1] == [])
+    tell("a short search is reported on a terminal where that is asked for", on_terminal(fencer, ["place", "--progress", short])[1][:1] == ahead(read_program(fencer, short)))
+    with tempfile.TemporaryDirectory() as folder:
+        path = os.path.join(folder, "long.litmus")
+        with open(path, "w", encoding="ascii") as file:
+            file.write(reads(10, 10))
+        lines = ahead(read_program(fencer, path))
+        printed, said = on_terminal(fencer, ["outcomes", path])
+        tell("a long search is reported on a terminal", said == lines and printed == ran(fencer, ["outcomes", path])[0][1], said)
+
+
+def reads(*threads):
+    """A program whose threads read a location with two values so often."""
+    cells = [["MOV [x],$1"] * (t == 0) + ["MOV EAX,[x]"] * count for t, count in enumerate(threads)]
+    rows = "".join(" | ".join(cell[i] if i < len(cell) else "" for cell in cells) + " ;\n" for i in range(max(map(len, cells))))
+    return "X86 reads\n{ }\n" + " | ".join(f"P{t}" for t in range(len(threads))) + " ;\n" + rows + "exists (x=1)\n"
+
+
+def endless_cases(tell, fencer):
+    """Threads of more traces than are counted: what lies ahead is said before the search, which is ended here."""
+    many = MOST_TRACES + 1
+    for threads, count in (((24,), many), ((24, 3), 8 * many), ((13, 14), None)):
+        with tempfile.TemporaryDirectory() as folder:
+            path = os.path.join(folder, "many.litmus")
+            with open(path, "w", encoding="ascii") as file:
+                file.write(reads(*threads))
+            wanted = [f"fencer: combinations of traces: {count} or more" if count else f"fencer: combinations of traces: {2 ** sum(threads)}", WARNING]
+            with subprocess.Popen([fencer, "outcomes", "--progress", path], stdout=subprocess.DEVNULL, stderr=subprocess.PIPE) as call:
+                said = [call.stderr.readline().decode().rstrip("\n") for _ in wanted]
+                call.kill()
+            tell(f"what lies ahead of threads of {threads} reads", said == wanted, said)
+
+
+def cases(tell, programs):
+    """The cases of the examples, of the algorithms of the atlas, and of made programs."""
+    fencer = programs["fencer"]
+    for path in [*EXAMPLES, *sorted(glob.glob(os.path.join(TOP, "examples", "atlas", "Pet*.litmus")))]:
+        search_cases(tell, fencer, path)
+    lost_cases(tell, fencer)
+    terminal_cases(tell, fencer)
+    endless_cases(tell, fencer)
