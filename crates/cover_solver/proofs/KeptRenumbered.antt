@@ -1,50 +1,128 @@
 -- What is kept, with other numbers for its outcomes.
-use Rattle.std.proofs.Common.{◌≡◌, ℕ, suc, ◌<◌, List, [], ◌∷◌, get_or, map, length, refl, sym, subst, arith}
+use Rattle.std.proofs.Common.{◌≡◌, ℕ, suc, ◌<◌, ◌≤◌, List, [], ◌∷◌, ◌++◌, map, length, get_or, refl, sym, ap, ◌∙◌, subst, arith}
 use Rattle.std.specs.Prelude.{◌^◌}
 use Rattle.std.specs.FinSet as set
+use Rattle.std.proofs.lemmas.List.{map-append}
+use Rattle.std.proofs.lemmas.Option.{unwrap_or-slice_get}
 use Rattle.tso_program.specs.declared.listing.Listing.{Listing}
 use Rattle.tso_program.specs.declared.outcome.Outcome.{Outcome}
 use Rattle.tso_program.specs.declared.shown.Shown.{Shown}
+use Rattle.tso_program.specs.Shown.{asked}
 use Rattle.tso_machine.specs.declared.mode.Mode.TheVariants as modes
-use Rattle.exec_axioms.specs.ProgramSketches.{ProgramSketch, nothing_chosen, with_chosen}
+use Rattle.tso_machine.specs.Machine.{SequentialMachine}
+use Rattle.candidate_executions.specs.Sketches.{empty_sketch}
+use Rattle.exec_axioms.specs.ProgramSketches.{ProgramSketch, mode_in, nothing_chosen}
+use Rattle.cert_forest.specs.declared.node.Node.{Node}
+use Rattle.cert_forest.specs.declared.node.Node.TheVariants as node
+use Rattle.cert_forest.specs.declared.node.TheConstants.{NEAR_RUNS}
+use Rattle.cert_forest.specs.Nodes.{spell}
+use Rattle.cert_forest.specs.Trees.{Cover}
 use Rattle.cover_judge.specs.declared.choice.Choice.{Choice}
-use Rattle.cover_judge.specs.Choices.{sketch_with}
 use Rattle.cover_solver.specs.declared.kept_tree.KeptTree.{KeptTree}
+use Rattle.cover_solver.specs.declared.kept_tree.Piece.{Piece}
+use Rattle.cover_solver.specs.Changed.{renumbered_node}
+use Rattle.cover_solver.specs.Covers.{IsWholeCover}
 use Rattle.cover_solver.specs.Found.{HasNumber, place_in, ArePlacesOf}
-use Rattle.cover_solver.specs.Kept.{KeptCover, Closed, Values, Hole, KeptCovers, NoKept, MoreKept, kept, kept_of, IsKeptAt, AreKeptAfter, IsKept}
-use Rattle.cover_solver.specs.Renumbered.{renumbered_kept, renumbered_each_kept}
+use Rattle.cover_solver.specs.Kept.{Item, Has, Lacks, renumbered_item, KeptCover, Closed, Values, Hole, KeptCovers, NoKept, MoreKept, count_kept, spell_kept, spell_kept_row, items_before, items_of, after, IsKeptAfter, AreKeptAfter, IsKept}
+use Rattle.cover_solver.specs.Renumbered.{renumbered}
+use Rattle.cover_solver.proofs.ChangedNodes.{spelled_renumbered}
+use Rattle.cover_solver.proofs.NearNumbers.{valid_near}
 use Rattle.cover_solver.proofs.Renumbering.{cover_renumbered}
 
--- trees in memory, each of which has its other numbers
-pub each_kept_changed : (place : ℕ → ℕ) (made trees : List KeptTree) → length made ≡ length trees →
-    ((k : ℕ) (d : KeptTree) → k < length trees → kept (get_or made k d) ≡ renumbered_kept place (kept (get_or trees k d))) →
-    kept_of (map kept made) ≡ renumbered_each_kept place (kept_of (map kept trees))
-each_kept_changed place [] [] same each = refl
-each_kept_changed place [] (t ∷ ts) same each = absurd (omega arith)
-each_kept_changed place (m ∷ ms) [] same each = absurd (omega arith)
-each_kept_changed place (m ∷ ms) (t ∷ ts) same each =
-    let first = each 0 t (omega arith) in
-    let rest = each_kept_changed place ms ts (omega arith) (λ k d h. each (suc k) d (omega arith)) in
-    λ i. MoreKept (first i) (rest i)
+-- ---- as it lies in memory
+
+map_has : (place : ℕ → ℕ) (xs : List Node) → map (renumbered_item place) (map Has xs) ≡ map Has (map (renumbered_node place) xs)
+map_has place [] = refl
+map_has place (x ∷ xs) = ap (λ (ys : List Item). Has (renumbered_node place x) ∷ ys) (map_has place xs)
+
+-- a piece has other numbers, and its path stays
+pub record IsPieceRenumbered (place : ℕ → ℕ) (old new : Piece) : Type 0 where
+  pub nodes : new.nodes.items ≡ map (renumbered_node place) old.nodes.items
+  pub path : new.path.items ≡ old.path.items
+
+-- so of all of them
+pub pieces_renumbered : (place : ℕ → ℕ) (old new : List Piece) → length new ≡ length old → ((k : ℕ) (d : Piece) → k < length old → IsPieceRenumbered place (get_or old k d) (get_or new k d)) →
+    items_before new ≡ map (renumbered_item place) (items_before old)
+pieces_renumbered place [] [] same each = refl
+pieces_renumbered place [] (q ∷ qs) same each = absurd (omega arith)
+pieces_renumbered place (p ∷ ps) [] same each = absurd (omega arith)
+pieces_renumbered place (p ∷ ps) (q ∷ qs) same each =
+    let first = each 0 p (omega arith) in
+    let rest = pieces_renumbered place ps qs (omega arith) (λ k d h. each (suc k) d (omega arith)) in
+    (λ i. map Has (first.nodes i) ++ Lacks (first.path i) ∷ rest i)
+    ∙ ap (λ (xs : List Item). xs ++ Lacks p.path.items ∷ map (renumbered_item place) (items_before ps)) (sym (map_has place p.nodes.items))
+    ∙ sym (map-append (renumbered_item place) (map Has p.nodes.items) (Lacks p.path.items ∷ items_before ps))
+
+pub items_renumbered : (place : ℕ → ℕ) (old new : List Piece) (xs ys : List Node) → items_before new ≡ map (renumbered_item place) (items_before old) → ys ≡ map (renumbered_node place) xs →
+    items_before new ++ map Has ys ≡ map (renumbered_item place) (items_before old ++ map Has xs)
+items_renumbered place old new xs ys pieces nodes =
+    (λ i. pieces i ++ map Has (nodes i)) ∙ ap (λ (zs : List Item). map (renumbered_item place) (items_before old) ++ zs) (sym (map_has place xs))
+    ∙ sym (map-append (renumbered_item place) (items_before old) (map Has xs))
+
+-- ---- what holds of it
 
 -- what is kept stays so over another list when its numbers are put for those of the same outcomes there
-module _ (shown : Shown) (old new : List Outcome) (place : ℕ → ℕ) (few : length new < 2 ^ 64) (moves : (n : ℕ) (o : Outcome) → HasNumber old n o → HasNumber new (place n) o) where
-  mutual
-    pub kept_renumbered : (s : ProgramSketch) (made : KeptCover) → IsKeptAt s shown old made → IsKeptAt s shown new (renumbered_kept place made)
-    kept_renumbered s (Closed tree) is = cover_renumbered s shown old new place few moves tree is
-    kept_renumbered s (Values t children) (choices, are, after) = (choices, are, each_renumbered s children choices after)
-    kept_renumbered s Hole whole = whole
+module _ (s : ProgramSketch) (shown : Shown) (old new : List Outcome) (place : ℕ → ℕ) (few : length new < 2 ^ 64) (near : length old ≤ NEAR_RUNS) (small : (n : ℕ) → place n < NEAR_RUNS)
+    (moves : (n : ℕ) (o : Outcome) → HasNumber old n o → HasNumber new (place n) o) where
+  -- its nodes are those with the other numbers
+  record Renumbers (path : List Choice) (tree : KeptCover) : Type 0 where
+    made : KeptCover
+    is : IsKeptAfter s shown new path made
+    spelled : spell_kept made ≡ map (renumbered_item place) (spell_kept tree)
 
-    each_renumbered : (s : ProgramSketch) (children : KeptCovers) (choices : List Choice) → AreKeptAfter s shown old children choices → AreKeptAfter s shown new (renumbered_each_kept place children) choices
-    each_renumbered s NoKept [] after = tt
-    each_renumbered s NoKept (c ∷ cs) after = absurd after
-    each_renumbered s (MoreKept child children) [] after = absurd after
-    each_renumbered s (MoreKept child children) (c ∷ cs) (now, later) = (kept_renumbered (with_chosen s (sketch_with s.chosen c)) child now, each_renumbered s children cs later)
+  record RenumberEach (path choices : List Choice) (children : KeptCovers) : Type 0 where
+    made : KeptCovers
+    are : AreKeptAfter s shown new path made choices
+    count : count_kept made ≡ count_kept children
+    spelled : spell_kept_row made ≡ map (renumbered_item place) (spell_kept_row children)
+
+  mutual
+    kept_renumbered : (path : List Choice) (tree : KeptCover) → IsKeptAfter s shown old path tree → Renumbers path tree
+    kept_renumbered path (Closed tree) is =
+        let k = after s path in
+        record {
+          made = Closed (renumbered place tree);
+          is = cover_renumbered k shown old new place few moves tree is;
+          spelled = ap (map Has) (spelled_renumbered place small tree (valid_near (asked k.program shown) (mode_in k) old near tree k.chosen is.valid)) ∙ sym (map_has place (spell tree));
+        }
+    kept_renumbered path (Values t children) (choices, are, each) =
+        let below = each_renumbered path choices children each in
+        record {
+          made = Values t below.made;
+          is = (choices, are, below.are);
+          spelled = λ i. Has (node.Value t (below.count i)) ∷ below.spelled i;
+        }
+    kept_renumbered path (Hole to) is = record { made = Hole to; is = is; spelled = refl }
+
+    each_renumbered : (path choices : List Choice) (children : KeptCovers) → AreKeptAfter s shown old path children choices → RenumberEach path choices children
+    each_renumbered path [] NoKept are = record { made = NoKept; are = tt; count = refl; spelled = refl }
+    each_renumbered path (c ∷ cs) NoKept are = absurd are
+    each_renumbered path [] (MoreKept child children) are = absurd are
+    each_renumbered path (c ∷ cs) (MoreKept child children) (now, later) =
+        let first = kept_renumbered (path ++ c ∷ []) child now in
+        let rest = each_renumbered path cs children later in
+        record {
+          made = MoreKept first.made rest.made;
+          are = (first.is, rest.are);
+          count = ap suc rest.count;
+          spelled = (λ i. first.spelled i ++ rest.spelled i) ∙ sym (map-append (renumbered_item place) (spell_kept child) (spell_kept_row children));
+        }
 
 -- so of a program's, which is renumbered by the places in the list
-pub table_kept : (p other : Listing) (shown copied : Shown) (known outcomes : List Outcome) (places : List ℕ) (before made : KeptCover) → other ≡ p → copied ≡ shown → length outcomes < 2 ^ 64 →
-    IsKept p shown known before → ArePlacesOf known outcomes places → made ≡ renumbered_kept (place_in places) before → IsKept other copied outcomes made
-table_kept p other shown copied known outcomes places before made same alike few is moves by =
+pub table_kept : (p other : Listing) (shown copied : Shown) (known outcomes : List Outcome) (places : List ℕ) (before made : KeptTree) → other ≡ p → copied ≡ shown → length outcomes < 2 ^ 64 → length known ≤ NEAR_RUNS →
+    ((n : ℕ) → place_in places n < NEAR_RUNS) → IsKept p shown known before → ArePlacesOf known outcomes places → items_of made ≡ map (renumbered_item (place_in places)) (items_of before) → IsKept other copied outcomes made
+table_kept p other shown copied known outcomes places before made same alike few near small is moves by =
+    let again = kept_renumbered (nothing_chosen p (modes.Fenced set.empty)) shown known outcomes (place_in places) few near small moves [] is.tree is.is in
     subst (λ (l : Listing). IsKept l copied outcomes made) (sym same)
     (subst (λ (sh : Shown). IsKept p sh outcomes made) (sym alike)
-    (subst (IsKept p shown outcomes) (sym by) (kept_renumbered shown known outcomes (place_in places) few moves (nothing_chosen p (modes.Fenced set.empty)) before is)))
+    (record { tree = again.made; is = again.is; pushed = by ∙ ap (map (renumbered_item (place_in places))) is.pushed ∙ sym again.spelled }))
+
+-- places have one node each
+pub small_places : (places : List ℕ) → ((n : ℕ) → get_or places n 0 < 2 ^ 32) → (n : ℕ) → place_in places n < NEAR_RUNS
+small_places places each n = subst (λ (m : ℕ). m < NEAR_RUNS) (sym (unwrap_or-slice_get places n 0)) (each n)
+
+-- the nodes of a whole tree of the sequential machine, with other numbers, spell the tree with these
+pub tree_renumbered : (p : Listing) (shown : Shown) (known : List Outcome) (place : ℕ → ℕ) → ((n : ℕ) → place n < NEAR_RUNS) → (tree : Cover) → length known ≤ NEAR_RUNS → IsWholeCover (asked p shown) SequentialMachine known tree →
+    (old new : List Node) → old ≡ spell tree → new ≡ map (renumbered_node place) old → new ≡ spell (renumbered place tree)
+tree_renumbered p shown known place small tree few is old new spelled by =
+    by ∙ ap (map (renumbered_node place)) spelled ∙ sym (spelled_renumbered place small tree (valid_near (asked p shown) SequentialMachine known few tree (empty_sketch p) is.valid))

@@ -1,17 +1,13 @@
 use Rattle.std.proofs.Common.{subst}
-use Rattle.std.specs.FinSet as set
 use Rattle.tso_program.specs.Shown.{asked}
-use Rattle.tso_machine.specs.declared.mode.Mode.TheVariants as modes
 use Rattle.tso_machine.specs.Modes.{machine_of_mode}
-use Rattle.exec_axioms.specs.ProgramSketches.{nothing_chosen}
-use Rattle.cert_forest.specs.Views.{cover}
 use Rattle.cover_solver.specs.declared.listed.Listed.{Listed}
 use Rattle.cover_solver.specs.Covers.{IsWholeCover}
-use Rattle.cover_solver.specs.Kept.{kept, IsKept}
+use Rattle.cover_solver.specs.Kept.{IsKept}
 use Rattle.cover_solver.specs.Listed.{listed, AreInOrder, StopIs}
 use Rattle.cover_solver.proofs.AllListed.{runs_found, never_new}
 use Rattle.cover_solver.proofs.Growing.{grows_twice}
-use Rattle.cover_solver.proofs.KeptTrees.{kept_still}
+use Rattle.cover_solver.proofs.KeptRows.{kept_grown}
 use Rattle.cover_solver.proofs.Listing.{exactly_allowed}
 use Rattle.cover_solver.proofs.all_outcomes.all_outcomes.Goals as goal
 
@@ -27,9 +23,9 @@ pub returns-clause-kept : goal.returns-clause-kept
 returns-clause-kept c =
     let p = c.args.program.now in
     let shown = c.args.shown.now in
-    let made = kept c.in_ok-kept.kept in
+    let made = c.in_ok-kept.kept in
     subst (λ (outcomes : Listed). IsKept p shown (listed outcomes) made) c.in-Open.is
-    (kept_still shown (listed c.kept_all.new.outcomes) (listed c.cover_all.new.outcomes) c.in-Ok.ensures.grows.keeps (nothing_chosen p (modes.Fenced set.empty)) made c.in_ok-kept.ensures.kept)
+    (kept_grown p shown (listed c.kept_all.new.outcomes) (listed c.cover_all.new.outcomes) made c.in-Ok.ensures.grows.keeps c.in_ok-kept.ensures.kept)
 
 pub returns-clause-exact : goal.returns-clause-exact
 returns-clause-exact c =
@@ -37,7 +33,7 @@ returns-clause-exact c =
     let q = asked p c.args.shown.now in
     let mode = machine_of_mode p c.args.mode in
     let found = c.in-Open.found in
-    let tree = cover c.in-Ok.tree in
+    let tree = c.in-Ok.tree in
     let in_order = subst AreInOrder c.in-Open.is c.in-Ok.ensures.grows.in_order in
     let whole = subst (λ (outcomes : Listed). IsWholeCover q mode (listed outcomes) tree) c.in-Open.is c.in-Ok.ensures.tree in
     exactly_allowed q mode found.runs found.outcomes.items found.listed.items tree c.threads.ensures.within.shared.forward_jumps (returns-clause-runs c) in_order.all whole.valid

@@ -1,12 +1,24 @@
-use Rattle.std.proofs.Common.{List, ℕ, ◌∙◌, ap, arith}
+use Rattle.std.proofs.Common.{◌≡◌, ◌<◌, ◌≤◌, List, ℕ, map, length, get_or, refl, sym, ◌∙◌, ap, subst, arith}
 use Rattle.std.specs.Arc.{arc_value}
-use Rattle.cert_forest.specs.Views.{cover}
+use Rattle.cert_forest.specs.declared.node.Node.{Node}
+use Rattle.cert_forest.specs.Nodes.{spell}
+use Rattle.cert_forest.proofs.NodeLaws.{is_tree, same_tree}
+use Rattle.cover_solver.specs.Changed.{renumbered_node}
 use Rattle.cover_solver.specs.Found.{place_in}
-use Rattle.cover_solver.specs.Kept.{kept}
-use Rattle.cover_solver.specs.Renumbered.{renumbered, renumbered_kept}
-use Rattle.cover_solver.proofs.KeptRenumbered.{table_kept}
+use Rattle.cover_solver.specs.Kept.{Item, items_of, renumbered_item}
+use Rattle.cover_solver.specs.Renumbered.{renumbered}
+use Rattle.cover_solver.proofs.KeptRenumbered.{table_kept, small_places, tree_renumbered}
 use Rattle.cover_solver.proofs.Tables.{table_of}
 use Rattle.cover_solver.proofs.table.sequential.Goals as goal
+
+pub of_nodes-requires : goal.of_nodes-requires
+of_nodes-requires c =
+    let all = c.in_ok-all.all in
+    let places = c.in_ok-places.places.items in
+    let small = small_places places (λ n. c.type_inv.places n) in
+    let spelled = tree_renumbered c.args.program.now c.args.shown.now all.found.listed.items (place_in places) small all.tree c.in_ok-places.ensures.few c.in_ok-all.ensures.tree c.into_nodes.result.items c.renumber.new.nodes.items c.into_nodes.ensures
+        (c.renumber.ensures ∙ ap (λ (ns : List ℕ). map (renumbered_node (place_in ns)) c.into_nodes.result.items) c.deref.ensures.value) in
+    is_tree (renumbered (place_in places) all.tree) c.renumber.new.nodes.items spelled
 
 pub invariant_of-result : goal.invariant_of-result
 invariant_of-result c =
@@ -18,23 +30,32 @@ invariant_of-result c =
     let is = c.in_ok-all.ensures in
     let known = all.found.listed.items in
     let outcomes = all.found.outcomes.items in
-    let places = c.in_ok-places.places.items in (
-      table_of p copy shown copied known outcomes all.found.runs places (cover all.tree) (cover c.renumber.new.tree) c.in_ok-copy.ensures c.in_ok-copy-2.ensures
-          (let long = all.found.outcomes.ok.0 in let within = all.found.outcomes.ok.1 in let small = all.found.outcomes.small in omega arith)
-          (record { ascend = is.in_order.ascend; exact = is.exact }) is.runs is.tree c.in_ok-places.ensures
-          (c.renumber.ensures ∙ ap (λ (ns : List ℕ). renumbered (place_in ns) (cover all.tree)) c.deref.ensures.value),
-      table_kept p copy shown copied known outcomes places (kept all.kept) (kept (arc_value c.in_ok-new.field-0)) c.in_ok-copy.ensures c.in_ok-copy-2.ensures
-          (let long = all.found.outcomes.ok.0 in let within = all.found.outcomes.ok.1 in let small = all.found.outcomes.small in omega arith)
-          is.kept c.in_ok-places.ensures
-          (ap kept c.in_ok-new.ensures.ok ∙ c.renumber_kept.ensures ∙ ap (λ (ns : List ℕ). renumbered_kept (place_in ns) (kept all.kept)) c.deref-2.ensures.value),
+    let places = c.in_ok-places.places.items in
+    let small = small_places places (λ n. c.type_inv.places n) in
+    let spelled = tree_renumbered p shown known (place_in places) small all.tree c.in_ok-places.ensures.few is.tree c.into_nodes.result.items c.renumber.new.nodes.items c.into_nodes.ensures
+        (c.renumber.ensures ∙ ap (λ (ns : List ℕ). map (renumbered_node (place_in ns)) c.into_nodes.result.items) c.deref.ensures.value) in
+    let few = (let long = all.found.outcomes.ok.0 in let within = all.found.outcomes.ok.1 in let small_items = all.found.outcomes.small in omega arith) in (
+      table_of p copy shown copied known outcomes all.found.runs places all.tree c.of_nodes-tree.result c.in_ok-copy.ensures c.in_ok-copy-2.ensures few
+          (record { ascend = is.in_order.ascend; exact = is.exact }) is.runs is.tree c.in_ok-places.ensures.places
+          (same_tree c.of_nodes-tree.result (renumbered (place_in places) all.tree) (c.of_nodes-tree.ensures ∙ spelled)),
+      table_kept p copy shown copied known outcomes places all.kept (arc_value c.in_ok-new.field-0) c.in_ok-copy.ensures c.in_ok-copy-2.ensures few
+          c.in_ok-places.ensures.few small is.kept c.in_ok-places.ensures.places
+          (ap items_of c.in_ok-new.ensures.ok ∙ c.renumber_kept.ensures ∙ ap (λ (ns : List ℕ). map (renumbered_item (place_in ns)) (items_of all.kept)) c.deref-2.ensures.value),
     )
 
 pub returns-clause-table : goal.returns-clause-table
 returns-clause-table c =
+    let p = c.args.program.now in
+    let shown = c.args.shown.now in
     let all = c.in_ok-all.all in
     let is = c.in_ok-all.ensures in
-    table_of c.args.program.now c.in_ok-copy.field-0 c.args.shown.now c.in_ok-copy-2.field-0 all.found.listed.items all.found.outcomes.items all.found.runs c.in_ok-places.places.items (cover all.tree) (cover c.renumber.new.tree)
-    c.in_ok-copy.ensures c.in_ok-copy-2.ensures
-    (let long = all.found.outcomes.ok.0 in let within = all.found.outcomes.ok.1 in let small = all.found.outcomes.small in omega arith)
-    (record { ascend = is.in_order.ascend; exact = is.exact }) is.runs is.tree c.in_ok-places.ensures
-    (c.renumber.ensures ∙ ap (λ (ns : List ℕ). renumbered (place_in ns) (cover all.tree)) c.deref.ensures.value)
+    let known = all.found.listed.items in
+    let outcomes = all.found.outcomes.items in
+    let places = c.in_ok-places.places.items in
+    let small = small_places places (λ n. c.type_inv.places n) in
+    let spelled = tree_renumbered p shown known (place_in places) small all.tree c.in_ok-places.ensures.few is.tree c.into_nodes.result.items c.renumber.new.nodes.items c.into_nodes.ensures
+        (c.renumber.ensures ∙ ap (λ (ns : List ℕ). map (renumbered_node (place_in ns)) c.into_nodes.result.items) c.deref.ensures.value) in
+    let few = (let long = all.found.outcomes.ok.0 in let within = all.found.outcomes.ok.1 in let small_items = all.found.outcomes.small in omega arith) in
+    table_of p c.in_ok-copy.field-0 shown c.in_ok-copy-2.field-0 known outcomes all.found.runs places all.tree c.of_nodes-tree.result c.in_ok-copy.ensures c.in_ok-copy-2.ensures few
+    (record { ascend = is.in_order.ascend; exact = is.exact }) is.runs is.tree c.in_ok-places.ensures.places
+    (same_tree c.of_nodes-tree.result (renumbered (place_in places) all.tree) (c.of_nodes-tree.ensures ∙ spelled))

@@ -3,13 +3,13 @@ use Rattle.std.specs.Arc.{arc_value}
 use Rattle.cover_judge.proofs.Answered.{if_ok}
 use Rattle.cover_solver.specs.declared.kept_tree.KeptTree.{KeptTree}
 use Rattle.cover_solver.specs.Facts.{Table}
-use Rattle.cover_solver.specs.Kept.{kept, IsKept}
+use Rattle.cover_solver.specs.Kept.{IsKept}
 use Rattle.cover_solver.proofs.table.SeqTable.kept.Goals as goal
 
 pub returns : goal.returns
 returns c =
     let s = c.self.inside in
     let table = c.args.self.now in
-    if_ok c.try_clone.result (λ shared. arc_value shared ≡ arc_value s.kept) (λ shared. IsKept table.question.program table.question.shown table.outcomes (kept (arc_value shared)))
-    (λ shared same. subst (λ (t : Table). IsKept t.question.program t.question.shown t.outcomes (kept (arc_value shared))) c.self.view_is
-    (subst (λ (tree : KeptTree). IsKept s.program s.shown s.outcomes.items (kept tree)) (sym same) c.self.invariant.1)) c.try_clone.ensures
+    if_ok c.try_clone.result (λ shared. arc_value shared ≡ arc_value s.kept) (λ shared. IsKept table.question.program table.question.shown table.outcomes (arc_value shared))
+    (λ shared same. subst (λ (t : Table). IsKept t.question.program t.question.shown t.outcomes (arc_value shared)) c.self.view_is
+    (subst (λ (tree : KeptTree). IsKept s.program s.shown s.outcomes.items tree) (sym same) c.self.invariant.1)) c.try_clone.ensures

@@ -1,0 +1,14 @@
+use Rattle.std.proofs.Common.{take}
+use Rattle.tso_program.specs.Shown.{asked}
+use Rattle.exec_axioms.specs.ProgramSketches.{nothing_chosen}
+use Rattle.cover_solver.specs.Kept.{items_before}
+use Rattle.cover_solver.specs.Listed.{listed, Grows}
+use Rattle.cover_solver.proofs.FilledNodes.{Filled}
+use Rattle.cover_solver.proofs.filled.filled.Given as goal
+
+-- the list has grown, and the nodes stand for the pieces so far
+abbrev pub invariant-loop-piece : goal.invariant-loop-piece
+invariant-loop-piece l = record {
+  grows : Grows (asked l.program l.shown) l.fn.outcomes l.outcomes;
+  nodes : Filled (nothing_chosen l.program l.mode) l.shown (listed l.outcomes) (items_before (take l.piece-index l.kept.pieces.items)) l.nodes.items;
+}
