@@ -24,7 +24,7 @@ use Rattle.cover_solver.specs.Changed.{renumbered_node}
 use Rattle.cover_solver.specs.Covers.{IsWholeCover}
 use Rattle.cover_solver.specs.Found.{HasNumber, place_in, ArePlacesOf}
 use Rattle.cover_solver.specs.Kept.{Item, Has, Lacks, renumbered_item, KeptCover, Closed, Values, Hole, KeptCovers, NoKept, MoreKept, count_kept, spell_kept, spell_kept_row, items_before, items_of, after, IsKeptAfter, AreKeptAfter, IsKept}
-use Rattle.cover_solver.specs.Renumbered.{renumbered}
+use Rattle.cover_solver.proofs.OtherNumbers.{renumbered}
 use Rattle.cover_solver.proofs.ChangedNodes.{spelled_renumbered}
 use Rattle.cover_solver.proofs.NearNumbers.{valid_near}
 use Rattle.cover_solver.proofs.Renumbering.{cover_renumbered}

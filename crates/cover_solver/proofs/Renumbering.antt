@@ -14,7 +14,7 @@ use Rattle.cert_forest.specs.Limits.{cover_depth, covers_depth}
 use Rattle.tree_laws.specs.CoverTrees.{event_of, IsValidCover, AreValidCovers}
 use Rattle.cover_solver.specs.Covers.{IsNeat, AreNeat, IsCoverAt, IsWholeCover}
 use Rattle.cover_solver.specs.Found.{HasNumber}
-use Rattle.cover_solver.specs.Renumbered.{renumbered, renumbered_each}
+use Rattle.cover_solver.proofs.OtherNumbers.{renumbered, renumbered_each}
 
 module _ (q : Question) (mode : Machine) (old new : List Outcome) (place : ℕ → ℕ) (few : length new < 2 ^ 64) (moves : (n : ℕ) (o : Outcome) → HasNumber old n o → HasNumber new (place n) o) where
   -- what holds of a tree and of several, with other numbers

@@ -27,7 +27,7 @@ use Rattle.tree_laws.proofs.ListedOutcomes.{fenced_tree_serves}
 use Rattle.cover_solver.specs.Covers.{IsWholeCover}
 use Rattle.cover_solver.specs.Facts.{IsSequentialTable, IsListOf, IsServing}
 use Rattle.cover_solver.specs.Found.{AreRunsOf, place_in, ArePlacesOf}
-use Rattle.cover_solver.specs.Renumbered.{renumbered}
+use Rattle.cover_solver.proofs.OtherNumbers.{renumbered}
 use Rattle.tso_program.specs.Ordered.{outcome_cmp}
 use Rattle.cover_solver.specs.Ordered.{BelongsAt}
 use Rattle.tree_laws.proofs.OneList.{one_list}

@@ -9,8 +9,7 @@ use Rattle.gap_sets.proofs.costs.Costs.TheSendSync as costs
 use Rattle.gap_sets.proofs.gap_set.GapSet.TheSendSync as gaps
 use Rattle.tso_program.proofs.program.Program.TheSendSync as program
 use Rattle.tso_program.proofs.shown.Shown.TheSendSync as shown
-use Rattle.cert_forest.proofs.tree.CoverTree.TheLaws.TheKnot as knot
-use Rattle.cert_forest.specs.contracts.tree.CoverTree as cover_tree
+use Rattle.cert_forest.proofs.tree.CoverTree.TheSendSync as cover
 use Rattle.cover_solver.specs.contracts.served.Served as served
 use Rattle.cover_solver.specs.contracts.served.Served.TheInside as served_inside
 use Rattle.search_core.proofs.entry.Entry.TheSendSync as entry
@@ -21,18 +20,12 @@ use Rattle.hunt_board.proofs.word.CeilingWord.TheSendSync as word
 use Rattle.hunt_board.specs.contracts.hunt.Hunt as hunt
 use Rattle.hunt_board.specs.contracts.hunt.Hunt.TheInside as inside
 
-cover_send : IsSend cover_tree.the_row
-cover_send = search (crosses, knot.crosses, sendable) depth 60 fits 20000
-
-cover_sync : IsSync cover_tree.the_row
-cover_sync = search (crosses, knot.crosses, sendable) depth 60 fits 20000
-
 served_send : IsSend served.the_row
 served_send =
     view_send served_inside.the_row _ _ _ _
     (recorded_send (served_inside.the_field).row _ _ (served_inside.the_type).to_one
     (struct_send (shape served_inside.the_type)
-    (program.the_send, (shown.the_field_send, (gaps.the_send, (search (crosses, sendable, cover_send, cover_sync), tt))))))
+    (program.the_send, (shown.the_field_send, (gaps.the_send, (search (crosses, sendable, cover.the_send, cover.the_sync), tt))))))
 
 tree_send : IsSend search_tree.the_row
 tree_send =

@@ -6,7 +6,7 @@ use Rattle.cert_forest.proofs.NodeLaws.{is_tree, same_tree}
 use Rattle.cover_solver.specs.Changed.{renumbered_node}
 use Rattle.cover_solver.specs.Found.{place_in}
 use Rattle.cover_solver.specs.Kept.{Item, items_of, renumbered_item}
-use Rattle.cover_solver.specs.Renumbered.{renumbered}
+use Rattle.cover_solver.proofs.OtherNumbers.{renumbered}
 use Rattle.cover_solver.proofs.KeptRenumbered.{table_kept, small_places, tree_renumbered}
 use Rattle.cover_solver.proofs.Tables.{table_of}
 use Rattle.cover_solver.proofs.table.sequential.Goals as goal

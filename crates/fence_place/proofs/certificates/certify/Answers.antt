@@ -4,7 +4,7 @@ use Rattle.tso_machine.specs.declared.label.Label.{Label}
 use Rattle.cert_forest.specs.Certificates.{Certificate}
 use Rattle.cert_forest.specs.Limits.{AreShownPlaces}
 use Rattle.cert_forest.specs.Shows.{shows_of}
-use Rattle.cert_forest.specs.Views.{cover, gap}
+use Rattle.cert_forest.specs.Views.{gap}
 use Rattle.cover_solver.specs.Facts.{Serving, IsServing}
 use Rattle.fence_place.specs.Recorded.{IsRecorded}
 use Rattle.fence_place.specs.Proofs.{IsProof}
@@ -24,9 +24,9 @@ returns-clause-proof c =
       gaps = c.set-set.result;
       cost = c.total.result;
       seq_runs = c.in_ok-seq_runs.seq_runs;
-      seq_tree = cover c.in_ok-copy.field-0;
+      seq_tree = c.in_ok-copy.field-0;
       runs = runs;
-      fenced_tree = cover c.in_ok-copy-2.field-0;
+      fenced_tree = c.in_ok-copy-2.field-0;
       gap_tree = gap c.in_ok-gap_tree.gap_tree;
     } in
     subst (λ (runs : List (List Label)). IsProof o.question o.costs (with_runs runs)) (sym c.runs.view_is)
