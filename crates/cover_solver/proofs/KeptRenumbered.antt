@@ -23,7 +23,7 @@ use Rattle.cover_solver.specs.declared.kept_tree.Piece.{Piece}
 use Rattle.cover_solver.specs.Changed.{renumbered_node}
 use Rattle.cover_solver.specs.Covers.{IsWholeCover}
 use Rattle.cover_solver.specs.Found.{HasNumber, place_in, ArePlacesOf}
-use Rattle.cover_solver.specs.Kept.{Item, Has, Lacks, renumbered_item, KeptCover, Closed, Values, Hole, KeptCovers, NoKept, MoreKept, count_kept, spell_kept, spell_kept_row, items_before, items_of, after, IsKeptAfter, AreKeptAfter, IsKept}
+use Rattle.cover_solver.specs.Kept.{Item, Has, Lacks, renumbered_item, IsPieceRenumbered, KeptCover, Closed, Values, Hole, KeptCovers, NoKept, MoreKept, count_kept, spell_kept, spell_kept_row, items_before, items_of, after, IsKeptAfter, AreKeptAfter, IsKept}
 use Rattle.cover_solver.proofs.OtherNumbers.{renumbered}
 use Rattle.cover_solver.proofs.ChangedNodes.{spelled_renumbered}
 use Rattle.cover_solver.proofs.NearNumbers.{valid_near}
@@ -35,12 +35,7 @@ map_has : (place : ℕ → ℕ) (xs : List Node) → map (renumbered_item place)
 map_has place [] = refl
 map_has place (x ∷ xs) = ap (λ (ys : List Item). Has (renumbered_node place x) ∷ ys) (map_has place xs)
 
--- a piece has other numbers, and its path stays
-pub record IsPieceRenumbered (place : ℕ → ℕ) (old new : Piece) : Type 0 where
-  pub nodes : new.nodes.items ≡ map (renumbered_node place) old.nodes.items
-  pub path : new.path.items ≡ old.path.items
-
--- so of all of them
+-- pieces with other numbers
 pub pieces_renumbered : (place : ℕ → ℕ) (old new : List Piece) → length new ≡ length old → ((k : ℕ) (d : Piece) → k < length old → IsPieceRenumbered place (get_or old k d) (get_or new k d)) →
     items_before new ≡ map (renumbered_item place) (items_before old)
 pieces_renumbered place [] [] same each = refl

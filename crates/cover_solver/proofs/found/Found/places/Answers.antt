@@ -26,7 +26,7 @@ loop-outcome-preserved c =
       places_more names c.args.self.now.outcomes.items before c.push.new.self.items i c.in-Ok.place item c.loop-outcome.invariant.0 c.in_ok-push-in-Ok.ensures.items (slice_get_read names (length names) i item refl below at) there c.loop-outcome.invariant.1,
     )
 
-pub returns : goal.returns
-returns c n o has =
+pub returns-clause-places : goal.returns-clause-places
+returns-clause-places c n o has =
     let past = subst (λ (xs : List Outcome). length xs ≤ c.loop-outcome.outcome-index) c.deref-outcome-items.ensures.value c.loop-outcome-test.false in
     c.loop-outcome.invariant.1 n o (let within = slice_get_within c.args.self.now.listed.items n o has in omega arith) has
