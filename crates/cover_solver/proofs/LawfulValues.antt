@@ -1,5 +1,5 @@
 -- A lawful sketch stays so when it takes a value.
-use Rattle.std.proofs.Common.{◌≡◌, ◌≢◌, ◌⊎◌, ℕ, ◌<◌, ◌++◌, List, [], ◌∷◌, Some, None, IsSome, Contains, length, refl, sym, ◌∙◌, subst, inl, inr, arith}
+use Rattle.std.proofs.Common.{◌≡◌, ◌≢◌, ◌⊎◌, ℕ, ◌<◌, ◌++◌, List, [], ◌∷◌, Option, Some, None, IsSome, Contains, length, refl, sym, ◌∙◌, subst, inl, inr, arith}
 use Rattle.std.proofs.lemmas.Bool.{cases_eq}
 use Rattle.std.proofs.lemmas.Option.{same_Some}
 use Rattle.tso_program.specs.Listings.{action, code_of, start_of}
@@ -28,7 +28,7 @@ module _ (s : ProgramSketch) (t v l : ℕ) (lawful : IsLawful s) (next : next_re
   here : traced_with t (given_to s.chosen t ++ v ∷ [])
   here = good_more (IsValueOf s.program) (action s.program.threads t) (fenced_gaps (mode_in s) t) (length (code_of s.program.threads t)) (advance s.program lawful.within.shared.forward_jumps t)
       (length (code_of s.program.threads t)) 0 (start_of s.program.threads t) (given_to s.chosen t) v (omega arith) (good_of s lawful t)
-      (subst (λ o. IsSome {T = ℕ} o) (sym next) refl) (λ m reads. subst (λ (k : ℕ). IsValueOf s.program k v) (same_Some l m (sym next ∙ reads)) fits)
+      (subst (λ (o : Option ℕ). IsSome o) (sym next) refl) (λ m reads. subst (λ (k : ℕ). IsValueOf s.program k v) (same_Some l m (sym next ∙ reads)) fits)
 
   good_by : (u : ℕ) → Good (IsValueOf s.program) (trace_in more u)
   good_by u = elim (cases_eq u t) [

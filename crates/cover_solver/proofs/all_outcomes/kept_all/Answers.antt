@@ -1,0 +1,23 @@
+use Rattle.std.proofs.Common.{◌≡◌, List, [], refl, sym, subst, ap, ◌∙◌}
+use Rattle.std.specs.FinSet as set
+use Rattle.gap_sets.specs.Gaps.{SetOfGaps}
+use Rattle.tso_program.specs.Shown.{asked}
+use Rattle.tso_machine.specs.declared.mode.Mode.TheVariants as modes
+use Rattle.exec_axioms.specs.ProgramSketches.{ProgramSketch, nothing_chosen}
+use Rattle.cover_solver.specs.Kept.{Item, items_of, Keeps}
+use Rattle.cover_solver.specs.Listed.{listed, Grows}
+use Rattle.cover_solver.proofs.all_outcomes.kept_all.Goals as goal
+
+pub kept_first-requires-clause-first : goal.kept_first-requires-clause-first
+kept_first-requires-clause-first c = subst (λ (k : ProgramSketch). k ≡ nothing_chosen k.program k.mode) (sym c.in_ok-sketch.ensures.empty) refl
+
+pub returns-clause-grows : goal.returns-clause-grows
+returns-clause-grows c =
+    subst (λ (k : ProgramSketch). Grows (asked k.program c.args.shown.now) c.args.outcomes.now c.kept_first.new.outcomes) c.in_ok-sketch.ensures.empty c.in_ok-kept_first.ensures.grows
+
+pub returns-clause-kept : goal.returns-clause-kept
+returns-clause-kept c =
+    let root = nothing_chosen c.args.program.now (modes.Fenced set.empty) in
+    let same = c.in_ok-sketch.ensures.empty ∙ ap (λ (gaps : SetOfGaps). nothing_chosen c.args.program.now (modes.Fenced gaps)) c.empty.ensures in
+    subst (λ (old : List Item). Keeps root c.args.shown.now (listed c.kept_first.new.outcomes) [] old (items_of c.kept_first.new.kept)) c.none-kept.ensures
+    (c.in_ok-kept_first.ensures.tree root (sym same))
