@@ -1,6 +1,6 @@
 -- Lists of outcomes that grow, and the trees over them.
 use Rattle.std.proofs.Common.{◌≡◌, List, [], ◌∷◌, map, refl, sym, subst}
-use Rattle.std.specs.Prelude.{Result, Ok, Err}
+use Rattle.std.specs.Prelude.{Result, Ok, Err, IfErr}
 use Rattle.std.specs.Result.{IsErrAnd}
 use Rattle.tso_program.specs.declared.outcome.Outcome.{Outcome}
 use Rattle.tso_program.specs.declared.shown.Shown.{Shown}
@@ -66,6 +66,11 @@ stopped T U stop.OutOfMemory P Q follows part = tt
 pub stops_as : (T U : Type 0) (why : Stop) (result : Result U Stop) (P Q : Type 0) → IsErrAnd result (λ other. other ≡ why) → (P → Q) → OnTold {T = T} (Err why) P → OnTold result Q
 stops_as T U why (Ok made) P Q same follows part = absurd same
 stops_as T U why (Err other) P Q same follows part = subst (λ (w : Stop). OnTold {T = U} (Err w) Q) (sym same) (stopped T U why P Q follows part)
+
+-- so for what is said of why it stops
+pub stops_for : {U : Type 0} (why : Stop) (result : Result U Stop) (Q : Stop → Type 0) → IsErrAnd result (λ other. other ≡ why) → Q why → IfErr result Q
+stops_for why (Ok made) Q same is = absurd same
+stops_for why (Err other) Q same is = subst Q (sym same) is
 
 -- a tree stays valid where each outcome keeps its number
 module _ (q : Question) (mode : Machine) (old new : List Outcome) (keeps : KeepsNumbers old new) where

@@ -1,8 +1,12 @@
-use Rattle.std.proofs.Common.{Option, subst}
+use Rattle.std.proofs.Common.{List, Option, subst}
+use Rattle.std.specs.Prelude.{OnOk}
 use Rattle.std.specs.Option.{MatchOption}
 use Rattle.candidate_executions.specs.Sketches.{IsWhole}
 use Rattle.exec_axioms.specs.ProgramSketches.{mode_in}
 use Rattle.cover_solver.specs.declared.plan.Plan.{Plan}
+use Rattle.cover_judge.specs.declared.choice.Choice.{Choice}
+use Rattle.cover_solver.specs.Kept.{items_of, KeepsAt}
+use Rattle.cover_solver.specs.Listed.{listed}
 use Rattle.cover_solver.specs.Plans.{IsLast}
 use Rattle.cover_solver.proofs.CombinedCovers.{before_first}
 use Rattle.cover_solver.proofs.all_outcomes.kept_first.Goals as goal
@@ -12,3 +16,7 @@ kept_values-requires-clause-before c =
     let s = c.args.sketch.now in
     before_first s.program s.mode s c.in-Some.plan.last c.requires.first
     (subst (λ (plan : Option Plan). MatchOption plan (IsWhole s.program (mode_in s) s.chosen) (λ plan. IsLast s plan.last)) c.in-Some.is c.in_ok-plan_for.ensures)
+
+pub returns-in-Some-clause-tree : goal.returns-in-Some-clause-tree
+returns-in-Some-clause-tree c =
+    subst (λ (path : List Choice). OnOk c.kept_values.result (KeepsAt c.args.sketch.now c.args.shown.now (listed c.kept_values.new.outcomes) path (items_of c.args.kept.now) (items_of c.kept_values.new.kept))) c.new-path.ensures.items c.kept_values.ensures.tree

@@ -17,7 +17,7 @@ use Rattle.cover_solver.specs.Listed.{listed, Grows, StopIs}
 use Rattle.cover_solver.specs.Pushed.{Pushes}
 use Rattle.cover_solver.proofs.ChoicesMade.{same_program, same_machine}
 use Rattle.cover_solver.proofs.FilledNodes.{Filled, more_copies, more_pieces, whole_filled}
-use Rattle.cover_solver.proofs.Growing.{grows_none, grows_twice}
+use Rattle.cover_solver.proofs.Growing.{grows_none, grows_twice, stops_for}
 use Rattle.cover_solver.proofs.HolesFilled.{LeadsToWhole, hole_leads}
 use Rattle.cover_solver.proofs.filled.filled.Goals as goal
 
@@ -78,7 +78,18 @@ loop-piece-preserved c =
     }
 
 pub returns-in_err-cover_whole-clause-stop : goal.returns-in_err-cover_whole-clause-stop
-returns-in_err-cover_whole-clause-stop c = ?
+returns-in_err-cover_whole-clause-stop c =
+    let p = c.args.program.now in
+    let shown = c.args.shown.now in
+    let root = nothing_chosen p c.args.mode in
+    let path = c.piece-item.result.path.items in
+    let start : c.in_ok-sketch.sketch ≡ root = c.in_ok-sketch.ensures ∙ c.in_ok-empty.ensures.empty in
+    let reached : c.choose_all.new.sketch ≡ after root path = c.in_ok-choose_all.ensures ∙ (λ k. after (start k) (c.deref-2.ensures.value k)) in
+    let mid = c.loop-piece.outcomes in
+    let why = c.in_err-cover_whole.field-0.0 in
+    let there = subst (λ (n : ProgramSketch). StopIs (asked n.program shown) (mode_in n) mid why) reached c.in_err-cover_whole.ensures.stop in
+    let here = subst (λ (l : Listing). StopIs (asked l shown) (mode_in root) mid why) (same_program root path) (subst (λ (m : Machine). StopIs (asked (after root path).program shown) m mid why) (same_machine root path) there) in
+    stops_for why c.from_residual-in_err-cover_whole.result (StopIs (asked p shown) (mode_in root) c.args.outcomes.now) c.from_residual-in_err-cover_whole.ensures.1 (c.loop-piece.invariant.grows.stops (mode_in root) why here)
 
 pub returns-clause-tree : goal.returns-clause-tree
 returns-clause-tree c =
