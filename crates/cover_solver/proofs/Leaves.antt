@@ -1,5 +1,5 @@
 -- Leaves: a sketch that must end as an outcome of the list, or has a cycle.
-use Rattle.std.proofs.Common.{◌≡◌, ℕ, List, Option, Some, None, Contains, map, refl, sym, subst}
+use Rattle.std.proofs.Common.{◌≡◌, ℕ, Bool, true, false, List, Option, Some, None, Contains, map, refl, sym, subst}
 use Rattle.std.specs.Prelude.{MatchOption}
 use Rattle.tso_program.specs.declared.outcome.Outcome.{Outcome}
 use Rattle.tso_program.specs.declared.shown.Shown.{Shown}
@@ -11,10 +11,12 @@ use Rattle.exec_axioms.specs.ProgramSketches.{ProgramSketch, mode_in}
 use Rattle.exec_axioms.specs.Completions.{MustEndSo}
 use Rattle.exec_axioms.specs.Search.{IsSimpleCycle, AreFewAccesses}
 use Rattle.cert_forest.specs.declared.tree.AccessId.{AccessId}
+use Rattle.cert_forest.specs.declared.node.Node.{Node}
 use Rattle.cert_forest.specs.Trees.{Cycle}
 use Rattle.tree_laws.specs.CoverTrees.{event_of, MustEndAsNumber}
 use Rattle.cover_solver.specs.Covers.{IsEndNotListed, IsLeafAt}
 use Rattle.cover_solver.specs.Found.{HasNumber}
+use Rattle.cover_solver.specs.Pushed.{Pushes, IfKnown}
 use Rattle.cover_solver.proofs.Neat.{neat_cycle}
 
 -- the leaf of a cycle
@@ -32,3 +34,11 @@ pub known_number : (s : ProgramSketch) (shown : Shown) (outcomes : List Outcome)
     MatchOption found (IsEndNotListed s shown outcomes) (MustEndAsNumber (asked s.program shown) (mode_in s) outcomes s.chosen)
 known_number s shown outcomes end must None lacks = λ acyclic o ends here. lacks (subst (Contains outcomes) (must.only acyclic o ends) here)
 known_number s shown outcomes end must (Some number) is = record { outcome = end; is_outcome = is; must_end = must.must_end }
+
+-- where the sketch must end as an outcome of the list its leaf is put there, and else nothing is
+module _ (s : ProgramSketch) (shown : Shown) (outcomes : List Outcome) (old new : List Node) (b : Bool) where
+  pub known_pushed : b ≡ true → IfKnown s shown outcomes old new b → Pushes (IsLeafAt s shown outcomes) old new
+  known_pushed yes known = subst (IfKnown s shown outcomes old new) yes known
+
+  pub unknown_same : b ≡ false → IfKnown s shown outcomes old new b → IsEndNotListed s shown outcomes × (new ≡ old)
+  unknown_same no known = subst (IfKnown s shown outcomes old new) no known
