@@ -90,11 +90,17 @@ module _ (s : ProgramSketch) (shown : Shown) where
   pub filled_still : (old new : List Outcome) → KeepsNumbers old new → (items : List Item) (nodes : List Node) → Filled old items nodes → Filled new items nodes
   filled_still old new keeps [] nodes none = none
   filled_still old new keeps (Has x ∷ items) nodes (more, is, so) = (more, is, filled_still old new keeps items more so)
-  filled_still old new keeps (Lacks path ∷ items) nodes (tree, more, at, is, so) = (tree, more, record {
-    valid = still_valid (record { program = (after s path).program; shown = shown }) (mode_in (after s path)) old new keeps tree (after s path).chosen at.valid;
-    neat = at.neat;
-    shallow = at.shallow;
-  }, is, filled_still old new keeps items more so)
+  filled_still old new keeps (Lacks path ∷ items) nodes (tree, more, at, is, so) = (
+    tree,
+    more,
+    record {
+      valid = still_valid (record { program = (after s path).program; shown = shown }) (mode_in (after s path)) old new keeps tree (after s path).chosen at.valid;
+      neat = at.neat;
+      shallow = at.shallow;
+    },
+    is,
+    filled_still old new keeps items more so,
+  )
 
   -- copies after what was there
   pub more_copies : (outcomes : List Outcome) (items : List Item) (old new xs : List Node) → Filled outcomes items old → new ≡ old ++ copied_in s.mode xs → Filled outcomes (items ++ map Has xs) new
@@ -225,7 +231,7 @@ module _ (s : ProgramSketch) (shown : Shown) where
             let one = may v (first_is_here v vs) in
             let next = lawful_value (after s path) t v one.0 lawful one.1 one.2 in
             let first = tree_filled (path ++ c ∷ []) child (spell_kept_row children ++ items) nodes (subst IsLawful (sym (after_more s path c)) next) are.0
-                (subst (λ (xs : List Item). Filled outcomes xs nodes) (append_assoc (spell_kept child) (spell_kept_row children) items) so) in
+            (subst (λ (xs : List Item). Filled outcomes xs nodes) (append_assoc (spell_kept child) (spell_kept_row children) items) so) in
             let rest = row_filled path t children vs items first.others lawful (λ w here. may w (later_is_here v vs w here)) are.1 first.so in
             one_filled path c (map (choice.Value t) vs) (count_kept children) (spell_kept_row children ++ items) items nodes lawful one first rest
 

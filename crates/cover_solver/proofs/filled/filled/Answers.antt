@@ -104,7 +104,7 @@ returns-clause-tree c =
     let old = c.loop-piece.nodes.items in
     let before = subst (λ (xs : List Piece). Filled root shown outs (items_before xs) old) (take_all i kept.pieces.items past) inv.nodes in
     let whole = more_copies root shown outs (items_before kept.pieces.items) old c.push_copies-2.new.nodes.items kept.nodes.items before
-        (c.in_ok-push_copies-2.ensures ∙ ap (λ (xs : List Node). old ++ copied_in c.args.mode xs) c.deref-3.ensures.value) in
+    (c.in_ok-push_copies-2.ensures ∙ ap (λ (xs : List Node). old ++ copied_in c.args.mode xs) c.deref-3.ensures.value) in
     whole_filled p c.args.mode shown (listed c.args.outcomes.now) outs kept c.push_copies-2.new.nodes.items
     (subst IsLawful c.in_ok-empty.ensures.empty c.program.ensures.lawful) (subst (λ (s : ProgramSketch). HaveAllRegisters s.program.threads) c.in_ok-empty.ensures.empty c.program.ensures.registers)
     inv.grows.keeps c.requires.kept whole
