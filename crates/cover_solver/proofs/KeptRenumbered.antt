@@ -1,8 +1,9 @@
 -- What is kept, with other numbers for its outcomes.
-use Rattle.std.proofs.Common.{◌≡◌, ℕ, suc, ◌<◌, ◌≤◌, List, [], ◌∷◌, ◌++◌, map, length, get_or, refl, sym, ap, ◌∙◌, subst, arith}
+use Rattle.std.proofs.Common.{◌≡◌, ℕ, suc, ◌<◌, ◌≤◌, List, [], ◌∷◌, ◌++◌, ◌≢◌, ◌+◌, map, length, get_or, set, refl, sym, ap, ◌∙◌, subst, inl, inr, arith}
 use Rattle.std.specs.Prelude.{◌^◌}
 use Rattle.std.specs.FinSet as set
-use Rattle.std.proofs.lemmas.List.{map-append}
+use Rattle.std.proofs.lemmas.Bool.{cases_eq}
+use Rattle.std.proofs.lemmas.List.{map-append, get_or-set_same, get_or-set_other}
 use Rattle.std.proofs.lemmas.Option.{unwrap_or-slice_get}
 use Rattle.tso_program.specs.declared.listing.Listing.{Listing}
 use Rattle.tso_program.specs.declared.outcome.Outcome.{Outcome}
@@ -12,6 +13,7 @@ use Rattle.tso_machine.specs.declared.mode.Mode.TheVariants as modes
 use Rattle.tso_machine.specs.Machine.{SequentialMachine}
 use Rattle.candidate_executions.specs.Sketches.{empty_sketch}
 use Rattle.exec_axioms.specs.ProgramSketches.{ProgramSketch, mode_in, nothing_chosen}
+use Rattle.exec_axioms.proofs.Lookups.{same_default}
 use Rattle.cert_forest.specs.declared.node.Node.{Node}
 use Rattle.cert_forest.specs.declared.node.Node.TheVariants as node
 use Rattle.cert_forest.specs.declared.node.TheConstants.{NEAR_RUNS}
@@ -47,6 +49,25 @@ pieces_renumbered place (p ∷ ps) (q ∷ qs) same each =
     (λ i. map Has (first.nodes i) ++ Lacks (first.path i) ∷ rest i)
     ∙ ap (λ (xs : List Item). xs ++ Lacks p.path.items ∷ map (renumbered_item place) (items_before ps)) (sym (map_has place p.nodes.items))
     ∙ sym (map-append (renumbered_item place) (map Has p.nodes.items) (Lacks p.path.items ∷ items_before ps))
+
+-- one piece more has other numbers
+module _ (place : ℕ → ℕ) (old now : List Piece) (i : ℕ) (piece new : Piece) (here : i < length old) (long : length now ≡ length old) (left : (k : ℕ) (d : Piece) → i ≤ k → get_or now k d ≡ get_or old k d)
+    (at : piece ≡ get_or now i piece) (is : IsPieceRenumbered place piece new) where
+  within : i < length now
+  within = omega arith
+
+  was : (d : Piece) → get_or old i d ≡ piece
+  was d = sym (left i d (omega arith)) ∙ same_default now i d piece within ∙ sym at
+
+  pub pieces_made : ((k : ℕ) (d : Piece) → k < i → IsPieceRenumbered place (get_or old k d) (get_or now k d)) → (k : ℕ) (d : Piece) → k < i + 1 → IsPieceRenumbered place (get_or old k d) (get_or (set now i new) k d)
+  pieces_made made k d below = elim (cases_eq k i) [
+    | inl same ↦ subst (λ (j : ℕ). IsPieceRenumbered place (get_or old j d) (get_or (set now i new) j d)) (sym same)
+        (subst (λ (p : Piece). IsPieceRenumbered place p (get_or (set now i new) i d)) (sym (was d)) (subst (IsPieceRenumbered place piece) (sym (get_or-set_same now i new d within)) is))
+    | inr other ↦ subst (IsPieceRenumbered place (get_or old k d)) (sym (get_or-set_other now i k new d other)) (made k d (omega arith))
+  ]
+
+  pub pieces_left : (k : ℕ) (d : Piece) → i + 1 ≤ k → get_or (set now i new) k d ≡ get_or old k d
+  pieces_left k d above = get_or-set_other now i k new d (omega arith) ∙ left k d (omega arith)
 
 pub items_renumbered : (place : ℕ → ℕ) (old new : List Piece) (xs ys : List Node) → items_before new ≡ map (renumbered_item place) (items_before old) → ys ≡ map (renumbered_node place) xs →
     items_before new ++ map Has ys ≡ map (renumbered_item place) (items_before old ++ map Has xs)

@@ -38,7 +38,7 @@ known_number s shown outcomes end must (Some number) is = record { outcome = end
 -- where the sketch must end as an outcome of the list its leaf is put there, and else nothing is
 module _ (s : ProgramSketch) (shown : Shown) (outcomes : List Outcome) (old new : List Node) (b : Bool) where
   pub known_pushed : b ≡ true → IfKnown s shown outcomes old new b → Pushes (IsLeafAt s shown outcomes) old new
-  known_pushed yes known = subst (IfKnown s shown outcomes old new) yes known
+  known_pushed is_known known = subst (IfKnown s shown outcomes old new) is_known known
 
   pub unknown_same : b ≡ false → IfKnown s shown outcomes old new b → IsEndNotListed s shown outcomes × (new ≡ old)
-  unknown_same no known = subst (IfKnown s shown outcomes old new) no known
+  unknown_same is_not known = subst (IfKnown s shown outcomes old new) is_not known
