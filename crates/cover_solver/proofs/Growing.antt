@@ -67,6 +67,11 @@ pub stops_as : (T U : Type 0) (why : Stop) (result : Result U Stop) (P Q : Type 
 stops_as T U why (Ok made) P Q same follows part = absurd same
 stops_as T U why (Err other) P Q same follows part = subst (λ (w : Stop). OnTold {T = U} (Err w) Q) (sym same) (stopped T U why P Q follows part)
 
+-- memory stops any search
+pub memory_stops : (q : Question) (machine : Machine) (outcomes : Listed) → StopIs q machine outcomes stop.OutOfMemory
+memory_stops q machine (Closed outcomes) = tt
+memory_stops q machine (Open found of) = tt
+
 -- so for what is said of why it stops
 pub stops_for : {U : Type 0} (why : Stop) (result : Result U Stop) (Q : Stop → Type 0) → IsErrAnd result (λ other. other ≡ why) → Q why → IfErr result Q
 stops_for why (Ok made) Q same is = absurd same

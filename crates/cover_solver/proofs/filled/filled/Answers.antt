@@ -1,4 +1,4 @@
-use Rattle.std.proofs.Common.{◌≡◌, ◌<◌, ◌≤◌, List, [], ◌++◌, get_or, length, take, map, refl, sym, ap, ◌∙◌, subst}
+use Rattle.std.proofs.Common.{◌≡◌, ◌<◌, ◌≤◌, List, [], ◌++◌, get_or, length, take, map, refl, sym, ap, ◌∙◌, subst, rules}
 use Rattle.std.proofs.lemmas.List.{take_all}
 use Rattle.tso_program.specs.Shown.{asked}
 use Rattle.tso_program.specs.declared.listing.Listing.{Listing}
@@ -17,7 +17,7 @@ use Rattle.cover_solver.specs.Listed.{listed, Grows, StopIs}
 use Rattle.cover_solver.specs.Pushed.{Pushes}
 use Rattle.cover_solver.proofs.ChoicesMade.{same_program, same_machine}
 use Rattle.cover_solver.proofs.FilledNodes.{Filled, more_copies, more_pieces, whole_filled}
-use Rattle.cover_solver.proofs.Growing.{grows_none, grows_twice, stops_for}
+use Rattle.cover_solver.proofs.Growing.{grows_none, grows_twice, stops_for, memory_stops}
 use Rattle.cover_solver.proofs.HolesFilled.{LeadsToWhole, hole_leads}
 use Rattle.cover_solver.proofs.filled.filled.Goals as goal
 
@@ -37,7 +37,7 @@ choose_all-requires c =
     let at = subst (λ (xs : List Piece). item ≡ get_or xs i item) c.deref-piece-items.ensures.value c.piece-item.is in
     let lead = subst (λ (p : Piece). LeadsToWhole root p.path.items) (sym at) (hole_leads c.args.program.now c.args.mode c.args.shown.now (listed c.args.outcomes.now) c.args.kept.now i item c.requires.kept here) in
     let start : c.in_ok-sketch.sketch ≡ root = c.in_ok-sketch.ensures ∙ c.in_ok-empty.ensures.empty in
-    subst (λ (s : ProgramSketch). MayChooseAll s c.deref-2.result.now) (sym start) (subst (MayChooseAll root) (sym c.deref-2.ensures.value) lead.may)
+    subst (λ (s : ProgramSketch). MayChooseAll s c.deref-in-loop-piece.result.now) (sym start) (subst (MayChooseAll root) (sym c.deref-in-loop-piece.ensures.value) lead.may)
 
 pub cover_whole-requires-clause-whole : goal.cover_whole-requires-clause-whole
 cover_whole-requires-clause-whole c =
@@ -48,7 +48,7 @@ cover_whole-requires-clause-whole c =
     let at = subst (λ (xs : List Piece). item ≡ get_or xs i item) c.deref-piece-items.ensures.value c.piece-item.is in
     let lead = subst (λ (p : Piece). LeadsToWhole root p.path.items) (sym at) (hole_leads c.args.program.now c.args.mode c.args.shown.now (listed c.args.outcomes.now) c.args.kept.now i item c.requires.kept here) in
     let start : c.in_ok-sketch.sketch ≡ root = c.in_ok-sketch.ensures ∙ c.in_ok-empty.ensures.empty in
-    let reached : c.choose_all.new.sketch ≡ after root item.path.items = c.in_ok-choose_all.ensures ∙ (λ k. after (start k) (c.deref-2.ensures.value k)) in
+    let reached : c.choose_all.new.sketch ≡ after root item.path.items = c.in_ok-choose_all.ensures ∙ (λ k. after (start k) (c.deref-in-loop-piece.ensures.value k)) in
     subst (λ (n : ProgramSketch). IsWhole n.program (mode_in n) n.chosen) (sym reached) lead.whole
 
 pub loop-piece-preserved : goal.loop-piece-preserved
@@ -62,13 +62,14 @@ loop-piece-preserved c =
     let here = subst (λ (xs : List Piece). i < length xs) c.deref-piece-items.ensures.value c.loop-piece-test.true in
     let at = subst (λ (xs : List Piece). item ≡ get_or xs i item) c.deref-piece-items.ensures.value c.piece-item.is in
     let start : c.in_ok-sketch.sketch ≡ root = c.in_ok-sketch.ensures ∙ c.in_ok-empty.ensures.empty in
-    let reached : c.choose_all.new.sketch ≡ after root item.path.items = c.in_ok-choose_all.ensures ∙ (λ k. after (start k) (c.deref-2.ensures.value k)) in
+    let reached : c.choose_all.new.sketch ≡ after root item.path.items = c.in_ok-choose_all.ensures ∙ (λ k. after (start k) (c.deref-in-loop-piece.ensures.value k)) in
     let mid = c.loop-piece.outcomes in
     let new = c.cover_whole.new.outcomes in
     let inv = c.loop-piece.invariant in
     let grows = subst (λ (l : Listing). Grows (asked l shown) mid new) (ap (λ (s : ProgramSketch). s.program) reached ∙ same_program root item.path.items) c.in_ok-cover_whole.ensures.grows in
     let old = c.loop-piece.nodes.items in
-    let copies : c.push_copies.new.nodes.items ≡ old ++ copied_in c.args.mode item.nodes.items = c.in_ok-push_copies.ensures ∙ ap (λ (xs : List Node). old ++ copied_in c.args.mode xs) c.deref.ensures.value in
+    let own : c.mode.result ≡ c.args.mode = c.mode.ensures ∙ ap (λ (s : ProgramSketch). s.mode) c.in_ok-empty.ensures.empty in
+    let copies : c.push_copies.new.nodes.items ≡ old ++ copied_in c.args.mode item.nodes.items = c.in_ok-push_copies.ensures ∙ (λ k. old ++ copied_in (own k) (c.deref.ensures.value k)) in
     let tree = subst (λ (n : ProgramSketch). Pushes (IsCoverAt n shown (listed new)) c.push_copies.new.nodes.items c.cover_whole.new.nodes.items) reached c.in_ok-cover_whole.ensures.tree in
     record {
       grows = grows_twice (asked p shown) c.args.outcomes.now mid new inv.grows grows;
@@ -84,12 +85,15 @@ returns-in_err-cover_whole-clause-stop c =
     let root = nothing_chosen p c.args.mode in
     let path = c.piece-item.result.path.items in
     let start : c.in_ok-sketch.sketch ≡ root = c.in_ok-sketch.ensures ∙ c.in_ok-empty.ensures.empty in
-    let reached : c.choose_all.new.sketch ≡ after root path = c.in_ok-choose_all.ensures ∙ (λ k. after (start k) (c.deref-2.ensures.value k)) in
+    let reached : c.choose_all.new.sketch ≡ after root path = c.in_ok-choose_all.ensures ∙ (λ k. after (start k) (c.deref-in-loop-piece.ensures.value k)) in
     let mid = c.loop-piece.outcomes in
     let why = c.in_err-cover_whole.field-0.0 in
     let there = subst (λ (n : ProgramSketch). StopIs (asked n.program shown) (mode_in n) mid why) reached c.in_err-cover_whole.ensures.stop in
     let here = subst (λ (l : Listing). StopIs (asked l shown) (mode_in root) mid why) (same_program root path) (subst (λ (m : Machine). StopIs (asked (after root path).program shown) m mid why) (same_machine root path) there) in
     stops_for why c.from_residual-in_err-cover_whole.result (StopIs (asked p shown) (mode_in root) c.args.outcomes.now) c.from_residual-in_err-cover_whole.ensures.1 (c.loop-piece.invariant.grows.stops (mode_in root) why here)
+
+pub returns-in_err-choose_all-clause-stop : goal.returns-in_err-choose_all-clause-stop
+returns-in_err-choose_all-clause-stop c = search (rules, memory_stops)
 
 pub returns-clause-tree : goal.returns-clause-tree
 returns-clause-tree c =
@@ -103,8 +107,9 @@ returns-clause-tree c =
     let inv = c.loop-piece.invariant in
     let old = c.loop-piece.nodes.items in
     let before = subst (λ (xs : List Piece). Filled root shown outs (items_before xs) old) (take_all i kept.pieces.items past) inv.nodes in
+    let own : c.mode-2.result ≡ c.args.mode = c.mode-2.ensures ∙ ap (λ (s : ProgramSketch). s.mode) c.in_ok-empty.ensures.empty in
     let whole = more_copies root shown outs (items_before kept.pieces.items) old c.push_copies-2.new.nodes.items kept.nodes.items before
-    (c.in_ok-push_copies-2.ensures ∙ ap (λ (xs : List Node). old ++ copied_in c.args.mode xs) c.deref-3.ensures.value) in
+    (c.in_ok-push_copies-2.ensures ∙ (λ k. old ++ copied_in (own k) (c.deref-2.ensures.value k))) in
     whole_filled p c.args.mode shown (listed c.args.outcomes.now) outs kept c.push_copies-2.new.nodes.items
     (subst IsLawful c.in_ok-empty.ensures.empty c.program.ensures.lawful) (subst (λ (s : ProgramSketch). HaveAllRegisters s.program.threads) c.in_ok-empty.ensures.empty c.program.ensures.registers)
     inv.grows.keeps c.requires.kept whole
