@@ -15,7 +15,7 @@ pub kept_values-requires-clause-before : goal.kept_values-requires-clause-before
 kept_values-requires-clause-before c =
     let s = c.args.sketch.now in
     before_first s.program s.mode s c.in-Some.plan.last c.requires.first
-    (subst (λ (plan : Option Plan). MatchOption plan (IsWhole s.program (mode_in s) s.chosen) (λ plan. IsLast s plan.last)) c.in-Some.is c.in_ok-plan_for.ensures)
+    (subst (λ (plan : Option Plan). MatchOption plan (IsWhole s.program (mode_in s) s.chosen) (λ plan. IsLast s plan.last)) c.in-Some.is c.in_ok-plan.ensures)
 
 pub returns-in-Some-clause-tree : goal.returns-in-Some-clause-tree
 returns-in-Some-clause-tree c =
