@@ -4,7 +4,6 @@ use Rattle.std.specs.Prelude.{◌^◌}
 use Rattle.std.specs.FinSet as set
 use Rattle.std.proofs.lemmas.Bool.{cases_eq}
 use Rattle.std.proofs.lemmas.List.{map-append, get_or-set_same, get_or-set_other}
-use Rattle.std.proofs.lemmas.Option.{unwrap_or-slice_get}
 use Rattle.tso_program.specs.declared.listing.Listing.{Listing}
 use Rattle.tso_program.specs.declared.outcome.Outcome.{Outcome}
 use Rattle.tso_program.specs.declared.shown.Shown.{Shown}
@@ -132,10 +131,6 @@ table_kept p other shown copied known outcomes places before made same alike few
     subst (λ (l : Listing). IsKept l copied outcomes made) (sym same)
     (subst (λ (sh : Shown). IsKept p sh outcomes made) (sym alike)
     (record { tree = again.made; is = again.is; pushed = by ∙ ap (map (renumbered_item (place_in places))) is.pushed ∙ sym again.spelled }))
-
--- places have one node each
-pub small_places : (places : List ℕ) → ((n : ℕ) → get_or places n 0 < 2 ^ 32) → (n : ℕ) → place_in places n < NEAR_RUNS
-small_places places each n = subst (λ (m : ℕ). m < NEAR_RUNS) (sym (unwrap_or-slice_get places n 0)) (each n)
 
 -- the nodes of a whole tree of the sequential machine, with other numbers, spell the tree with these
 pub tree_renumbered : (p : Listing) (shown : Shown) (known : List Outcome) (place : ℕ → ℕ) → ((n : ℕ) → place n < NEAR_RUNS) → (tree : Cover) → length known ≤ NEAR_RUNS → IsWholeCover (asked p shown) SequentialMachine known tree →

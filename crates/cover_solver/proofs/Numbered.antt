@@ -1,5 +1,7 @@
 -- Outcomes by their numbers in a list that grows at its end.
-use Rattle.std.proofs.Common.{◌≡◌, ℕ, zero, suc, ◌+◌, ◌<◌, ◌≤◌, List, [], ◌∷◌, ◌++◌, Some, Contains, slice_get, get_or, length, refl, sym, ap, ◌∙◌, subst, inl, inr, arith}
+use Rattle.std.specs.Prelude.{◌^◌}
+use Rattle.cert_forest.specs.declared.node.TheConstants.{NEAR_RUNS}
+use Rattle.std.proofs.Common.{lit<, ◌≡◌, ℕ, zero, suc, ◌+◌, ◌<◌, ◌≤◌, List, [], ◌∷◌, ◌++◌, Some, Contains, slice_get, get_or, length, refl, sym, ap, ◌∙◌, subst, inl, inr, arith}
 use Rattle.std.specs.List.{AllZip, insert}
 use Rattle.std.proofs.Math.ListN.{get_or-append}
 use Rattle.std.proofs.lemmas.Bool.{cases_lt}
@@ -96,3 +98,19 @@ places_more listed outcomes places more i p o long pushed here at before n x h h
           let one : o ≡ x = same_Some o x (sym here ∙ ap (slice_get listed) (sym same) ∙ has) in
           subst (λ (m : ℕ). HasNumber outcomes m x) (sym (get_or_push places p 0 n (long ∙ sym same))) (subst (HasNumber outcomes p) one at))
     ])
+
+-- places have a node each
+pub small_places : (places : List ℕ) → ((k : ℕ) → get_or places k 0 < 2 ^ 32) → (n : ℕ) → place_in places n < NEAR_RUNS
+small_places places each n = subst (λ (m : ℕ). m < NEAR_RUNS) (sym (unwrap_or-slice_get places n 0)) (each n)
+
+pub small_push : (places more : List ℕ) (place : ℕ) → more ≡ places ++ place ∷ [] → place < 2 ^ 32 → ((k : ℕ) → get_or places k 0 < 2 ^ 32) → (k : ℕ) → get_or more k 0 < 2 ^ 32
+small_push places more place pushed small each k = subst (λ (xs : List ℕ). get_or xs k 0 < 2 ^ 32) (sym pushed) (go places each k)
+  where
+    one : (k : ℕ) → get_or (place ∷ []) k 0 < 2 ^ 32
+    one zero = small
+    one (suc k) = lit< tt
+
+    go : (xs : List ℕ) → ((k : ℕ) → get_or xs k 0 < 2 ^ 32) → (k : ℕ) → get_or (xs ++ place ∷ []) k 0 < 2 ^ 32
+    go [] each k = one k
+    go (x ∷ xs) each zero = each 0
+    go (x ∷ xs) each (suc k) = go xs (λ j. each (suc j)) k

@@ -1,4 +1,5 @@
 use Rattle.std.proofs.Common.{◌≡◌, ◌<◌, ◌≤◌, List, ℕ, map, length, get_or, refl, sym, ◌∙◌, ap, subst, arith}
+use Rattle.std.specs.Prelude.{◌^◌}
 use Rattle.std.specs.Arc.{arc_value}
 use Rattle.cert_forest.specs.declared.node.Node.{Node}
 use Rattle.cert_forest.specs.Nodes.{spell}
@@ -7,7 +8,7 @@ use Rattle.cover_solver.specs.Changed.{renumbered_node}
 use Rattle.cover_solver.specs.Found.{place_in}
 use Rattle.cover_solver.specs.Kept.{Item, items_of, renumbered_item}
 use Rattle.cover_solver.proofs.OtherNumbers.{renumbered}
-use Rattle.cover_solver.proofs.KeptRenumbered.{table_kept, small_places, tree_renumbered}
+use Rattle.cover_solver.proofs.KeptRenumbered.{table_kept, tree_renumbered}
 use Rattle.cover_solver.proofs.Tables.{table_of}
 use Rattle.cover_solver.proofs.table.sequential.Goals as goal
 
@@ -15,7 +16,7 @@ pub of_nodes-requires : goal.of_nodes-requires
 of_nodes-requires c =
     let all = c.in_ok-all.all in
     let places = c.in_ok-places.places.items in
-    let small = small_places places (λ n. c.type_inv.places n) in
+    let small = c.in_ok-places.ensures.small in
     let spelled = tree_renumbered c.args.program.now c.args.shown.now all.found.listed.items (place_in places) small all.tree c.in_ok-places.ensures.few c.in_ok-all.ensures.tree c.into_nodes-nodes.result.items c.renumber.new.nodes.items c.into_nodes-nodes.ensures
     (c.renumber.ensures ∙ ap (λ (ns : List ℕ). map (renumbered_node (place_in ns)) c.into_nodes-nodes.result.items) c.deref.ensures.value) in
     is_tree (renumbered (place_in places) all.tree) c.renumber.new.nodes.items spelled
@@ -31,10 +32,10 @@ invariant_of-result c =
     let known = all.found.listed.items in
     let outcomes = all.found.outcomes.items in
     let places = c.in_ok-places.places.items in
-    let small = small_places places (λ n. c.type_inv.places n) in
+    let small = c.in_ok-places.ensures.small in
     let spelled = tree_renumbered p shown known (place_in places) small all.tree c.in_ok-places.ensures.few is.tree c.into_nodes-nodes.result.items c.renumber.new.nodes.items c.into_nodes-nodes.ensures
     (c.renumber.ensures ∙ ap (λ (ns : List ℕ). map (renumbered_node (place_in ns)) c.into_nodes-nodes.result.items) c.deref.ensures.value) in
-    let few = (let long = all.found.outcomes.ok.0 in let within = all.found.outcomes.ok.1 in let small_items = all.found.outcomes.small in omega arith) in (
+    let few : length outcomes < 2 ^ 64 = (let long = all.found.outcomes.ok.0 in let within = all.found.outcomes.ok.1 in let small_items = all.found.outcomes.small in omega arith) in (
       table_of p copy shown copied known outcomes all.found.runs places all.tree c.of_nodes.result c.in_ok-copy.ensures c.in_ok-copy-2.ensures few
           (record { ascend = is.in_order.ascend; exact = is.exact }) is.runs is.tree c.in_ok-places.ensures.places
           (same_tree c.of_nodes.result (renumbered (place_in places) all.tree) (c.of_nodes.ensures ∙ spelled)),
@@ -52,10 +53,10 @@ returns-clause-table c =
     let known = all.found.listed.items in
     let outcomes = all.found.outcomes.items in
     let places = c.in_ok-places.places.items in
-    let small = small_places places (λ n. c.type_inv.places n) in
+    let small = c.in_ok-places.ensures.small in
     let spelled = tree_renumbered p shown known (place_in places) small all.tree c.in_ok-places.ensures.few is.tree c.into_nodes-nodes.result.items c.renumber.new.nodes.items c.into_nodes-nodes.ensures
     (c.renumber.ensures ∙ ap (λ (ns : List ℕ). map (renumbered_node (place_in ns)) c.into_nodes-nodes.result.items) c.deref.ensures.value) in
-    let few = (let long = all.found.outcomes.ok.0 in let within = all.found.outcomes.ok.1 in let small_items = all.found.outcomes.small in omega arith) in
+    let few : length outcomes < 2 ^ 64 = (let long = all.found.outcomes.ok.0 in let within = all.found.outcomes.ok.1 in let small_items = all.found.outcomes.small in omega arith) in
     table_of p c.in_ok-copy.field-0 shown c.in_ok-copy-2.field-0 known outcomes all.found.runs places all.tree c.of_nodes.result c.in_ok-copy.ensures c.in_ok-copy-2.ensures few
     (record { ascend = is.in_order.ascend; exact = is.exact }) is.runs is.tree c.in_ok-places.ensures.places
     (same_tree c.of_nodes.result (renumbered (place_in places) all.tree) (c.of_nodes.ensures ∙ spelled))

@@ -3,6 +3,7 @@ use Rattle.std.proofs.lemmas.Option.{slice_get_read, slice_get_within}
 use Rattle.tso_program.specs.declared.outcome.Outcome.{Outcome}
 use Rattle.cover_solver.specs.Ordered.{BelongsAt}
 use Rattle.cover_solver.proofs.Numbered.{push_long, not_listed, places_more}
+use Rattle.cover_solver.proofs.Numbered.{small_places, small_push}
 use Rattle.cover_solver.proofs.found.Found.places.Goals as goal
 
 pub unreachable-requires : goal.unreachable-requires
@@ -24,9 +25,13 @@ loop-outcome-preserved c =
     let there = subst (λ (xs : List Outcome). slice_get xs c.in-Ok.place ≡ Some item) c.deref.ensures.value c.in-Ok.ensures.there in (
       ap length c.in_ok-push-in-Ok.ensures.items ∙ push_long before c.in-Ok.place ∙ ap (λ (n : ℕ). n + 1) c.loop-outcome.invariant.0,
       places_more names c.args.self.now.outcomes.items before c.push.new.self.items i c.in-Ok.place item c.loop-outcome.invariant.0 c.in_ok-push-in-Ok.ensures.items (slice_get_read names (length names) i item refl below at) there c.loop-outcome.invariant.1,
+      small_push before c.push.new.self.items c.in-Ok.place c.in_ok-push-in-Ok.ensures.items (omega (arith, slice_get_within c.args.self.now.outcomes.items c.in-Ok.place item there, c.args.self.now.outcomes.ok.0)) c.loop-outcome.invariant.2,
     )
 
 pub returns-clause-places : goal.returns-clause-places
 returns-clause-places c n o has =
     let past = subst (λ (xs : List Outcome). length xs ≤ c.loop-outcome.outcome-index) c.deref-outcome-items.ensures.value c.loop-outcome-test.false in
     c.loop-outcome.invariant.1 n o (let within = slice_get_within c.args.self.now.listed.items n o has in omega arith) has
+
+pub returns-clause-small : goal.returns-clause-small
+returns-clause-small c n = small_places c.loop-outcome.places.items c.loop-outcome.invariant.2 n
