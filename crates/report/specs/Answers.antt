@@ -6,6 +6,8 @@ use Rattle.tso_program.specs.declared.listing.Listing.{Listing}
 use Rattle.tso_program.specs.declared.outcome.Outcome.{Outcome}
 use Rattle.tso_program.specs.declared.shown.Shown.{Shown}
 use Rattle.tso_program.specs.declared.shown.Shown.TheVariants.{All, Only, Truth}
+use Rattle.tso_machine.specs.declared.label.Label.{Label}
+use Rattle.tso_machine.specs.RunTexts.{run_text}
 use Rattle.litmus_reader.specs.Names.{TextNames}
 use Rattle.litmus_reader.specs.Outcomes.{outcome_text}
 use Rattle.report.specs.Places.{gap_text, gaps_text}
@@ -14,6 +16,10 @@ use Rattle.report.specs.Places.{gap_text, gaps_text}
 abbrev pub after_space : List ℕ → List ℕ
 after_space [] = []
 after_space (b ∷ bs) = 32 ∷ b ∷ bs
+
+-- the labels of a run
+abbrev pub labels_line : List Label → List ℕ
+labels_line labels = codes "run " ++ run_text labels ++ 10 ∷ []
 
 abbrev pub outcome_line : TextNames → Shown → Outcome → List ℕ
 outcome_line names shown outcome = codes "outcome:" ++ after_space (outcome_text names shown outcome) ++ 10 ∷ []

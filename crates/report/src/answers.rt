@@ -1,13 +1,24 @@
 //! The lines of runs and of answers.
 
 ghost use Rattle.std.specs.Prelude.{◌≡◌, IfOk, codes};
-ghost use Rattle.report.specs.Answers.{outcome_line, passed_line, without_line, shown_word, set_line, answer_line};
+ghost use Rattle.report.specs.Answers.{labels_line, outcome_line, passed_line, without_line, shown_word, set_line, answer_line};
 
 use crate::places::{push_gap, push_gaps};
 use gap_sets::GapSet;
 use litmus_reader::{NameTable, write_outcome};
 use std::alloc::{AllocError, Global};
+use tso_machine::{Label, write_run};
 use tso_program::{Outcome, Program, Shown};
+
+/// The labels of a run.
+pub fn labels_line(alloc: Global, labels: &[Label]) -> Result<Vec<u8>, AllocError>
+    ensures { IfOk result (λ line. line.items ≡ labels_line labels.now) }
+{
+    let mut line = Vec::from_slice(alloc, b"run ")?;
+    line.extend_from_slice(&write_run(alloc, labels)?)?;
+    line.push(b'\n')?;
+    Ok(line)
+}
 
 /// What a run leaves in the registers that the litmus text names and in all locations, as far as it is
 /// shown.

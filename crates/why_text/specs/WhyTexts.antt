@@ -15,20 +15,15 @@ use Rattle.tso_machine.specs.declared.label.Label.{Label}
 use Rattle.tso_machine.specs.Machine.{StoreBufferMachine, no_gaps, IsRun}
 use Rattle.tso_machine.specs.Modes.{ArePassed}
 use Rattle.tso_machine.specs.Outcomes.{IsForeignRun, IsShownRun, IsTheAnswer}
-use Rattle.tso_machine.specs.RunTexts.{run_text}
 use Rattle.tso_program.specs.Truth.{truth}
 use Rattle.litmus_reader.specs.declared.litmus.Litmus.{Litmus}
 use Rattle.litmus_reader.specs.Texts.{IsLitmus}
 use Rattle.litmus_reader.specs.Shown.{shown_as, question_of}
 use Rattle.cost_text.specs.GivenCosts.{AreGiven}
-use Rattle.report.specs.Answers.{answer_line, outcome_line, passed_line, without_line}
+use Rattle.report.specs.Answers.{answer_line, labels_line, outcome_line, passed_line, without_line}
 use Rattle.documents.specs.declared.run.Setting.TheVariants.{Without}
 use Rattle.documents.specs.Documents.{IsWhyDocument}
 use Rattle.documents.specs.Runs.{TellsRun}
-
--- the labels of a run
-abbrev pub labels_line : List Label → List ℕ
-labels_line labels = codes "run " ++ run_text labels ++ 10 ∷ []
 
 -- what is said of an outcome that no sequential run has, and of an answer without a gap
 abbrev pub is_foreign : List ℕ

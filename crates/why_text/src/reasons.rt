@@ -9,19 +9,19 @@ ghost use Rattle.tso_machine.specs.Outcomes.{IsReplayOf, IsTheAnswer};
 ghost use Rattle.cover_solver.specs.Facts as facts;
 ghost use Rattle.cover_solver.specs.Verdicts.{PassesNoneOf};
 ghost use Rattle.tso_program.specs.Listings.{gap_count};
-ghost use Rattle.report.specs.Answers.{without_line};
-ghost use Rattle.why_text.specs.WhyTexts.{labels_line, is_foreign, met_line, alone_line, foreign_lines, printed_of, ending_text, IsReasonText, IsReason};
+ghost use Rattle.report.specs.Answers.{labels_line, without_line};
+ghost use Rattle.why_text.specs.WhyTexts.{is_foreign, met_line, alone_line, foreign_lines, printed_of, ending_text, IsReasonText, IsReason};
 
 use cover_solver::{ForeignRun, Oracle, Solver, Verdict};
 use documents::{Setting, run_value};
 use gap_sets::{Costs, GapSet};
 use json_text::JsonText;
 use litmus_text::{Litmus, holds};
-use report::{outcome_line, passed_line, without_line};
+use report::{labels_line, outcome_line, passed_line, without_line};
 use run_graph::RunGraph;
 use run_table::run_table;
 use std::alloc::{AllocError, Global};
-use tso_machine::{Ended, Label, Model, Step, replay_shown, steps, write_run};
+use tso_machine::{Ended, Label, Model, Step, replay_shown, steps};
 use tso_program::{Program, Shown};
 
 /// Why a gap is needed.
@@ -55,16 +55,6 @@ pub(crate) fn run_without(
         Ok(Verdict::Serves(_)) => unreachable!(),
         Err(_) => Err(AllocError),
     }
-}
-
-/// `run e0 f0` and the like
-fn labels_line(alloc: Global, labels: &[Label]) -> Result<Vec<u8>, AllocError>
-    ensures { IfOk result (λ line. line.items ≡ labels_line labels.now) }
-{
-    let mut line = Vec::from_slice(alloc, b"run ")?;
-    line.extend_from_slice(&write_run(alloc, labels)?)?;
-    line.push(b'\n')?;
-    Ok(line)
 }
 
 /// Adds a run to a graph, under the gap that it needs.
