@@ -11,11 +11,11 @@ use Rattle.cover_solver.proofs.Nodes.{cover_first}
 use Rattle.cover_solver.proofs.all_outcomes.cover_all.Goals as goal
 
 pub filled-requires-clause-kept : goal.filled-requires-clause-kept
-filled-requires-clause-kept c =
+filled-requires-clause-kept g c =
     subst (λ (n : ProgramSketch). IsKeptAt (unfenced n) c.args.shown.now (listed c.args.outcomes.now) (kept c.args.tree.now)) (sym c.in_ok-sketch.ensures.empty) c.requires.kept
 
 pub returns-clause-tree : goal.returns-clause-tree
-returns-clause-tree c =
+returns-clause-tree g c =
     let p = c.args.program.now in
     let shown = c.args.shown.now in
     let outcomes = listed c.filled.new.outcomes in

@@ -28,7 +28,7 @@ use Rattle.cover_solver.proofs.TraceTrees.{get_mapped}
 use Rattle.cover_solver.proofs.filled.+filled.Goals as goal
 
 pub filled-choices_of-requires : goal.filled-choices_of-requires
-filled-choices_of-requires t c =
+filled-choices_of-requires g t c =
     let s = c.args.sketch.now in
     let is : kept c.args.tree.now ≡ Values c.in-Values.thread (kept_of (map kept c.in-Values.children.items)) = search (rules, views.the_lemmas, fold-roll-KeptTree KeptCover kept_node, fold_out-KeptTree KeptCover kept_node) in
     let at = subst (IsKeptAt (unfenced s) c.args.shown.now (listed c.args.outcomes.now)) is c.requires.kept in
@@ -36,7 +36,7 @@ filled-choices_of-requires t c =
     next_is_open s c.in-Values.thread own.values own.next
 
 pub filled-filled_each-requires : goal.filled-filled_each-requires
-filled-filled_each-requires t c =
+filled-filled_each-requires g t c κs within =
     let s = c.args.sketch.now in
     let shown = c.args.shown.now in
     let outcomes = listed c.args.outcomes.now in
@@ -49,30 +49,33 @@ filled-filled_each-requires t c =
     let after = subst (AreKeptAfter (unfenced s) shown outcomes (kept_of (map kept children))) same at.2 in (
       omega arith,
       (
-        c.requires.in_order,
+        within,
         (
-          ap length c.deref.ensures.value ∙ sym (length-map children kept) ∙ as_many_kept (unfenced s) shown outcomes (map kept children) choices after ∙ sym (ap length c.deref-in-Values.ensures.value),
+          c.requires.in_order,
           (
-            subst (MayChooseEach s) (sym c.deref-in-Values.ensures.value) c.in_ok-choices-in-Values.ensures.may,
-            subst (λ (cs : List Choice). AreKeptAfter (unfenced s) shown outcomes (kept_of (map kept c.deref.result.now)) cs) (sym c.deref-in-Values.ensures.value)
-                (subst (λ (ks : List KeptTree). AreKeptAfter (unfenced s) shown outcomes (kept_of (map kept ks)) choices) (sym c.deref.ensures.value) after),
+            ap length c.deref.ensures.value ∙ sym (length-map children kept) ∙ as_many_kept (unfenced s) shown outcomes (map kept children) choices after ∙ sym (ap length c.deref-in-Values.ensures.value),
+            (
+              subst (MayChooseEach s) (sym c.deref-in-Values.ensures.value) c.in_ok-choices-in-Values.ensures.may,
+              subst (λ (cs : List Choice). AreKeptAfter (unfenced s) shown outcomes (kept_of (map kept c.deref.result.now)) cs) (sym c.deref-in-Values.ensures.value)
+                  (subst (λ (ks : List KeptTree). AreKeptAfter (unfenced s) shown outcomes (kept_of (map kept ks)) choices) (sym c.deref.ensures.value) after),
+            ),
           ),
         ),
       ),
     )
 
 pub filled-cover_whole-requires-clause-whole : goal.filled-cover_whole-requires-clause-whole
-filled-cover_whole-requires-clause-whole t c =
+filled-cover_whole-requires-clause-whole g t c =
     let s = c.args.sketch.now in
     let is : kept c.args.tree.now ≡ Hole = search (rules, views.the_lemmas, fold-roll-KeptTree KeptCover kept_node, fold_out-KeptTree KeptCover kept_node) in
     let at = subst (IsKeptAt (unfenced s) c.args.shown.now (listed c.args.outcomes.now)) is c.requires.kept in
     subst (λ (n : ProgramSketch). IsWhole n.program (mode_in n) n.chosen) (sym c.in_ok-copy-in-Hole.ensures) (kept_whole s at)
 
 pub filled-returns-in_ok-copy_in-in-Closed-clause-grows : goal.filled-returns-in_ok-copy_in-in-Closed-clause-grows
-filled-returns-in_ok-copy_in-in-Closed-clause-grows t c = grows_none (asked c.args.sketch.now.program c.args.shown.now) c.args.outcomes.now c.requires.in_order
+filled-returns-in_ok-copy_in-in-Closed-clause-grows g t c = grows_none (asked c.args.sketch.now.program c.args.shown.now) c.args.outcomes.now c.requires.in_order
 
 pub filled-returns-in_ok-copy_in-in-Closed-clause-tree : goal.filled-returns-in_ok-copy_in-in-Closed-clause-tree
-filled-returns-in_ok-copy_in-in-Closed-clause-tree t c =
+filled-returns-in_ok-copy_in-in-Closed-clause-tree g t c =
     let s = c.args.sketch.now in
     let shown = c.args.shown.now in
     let outcomes = listed c.args.outcomes.now in
@@ -83,7 +86,7 @@ filled-returns-in_ok-copy_in-in-Closed-clause-tree t c =
     subst (IsCoverAt s shown outcomes) (sym same) (kept_cover s shown outcomes tree at)
 
 pub filled-returns-in_ok-node_over-in-Values-clause-tree : goal.filled-returns-in_ok-node_over-in-Values-clause-tree
-filled-returns-in_ok-node_over-in-Values-clause-tree t c =
+filled-returns-in_ok-node_over-in-Values-clause-tree g t c =
     let s = c.args.sketch.now in
     let shown = c.args.shown.now in
     let outcomes = listed c.filled_each.new.outcomes in
@@ -95,7 +98,7 @@ filled-returns-in_ok-node_over-in-Values-clause-tree t c =
     (node_cover s shown outcomes c.program.ensures.lawful (left.Value c.in-Values.thread) choices trees c.program.ensures.registers (next_is_open s c.in-Values.thread have.values have.next) have are)
 
 pub filled_each-loop-i-init : goal.filled_each-loop-i-init
-filled_each-loop-i-init t c =
+filled_each-loop-i-init g t c =
     let s = c.args.sketch.now in
     let shown = c.args.shown.now in
     let outcomes = c.args.outcomes.now in (
@@ -104,7 +107,7 @@ filled_each-loop-i-init t c =
     )
 
 pub filled_each-filled-requires : goal.filled_each-filled-requires
-filled_each-filled-requires t c =
+filled_each-filled-requires g t c κs within =
     let s = c.args.sketch.now in
     let shown = c.args.shown.now in
     let i = c.loop-i.i in
@@ -120,14 +123,17 @@ filled_each-filled-requires t c =
     let at = kept_at (unfenced s) shown (listed c.loop-i.outcomes) (map kept trees) choices i d (kept item) after c.loop-i-test.true in (
       omega (arith, fewer_rounds s next ch c.program.ensures.lawful c.program.ensures.few (c.requires.may.each i d c.loop-i-test.true) c.in_ok-next.ensures),
       (
-        c.loop-i.invariant.0.in_order,
-        subst (λ (n : ProgramSketch). IsKeptAt (unfenced n) shown (listed c.loop-i.outcomes) (kept c.index-trees-i.result)) (sym c.in_ok-next.ensures)
-            (subst (IsKeptAt (unfenced (with_chosen s (sketch_with s.chosen ch))) shown (listed c.loop-i.outcomes)) (get_mapped kept trees i (kept item) item here ∙ ap kept (sym c.index-trees-i.is)) at),
+        within,
+        (
+          c.loop-i.invariant.0.in_order,
+          subst (λ (n : ProgramSketch). IsKeptAt (unfenced n) shown (listed c.loop-i.outcomes) (kept c.index-trees-i.result)) (sym c.in_ok-next.ensures)
+              (subst (IsKeptAt (unfenced (with_chosen s (sketch_with s.chosen ch))) shown (listed c.loop-i.outcomes)) (get_mapped kept trees i (kept item) item here ∙ ap kept (sym c.index-trees-i.is)) at),
+        ),
       ),
     )
 
 pub filled_each-loop-i-preserved : goal.filled_each-loop-i-preserved
-filled_each-loop-i-preserved t c =
+filled_each-loop-i-preserved g t c =
     let s = c.args.sketch.now in
     let shown = c.args.shown.now in
     let mid = c.loop-i.outcomes in
