@@ -182,7 +182,7 @@ pub fn progress_arg<'a>(alloc: Global) -> Arg<'a>
     flag_arg(
         alloc,
         "progress",
-        "Report on standard error how far it is, as long searches do on a terminal",
+        "Report progress on standard error, as long searches do on a terminal",
     )
 }
 
