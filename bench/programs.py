@@ -40,6 +40,23 @@ def mixed(seed, shape, locations):
     return [[one(place) for place in range(shape[1])] for _ in range(shape[0])]
 
 
+def exchanging(seed, shape, locations):
+    """Threads of so many accesses, and first values of a third of the locations: of ten accesses one is a locked exchange and one stores a
+    register, and the others are loads and stores of 1 or 2."""
+    random = numbers(seed)
+
+    def one():
+        location, register, kind = one_of(random, locations), one_of(random, REGISTERS), next(random) % 10
+        if kind == 0:
+            return f"XCHG [{location}],{register}"
+        if kind == 1:
+            return f"MOV [{location}],{register}"
+        return f"MOV {register},[{location}]" if kind % 2 == 0 else f"MOV [{location}],${one_of(random, '12')}"
+
+    threads = [[one() for _ in range(shape[1])] for _ in range(shape[0])]
+    return threads, [f"{location}={one_of(random, '12')}" for location in locations if next(random) % 3 == 0]
+
+
 def one_of(random, values):
     return values[next(random) % len(values)]
 

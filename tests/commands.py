@@ -73,6 +73,8 @@ def is_printed(folder, words, wanted, found):
 def is_written(folder, words, wanted, text):
     if wanted == "@program":
         return text == folder.run("fencer", without_options(words))[1].split(b"\n", 1)[1]
+    if not wanted.startswith("@"):
+        return text == wanted.replace("\\n", "\n").encode()
     with tempfile.NamedTemporaryFile() as file:
         file.write(text)
         file.flush()

@@ -3,6 +3,7 @@
 A document is read by Python's json. `differences` names what a document and the text of the same command say differently; the
 examples of docs/formats.md are compared byte for byte with what the program prints (`examples`).
 """
+import itertools
 import json
 import os
 import re
@@ -17,6 +18,7 @@ FIELDS = {
     "place": [*PROGRAM, "gaps", "answer", "fenced"],
     "trace": [*PROGRAM, "run"],
     "outcomes": [*PROGRAM, "model", "observed", "outcomes", "observation", "holds"],
+    "witness": [*PROGRAM, "model", "fences", "meets_condition", "run"],
 }
 RUN = ["steps", "outcome", "meets_condition", "passed", "execution"]
 STEP = ["label", "instruction", "reads", "stores", "reaches", "buffer", "memory", "registers"]
@@ -29,6 +31,7 @@ ALONE = {
     True: "This run meets the condition's formula, and no sequential run does.",
     False: "This run does not meet the condition's formula, and each sequential run does.",
 }
+NO_RUN = {True: "No run meets the condition.\n", False: "Every run meets the condition.\n"}
 EXAMPLE = re.compile(r"^    \$ \./fencer (.* --json .*)\n    (\{.*\})\n", re.M)
 
 
@@ -168,16 +171,29 @@ def trace_differs(document, text, dot):
     return run_differs(document, document["run"], "model", table, outcome, passed) or graph_differs(document["run"], drawn)
 
 
+def witness_differs(document, text, dot):
+    run = document["run"]
+    if run is None:
+        return text != NO_RUN[document["meets_condition"]] or list(graphs.read(dot)) != []
+    labels, rest = text.split("\n", 1)
+    told = run["meets_condition"] == document["meets_condition"] and run["model"] == document["model"]
+    fenced = set(run["passed"]) & set(document["fences"])
+    return not told or fenced or labels.split() != ["run", *(step["label"] for step in run["steps"])] or trace_differs(document, rest, dot)
+
+
 def outcomes_differ(document, text):
-    lines = [f"outcomes {len(document['outcomes'])}", *map(outcome_line, document["outcomes"])]
+    lines = [f"outcomes {len(document['outcomes'])}"]
+    for outcome, labels in itertools.zip_longest(document["outcomes"], document.get("runs", [])):
+        lines += [outcome_line(outcome or []), *([] if labels is None else [" ".join(["run", *labels])])]
     lines += [f"observation {document['observation']}", f"condition {'holds' if document['holds'] else 'fails'}", ""]
     return text != "\n".join(lines)
 
 
-def differs(printed, command, text, canonical, dot=None):
+def differs(printed, command, text, canonical, dot=None, fences=None):
     """Whether a command's document says other things than its text, the program's canonical text and the graph of its runs."""
     document = read(printed)
-    if document is None or list(document) != FIELDS[command] or document["format"] != FORMAT or document["command"] != command:
+    fields = [*FIELDS[command], *(["runs"] if command == "outcomes" and "\nrun" in text else [])]
+    if document is None or list(document) != fields or document["format"] != FORMAT or document["command"] != command:
         return True
     if program_differs(document, canonical):
         return True
@@ -185,6 +201,8 @@ def differs(printed, command, text, canonical, dot=None):
         return why_differs(document, text, dot)
     if command == "trace":
         return trace_differs(document, text, dot)
+    if command == "witness":
+        return document["fences"] != (fences or []) or witness_differs(document, text, dot)
     if command == "outcomes":
         return outcomes_differ(document, text)
     line, fenced = text.split("\n", 1)

@@ -68,7 +68,7 @@ def table_cases(tell, programs):
         programs_in(folder, programs)
         rows = [line for line in lines_of(os.path.join(TOP, "examples", "README.md")) if line.startswith("| ")]
         for row in rows:
-            words = [span for span in spans(row) if re.match(r"(place|replay|outcomes|trace|why) .*\.litmus|examples/\S+ ", span)]
+            words = [span for span in spans(row) if re.match(r"(place|replay|outcomes|trace|why|witness) .*\.litmus|examples/\S+ ", span)]
             wanted = [span for span in spans(row) if span not in words and span.startswith(PRINTED)]
             for command in words:
                 program = "./fencecheck" if command.startswith("examples/") else "./fencer"

@@ -115,8 +115,8 @@ def run_in_turn(test, model):
     return labels + [f"f{t}" for t, thread in enumerate(threads) for _ in thread[3]]
 
 
-def end_of(test, labels, gaps):
-    """The outcome of a run in the model `buffered` with the gaps with these numbers fenced; nothing where a step isn't possible there or the run hasn't ended."""
+def end_of(test, labels, gaps, model="buffered"):
+    """The outcome of a run, in the model `buffered` with the gaps with these numbers fenced; nothing where a step isn't possible there or the run hasn't ended."""
     fenced = {place for gap, place in enumerate(test.gaps()) if gap in gaps}
     threads, memory = tuple((0, False, registers, ()) for registers in test.registers), test.memory
     for label in labels:
@@ -129,7 +129,7 @@ def end_of(test, labels, gaps):
         else:
             if place == len(test.code[t]) or waiting and (t, place) in fenced:
                 return None
-            after = executed(test.code[t][place], threads[t], memory, True)
+            after = executed(test.code[t][place], threads[t], memory, model == "buffered")
             if after is None:
                 return None
             threads, memory = put(threads, t, after[0]), after[1]

@@ -16,6 +16,7 @@ COMPLETED = {
     "fencer --ver": {"--version"},
     "fencer place --cer": {"--certificate"},
     "fencer outcomes --model s": {"sequential"},
+    "fencer outcomes --ru": {"--runs"},
     "fencer place examples/S": {"examples/SB.litmus"},
     "fencer place exam": {"examples"},
 }

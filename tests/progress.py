@@ -4,6 +4,7 @@ The combinations of traces are worked out here alone, from the program that a do
 """
 import functools
 import glob
+import itertools
 import json
 import os
 import pty
@@ -18,7 +19,21 @@ MOST_TRACES = 10_000_000
 MOST_CERTIFIED = 100_000_000
 LONG = 1_000_000
 WARNING = "fencer: warning: with more than 100000000 combinations the search may end without an answer or a certificate"
+DONE = re.compile(r"fencer: (\d+) % of the combinations are done")
 ASKED = re.compile(r"fencer: sets asked: (\d+)(?:; the answer costs at least (\d+))?")
+# threads whose traces have unlike lengths, so that a value of one read leaves more combinations than another
+JUMPS = """X86 jumps
+{ }
+ P0          | P1          | P2          ;
+ MOV [x],$1  | MOV [y],$1  | MOV [x],$2  ;
+ MOV EAX,[y] | MOV EAX,[x] | MOV EAX,[y] ;
+ CMP EAX,$1  | CMP EAX,$2  | MOV EBX,[x] ;
+ JE end      | JE end      | MOV [y],$2  ;
+ MOV EBX,[x] | MOV EBX,[y] | MOV ECX,[x] ;
+ MOV ECX,[y] | MOV ECX,[x] |             ;
+ end:        | end:        |             ;
+exists (x=1)
+"""
 EXAMPLES = [os.path.join(TOP, "examples", name + ".litmus") for name in ("SB", "MP", "R", "2+2W", "IRIW", "n6", "nothing")]
 
 
@@ -92,6 +107,15 @@ def ahead(program):
     return [f"fencer: combinations of traces: {count}", *([WARNING] if count > MOST_CERTIFIED else [])]
 
 
+def shares(said, combinations):
+    """The lines at the front that say how many per cent are done, and the others. Whether they ascend, none of them twice, and end at 100; a search of
+    few combinations may only report a share that a whole number of them is."""
+    done = list(itertools.takewhile(bool, (DONE.fullmatch(line) for line in said)))
+    shares = [int(line[1]) for line in done]
+    possible = {100 * count // combinations for count in range(1, combinations + 1)} if combinations < 10_000 else set(range(101))
+    return shares == sorted(set(shares)) and shares[-1:] == [100] and set(shares) <= possible - {0}, said[len(done):]
+
+
 def ran(program, words, **more):
     """The status of a call, what it prints, and the lines on standard error."""
     call = subprocess.run([program, *words], stdout=subprocess.PIPE, stderr=more.pop("stderr", subprocess.PIPE), timeout=120, **more)
@@ -114,7 +138,8 @@ def check_search(said, sequential, cost, bounded):
 
 def search_cases(tell, fencer, path):
     """What is reported of one file, by each command."""
-    name, lines = os.path.basename(path), ahead(read_program(fencer, path))
+    name, program = os.path.basename(path), read_program(fencer, path)
+    lines = ahead(program)
     sequential = int(ran(fencer, ["outcomes", "--model", "sequential", path])[0][1].split()[1])
     for command in (["outcomes"], ["outcomes", "--observed", "--check", "--json"], ["place"], ["place", "--workers", "4"], ["place", "--json", "--check"], ["why"]):
         plain, silent = ran(fencer, [*command, path])
@@ -122,12 +147,30 @@ def search_cases(tell, fencer, path):
         what = f"progress of {' '.join(command)} {name}"
         tell(f"{what}: the answer is the same", (found, silent) == (plain, []), (found, silent))
         tell(f"{what}: what lies ahead", said[:len(lines)] == lines, f"wanted {lines}\n  found  {said}")
-        rest = said[len(lines):]
+        right, rest = shares(said[len(lines):], program.combinations())
+        tell(f"{what}: the share that is done", right, said)
         if command[0] == "outcomes":
             tell(f"{what}: nothing else", rest == [], rest)
         elif "--json" not in command:
             cost = int(re.match(rb"answer cost (\d+)", plain[1])[1])
             tell(f"{what}: the search", check_search(rest, sequential, cost, "4" not in command), rest)
+
+
+def share_cases(tell, fencer):
+    """The share that is done where some values settle the outcome long before all reads have theirs."""
+    for name, text in (("jumps", JUMPS), ("reads", reads(5, 5, 5)), ("one thread", reads(12))):
+        with tempfile.TemporaryDirectory() as folder:
+            path = os.path.join(folder, "made.litmus")
+            with open(path, "w", encoding="ascii") as file:
+                file.write(text)
+            program = read_program(fencer, path)
+            lines = ahead(program)
+            for command in (["outcomes"], ["outcomes", "--observed"], ["outcomes", "--model", "sequential"], ["place", "--observed"], ["place", "--condition"], ["why", "--condition"]):
+                plain, silent = ran(fencer, [*command, path])
+                found, said = ran(fencer, [*command, "--progress", path])
+                right, rest = shares(said[len(lines):], program.combinations())
+                what = f"the share of {name} that is done by {' '.join(command)}"
+                tell(what, (found, silent, said[:len(lines)]) == (plain, [], lines) and right and not any(DONE.fullmatch(line) for line in rest), said)
 
 
 def lost_cases(tell, fencer):
@@ -171,7 +214,8 @@ def terminal_cases(tell, fencer):
             file.write(reads(10, 10))
         lines = ahead(read_program(fencer, path))
         printed, said = on_terminal(fencer, ["outcomes", path])
-        tell("a long search is reported on a terminal", said == lines and printed == ran(fencer, ["outcomes", path])[0][1], said)
+        right, rest = shares(said[len(lines):], 2**20)
+        tell("a long search is reported on a terminal", said[:len(lines)] == lines and right and rest == [] and printed == ran(fencer, ["outcomes", path])[0][1], said)
 
 
 def reads(*threads):
@@ -201,6 +245,7 @@ def cases(tell, programs):
     fencer = programs["fencer"]
     for path in [*EXAMPLES, *sorted(glob.glob(os.path.join(TOP, "examples", "atlas", "Pet*.litmus")))]:
         search_cases(tell, fencer, path)
+    share_cases(tell, fencer)
     lost_cases(tell, fencer)
     terminal_cases(tell, fencer)
     endless_cases(tell, fencer)

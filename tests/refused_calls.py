@@ -7,6 +7,7 @@ import re
 import tempfile
 from concurrent.futures import ThreadPoolExecutor
 
+import documents
 from harness import FENCECHECK, FENCER, HERE, TEST_CALLS, TOP, bytes_of, called, example, expect, failing_in_turn, lines, preloaded, run, tell, watched
 
 MOST_ALLOCATIONS = 50_000
@@ -56,8 +57,21 @@ def lawful_lines(*told):
     return [(1, b""), *((1, f"refused {line}\n".encode()) for line in ("file 1 Read", "litmus 12 OutOfMemory", *told))]
 
 
+class RefusalDocuments:
+    """What a program may answer with `--json` where memory is refused: nothing, or the document of one of these lines."""
+
+    def __init__(self, lawful):
+        self.lawful = lawful
+
+    def __contains__(self, found):
+        status, text = found
+        document = documents.read(text)
+        line = f"refused {document['refused']}\n".encode() if document and "refused" in document else text
+        return (status, line) in self.lawful
+
+
 def replay_cases(library):
-    """A replay, its table, a replay that is refused, and lists of outcomes."""
+    """A replay, its table, a replay that is refused, lists of outcomes, and runs that are sought."""
     lawful = lawful_lines("run 2 OutOfMemory", "replay 6 OutOfMemory")
     given, labels = example("SB.litmus"), ["-", "e0", "e1", "e0", "e1", "f0", "f1"]
     right = (0, b"outcome: 0:EAX=0; 1:EAX=0; x=1; y=1;\npassed 0:1 1:1\n")
@@ -66,11 +80,21 @@ def replay_cases(library):
     right = (1, b"refused replay 2 AtEnd step 2\n")
     refused_allocations(library, "a refusal", ["replay", "-", "e0", "e0", "e0"], given, right, lawful)
     lawful = lawful_lines("solve 2 OutOfMemory")
-    for test, words in (("SB", ["outcomes", "-"]), ("n6", ["outcomes", "--observed", "-"]), ("SB", ["outcomes", "--progress", "-"])):
+    for test, words in (
+        ("SB", ["outcomes", "-"]), ("n6", ["outcomes", "--observed", "-"]), ("SB", ["outcomes", "--progress", "-"]),
+        ("SB", ["outcomes", "--runs", "-"]), ("n6", ["outcomes", "--runs", "--json", "--observed", "-"]),
+    ):
         given = example(test + ".litmus")
         right = run(words, given)
         tell(f"the outcomes of {test}", right[0] == 0, right)
-        refused_allocations(library, f"the outcomes of {test}", words, given, right, lawful)
+        refused_allocations(library, f"the outcomes of {test}", words, given, right, RefusalDocuments(lawful) if "--json" in words else lawful)
+    for test, options in (("SB", ["--fences", "0:1"]), ("SB", ["--fences", "0:1,1:1"]), ("n6", ["--not"])):
+        given, words = example(test + ".litmus"), ["witness", *options, "-"]
+        right = run(words, given)
+        tell(f"a run of {test} that is sought", right[0] == 0, right)
+        refused_allocations(library, f"a run of {test} that is sought, {options}", words, given, right, lawful)
+    given, right = example("SB.litmus"), (1, b"refused fences 1 NoSuchGap 0:2\n")
+    refused_allocations(library, "a fence at no gap", ["witness", "--fences", "0:2", "-"], given, right, lawful)
 
 
 PLACED_LAWFULLY = lawful_lines("costs 5 OutOfMemory", "place 5 OutOfMemory", "file 2 Write")

@@ -55,7 +55,7 @@ while [ "$1" != -o ]; do shift; done
 cp "$PROGRAM" "$2"
 '''
 WHY = "{0}: unproved, since the proved build is {1}; ./build makes it in half an hour to an hour on 4 processors\n"
-MADE = "{0}: the unproved build takes a minute or two, and is kept until the sources change\n"
+MADE = "{0}: the unproved build takes a minute or two on an idle machine, and is kept until the sources change\n"
 STAGES = "{0}: translates the sources\n"
 
 

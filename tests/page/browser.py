@@ -13,6 +13,7 @@ WORDS = ("--headless=new", "--no-sandbox", "--disable-gpu", "--remote-debugging-
          "--disable-background-networking", "--disable-component-update", "--host-resolver-rules=MAP * ~NOTFOUND")
 KEYS = {"ArrowRight": 39, "ArrowLeft": 37, "Home": 36, "End": 35}
 LOADING = 60
+NOT_LOADED = "not loaded: "
 
 
 def program():
@@ -84,7 +85,7 @@ class Browser:
         end = time.time() + LOADING
         while not self.evaluate("document.readyState === 'complete' && location.protocol === 'file:'"):
             if time.time() > end:
-                raise RuntimeError("not loaded: " + path)
+                raise RuntimeError(NOT_LOADED + path)
             time.sleep(0.01)
 
     def key(self, key):

@@ -242,18 +242,18 @@ def condition_words(document, meets):
         ("forall", True): "The file's condition, ",
         ("forall", False): "It breaks the file's condition: ",
     }[quantifier, meets] + document["condition"]
-    ends = ". Sequential runs may do so too, with other final values." if meets == (quantifier != "forall") else ""
+    ends = ". The command fencer outcomes --model sequential says whether a sequential run does so too." if meets == (quantifier != "forall") else ""
     return begins + ends
 
 
 def check_run(run, page):
     """What is shown once for a run."""
     document, where = run.document, run.where
-    gaps = document["answer"]["set"] if run.gap else []
+    gaps = document["answer"]["set"] if run.gap else document.get("fences", [])
     cost = {gap["gap"]: gap["cost"] for gap in document.get("gaps", [])}
     tabs = [[f"without the fence {place_words(document, gap)} ({gap})", "true" if gap == run.gap else "false", 0 if gap == run.gap else -1] for gap in gaps]
-    same(page["tabs"], tabs, where + ": tabs")
-    fences = [[gap, f"MFENCE {'left out, ' if gap == run.gap else ''}cost {cost[gap]}", gap == run.gap, gap] for gap in gaps]
+    same(page["tabs"], tabs if run.gap else [], where + ": tabs")
+    fences = [[gap, f"MFENCE{' left out,' if gap == run.gap else ''}{f' cost {cost[gap]}' if cost else ''}", gap == run.gap, gap] for gap in gaps]
     same(page["fences"], fences, where + ": fences, each before its instruction")
     same(page["programs"], programs(document), where + ": program")
     same((page["heads"], page["rows"]), (HEADS, list(rows(run))), where + ": table")
@@ -414,11 +414,36 @@ def check_no_fence(browser, document):
     right(f"The file's condition: {document['condition']}" in page["text"], "condition")
 
 
+def machine_words(document):
+    """The machine of a run that is sought, with its fences."""
+    machine = "on the machine with store buffers" if document["model"] == "buffered" else "on the sequential machine"
+    places = [place_words(document, gap) for gap in document["fences"]]
+    return machine + (f", with MFENCE {listed(places, ' and ')}" if places else "")
+
+
+def check_sought(browser, document):
+    """A run that is sought, or that there is none."""
+    page, meets = shown(browser, "pageShown()"), document["meets_condition"]
+    if document["run"]:
+        says = "meets" if meets else "does not meet"
+        same(page["heading"], f"A run of {document['test']} that {says} its condition", "heading")
+        return same(page["lead"], f"A run {machine_words(document)}, whose outcome {says} the formula of the file's condition.", "what run it is")
+    same(page["heading"], f"{'No' if meets else 'Every'} run of {document['test']} meets its condition", "heading")
+    same(page["lead"], f"{'No' if meets else 'Each'} run {machine_words(document)} meets the formula of the file's condition.", "that there is none")
+    same((page["controls"], page["tabs"]), (0, []), "no player")
+    same(page["programs"], programs(document), "program")
+    same([fence[0] for fence in page["fences"]], document["fences"], "fences")
+    right(f"The file's condition: {document['condition']}" in page["text"], "condition")
+    return None
+
+
 def check_page(browser, path, document, thorough):
     """Opens a page and compares it with its document; thorough adds keys, buttons and looks."""
     browser.open(path, calm=True)
-    runs = [Run(document, run) for run in document.get("runs", [document.get("run")])]
-    if not runs:
+    runs = [Run(document, run) for run in document.get("runs", [document.get("run")]) if run]
+    if document["command"] == "witness":
+        check_sought(browser, document)
+    elif not runs:
         check_no_fence(browser, document)
     elif runs[0].gap:
         check_answer(browser, document)

@@ -5,14 +5,48 @@ ghost use Rattle.tso_program.specs.declared.outcome.Outcome.{Outcome};
 ghost use Rattle.tso_program.specs.Shown.{asked};
 ghost use Rattle.tso_machine.specs.Outcomes.{AllowsShown};
 ghost use Rattle.tso_machine.specs.Modes.{machine_of_model};
+ghost use Rattle.cover_solver.specs.Found.{AreRunsOf};
 ghost use Rattle.cover_solver.specs.Ordered.{Ascend};
 
 use crate::all_outcomes::all_outcomes;
 use crate::fault::SolveFault;
+use crate::watch::{Unwatched, Watch};
+use cert_forest::Runs;
 use exec_axioms::Mode;
 use std::alloc::Global;
 use tso_machine::Model;
 use tso_program::{Outcome, Program, Shown};
+
+/// Outcomes, each with a run that leaves it.
+#[derive(Debug, Drop)]
+pub struct OutcomeList {
+    /// Ascending, each of them once.
+    pub outcomes: Vec<Outcome>,
+    /// A run of each, in the same order.
+    pub runs: Runs,
+}
+
+/// What is shown of the outcomes of a program under sequential consistency, or under x86-TSO with no
+/// gap fenced, ascending, each of them once and with a run that leaves it. A watch follows the search.
+pub fn outcomes_with_runs<W: Watch>(
+    alloc: Global,
+    program: &Program,
+    model: Model,
+    shown: &Shown,
+    watch: &W,
+) -> Result<OutcomeList, SolveFault>
+    ensures ascend { IfOk result (λ list. Ascend list.outcomes.items) }
+    ensures runs { IfOk result (λ list. AreRunsOf (asked program.now shown.now) (machine_of_model program.now set.empty model) list.runs list.outcomes.items) }
+    ensures fault { IfErr result (λ fault. fault ≡ SolveFault.OutOfMemory) }
+    ensures exact { IfOk result (λ list. (o : Outcome) → Contains list.outcomes.items o ↔ AllowsShown (asked program.now shown.now) (machine_of_model program.now set.empty model) o) }
+{
+    let all = all_outcomes(alloc, program, shown, Mode::unfenced(model), watch)?;
+    let found = all.found;
+    Ok(OutcomeList {
+        outcomes: found.outcomes,
+        runs: found.runs,
+    })
+}
 
 /// What is shown of the outcomes of a program under sequential consistency, or under x86-TSO with no
 /// gap fenced, ascending, each of them once.
@@ -26,6 +60,6 @@ pub fn outcomes(
     ensures fault { IfErr result (λ fault. fault ≡ SolveFault.OutOfMemory) }
     ensures exact { IfOk result (λ outcomes. (o : Outcome) → Contains outcomes.items o ↔ AllowsShown (asked program.now shown.now) (machine_of_model program.now set.empty model) o) }
 {
-    let all = all_outcomes(alloc, program, shown, Mode::unfenced(model))?;
-    Ok(all.into_outcomes())
+    let list = outcomes_with_runs(alloc, program, model, shown, &Unwatched)?;
+    Ok(list.outcomes)
 }

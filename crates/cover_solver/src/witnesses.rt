@@ -11,6 +11,7 @@ use crate::all_outcomes::all_outcomes;
 use crate::fault::SolveFault;
 use crate::found::Found;
 use crate::ordered::place_of;
+use crate::watch::Unwatched;
 use exec_axioms::Mode;
 use std::alloc::{AllocError, Global};
 use tso_machine::Label;
@@ -28,7 +29,7 @@ pub fn witness(
     ensures fault { IfErr result (λ fault. fault ≡ SolveFault.OutOfMemory) }
 {
     let shown = Shown::Truth(formula.copy()?);
-    let all = all_outcomes(alloc, program, &shown, mode)?;
+    let all = all_outcomes(alloc, program, &shown, mode, &Unwatched)?;
     let told = Outcome::told(alloc, truth)?;
     Ok(run_of(alloc, &all.found, &told)?)
 }

@@ -13,7 +13,7 @@ use Rattle.json_text.specs.Texts.{quoted, array_text, member, object_text, truth
 use Rattle.documents.specs.declared.program.ProgramPart.{ProgramPart}
 use Rattle.documents.specs.declared.run.Setting.TheVariants.{Machine}
 use Rattle.documents.specs.Parts.{program_members, IsProgram, answer_members, is_observed, outcomes_array}
-use Rattle.documents.specs.Runs.{setting_member, TellsRun}
+use Rattle.documents.specs.Runs.{setting_member, TellsRun, runs_array}
 
 -- the version
 abbrev pub format_member : List ℕ
@@ -31,6 +31,12 @@ pub record TellsHeading (source : Litmus Listing) (command : List ℕ) (members 
 -- one line
 abbrev pub document_of : List (List ℕ) → List ℕ
 document_of members = object_text members ++ 10 ∷ []
+
+-- the second members are those of a command up to what is said of the answer, a run or outcomes, and then these
+pub record TellsMembers (source : Litmus Listing) (command : List ℕ) (members all : List (List ℕ)) : Type 0 where
+  pub first : List (List ℕ)
+  pub heading : TellsHeading source command first
+  pub printed : all ≡ first ++ members
 
 -- the document of a command: what is said of the program, and then these members
 pub record IsDocument (source : Litmus Listing) (command : List ℕ) (members : List (List ℕ)) (text : List ℕ) : Type 0 where
@@ -55,11 +61,19 @@ pub record IsTraceDocument (source : Litmus Listing) (model : Model) (labels : L
   pub document : IsDocument source (codes "trace") (member (codes "run") run ∷ []) text
 
 -- of outcomes in a machine: as far as they are shown, and what they show of the condition
-abbrev pub IsOutcomesDocument : Litmus Listing → Shown → Model → List Outcome → List ℕ → Type 0
-IsOutcomesDocument source shown model outcomes =
-    IsDocument source (codes "outcomes") (setting_member source.program (Machine model) ∷ member (codes "observed") (truth_text (is_observed shown))
+abbrev pub outcomes_members : Litmus Listing → Shown → Model → List Outcome → List (List ℕ)
+outcomes_members source shown model outcomes =
+    setting_member source.program (Machine model) ∷ member (codes "observed") (truth_text (is_observed shown))
     ∷ member (codes "outcomes") (outcomes_array source.names shown outcomes) ∷ member (codes "observation") (quoted (frequency source.condition.formula outcomes))
-    ∷ member (codes "holds") (truth_text (is_true_of source.condition.quantifier source.condition.formula outcomes)) ∷ [])
+    ∷ member (codes "holds") (truth_text (is_true_of source.condition.quantifier source.condition.formula outcomes)) ∷ []
+
+abbrev pub IsOutcomesDocument : Litmus Listing → Shown → Model → List Outcome → List ℕ → Type 0
+IsOutcomesDocument source shown model outcomes = IsDocument source (codes "outcomes") (outcomes_members source shown model outcomes)
+
+-- the same with the labels of runs
+abbrev pub IsOutcomesWithRunsDocument : Litmus Listing → Shown → Model → List Outcome → List (List Label) → List ℕ → Type 0
+IsOutcomesWithRunsDocument source shown model outcomes runs =
+    IsDocument source (codes "outcomes") (outcomes_members source shown model outcomes ++ member (codes "runs") (runs_array runs) ∷ [])
 
 -- the second members are the first and more
 pub record AddsMembers (before after : List (List ℕ)) : Type 0 where

@@ -1,3 +1,4 @@
 pub mod Documents
+pub mod Witnesses
 pub mod Parts
 pub mod Runs

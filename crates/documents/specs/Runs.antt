@@ -40,6 +40,14 @@ TellsSteps labels text = (parts : List StepPart) × HaveLabels labels parts × (
 
 -- ---- runs
 
+-- the labels of a run
+abbrev pub labels_array : List Label → List ℕ
+labels_array labels = array_text (map (λ label. quoted (spelling label)) labels)
+
+-- the labels of each run
+abbrev pub runs_array : List (List Label) → List ℕ
+runs_array runs = array_text (map labels_array runs)
+
 abbrev pub model_name : Model → List ℕ
 model_name models.Sequential = codes "sequential"
 model_name models.Buffered = codes "buffered"

@@ -1,14 +1,16 @@
 //! The documents of the commands.
-ghost use Rattle.std.specs.Prelude.{◌≡◌, ◌∷◌, ◌++◌, [], IfOk, OnOk, map};
+ghost use Rattle.std.specs.Prelude.{◌≡◌, ◌∷◌, ◌++◌, [], IfOk, OnOk, codes, map};
 ghost use Rattle.json_text.specs.Safe.{IsSafe};
 ghost use Rattle.json_text.specs.Texts.{quoted};
 ghost use Rattle.report.specs.Observations.{frequency};
-ghost use Rattle.documents.specs.Documents.{document_of, format_member, IsWhyDocument, IsPlacedDocument, IsTraceDocument, IsOutcomesDocument, TellsHeading};
+ghost use Rattle.documents.specs.Documents.{document_of, format_member, IsWhyDocument, IsPlacedDocument, IsTraceDocument, outcomes_members, IsOutcomesDocument, IsOutcomesWithRunsDocument, TellsHeading, TellsMembers};
 
 use crate::answer::{add_answer, is_observed};
+use crate::label::runs_array;
 use crate::outcome::outcomes_array;
 use crate::program::add_program;
 use crate::run::{Setting, add_model, run_value};
+use cert_forest::Runs;
 use gap_sets::{Costs, GapSet};
 use json_text::{JsonArray, JsonObject, JsonText};
 use litmus_text::{Condition, Litmus};
@@ -26,7 +28,11 @@ pub(crate) fn add_format(alloc: Global, object: &mut JsonObject) -> Result<(), A
 }
 
 /// A document's object up to what is said of the program.
-fn begun(alloc: Global, command: &[u8], litmus: &Litmus<Program>) -> Result<JsonObject, AllocError>
+pub(crate) fn begun(
+    alloc: Global,
+    command: &[u8],
+    litmus: &Litmus<Program>,
+) -> Result<JsonObject, AllocError>
     ensures { IfOk result (TellsHeading litmus.now command.now) }
 {
     let mut object = JsonObject::new(alloc);
@@ -116,16 +122,15 @@ fn observation(
     JsonText::string(alloc, word.as_bytes())
 }
 
-/// The document of a program's outcomes in a machine.
-pub fn outcomes_document(
+/// The object of the document of a program's outcomes in a machine.
+fn outcomes_object(
     alloc: Global,
     litmus: &Litmus<Program>,
     shown: &Shown,
     model: Model,
     outcomes: &[Outcome],
-) -> Result<Vec<u8>, AllocError>
-    ensures told { IfOk result (λ document. IsOutcomesDocument litmus.now shown.now model outcomes.now document.items) }
-    ensures safe { IfOk result (λ document. IsSafe document.items) }
+) -> Result<JsonObject, AllocError>
+    ensures { IfOk result (TellsMembers litmus.now (codes "outcomes") (outcomes_members litmus.now shown.now model outcomes.now)) }
 {
     let condition = &litmus.condition;
     let observed = JsonText::truth(alloc, is_observed(shown))?;
@@ -138,5 +143,38 @@ pub fn outcomes_document(
     object.add("outcomes", list)?;
     object.add("observation", often)?;
     object.add("holds", holds)?;
+    Ok(object)
+}
+
+/// The document of a program's outcomes in a machine.
+pub fn outcomes_document(
+    alloc: Global,
+    litmus: &Litmus<Program>,
+    shown: &Shown,
+    model: Model,
+    outcomes: &[Outcome],
+) -> Result<Vec<u8>, AllocError>
+    ensures told { IfOk result (λ document. IsOutcomesDocument litmus.now shown.now model outcomes.now document.items) }
+    ensures safe { IfOk result (λ document. IsSafe document.items) }
+{
+    let object = outcomes_object(alloc, litmus, shown, model, outcomes)?;
+    document_of(object)
+}
+
+/// The same with the labels of runs, one for each outcome.
+pub fn outcomes_with_runs_document(
+    alloc: Global,
+    litmus: &Litmus<Program>,
+    shown: &Shown,
+    model: Model,
+    outcomes: &[Outcome],
+    runs: &Runs,
+) -> Result<Vec<u8>, AllocError>
+    ensures told { IfOk result (λ document. IsOutcomesWithRunsDocument litmus.now shown.now model outcomes.now runs.now document.items) }
+    ensures safe { IfOk result (λ document. IsSafe document.items) }
+{
+    let mut object = outcomes_object(alloc, litmus, shown, model, outcomes)?;
+    let runs = runs_array(alloc, runs)?;
+    object.add("runs", runs)?;
     document_of(object)
 }

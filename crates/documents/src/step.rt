@@ -1,9 +1,8 @@
 //! The steps of a run.
 ghost use Rattle.std.specs.Prelude.{◌≡◌, IfOk, map};
-ghost use Rattle.json_text.specs.Texts.{quoted};
-ghost use Rattle.tso_machine.specs.RunTexts.{spelling};
 ghost use Rattle.documents.specs.Runs.{step_text, HasLabel, TellsSteps};
 
+use crate::label::label_text;
 use crate::named::located;
 use crate::program::{register_values, values};
 use json_text::{JsonArray, JsonObject, JsonText};
@@ -24,22 +23,6 @@ pub(crate) struct StepPart {
     buffer: JsonText,
     memory: JsonText,
     registers: JsonText,
-}
-
-/// The label of a step.
-fn label(alloc: Global, step: &Step) -> Result<JsonText, AllocError>
-    ensures { IfOk result (λ json. json ≡ quoted (spelling step.now.label)) }
-{
-    match step.label {
-        Label::Exec(thread) => {
-            let text = format!(in alloc; "e{thread}")?;
-            JsonText::string(alloc, text.as_bytes())
-        }
-        Label::Flush(thread) => {
-            let text = format!(in alloc; "f{thread}")?;
-            JsonText::string(alloc, text.as_bytes())
-        }
-    }
 }
 
 /// The number of the instruction that a step executes, if it executes one.
@@ -123,7 +106,7 @@ fn step_part(
     let names = &litmus.names;
     let after = &step.after;
     let thread = step.label.thread() as usize;
-    let label = label(alloc, step)?;
+    let label = label_text(alloc, step.label)?;
     let instruction = instruction(alloc, step)?;
     let reads = reads(alloc, litmus, step)?;
     let stores = stores(alloc, litmus, step)?;

@@ -2,3 +2,4 @@ pub mod Served
 pub mod Told
 pub mod Delivered
 pub mod PrintedRefusals
+pub mod OutcomeLines

@@ -10,7 +10,7 @@ use Rattle.program_streams.specs.Words.{words_of}
 use Rattle.program_streams.specs.FileLines.{file_line}
 use Rattle.program_streams.specs.Versions.{asks_version, version_line}
 use Rattle.fencer_words.specs.declared.job.Job.{Job}
-use Rattle.fencer_words.specs.declared.job.Job.TheVariants.{Replay, Trace, Outcomes, Place, Why, Gaps}
+use Rattle.fencer_words.specs.declared.job.Job.TheVariants.{Replay, Trace, Outcomes, Place, Why, Gaps, Witness}
 use Rattle.fencer_words.specs.CommandFiles.{files_of}
 use Rattle.fencer_words.specs.CommandLines.{AsksFor, IsNoCommand}
 use Rattle.fencer.specs.Lines.{EndsLine}
@@ -20,6 +20,7 @@ use Rattle.fencer.specs.Placements.{IsPlaced}
 use Rattle.fencer.specs.Replays.{IsReplay, label_words_text}
 use Rattle.fencer.specs.Traces.{IsTrace}
 use Rattle.fencer.specs.Whys.{IsExplained}
+use Rattle.fencer.specs.Witnesses.{IsWitnessShown}
 
 -- ---- what is printed
 
@@ -31,6 +32,7 @@ IsAnswer (Outcomes asked) input files left = AreOutcomes asked input files
 IsAnswer (Place asked) input files left = IsPlaced asked input files left
 IsAnswer (Why asked) input files left = IsExplained asked input files left
 IsAnswer (Gaps asked) input files left = AreGaps asked input files
+IsAnswer (Witness asked) input files left = IsWitnessShown asked input files left
 
 -- the first line of the input has more bytes than the limit
 abbrev pub HasTooLongLine : Option (List ℕ) → Type 0
@@ -63,6 +65,7 @@ litmus_of (Outcomes asked) = string_bytes asked.litmus
 litmus_of (Place asked) = string_bytes asked.litmus
 litmus_of (Why asked) = string_bytes asked.placement.litmus
 litmus_of (Gaps asked) = string_bytes asked.litmus
+litmus_of (Witness asked) = string_bytes asked.litmus
 
 -- for words: nothing; or, where they ask for a job, no more than shows that its litmus file is too long
 pub data ReadsForWords (words : List Text) (old new : Option (List ℕ)) : Type 0 where

@@ -8,6 +8,7 @@ pub mod Deliveries
 pub mod Documented
 pub mod Replays
 pub mod Traces
+pub mod Witnesses
 pub mod Outcomes
 pub mod Placements
 pub mod Whys

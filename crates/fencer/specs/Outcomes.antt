@@ -1,7 +1,7 @@
 -- What is printed for the outcomes of a program.
-use Rattle.std.specs.Prelude.{◌≡◌, ◌↔◌, ℕ, Bool, true, false, List, [], ◌∷◌, ◌++◌, Contains, Option, codes, length, not, string_bytes}
+use Rattle.std.specs.Prelude.{◌≡◌, ◌↔◌, ℕ, Bool, true, false, List, [], ◌∷◌, ◌++◌, Contains, Option, codes, length, not, slice_get, string_bytes}
 use Rattle.std.specs.Fmt.{decimal}
-use Rattle.std.specs.List.{flat_map}
+use Rattle.std.specs.Option.{option_map_or}
 use Rattle.std.specs.FinSet as set
 use Rattle.tso_program.specs.declared.listing.Listing.{Listing}
 use Rattle.tso_program.specs.declared.outcome.Outcome.{Outcome}
@@ -9,6 +9,7 @@ use Rattle.tso_program.specs.declared.shown.Shown.{Shown}
 use Rattle.tso_program.specs.declared.shown.ShownKind.{ShownKind}
 use Rattle.tso_program.specs.declared.shown.ShownKind.TheVariants.{Whole, Observed}
 use Rattle.tso_program.specs.Shown.{Question}
+use Rattle.tso_machine.specs.declared.label.Label.{Label}
 use Rattle.tso_machine.specs.declared.label.Model.{Model}
 use Rattle.tso_machine.specs.Machine.{Machine}
 use Rattle.tso_machine.specs.Modes.{machine_of_model}
@@ -16,10 +17,12 @@ use Rattle.tso_machine.specs.Outcomes.{AllowsShown}
 use Rattle.litmus_reader.specs.declared.litmus.Litmus.{Litmus}
 use Rattle.litmus_reader.specs.Texts.{IsLitmus, IsNoLitmus}
 use Rattle.cover_solver.specs.declared.fault.SolveFault.TheVariants as solve
+use Rattle.cover_solver.specs.Found.{AreRunsOf}
 use Rattle.cover_solver.specs.Ordered.{Ascend}
+use Rattle.litmus_reader.specs.Names.{TextNames}
 use Rattle.litmus_reader.specs.Shown.{shown_as, question_of}
-use Rattle.report.specs.Answers.{outcome_line}
-use Rattle.documents.specs.Documents.{IsOutcomesDocument}
+use Rattle.report.specs.Answers.{labels_line, outcome_line}
+use Rattle.documents.specs.Documents.{IsOutcomesDocument, IsOutcomesWithRunsDocument}
 use Rattle.report.specs.Observations.{is_true_of, observation_line, condition_line}
 use Rattle.fencer_words.specs.declared.job.OutcomeQuery.{OutcomeQuery}
 use Rattle.fencer.specs.declared.refusals.Refusal.{Refusal}
@@ -32,18 +35,34 @@ pub record ListsOutcomes (q : Question) (mode : Machine) (outcomes : List Outcom
   pub ascend : Ascend outcomes
   pub exact : (o : Outcome) → Contains outcomes o ↔ AllowsShown q mode o
 
--- the lines of a list: how many outcomes it has, each of them as far as it is shown, and what they show of the condition
-abbrev pub list_text : Litmus Listing → Shown → List Outcome → List ℕ
-list_text litmus shown outcomes =
+-- where runs are asked for, there is one of the mode's machine for each outcome, of which this is shown; else there is none
+abbrev pub ListsRuns : Bool → Question → Machine → List (List Label) → List Outcome → Type 0
+ListsRuns true q mode runs outcomes = AreRunsOf q mode runs outcomes
+ListsRuns false q mode runs outcomes = runs ≡ []
+
+-- each outcome, as far as it is shown, and after it its run where there is one
+abbrev pub outcome_lines : TextNames → Shown → List Outcome → List (List Label) → List ℕ
+outcome_lines names shown [] runs = []
+outcome_lines names shown (o ∷ outcomes) [] = outcome_line names shown o ++ outcome_lines names shown outcomes []
+outcome_lines names shown (o ∷ outcomes) (run ∷ runs) = outcome_line names shown o ++ labels_line run ++ outcome_lines names shown outcomes runs
+
+-- the line of the run of this number, where there is one
+abbrev pub run_line_at : List (List Label) → ℕ → List ℕ
+run_line_at runs number = option_map_or labels_line (slice_get runs number) []
+
+-- the lines of a list: how many outcomes it has, each of them as far as it is shown, with its run where there is one, and what they show of the condition
+abbrev pub list_text : Litmus Listing → Shown → List Outcome → List (List Label) → List ℕ
+list_text litmus shown outcomes runs =
     codes "outcomes " ++ decimal (length outcomes) ++ 10 ∷ []
-    ++ flat_map (outcome_line litmus.names shown) outcomes
+    ++ outcome_lines litmus.names shown outcomes runs
     ++ observation_line litmus.condition outcomes
     ++ condition_line litmus.condition outcomes
 
--- the lines are those of the list, or its document
-abbrev pub TellsOutcomes : Bool → Model → Litmus Listing → Shown → List Outcome → List ℕ → Type 0
-TellsOutcomes false model litmus shown outcomes lines = lines ≡ list_text litmus shown outcomes
-TellsOutcomes true model litmus shown outcomes lines = IsOutcomesDocument litmus shown model outcomes lines
+-- the lines are those of the list, or its document, which has the runs where they are asked for
+abbrev pub TellsOutcomes : Bool → Bool → Model → Litmus Listing → Shown → List Outcome → List (List Label) → List ℕ → Type 0
+TellsOutcomes false with_runs model litmus shown outcomes runs lines = lines ≡ list_text litmus shown outcomes runs
+TellsOutcomes true false model litmus shown outcomes runs lines = IsOutcomesDocument litmus shown model outcomes lines
+TellsOutcomes true true model litmus shown outcomes runs lines = IsOutcomesWithRunsDocument litmus shown model outcomes runs lines
 
 -- with a check the status is 3 where the condition fails
 abbrev pub list_status : Bool → Litmus Listing → List Outcome → ℕ
@@ -54,13 +73,15 @@ abbrev pub listed_kind : Bool → ShownKind
 listed_kind false = Whole
 listed_kind true = Observed
 
--- the lines are those of the list of the unfenced program that the bytes spell, and the status is theirs
+-- the lines are those of the list of the unfenced program that the bytes spell, with a run of each outcome where runs are asked for, and the status is theirs
 pub record PrintsOutcomes (q : OutcomeQuery) (bytes : List ℕ) (status : ℕ) (lines : List ℕ) : Type 0 where
   pub litmus : Litmus Listing
   pub spelled : IsLitmus bytes litmus
   pub outcomes : List Outcome
   pub listed : ListsOutcomes (question_of litmus (listed_kind q.observed)) (machine_of_model litmus.program set.empty q.model) outcomes
-  pub printed : TellsOutcomes q.json q.model litmus (shown_as litmus (listed_kind q.observed)) outcomes lines
+  pub runs : List (List Label)
+  pub left : ListsRuns q.runs (question_of litmus (listed_kind q.observed)) (machine_of_model litmus.program set.empty q.model) runs outcomes
+  pub printed : TellsOutcomes q.json q.runs q.model litmus (shown_as litmus (listed_kind q.observed)) outcomes runs lines
   pub ends : status ≡ list_status q.check litmus outcomes
 
 -- why there is no list: the text is no litmus text, or memory was wanting

@@ -5,12 +5,13 @@ ghost use Rattle.std.specs.Prelude.{◌≡◌};
 use crate::refusals::Refusal;
 use crate::texts::Texts;
 use messages::{
-    Message, Source, costs_message, file_or_input, litmus_message, replay_message, run_message,
-    unread_message, unwritten_message,
+    Message, Source, costs_message, fence_message, file_or_input, litmus_message, replay_message,
+    run_message, unread_message, unwritten_message,
 };
 use placed_text::TextFault;
 use program_streams::{FileFault, FileStore, TEXT_LIMIT, UnreadFile};
 use std::alloc::{AllocError, Global};
+use witness_text::WitnessFault;
 
 /// What an answer is asked about: the text of a litmus file, and labels where there are any.
 #[derive(Clone, Copy, Debug)]
@@ -62,6 +63,25 @@ pub(crate) fn refusal_advice(
         Refusal::Replay(fault) => replay_message(alloc, name, labels, fault),
         Refusal::Solve(fault) => {
             let text = format!(in alloc; "{fault}")?;
+            Message::of_file(alloc, name, text.as_str())
+        }
+    }
+}
+
+/// Why no run of the program of a litmus text, of a file of this name, is shown.
+pub(crate) fn witness_advice(
+    alloc: Global,
+    name: &str,
+    text: &[u8],
+    why: WitnessFault,
+) -> Result<Message, AllocError> {
+    match why {
+        WitnessFault::Read(fault) => litmus_message(alloc, Source::new(name, text), fault),
+        WitnessFault::NoSuchGap(thread, instruction) => {
+            fence_message(alloc, name, (thread, instruction), text)
+        }
+        WitnessFault::OutOfMemory => {
+            let text = format!(in alloc; "{why}")?;
             Message::of_file(alloc, name, text.as_str())
         }
     }

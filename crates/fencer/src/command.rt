@@ -16,6 +16,7 @@ use crate::refused::tell_refusal;
 use crate::replays::run_replay;
 use crate::traces::run_trace;
 use crate::whys::run_why;
+use crate::witnesses::run_witness;
 use clap::Error;
 use clap::error::ErrorKind;
 use fencer_words::{Job, read_words};
@@ -62,6 +63,7 @@ fn run_job<T: Threads + Sync, U: Wait + Sync, S: WritableFileStore, R: Read, W: 
         Job::Place(asked) => run_place(rt, wait, alloc, files, asked, input, output),
         Job::Why(asked) => run_why(rt, wait, alloc, files, asked, input, output),
         Job::Gaps(asked) => run_gaps(alloc, &*files, asked, input, output),
+        Job::Witness(asked) => run_witness(alloc, files, asked, input, output),
     }
 }
 

@@ -15,6 +15,7 @@ mod status;
 mod texts;
 mod traces;
 mod whys;
+mod witnesses;
 
 use program_streams::{Outputs, Progress, SystemFiles, given_words};
 use std::process::ExitCode;

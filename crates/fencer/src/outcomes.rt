@@ -1,41 +1,64 @@
 //! Outcomes: the lines of a program's list, or why there is no list.
 
-ghost use Rattle.std.specs.Prelude.{◌≡◌, IfOk, IfErr, string_bytes};
+ghost use Rattle.std.specs.Prelude.{◌≡◌, ◌++◌, IfOk, IfErr, OnOk, string_bytes};
+ghost use Rattle.std.specs.FinSet as set;
+ghost use Rattle.tso_program.specs.Shown.{asked as question};
+ghost use Rattle.tso_machine.specs.Modes.{machine_of_model};
 ghost use Rattle.program_streams.specs.Streams.{Prints};
 ghost use Rattle.program_streams.specs.Files.{ReadsOfInput};
 ghost use Rattle.litmus_reader.specs.Shown.{shown_as};
-ghost use Rattle.fencer.specs.Outcomes.{listed_kind, list_text as lines_of_list, list_status, PrintsOutcomes, HasNoList, AreOutcomes, TellsOutcomes};
+ghost use Rattle.cover_solver.specs.declared.fault.SolveFault.TheVariants as solve;
+ghost use Rattle.fencer.specs.Outcomes.{listed_kind, list_text as lines_of_list, list_status, run_line_at, ListsOutcomes, ListsRuns, PrintsOutcomes, HasNoList, AreOutcomes, TellsOutcomes};
 
 use crate::advice::{Subject, unread_advice, unread_litmus};
 use crate::refusals::{Refusal, Reply, print_answer};
 use crate::refused::tell_refusal;
 use crate::status::check_status;
-use cover_solver::{SolveFault, outcomes};
-use documents::outcomes_document;
+use cert_forest::Runs;
+use cover_solver::{OutcomeList, SolveFault, outcomes_with_runs};
+use documents::{outcomes_document, outcomes_with_runs_document};
 use fencer_words::OutcomeQuery;
 use litmus_text::{Litmus, read_litmus};
 use messages::file_or_input;
-use placed_text::report_ahead;
+use placed_text::{Ahead, report_ahead};
 use program_streams::{Console, FileStore, Progress, TEXT_LIMIT, file_line, named_bytes};
-use report::{condition_line, is_true_of, observation_line, outcome_line};
+use report::{condition_line, is_true_of, labels_line, observation_line, outcome_line};
 use std::alloc::{AllocError, Global};
 use std::io::Read;
 use tso_program::{Outcome, Program, Shown};
 
-/// How many outcomes there are, each of them as far as it is shown, and what they show of the condition.
+/// The line of the run of this number, if there is one.
+fn push_run(
+    alloc: Global,
+    lines: &mut Vec<u8>,
+    runs: &Runs,
+    number: usize,
+) -> Result<(), AllocError>
+    ensures { OnOk result (lines.new.items ≡ lines.old.items ++ run_line_at runs.now number) }
+{
+    if let Some(labels) = runs.get(number) {
+        lines.extend_from_slice(&labels_line(alloc, labels)?)?;
+    }
+    Ok(())
+}
+
+/// How many outcomes there are, each of them as far as it is shown, with its run if there is one, and what they show of
+/// the condition.
 fn list_lines(
     alloc: Global,
     litmus: &Litmus<Program>,
     shown: &Shown,
-    outcomes: &[Outcome],
+    list: &OutcomeList,
 ) -> Result<Vec<u8>, AllocError>
-    ensures { IfOk result (λ lines. lines.items ≡ lines_of_list litmus.now shown.now outcomes.now) }
+    ensures { IfOk result (λ lines. lines.items ≡ lines_of_list litmus.now shown.now list.now.outcomes.items list.now.runs) }
 {
+    let outcomes = list.outcomes.as_slice();
     let count = outcomes.len();
     let mut lines = format!(in alloc; "outcomes {count}\n")?.into_bytes();
-    for outcome in outcomes {
+    for (number, outcome) in outcomes.iter().enumerate() {
         let line = outcome_line(alloc, &litmus.names, shown, outcome)?;
         lines.extend_from_slice(&line)?;
+        push_run(alloc, &mut lines, &list.runs, number)?;
     }
     lines.extend_from_slice(&observation_line(alloc, &litmus.condition, outcomes)?)?;
     lines.extend_from_slice(&condition_line(alloc, &litmus.condition, outcomes)?)?;
@@ -48,14 +71,40 @@ fn list_text(
     asked: &OutcomeQuery,
     litmus: &Litmus<Program>,
     shown: &Shown,
-    outcomes: &[Outcome],
+    list: &OutcomeList,
 ) -> Result<Vec<u8>, AllocError>
-    ensures { IfOk result (λ lines. TellsOutcomes asked.now.json asked.now.model litmus.now shown.now outcomes.now lines.items) }
+    ensures { IfOk result (λ lines. TellsOutcomes asked.now.json asked.now.runs asked.now.model litmus.now shown.now list.now.outcomes.items list.now.runs lines.items) }
 {
-    if asked.json {
-        outcomes_document(alloc, litmus, shown, asked.model, outcomes)
+    let outcomes = list.outcomes.as_slice();
+    if !asked.json {
+        list_lines(alloc, litmus, shown, list)
+    } else if asked.runs {
+        outcomes_with_runs_document(alloc, litmus, shown, asked.model, outcomes, &list.runs)
     } else {
-        list_lines(alloc, litmus, shown, outcomes)
+        outcomes_document(alloc, litmus, shown, asked.model, outcomes)
+    }
+}
+
+/// The outcomes of a program with no gap fenced, and a run of each if runs are asked for.
+fn listed(
+    alloc: Global,
+    asked: &OutcomeQuery,
+    program: &Program,
+    shown: &Shown,
+    ahead: &Ahead,
+) -> Result<OutcomeList, SolveFault>
+    ensures list { IfOk result (λ list. ListsOutcomes (question program.now shown.now) (machine_of_model program.now set.empty asked.now.model) list.outcomes.items) }
+    ensures runs { IfOk result (λ list. ListsRuns asked.now.runs (question program.now shown.now) (machine_of_model program.now set.empty asked.now.model) list.runs list.outcomes.items) }
+    ensures fault { IfErr result (λ fault. fault ≡ solve.OutOfMemory) }
+{
+    let list = outcomes_with_runs(alloc, program, asked.model, shown, ahead)?;
+    if asked.runs {
+        Ok(list)
+    } else {
+        Ok(OutcomeList {
+            outcomes: list.outcomes,
+            runs: Runs::new(alloc),
+        })
     }
 }
 
@@ -85,9 +134,9 @@ fn outcomes_reply(
 {
     let litmus = read_litmus(alloc, bytes)?;
     let shown = listed_shown(&litmus, asked.observed);
-    let _ = report_ahead(alloc, &litmus.program, progress.asked(asked.progress));
-    let list = outcomes(alloc, &litmus.program, asked.model, &shown)?;
-    let status = list_status(asked.check, &litmus, &list);
+    let ahead = report_ahead(alloc, &litmus.program, progress.asked(asked.progress));
+    let list = listed(alloc, asked, &litmus.program, &shown, &ahead)?;
+    let status = list_status(asked.check, &litmus, &list.outcomes);
     match list_text(alloc, asked, &litmus, &shown, &list) {
         Ok(lines) => Ok(Reply { lines, status }),
         Err(_) => Err(Refusal::Solve(SolveFault::OutOfMemory)),

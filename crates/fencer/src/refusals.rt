@@ -60,7 +60,7 @@ impl From<SolveFault> for Refusal {
 }
 
 /// Why the outcomes of a program aren't found.
-fn solve_line(alloc: Global, fault: SolveFault) -> Result<Vec<u8>, AllocError>
+pub(crate) fn solve_line(alloc: Global, fault: SolveFault) -> Result<Vec<u8>, AllocError>
     ensures { IfOk result (λ line. line.items ≡ solve_line fault) }
 {
     match fault {

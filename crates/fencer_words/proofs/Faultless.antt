@@ -12,7 +12,7 @@ use Rattle.clap.specs.Faults.{built_fault, walk_fault, entered_fault, settle_fau
 use Rattle.clap.specs.declared.error.Error.{Error}
 use Rattle.clap.specs.declared.error.kind.ErrorKind.TheVariants.{OutOfMemory}
 use Rattle.clap.specs.declared.parser.matches.ArgMatches.{ArgMatches}
-use Rattle.fencer_words.specs.CommandLines.{ModelNames, AreModels, command_names, fencer_app, IsNoCommand, faulty, twice}
+use Rattle.fencer_words.specs.CommandLines.{ModelNames, AreModels, command_names, fencer_app, IsNoCommand, faulty, for_nothing}
 use Rattle.fencer_words.specs.Commands.{MeetsNoJob}
 
 -- where neither of two has a fault, the second has none
@@ -115,6 +115,6 @@ module _ (app : App) (models : ModelNames) (words : List Text) (m : ArgMatches) 
   pub reads : (name : Text) (rows : List Row) → subcommand_rows_of m ≡ Some (name, rows) → subcommand_of (fencer_app models) words ≡ Some (name, rows)
   reads name rows found = sym matched ∙ found
 
-  -- where it is that of no job, it asks for two comparisons of outcomes
-  pub met_twice : AreModels models → MeetsNoJob m → IsNoCommand words
-  met_twice are_models none_met = (let one = names_command models words none in twice models one.0 one.1 are_models one.3 (none_met one.0 one.1 (matched ∙ one.3) one.2))
+  -- where it is that of no job, it asks for nothing
+  pub met_nothing : AreModels models → MeetsNoJob m → IsNoCommand words
+  met_nothing are_models none_met = (let one = names_command models words none in for_nothing models one.0 one.1 are_models one.3 (none_met one.0 one.1 (matched ∙ one.3) one.2))

@@ -3,7 +3,7 @@ use Rattle.std.specs.Prelude.{ℕ, Bool, false, ◌||◌, List, Option, Some, No
 use Rattle.std.specs.Str.{bytes_eq}
 use Rattle.std.specs.declared.string.String.{String}
 use Rattle.fencer_words.specs.declared.job.Job.{Job}
-use Rattle.fencer_words.specs.declared.job.Job.TheVariants.{Replay, Trace, Outcomes, Place, Why, Gaps}
+use Rattle.fencer_words.specs.declared.job.Job.TheVariants.{Replay, Trace, Outcomes, Place, Why, Gaps, Witness}
 
 -- the name of a file, where one is given
 abbrev pub name_of : {Z : Type 0} → Option (String Z) → Option (List ℕ)
@@ -28,6 +28,7 @@ files_of (Outcomes asked) = record { litmus = file_of_litmus (string_bytes asked
 files_of (Place asked) = record { litmus = file_of_litmus (string_bytes asked.litmus); costs = name_of asked.costs; first = name_of asked.output; second = name_of asked.certificate }
 files_of (Why asked) = record { litmus = file_of_litmus (string_bytes asked.placement.litmus); costs = name_of asked.placement.costs; first = name_of asked.page; second = name_of asked.graphs }
 files_of (Gaps asked) = record { litmus = file_of_litmus (string_bytes asked.litmus); costs = name_of asked.costs; first = None; second = None }
+files_of (Witness asked) = record { litmus = file_of_litmus (string_bytes asked.litmus); costs = None; first = name_of asked.page; second = name_of asked.graph }
 
 -- both names are given, and are the same
 abbrev pub is_same : Option (List ℕ) → Option (List ℕ) → Bool

@@ -1,6 +1,6 @@
 -- What command lines ask for. `clap` reads them: its `subcommand_of` gives the subcommand that words name, with the rows
 -- of its values.
-use Rattle.std.specs.Prelude.{◌≡◌, ◌≢◌, ℕ, ◌≤◌, Bool, true, false, List, [], ◌∷◌, Some, None, Contains, codes, map, option_map, string_bytes, unwrap_or, if◌then◌else◌, ◌&&◌}
+use Rattle.std.specs.Prelude.{◌≡◌, ◌≢◌, ◌⊎◌, ℕ, ◌≤◌, Bool, true, false, List, [], ◌∷◌, Some, None, Contains, codes, map, not, option_map, string_bytes, unwrap_or, if◌then◌else◌, ◌&&◌}
 use Rattle.std.specs.Option.{option_map_or}
 use Rattle.std.specs.Str.{IsUtf8, bytes_eq}
 use Rattle.std.specs.Str.Parse.{digits_value, without_leading_plus}
@@ -16,8 +16,9 @@ use Rattle.tso_program.specs.declared.shown.ShownKind.{ShownKind}
 use Rattle.tso_program.specs.declared.shown.ShownKind.TheVariants.{Whole, Observed, Condition}
 use Rattle.fencer_words.specs.declared.job.Job.{Job}
 use Rattle.fencer_words.specs.declared.job.Run.{Run}
-use Rattle.fencer_words.specs.declared.job.Job.TheVariants.{Replay, Trace, Outcomes, Place, Why, Gaps}
+use Rattle.fencer_words.specs.declared.job.Job.TheVariants.{Replay, Trace, Outcomes, Place, Why, Gaps, Witness}
 use Rattle.fencer_words.specs.CommandFiles.{files_of, has_clash}
+use Rattle.fencer_words.specs.Places as places
 use Rattle.tso_program.specs.declared.limits.TheConstants.{MAX_WORKERS}
 
 -- ---- arguments
@@ -61,6 +62,10 @@ flag_rule name = record (new_rule name) { long = Some name; action = Some SetTru
 abbrev pub file_rule : Text → Rule
 file_rule name = record (named_rule name) { long = Some name }
 
+-- `--fences T:K,..`
+abbrev pub fences_rule : Rule
+fences_rule = record (named_rule (codes "fences")) { long = Some (codes "fences") }
+
 -- `--workers N`
 abbrev pub workers_rule : Rule
 workers_rule = record (named_rule (codes "workers")) {
@@ -75,9 +80,9 @@ workers_rule = record (named_rule (codes "workers")) {
 abbrev pub replay_app : ModelNames → App
 replay_app models = with_rule (with_rule (with_rule (new_app (codes "replay")) (model_rule models)) litmus_rule) label_rule
 
--- `outcomes [--model MODEL] [--observed] [--check] [--json] [--progress] LITMUS`
+-- `outcomes [--model MODEL] [--runs] [--observed] [--check] [--json] [--progress] LITMUS`
 abbrev pub outcomes_app : ModelNames → App
-outcomes_app models = with_rule (with_rule (with_rule (with_rule (with_rule (with_rule (new_app (codes "outcomes")) (model_rule models)) (flag_rule (codes "observed"))) (flag_rule (codes "check"))) (flag_rule (codes "json"))) (flag_rule (codes "progress"))) litmus_rule
+outcomes_app models = with_rule (with_rule (with_rule (with_rule (with_rule (with_rule (with_rule (new_app (codes "outcomes")) (model_rule models)) (flag_rule (codes "runs"))) (flag_rule (codes "observed"))) (flag_rule (codes "check"))) (flag_rule (codes "json"))) (flag_rule (codes "progress"))) litmus_rule
 
 -- `place [--costs FILE] [--workers N] [--certificate FILE] [--output FILE] [--observed | --condition] [--check] [--json] [--progress] LITMUS`
 abbrev pub place_app : App
@@ -95,17 +100,21 @@ why_app = with_rule (with_rule (with_rule (with_rule (with_rule (with_rule (with
 abbrev pub gaps_app : App
 gaps_app = with_rule (with_rule (with_rule (new_app (codes "gaps")) (file_rule (codes "costs"))) (flag_rule (codes "template"))) litmus_rule
 
+-- `witness [--model MODEL] [--not] [--fences T:K,..] [--dot FILE] [--html FILE] [--json] LITMUS`
+abbrev pub witness_app : ModelNames → App
+witness_app models = with_rule (with_rule (with_rule (with_rule (with_rule (with_rule (with_rule (new_app (codes "witness")) (model_rule models)) (flag_rule (codes "not"))) fences_rule) (file_rule (codes "dot"))) (file_rule (codes "html"))) (flag_rule (codes "json"))) litmus_rule
+
 -- a command line is one of these commands, and nothing before it
 abbrev pub commands_app : App
 commands_app = on_top (λ s. record s { no_binary_name = true; subcommand_required = true; disable_help_subcommand = true }) (new_app (codes "fencer"))
 
 -- the program's whole command line, after its name
 abbrev pub fencer_app : ModelNames → App
-fencer_app models = with_subcommand (with_subcommand (with_subcommand (with_subcommand (with_subcommand (with_subcommand commands_app (replay_app models).top) (outcomes_app models).top) place_app.top) (trace_app models).top) why_app.top) gaps_app.top
+fencer_app models = with_subcommand (with_subcommand (with_subcommand (with_subcommand (with_subcommand (with_subcommand (with_subcommand commands_app (replay_app models).top) (outcomes_app models).top) place_app.top) (trace_app models).top) why_app.top) gaps_app.top) (witness_app models).top
 
 -- the names of the commands
 abbrev pub command_names : List Text
-command_names = codes "replay" ∷ codes "outcomes" ∷ codes "place" ∷ codes "trace" ∷ codes "why" ∷ codes "gaps" ∷ []
+command_names = codes "replay" ∷ codes "outcomes" ∷ codes "place" ∷ codes "trace" ∷ codes "why" ∷ codes "gaps" ∷ codes "witness" ∷ []
 
 -- ---- values
 
@@ -137,6 +146,14 @@ kind_in rows = if is_flagged (codes "condition") rows then Condition else (if is
 abbrev pub asks_twice : List Row → Bool
 asks_twice rows = is_flagged (codes "observed") rows && is_flagged (codes "condition") rows
 
+-- `--fences` has a value that lists no places
+abbrev pub LacksPlaces : List Row → Type 0
+LacksPlaces rows = (text : Text) × (first_of (codes "fences") rows ≡ Some text) × places.ListsNoPlaces text
+
+-- the rows of a command that asks for nothing: for two comparisons of outcomes, or for fences at no places
+abbrev pub AsksForNothing : List Row → Type 0
+AsksForNothing rows = (asks_twice rows ≡ true) ⊎ LacksPlaces rows
+
 -- how many workers a text asks for, from 1 to the most; `clap` refuses a text that is no such number
 pub record AreWorkers (text : Text) (workers : ℕ) : Type 0 where
   pub least : 1 ≤ workers
@@ -163,6 +180,7 @@ IsJobOf name rows (Trace asked) =
 IsJobOf name rows (Outcomes asked) =
     (name ≡ codes "outcomes")
     × (asked.model ≡ model_in rows)
+    × (asked.runs ≡ is_flagged (codes "runs") rows)
     × (asked.observed ≡ is_flagged (codes "observed") rows)
     × (asked.check ≡ is_flagged (codes "check") rows)
     × (asked.json ≡ is_flagged (codes "json") rows)
@@ -197,6 +215,15 @@ IsJobOf name rows (Gaps asked) =
     × (option_map string_bytes asked.costs ≡ first_of (codes "costs") rows)
     × (asked.template ≡ is_flagged (codes "template") rows)
     × (string_bytes asked.litmus ≡ text_in (codes "litmus") rows)
+IsJobOf name rows (Witness asked) =
+    (name ≡ codes "witness")
+    × (asked.model ≡ model_in rows)
+    × (asked.meets ≡ not (is_flagged (codes "not") rows))
+    × places.AreGivenPlaces (first_of (codes "fences") rows) asked.fences.items
+    × (option_map string_bytes asked.graph ≡ first_of (codes "dot") rows)
+    × (option_map string_bytes asked.page ≡ first_of (codes "html") rows)
+    × (asked.json ≡ is_flagged (codes "json") rows)
+    × (string_bytes asked.litmus ≡ text_in (codes "litmus") rows)
 
 -- the arguments name the job: `clap` finds no fault in them, and they ask for one comparison of outcomes
 pub record Names (words : List Text) (job : Job) : Type 0 where
@@ -215,9 +242,9 @@ pub record AsksFor (words : List Text) (job : Job) : Type 0 where
   pub apart : has_clash (files_of job) ≡ false
 
 -- The arguments are no command: one of them is no UTF-8; `clap` finds a fault in them, as which it takes a call for help; they ask
--- for two comparisons of outcomes; or they name a job that writes a file which it reads, or a file twice.
+-- for two comparisons of outcomes, or for fences at what are no places; or they name a job that writes a file which it reads, or a file twice.
 pub data IsNoCommand (words : List Text) : Type 0 where
   no_utf8 : (word : Text) → Contains words word → (IsUtf8 word → ⊥) → IsNoCommand words
   faulty : (models : ModelNames) → AreModels models → fault_of (fencer_app models) words ≢ [] → IsNoCommand words
-  twice : (models : ModelNames) (name : Text) (rows : List Row) → AreModels models → subcommand_of (fencer_app models) words ≡ Some (name, rows) → asks_twice rows ≡ true → IsNoCommand words
+  for_nothing : (models : ModelNames) (name : Text) (rows : List Row) → AreModels models → subcommand_of (fencer_app models) words ≡ Some (name, rows) → AsksForNothing rows → IsNoCommand words
   clashing : (job : Job) → Names words job → has_clash (files_of job) ≡ true → IsNoCommand words

@@ -1,11 +1,11 @@
 -- The commands that are built for `clap`.
-use Rattle.std.specs.Prelude.{◌≡◌, true, false, List, Contains, Some}
+use Rattle.std.specs.Prelude.{◌≡◌, false, List, Contains, Some}
 use Rattle.clap.specs.Words.{App, Row, Text, app_of, subcommand_rows_of}
 use Rattle.clap.specs.declared.builder.command.Command.{Command}
 use Rattle.clap.specs.declared.builder.command.Command.TheViews.{out-Command}
 use Rattle.clap.specs.declared.parser.matches.ArgMatches.{ArgMatches}
 use Rattle.fencer_words.specs.declared.job.Job.{Job}
-use Rattle.fencer_words.specs.CommandLines.{ModelNames, AreModels, IsJobOf, asks_twice, command_names, fencer_app}
+use Rattle.fencer_words.specs.CommandLines.{ModelNames, AreModels, AsksForNothing, IsJobOf, asks_twice, command_names, fencer_app}
 
 -- the command is this one, and has no argument that its subcommands share
 pub record IsBuiltAs (app : App) (command : Command) : Type 0 where
@@ -26,6 +26,6 @@ pub record IsJobMet (matches : ArgMatches) (job : Job) : Type 0 where
   pub once : asks_twice rows ≡ false
   pub asked : IsJobOf name rows job
 
--- the parse met none of the commands but one that asks for two comparisons of outcomes
+-- the parse met none of the commands but one that asks for nothing
 abbrev pub MeetsNoJob : ArgMatches → Type 0
-MeetsNoJob matches = (name : Text) (rows : List Row) → subcommand_rows_of matches ≡ Some (name, rows) → Contains command_names name → asks_twice rows ≡ true
+MeetsNoJob matches = (name : Text) (rows : List Row) → subcommand_rows_of matches ≡ Some (name, rows) → Contains command_names name → AsksForNothing rows

@@ -1,4 +1,5 @@
 pub mod CommandFiles
+pub mod Places
 pub mod CommandLines
 pub mod Commands
 pub mod Internal

@@ -87,12 +87,12 @@ pub fn condition_arg<'a>(alloc: Global) -> Arg<'a>
     flag_arg(
         alloc,
         "condition",
-        "Compare outcomes by whether the condition's formula is true, and by nothing else",
+        "Compare only whether an outcome meets the condition's formula",
     )
 }
 
 /// The first value of an argument.
-fn value_of<'a>(matches: &ArgMatches<'a>, id: &str) -> Option<&'a str>
+pub fn value_of<'a>(matches: &ArgMatches<'a>, id: &str) -> Option<&'a str>
     ensures { option_map (λ value. value.now) result ≡ first_of id.now (rows_of (found_of matches.now)) }
 {
     matches.get_str(id)
@@ -182,7 +182,7 @@ pub fn progress_arg<'a>(alloc: Global) -> Arg<'a>
     flag_arg(
         alloc,
         "progress",
-        "Report on standard error how far it is; long searches do so on a terminal",
+        "Report progress on standard error, as long searches do on a terminal",
     )
 }
 

@@ -48,6 +48,12 @@ pub(crate) fn files_of(job: &Job) -> FileNames<'_>
             query.graphs.as_deref(),
         ),
         Job::Gaps(query) => (&query.litmus, query.costs.as_deref(), None, None),
+        Job::Witness(query) => (
+            &query.litmus,
+            None,
+            query.page.as_deref(),
+            query.graph.as_deref(),
+        ),
     };
     FileNames {
         litmus: file_of_litmus(litmus.as_str()),

@@ -61,6 +61,8 @@ pub struct TraceQuery {
 #[derive(Debug, Drop)]
 pub struct OutcomeQuery {
     pub model: Model,
+    /// Print a run of each outcome too.
+    pub runs: bool,
     /// Show only what the condition and `locations` name.
     pub observed: bool,
     /// Report by the status whether the condition fails.
@@ -69,6 +71,23 @@ pub struct OutcomeQuery {
     pub json: bool,
     /// Report what lies ahead, however little that is.
     pub progress: bool,
+    pub litmus: String,
+}
+
+/// A run of which the condition's formula has some truth, which is asked for. Files are given by their names.
+#[derive(Debug, Drop)]
+pub struct WitnessQuery {
+    pub model: Model,
+    /// Show a run whose outcome meets the formula, or one whose outcome does not.
+    pub meets: bool,
+    /// The places of the gaps that are fenced: the thread and the instruction after each.
+    pub fences: Vec<(u8, u8)>,
+    /// The file to which the run's graph is written.
+    pub graph: Option<String>,
+    /// The file to which the page of the document is written.
+    pub page: Option<String>,
+    /// Print the document in place of the text.
+    pub json: bool,
     pub litmus: String,
 }
 
@@ -97,4 +116,6 @@ pub enum Job {
     Why(WhyQuery),
     /// List the gaps of the program of a litmus file.
     Gaps(GapQuery),
+    /// Show a run of the program of a litmus file of which the condition's formula has some truth.
+    Witness(WitnessQuery),
 }

@@ -2,6 +2,7 @@
 #![tactic(auto)]
 
 mod arguments;
+mod fences;
 mod files;
 mod gaps;
 mod job;
@@ -10,7 +11,8 @@ mod place;
 mod replay;
 mod trace;
 mod why;
+mod witness;
 mod words;
 
-pub use job::{GapQuery, Job, OutcomeQuery, Placement, Run, TraceQuery, WhyQuery};
+pub use job::{GapQuery, Job, OutcomeQuery, Placement, Run, TraceQuery, WhyQuery, WitnessQuery};
 pub use words::read_words;

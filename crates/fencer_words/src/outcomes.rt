@@ -1,4 +1,4 @@
-//! `outcomes [--model MODEL] [--observed] [--check] [--json] [--progress] LITMUS`
+//! `outcomes [--model MODEL] [--runs] [--observed] [--check] [--json] [--progress] LITMUS`
 
 ghost use Rattle.std.specs.Prelude.{IfOk, codes};
 ghost use Rattle.clap.specs.Words.{found_of, rows_of};
@@ -17,13 +17,15 @@ const FIRST: &str =
     "Lists each outcome of a program once, and what the list shows of its condition";
 
 const LAST: &str = "\
-Prints `outcomes N`, a line `outcome: ..` for each in ascending order, `observation ..` and
-`condition ..`.
+Prints `outcomes N`, a line `outcome: ..` for each in ascending order, with --runs each followed by
+a line `run LABEL ..`, and `observation ..` and `condition ..`.
 
 The status is 0 for an answer, 1 for a refusal (docs/formats.md explains each), 2 for a bad
 command line or this help, 3 with --check for a condition that fails.
 
 Example: fencer outcomes --model sequential examples/SB.litmus";
+
+const RUNS_HELP: &str = "Print after each outcome a run that leaves it";
 
 const CHECK_HELP: &str = "Return status 3 where the condition fails";
 
@@ -32,6 +34,7 @@ pub fn outcomes_command<'a>(alloc: Global, models: &'a [&'a str]) -> Result<Comm
 {
     described_command(alloc, "outcomes", FIRST, LAST)
         .arg(model_arg(alloc, models))?
+        .arg(flag_arg(alloc, "runs", RUNS_HELP))?
         .arg(observed_arg(alloc))?
         .arg(flag_arg(alloc, "check", CHECK_HELP))?
         .arg(json_arg(alloc))?
@@ -44,6 +47,7 @@ pub fn outcomes_job(alloc: Global, matches: &ArgMatches<'_>) -> Result<Job, Allo
 {
     Ok(Job::Outcomes(OutcomeQuery {
         model: model_in(matches),
+        runs: is_flagged(matches, "runs"),
         observed: is_flagged(matches, "observed"),
         check: is_flagged(matches, "check"),
         json: is_flagged(matches, "json"),

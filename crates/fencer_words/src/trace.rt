@@ -27,7 +27,7 @@ command line or this help.
 
 Example: fencer trace examples/SB.litmus e0 e1 e0 e1 f0 f1";
 
-const DOT_HELP: &str = "Write the run's candidate execution there, as a graph for Graphviz";
+pub const DOT_HELP: &str = "Write the run's candidate execution there, as a graph for Graphviz";
 
 pub fn trace_command<'a>(alloc: Global, models: &'a [&'a str]) -> Result<Command<'a>, AllocError>
     ensures { IfOk result (IsBuiltAs (trace_app models.entry)) }

@@ -3,7 +3,7 @@
 ghost use Rattle.std.specs.Prelude.{◌≡◌, ◌⊎◌, true, false, Contains, IfErr, IfOk, IfNone, IfSome, OnOk, map, string_bytes};
 ghost use Rattle.clap.specs.Words.{found_of, kind_of, rows_of};
 ghost use Rattle.fencer_words.specs.CommandFiles.{files_of, has_clash};
-ghost use Rattle.fencer_words.specs.CommandLines.{asks_twice, command_names, AreModels, AsksFor, IsJobOf, IsNoCommand, Names};
+ghost use Rattle.fencer_words.specs.CommandLines.{asks_twice, command_names, AreModels, AsksFor, IsJobOf, IsNoCommand, LacksPlaces, Names};
 ghost use Rattle.fencer_words.specs.Commands.{IsFencerCommand, IsJobMet, MeetsNoJob};
 
 use crate::arguments::{described_command, is_flagged};
@@ -15,14 +15,15 @@ use crate::place::{place_command, place_job};
 use crate::replay::{replay_command, replay_job};
 use crate::trace::{trace_command, trace_job};
 use crate::why::{why_command, why_job};
+use crate::witness::{witness_command, witness_job};
 use clap::error::ErrorKind;
 use clap::{ArgMatches, Command, Error};
 use std::alloc::{AllocError, Global};
 
 const FIRST: &str = "\
 Finds the cheapest places for MFENCE with which a small x86 program behaves as on a sequentially
-consistent machine. Shows why each is needed, replays the program's runs, and lists its outcomes
-and its gaps.";
+consistent machine. Shows why each is needed, shows a run that meets the condition, replays the
+program's runs, and lists its outcomes and its gaps.";
 
 const LAST: &str = "\
 `fencer COMMAND --help` explains a command, `fencer --version` prints the version. Without
@@ -38,6 +39,8 @@ Example: fencer place examples/SB.litmus";
 const CLASH: &str = "a file that is written must not be one that is read, nor be written twice";
 
 const TWICE: &str = "--observed and --condition cannot both be given";
+
+const FENCES: &str = "--fences takes gaps with commas between them, each once, as 0:1,1:1";
 
 static MODELS: [&str; 2] = ["buffered", "sequential"];
 
@@ -63,13 +66,14 @@ fn command<'a>(alloc: Global) -> Result<Command<'a>, AllocError>
         .subcommand(place_command(alloc)?)?
         .subcommand(trace_command(alloc, models)?)?
         .subcommand(why_command(alloc)?)?
-        .subcommand(gaps_command(alloc)?)
+        .subcommand(gaps_command(alloc)?)?
+        .subcommand(witness_command(alloc, models)?)
 }
 
-/// The job of the command of this name, where there is such a command.
+/// The job of the command of this name, where there is such a command and its fences are at places.
 fn job_of(alloc: Global, name: &str, matches: &ArgMatches<'_>) -> Result<Option<Job>, AllocError>
     ensures some { IfOk result (λ job. IfSome job (IsJobOf name.now (rows_of (found_of matches.now)))) }
-    ensures none { IfOk result (λ job. IfNone job (Contains command_names name.now → ⊥)) }
+    ensures none { IfOk result (λ job. IfNone job (Contains command_names name.now → LacksPlaces (rows_of (found_of matches.now)))) }
 {
     match name {
         "replay" => Ok(Some(replay_job(alloc, matches)?)),
@@ -78,6 +82,7 @@ fn job_of(alloc: Global, name: &str, matches: &ArgMatches<'_>) -> Result<Option<
         "trace" => Ok(Some(trace_job(alloc, matches)?)),
         "why" => Ok(Some(why_job(alloc, matches)?)),
         "gaps" => Ok(Some(gaps_job(alloc, matches)?)),
+        "witness" => witness_job(alloc, matches),
         _ => Ok(None),
     }
 }
@@ -89,7 +94,7 @@ fn asks_twice(matches: &ArgMatches<'_>) -> bool
     is_flagged(matches, "observed") && is_flagged(matches, "condition")
 }
 
-/// The job of the subcommand that was met, unless it asks for two comparisons of outcomes.
+/// The job of the subcommand that was met, unless that asks for nothing.
 fn job_met(alloc: Global, matches: &ArgMatches<'_>) -> Result<Option<Job>, AllocError>
     ensures some { IfOk result (λ job. IfSome job (IsJobMet matches.now)) }
     ensures none { IfOk result (λ job. IfNone job (MeetsNoJob matches.now)) }
@@ -106,6 +111,16 @@ fn job_met(alloc: Global, matches: &ArgMatches<'_>) -> Result<Option<Job>, Alloc
     }
 }
 
+/// Why a subcommand that was met asks for no job.
+fn no_job(alloc: Global, matches: &ArgMatches<'_>) -> Result<Error, AllocError> {
+    match matches.subcommand() {
+        Some((_, inner)) if asks_twice(inner) => {
+            command(alloc)?.error(ErrorKind::ArgumentConflict, TWICE)
+        }
+        _ => command(alloc)?.error(ErrorKind::ValueValidation, FENCES),
+    }
+}
+
 /// The job that arguments name.
 fn job_named(alloc: Global, words: &[String]) -> Result<Job, Error>
     ensures job { IfOk result (Names (map string_bytes words.now)) }
@@ -114,7 +129,7 @@ fn job_named(alloc: Global, words: &[String]) -> Result<Job, Error>
     let matches = command(alloc)?.try_get_matches_from(words)?;
     match job_met(alloc, &matches)? {
         Some(job) => Ok(job),
-        None => Err(command(alloc)?.error(ErrorKind::ArgumentConflict, TWICE)?),
+        None => Err(no_job(alloc, &matches)?),
     }
 }
 

@@ -82,7 +82,20 @@ fn gaps_text(alloc: Global, program: &Program) -> Result<String, AllocError> {
     Ok(text)
 }
 
-/// What is said of a gap that the program of a litmus text lacks.
+/// That the program of a litmus text lacks a gap.
+pub(crate) fn missing_gap_text(
+    alloc: Global,
+    gap: &str,
+    litmus: &[u8],
+) -> Result<String, AllocError> {
+    let gaps = match read_litmus(alloc, litmus) {
+        Ok(litmus) => gaps_text(alloc, &litmus.program)?,
+        Err(_) => String::from_str(alloc, "others")?,
+    };
+    format!(in alloc; "gap {gap} is not a gap of this program; it has {gaps}")
+}
+
+/// What is said of a line with a gap that the program of a litmus text lacks.
 fn missing_gap_message(
     alloc: Global,
     source: Source<'_>,
@@ -90,12 +103,8 @@ fn missing_gap_message(
     litmus: &[u8],
 ) -> Result<Message, AllocError> {
     let piece = source.piece(pieces.gap);
-    let gaps = match read_litmus(alloc, litmus) {
-        Ok(litmus) => gaps_text(alloc, &litmus.program)?,
-        Err(_) => String::from_str(alloc, "others")?,
-    };
     let gap = shown_word(alloc, piece)?;
-    let text = format!(in alloc; "gap {gap} is not a gap of this program; it has {gaps}")?;
+    let text = missing_gap_text(alloc, gap.as_str(), litmus)?;
     let mut message = Message::at_word(alloc, source, pieces.gap, piece, "")?;
     message.text = text;
     Ok(message)

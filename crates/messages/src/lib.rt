@@ -4,6 +4,7 @@
 
 mod certificates;
 mod costs;
+mod fences;
 mod files;
 mod labels;
 mod litmus;
@@ -15,6 +16,7 @@ mod tokens;
 
 pub use certificates::{certificate_message, check_message};
 pub use costs::costs_message;
+pub use fences::fence_message;
 pub use files::{unread_message, unwritten_message};
 pub use labels::{replay_message, run_message};
 pub use litmus::litmus_message;

@@ -8,10 +8,11 @@ ghost use Rattle.placed_text.specs.PlacedTexts.{IsPlacedText};
 ghost use Rattle.placed_text.specs.TextFaults.{HasNoPlacement, HasNoPlacedText};
 
 use crate::TextFault;
+use crate::ahead::report_ahead;
 use crate::reading::{read_gap_costs, read_program, shown_of};
-use crate::watched::{Effort, Watched, report_ahead, report_outcomes};
+use crate::watched::{Effort, Watched, report_outcomes};
 use crate::writing::{PlacedText, write_placed};
-use cover_solver::{SolveFault, Solver, sequential};
+use cover_solver::{SolveFault, Solver, sequential_watched};
 use fence_place::{PlaceFault, Placed, place};
 use gap_sets::Costs;
 use std::alloc::Global;
@@ -43,12 +44,13 @@ pub fn place_gaps<R: Threads + Sync, W: Wait + Sync>(
     ensures workers { OnOk result (¬ AreTooFewOrMany effort.workers) }
     ensures fault { IfErr result (HasNoPlacement effort.workers) }
 {
-    let progress = report_ahead(alloc, program, effort.progress);
-    let table = match sequential(alloc, program, shown) {
+    let ahead = report_ahead(alloc, program, effort.progress);
+    let table = match sequential_watched(alloc, program, shown, &ahead) {
         Ok(table) => table,
         Err(SolveFault::NoRun) => return Err(TextFault::Place(PlaceFault::NotCertified)),
         Err(SolveFault::OutOfMemory) => return Err(TextFault::OutOfMemory),
     };
+    let progress = ahead.progress();
     report_outcomes(alloc, progress, table.outcomes().len());
     let Ok(solver) = Solver::new(alloc, program, &table) else {
         return Err(TextFault::OutOfMemory);

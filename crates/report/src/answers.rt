@@ -1,7 +1,7 @@
 //! The lines of runs and of answers.
 
-ghost use Rattle.std.specs.Prelude.{◌≡◌, IfOk, codes};
-ghost use Rattle.report.specs.Answers.{labels_line, outcome_line, passed_line, without_line, shown_word, set_line, answer_line};
+ghost use Rattle.std.specs.Prelude.{◌≡◌, ◌++◌, IfOk, OnOk, codes};
+ghost use Rattle.report.specs.Answers.{after_space, labels_line, outcome_line, passed_line, without_line, shown_word, set_line, answer_line};
 
 use crate::places::{push_gap, push_gaps};
 use gap_sets::GapSet;
@@ -10,12 +10,24 @@ use std::alloc::{AllocError, Global};
 use tso_machine::{Label, write_run};
 use tso_program::{Outcome, Program, Shown};
 
+/// A text after a space, or nothing where there is no text.
+fn push_after_space(line: &mut Vec<u8>, text: &[u8]) -> Result<(), AllocError>
+    ensures { OnOk result (line.new.items ≡ line.old.items ++ after_space text.now) }
+{
+    if !text.is_empty() {
+        line.push(b' ')?;
+        line.extend_from_slice(text)?;
+    }
+    Ok(())
+}
+
 /// The labels of a run.
 pub fn labels_line(alloc: Global, labels: &[Label]) -> Result<Vec<u8>, AllocError>
     ensures { IfOk result (λ line. line.items ≡ labels_line labels.now) }
 {
-    let mut line = Vec::from_slice(alloc, b"run ")?;
-    line.extend_from_slice(&write_run(alloc, labels)?)?;
+    let text = write_run(alloc, labels)?;
+    let mut line = Vec::from_slice(alloc, b"run")?;
+    push_after_space(&mut line, &text)?;
     line.push(b'\n')?;
     Ok(line)
 }
@@ -32,10 +44,7 @@ pub fn outcome_line(
 {
     let items = write_outcome(alloc, names, shown, outcome)?;
     let mut line = Vec::from_slice(alloc, b"outcome:")?;
-    if !items.is_empty() {
-        line.push(b' ')?;
-        line.extend_from_slice(&items)?;
-    }
+    push_after_space(&mut line, &items)?;
     line.push(b'\n')?;
     Ok(line)
 }

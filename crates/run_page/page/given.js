@@ -57,7 +57,8 @@ const gapPlace = gap => gap.split(":").map(Number);
 
 const gapCost = gap => given.gaps.find(priced => priced.gap === gap).cost;
 
-const gapsOfAnswer = () => given.answer ? given.answer.set : [];
+// The gaps that are fenced: those of the answer, or those that `fencer witness` was asked to fence.
+const fencedGaps = () => given.answer ? given.answer.set : given.fences ?? [];
 
 const instructionText = (thread, number) => given.threads[thread].instructions[number].text;
 

@@ -6,13 +6,13 @@ const cellList = (label, names) =>
   html("ul", { class: "cells", "aria-label": label },
     names.map(name => html("li", { class: "cell" }, name, html("b"), html("s"))));
 
-// The lines of a thread's program: its labels and instructions, and the fences of the answer.
+// The lines of a thread's program: its labels and instructions, and the fences.
 function programLines({ instructions, end }, thread, leftOut) {
   const lines = instructions.flatMap(({ labels, text }, number) => {
     const gap = `${thread}:${number}`;
     const label = html("span", { class: "label" }, labels.map(name => name + ": ").join(""));
     const line = html("li", { "data-number": number, "data-at": gap }, label, text);
-    return gapsOfAnswer().includes(gap) ? [fenceLine(gap, gap === leftOut), line] : [line];
+    return fencedGaps().includes(gap) ? [fenceLine(gap, gap === leftOut), line] : [line];
   });
   if (end.length > 0) {
     const label = html("span", { class: "label" }, end.map(name => name + ":").join(" "));
@@ -21,9 +21,11 @@ function programLines({ instructions, end }, thread, leftOut) {
   return lines;
 }
 
-const fenceLine = (gap, isOut) =>
-  html("li", { class: isOut ? "fence out" : "fence", "data-gap": gap }, "MFENCE ",
-    html("small", {}, `${isOut ? "left out, " : ""}cost ${gapCost(gap)}`));
+// A fence, with its cost in the pages of answers.
+function fenceLine(gap, isOut) {
+  const cost = given.gaps ? [" ", html("small", {}, `${isOut ? "left out, " : ""}cost ${gapCost(gap)}`)] : [];
+  return html("li", { class: isOut ? "fence out" : "fence", "data-gap": gap }, "MFENCE", ...cost);
+}
 
 // A store buffer with room for as many stores as ever wait in it. Its newest store is at the top.
 function bufferBox(thread, depth) {

@@ -1,4 +1,4 @@
-// The page: what the answer is, and a player for each of its fences, or for the one run of a trace.
+// The page: what the answer is, and a player for each of its fences, or for the one run of a trace or a witness.
 
 const main = document.getElementById("page");
 
@@ -32,6 +32,11 @@ function answerWords(gaps) {
   return ["A cheapest set of fences: ", fences, ...places, `. ${cost}; no cheaper set is enough.`];
 }
 
+// The program alone, with its condition.
+const programBox = () =>
+  region("program", "the program", html("h2", {}, "The program"), threadColumns(null),
+    html("p", { class: "note" }, "The file's condition: ", code(given.condition)));
+
 function showNoFence() {
   document.title = `${given.test} needs no fence`;
   main.replaceChildren(
@@ -39,8 +44,7 @@ function showNoFence() {
     html("p", { class: "lead" }, `Every outcome is sequential${comparedWords()}: store buffers show nothing here that `
       + "would not happen if each instruction took effect at once."),
     html("p", { class: "soft" }, introduction),
-    region("program", "the program", html("h2", {}, "The program"), threadColumns(null),
-      html("p", { class: "note" }, "The file's condition: ", code(given.condition))));
+    programBox());
 }
 
 function showAnswer(gaps) {
@@ -99,20 +103,47 @@ function showRuns(runs) {
   listenToKeys(() => player);
 }
 
-// The one run of `fencer trace`.
-function showTrace() {
-  const run = new Run(given.run);
-  const isBuffered = given.run.model === "buffered";
+// One run alone, under a heading and what is said of it.
+function showOneRun(heading, lead) {
+  const player = new Player(new Run(given.run));
   document.title = `${given.test}: a run`;
-  const player = new Player(run);
   main.replaceChildren(
-    html("h1", {}, `A run of ${given.test}`),
-    html("p", { class: "lead" }, isBuffered ? "A run on the machine with store buffers."
-      : "A sequential run: each instruction takes effect at once."),
-    html("p", { class: "soft" }, isBuffered ? introduction : ""),
+    html("h1", {}, heading),
+    html("p", { class: "lead" }, lead),
+    html("p", { class: "soft" }, given.run.model === "buffered" ? introduction : ""),
     player.body);
   player.start(address()[1]);
   listenToKeys(() => player);
+}
+
+// The one run of `fencer trace`.
+function showTrace() {
+  showOneRun(`A run of ${given.test}`, given.run.model === "buffered" ? "A run on the machine with store buffers."
+    : "A sequential run: each instruction takes effect at once.");
+}
+
+// The machine of `fencer witness`, with the fences.
+function machineWords() {
+  const machine = given.model === "buffered" ? "on the machine with store buffers" : "on the sequential machine";
+  const fences = fencedGaps().map(gap => html("span", {}, "before ", ...placeOf(gap)));
+  return fences.length === 0 ? [machine] : [machine, ", with MFENCE ", ...listed(fences)];
+}
+
+// The run of `fencer witness`, or that there is none.
+function showWitness() {
+  if (given.run !== null) {
+    const meets = given.meets_condition ? "meets" : "does not meet";
+    return showOneRun(`A run of ${given.test} that ${meets} its condition`,
+      ["A run ", ...machineWords(), `, whose outcome ${meets} the formula of the file's condition.`]);
+  }
+  const [heading, says] = given.meets_condition
+    ? [`No run of ${given.test} meets its condition`, "No run "] : [`Every run of ${given.test} meets its condition`, "Each run "];
+  document.title = heading;
+  main.replaceChildren(
+    html("h1", {}, heading),
+    html("p", { class: "lead" }, says, ...machineWords(), " meets the formula of the file's condition."),
+    html("p", { class: "soft" }, introduction),
+    programBox());
 }
 
 // The gap and the step that the page's address names.
@@ -141,10 +172,12 @@ function listenToKeys(player) {
 }
 
 function show() {
-  if (given.format !== "fencer 1" || !["why", "trace"].includes(given.command)) {
-    main.replaceChildren(html("p", {}, "This page shows documents of fencer why and fencer trace, format 1."));
+  if (given.format !== "fencer 1" || !["why", "trace", "witness"].includes(given.command)) {
+    main.replaceChildren(html("p", {}, "This page shows documents of fencer why, trace and witness, format 1."));
   } else if (given.command === "trace") {
     showTrace();
+  } else if (given.command === "witness") {
+    showWitness();
   } else if (given.answer.set.length > 0) {
     showAnswer(given.answer.set);
   } else {

@@ -109,8 +109,8 @@ function localWords(run, i) {
   return [next === run.steps[i].instruction + 1 ? ", and goes on with the next instruction." : ", and jumps ahead."];
 }
 
-// An outcome is the final values of all that is compared, so a condition that names a part of it may be met elsewhere too.
-const elsewhere = ". Sequential runs may do so too, with other final values.";
+// A condition that names a part of what is compared may be met sequentially too, with other final values.
+const elsewhere = ". The command fencer outcomes --model sequential says whether a sequential run does so too.";
 
 // Whether the run's outcome is what the file's condition is about.
 function conditionWords(run) {

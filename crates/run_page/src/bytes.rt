@@ -368,7 +368,8 @@ const gapPlace = gap => gap.split(\":\").map(Number);\n\
 \n\
 const gapCost = gap => given.gaps.find(priced => priced.gap === gap).cost;\n\
 \n\
-const gapsOfAnswer = () => given.answer ? given.answer.set : [];\n\
+// The gaps that are fenced: those of the answer, or those that `fencer witness` was asked to fence.\n\
+const fencedGaps = () => given.answer ? given.answer.set : given.fences ?? [];\n\
 \n\
 const instructionText = (thread, number) => given.threads[thread].instructions[number].text;\n\
 \n\
@@ -598,8 +599,8 @@ function localWords(run, i) {\n\
 \x20 return [next === run.steps[i].instruction + 1 ? \", and goes on with the next instruction.\" : \", and jumps ahead.\"];\n\
 }\n\
 \n\
-// An outcome is the final values of all that is compared, so a condition that names a part of it may be met elsewhere too.\n\
-const elsewhere = \". Sequential runs may do so too, with other final values.\";\n\
+// A condition that names a part of what is compared may be met sequentially too, with other final values.\n\
+const elsewhere = \". The command fencer outcomes --model sequential says whether a sequential run does so too.\";\n\
 \n\
 // Whether the run's outcome is what the file's condition is about.\n\
 function conditionWords(run) {\n\
@@ -677,13 +678,13 @@ const cellList = (label, names) =>\n\
 \x20 html(\"ul\", { class: \"cells\", \"aria-label\": label },\n\
 \x20   names.map(name => html(\"li\", { class: \"cell\" }, name, html(\"b\"), html(\"s\"))));\n\
 \n\
-// The lines of a thread's program: its labels and instructions, and the fences of the answer.\n\
+// The lines of a thread's program: its labels and instructions, and the fences.\n\
 function programLines({ instructions, end }, thread, leftOut) {\n\
 \x20 const lines = instructions.flatMap(({ labels, text }, number) => {\n\
 \x20   const gap = `${thread}:${number}`;\n\
 \x20   const label = html(\"span\", { class: \"label\" }, labels.map(name => name + \": \").join(\"\"));\n\
 \x20   const line = html(\"li\", { \"data-number\": number, \"data-at\": gap }, label, text);\n\
-\x20   return gapsOfAnswer().includes(gap) ? [fenceLine(gap, gap === leftOut), line] : [line];\n\
+\x20   return fencedGaps().includes(gap) ? [fenceLine(gap, gap === leftOut), line] : [line];\n\
 \x20 });\n\
 \x20 if (end.length > 0) {\n\
 \x20   const label = html(\"span\", { class: \"label\" }, end.map(name => name + \":\").join(\" \"));\n\
@@ -692,9 +693,11 @@ function programLines({ instructions, end }, thread, leftOut) {\n\
 \x20 return lines;\n\
 }\n\
 \n\
-const fenceLine = (gap, isOut) =>\n\
-\x20 html(\"li\", { class: isOut ? \"fence out\" : \"fence\", \"data-gap\": gap }, \"MFENCE \",\n\
-\x20   html(\"small\", {}, `${isOut ? \"left out, \" : \"\"}cost ${gapCost(gap)}`));\n\
+// A fence, with its cost in the pages of answers.\n\
+function fenceLine(gap, isOut) {\n\
+\x20 const cost = given.gaps ? [\" \", html(\"small\", {}, `${isOut ? \"left out, \" : \"\"}cost ${gapCost(gap)}`)] : [];\n\
+\x20 return html(\"li\", { class: isOut ? \"fence out\" : \"fence\", \"data-gap\": gap }, \"MFENCE\", ...cost);\n\
+}\n\
 \n\
 // A store buffer with room for as many stores as ever wait in it. Its newest store is at the top.\n\
 function bufferBox(thread, depth) {\n\
@@ -1358,7 +1361,7 @@ function addressLater(gap, steps) {\n\
 \x20 clearTimeout(addressTimer);\n\
 \x20 addressTimer = setTimeout(() => history.replaceState(null, \"\", `#${gap ?? \"run\"}/${steps}`), ADDRESS_DELAY);\n\
 }\n\
-// The page: what the answer is, and a player for each of its fences, or for the one run of a trace.\n\
+// The page: what the answer is, and a player for each of its fences, or for the one run of a trace or a witness.\n\
 \n\
 const main = document.getElementById(\"page\");\n\
 \n\
@@ -1392,6 +1395,11 @@ function answerWords(gaps) {\n\
 \x20 return [\"A cheapest set of fences: \", fences, ...places, `. ${cost}; no cheaper set is enough.`];\n\
 }\n\
 \n\
+// The program alone, with its condition.\n\
+const programBox = () =>\n\
+\x20 region(\"program\", \"the program\", html(\"h2\", {}, \"The program\"), threadColumns(null),\n\
+\x20   html(\"p\", { class: \"note\" }, \"The file's condition: \", code(given.condition)));\n\
+\n\
 function showNoFence() {\n\
 \x20 document.title = `${given.test} needs no fence`;\n\
 \x20 main.replaceChildren(\n\
@@ -1399,8 +1407,7 @@ function showNoFence() {\n\
 \x20   html(\"p\", { class: \"lead\" }, `Every outcome is sequential${comparedWords()}: store buffers show nothing here that `\n\
 \x20     + \"would not happen if each instruction took effect at once.\"),\n\
 \x20   html(\"p\", { class: \"soft\" }, introduction),\n\
-\x20   region(\"program\", \"the program\", html(\"h2\", {}, \"The program\"), threadColumns(null),\n\
-\x20     html(\"p\", { class: \"note\" }, \"The file's condition: \", code(given.condition))));\n\
+\x20   programBox());\n\
 }\n\
 \n\
 function showAnswer(gaps) {\n\
@@ -1459,20 +1466,47 @@ function showRuns(runs) {\n\
 \x20 listenToKeys(() => player);\n\
 }\n\
 \n\
-// The one run of `fencer trace`.\n\
-function showTrace() {\n\
-\x20 const run = new Run(given.run);\n\
-\x20 const isBuffered = given.run.model === \"buffered\";\n\
+// One run alone, under a heading and what is said of it.\n\
+function showOneRun(heading, lead) {\n\
+\x20 const player = new Player(new Run(given.run));\n\
 \x20 document.title = `${given.test}: a run`;\n\
-\x20 const player = new Player(run);\n\
 \x20 main.replaceChildren(\n\
-\x20   html(\"h1\", {}, `A run of ${given.test}`),\n\
-\x20   html(\"p\", { class: \"lead\" }, isBuffered ? \"A run on the machine with store buffers.\"\n\
-\x20     : \"A sequential run: each instruction takes effect at once.\"),\n\
-\x20   html(\"p\", { class: \"soft\" }, isBuffered ? introduction : \"\"),\n\
+\x20   html(\"h1\", {}, heading),\n\
+\x20   html(\"p\", { class: \"lead\" }, lead),\n\
+\x20   html(\"p\", { class: \"soft\" }, given.run.model === \"buffered\" ? introduction : \"\"),\n\
 \x20   player.body);\n\
 \x20 player.start(address()[1]);\n\
 \x20 listenToKeys(() => player);\n\
+}\n\
+\n\
+// The one run of `fencer trace`.\n\
+function showTrace() {\n\
+\x20 showOneRun(`A run of ${given.test}`, given.run.model === \"buffered\" ? \"A run on the machine with store buffers.\"\n\
+\x20   : \"A sequential run: each instruction takes effect at once.\");\n\
+}\n\
+\n\
+// The machine of `fencer witness`, with the fences.\n\
+function machineWords() {\n\
+\x20 const machine = given.model === \"buffered\" ? \"on the machine with store buffers\" : \"on the sequential machine\";\n\
+\x20 const fences = fencedGaps().map(gap => html(\"span\", {}, \"before \", ...placeOf(gap)));\n\
+\x20 return fences.length === 0 ? [machine] : [machine, \", with MFENCE \", ...listed(fences)];\n\
+}\n\
+\n\
+// The run of `fencer witness`, or that there is none.\n\
+function showWitness() {\n\
+\x20 if (given.run !== null) {\n\
+\x20   const meets = given.meets_condition ? \"meets\" : \"does not meet\";\n\
+\x20   return showOneRun(`A run of ${given.test} that ${meets} its condition`,\n\
+\x20     [\"A run \", ...machineWords(), `, whose outcome ${meets} the formula of the file's condition.`]);\n\
+\x20 }\n\
+\x20 const [heading, says] = given.meets_condition\n\
+\x20   ? [`No run of ${given.test} meets its condition`, \"No run \"] : [`Every run of ${given.test} meets its condition`, \"Each run \"];\n\
+\x20 document.title = heading;\n\
+\x20 main.replaceChildren(\n\
+\x20   html(\"h1\", {}, heading),\n\
+\x20   html(\"p\", { class: \"lead\" }, says, ...machineWords(), \" meets the formula of the file's condition.\"),\n\
+\x20   html(\"p\", { class: \"soft\" }, introduction),\n\
+\x20   programBox());\n\
 }\n\
 \n\
 // The gap and the step that the page's address names.\n\
@@ -1501,10 +1535,12 @@ function listenToKeys(player) {\n\
 }\n\
 \n\
 function show() {\n\
-\x20 if (given.format !== \"fencer 1\" || ![\"why\", \"trace\"].includes(given.command)) {\n\
-\x20   main.replaceChildren(html(\"p\", {}, \"This page shows documents of fencer why and fencer trace, format 1.\"));\n\
+\x20 if (given.format !== \"fencer 1\" || ![\"why\", \"trace\", \"witness\"].includes(given.command)) {\n\
+\x20   main.replaceChildren(html(\"p\", {}, \"This page shows documents of fencer why, trace and witness, format 1.\"));\n\
 \x20 } else if (given.command === \"trace\") {\n\
 \x20   showTrace();\n\
+\x20 } else if (given.command === \"witness\") {\n\
+\x20   showWitness();\n\
 \x20 } else if (given.answer.set.length > 0) {\n\
 \x20   showAnswer(given.answer.set);\n\
 \x20 } else {\n\

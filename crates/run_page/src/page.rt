@@ -22,7 +22,7 @@ fn tail() -> &'static [u8]
     TAIL
 }
 
-/// The page that shows a document of `fencer why` or `fencer trace`: the page up to the document, the document as it is,
+/// The page that shows a document of `fencer why`, `fencer trace` or `fencer witness`: the page up to the document, the document as it is,
 /// and the rest. A document has no `<`, so a browser reads exactly its bytes in the element around it.
 pub fn page_of(alloc: Global, document: &[u8]) -> Result<Vec<u8>, AllocError>
     ensures { IfOk result (λ page. page.items ≡ page_text document.now) }

@@ -1,59 +1,78 @@
 //! What is printed for an input.
 
-use crate::calls::{CALLS, Call, TestCall};
-use crate::input::{named, split_line, words_of};
+use crate::calls::{CALLS, Call, TableCall};
 use crate::refusal::Refusal;
-use crate::{
-    certificates, exchanges, fences, formulas, machines, observations, programs, sets, sketches,
-    solver, syntax, texts, tokens,
-};
-use litmus_text::{Litmus, read_litmus};
+use cover_solver::SeqTable;
+use hunt_calls::{push_exchanged, push_of_hunt};
+use litmus_text::{Litmus, NameTable, read_litmus};
+use place_calls::push_of_place;
+use solver_calls::{options, push_of_solver, table_of};
 use std::alloc::{AllocError, Global};
 use std::sync::Wait;
 use std::thread::Threads;
+use text_calls::{LitmusCall, named, push_of_litmus, push_of_text, split_line, words_of};
 use tso_program::Program;
 
 /// So many bytes are printed without another allocation.
 const ROOM: usize = 4_096;
 
-/// The answer to a call with the test of a litmus text.
+/// The answer to a call with the sequential outcomes.
+fn push_of_outcomes<R: Threads + Sync, W: Wait + Sync>(
+    rt: &R,
+    wait: &W,
+    alloc: Global,
+    call: TableCall,
+    words: &[&[u8]],
+    names: &NameTable,
+    table: &SeqTable,
+    printed: &mut String,
+) -> Result<(), Refusal> {
+    match call {
+        TableCall::Solver(call) => Ok(push_of_solver(alloc, call, words, names, table, printed)?),
+        TableCall::Hunt(call) => Ok(push_of_hunt(wait, alloc, call, words, table, printed)?),
+        TableCall::Place(call) => Ok(push_of_place(rt, wait, alloc, call, words, table, printed)?),
+    }
+}
+
+/// The answer to a call with the sequential outcomes of a test.
 fn push_of_test<R: Threads + Sync, W: Wait + Sync>(
     rt: &R,
     wait: &W,
     alloc: Global,
-    call: TestCall,
+    call: TableCall,
     words: &[&[u8]],
     litmus: &Litmus<Program>,
     printed: &mut String,
 ) -> Result<(), Refusal> {
-    let program = &litmus.program;
-    match call {
-        TestCall::Read => Ok(texts::push_read(alloc, litmus, printed)?),
-        TestCall::Canonical => fences::push_canonical(alloc, words, litmus, printed),
-        TestCall::Gaps => programs::push_gaps_of(alloc, words, program, printed),
-        TestCall::Fenced => programs::push_fenced(alloc, words, program, printed),
-        TestCall::Copy => programs::push_copy(program, printed),
-        TestCall::Action => programs::push_action(words, program, printed),
-        TestCall::Replay => machines::push_replayed(alloc, words, program, printed),
-        TestCall::Sketch => sketches::push_sketch(alloc, words, program, printed),
-        TestCall::Solver(call) => {
-            solver::push_answer(rt, wait, alloc, call, words, litmus, printed)
-        }
-    }
+    let (kind, words) = options(words);
+    let table = table_of(alloc, litmus, kind)?;
+    push_of_outcomes(rt, wait, alloc, call, words, &litmus.names, &table, printed)
 }
 
-/// The answer to a call with a litmus text.
-fn push_of_litmus<R: Threads + Sync, W: Wait + Sync>(
+/// The answer to a call with the sequential outcomes of a litmus text.
+fn push_of_table<R: Threads + Sync, W: Wait + Sync>(
     rt: &R,
     wait: &W,
     alloc: Global,
-    call: TestCall,
+    call: TableCall,
     words: &[&[u8]],
     text: &[u8],
     printed: &mut String,
 ) -> Result<(), Refusal> {
     let litmus = read_litmus(alloc, text)?;
     push_of_test(rt, wait, alloc, call, words, &litmus, printed)
+}
+
+/// The answer to a call with a litmus text.
+fn push_read(
+    alloc: Global,
+    call: LitmusCall,
+    words: &[&[u8]],
+    text: &[u8],
+    printed: &mut String,
+) -> Result<(), Refusal> {
+    let litmus = read_litmus(alloc, text)?;
+    Ok(push_of_litmus(alloc, call, words, &litmus, printed)?)
 }
 
 /// The answer to a call.
@@ -67,23 +86,10 @@ fn push_of_call<R: Threads + Sync, W: Wait + Sync>(
     printed: &mut String,
 ) -> Result<(), Refusal> {
     match call {
-        Call::Tokens => tokens::push_tokens(alloc, words, text, printed),
-        Call::PlainNumber => tokens::push_plain_number(words, text, printed),
-        Call::Body => syntax::push_body(alloc, text, printed),
-        Call::Ending => syntax::push_ending(alloc, words, text, printed),
-        Call::ReadFenced => texts::push_read_fenced(alloc, text, printed),
-        Call::Formula => formulas::push_formula(alloc, text, printed),
-        Call::Formulas => formulas::push_formulas(alloc, text, printed),
-        Call::Condition => observations::push_observed(alloc, words, printed),
-        Call::Sets => sets::push_sets(alloc, words, printed),
-        Call::Costs => sets::push_costs_of(alloc, words, printed),
-        Call::Program => programs::push_program(alloc, words, printed),
-        Call::Outcomes => machines::push_compared(alloc, text, printed),
-        Call::Run => machines::push_run(alloc, text, printed),
-        Call::Certificate => certificates::push_certificate(alloc, text, printed),
-        Call::Check => certificates::push_checked(alloc, words, text, printed),
-        Call::Exchange => exchanges::push_exchanged(wait, alloc, words, text, printed),
-        Call::Test(call) => push_of_litmus(rt, wait, alloc, call, words, text, printed),
+        Call::Text(call) => Ok(push_of_text(alloc, call, words, text, printed)?),
+        Call::Litmus(call) => push_read(alloc, call, words, text, printed),
+        Call::Table(call) => push_of_table(rt, wait, alloc, call, words, text, printed),
+        Call::Exchange => Ok(push_exchanged(wait, alloc, words, text, printed)?),
     }
 }
 

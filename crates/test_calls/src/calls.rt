@@ -1,126 +1,91 @@
 //! The names of the calls.
 
-use crate::placing::PlacerCall;
+use hunt_calls::HuntCall;
+use place_calls::{PlaceCall, PlacerCall};
+use solver_calls::SolverCall;
+use text_calls::{LitmusCall, TextCall};
 
 /// A call, by its name.
 #[derive(Clone, Copy)]
 pub enum Call {
-    Tokens,
-    PlainNumber,
-    Body,
-    Ending,
-    ReadFenced,
-    Formula,
-    Formulas,
-    Condition,
-    Sets,
-    Costs,
-    Program,
-    Outcomes,
-    Run,
-    Certificate,
-    Check,
+    Text(TextCall),
+    Litmus(LitmusCall),
+    Table(TableCall),
     Exchange,
-    Test(TestCall),
-}
-
-/// A call with a litmus text.
-#[derive(Clone, Copy)]
-pub enum TestCall {
-    Read,
-    Canonical,
-    Gaps,
-    Fenced,
-    Copy,
-    Action,
-    Replay,
-    Sketch,
-    Solver(SolverCall),
 }
 
 /// A call with the sequential outcomes of a litmus text.
 #[derive(Clone, Copy)]
-pub enum SolverCall {
-    Sequential,
-    Ask,
-    Foreign,
-    Search,
-    Records,
-    Hunt,
-    HuntWith,
-    Place,
-    Gated(PlacerCall),
-    Shared(PlacerCall),
-    Lacking(PlacerCall),
+pub enum TableCall {
+    Solver(SolverCall),
+    Hunt(HuntCall),
+    Place(PlaceCall),
 }
 
 pub const CALLS: [(&[u8], Call); 38] = [
-    (b"tokens", Call::Tokens),
-    (b"plain-number", Call::PlainNumber),
-    (b"body", Call::Body),
-    (b"ending", Call::Ending),
-    (b"read", Call::Test(TestCall::Read)),
-    (b"read-fenced", Call::ReadFenced),
-    (b"canonical", Call::Test(TestCall::Canonical)),
-    (b"formula", Call::Formula),
-    (b"formulas", Call::Formulas),
-    (b"condition", Call::Condition),
-    (b"sets", Call::Sets),
-    (b"costs", Call::Costs),
-    (b"program", Call::Program),
-    (b"gaps", Call::Test(TestCall::Gaps)),
-    (b"fenced", Call::Test(TestCall::Fenced)),
-    (b"copy", Call::Test(TestCall::Copy)),
-    (b"action", Call::Test(TestCall::Action)),
-    (b"outcomes", Call::Outcomes),
-    (b"replay", Call::Test(TestCall::Replay)),
-    (b"run", Call::Run),
-    (b"sketch", Call::Test(TestCall::Sketch)),
-    (b"certificate", Call::Certificate),
-    (b"check", Call::Check),
+    (b"tokens", Call::Text(TextCall::Tokens)),
+    (b"plain-number", Call::Text(TextCall::PlainNumber)),
+    (b"body", Call::Text(TextCall::Body)),
+    (b"ending", Call::Text(TextCall::Ending)),
+    (b"read", Call::Litmus(LitmusCall::Read)),
+    (b"read-fenced", Call::Text(TextCall::ReadFenced)),
+    (b"canonical", Call::Litmus(LitmusCall::Canonical)),
+    (b"formula", Call::Text(TextCall::Formula)),
+    (b"formulas", Call::Text(TextCall::Formulas)),
+    (b"condition", Call::Text(TextCall::Condition)),
+    (b"sets", Call::Text(TextCall::Sets)),
+    (b"costs", Call::Text(TextCall::Costs)),
+    (b"program", Call::Text(TextCall::Program)),
+    (b"gaps", Call::Litmus(LitmusCall::Gaps)),
+    (b"fenced", Call::Litmus(LitmusCall::Fenced)),
+    (b"copy", Call::Litmus(LitmusCall::Copy)),
+    (b"action", Call::Litmus(LitmusCall::Action)),
+    (b"outcomes", Call::Text(TextCall::Outcomes)),
+    (b"replay", Call::Litmus(LitmusCall::Replay)),
+    (b"run", Call::Text(TextCall::Run)),
+    (b"sketch", Call::Litmus(LitmusCall::Sketch)),
+    (b"certificate", Call::Text(TextCall::Certificate)),
+    (b"check", Call::Text(TextCall::Check)),
     (b"exchange", Call::Exchange),
     (
         b"sequential",
-        Call::Test(TestCall::Solver(SolverCall::Sequential)),
+        Call::Table(TableCall::Solver(SolverCall::Sequential)),
     ),
-    (b"ask", Call::Test(TestCall::Solver(SolverCall::Ask))),
+    (b"ask", Call::Table(TableCall::Solver(SolverCall::Ask))),
     (
         b"foreign",
-        Call::Test(TestCall::Solver(SolverCall::Foreign)),
+        Call::Table(TableCall::Solver(SolverCall::Foreign)),
     ),
-    (b"search", Call::Test(TestCall::Solver(SolverCall::Search))),
-    (
-        b"records",
-        Call::Test(TestCall::Solver(SolverCall::Records)),
-    ),
-    (b"hunt", Call::Test(TestCall::Solver(SolverCall::Hunt))),
+    (b"search", Call::Table(TableCall::Hunt(HuntCall::Search))),
+    (b"records", Call::Table(TableCall::Hunt(HuntCall::Records))),
+    (b"hunt", Call::Table(TableCall::Hunt(HuntCall::Hunt))),
     (
         b"hunt-with",
-        Call::Test(TestCall::Solver(SolverCall::HuntWith)),
+        Call::Table(TableCall::Place(PlaceCall::HuntWith)),
     ),
-    (b"place", Call::Test(TestCall::Solver(SolverCall::Place))),
+    (b"place", Call::Table(TableCall::Place(PlaceCall::Place))),
     (
         b"place-gated",
-        Call::Test(TestCall::Solver(SolverCall::Gated(PlacerCall::Place))),
+        Call::Table(TableCall::Place(PlaceCall::Gated(PlacerCall::Place))),
     ),
     (
         b"hunt-gated",
-        Call::Test(TestCall::Solver(SolverCall::Gated(PlacerCall::Hunt))),
+        Call::Table(TableCall::Place(PlaceCall::Gated(PlacerCall::Hunt))),
     ),
     (
         b"place-shared",
-        Call::Test(TestCall::Solver(SolverCall::Shared(PlacerCall::Place))),
+        Call::Table(TableCall::Place(PlaceCall::Shared(PlacerCall::Place))),
     ),
     (
         b"hunt-shared",
-        Call::Test(TestCall::Solver(SolverCall::Shared(PlacerCall::Hunt))),
+        Call::Table(TableCall::Place(PlaceCall::Shared(PlacerCall::Hunt))),
     ),
     (
         b"place-lacking",
-        Call::Test(TestCall::Solver(SolverCall::Lacking(PlacerCall::Place))),
+        Call::Table(TableCall::Place(PlaceCall::Lacking(PlacerCall::Place))),
     ),
     (
         b"hunt-lacking",
-        Call::Test(TestCall::Solver(SolverCall::Lacking(PlacerCall::Hunt))),
+        Call::Table(TableCall::Place(PlaceCall::Lacking(PlacerCall::Hunt))),
     ),
 ];

@@ -7,33 +7,8 @@
 #![tactic(auto)]
 
 mod answer;
-mod beside;
 mod calls;
-mod ceilings;
-mod certificates;
-mod exchanges;
-mod fences;
-mod formulas;
-mod gates;
-mod hunts;
-mod input;
-mod lacking;
-mod lines;
-mod machines;
-mod observations;
-mod placing;
-mod programs;
-mod records;
 mod refusal;
-mod search;
-mod sets;
-mod settlings;
-mod sharing;
-mod sketches;
-mod solver;
-mod syntax;
-mod texts;
-mod tokens;
 
 use std::io::{self, Read, Write};
 

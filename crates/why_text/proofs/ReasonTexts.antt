@@ -27,7 +27,7 @@ use Rattle.cover_solver.specs.Verdicts.{PassesNoneOf}
 use Rattle.documents.specs.declared.run.Setting.TheVariants.{Without}
 use Rattle.documents.specs.Documents.{IsWhyDocument}
 use Rattle.documents.specs.Runs.{TellsRun}
-use Rattle.why_text.specs.WhyTexts.{Told, IsReason, AreReasons, lines_of, TellsReasons, TellsWhy, all_sequential, printed_of, reasons_or_none, IsReasonText}
+use Rattle.why_text.specs.WhyTexts.{Told, IsReason, AreReasons, lines_of, TellsReasons, TellsWhy, none_line, printed_of, reasons_or_none, IsReasonText}
 
 -- a foreign run that passes none of some gaps is a run with these gaps fenced
 pub runs_fenced : (run : facts.Foreign) (gaps : SetOfGaps) → facts.IsForeignValue run → PassesNoneOf gaps run → IsShownRun run.question (StoreBufferMachine (gaps_in run.question.program gaps)) run.labels run.outcome
@@ -92,11 +92,11 @@ first_held gaps left gap more is held = subst (AreHeld gaps) is held
 
 -- the line of the answer and what follows it, and the document
 pub says_why : (source : Litmus Listing) (shown : Shown) (costs : List ℕ) (gaps : SetOfGaps) (line all text document : List ℕ) (runs : List (List ℕ)) → TellsReasons source shown gaps (numbers_of_set gaps) all runs
-    → text ≡ line ++ reasons_or_none all → IsWhyDocument source shown costs gaps runs document → TellsWhy source shown costs gaps line text document
+    → text ≡ line ++ reasons_or_none shown all → IsWhyDocument source shown costs gaps runs document → TellsWhy source shown costs gaps line text document
 says_why source shown costs gaps line all text document runs (reasons, each, lines, are) printed told = record {
   reasons = reasons;
   each = each;
-  printed = printed ∙ ap (λ (t : List ℕ). line ++ reasons_or_none t) lines;
+  printed = printed ∙ ap (λ (t : List ℕ). line ++ reasons_or_none shown t) lines;
   told = subst (λ (rs : List (List ℕ)). IsWhyDocument source shown costs gaps rs document) are told;
 }
 
@@ -104,13 +104,13 @@ not_zero : (n : ℕ) → (suc n == 0) ≡ true → ⊥
 not_zero n e = grind (arith, nat_tests)
 
 -- of a text without a byte, and of one with some
-pub none_said : (text : List ℕ) → (length text == 0) ≡ true → all_sequential ≡ reasons_or_none text
-none_said [] none = refl
-none_said (byte ∷ bytes) none = absurd (not_zero (length bytes) none)
+pub none_said : (shown : Shown) (text : List ℕ) → (length text == 0) ≡ true → none_line shown ≡ reasons_or_none shown text
+none_said shown [] none = refl
+none_said shown (byte ∷ bytes) none = absurd (not_zero (length bytes) none)
 
-pub some_said : (text : List ℕ) → (length text == 0) ≡ false → text ≡ reasons_or_none text
-some_said [] some = absurd cc
-some_said (byte ∷ bytes) some = refl
+pub some_said : (shown : Shown) (text : List ℕ) → (length text == 0) ≡ false → text ≡ reasons_or_none shown text
+some_said shown [] some = absurd cc
+some_said shown (byte ∷ bytes) some = refl
 
 -- one more
 pub one_more_reason : (source : Litmus Listing) (shown : Shown) (gaps : SetOfGaps) (so_far : List ℕ) (reasons : List Told) (gap : ℕ) (told : Told) → AreReasons source shown gaps so_far reasons

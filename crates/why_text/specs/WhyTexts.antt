@@ -51,8 +51,11 @@ printed_of All = All
 printed_of (Only names) = Only names
 printed_of (Truth formula) = All
 
-abbrev pub all_sequential : List ℕ
-all_sequential = codes "Every store buffer outcome is sequential." ++ 10 ∷ []
+-- what is said of an answer without a gap
+abbrev pub none_line : Shown → List ℕ
+none_line All = codes "Every store buffer outcome is sequential." ++ 10 ∷ []
+none_line (Only names) = codes "Every store buffer outcome is sequential." ++ 10 ∷ []
+none_line (Truth formula) = codes "Store buffers do not change the condition's verdict." ++ 10 ∷ []
 
 -- what a run leaves, the gaps that it passes, that no sequential run leaves this, and whether it meets the condition
 abbrev pub ending_text : Litmus Listing → Shown → Outcome → SetOfGaps → List ℕ
@@ -106,15 +109,15 @@ TellsReasons source shown gaps numbers text runs =
     (reasons : List Told) × AreReasons source shown gaps numbers reasons × (text ≡ lines_of reasons) × (runs ≡ runs_of reasons)
 
 -- the text of the reasons; where it has no byte, the line that no gap is needed
-abbrev pub reasons_or_none : List ℕ → List ℕ
-reasons_or_none [] = all_sequential
-reasons_or_none (byte ∷ bytes) = byte ∷ bytes
+abbrev pub reasons_or_none : Shown → List ℕ → List ℕ
+reasons_or_none shown [] = none_line shown
+reasons_or_none shown (byte ∷ bytes) = byte ∷ bytes
 
 -- the text has the line, and why each of the gaps is needed; the document has the gaps, their costs, and the same runs
 pub record TellsWhy (source : Litmus Listing) (shown : Shown) (costs : List ℕ) (gaps : SetOfGaps) (line text document : List ℕ) : Type 0 where
   pub reasons : List Told
   pub each : AreReasons source shown gaps (numbers_of_set gaps) reasons
-  pub printed : text ≡ line ++ reasons_or_none (lines_of reasons)
+  pub printed : text ≡ line ++ reasons_or_none shown (lines_of reasons)
   pub told : IsWhyDocument source shown costs gaps (runs_of reasons) document
 
 -- What the text tells: the litmus text stands for this program, its gaps have these costs, these gaps are the answer; the

@@ -7,7 +7,7 @@ ghost use Rattle.tso_machine.specs.Outcomes.{IsTheAnswer};
 ghost use Rattle.report.specs.Answers.{answer_line};
 ghost use Rattle.fence_place.specs.Faults.{AreTooFewOrMany};
 ghost use Rattle.placed_text.specs.TextFaults.{HasNoPlacedText};
-ghost use Rattle.why_text.specs.WhyTexts.{reasons_or_none, IsWhyText, TellsReasons, TellsWhy};
+ghost use Rattle.why_text.specs.WhyTexts.{none_line, reasons_or_none, IsWhyText, TellsReasons, TellsWhy};
 
 use crate::reasons::{reason_of, run_without};
 use cover_solver::Solver;
@@ -71,12 +71,22 @@ fn reasons(
     Ok(Explanation { lines, graph, runs })
 }
 
+/// That no gap is needed.
+fn none_line(shown: &Shown) -> &'static [u8]
+    ensures { result.now ≡ none_line shown.now }
+{
+    match shown {
+        Shown::All | Shown::Only(_) => b"Every store buffer outcome is sequential.\n",
+        Shown::Truth(_) => b"Store buffers do not change the condition's verdict.\n",
+    }
+}
+
 /// The lines of reasons, or a line that no gap is needed.
-fn reasons_or_none(alloc: Global, reasons: Vec<u8>) -> Result<Vec<u8>, AllocError>
-    ensures { IfOk result (λ said. said.items ≡ reasons_or_none reasons.items) }
+fn reasons_or_none(alloc: Global, shown: &Shown, reasons: Vec<u8>) -> Result<Vec<u8>, AllocError>
+    ensures { IfOk result (λ said. said.items ≡ reasons_or_none shown.now reasons.items) }
 {
     if reasons.is_empty() {
-        Vec::from_slice(alloc, b"Every store buffer outcome is sequential.\n")
+        Vec::from_slice(alloc, none_line(shown))
     } else {
         Ok(reasons)
     }
@@ -102,7 +112,7 @@ fn explained(
         graph,
         runs,
     } = reasons;
-    let said = reasons_or_none(alloc, each)?;
+    let said = reasons_or_none(alloc, shown, each)?;
     let document = why_document(alloc, litmus, shown, costs, &set, runs)?;
     let mut lines = answer_line(alloc, &litmus.program, shown, set, found.placed.cost)?;
     lines.extend_from_slice(&said)?;

@@ -12,7 +12,7 @@ use Rattle.cover_solver.proofs.Listing.{exactly_allowed}
 use Rattle.cover_solver.proofs.all_outcomes.all_outcomes.Goals as goal
 
 pub returns-clause-runs : goal.returns-clause-runs
-returns-clause-runs c =
+returns-clause-runs g c =
     let q = asked c.args.program.now c.args.shown.now in
     let start = c.none_of-outcomes.result in
     let last = c.cover_all.new.outcomes in
@@ -20,7 +20,7 @@ returns-clause-runs c =
     runs_found q c.args.mode c.in-Open.mode c.none_of-outcomes.ensures.open.0 c.in-Open.found start last c.none_of-outcomes.ensures.open.1 grows.stays c.in-Open.is (grows.runs (c.none_of-outcomes.ensures.runs q))
 
 pub returns-clause-kept : goal.returns-clause-kept
-returns-clause-kept c =
+returns-clause-kept g c =
     let p = c.args.program.now in
     let shown = c.args.shown.now in
     let made = c.in_ok-kept.kept in
@@ -28,7 +28,7 @@ returns-clause-kept c =
     (kept_grown p shown (listed c.kept_all.new.outcomes) (listed c.cover_all.new.outcomes) made c.in-Ok.ensures.grows.keeps c.in_ok-kept.ensures.kept)
 
 pub returns-clause-exact : goal.returns-clause-exact
-returns-clause-exact c =
+returns-clause-exact g c =
     let p = c.args.program.now in
     let q = asked p c.args.shown.now in
     let mode = machine_of_mode p c.args.mode in
@@ -36,10 +36,10 @@ returns-clause-exact c =
     let tree = c.in-Ok.tree in
     let in_order = subst AreInOrder c.in-Open.is c.in-Ok.ensures.grows.in_order in
     let whole = subst (λ (outcomes : Listed). IsWholeCover q mode (listed outcomes) tree) c.in-Open.is c.in-Ok.ensures.tree in
-    exactly_allowed q mode found.runs found.outcomes.items found.listed.items tree c.threads.ensures.within.shared.forward_jumps (returns-clause-runs c) in_order.all whole.valid
+    exactly_allowed q mode found.runs found.outcomes.items found.listed.items tree c.threads.ensures.within.shared.forward_jumps (returns-clause-runs g c) in_order.all whole.valid
 
 pub unreachable-requires : goal.unreachable-requires
-unreachable-requires c =
+unreachable-requires g c =
     let q = asked c.args.program.now c.args.shown.now in
     let p = c.args.program.now in
     let mid = c.kept_all.new.outcomes in

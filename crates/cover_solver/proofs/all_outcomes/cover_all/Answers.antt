@@ -9,10 +9,10 @@ use Rattle.cover_solver.proofs.Nodes.{cover_first}
 use Rattle.cover_solver.proofs.all_outcomes.cover_all.Goals as goal
 
 pub of_nodes-requires : goal.of_nodes-requires
-of_nodes-requires c = (let made = c.in_ok-nodes.ensures.tree in is_tree made.tree c.in_ok-nodes.nodes.items made.pushed)
+of_nodes-requires g c = (let made = c.in_ok-nodes.ensures.tree in is_tree made.tree c.in_ok-nodes.nodes.items made.pushed)
 
 pub returns-clause-tree : goal.returns-clause-tree
-returns-clause-tree c =
+returns-clause-tree g c =
     let p = c.args.program.now in
     let shown = c.args.shown.now in
     let outcomes = listed c.filled.new.outcomes in

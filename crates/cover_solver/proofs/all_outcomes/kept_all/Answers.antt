@@ -9,14 +9,14 @@ use Rattle.cover_solver.specs.Listed.{listed, Grows}
 use Rattle.cover_solver.proofs.all_outcomes.kept_all.Goals as goal
 
 pub kept_first-requires-clause-first : goal.kept_first-requires-clause-first
-kept_first-requires-clause-first c = subst (λ (k : ProgramSketch). k ≡ nothing_chosen k.program k.mode) (sym c.in_ok-sketch.ensures.empty) refl
+kept_first-requires-clause-first g c = subst (λ (k : ProgramSketch). k ≡ nothing_chosen k.program k.mode) (sym c.in_ok-sketch.ensures.empty) refl
 
 pub returns-clause-grows : goal.returns-clause-grows
-returns-clause-grows c =
+returns-clause-grows g c =
     subst (λ (k : ProgramSketch). Grows (asked k.program c.args.shown.now) c.args.outcomes.now c.kept_first.new.outcomes) c.in_ok-sketch.ensures.empty c.in_ok-kept_first.ensures.grows
 
 pub returns-clause-kept : goal.returns-clause-kept
-returns-clause-kept c =
+returns-clause-kept g c =
     let root = nothing_chosen c.args.program.now (modes.Fenced set.empty) in
     let same = c.in_ok-sketch.ensures.empty ∙ ap (λ (gaps : SetOfGaps). nothing_chosen c.args.program.now (modes.Fenced gaps)) c.empty.ensures in
     subst (λ (old : List Item). Keeps root c.args.shown.now (listed c.kept_first.new.outcomes) [] old (items_of c.kept_first.new.kept)) c.none-kept.ensures

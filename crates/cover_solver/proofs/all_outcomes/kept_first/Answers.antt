@@ -12,11 +12,11 @@ use Rattle.cover_solver.proofs.CombinedCovers.{before_first}
 use Rattle.cover_solver.proofs.all_outcomes.kept_first.Goals as goal
 
 pub kept_values-requires-clause-before : goal.kept_values-requires-clause-before
-kept_values-requires-clause-before c =
+kept_values-requires-clause-before g c =
     let s = c.args.sketch.now in
     before_first s.program s.mode s c.in-Some.plan.last c.requires.first
     (subst (λ (plan : Option Plan). MatchOption plan (IsWhole s.program (mode_in s) s.chosen) (λ plan. IsLast s plan.last)) c.in-Some.is c.in_ok-plan.ensures)
 
 pub returns-in-Some-clause-tree : goal.returns-in-Some-clause-tree
-returns-in-Some-clause-tree c =
+returns-in-Some-clause-tree g c =
     subst (λ (path : List Choice). OnOk c.kept_values.result (KeepsAt c.args.sketch.now c.args.shown.now (listed c.kept_values.new.outcomes) path (items_of c.args.kept.now) (items_of c.kept_values.new.kept))) c.new-path.ensures.items c.kept_values.ensures.tree

@@ -22,13 +22,13 @@ use Rattle.cover_solver.proofs.HolesFilled.{LeadsToWhole, hole_leads}
 use Rattle.cover_solver.proofs.filled.filled.Goals as goal
 
 pub loop-piece-init : goal.loop-piece-init
-loop-piece-init c = record {
+loop-piece-init g c = record {
   grows = grows_none (asked c.args.program.now c.args.shown.now) c.args.outcomes.now c.requires.in_order;
   nodes = c.in_ok-nodes.ensures.items;
 }
 
 pub choose_all-requires : goal.choose_all-requires
-choose_all-requires c =
+choose_all-requires g c =
     let root = nothing_chosen c.args.program.now c.args.mode in
     let pieces = c.args.kept.now.pieces.items in
     let i = c.loop-piece.piece-index in
@@ -40,7 +40,7 @@ choose_all-requires c =
     subst (λ (s : ProgramSketch). MayChooseAll s c.deref-in-loop-piece.result.now) (sym start) (subst (MayChooseAll root) (sym c.deref-in-loop-piece.ensures.value) lead.may)
 
 pub cover_whole-requires-clause-whole : goal.cover_whole-requires-clause-whole
-cover_whole-requires-clause-whole c =
+cover_whole-requires-clause-whole g c =
     let root = nothing_chosen c.args.program.now c.args.mode in
     let i = c.loop-piece.piece-index in
     let item = c.piece-item.result in
@@ -52,7 +52,7 @@ cover_whole-requires-clause-whole c =
     subst (λ (n : ProgramSketch). IsWhole n.program (mode_in n) n.chosen) (sym reached) lead.whole
 
 pub loop-piece-preserved : goal.loop-piece-preserved
-loop-piece-preserved c =
+loop-piece-preserved g c =
     let p = c.args.program.now in
     let shown = c.args.shown.now in
     let root = nothing_chosen p c.args.mode in
@@ -79,7 +79,7 @@ loop-piece-preserved c =
     }
 
 pub returns-in_err-cover_whole-clause-stop : goal.returns-in_err-cover_whole-clause-stop
-returns-in_err-cover_whole-clause-stop c =
+returns-in_err-cover_whole-clause-stop g c =
     let p = c.args.program.now in
     let shown = c.args.shown.now in
     let root = nothing_chosen p c.args.mode in
@@ -93,10 +93,10 @@ returns-in_err-cover_whole-clause-stop c =
     stops_for why c.from_residual-in_err-cover_whole.result (StopIs (asked p shown) (mode_in root) c.args.outcomes.now) c.from_residual-in_err-cover_whole.ensures.1 (c.loop-piece.invariant.grows.stops (mode_in root) why here)
 
 pub returns-in_err-choose_all-clause-stop : goal.returns-in_err-choose_all-clause-stop
-returns-in_err-choose_all-clause-stop c = search (rules, memory_stops)
+returns-in_err-choose_all-clause-stop g c = search (rules, memory_stops)
 
 pub returns-clause-tree : goal.returns-clause-tree
-returns-clause-tree c =
+returns-clause-tree g c =
     let p = c.args.program.now in
     let shown = c.args.shown.now in
     let root = nothing_chosen p c.args.mode in

@@ -8,7 +8,7 @@ use Rattle.cover_solver.proofs.filled.filled.Given as goal
 
 -- the list has grown, and the nodes stand for the pieces so far
 abbrev pub invariant-loop-piece : goal.invariant-loop-piece
-invariant-loop-piece l = record {
+invariant-loop-piece g l = record {
   grows : Grows (asked l.program l.shown) l.fn.outcomes l.outcomes;
   nodes : Filled (nothing_chosen l.program l.fn.mode) l.shown (listed l.outcomes) (items_before (take l.piece-index l.kept.pieces.items)) l.nodes.items;
 }

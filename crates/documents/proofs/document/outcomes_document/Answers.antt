@@ -1,26 +1,8 @@
-use Rattle.std.proofs.Common.{ℕ, List, [], ◌∷◌, codes}
 use Rattle.std.proofs.lemmas.Result.{IfOk-weaker}
-use Rattle.json_text.specs.Texts.{quoted, member, truth_text}
-use Rattle.report.specs.Observations.{frequency, is_true_of}
-use Rattle.documents.specs.declared.run.Setting.TheVariants.{Machine}
-use Rattle.documents.specs.Parts.{is_observed, outcomes_array}
-use Rattle.documents.specs.Runs.{setting_member}
-use Rattle.documents.proofs.Told.{added, document_with}
+use Rattle.documents.proofs.Told.{document_with}
 use Rattle.documents.proofs.document.outcomes_document.Goals as goal
 
 pub returns-clause-told : goal.returns-clause-told
 returns-clause-told c =
-    let litmus = c.args.litmus.now in
-    let formula = litmus.condition.formula in
-    let all = c.args.outcomes.now in
-    let first : List (List ℕ) = c.in_ok-object.object in
-    let model : List ℕ = setting_member litmus.program (Machine c.args.model) in
-    let observed : List ℕ = member (codes "observed") (truth_text (is_observed c.args.shown.now)) in
-    let list : List ℕ = member (codes "outcomes") (outcomes_array litmus.names c.args.shown.now all) in
-    let often : List ℕ = member (codes "observation") (quoted (frequency formula all)) in
-    let holds : List ℕ = member (codes "holds") (truth_text (is_true_of litmus.condition.quantifier formula all)) in
-    let two = added first (model ∷ []) observed _ _ (c.in_ok-add_model.ensures litmus.program) (rw (c.in_ok-observed.ensures, c.is_observed.ensures) at c.in_ok-add.ensures) in
-    let three = added first (model ∷ observed ∷ []) list _ _ two (rw c.in_ok-list.ensures at c.in_ok-add-2.ensures) in
-    let four = added first (model ∷ observed ∷ list ∷ []) often _ _ three (rw c.in_ok-often.ensures at c.in_ok-add-3.ensures) in
-    let last = added first (model ∷ observed ∷ list ∷ often ∷ []) holds _ _ four (rw (c.in_ok-holds.ensures, c.is_true_of.ensures) at c.in_ok-add-4.ensures) in
-    IfOk-weaker c.document_of.result _ _ (λ document is. document_with litmus (codes "outcomes") first (model ∷ observed ∷ list ∷ often ∷ holds ∷ []) _ _ c.in_ok-object.ensures last is) c.document_of.ensures.text
+    let object = c.in_ok-object.ensures in
+    IfOk-weaker c.document_of.result _ _ (λ document is. document_with _ _ object.first _ _ _ object.heading object.printed is) c.document_of.ensures.text

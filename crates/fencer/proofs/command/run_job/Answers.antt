@@ -44,3 +44,12 @@ returns-in-Gaps-clause-told g c = rw c.in-Gaps.is c.run_gaps.ensures.told
 
 pub returns-in-Gaps-clause-read : goal.returns-in-Gaps-clause-read
 returns-in-Gaps-clause-read g c = rw c.in-Gaps.is c.run_gaps.ensures.read
+
+pub returns-in-Witness-clause-told : goal.returns-in-Witness-clause-told
+returns-in-Witness-clause-told g c = rw c.in-Witness.is c.run_witness.ensures.told
+
+pub returns-in-Witness-clause-others : goal.returns-in-Witness-clause-others
+returns-in-Witness-clause-others g c = rw c.in-Witness.is c.run_witness.ensures.others
+
+pub returns-in-Witness-clause-read : goal.returns-in-Witness-clause-read
+returns-in-Witness-clause-read g c = rw c.in-Witness.is c.run_witness.ensures.read

@@ -1,8 +1,7 @@
 use Rattle.std.proofs.Common.{◌≡◌, ◌++◌, take}
-use Rattle.std.specs.List.{flat_map}
-use Rattle.report.specs.Answers.{outcome_line}
+use Rattle.fencer.specs.Outcomes.{outcome_lines}
 use Rattle.fencer.proofs.outcomes.list_lines.Given as goal
 
--- the outcomes so far are written
-abbrev pub invariant-loop-outcome : goal.invariant-loop-outcome
-invariant-loop-outcome l = l.lines.items ≡ l.initial.lines.items ++ flat_map (outcome_line l.litmus.names l.shown) (take l.outcome-index l.outcomes)
+-- the outcomes so far are written, each with its run where there is one
+abbrev pub invariant-loop-number : goal.invariant-loop-number
+invariant-loop-number l = l.lines.items ≡ l.initial.lines.items ++ outcome_lines l.litmus.names l.shown (take l.number l.outcomes) l.list.runs

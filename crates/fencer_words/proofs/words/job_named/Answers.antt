@@ -7,7 +7,7 @@ use Rattle.clap.proofs.TakesLemmas.{passed_up}
 use Rattle.fencer_words.specs.CommandLines.{IsNoCommand}
 use Rattle.fencer_words.specs.Commands.{IsJobMet, MeetsNoJob}
 use Rattle.fencer_words.specs.declared.job.Job.{Job}
-use Rattle.fencer_words.proofs.Faultless.{no_command, no_fault, reads, met_twice}
+use Rattle.fencer_words.proofs.Faultless.{no_command, no_fault, reads, met_nothing}
 use Rattle.fencer_words.proofs.words.job_named.Goals as goal
 
 pub returns-in_err-matches-clause-refused : goal.returns-in_err-matches-clause-refused
@@ -40,6 +40,6 @@ returns-clause-refused c =
     let words = map string_bytes c.args.words.now in
     let app = app_of c.in_ok-command.field-0 in
     let none = no_fault app made.models words made.built.shape c.in_ok-matches.ensures.kinds in
-    let is_none = met_twice app made.models words c.in_ok-matches.matches made.built.shape none c.in_ok-matches.ensures.matches made.are_models
+    let is_none = met_nothing app made.models words c.in_ok-matches.matches made.built.shape none c.in_ok-matches.ensures.matches made.are_models
     (subst (λ (o : Option Job). IfNone o (MeetsNoJob c.in_ok-matches.matches)) c.in-None.is c.in_ok-job.ensures.none) in
     inr is_none

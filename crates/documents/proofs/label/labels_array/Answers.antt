@@ -1,0 +1,16 @@
+use Rattle.std.proofs.Common.{◌∙◌, ℕ, List, [], ◌∷◌, ◌++◌, get_or, ap, sym}
+use Rattle.std.proofs.lemmas.List.{map_more}
+use Rattle.tso_machine.specs.declared.label.Label.{Label}
+use Rattle.tso_machine.specs.declared.label.Label.TheVariants.{Exec}
+use Rattle.tso_machine.specs.RunTexts.{spelling}
+use Rattle.json_text.specs.Texts.{quoted}
+use Rattle.documents.proofs.label.labels_array.Goals as goal
+
+pub loop-label-preserved : goal.loop-label-preserved
+loop-label-preserved c =
+    let text : Label → List ℕ = λ label. quoted (spelling label) in
+    let labels = c.args.labels.now in
+    let i = c.loop-label.label-index in
+    c.in_ok-add.ensures ∙ ap (λ (json : List ℕ). c.loop-label.array ++ json ∷ []) c.in_ok-label_text.ensures
+    ∙ ap (λ (texts : List (List ℕ)). texts ++ text (get_or labels i (Exec 0)) ∷ []) c.loop-label.invariant
+    ∙ sym (map_more text labels i (Exec 0) c.loop-label-test.true)

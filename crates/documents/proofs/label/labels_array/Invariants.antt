@@ -1,0 +1,8 @@
+use Rattle.std.proofs.Common.{◌≡◌, map, take}
+use Rattle.json_text.specs.Texts.{quoted}
+use Rattle.tso_machine.specs.RunTexts.{spelling}
+use Rattle.documents.proofs.label.labels_array.Given as goal
+
+-- the labels so far
+abbrev pub invariant-loop-label : goal.invariant-loop-label
+invariant-loop-label l = l.array ≡ map (λ label. quoted (spelling label)) (take l.label-index l.labels)

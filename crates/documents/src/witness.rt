@@ -1,0 +1,59 @@
+//! The document of a run of which the condition's formula has some truth.
+
+ghost use Rattle.std.specs.Prelude.{◌≡◌, IfOk};
+ghost use Rattle.json_text.specs.Safe.{IsSafe};
+ghost use Rattle.documents.specs.Witnesses.{run_or_null, IsWitnessDocument};
+
+use crate::document::{begun, document_of};
+use crate::named::gap_names;
+use crate::run::add_model;
+use gap_sets::GapSet;
+use json_text::{JsonObject, JsonText};
+use litmus_text::Litmus;
+use std::alloc::{AllocError, Global};
+use tso_machine::Model;
+use tso_program::Program;
+
+/// Which run is sought: one of a machine with these gaps fenced, whose outcome meets the condition's formula or does not.
+#[derive(Clone, Copy, Debug)]
+pub struct Sought {
+    pub model: Model,
+    pub fences: GapSet,
+    pub meets: bool,
+}
+
+/// A run, if there is one.
+fn run_or_null(alloc: Global, run: Option<JsonText>) -> Result<JsonText, AllocError>
+    ensures { IfOk result (λ json. json ≡ run_or_null run) }
+{
+    match run {
+        Some(run) => Ok(run),
+        None => JsonText::null(alloc),
+    }
+}
+
+/// The document of a run that is sought, if there is one.
+pub fn witness_document(
+    alloc: Global,
+    litmus: &Litmus<Program>,
+    sought: Sought,
+    run: Option<JsonText>,
+) -> Result<Vec<u8>, AllocError>
+    ensures told { IfOk result (λ document. IsWitnessDocument litmus.now sought run document.items) }
+    ensures safe { IfOk result (λ document. IsSafe document.items) }
+{
+    let Sought {
+        model,
+        fences,
+        meets,
+    } = sought;
+    let gaps = gap_names(alloc, &litmus.program, &fences)?;
+    let asked = JsonText::truth(alloc, meets)?;
+    let run = run_or_null(alloc, run)?;
+    let mut object = begun(alloc, b"witness", litmus)?;
+    add_model(alloc, &mut object, model)?;
+    object.add("fences", gaps)?;
+    object.add("meets_condition", asked)?;
+    object.add("run", run)?;
+    document_of(object)
+}

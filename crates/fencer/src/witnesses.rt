@@ -1,0 +1,116 @@
+//! Witnesses: a run of which the condition's formula has some truth, that there is none, or why neither is shown.
+
+ghost use Rattle.std.specs.Prelude.{◌≡◌, IfErr, IfOk, string_bytes};
+ghost use Rattle.program_streams.specs.Streams.{Prints};
+ghost use Rattle.program_streams.specs.Files.{ReadsOfInput};
+ghost use Rattle.fencer_words.specs.CommandFiles.{name_of};
+ghost use Rattle.witness_text.specs.WitnessTexts.{HasNoWitnessText};
+ghost use Rattle.fencer.specs.Deliveries.{KeepFilesBut};
+ghost use Rattle.fencer.specs.Witnesses.{no_gap_text, witness_line, IsWitnessOf, IsWitnessShown, ShowsWitness};
+
+use crate::advice::{unread_advice, unread_litmus, witness_advice};
+use crate::delivery::{Answer, deliver};
+use crate::documented::documented;
+use crate::refusals::solve_line;
+use crate::refused::tell_refusal;
+use cover_solver::SolveFault;
+use fencer_words::WitnessQuery;
+use messages::file_or_input;
+use program_streams::{Console, TEXT_LIMIT, WritableFileStore, file_line, named_bytes};
+use report::litmus_line;
+use std::alloc::{AllocError, Global};
+use std::io::Read;
+use witness_text::{WitnessFault, WitnessText, witness_text};
+
+/// The refusal of a place without a gap.
+fn no_gap_text(alloc: Global, thread: u8, instruction: u8) -> Result<String, AllocError>
+    ensures { IfOk result (λ text. string_bytes text ≡ no_gap_text thread instruction) }
+{
+    format!(in alloc; "fences 1 NoSuchGap {thread}:{instruction}")
+}
+
+/// The line of why no run is shown.
+fn witness_line(alloc: Global, fault: WitnessFault) -> Result<Vec<u8>, AllocError>
+    ensures { IfOk result (λ line. line.items ≡ witness_line fault) }
+{
+    match fault {
+        WitnessFault::Read(why) => litmus_line(alloc, why),
+        WitnessFault::NoSuchGap(thread, instruction) => {
+            let what = no_gap_text(alloc, thread, instruction)?;
+            let what = what.as_str();
+            Ok(format!(in alloc; "refused {what}\n")?.into_bytes())
+        }
+        WitnessFault::OutOfMemory => solve_line(alloc, SolveFault::OutOfMemory),
+    }
+}
+
+/// What is delivered of a run.
+fn witness_answer(alloc: Global, bytes: &[u8], asked: &WitnessQuery) -> Result<Answer, WitnessFault>
+    ensures told { IfOk result (ShowsWitness asked.now bytes.now) }
+    ensures fault { IfErr result (HasNoWitnessText bytes.now asked.now.fences.items) }
+{
+    let fences = asked.fences.as_slice();
+    let said = witness_text(alloc, bytes, asked.model, asked.meets, fences)?;
+    let WitnessText {
+        lines,
+        graph,
+        document,
+    } = said;
+    match documented(
+        alloc,
+        asked.json,
+        asked.page.as_deref(),
+        lines,
+        document,
+        graph,
+    ) {
+        Ok(answer) => Ok(answer),
+        Err(_) => Err(WitnessFault::OutOfMemory),
+    }
+}
+
+/// Judges a text, writes the page and the graph, prints the lines, and returns the status.
+fn show_witness<S: WritableFileStore, W: Console>(
+    alloc: Global,
+    files: &mut S,
+    asked: &WitnessQuery,
+    bytes: &[u8],
+    output: &mut W,
+) -> u8
+    ensures told { Prints (IsWitnessOf asked.now bytes.now (S.held files.old) (S.held files.new)) (W.contents output.old) (W.contents output.new) result }
+    ensures others { KeepFilesBut (name_of asked.now.page) (name_of asked.now.graph) (S.held files.old) (S.held files.new) }
+{
+    let page = asked.page.as_deref();
+    let graph = asked.graph.as_deref();
+    match witness_answer(alloc, bytes, asked) {
+        Ok(answer) => deliver(alloc, files, page, graph, answer, output),
+        Err(why) => {
+            let name = file_or_input(asked.litmus.as_str());
+            let message = witness_advice(alloc, name, bytes, why);
+            tell_refusal(alloc, asked.json, witness_line(alloc, why), message, output)
+        }
+    }
+}
+
+/// Shows a run of the program of a litmus file of which the condition's formula has some truth, or that there is none, writes
+/// its page and its graph to files if they are named, prints the answer, and returns the status.
+pub fn run_witness<S: WritableFileStore, R: Read, W: Console>(
+    alloc: Global,
+    files: &mut S,
+    asked: &WitnessQuery,
+    input: &mut R,
+    output: &mut W,
+) -> u8
+    ensures told { Prints (IsWitnessShown asked.now (R.remaining input.old) (S.held files.old) (S.held files.new)) (W.contents output.old) (W.contents output.new) result }
+    ensures others { KeepFilesBut (name_of asked.now.page) (name_of asked.now.graph) (S.held files.old) (S.held files.new) }
+    ensures read { ReadsOfInput TEXT_LIMIT (string_bytes asked.now.litmus) (R.remaining input.old) (R.remaining input.new) }
+{
+    let litmus = asked.litmus.as_str();
+    match named_bytes(alloc, &*files, litmus, input, TEXT_LIMIT) {
+        Ok(bytes) => show_witness(alloc, files, asked, &bytes, output),
+        Err(fault) => {
+            let message = unread_advice(alloc, &*files, unread_litmus(litmus, fault));
+            tell_refusal(alloc, asked.json, file_line(alloc, fault), message, output)
+        }
+    }
+}

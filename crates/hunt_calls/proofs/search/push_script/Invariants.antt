@@ -1,0 +1,5 @@
+use Rattle.std.proofs.Common.{◌≡◌}
+use Rattle.hunt_calls.proofs.search.push_script.Given as goal
+
+abbrev pub invariant-loop-word : goal.invariant-loop-word
+invariant-loop-word l = (l.tree.question ≡ l.fn.table.question) × (l.tree.seats ≡ 2)

@@ -1,0 +1,183 @@
+//! What the seat of a hunt does beside the lock, one call for each word of a script.
+ghost use Rattle.std.specs.Prelude.{◌≡◌, IfErr, IfOk};
+ghost use Rattle.hunt_calls.specs.Hunts.{IsSound};
+
+use crate::hunts::Hand;
+use crate::refusal::HuntRefusal;
+use crate::search::labels_of;
+use cover_solver::{ForeignRun, Oracle, SeqTable, Served, Solver, Verdict};
+use hunt_board::{Hunt, PostFault, ROW_CELLS};
+use solver_calls::set_in;
+use std::alloc::{AllocError, Global};
+use text_calls::{byte_of, gap_set_of, number_of, push_gaps_after, push_run, split_at_byte};
+
+/// The hunt's ceiling.
+pub fn push_ceiling(hunt: &Hunt, hand: &mut Hand, printed: &mut String) -> Result<(), AllocError>
+    requires { IsSound hunt.now hand.old }
+    ensures { IsSound hunt.now hand.new }
+{
+    match hunt.ceiling(&mut hand.seat).cost() {
+        Some(cost) => write!(printed, "ceiling {cost}\n"),
+        None => printed.push_str("ceiling none\n"),
+    }
+}
+
+/// The set of these gaps, where it serves.
+pub fn served_by(alloc: Global, table: &SeqTable, gaps: &[u8]) -> Result<Served, HuntRefusal>
+    ensures { IfOk result (λ served. served.question ≡ table.now.question) }
+{
+    let set = set_in(table.program(), gap_set_of(alloc, gaps)?)?;
+    let solver = Solver::new(alloc, table.program(), table)?;
+    match solver.ask(&set)? {
+        Verdict::Serves(served) => Ok(served),
+        Verdict::Foreign(_) => Err(HuntRefusal::Call),
+    }
+}
+
+/// Lowers the ceiling to what the set of these gaps costs, where it serves.
+pub fn lower(
+    alloc: Global,
+    table: &SeqTable,
+    hunt: &Hunt,
+    hand: &mut Hand,
+    gaps: &[u8],
+) -> Result<(), HuntRefusal>
+    requires of_table { hunt.now.question ≡ table.now.question }
+    requires sound { IsSound hunt.now hand.old }
+    ensures { IsSound hunt.now hand.new }
+{
+    let served = served_by(alloc, table, gaps)?;
+    hunt.lower(&mut hand.seat, &served);
+    Ok(())
+}
+
+/// The run of these labels.
+fn run_by(alloc: Global, table: &SeqTable, labels: &[u8]) -> Result<ForeignRun, HuntRefusal>
+    ensures { IfOk result (λ run. run.question ≡ table.now.question) }
+{
+    let labels = labels_of(alloc, labels)?;
+    Ok(ForeignRun::new(alloc, table, labels.as_slice())?)
+}
+
+/// Posts the run. Whether the seat's row had a cell left, or the run where memory is refused.
+fn is_posted(hunt: &Hunt, hand: &mut Hand, run: ForeignRun) -> Result<bool, ForeignRun>
+    requires question { run.question ≡ hunt.now.question }
+    requires sound { IsSound hunt.now hand.old }
+    ensures sound { IsSound hunt.now hand.new }
+    ensures back { IfErr result (λ back. back ≡ run) }
+{
+    match hunt.post(&mut hand.seat, run) {
+        Ok(posted) => {
+            hand.posted = Some(posted);
+            Ok(true)
+        }
+        Err(PostFault::RowFull(_)) => Ok(false),
+        Err(PostFault::Refused(run)) => Err(run),
+    }
+}
+
+/// The same. Where memory is refused, it prints so and posts the run that was handed back.
+fn is_posted_again(
+    hunt: &Hunt,
+    hand: &mut Hand,
+    run: ForeignRun,
+    printed: &mut String,
+) -> Result<bool, HuntRefusal>
+    requires question { run.question ≡ hunt.now.question }
+    requires sound { IsSound hunt.now hand.old }
+    ensures { IsSound hunt.now hand.new }
+{
+    let back = match is_posted(hunt, hand, run) {
+        Ok(is_posted) => return Ok(is_posted),
+        Err(back) => back,
+    };
+    printed.push_str("refused post\n")?;
+    match is_posted(hunt, hand, back) {
+        Ok(is_posted) => Ok(is_posted),
+        Err(_) => Err(HuntRefusal::Memory(AllocError)),
+    }
+}
+
+/// Posts the run of these labels.
+pub fn post(
+    alloc: Global,
+    table: &SeqTable,
+    hunt: &Hunt,
+    hand: &mut Hand,
+    labels: &[u8],
+    printed: &mut String,
+) -> Result<(), HuntRefusal>
+    requires of_table { hunt.now.question ≡ table.now.question }
+    requires sound { IsSound hunt.now hand.old }
+    ensures { IsSound hunt.now hand.new }
+{
+    let run = run_by(alloc, table, labels)?;
+    if is_posted_again(hunt, hand, run, printed)? {
+        Ok(printed.push_str("posted\n")?)
+    } else {
+        Ok(printed.push_str("row full\n")?)
+    }
+}
+
+/// Posts copies of the run of these labels, as many as a row has cells.
+pub fn fill(
+    alloc: Global,
+    table: &SeqTable,
+    hunt: &Hunt,
+    hand: &mut Hand,
+    labels: &[u8],
+) -> Result<(), HuntRefusal>
+    requires of_table { hunt.now.question ≡ table.now.question }
+    requires sound { IsSound hunt.now hand.old }
+    ensures { IsSound hunt.now hand.new }
+{
+    let run = run_by(alloc, table, labels)?;
+    for _ in 0..ROW_CELLS {
+        if is_posted(hunt, hand, run.copy(alloc)?).is_err() {
+            return Err(HuntRefusal::Memory(AllocError));
+        }
+    }
+    Ok(())
+}
+
+/// The gaps that a run passes, and its steps.
+fn push_posted_run(
+    alloc: Global,
+    run: &ForeignRun,
+    printed: &mut String,
+) -> Result<(), AllocError> {
+    push_gaps_after("passed", &run.passed(), printed)?;
+    printed.push('\n')?;
+    push_run(alloc, run.labels(), printed)
+}
+
+/// The run that was posted last.
+pub fn push_posted(
+    alloc: Global,
+    hunt: &Hunt,
+    hand: &mut Hand,
+    printed: &mut String,
+) -> Result<(), HuntRefusal>
+    requires { IsSound hunt.now hand.old }
+    ensures { IsSound hunt.now hand.new }
+{
+    let Some(posted) = &mut hand.posted else {
+        return Err(HuntRefusal::Call);
+    };
+    let run = hunt.posted(posted);
+    Ok(push_posted_run(alloc, run, printed)?)
+}
+
+/// The run that a seat has posted, by the seat's number and the run's index.
+pub fn push_look(
+    alloc: Global,
+    hunt: &Hunt,
+    place: &[u8],
+    printed: &mut String,
+) -> Result<(), HuntRefusal> {
+    let (seat, index) = split_at_byte(place, b':');
+    match hunt.look(byte_of(seat)?, number_of(index)? as usize) {
+        Some(run) => Ok(push_posted_run(alloc, run, printed)?),
+        None => Ok(printed.push_str("no run\n")?),
+    }
+}

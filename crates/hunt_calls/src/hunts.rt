@@ -1,0 +1,338 @@
+//! A hunt of one seat by its calls, one for each word of a script, at whose end the hunt is closed.
+ghost use Rattle.std.specs.Prelude.{◌≡◌, IfOk, IsTrue, Some};
+ghost use Rattle.tso_machine.specs.Outcomes.{AreGapsOf};
+ghost use Rattle.cover_solver.specs.Facts.{IsForeignValue};
+ghost use Rattle.cover_solver.specs.Verdicts.{IsVerdictOf, PassesNoneOf};
+ghost use Rattle.search_core.specs.Events.{IsBeatenBy};
+ghost use Rattle.hunt_board.specs.Seats.{IsOf};
+ghost use Rattle.hunt_board.specs.Settlings.{IsLawful};
+ghost use Rattle.hunt_calls.specs.Hunts.{IsSound};
+
+use crate::beside::{fill, lower, post, push_ceiling, push_look, push_posted};
+use crate::refusal::HuntRefusal;
+use crate::search::{labels_of, push_region};
+use crate::settlings::{cut, settle_again};
+use cover_solver::{ForeignRun, Oracle, SeqTable, Solver, Verdict};
+use gap_sets::{Costs, GapSet, Region};
+use hunt_board::{Event, Hunt, HuntSeat, Next, Posted, Receipt, Settling};
+use search_core::SearchTree;
+use solver_calls::{equal_costs, passes_none};
+use std::alloc::{AllocError, Global};
+use std::sync::Wait;
+use text_calls::{named, push_gaps_after, split_at_byte};
+
+/// So many receipts are kept without another allocation.
+const FEW: usize = 8;
+
+/// What the script has in hand: its seat, the receipts of what it settled, and what shows that it posted its last run.
+#[derive(Drop)]
+pub struct Hand {
+    pub seat: HuntSeat,
+    pub receipts: Vec<Receipt>,
+    pub posted: Option<Posted>,
+}
+
+/// What a word names beside the ways to settle a node.
+#[derive(Clone, Copy)]
+enum Step {
+    Next,
+    GiveBack,
+    Drop,
+    Again,
+    Cut,
+    Ceiling,
+    Lower,
+    Post,
+    Fill,
+    Posted,
+    Look,
+}
+
+const STEPS: [(&[u8], Step); 11] = [
+    (b"next", Step::Next),
+    (b"give", Step::GiveBack),
+    (b"drop", Step::Drop),
+    (b"settle", Step::Again),
+    (b"cut", Step::Cut),
+    (b"ceiling", Step::Ceiling),
+    (b"lower", Step::Lower),
+    (b"post", Step::Post),
+    (b"fill", Step::Fill),
+    (b"posted", Step::Posted),
+    (b"look", Step::Look),
+];
+
+/// The node that the seat holds.
+pub fn held(seat: &HuntSeat) -> Result<Region, HuntRefusal>
+    ensures { IfOk result (λ node. seat.now.node ≡ Some node) }
+{
+    match seat.node() {
+        Some(node) => Ok(node),
+        None => Err(HuntRefusal::Call),
+    }
+}
+
+/// The run of these labels, where it splits the node.
+pub fn run_past(
+    alloc: Global,
+    table: &SeqTable,
+    node: &Region,
+    labels: &[u8],
+) -> Result<ForeignRun, HuntRefusal>
+    ensures of { IfOk result (λ run. run.question ≡ table.now.question) }
+    ensures foreign { IfOk result IsForeignValue }
+    ensures splits { IfOk result (PassesNoneOf node.now.must) }
+{
+    let labels = labels_of(alloc, labels)?;
+    let run = ForeignRun::new(alloc, table, labels.as_slice())?;
+    // For the proof alone: what holds of every run is known where its program is read.
+    let _ = run.program();
+    if !passes_none(&run, &node.must) {
+        return Err(HuntRefusal::Call);
+    }
+    Ok(run)
+}
+
+/// What the solver says of the node.
+fn by_solver(alloc: Global, table: &SeqTable, node: &Region) -> Result<Verdict, HuntRefusal>
+    requires { AreGapsOf table.now.question.program node.now.must }
+    ensures { IfOk result (IsVerdictOf table.now.question node.now.must) }
+{
+    let solver = Solver::new(alloc, table.program(), table)?;
+    Ok(solver.ask(&node.must)?)
+}
+
+/// Whether the seat has confirmed a set that the node doesn't better.
+fn is_beaten(costs: &Costs, seat: &HuntSeat, node: &Region) -> bool
+    ensures { IsTrue result → IsBeatenBy costs.now seat.now.best node.now.must }
+{
+    match seat.best() {
+        Some(best) => !costs.better(&node.must, &best),
+        None => false,
+    }
+}
+
+/// How a word settles the node: by the run of the labels, by what the solver says, or by the best set that the seat has confirmed.
+fn settling_of(
+    alloc: Global,
+    table: &SeqTable,
+    hunt: &Hunt,
+    seat: &HuntSeat,
+    node: &Region,
+    word: &[u8],
+) -> Result<Settling, HuntRefusal>
+    requires of_table { hunt.now.question ≡ table.now.question }
+    requires gaps { AreGapsOf hunt.now.question.program node.now.must }
+    ensures { IfOk result (IsLawful hunt.now seat.now.best node.now) }
+{
+    let (name, labels) = split_at_byte(word, b':');
+    if name == b"split".as_slice() {
+        let run = run_past(alloc, table, node, labels)?;
+        return Ok(Settling::Asked(Verdict::Foreign(run)));
+    }
+    if name == b"ask".as_slice() {
+        return Ok(Settling::Asked(by_solver(alloc, table, node)?));
+    }
+    if name == b"best".as_slice() && is_beaten(hunt.costs(), seat, node) {
+        return Ok(Settling::Best);
+    }
+    Err(HuntRefusal::Call)
+}
+
+pub fn push_receipt(receipt: &Receipt, printed: &mut String) -> Result<(), AllocError> {
+    write!(printed, "seat {} ", receipt.seat)?;
+    match receipt.event {
+        Event::Split(passed) => push_gaps_after("split passed", &passed, printed)?,
+        Event::Cut => printed.push_str("cut")?,
+        Event::Confirmed => printed.push_str("confirmed")?,
+    }
+    printed.push('\n')
+}
+
+/// The seat takes a node, whose region is printed, where one is left.
+fn push_next<W: Wait>(
+    wait: &W,
+    hunt: &Hunt,
+    hand: &mut Hand,
+    printed: &mut String,
+) -> Result<(), HuntRefusal>
+    requires { IsSound hunt.now hand.old }
+    ensures { IsSound hunt.now hand.new }
+{
+    if hand.seat.node().is_some() {
+        return Err(HuntRefusal::Call);
+    }
+    match hunt.next(wait, &mut hand.seat) {
+        Next::Work(node) => Ok(push_region(&node, printed)?),
+        Next::Done => Ok(printed.push_str("done\n")?),
+    }
+}
+
+/// The seat's node is open again.
+fn give_back<W: Wait>(
+    wait: &W,
+    hunt: &Hunt,
+    hand: &mut Hand,
+    printed: &mut String,
+) -> Result<(), HuntRefusal>
+    requires { IsSound hunt.now hand.old }
+    ensures { IsSound hunt.now hand.new }
+{
+    let _ = held(&hand.seat)?;
+    hunt.give_back(wait, &mut hand.seat);
+    Ok(printed.push_str("given back\n")?)
+}
+
+/// Settles the seat's node, and keeps the receipt.
+fn settle<W: Wait>(
+    wait: &W,
+    alloc: Global,
+    table: &SeqTable,
+    hunt: &Hunt,
+    hand: &mut Hand,
+    word: &[u8],
+    printed: &mut String,
+) -> Result<(), HuntRefusal>
+    requires of_table { hunt.now.question ≡ table.now.question }
+    requires sound { IsSound hunt.now hand.old }
+    ensures { IsSound hunt.now hand.new }
+{
+    let node = held(&hand.seat)?;
+    let settling = settling_of(alloc, table, hunt, &hand.seat, &node, word)?;
+    let receipt = hunt.settle(wait, &mut hand.seat, settling)?;
+    hand.receipts.push(receipt)?;
+    Ok(push_receipt(&receipt, printed)?)
+}
+
+/// Does what a word names.
+fn push_step<W: Wait>(
+    wait: &W,
+    alloc: Global,
+    table: &SeqTable,
+    hunt: &Hunt,
+    hand: &mut Hand,
+    word: &[u8],
+    printed: &mut String,
+) -> Result<(), HuntRefusal>
+    requires of_table { hunt.now.question ≡ table.now.question }
+    requires sound { IsSound hunt.now hand.old }
+    ensures { IsSound hunt.now hand.new }
+{
+    let (name, rest) = split_at_byte(word, b':');
+    let Ok(step) = named(&STEPS, name) else {
+        return settle(wait, alloc, table, hunt, hand, word, printed);
+    };
+    match step {
+        Step::Next => push_next(wait, hunt, hand, printed),
+        Step::GiveBack => give_back(wait, hunt, hand, printed),
+        Step::Drop => {
+            let _ = hand.receipts.pop();
+            Ok(())
+        }
+        Step::Again => settle_again(wait, alloc, table, hunt, hand, rest, printed),
+        Step::Cut => cut(wait, hunt, hand, printed),
+        Step::Ceiling => Ok(push_ceiling(hunt, hand, printed)?),
+        Step::Lower => lower(alloc, table, hunt, hand, rest),
+        Step::Post => post(alloc, table, hunt, hand, rest, printed),
+        Step::Fill => fill(alloc, table, hunt, hand, rest),
+        Step::Posted => push_posted(alloc, hunt, hand, printed),
+        Step::Look => push_look(alloc, hunt, rest, printed),
+    }
+}
+
+/// The lines of a script: what each word did, or why it did nothing.
+fn push_script<W: Wait>(
+    wait: &W,
+    alloc: Global,
+    table: &SeqTable,
+    hunt: &Hunt,
+    hand: &mut Hand,
+    script: &[&[u8]],
+    printed: &mut String,
+) -> Result<(), AllocError>
+    requires of_table { hunt.now.question ≡ table.now.question }
+    requires sound { IsSound hunt.now hand.old }
+    ensures { IsSound hunt.now hand.new }
+{
+    for word in script {
+        match push_step(wait, alloc, table, hunt, hand, word, printed) {
+            Ok(()) => {}
+            Err(refusal) => write!(printed, "refused {refusal}\n")?,
+        }
+    }
+    Ok(())
+}
+
+/// The set that the hunt ends with.
+fn push_closed(
+    alloc: Global,
+    hunt: Hunt,
+    seat: HuntSeat,
+    receipts: Vec<Receipt>,
+    printed: &mut String,
+) -> Result<(), HuntRefusal>
+    requires { IsOf hunt seat }
+{
+    let mut seats = Vec::new(alloc);
+    seats.push(seat)?;
+    let finished = hunt.close(seats, receipts)?;
+    push_gaps_after("set", &finished.served().set(), printed)?;
+    Ok(printed.push('\n')?)
+}
+
+/// A hunt for the best set of gaps, each of which costs 1, by one seat, and what is in hand after a script.
+pub fn hunt_by<W: Wait>(
+    wait: &W,
+    alloc: Global,
+    table: &SeqTable,
+    script: &[&[u8]],
+    printed: &mut String,
+) -> Result<(Hunt, Hand), HuntRefusal>
+    ensures { IfOk result (λ made. IsSound made.0 made.1) }
+{
+    let costs = equal_costs(alloc, table)?;
+    let tree = SearchTree::new(alloc, table, &costs, 1)?;
+    let (hunt, mut seats) = Hunt::new(alloc, tree, 1)?;
+    let Some(seat) = seats.pop() else {
+        return Err(HuntRefusal::Call);
+    };
+    let mut hand = Hand {
+        seat,
+        receipts: Vec::with_capacity(alloc, FEW)?,
+        posted: None,
+    };
+    push_script(wait, alloc, table, &hunt, &mut hand, script, printed)?;
+    Ok((hunt, hand))
+}
+
+/// What the hunt ends with, or why it does not end.
+pub fn push_end(
+    alloc: Global,
+    hunt: Hunt,
+    hand: Hand,
+    printed: &mut String,
+) -> Result<(), HuntRefusal>
+    requires { IsSound hunt hand }
+{
+    let Hand {
+        seat,
+        receipts,
+        posted: _,
+    } = hand;
+    match push_closed(alloc, hunt, seat, receipts, printed) {
+        Ok(()) => Ok(()),
+        Err(refusal) => Ok(write!(printed, "refused {refusal}\n")?),
+    }
+}
+
+/// The lines of a script over a hunt, and what the hunt ends with.
+pub fn push_hunted<W: Wait>(
+    wait: &W,
+    alloc: Global,
+    table: &SeqTable,
+    script: &[&[u8]],
+    printed: &mut String,
+) -> Result<(), HuntRefusal> {
+    let (hunt, hand) = hunt_by(wait, alloc, table, script, printed)?;
+    push_end(alloc, hunt, hand, printed)
+}

@@ -1,0 +1,275 @@
+//! A search by its events, one for each word of a script.
+ghost use Rattle.std.specs.Prelude.{◌≡◌, ◌<◌};
+ghost use Rattle.search_core.specs.States.{IsSameSearch};
+
+use crate::ceilings::{Making, made};
+use crate::records::push_record;
+use crate::refusal::HuntRefusal;
+use cover_solver::{ForeignRun, Oracle, SeqTable, Served, Solver, Verdict};
+use gap_sets::Region;
+use search_core::{Reason, SearchTree};
+use solver_calls::equal_costs;
+use std::alloc::{AllocError, Global};
+use text_calls::{labels_from, named, parts_of, place_of_then, push_gaps_after, split_at_byte};
+use tso_machine::Label;
+
+/// How many seats the search has.
+const SEATS: u8 = 2;
+
+/// What a seat does.
+#[derive(Clone, Copy)]
+enum Event {
+    Take,
+    Split,
+    Cut,
+    CutBy(Making),
+    Confirm,
+    GiveBack,
+}
+
+const EVENTS: [(&[u8], Event); 8] = [
+    (b"take", Event::Take),
+    (b"split", Event::Split),
+    (b"cut", Event::Cut),
+    (b"none", Event::CutBy(Making::None)),
+    (b"of", Event::CutBy(Making::Of)),
+    (b"at", Event::CutBy(Making::At)),
+    (b"confirm", Event::Confirm),
+    (b"give", Event::GiveBack),
+];
+
+pub fn push_region(region: &Region, printed: &mut String) -> Result<(), AllocError> {
+    push_gaps_after("must", &region.must, printed)?;
+    push_gaps_after(" never", &region.never, printed)?;
+    printed.push('\n')
+}
+
+/// The seat takes a node, whose region is printed.
+fn take(tree: &mut SearchTree, seat: u8, printed: &mut String) -> Result<(), HuntRefusal>
+    requires { seat < tree.old.seats }
+    ensures { IsSameSearch tree.old tree.new }
+{
+    let region = tree.take(seat)?;
+    Ok(push_region(&region, printed)?)
+}
+
+/// The labels of a word, with a comma between each two of them.
+pub fn labels_of(alloc: Global, word: &[u8]) -> Result<Vec<Label>, HuntRefusal> {
+    let words = parts_of(alloc, word, b',')?;
+    Ok(labels_from(alloc, words.as_slice(), 0)?)
+}
+
+/// The seat's node is split by the run of these labels.
+fn split(
+    alloc: Global,
+    table: &SeqTable,
+    tree: &mut SearchTree,
+    seat: u8,
+    labels: &[u8],
+) -> Result<(), HuntRefusal>
+    requires seat { seat < tree.old.seats }
+    requires of_table { tree.old.question ≡ table.now.question }
+    ensures { IsSameSearch tree.old tree.new }
+{
+    let labels = labels_of(alloc, labels)?;
+    let run = ForeignRun::new(alloc, table, labels.as_slice())?;
+    Ok(tree.split(seat, &run)?)
+}
+
+/// The seat's node is confirmed, if the gaps that its sets must have serve.
+fn confirm(
+    alloc: Global,
+    table: &SeqTable,
+    tree: &mut SearchTree,
+    seat: u8,
+) -> Result<(), HuntRefusal>
+    requires seat { seat < tree.old.seats }
+    requires of_table { tree.old.question ≡ table.now.question }
+    ensures { IsSameSearch tree.old tree.new }
+{
+    let Some(node) = tree.held(seat) else {
+        return Err(HuntRefusal::Call);
+    };
+    let solver = Solver::new(alloc, table.program(), table)?;
+    let Verdict::Serves(served) = solver.ask(&node.must)? else {
+        return Err(HuntRefusal::Call);
+    };
+    Ok(tree.confirm(seat, served)?)
+}
+
+/// The event, by this seat, and what it prints.
+fn push_event(
+    alloc: Global,
+    table: &SeqTable,
+    tree: &mut SearchTree,
+    event: Event,
+    seat: u8,
+    labels: &[u8],
+    printed: &mut String,
+) -> Result<(), HuntRefusal>
+    requires seat { seat < tree.old.seats }
+    requires of_table { tree.old.question ≡ table.now.question }
+    ensures { IsSameSearch tree.old tree.new }
+{
+    let done = match event {
+        Event::Take => return take(tree, seat, printed),
+        Event::Split => {
+            split(alloc, table, tree, seat, labels)?;
+            "split\n"
+        }
+        Event::Cut => {
+            tree.cut(seat, Reason::Best)?;
+            "cut\n"
+        }
+        Event::CutBy(making) => {
+            let ceiling = made(alloc, table, tree, making, labels)?;
+            write!(printed, "ceiling {:?}\n", ceiling.cost())?;
+            tree.cut(seat, Reason::Ceiling(ceiling))?;
+            "cut\n"
+        }
+        Event::Confirm => {
+            confirm(alloc, table, tree, seat)?;
+            "confirmed\n"
+        }
+        Event::GiveBack => {
+            tree.give_back(seat)?;
+            "given back\n"
+        }
+    };
+    Ok(printed.push_str(done)?)
+}
+
+/// Does what a word names: the event, the seat's number as its last digit, and labels or gaps after a colon.
+fn push_step(
+    alloc: Global,
+    table: &SeqTable,
+    tree: &mut SearchTree,
+    word: &[u8],
+    printed: &mut String,
+) -> Result<(), HuntRefusal>
+    requires seats { tree.old.seats ≡ 2 }
+    requires of_table { tree.old.question ≡ table.now.question }
+    ensures { IsSameSearch tree.old tree.new }
+{
+    let (first, labels) = split_at_byte(word, b':');
+    let Some((last, name)) = first.split_last() else {
+        return Err(HuntRefusal::Call);
+    };
+    let seat = last.wrapping_sub(b'0');
+    if seat >= SEATS {
+        return Err(HuntRefusal::Call);
+    }
+    push_event(
+        alloc,
+        table,
+        tree,
+        named(&EVENTS, name)?,
+        seat,
+        labels,
+        printed,
+    )
+}
+
+/// The answer, if the search is done.
+fn push_answer(answer: Option<&Served>, printed: &mut String) -> Result<(), AllocError> {
+    match answer {
+        Some(served) => {
+            push_gaps_after("set", &served.set(), printed)?;
+            printed.push('\n')
+        }
+        None => printed.push_str("not done\n"),
+    }
+}
+
+/// The lines of a word: the answer, or what became of an event.
+fn push_word(
+    alloc: Global,
+    table: &SeqTable,
+    tree: &mut SearchTree,
+    word: &[u8],
+    printed: &mut String,
+) -> Result<(), AllocError>
+    requires seats { tree.old.seats ≡ 2 }
+    requires of_table { tree.old.question ≡ table.now.question }
+    ensures { IsSameSearch tree.old tree.new }
+{
+    if word == b"answer".as_slice() {
+        return push_answer(tree.answer(), printed);
+    }
+    if word == b"done".as_slice() {
+        return write!(printed, "done {}\n", tree.is_done());
+    }
+    match push_step(alloc, table, tree, word, printed) {
+        Ok(()) => Ok(()),
+        Err(refusal) => write!(printed, "refused {refusal}\n"),
+    }
+}
+
+/// The lines of a script.
+fn push_script(
+    alloc: Global,
+    table: &SeqTable,
+    tree: &mut SearchTree,
+    script: &[&[u8]],
+    printed: &mut String,
+) -> Result<(), AllocError>
+    requires seats { tree.old.seats ≡ 2 }
+    requires of_table { tree.old.question ≡ table.now.question }
+    ensures seats { tree.new.seats ≡ 2 }
+    ensures of_table { tree.new.question ≡ table.now.question }
+{
+    for word in script {
+        push_word(alloc, table, tree, word, printed)?;
+    }
+    Ok(())
+}
+
+/// The lines of a script over the search for the best set of gaps, each of which costs 1.
+pub fn push_searched(
+    alloc: Global,
+    table: &SeqTable,
+    script: &[&[u8]],
+    printed: &mut String,
+) -> Result<(), HuntRefusal> {
+    let costs = equal_costs(alloc, table)?;
+    let mut tree = SearchTree::new(alloc, table, &costs, SEATS)?;
+    Ok(push_script(alloc, table, &mut tree, script, printed)?)
+}
+
+/// The record of a search that is done. One that is not goes on by the script, as it is handed back.
+fn push_finished(
+    alloc: Global,
+    table: &SeqTable,
+    tree: SearchTree,
+    script: &[&[u8]],
+    printed: &mut String,
+) -> Result<(), AllocError>
+    requires seats { tree.seats ≡ 2 }
+    requires of_table { tree.question ≡ table.now.question }
+{
+    let mut tree = match tree.finish() {
+        Ok(finished) => return push_record(&finished, printed),
+        Err(tree) => tree,
+    };
+    printed.push_str("not finished\n")?;
+    push_script(alloc, table, &mut tree, script, printed)?;
+    match tree.finish() {
+        Ok(finished) => push_record(&finished, printed),
+        Err(_) => printed.push_str("not finished\n"),
+    }
+}
+
+/// The lines of the words before `then` over a search, and its record where it is done; or else those of the words after
+/// it, and the record then.
+pub fn push_records(
+    alloc: Global,
+    table: &SeqTable,
+    words: &[&[u8]],
+    printed: &mut String,
+) -> Result<(), HuntRefusal> {
+    let (script, rest) = words.split_at(place_of_then(words)?);
+    let costs = equal_costs(alloc, table)?;
+    let mut tree = SearchTree::new(alloc, table, &costs, SEATS)?;
+    push_script(alloc, table, &mut tree, script, printed)?;
+    Ok(push_finished(alloc, table, tree, rest.split_at(1).1, printed)?)
+}

@@ -1,0 +1,101 @@
+//! Ways to settle the node of a hunt's seat that a script asks for by a word of their own.
+ghost use Rattle.std.specs.Prelude.{◌≡◌, ◌<◌, false, IfOk, MatchOption};
+ghost use Rattle.gap_sets.specs.Order.{total};
+ghost use Rattle.search_core.specs.Ceilings.{IsCeilingOf};
+ghost use Rattle.hunt_board.specs.Seats.{IsOf};
+ghost use Rattle.hunt_board.specs.Settlings.{MaySettle};
+ghost use Rattle.hunt_calls.specs.Hunts.{IsSound};
+
+use crate::hunts::{Hand, held, push_receipt, run_past};
+use crate::refusal::HuntRefusal;
+use cover_solver::{SeqTable, Verdict};
+use gap_sets::Region;
+use hunt_board::{Hunt, HuntSeat, Settling};
+use search_core::Ceiling;
+use std::alloc::{AllocError, Global};
+use std::sync::Wait;
+
+/// The hunt's ceiling, where what the node's sets must have costs more.
+fn ceiling_below(hunt: &Hunt, seat: &mut HuntSeat, node: &Region) -> Result<Ceiling, HuntRefusal>
+    requires { IsOf hunt.now seat.old }
+    ensures of { IsOf hunt.now seat.new }
+    ensures same { (seat.new.node ≡ seat.old.node) × (seat.new.best ≡ seat.old.best) }
+    ensures ceiling { IfOk result (IsCeilingOf hunt.now.question hunt.now.costs) }
+    ensures below { IfOk result (λ c. MatchOption c ⊥ (λ bound. bound.cost < total hunt.now.costs node.now.must)) }
+{
+    let ceiling = hunt.ceiling(seat);
+    match ceiling.cost() {
+        Some(cost) if cost < hunt.costs().total(&node.must) => Ok(ceiling),
+        _ => Err(HuntRefusal::Call),
+    }
+}
+
+/// Settles the seat's node, keeps the receipt and prints it. Whether there was memory for it.
+fn is_settled<W: Wait>(
+    wait: &W,
+    hunt: &Hunt,
+    hand: &mut Hand,
+    settling: Settling,
+    printed: &mut String,
+) -> Result<bool, HuntRefusal>
+    requires sound { IsSound hunt.now hand.old }
+    requires lawful { MaySettle hunt.now hand.old.seat settling }
+    ensures sound { IsSound hunt.now hand.new }
+    ensures refused { IfOk result (λ done. done ≡ false → hand.new.seat ≡ hand.old.seat) }
+{
+    match hunt.settle(wait, &mut hand.seat, settling) {
+        Ok(receipt) => {
+            hand.receipts.push(receipt)?;
+            push_receipt(&receipt, printed)?;
+            Ok(true)
+        }
+        Err(_) => Ok(false),
+    }
+}
+
+/// Cuts the seat's node, where what its sets must have costs more than the ceiling.
+pub fn cut<W: Wait>(
+    wait: &W,
+    hunt: &Hunt,
+    hand: &mut Hand,
+    printed: &mut String,
+) -> Result<(), HuntRefusal>
+    requires { IsSound hunt.now hand.old }
+    ensures { IsSound hunt.now hand.new }
+{
+    let node = held(&hand.seat)?;
+    let ceiling = ceiling_below(hunt, &mut hand.seat, &node)?;
+    let receipt = hunt.settle(wait, &mut hand.seat, Settling::Cut(ceiling))?;
+    hand.receipts.push(receipt)?;
+    Ok(push_receipt(&receipt, printed)?)
+}
+
+/// Settles the seat's node by the run of these labels. Where memory is refused, it prints so and settles the node by a copy
+/// of the run that was made before.
+pub fn settle_again<W: Wait>(
+    wait: &W,
+    alloc: Global,
+    table: &SeqTable,
+    hunt: &Hunt,
+    hand: &mut Hand,
+    labels: &[u8],
+    printed: &mut String,
+) -> Result<(), HuntRefusal>
+    requires of_table { hunt.now.question ≡ table.now.question }
+    requires sound { IsSound hunt.now hand.old }
+    ensures { IsSound hunt.now hand.new }
+{
+    let node = held(&hand.seat)?;
+    let run = run_past(alloc, table, &node, labels)?;
+    let copy = Settling::Asked(Verdict::Foreign(run.copy(alloc)?));
+    let settling = Settling::Asked(Verdict::Foreign(run));
+    if is_settled(wait, hunt, hand, settling, printed)? {
+        return Ok(());
+    }
+    printed.push_str("refused settle\n")?;
+    if is_settled(wait, hunt, hand, copy, printed)? {
+        Ok(())
+    } else {
+        Err(HuntRefusal::Memory(AllocError))
+    }
+}

@@ -1,0 +1,40 @@
+//! The answers to the calls.
+
+use crate::gates::push_gated;
+use crate::lacking::push_lacking;
+use crate::placing::{PlacerCall, push_hunted_with, push_placed};
+use crate::refusal::PlaceRefusal;
+use crate::sharing::push_shared;
+use cover_solver::SeqTable;
+use std::alloc::Global;
+use std::sync::Wait;
+use std::thread::Threads;
+
+/// A call with the sequential outcomes, by its name.
+#[derive(Clone, Copy)]
+pub enum PlaceCall {
+    Place,
+    HuntWith,
+    Gated(PlacerCall),
+    Shared(PlacerCall),
+    Lacking(PlacerCall),
+}
+
+/// The answer to a call with the sequential outcomes.
+pub fn push_of_place<R: Threads + Sync, W: Wait + Sync>(
+    rt: &R,
+    wait: &W,
+    alloc: Global,
+    call: PlaceCall,
+    words: &[&[u8]],
+    table: &SeqTable,
+    printed: &mut String,
+) -> Result<(), PlaceRefusal> {
+    match call {
+        PlaceCall::Place => push_placed(rt, wait, alloc, table, words, printed),
+        PlaceCall::HuntWith => push_hunted_with(rt, wait, alloc, table, words, printed),
+        PlaceCall::Gated(call) => push_gated(rt, wait, alloc, call, table, words, printed),
+        PlaceCall::Shared(call) => push_shared(rt, wait, alloc, call, table, words, printed),
+        PlaceCall::Lacking(call) => push_lacking(rt, wait, alloc, call, table, words, printed),
+    }
+}

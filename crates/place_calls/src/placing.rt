@@ -1,0 +1,165 @@
+//! Placing fences by a solver that counts what it is asked.
+ghost use Rattle.std.specs.Prelude.{◌≡◌, false, IfOk};
+
+use crate::refusal::PlaceRefusal;
+use cover_solver::{Oracle, SeqTable, SolveFault, Solver, Verdict};
+use fence_place::{Placed, hunt_with, place};
+use gap_sets::{Costs, GapSet};
+use solver_calls::equal_costs;
+use std::alloc::{AllocError, Global};
+use std::sync::Wait;
+use std::sync::atomic::{AtomicU64, Ordering};
+use std::thread::Threads;
+use text_calls::{byte_at, number_of, push_gaps_after};
+
+/// A solver, how many sets it was asked about, and how many of them serve.
+#[derive(Drop)]
+struct Counting {
+    solver: Solver,
+    asked: AtomicU64,
+    serve: AtomicU64,
+}
+
+impl Oracle for Counting {
+    ghost question = { λ c. c.solver.question };
+
+    ghost may_lack_runs = { λ c. false };
+
+    fn ask(&self, set: &GapSet) -> Result<Verdict, SolveFault> {
+        self.asked.fetch_add(1, Ordering::SeqCst);
+        let verdict = self.solver.ask(set)?;
+        if let Verdict::Serves(_) = &verdict {
+            self.serve.fetch_add(1, Ordering::SeqCst);
+        }
+        Ok(verdict)
+    }
+}
+
+/// Which call finds the set.
+#[derive(Clone, Copy)]
+pub enum PlacerCall {
+    Place,
+    Hunt,
+}
+
+/// The best set of gaps, each of which costs 1, as a number of workers find it.
+pub fn set_by<R: Threads + Sync, W: Wait + Sync, O: Oracle>(
+    rt: &R,
+    wait: &W,
+    alloc: Global,
+    call: PlacerCall,
+    table: &SeqTable,
+    oracle: &O,
+    workers: u8,
+) -> Result<GapSet, PlaceRefusal>
+    requires { O.question oracle.now ≡ table.now.question }
+{
+    let costs = equal_costs(alloc, table)?;
+    match call {
+        PlacerCall::Place => {
+            let placed = place(rt, wait, alloc, oracle, table, &costs, workers)?;
+            Ok(placed.set)
+        }
+        PlacerCall::Hunt => {
+            let finished = hunt_with(rt, wait, alloc, oracle, table, &costs, workers)?;
+            Ok(finished.served().set())
+        }
+    }
+}
+
+/// The costs that the words after the first spell, or 1 for each gap where no word comes after it.
+fn costs_of(alloc: Global, table: &SeqTable, words: &[&[u8]]) -> Result<Costs, PlaceRefusal> {
+    if words.len() < 2 {
+        return Ok(equal_costs(alloc, table)?);
+    }
+    let mut list = Vec::new(alloc);
+    for word in words.iter().skip(1) {
+        list.push(number_of(word)?)?;
+    }
+    Ok(Costs::new(alloc, &list)?)
+}
+
+/// The set that is placed and its cost, then how many sets the solver was asked about.
+fn push_lines(placed: &Placed, solver: &Counting, printed: &mut String) -> Result<(), AllocError> {
+    let serve = solver.serve.load(Ordering::SeqCst);
+    let asks = solver.asked.load(Ordering::SeqCst);
+    push_gaps_after("set", &placed.set, printed)?;
+    write!(
+        printed,
+        "\ncost {}\nserve {serve}\nasks {asks}\n",
+        placed.cost
+    )
+}
+
+fn new_counting(alloc: Global, table: &SeqTable) -> Result<Counting, PlaceRefusal>
+    ensures { IfOk result (λ counting. counting.solver.question ≡ table.now.question) }
+{
+    Ok(Counting {
+        solver: Solver::new(alloc, table.program(), table)?,
+        asked: AtomicU64::new(0),
+        serve: AtomicU64::new(0),
+    })
+}
+
+/// What is placed: the first word is the number of workers, and the costs of the gaps may follow.
+fn placed_by<R: Threads + Sync, W: Wait + Sync>(
+    rt: &R,
+    wait: &W,
+    alloc: Global,
+    table: &SeqTable,
+    solver: &Counting,
+    words: &[&[u8]],
+) -> Result<Placed, PlaceRefusal>
+    requires { solver.now.solver.question ≡ table.now.question }
+{
+    let workers = byte_at(words, 0)?;
+    let costs = costs_of(alloc, table, words)?;
+    Ok(place(rt, wait, alloc, solver, table, &costs, workers)?)
+}
+
+/// Places fences, and says how many sets the solver was asked about.
+pub fn push_placed<R: Threads + Sync, W: Wait + Sync>(
+    rt: &R,
+    wait: &W,
+    alloc: Global,
+    table: &SeqTable,
+    words: &[&[u8]],
+    printed: &mut String,
+) -> Result<(), PlaceRefusal> {
+    let solver = new_counting(alloc, table)?;
+    let placed = placed_by(rt, wait, alloc, table, &solver, words)?;
+    Ok(push_lines(&placed, &solver, printed)?)
+}
+
+/// What one hunt finds, without another search where it does not close: the first word is the number of workers, and the
+/// costs of the gaps may follow.
+fn hunted_with<R: Threads + Sync, W: Wait + Sync>(
+    rt: &R,
+    wait: &W,
+    alloc: Global,
+    table: &SeqTable,
+    solver: &Solver,
+    words: &[&[u8]],
+) -> Result<GapSet, PlaceRefusal>
+    requires { solver.now.question ≡ table.now.question }
+{
+    let workers = byte_at(words, 0)?;
+    let costs = costs_of(alloc, table, words)?;
+    let finished = hunt_with(rt, wait, alloc, solver, table, &costs, workers)?;
+    Ok(finished.served().set())
+}
+
+/// The set that one hunt finds.
+pub fn push_hunted_with<R: Threads + Sync, W: Wait + Sync>(
+    rt: &R,
+    wait: &W,
+    alloc: Global,
+    table: &SeqTable,
+    words: &[&[u8]],
+    printed: &mut String,
+) -> Result<(), PlaceRefusal> {
+    let solver = Solver::new(alloc, table.program(), table)?;
+    let set = hunted_with(rt, wait, alloc, table, &solver, words)?;
+    push_gaps_after("set", &set, printed)?;
+    Ok(printed.push('\n')?)
+}

@@ -1,5 +1,0 @@
-use Rattle.std.proofs.Common.{◌≡◌}
-use Rattle.test_calls.proofs.search.push_script.Given as goal
-
-abbrev pub invariant-loop-word : goal.invariant-loop-word
-invariant-loop-word l = (l.tree.question ≡ l.fn.table.question) × (l.tree.seats ≡ 2)

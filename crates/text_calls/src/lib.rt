@@ -1,0 +1,30 @@
+//! A library of the tests: calls of texts, sets, costs, programs, machines, sketches and certificates, and the words of all calls.
+#![tactic(auto)]
+
+mod answers;
+mod calls;
+mod certificates;
+mod fences;
+mod formulas;
+mod input;
+mod lines;
+mod machines;
+mod observations;
+mod programs;
+mod refusal;
+mod sets;
+mod sketches;
+mod syntax;
+mod texts;
+mod tokens;
+
+pub use answers::{push_of_litmus, push_of_text};
+pub use calls::{LitmusCall, TextCall};
+pub use fences::gaps_of;
+pub use input::{
+    byte_at, byte_of, gap_set_of, named, number_of, parts_of, place_of_then, push_bytes,
+    split_at_byte, split_line, words_of,
+};
+pub use lines::{push_gaps_after, push_run};
+pub use machines::labels_from;
+pub use refusal::TextRefusal;

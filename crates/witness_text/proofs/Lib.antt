@@ -1,0 +1,2 @@
+pub mod FencedRuns
+pub mod PlacesFenced

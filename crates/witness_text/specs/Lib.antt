@@ -1,0 +1,3 @@
+pub mod FencedGaps
+pub mod WitnessTexts
+pub mod Internal
