@@ -43,6 +43,14 @@ impl Listed<'_> {
         }
     }
 
+    /// How many outcomes there are.
+    pub(crate) fn count(&self) -> usize {
+        match self {
+            Listed::Closed(outcomes) => outcomes.len(),
+            Listed::Open { found, .. } => found.listed.len(),
+        }
+    }
+
     /// The same outcomes, ascending.
     pub(crate) fn ascending(&self) -> &[Outcome] {
         match self {

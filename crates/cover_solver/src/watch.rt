@@ -2,8 +2,8 @@
 
 /// Follows how much of a search is done.
 pub trait Watch {
-    /// So many more combinations of traces are done.
-    fn done(&self, combinations: u64);
+    /// So many more combinations of traces are done, and so many outcomes are found by now.
+    fn done(&self, combinations: u64, outcomes: usize);
 }
 
 /// Follows nothing.
@@ -11,5 +11,5 @@ pub trait Watch {
 pub(crate) struct Unwatched;
 
 impl Watch for Unwatched {
-    fn done(&self, _combinations: u64) {}
+    fn done(&self, _combinations: u64, _outcomes: usize) {}
 }
