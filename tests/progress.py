@@ -19,7 +19,7 @@ MOST_TRACES = 10_000_000
 MOST_CERTIFIED = 100_000_000
 LONG = 1_000_000
 WARNING = "fencer: warning: with more than 100000000 combinations the search may end without an answer or a certificate"
-DONE = re.compile(r"fencer: (\d+) % of the combinations are done")
+DONE = re.compile(r"fencer: (\d+) % of the combinations are done; outcomes found: (\d+)")
 ASKED = re.compile(r"fencer: sets asked: (\d+)(?:; the answer costs at least (\d+))?")
 # threads whose traces have unlike lengths, so that a value of one read leaves more combinations than another
 JUMPS = """X86 jumps
@@ -107,19 +107,37 @@ def ahead(program):
     return [f"fencer: combinations of traces: {count}", *([WARNING] if count > MOST_CERTIFIED else [])]
 
 
-def shares(said, combinations):
-    """The lines at the front that say how many per cent are done, and the others. Whether they ascend, none of them twice, and end at 100; a search of
-    few combinations may only report a share that a whole number of them is."""
+def shares(said, combinations, outcomes):
+    """Whether the lines at the front that say how many per cent are done, and how many outcomes are found, are right; and the other lines. The per cents
+    ascend, none of them twice, and end at 100; of few combinations only a share that a whole number of them is may be reported. The outcomes grow up to
+    those of the program."""
     done = list(itertools.takewhile(bool, (DONE.fullmatch(line) for line in said)))
-    shares = [int(line[1]) for line in done]
+    shares, found = [int(line[1]) for line in done], [int(line[2]) for line in done]
     possible = {100 * count // combinations for count in range(1, combinations + 1)} if combinations < 10_000 else set(range(101))
-    return shares == sorted(set(shares)) and shares[-1:] == [100] and set(shares) <= possible - {0}, said[len(done):]
+    right = shares == sorted(set(shares)) and shares[-1:] == [100] and set(shares) <= possible - {0} and found == sorted(found) and found[-1:] == [outcomes]
+    return right, said[len(done):]
 
 
 def ran(program, words, **more):
     """The status of a call, what it prints, and the lines on standard error."""
     call = subprocess.run([program, *words], stdout=subprocess.PIPE, stderr=more.pop("stderr", subprocess.PIPE), timeout=120, **more)
     return (call.returncode, call.stdout), (call.stderr or b"").decode().splitlines()
+
+
+def count_outcomes(fencer, path, *options):
+    """How many outcomes a program has."""
+    return int(ran(fencer, ["outcomes", *options, path])[0][1].split()[1])
+
+
+def searched_outcomes(fencer, path, command):
+    """How many outcomes the search of a command finds: those of the machine that it is asked about, or the sequential ones, as far as they are shown. Of a
+    condition's truth there are as many as runs show, which the observation says."""
+    if command[0] == "outcomes":
+        return count_outcomes(fencer, path, *(option for option in command[1:] if option not in ("--check", "--json")))
+    if "--condition" in command:
+        observation = re.search(rb"observation (\w+)", ran(fencer, ["outcomes", "--model", "sequential", path])[0][1])[1]
+        return 2 if observation == b"Sometimes" else 1
+    return count_outcomes(fencer, path, "--model", "sequential", *(option for option in command if option == "--observed"))
 
 
 def read_program(fencer, path):
@@ -140,15 +158,15 @@ def search_cases(tell, fencer, path):
     """What is reported of one file, by each command."""
     name, program = os.path.basename(path), read_program(fencer, path)
     lines = ahead(program)
-    sequential = int(ran(fencer, ["outcomes", "--model", "sequential", path])[0][1].split()[1])
+    sequential = count_outcomes(fencer, path, "--model", "sequential")
     for command in (["outcomes"], ["outcomes", "--observed", "--check", "--json"], ["place"], ["place", "--workers", "4"], ["place", "--json", "--check"], ["why"]):
         plain, silent = ran(fencer, [*command, path])
         found, said = ran(fencer, [*command, "--progress", path])
         what = f"progress of {' '.join(command)} {name}"
         tell(f"{what}: the answer is the same", (found, silent) == (plain, []), (found, silent))
         tell(f"{what}: what lies ahead", said[:len(lines)] == lines, f"wanted {lines}\n  found  {said}")
-        right, rest = shares(said[len(lines):], program.combinations())
-        tell(f"{what}: the share that is done", right, said)
+        right, rest = shares(said[len(lines):], program.combinations(), searched_outcomes(fencer, path, command))
+        tell(f"{what}: the share that is done, and the outcomes found", right, said)
         if command[0] == "outcomes":
             tell(f"{what}: nothing else", rest == [], rest)
         elif "--json" not in command:
@@ -168,7 +186,7 @@ def share_cases(tell, fencer):
             for command in (["outcomes"], ["outcomes", "--observed"], ["outcomes", "--model", "sequential"], ["place", "--observed"], ["place", "--condition"], ["why", "--condition"]):
                 plain, silent = ran(fencer, [*command, path])
                 found, said = ran(fencer, [*command, "--progress", path])
-                right, rest = shares(said[len(lines):], program.combinations())
+                right, rest = shares(said[len(lines):], program.combinations(), searched_outcomes(fencer, path, command))
                 what = f"the share of {name} that is done by {' '.join(command)}"
                 tell(what, (found, silent, said[:len(lines)]) == (plain, [], lines) and right and not any(DONE.fullmatch(line) for line in rest), said)
 
@@ -214,7 +232,7 @@ def terminal_cases(tell, fencer):
             file.write(reads(10, 10))
         lines = ahead(read_program(fencer, path))
         printed, said = on_terminal(fencer, ["outcomes", path])
-        right, rest = shares(said[len(lines):], 2**20)
+        right, rest = shares(said[len(lines):], 2**20, count_outcomes(fencer, path))
         tell("a long search is reported on a terminal", said[:len(lines)] == lines and right and rest == [] and printed == ran(fencer, ["outcomes", path])[0][1], said)
 
 

@@ -46,9 +46,9 @@ pub fn certify(
         set,
         cost: finished.costs().total(&set),
         seq_runs,
-        seq_tree: table.tree().copy(alloc)?,
+        seq_tree: table.tree().copy()?,
         runs,
-        fenced_tree: served.tree().copy(alloc)?,
+        fenced_tree: served.tree().copy()?,
         gap_tree,
     })
 }

@@ -1,4 +1,4 @@
-//! What lies ahead of a search for a program's outcomes, and how much of it is done, reported to people. No clause rests on it.
+//! What lies ahead of a search for a program's outcomes, how much of it is done and what it has found, reported to people. No clause rests on it.
 
 use cover_solver::Watch;
 use program_streams::Progress;
@@ -39,25 +39,25 @@ impl Ahead {
         self.progress
     }
 
-    /// Reports how many per cent are done, if the number of all is known.
-    fn report(&self) {
+    /// Reports how many per cent are done, if the number of all is known, and how many outcomes are found.
+    fn report(&self, outcomes: usize) {
         let Combinations::Exactly(all) = self.combinations else {
             return;
         };
         let share = share_of(self.done.get(), all);
         self.due.set(due_after(share, self.combinations));
         if self.progress.is_shown() {
-            self.progress.report(share_line(self.alloc, share));
+            self.progress.report(share_line(self.alloc, share, outcomes));
         }
     }
 }
 
 impl Watch for Ahead {
-    fn done(&self, combinations: u64) {
+    fn done(&self, combinations: u64, outcomes: usize) {
         let done = self.done.get().saturating_add(combinations);
         self.done.set(done);
         if done >= self.due.get() {
-            self.report();
+            self.report(outcomes);
         }
     }
 }
@@ -81,8 +81,11 @@ fn due_after(share: u64, combinations: Combinations) -> u64 {
     }
 }
 
-fn share_line(alloc: Global, share: u64) -> Result<Vec<u8>, AllocError> {
-    Ok(format!(in alloc; "fencer: {share} % of the combinations are done\n")?.into_bytes())
+fn share_line(alloc: Global, share: u64, outcomes: usize) -> Result<Vec<u8>, AllocError> {
+    let line = format!(in alloc;
+        "fencer: {share} % of the combinations are done; outcomes found: {outcomes}\n"
+    )?;
+    Ok(line.into_bytes())
 }
 
 /// Reports what lies ahead of a search for a program's outcomes. Nothing is reported where there is no memory to work it out.

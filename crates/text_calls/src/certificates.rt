@@ -11,8 +11,8 @@ use std::alloc::{AllocError, Global};
 use tso_program::{Program, Shown};
 
 fn copy_trees(alloc: Global, certificate: &mut Certificate) -> Result<(), AllocError> {
-    certificate.seq_tree = certificate.seq_tree.copy(alloc)?;
-    certificate.fenced_tree = certificate.fenced_tree.copy(alloc)?;
+    certificate.seq_tree = certificate.seq_tree.copy()?;
+    certificate.fenced_tree = certificate.fenced_tree.copy()?;
     certificate.gap_tree = certificate.gap_tree.copy(alloc)?;
     Ok(())
 }

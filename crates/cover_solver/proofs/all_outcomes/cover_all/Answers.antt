@@ -17,5 +17,5 @@ returns-clause-tree g c =
     let shown = c.args.shown.now in
     let outcomes = listed c.filled.new.outcomes in
     let made = c.in_ok-nodes.ensures.tree in
-    subst (IsWholeCover (asked p shown) (machine_of_mode p c.args.mode) outcomes) (sym (same_tree c.of_nodes.result made.tree (c.of_nodes.ensures ∙ made.pushed)))
+    subst (IsWholeCover (asked p shown) (machine_of_mode p c.args.mode) outcomes) (sym (same_tree c.in_ok-of_nodes.field-0 made.tree (c.in_ok-of_nodes.ensures ∙ made.pushed)))
     (cover_first p c.args.mode (nothing_chosen p c.args.mode) shown outcomes made.tree refl made.is)

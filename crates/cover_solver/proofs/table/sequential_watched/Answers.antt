@@ -17,8 +17,8 @@ of_nodes-requires g c =
     let all = c.in_ok-all.all in
     let places = c.in_ok-places.places.items in
     let small = c.in_ok-places.ensures.small in
-    let spelled = tree_renumbered c.args.program.now c.args.shown.now all.found.listed.items (place_in places) small all.tree c.in_ok-places.ensures.few c.in_ok-all.ensures.tree c.into_nodes-nodes.result.items c.renumber.new.nodes.items c.into_nodes-nodes.ensures
-    (c.renumber.ensures ∙ ap (λ (ns : List ℕ). map (renumbered_node (place_in ns)) c.into_nodes-nodes.result.items) c.deref.ensures.value) in
+    let spelled = tree_renumbered c.args.program.now c.args.shown.now all.found.listed.items (place_in places) small all.tree c.in_ok-places.ensures.few c.in_ok-all.ensures.tree c.in_ok-nodes.nodes.items c.renumber.new.nodes.items c.in_ok-nodes.ensures
+    (c.renumber.ensures ∙ ap (λ (ns : List ℕ). map (renumbered_node (place_in ns)) c.in_ok-nodes.nodes.items) c.deref.ensures.value) in
     is_tree (renumbered (place_in places) all.tree) c.renumber.new.nodes.items spelled
 
 pub invariant_of-result : goal.invariant_of-result
@@ -33,12 +33,12 @@ invariant_of-result g c =
     let outcomes = all.found.outcomes.items in
     let places = c.in_ok-places.places.items in
     let small = c.in_ok-places.ensures.small in
-    let spelled = tree_renumbered p shown known (place_in places) small all.tree c.in_ok-places.ensures.few is.tree c.into_nodes-nodes.result.items c.renumber.new.nodes.items c.into_nodes-nodes.ensures
-    (c.renumber.ensures ∙ ap (λ (ns : List ℕ). map (renumbered_node (place_in ns)) c.into_nodes-nodes.result.items) c.deref.ensures.value) in
+    let spelled = tree_renumbered p shown known (place_in places) small all.tree c.in_ok-places.ensures.few is.tree c.in_ok-nodes.nodes.items c.renumber.new.nodes.items c.in_ok-nodes.ensures
+    (c.renumber.ensures ∙ ap (λ (ns : List ℕ). map (renumbered_node (place_in ns)) c.in_ok-nodes.nodes.items) c.deref.ensures.value) in
     let few : length outcomes < 2 ^ 64 = (let long = all.found.outcomes.ok.0 in let within = all.found.outcomes.ok.1 in let small_items = all.found.outcomes.small in omega arith) in (
-      table_of p copy shown copied known outcomes all.found.runs places all.tree c.of_nodes.result c.in_ok-copy.ensures c.in_ok-copy-2.ensures few
+      table_of p copy shown copied known outcomes all.found.runs places all.tree c.in_ok-of_nodes.field-0 c.in_ok-copy.ensures c.in_ok-copy-2.ensures few
           (record { ascend = is.in_order.ascend; exact = is.exact }) is.runs is.tree c.in_ok-places.ensures.places
-          (same_tree c.of_nodes.result (renumbered (place_in places) all.tree) (c.of_nodes.ensures ∙ spelled)),
+          (same_tree c.in_ok-of_nodes.field-0 (renumbered (place_in places) all.tree) (c.in_ok-of_nodes.ensures ∙ spelled)),
       table_kept p copy shown copied known outcomes places all.kept (arc_value c.in_ok-new.field-0) c.in_ok-copy.ensures c.in_ok-copy-2.ensures few
           c.in_ok-places.ensures.few small is.kept c.in_ok-places.ensures.places
           (ap items_of c.in_ok-new.ensures.ok ∙ c.renumber_kept.ensures ∙ ap (λ (ns : List ℕ). map (renumbered_item (place_in ns)) (items_of all.kept)) c.deref-2.ensures.value),
@@ -54,9 +54,9 @@ returns-clause-table g c =
     let outcomes = all.found.outcomes.items in
     let places = c.in_ok-places.places.items in
     let small = c.in_ok-places.ensures.small in
-    let spelled = tree_renumbered p shown known (place_in places) small all.tree c.in_ok-places.ensures.few is.tree c.into_nodes-nodes.result.items c.renumber.new.nodes.items c.into_nodes-nodes.ensures
-    (c.renumber.ensures ∙ ap (λ (ns : List ℕ). map (renumbered_node (place_in ns)) c.into_nodes-nodes.result.items) c.deref.ensures.value) in
+    let spelled = tree_renumbered p shown known (place_in places) small all.tree c.in_ok-places.ensures.few is.tree c.in_ok-nodes.nodes.items c.renumber.new.nodes.items c.in_ok-nodes.ensures
+    (c.renumber.ensures ∙ ap (λ (ns : List ℕ). map (renumbered_node (place_in ns)) c.in_ok-nodes.nodes.items) c.deref.ensures.value) in
     let few : length outcomes < 2 ^ 64 = (let long = all.found.outcomes.ok.0 in let within = all.found.outcomes.ok.1 in let small_items = all.found.outcomes.small in omega arith) in
-    table_of p c.in_ok-copy.field-0 shown c.in_ok-copy-2.field-0 known outcomes all.found.runs places all.tree c.of_nodes.result c.in_ok-copy.ensures c.in_ok-copy-2.ensures few
+    table_of p c.in_ok-copy.field-0 shown c.in_ok-copy-2.field-0 known outcomes all.found.runs places all.tree c.in_ok-of_nodes.field-0 c.in_ok-copy.ensures c.in_ok-copy-2.ensures few
     (record { ascend = is.in_order.ascend; exact = is.exact }) is.runs is.tree c.in_ok-places.ensures.places
-    (same_tree c.of_nodes.result (renumbered (place_in places) all.tree) (c.of_nodes.ensures ∙ spelled))
+    (same_tree c.in_ok-of_nodes.field-0 (renumbered (place_in places) all.tree) (c.in_ok-of_nodes.ensures ∙ spelled))
