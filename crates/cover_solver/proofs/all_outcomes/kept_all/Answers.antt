@@ -19,5 +19,6 @@ pub returns-clause-kept : goal.returns-clause-kept
 returns-clause-kept g c =
     let root = nothing_chosen c.args.program.now (modes.Fenced set.empty) in
     let same = c.in_ok-sketch.ensures.empty ∙ ap (λ (gaps : SetOfGaps). nothing_chosen c.args.program.now (modes.Fenced gaps)) c.empty.ensures in
-    subst (λ (old : List Item). Keeps root c.args.shown.now (listed c.kept_first.new.outcomes) [] old (items_of c.kept_first.new.kept)) c.none-kept.ensures
-    (c.in_ok-kept_first.ensures.tree root (sym same))
+    let outcomes = listed c.kept_first.new.outcomes in
+    subst (Keeps root c.args.shown.now outcomes [] []) (sym c.shrink.ensures)
+    (subst (λ (old : List Item). Keeps root c.args.shown.now outcomes [] old (items_of c.kept_first.new.kept)) c.none-kept.ensures (c.in_ok-kept_first.ensures.tree root (sym same)))
