@@ -47,7 +47,8 @@ impl Ahead {
         let share = share_of(self.done.get(), all);
         self.due.set(due_after(share, self.combinations));
         if self.progress.is_shown() {
-            self.progress.report(share_line(self.alloc, share, outcomes));
+            self.progress
+                .report(share_line(self.alloc, share, outcomes));
         }
     }
 }
