@@ -25,7 +25,7 @@ served_send =
     view_send served_inside.the_row _ _ _ _
     (recorded_send (served_inside.the_field).row _ _ (served_inside.the_type).to_one
     (struct_send (shape served_inside.the_type)
-    (program.the_send, (shown.the_field_send, (gaps.the_send, (cover.the_field_send, tt))))))
+    (program.the_send, (shown.the_field_send, (gaps.the_send, (cover.the_send, tt))))))
 
 tree_send : IsSend search_tree.the_row
 tree_send =
