@@ -96,7 +96,10 @@ pub fn place_text<R: Threads + Sync, W: Wait + Sync>(
     let costs = read_gap_costs(alloc, costs, &source.program)?;
     let shown = shown_of(&source, kind)?;
     let found = place_gaps(rt, wait, alloc, &source.program, &shown, &costs, effort)?;
-    match write_placed(alloc, &source, &shown, &costs, &found.placed) {
+    // What the solver keeps is as large as a tree of the certificate: it goes before the text is made.
+    let Found { placed, solver } = found;
+    drop(solver);
+    match write_placed(alloc, &source, &shown, &costs, &placed) {
         Ok(texts) => Ok(texts),
         Err(_) => Err(TextFault::OutOfMemory),
     }
