@@ -1,0 +1,24 @@
+use Rattle.std.proofs.Common.{◌≡◌, ◌∙◌, ◌<◌, ℕ, ◌++◌, ◌∷◌, [], List, Option, Some, sym, ap, subst, length, set, refl, inl, inr, arith}
+use Rattle.std.specs.Prelude.{IfSome}
+use Rattle.tso_program.specs.declared.listing.Listing.{Listing}
+use Rattle.tso_machine.specs.Modes.{machine_of_mode}
+use Rattle.exec_axioms.specs.ProgramSketches.{ProgramSketch, mode_in}
+use Rattle.exec_axioms.specs.ThreadTraces.{IsThreadTraceOf}
+use Rattle.exec_axioms.specs.declared.thread_trace.ThreadTrace.{ThreadTrace}
+use Rattle.exec_axioms.specs.declared.known_traces.KnownTrace.{KnownTrace}
+use Rattle.exec_axioms.specs.KnownTraces.{AreKnown, IsKnownAfter}
+use Rattle.exec_axioms.proofs.ValuesGiven.{known_is, kept_known}
+use Rattle.exec_axioms.proofs.known_traces.trace_after.Goals as goal
+
+pub returns-in-Some-clause-trace : goal.returns-in-Some-clause-trace
+returns-in-Some-clause-trace c =
+    known_is c.args.base.now.program c.args.base.now.mode c.args.known.now.items c.args.t (c.args.trace.now.given ++ c.args.value ∷ []) c.in-Some.found c.requires.known
+    (let found = rw c.in-Some.is at c.in_ok-found.ensures in rw c.deref.ensures.value at found)
+
+pub returns-clause-known : goal.returns-clause-known
+returns-clause-known c =
+    let p = c.args.base.now.program in
+    let mode = c.args.base.now.mode in
+    let given = c.args.trace.now.given ++ c.args.value ∷ [] in
+    let is : IsThreadTraceOf p (machine_of_mode p mode) c.args.t given c.in_ok-next.next = grind arith in
+    kept_known p mode c.args.known.now.items c.keep.new.known.items c.place_of-place.result c.args.t given c.in_ok-next.next c.in_ok-copy.field-0 c.in_ok-copy.ensures is c.requires.known c.keep.ensures

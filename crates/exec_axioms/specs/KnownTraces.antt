@@ -1,0 +1,22 @@
+-- Traces that are kept for the next time that their values are given.
+use Rattle.std.specs.Prelude.{◌≡◌, ℕ, List, [], Option, Some, slice_get}
+use Rattle.tso_program.specs.declared.listing.Listing.{Listing}
+use Rattle.tso_machine.specs.declared.mode.Mode.{Mode}
+use Rattle.tso_machine.specs.Modes.{machine_of_mode}
+use Rattle.exec_axioms.specs.declared.thread_trace.ThreadTrace.{ThreadTrace}
+use Rattle.exec_axioms.specs.declared.known_traces.KnownTrace.{KnownTrace}
+use Rattle.exec_axioms.specs.ThreadTraces.{IsThreadTraceOf}
+use Rattle.exec_axioms.specs.Kept.{KeepsTraces}
+
+-- each is what its thread does under its given values
+abbrev pub AreKnown : Listing → Mode → List (Option KnownTrace) → Type 0
+AreKnown p mode known = (i : ℕ) (k : KnownTrace) → slice_get known i ≡ Some (Some k) → IsThreadTraceOf p (machine_of_mode p mode) k.thread k.trace.given k.trace
+
+-- one of them is of this thread and under these values
+abbrev pub IsKnownAfter : List (Option KnownTrace) → ℕ → List ℕ → ThreadTrace → Type 0
+IsKnownAfter known t given trace = (i : ℕ) × (k : KnownTrace) × (slice_get known i ≡ Some (Some k)) × (k.thread ≡ t) × (k.trace.given ≡ given) × (trace ≡ k.trace)
+
+-- what is kept of a sketch in which values alone are chosen
+pub record KeepsValues (p : Listing) (mode : Mode) (thread_traces : List ThreadTrace) (known : List (Option KnownTrace)) : Type 0 where
+  pub kept : KeepsTraces p mode thread_traces [] []
+  pub known_are : AreKnown p mode known
