@@ -1,5 +1,5 @@
 -- Sketches in which values alone are chosen: a value that is given and taken back, and reads that lack a source.
-use Rattle.std.proofs.Common.{◌≡◌, ◌≢◌, ◌⊎◌, ℕ, zero, suc, ◌<◌, IsTrue, List, [], ◌∷◌, ◌++◌, Option, Some, None, IsSome, slice_get, slice_index, set, length, All, Contains, refl, sym, ap, ◌∙◌, subst, inl, inr, arith}
+use Rattle.std.proofs.Common.{◌≡◌, ◌⊎◌, ℕ, zero, suc, ◌<◌, List, [], ◌∷◌, ◌++◌, Option, Some, None, IsSome, slice_get, slice_index, set, length, All, refl, sym, ap, ◌∙◌, subst, inl, inr, arith}
 use Rattle.std.specs.Prelude.{unwrap_or}
 use Rattle.std.proofs.lemmas.Bool.{cases_eq}
 use Rattle.std.proofs.lemmas.Option.{same_Some, slice_get_within}
@@ -9,17 +9,17 @@ use Rattle.tso_machine.specs.Modes.{machine_of_mode}
 use Rattle.candidate_executions.specs.declared.access.Access.{Access}
 use Rattle.candidate_executions.specs.declared.event.Event.{Event}
 use Rattle.candidate_executions.specs.declared.event.Event.TheVariants.{Initial, Access as At}
-use Rattle.candidate_executions.specs.Sketches.{Sketch, given_to, with_value, IsSourceOf, IsWhole}
+use Rattle.candidate_executions.specs.Sketches.{given_to, with_value, IsSourceOf}
 use Rattle.candidate_executions.proofs.Orders.Lists.{get_set_same, get_set_other}
 use Rattle.exec_axioms.specs.declared.thread_trace.ThreadTrace.{ThreadTrace}
 use Rattle.exec_axioms.specs.declared.known_traces.KnownTrace.{KnownTrace}
 use Rattle.exec_axioms.specs.ProgramSketches.{ProgramSketch, mode_in, with_chosen, access_in}
 use Rattle.exec_axioms.specs.ThreadTraces.{IsThreadTraceOf}
 use Rattle.exec_axioms.specs.ThreadValues.{with_values}
-use Rattle.exec_axioms.specs.Kept.{given_lists, view_of, KeepsTraces}
+use Rattle.exec_axioms.specs.Kept.{view_of, KeepsTraces}
 use Rattle.exec_axioms.specs.KnownTraces.{AreKnown, IsKnownAfter}
 use Rattle.exec_axioms.specs.ValueSketches.{MarkedThread, IsValueMarkOf, LacksSource}
-use Rattle.exec_axioms.specs.Rows.{EachEnds, access_of, accesses_at}
+use Rattle.exec_axioms.specs.Rows.{EachEnds, access_of}
 use Rattle.exec_axioms.proofs.ThreadValues.{merged_kept, merged_parts}
 use Rattle.exec_axioms.proofs.Numbered.{ends_whole, accesses_same}
 use Rattle.exec_axioms.proofs.TracesKept.{trace_accesses, no_accesses}

@@ -7,6 +7,7 @@ use Rattle.exec_axioms.specs.declared.thread_trace.ThreadTrace.{ThreadTrace}
 use Rattle.exec_axioms.specs.declared.known_traces.KnownTrace.{KnownTrace}
 use Rattle.exec_axioms.specs.ThreadTraces.{IsThreadTraceOf}
 use Rattle.exec_axioms.specs.Kept.{KeepsTraces}
+use Rattle.exec_axioms.specs.ValueLists.{AreValueLists}
 
 -- each is what its thread does under its given values
 abbrev pub AreKnown : Listing → Mode → List (Option KnownTrace) → Type 0
@@ -17,6 +18,7 @@ abbrev pub IsKnownAfter : List (Option KnownTrace) → ℕ → List ℕ → Thre
 IsKnownAfter known t given trace = (i : ℕ) × (k : KnownTrace) × (slice_get known i ≡ Some (Some k)) × (k.thread ≡ t) × (k.trace.given ≡ given) × (trace ≡ k.trace)
 
 -- what is kept of a sketch in which values alone are chosen
-pub record KeepsValues (p : Listing) (mode : Mode) (thread_traces : List ThreadTrace) (known : List (Option KnownTrace)) : Type 0 where
+pub record KeepsValues (p : Listing) (mode : Mode) (thread_traces : List ThreadTrace) (lists : List (List ℕ)) (known : List (Option KnownTrace)) : Type 0 where
   pub kept : KeepsTraces p mode thread_traces [] []
+  pub lists_are : AreValueLists p lists
   pub known_are : AreKnown p mode known

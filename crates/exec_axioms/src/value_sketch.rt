@@ -15,11 +15,13 @@ use crate::ordered::in_order;
 use crate::sketch::thread_trace_at;
 use crate::thread_trace::SharedTrace;
 use crate::traces::{access_at, copied, each_ends};
+use crate::value_lists::{SharedValues, value_lists};
 use crate::{Mode, Sketch};
 use bit_rows::ROW_BITS;
 use candidate_executions::{Access, Event};
 use std::alloc::{AllocError, Global};
 use std::marker::Model;
+use std::mem;
 
 /// A sketch in which values alone are chosen. Its threads do what they do in the sketch that it began
 /// with, but for the values that were given since.
@@ -28,6 +30,7 @@ pub struct ValueSketch {
     alloc: Global,
     base: Sketch,
     thread_traces: Vec<SharedTrace>,
+    values: Vec<SharedValues>,
     known: Vec<Option<KnownTrace>>,
 }
 
@@ -62,7 +65,7 @@ impl Model for ValueSketch {
 
     ghost view = { λ s. view_of s.base.program s.base.mode s.thread_traces.items [] [] };
 
-    ghost invariant = { λ s. KeepsValues s.base.program s.base.mode s.thread_traces.items s.known.items };
+    ghost invariant = { λ s. KeepsValues s.base.program s.base.mode s.thread_traces.items s.values.items s.known.items };
 }
 
 impl ValueSketch {
@@ -73,11 +76,13 @@ impl ValueSketch {
         if sketch.sources.len() > 0 || sketch.pairs.len() > 0 {
             return Ok(None);
         }
+        let values = value_lists(sketch.alloc, sketch)?;
         let known = no_traces(sketch.alloc)?;
         Ok(Some(ValueSketch {
             alloc: sketch.alloc,
             base: sketch.copy()?,
             thread_traces: copied(sketch.alloc, sketch.traces.thread_traces())?,
+            values,
             known,
         }))
     }
@@ -116,12 +121,13 @@ impl ValueSketch {
     }
 
     /// The values that a location may hold, as in any sketch of the program.
-    pub fn values_for(&self, location: u8) -> Result<Vec<u32>, AllocError>
+    pub fn values_for(&self, location: u8) -> Result<SharedValues, AllocError>
         requires { location < length self.now.program.memory }
-        ensures exact { IfOk result (λ values. (v : ℕ) → Contains values.items v ↔ IsValueOf self.now.program location v) }
-        ensures ascending { IfOk result (λ values. IsStrictlyIncreasing values.items) }
+        ensures exact { IfOk result (λ values. (v : ℕ) → Contains values v ↔ IsValueOf self.now.program location v) }
+        ensures ascending { IfOk result (λ values. IsStrictlyIncreasing values) }
     {
-        self.base.values_for(location)
+        let lists = self.values.as_slice();
+        lists[location as usize].copy()
     }
 
     /// Gives a value to thread t's first read that has none.
@@ -136,9 +142,9 @@ impl ValueSketch {
     {
         let place = t as usize;
         let thread_traces = self.thread_traces.as_slice();
-        let trace = thread_traces[place].copy()?;
-        let next = trace_after(self.alloc, &self.base, &mut self.known, &trace, t, value)?;
-        self.thread_traces[place] = next;
+        let given = &thread_traces[place];
+        let next = trace_after(self.alloc, &self.base, &mut self.known, given, t, value)?;
+        let trace = mem::replace(&mut self.thread_traces[place], next);
         Ok(ValueMark { thread: t, trace })
     }
 

@@ -1,12 +1,6 @@
-use Rattle.std.proofs.Common.{◌≡◌, ◌∙◌, ◌<◌, ℕ, ◌++◌, ◌∷◌, [], List, Option, Some, sym, ap, subst, length, set, refl, inl, inr, arith}
-use Rattle.std.specs.Prelude.{IfSome}
-use Rattle.tso_program.specs.declared.listing.Listing.{Listing}
+use Rattle.std.proofs.Common.{◌++◌, ◌∷◌, [], arith}
 use Rattle.tso_machine.specs.Modes.{machine_of_mode}
-use Rattle.exec_axioms.specs.ProgramSketches.{ProgramSketch, mode_in}
 use Rattle.exec_axioms.specs.ThreadTraces.{IsThreadTraceOf}
-use Rattle.exec_axioms.specs.declared.thread_trace.ThreadTrace.{ThreadTrace}
-use Rattle.exec_axioms.specs.declared.known_traces.KnownTrace.{KnownTrace}
-use Rattle.exec_axioms.specs.KnownTraces.{AreKnown, IsKnownAfter}
 use Rattle.exec_axioms.proofs.ValuesGiven.{known_is, kept_known}
 use Rattle.exec_axioms.proofs.known_traces.trace_after.Goals as goal
 

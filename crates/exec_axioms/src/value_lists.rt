@@ -1,0 +1,64 @@
+//! The values of each location, listed once.
+ghost use Rattle.std.specs.Prelude.{◌≡◌, ◌↔◌, ◌<◌, ℕ, IfOk, Contains, length};
+ghost use Rattle.std.specs.List.Sorted.{IsStrictlyIncreasing};
+ghost use Rattle.candidate_executions.specs.Values.{IsValueOf};
+ghost use Rattle.exec_axioms.specs.ValueLists.{AreValueLists};
+
+use crate::Sketch;
+use std::alloc::{AllocError, Global};
+use std::marker::Model;
+use std::sync::Arc;
+
+/// Values that sketches share. They never change, and a copy takes no memory.
+#[derive(Drop)]
+pub struct SharedValues {
+    values: Arc<Vec<u32>>,
+}
+
+impl Model for SharedValues {
+    ghost use Rattle.std.specs.Prelude.{List, ℕ};
+    ghost use Rattle.std.specs.Arc.{arc_value};
+
+    ghost Value = { List ℕ };
+
+    ghost view = { λ s. (arc_value s.values).items };
+}
+
+impl SharedValues {
+    fn of(alloc: Global, values: Vec<u32>) -> Result<SharedValues, AllocError>
+        ensures { IfOk result (λ shared. shared ≡ values.items) }
+    {
+        Ok(SharedValues {
+            values: Arc::new(alloc, values)?,
+        })
+    }
+
+    /// The values in order.
+    pub fn as_slice(&self) -> &[u32]
+        ensures { result.now ≡ self.now }
+    {
+        self.values.as_slice()
+    }
+
+    /// The same values.
+    pub fn copy(&self) -> Result<SharedValues, AllocError>
+        ensures { IfOk result (λ other. other ≡ self.now) }
+    {
+        Ok(SharedValues {
+            values: Arc::try_clone(&self.values)?,
+        })
+    }
+}
+
+/// The values of each location of the sketch's program.
+pub(crate) fn value_lists(alloc: Global, sketch: &Sketch) -> Result<Vec<SharedValues>, AllocError>
+    ensures { IfOk result (λ lists. AreValueLists sketch.now.program lists.items) }
+{
+    let locations = sketch.program().memory().len();
+    let mut lists = Vec::with_capacity(alloc, locations)?;
+    for location in 0..locations {
+        let values = sketch.values_for(location as u8)?;
+        lists.push(SharedValues::of(alloc, values)?)?;
+    }
+    Ok(lists)
+}
