@@ -1,0 +1,28 @@
+-- A leaf for a read that has no source is valid.
+use Rattle.std.proofs.Common.{[], List, Contains, arith}
+use Rattle.tso_program.specs.declared.outcome.Outcome.{Outcome}
+use Rattle.tso_program.specs.declared.shown.Shown.{Shown}
+use Rattle.exec_axioms.specs.ProgramSketches.{ProgramSketch}
+use Rattle.exec_axioms.specs.ValueSketches.{LacksSource}
+use Rattle.cert_forest.specs.declared.tree.AccessId.{AccessId}
+use Rattle.cert_forest.specs.Trees.{Source, NoCover}
+use Rattle.tree_laws.specs.CoverTrees.{event_of}
+use Rattle.cover_judge.specs.Judged.{IsValidAfter}
+
+none_in : {A : Type 0} (x : A) → Contains [] x → ⊥
+none_in x h = let n = h.1 in omega arith
+
+pub leaf_valid : (shown : Shown) (outcomes : List Outcome) (s : ProgramSketch) (read : AccessId) → LacksSource s (event_of read) → IsValidAfter shown outcomes s (Source read NoCover) s.chosen
+leaf_valid shown outcomes s read lacks = (
+  [],
+  record {
+    whole = lacks.whole;
+    access = lacks.is_read.0;
+    is_access = lacks.is_read.1;
+    is_read = lacks.is_read.2;
+    free = λ source has. lacks.free (source, has);
+    in_order = λ i j d h l. absurd (omega arith);
+    exact = λ source. ((λ h. absurd (none_in source h)), (λ is. absurd (lacks.no_source source is)));
+  },
+  tt,
+)
