@@ -17,6 +17,7 @@ use Rattle.exec_axioms.specs.declared.thread_trace.OrderedTrace.{OrderedTrace}
 use Rattle.exec_axioms.specs.declared.connect.SourceRows.{SourceRows}
 use Rattle.exec_axioms.specs.declared.connect.OrderRows.{OrderRows}
 use Rattle.exec_axioms.specs.ProgramSketches.{ProgramSketch, mode_in}
+use Rattle.exec_axioms.specs.WriteBits.{HaveBits}
 use Rattle.exec_axioms.specs.Known.{OrderPart, IsKeptBy}
 use Rattle.exec_axioms.specs.Kept.{view_of, KeepsTraces}
 use Rattle.bit_rows.specs.declared.row.TheConstants.{ROW_BITS}
@@ -75,6 +76,8 @@ pub record KeepsOrders (c : OrderedTrace) : Type 0 where
   pub sequential : AreOrderOf union.Sequential c.trace.accesses c.sequential
   pub location : AreOrderOf union.Location c.trace.accesses c.location
   pub global : AreOrderOf union.Global c.trace.accesses c.global
+  -- and the bits are those of what it writes
+  pub written : HaveBits c.trace.accesses c.written
 
 -- the locations of the accesses are among those that a program has
 abbrev pub AreLocated : List ThreadTrace → Type 0

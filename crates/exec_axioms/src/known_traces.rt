@@ -106,7 +106,22 @@ fn is_after(known: &KnownTrace, given: &[u32], t: u8, value: u32) -> bool
         return false;
     }
     match known.trace.trace().given.as_slice().split_last() {
-        Some((last, others)) => *last == value && others == given,
+        Some((last, others)) => *last == value && are_same(others, given),
         None => false,
     }
+}
+
+/// Whether the lists are the same.
+fn are_same(values: &[u32], others: &[u32]) -> bool
+    ensures { IsTrue result → values.now ≡ others.now }
+{
+    if values.len() != others.len() {
+        return false;
+    }
+    for (i, value) in values.iter().enumerate() {
+        if others[i] != *value {
+            return false;
+        }
+    }
+    true
 }

@@ -1,6 +1,7 @@
 //! What one thread does under its given values.
-ghost use Rattle.std.specs.Prelude.{◌≡◌, ◌↔◌, ◌<◌, ◌≤◌, ◌+◌, ℕ, [], ◌∷◌, ◌++◌, length, slice_get, IfOk, IfSome};
+ghost use Rattle.std.specs.Prelude.{◌≡◌, ◌↔◌, ◌<◌, ◌≤◌, ◌+◌, ℕ, [], ◌∷◌, ◌++◌, length, slice_get, Some, IsTrue, IfOk, IfSome};
 ghost use Rattle.tso_program.specs.Actions.{IsLocated};
+ghost use Rattle.candidate_executions.specs.declared.access.Access.{Access};
 ghost use Rattle.candidate_executions.specs.Sketches as sketches;
 ghost use Rattle.candidate_executions.specs.Traces.{entered, store_of};
 ghost use Rattle.tso_machine.specs.Modes.{machine_of_mode};
@@ -12,7 +13,8 @@ ghost use Rattle.exec_axioms.specs.ThreadTraces.{GoesOn, IsTraceSoFarOf, IsThrea
 use crate::Mode;
 use crate::sections::ends_section;
 use crate::thread_order::thread_order;
-use bit_rows::ROW_BITS;
+use crate::write_bits::{write_bit, write_bits, writes_value};
+use bit_rows::{ROW_BITS, has};
 use candidate_executions::{Access, Kind};
 use std::alloc::{AllocError, Global};
 use std::marker::Model;
@@ -30,10 +32,11 @@ pub(crate) struct ThreadTrace {
 }
 
 /// A thread's trace, and in rows the program order of each union between its accesses, by their
-/// indices.
+/// indices; and the bits of what it writes.
 #[derive(Drop)]
 struct OrderedTrace {
     trace: ThreadTrace,
+    written: u32,
     sequential: [u32; ROW_BITS],
     location: [u32; ROW_BITS],
     global: [u32; ROW_BITS],
@@ -67,8 +70,10 @@ impl SharedTrace {
         let sequential = thread_order(Kind::Sequential, accesses);
         let location = thread_order(Kind::Location, accesses);
         let global = thread_order(Kind::Global, accesses);
+        let written = write_bits(accesses);
         let ordered = OrderedTrace {
             trace,
+            written,
             sequential,
             location,
             global,
@@ -95,6 +100,17 @@ impl SharedTrace {
             .as_slice()
             .get(i as usize)
             .copied()
+    }
+
+    /// Whether the thread writes the value to the location.
+    pub(crate) fn writes(&self, location: u8, value: u32) -> bool
+        ensures { (i : ℕ) (x : Access) → slice_get self.now.accesses i ≡ Some x → x.location ≡ location → x.written ≡ Some value → IsTrue result }
+    {
+        let ordered = &self.ordered;
+        if !has(ordered.written, write_bit(location, value)) {
+            return false;
+        }
+        writes_value(ordered.trace.accesses.as_slice(), location, value)
     }
 
     /// The later accesses to which the union has program order from access i, by their indices.

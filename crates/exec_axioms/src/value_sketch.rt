@@ -193,19 +193,7 @@ fn writes_any(thread_traces: &[SharedTrace], location: u8, value: u32) -> bool
     ensures { (t i : ℕ) (c : ThreadTrace) (x : Access) → slice_get thread_traces.now t ≡ Some c → slice_get c.accesses i ≡ Some x → x.location ≡ location → x.written ≡ Some value → IsTrue result }
 {
     for thread_trace in thread_traces {
-        if writes_value(thread_trace.trace().accesses.as_slice(), location, value) {
-            return true;
-        }
-    }
-    false
-}
-
-/// Whether one of the accesses writes the value to the location.
-fn writes_value(accesses: &[Access], location: u8, value: u32) -> bool
-    ensures { (i : ℕ) (x : Access) → slice_get accesses.now i ≡ Some x → x.location ≡ location → x.written ≡ Some value → IsTrue result }
-{
-    for access in accesses {
-        if access.location == location && access.written == Some(value) {
+        if thread_trace.writes(location, value) {
             return true;
         }
     }
