@@ -1,2 +1,3 @@
 pub mod FencedRuns
 pub mod PlacesFenced
+pub mod SoughtRuns

@@ -13,6 +13,7 @@ ghost use Rattle.documents.specs.Runs.{TellsRun};
 ghost use Rattle.witness_text.specs.Internal.Replays.{IsReplayed};
 ghost use Rattle.witness_text.specs.WitnessTexts.{machine_of, HasNoWitnessText, IsRunText, IsWitnessText, TellsSought};
 
+use crate::early_flushes::with_early_flushes;
 use crate::fault::WitnessFault;
 use crate::gaps::gaps_at;
 use crate::lines::{none_line, run_lines};
@@ -164,7 +165,10 @@ fn sought_text(
     let formula = &litmus.condition.formula;
     let found = witness(alloc, &litmus.program, mode, formula, sought.meets)?;
     match found {
-        Some(labels) => Ok(found_text(alloc, litmus, sought, &labels)?),
+        Some(labels) => {
+            let run = with_early_flushes(alloc, litmus, &sought, labels)?;
+            Ok(found_text(alloc, litmus, sought, &run)?)
+        }
         None => Ok(none_text(alloc, litmus, sought)?),
     }
 }

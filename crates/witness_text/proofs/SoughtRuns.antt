@@ -1,0 +1,28 @@
+-- Whether labels are a run that is sought, by their replay.
+use Rattle.std.proofs.Common.{◌≡◌, ◌↔◌, Bool, true, false, List, IsTrue, ◌∙◌, ap, sym}
+use Rattle.std.proofs.Math.Bool.{beq}
+use Rattle.std.specs.Cmp.{booleans_Decides}
+use Rattle.tso_program.specs.declared.atom.Atom.{Atom}
+use Rattle.tso_program.specs.declared.listing.Listing.{Listing}
+use Rattle.tso_program.specs.declared.outcome.Outcome.{Outcome}
+use Rattle.tso_program.specs.Tree.{Tree}
+use Rattle.tso_program.specs.Truth.{truth}
+use Rattle.tso_machine.specs.declared.label.Label.{Label}
+use Rattle.tso_machine.specs.declared.replaying.ReplayFault.{ReplayFault}
+use Rattle.tso_machine.specs.declared.replaying.ReplayFault.TheVariants.{OutOfMemory}
+use Rattle.tso_machine.specs.Faults.{ReplayFaultIs}
+use Rattle.tso_machine.specs.Machine.{Machine, IsRun}
+use Rattle.tso_machine.proofs.Refused.{no_fault, one_outcome}
+use Rattle.cover_solver.specs.Witnesses.{IsWitness}
+
+module _ (p : Listing) (machine : Machine) (f : Tree Atom) (b : Bool) (labels : List Label) where
+  -- labels that are a run are a witness where the formula has the truth at its outcome
+  pub witness_by_outcome : (o : Outcome) (met : Bool) → IsRun p machine labels o → met ≡ truth o f → IsTrue (beq met b) ↔ IsWitness p machine f b labels
+  witness_by_outcome o met is_run is = (
+      (λ same. (o, is_run, sym is ∙ (booleans_Decides met b).0 same)),
+      (λ (o', is_run', met'). (booleans_Decides met b).1 (is ∙ ap (λ (x : Outcome). truth x f) (one_outcome p machine labels o o' is_run is_run') ∙ met')),
+  )
+
+  -- labels that are refused are none
+  pub no_witness : (why : ReplayFault) → ReplayFaultIs p machine labels why → (why ≡ OutOfMemory → ⊥) → IsTrue false ↔ IsWitness p machine f b labels
+  no_witness why is others = ((λ no. cc), (λ (o, is_run, met). absurd (others (no_fault p machine labels o why is_run is))))
