@@ -19,8 +19,8 @@ module _ (p : Listing) (machine : Machine) (f : Tree Atom) (b : Bool) (labels : 
   -- labels that are a run are a witness where the formula has the truth at its outcome
   pub witness_by_outcome : (o : Outcome) (met : Bool) → IsRun p machine labels o → met ≡ truth o f → IsTrue (beq met b) ↔ IsWitness p machine f b labels
   witness_by_outcome o met is_run is = (
-      (λ same. (o, is_run, sym is ∙ (booleans_Decides met b).0 same)),
-      (λ (o', is_run', met'). (booleans_Decides met b).1 (is ∙ ap (λ (x : Outcome). truth x f) (one_outcome p machine labels o o' is_run is_run') ∙ met')),
+    (λ same. (o, is_run, sym is ∙ (booleans_Decides met b).0 same)),
+    (λ (o', is_run', met'). (booleans_Decides met b).1 (is ∙ ap (λ (x : Outcome). truth x f) (one_outcome p machine labels o o' is_run is_run') ∙ met')),
   )
 
   -- labels that are refused are none
