@@ -1,7 +1,5 @@
 //! The values of each location, listed once.
-ghost use Rattle.std.specs.Prelude.{◌≡◌, ◌↔◌, ◌<◌, ℕ, IfOk, Contains, length};
-ghost use Rattle.std.specs.List.Sorted.{IsStrictlyIncreasing};
-ghost use Rattle.candidate_executions.specs.Values.{IsValueOf};
+ghost use Rattle.std.specs.Prelude.{◌≡◌, IfOk};
 ghost use Rattle.exec_axioms.specs.ValueLists.{AreValueLists};
 
 use crate::Sketch;
