@@ -1,5 +1,5 @@
 -- What is kept, with other numbers for its outcomes.
-use Rattle.std.proofs.Common.{◌≡◌, ℕ, suc, ◌<◌, ◌≤◌, List, [], ◌∷◌, ◌++◌, ◌≢◌, ◌+◌, map, length, get_or, set, refl, sym, ap, ◌∙◌, subst, inl, inr, arith}
+use Rattle.std.proofs.Common.{◌≡◌, ℕ, suc, ◌<◌, ◌≤◌, List, [], ◌∷◌, ◌++◌, ◌+◌, map, length, get_or, set, refl, sym, ap, ◌∙◌, subst, inl, inr, arith}
 use Rattle.std.specs.Prelude.{◌^◌}
 use Rattle.std.specs.FinSet as set
 use Rattle.std.proofs.lemmas.Bool.{cases_eq}
@@ -80,10 +80,10 @@ items_renumbered place old new xs ys pieces nodes =
 module _ (s : ProgramSketch) (shown : Shown) (old new : List Outcome) (place : ℕ → ℕ) (few : length new < 2 ^ 64) (near : length old ≤ NEAR_RUNS) (small : (n : ℕ) → place n < NEAR_RUNS)
     (moves : (n : ℕ) (o : Outcome) → HasNumber old n o → HasNumber new (place n) o) where
   -- its nodes are those with the other numbers
-  record Renumbers (path : List Choice) (tree : KeptCover) : Type 0 where
-    made : KeptCover
-    is : IsKeptAfter s shown new path made
-    spelled : spell_kept made ≡ map (renumbered_item place) (spell_kept tree)
+  pub record Renumbers (path : List Choice) (tree : KeptCover) : Type 0 where
+    pub made : KeptCover
+    pub is : IsKeptAfter s shown new path made
+    pub spelled : spell_kept made ≡ map (renumbered_item place) (spell_kept tree)
 
   record RenumberEach (path choices : List Choice) (children : KeptCovers) : Type 0 where
     made : KeptCovers
@@ -92,7 +92,7 @@ module _ (s : ProgramSketch) (shown : Shown) (old new : List Outcome) (place : �
     spelled : spell_kept_row made ≡ map (renumbered_item place) (spell_kept_row children)
 
   mutual
-    kept_renumbered : (path : List Choice) (tree : KeptCover) → IsKeptAfter s shown old path tree → Renumbers path tree
+    pub kept_renumbered : (path : List Choice) (tree : KeptCover) → IsKeptAfter s shown old path tree → Renumbers path tree
     kept_renumbered path (Closed tree) is =
         let k = after s path in
         record {

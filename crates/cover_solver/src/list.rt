@@ -10,10 +10,12 @@ ghost use Rattle.cover_solver.specs.Ordered.{Ascend};
 
 use crate::all_outcomes::all_outcomes;
 use crate::fault::SolveFault;
+use crate::searching::{begun_alone, begun_by};
 use crate::watch::{Unwatched, Watch};
 use cert_forest::Runs;
 use exec_axioms::Mode;
 use std::alloc::Global;
+use std::thread::Threads;
 use tso_machine::Model;
 use tso_program::{Outcome, Program, Shown};
 
@@ -27,12 +29,15 @@ pub struct OutcomeList {
 }
 
 /// What is shown of the outcomes of a program under sequential consistency, or under x86-TSO with no
-/// gap fenced, ascending, each of them once and with a run that leaves it. A watch follows the search.
-pub fn outcomes_with_runs<W: Watch>(
+/// gap fenced, ascending, each of them once and with a run that leaves it. A long search is in at most so many threads. A
+/// watch follows it.
+pub fn outcomes_with_runs<R: Threads + Sync, W: Watch>(
+    rt: &R,
     alloc: Global,
     program: &Program,
     model: Model,
     shown: &Shown,
+    workers: u8,
     watch: &W,
 ) -> Result<OutcomeList, SolveFault>
     ensures ascend { IfOk result (λ list. Ascend list.outcomes.items) }
@@ -40,7 +45,9 @@ pub fn outcomes_with_runs<W: Watch>(
     ensures fault { IfErr result (λ fault. fault ≡ SolveFault.OutOfMemory) }
     ensures exact { IfOk result (λ list. (o : Outcome) → Contains list.outcomes.items o ↔ AllowsShown (asked program.now shown.now) (machine_of_model program.now set.empty model) o) }
 {
-    let all = all_outcomes(alloc, program, shown, Mode::unfenced(model), watch)?;
+    let mode = Mode::unfenced(model);
+    let begun = begun_by(rt, workers, alloc, program, shown, &mode)?;
+    let all = all_outcomes(alloc, begun, program, shown, mode, watch)?;
     let found = all.found;
     Ok(OutcomeList {
         outcomes: found.outcomes,
@@ -60,6 +67,8 @@ pub fn outcomes(
     ensures fault { IfErr result (λ fault. fault ≡ SolveFault.OutOfMemory) }
     ensures exact { IfOk result (λ outcomes. (o : Outcome) → Contains outcomes.items o ↔ AllowsShown (asked program.now shown.now) (machine_of_model program.now set.empty model) o) }
 {
-    let list = outcomes_with_runs(alloc, program, model, shown, &Unwatched)?;
-    Ok(list.outcomes)
+    let mode = Mode::unfenced(model);
+    let begun = begun_alone(alloc, program, shown, &mode)?;
+    let all = all_outcomes(alloc, begun, program, shown, mode, &Unwatched)?;
+    Ok(all.found.outcomes)
 }

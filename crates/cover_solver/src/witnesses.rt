@@ -11,6 +11,7 @@ use crate::all_outcomes::all_outcomes;
 use crate::fault::SolveFault;
 use crate::found::Found;
 use crate::ordered::place_of;
+use crate::searching::begun_alone;
 use crate::watch::Unwatched;
 use exec_axioms::Mode;
 use std::alloc::{AllocError, Global};
@@ -29,7 +30,8 @@ pub fn witness(
     ensures fault { IfErr result (λ fault. fault ≡ SolveFault.OutOfMemory) }
 {
     let shown = Shown::Truth(formula.copy()?);
-    let all = all_outcomes(alloc, program, &shown, mode, &Unwatched)?;
+    let begun = begun_alone(alloc, program, &shown, &mode)?;
+    let all = all_outcomes(alloc, begun, program, &shown, mode, &Unwatched)?;
     let told = Outcome::told(alloc, truth)?;
     Ok(run_of(alloc, &all.found, &told)?)
 }

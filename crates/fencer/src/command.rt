@@ -59,7 +59,7 @@ fn run_job<T: Threads + Sync, U: Wait + Sync, S: WritableFileStore, R: Read, W: 
     match job {
         Job::Replay(asked) => run_replay(alloc, &*files, asked, input, output),
         Job::Trace(asked) => run_trace(alloc, files, asked, input, output),
-        Job::Outcomes(asked) => run_outcomes(alloc, &*files, asked, input, output),
+        Job::Outcomes(asked) => run_outcomes(rt, alloc, &*files, asked, input, output),
         Job::Place(asked) => run_place(rt, wait, alloc, files, asked, input, output),
         Job::Why(asked) => run_why(rt, wait, alloc, files, asked, input, output),
         Job::Gaps(asked) => run_gaps(alloc, &*files, asked, input, output),

@@ -25,7 +25,11 @@ use program_streams::{Console, FileStore, Progress, TEXT_LIMIT, file_line, named
 use report::{condition_line, is_true_of, labels_line, observation_line, outcome_line};
 use std::alloc::{AllocError, Global};
 use std::io::Read;
+use std::thread::Threads;
 use tso_program::{Outcome, Program, Shown};
+
+/// How many threads list outcomes.
+const WORKERS: u8 = 1;
 
 /// The line of the run of this number, if there is one.
 fn push_run(
@@ -86,7 +90,8 @@ fn list_text(
 }
 
 /// The outcomes of a program with no gap fenced, and a run of each if runs are asked for.
-fn listed(
+fn listed<T: Threads + Sync>(
+    rt: &T,
     alloc: Global,
     asked: &OutcomeQuery,
     program: &Program,
@@ -97,7 +102,7 @@ fn listed(
     ensures runs { IfOk result (λ list. ListsRuns asked.now.runs (question program.now shown.now) (machine_of_model program.now set.empty asked.now.model) list.runs list.outcomes.items) }
     ensures fault { IfErr result (λ fault. fault ≡ solve.OutOfMemory) }
 {
-    let list = outcomes_with_runs(alloc, program, asked.model, shown, ahead)?;
+    let list = outcomes_with_runs(rt, alloc, program, asked.model, shown, WORKERS, ahead)?;
     if asked.runs {
         Ok(list)
     } else {
@@ -123,7 +128,8 @@ fn listed_shown(litmus: &Litmus<Program>, observed: bool) -> Shown
 }
 
 /// The lines of the outcomes of the program that a text spells, with their status.
-fn outcomes_reply(
+fn outcomes_reply<T: Threads + Sync>(
+    rt: &T,
     alloc: Global,
     bytes: &[u8],
     asked: &OutcomeQuery,
@@ -135,7 +141,7 @@ fn outcomes_reply(
     let litmus = read_litmus(alloc, bytes)?;
     let shown = listed_shown(&litmus, asked.observed);
     let ahead = report_ahead(alloc, &litmus.program, progress.asked(asked.progress));
-    let list = listed(alloc, asked, &litmus.program, &shown, &ahead)?;
+    let list = listed(rt, alloc, asked, &litmus.program, &shown, &ahead)?;
     let status = list_status(asked.check, &litmus, &list.outcomes);
     match list_text(alloc, asked, &litmus, &shown, &list) {
         Ok(lines) => Ok(Reply { lines, status }),
@@ -144,7 +150,8 @@ fn outcomes_reply(
 }
 
 /// Lists the outcomes of the program of a litmus file, prints the answer, and returns the status.
-pub fn run_outcomes<S: FileStore, R: Read, W: Console>(
+pub fn run_outcomes<T: Threads + Sync, S: FileStore, R: Read, W: Console>(
+    rt: &T,
     alloc: Global,
     files: &S,
     asked: &OutcomeQuery,
@@ -162,7 +169,7 @@ pub fn run_outcomes<S: FileStore, R: Read, W: Console>(
                 text: &bytes,
                 labels: &[],
             };
-            let reply = outcomes_reply(alloc, &bytes, asked, output.progress());
+            let reply = outcomes_reply(rt, alloc, &bytes, asked, output.progress());
             print_answer(alloc, asked.json, subject, reply, output)
         }
         Err(fault) => {

@@ -45,7 +45,7 @@ pub fn place_gaps<R: Threads + Sync, W: Wait + Sync>(
     ensures fault { IfErr result (HasNoPlacement effort.workers) }
 {
     let ahead = report_ahead(alloc, program, effort.progress);
-    let table = match sequential_watched(alloc, program, shown, &ahead) {
+    let table = match sequential_watched(rt, alloc, program, shown, effort.workers, &ahead) {
         Ok(table) => table,
         Err(SolveFault::NoRun) => return Err(TextFault::Place(PlaceFault::NotCertified)),
         Err(SolveFault::OutOfMemory) => return Err(TextFault::OutOfMemory),

@@ -1,15 +1,19 @@
-use Rattle.std.proofs.Common.{subst}
+use Rattle.std.proofs.Common.{sym, subst}
 use Rattle.tso_program.specs.Shown.{asked}
 use Rattle.tso_machine.specs.Modes.{machine_of_mode}
 use Rattle.cover_solver.specs.declared.listed.Listed.{Listed}
 use Rattle.cover_solver.specs.Covers.{IsWholeCover}
 use Rattle.cover_solver.specs.Kept.{IsKept}
+use Rattle.cover_solver.specs.Parts.{IsBegun}
 use Rattle.cover_solver.specs.Listed.{listed, AreInOrder, StopIs}
 use Rattle.cover_solver.proofs.AllListed.{runs_found, never_new}
 use Rattle.cover_solver.proofs.Growing.{grows_twice}
 use Rattle.cover_solver.proofs.KeptRows.{kept_grown}
 use Rattle.cover_solver.proofs.Listing.{exactly_allowed}
 use Rattle.cover_solver.proofs.all_outcomes.all_outcomes.Goals as goal
+
+pub kept_all-requires-clause-begun : goal.kept_all-requires-clause-begun
+kept_all-requires-clause-begun g c = subst (λ (outcomes : Listed). IsBegun c.args.program.now c.args.shown.now outcomes c.args.begun) (sym c.none_of-outcomes.ensures.open.1) (c.requires c.none_of-outcomes.ensures.open.0)
 
 pub returns-clause-runs : goal.returns-clause-runs
 returns-clause-runs g c =

@@ -1,16 +1,14 @@
-use Rattle.std.proofs.Common.{◌≡◌, ◌<◌, ◌≤◌, List, ℕ, map, length, get_or, refl, sym, ◌∙◌, ap, subst, arith}
+use Rattle.std.proofs.Common.{◌<◌, List, ℕ, map, length, ◌∙◌, ap, arith}
 use Rattle.std.specs.Prelude.{◌^◌}
 use Rattle.std.specs.Arc.{arc_value}
-use Rattle.cert_forest.specs.declared.node.Node.{Node}
-use Rattle.cert_forest.specs.Nodes.{spell}
 use Rattle.cert_forest.proofs.NodeLaws.{is_tree, same_tree}
 use Rattle.cover_solver.specs.Changed.{renumbered_node}
 use Rattle.cover_solver.specs.Found.{place_in}
-use Rattle.cover_solver.specs.Kept.{Item, items_of, renumbered_item}
+use Rattle.cover_solver.specs.Kept.{items_of, renumbered_item}
 use Rattle.cover_solver.proofs.OtherNumbers.{renumbered}
 use Rattle.cover_solver.proofs.KeptRenumbered.{table_kept, tree_renumbered}
 use Rattle.cover_solver.proofs.Tables.{table_of}
-use Rattle.cover_solver.proofs.table.sequential_watched.Goals as goal
+use Rattle.cover_solver.proofs.table.sequential_of.Goals as goal
 
 pub of_nodes-requires : goal.of_nodes-requires
 of_nodes-requires g c =
