@@ -1,6 +1,12 @@
-"""Shows that what the scripts in docs/ make of the sources is what is committed: the map of the crates with their table, the drawings, the table of promises."""
+"""Shows that what the scripts in docs/ make of the sources is what is committed: the map of the crates with their table, the drawings, the table of promises.
+
+The drawings are made of texts. Where such a text says `of: LITMUS WHAT`, it has a line of the certificate that `fencer place` makes, or a run of `fencer why`.
+"""
+import glob
 import os
+import re
 import subprocess
+import tempfile
 
 MAKERS = ("make-map", "make-drawings", "make-promises")
 
@@ -10,3 +16,43 @@ def cases(tell, top):
     for maker in MAKERS:
         ran = subprocess.run([os.path.join(top, "docs", maker), "--check"], capture_output=True, text=True, timeout=120)
         tell(f"what docs/{maker} makes is committed", ran.returncode == 0, ran.stdout + ran.stderr)
+
+
+def drawn_cases(tell, top, fencer):
+    """Tells of each panel that is of an answer whether the program `fencer` gives it."""
+    for path in sorted(glob.glob(os.path.join(top, "docs", "drawings", "*.txt"))):
+        with open(path, encoding="utf-8") as file:
+            panels = re.split(r"^##? .*\n", file.read(), flags=re.M)
+        for panel in panels:
+            named = re.match(r"of: (\S+) (.*)\n", panel)
+            if named:
+                litmus, what = os.path.join(top, named[1]), named[2]
+                drawn = drawn_run(panel) if what.startswith("without") else drawn_line(what, panel)
+                answered = run_without(fencer, litmus, what) if what.startswith("without") else certified(fencer, litmus, what)
+                tell(f"{os.path.basename(path)} draws {named[0].strip()}", drawn == answered, f"wanted {answered!r}\n  found  {drawn!r}")
+
+
+def drawn_line(name, panel):
+    """The line of a certificate that a drawn tree has: the words of its nodes, a node before its children."""
+    nodes = [line.partition(" | ")[0].strip().rpartition(": ")[2] for line in panel.splitlines()[1:] if line.strip()]
+    return " ".join([name, *nodes])
+
+
+def certified(fencer, litmus, name):
+    """The line of the certificate that begins with this word."""
+    with tempfile.TemporaryDirectory() as folder:
+        path = os.path.join(folder, "cert")
+        subprocess.run([fencer, "place", "--certificate", path, litmus], capture_output=True, timeout=120)
+        with open(path, encoding="utf-8") as file:
+            return next(line.rstrip("\n") for line in file if line.split()[0] == name)
+
+
+def drawn_run(panel):
+    """The steps of a drawn run, and the gaps that it passes."""
+    return [line.split() for line in panel.splitlines() if re.match(r"[ef]\d+ |passed", line)]
+
+
+def run_without(fencer, litmus, what):
+    """The same of the run that `fencer why` prints after this line."""
+    ran = subprocess.run([fencer, "why", litmus], capture_output=True, text=True, timeout=120)
+    return drawn_run(re.split(r"^without", ran.stdout.partition(what + "\n")[2], flags=re.M)[0])
