@@ -9,6 +9,8 @@ import subprocess
 import tempfile
 
 MAKERS = ("make-map", "make-drawings", "make-promises")
+MOST_WORDS = 120
+MOST_WORDS_OF_A_CRATE = 60
 
 
 def cases(tell, top):
@@ -16,6 +18,19 @@ def cases(tell, top):
     for maker in MAKERS:
         ran = subprocess.run([os.path.join(top, "docs", maker), "--check"], capture_output=True, text=True, timeout=120)
         tell(f"what docs/{maker} makes is committed", ran.returncode == 0, ran.stdout + ran.stderr)
+
+
+def length_cases(tell, top):
+    """Tells of each document whether its paragraphs, entries and cells are short, and of the promises whether those of each crate are."""
+    for path in sorted([os.path.join(top, "README.md"), *glob.glob(os.path.join(top, "docs", "**", "*.md"), recursive=True)]):
+        with open(path, encoding="utf-8") as file:
+            texts = re.split(r"\n(?=\n|\||\s*(?:-|\d+\.) )|(?<=[^|]) \| ", file.read())
+        long = [text.strip()[:60] for text in texts if len(text.split()) > MOST_WORDS and not text.strip("\n").startswith("    ")]
+        tell(f"{os.path.relpath(path, top)} has no paragraph of more than {MOST_WORDS} words", not long, long)
+    with open(os.path.join(top, "docs", "promises.md"), encoding="utf-8") as file:
+        crates = re.findall(r"^- `(\w+)`: (.*)$", file.read().partition("## Command by command")[0], re.M)
+    long = [crate for crate, words in crates if len(words.split()) > MOST_WORDS_OF_A_CRATE]
+    tell(f"docs/promises.md has at most {MOST_WORDS_OF_A_CRATE} words of each crate", crates and not long, long)
 
 
 def drawn_cases(tell, top, fencer):
