@@ -16,7 +16,6 @@ mod fault;
 mod hunt;
 mod record;
 mod rule;
-mod same;
 mod seat;
 mod settling;
 mod steps;

@@ -1,6 +1,6 @@
 //! What the text formats share: bytes, decimal numbers, and tokens with their lines.
 //!
-//! The tokens of a text are words, numbers and marks; white space and comments, which nest, are none. What is
+//! The tokens of a text are words, numbers and marks; white space and comments, which nest, are not tokens. What is
 //! read is exact in both directions.
 //!
 //! Begin with `lex`, `after_space` and `value_up_to`. Free to change: how the list of tokens lies in memory,
