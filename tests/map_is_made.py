@@ -33,6 +33,16 @@ def length_cases(tell, top):
     tell(f"docs/promises.md has at most {MOST_WORDS_OF_A_CRATE} words of each crate", crates and not long, long)
 
 
+def named_file_cases(tell, top):
+    """Tells of each document whether the files that it names are there: from the top, from crates/, or inside some crate."""
+    for path in sorted([os.path.join(top, "README.md"), os.path.join(top, "CONTRIBUTING.md"), *glob.glob(os.path.join(top, "docs", "**", "*.md"), recursive=True)]):
+        with open(path, encoding="utf-8") as file:
+            named = set(re.findall(r"`([\w+-][\w.+-]*(?:/[\w.+-]+)+\.(?:rt|antt|py|tsv|md|txt|js|litmus|cert|svg))`", file.read()))
+        places = [top, os.path.join(top, "crates"), os.path.join(top, "crates", "*"), os.path.join(top, "crates", "*", "src"), os.path.dirname(path)]
+        lost = sorted(name for name in named if not any(glob.glob(os.path.join(place, name)) for place in places))
+        tell(f"the files that {os.path.relpath(path, top)} names are there", not lost, lost)
+
+
 def drawn_cases(tell, top, fencer):
     """Tells of each panel that is of an answer whether the program `fencer` gives it."""
     for path in sorted(glob.glob(os.path.join(top, "docs", "drawings", "*.txt"))):
