@@ -1,6 +1,7 @@
 """Shows that what the scripts in docs/ make of the sources is what is committed: the map of the crates with their table, the drawings, the table of promises.
 
 The drawings are made of texts. Where such a text says `of: LITMUS WHAT`, it has a line of the certificate that `fencer place` makes, or a run of `fencer why`.
+Documents have short paragraphs, and the files that they name are there.
 """
 import glob
 import os
@@ -13,7 +14,14 @@ MOST_WORDS = 120
 MOST_WORDS_OF_A_CRATE = 60
 
 
-def cases(tell, top):
+def cases(tell, top, fencer):
+    made_cases(tell, top)
+    length_cases(tell, top)
+    named_file_cases(tell, top)
+    drawn_cases(tell, top, fencer)
+
+
+def made_cases(tell, top):
     """Tells of each maker whether its files are as it makes them."""
     for maker in MAKERS:
         ran = subprocess.run([os.path.join(top, "docs", maker), "--check"], capture_output=True, text=True, timeout=120)
