@@ -1,7 +1,7 @@
 """Shows that what the scripts in docs/ make of the sources is what is committed: the map of the crates with their table, the drawings, the table of promises.
 
 The drawings are made of texts. Where such a text says `of: LITMUS WHAT`, it has a line of the certificate that `fencer place` makes, or a run of `fencer why`.
-Documents have short paragraphs, and the files that they name are there.
+Documents have short paragraphs, the files that they name are there, and so is what the heads of crates name.
 """
 import glob
 import os
@@ -18,6 +18,7 @@ def cases(tell, top, fencer):
     made_cases(tell, top)
     length_cases(tell, top)
     named_file_cases(tell, top)
+    head_cases(tell, top)
     drawn_cases(tell, top, fencer)
 
 
@@ -49,6 +50,21 @@ def named_file_cases(tell, top):
         places = [top, os.path.join(top, "crates"), os.path.join(top, "crates", "*"), os.path.join(top, "crates", "*", "src"), os.path.dirname(path)]
         lost = sorted(name for name in named if not any(glob.glob(os.path.join(place, name)) for place in places))
         tell(f"the files that {os.path.relpath(path, top)} names are there", not lost, lost)
+
+
+def head_cases(tell, top):
+    """Tells of each crate whether the names with which its head says to begin are there."""
+    for root in sorted(glob.glob(os.path.join(top, "crates", "*", "src", "lib.rt")) + glob.glob(os.path.join(top, "crates", "*", "src", "main.rt"))):
+        texts = []
+        for path in [root, *glob.glob(os.path.join(os.path.dirname(root), "*.rt"))]:
+            with open(path, encoding="utf-8") as file:
+                texts.append(file.read())
+        head = " ".join(line.removeprefix("//!").strip() for line in texts[0].splitlines() if line.startswith("//!"))
+        begin = re.search(r"Begin with (.*?)\. [A-Z]", head)
+        names = re.findall(r"`(?:\w+::)?(\w+)`", begin[1]) if begin else []
+        code = "\n".join(line for text in texts for line in text.splitlines() if not line.startswith("//!"))
+        lost = [name for name in names if not re.search(rf"\b{name}\b", code)]
+        tell(f"the head of {os.path.relpath(root, top)} names what is there", not lost, lost)
 
 
 def drawn_cases(tell, top, fencer):
