@@ -1,7 +1,7 @@
 //! The grammar of a litmus text: from tokens to syntax with names.
 //!
 //! Initial values, the header row, rows, observed places and the signs of the condition. The grammar stands
-//! in `specs/Grammar.antt` as relations; the readers are exact in both directions. What is read lends its
+//! in `specs/Grammar.antt` as relations; the readers are exact in both directions. What is read borrows its
 //! names from the tokens.
 //!
 //! Begin with `read_body`, `read_ending` and `Code`. Free to change: how the readers are divided, how a name
