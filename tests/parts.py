@@ -56,7 +56,7 @@ def list_cases(name, source, test):
 def place_cases(name, litmus, folder):
     """Answers, and what the checker says of their certificates."""
     certificate = os.path.join(folder, "certificate")
-    for options in ([], ["--condition"]):
+    for options in ([], ["--observed"]):
         alone = run(["place", *options, litmus])
         accepted = re.sub(rb"^answer ", b"accepted ", alone[1].split(b"\n")[0]) + b"\n"
         for workers in WORKERS:

@@ -22,7 +22,7 @@ pub(crate) struct Begun {
     pub(crate) sketch: Sketch,
     /// `None` if there is no thread.
     pub(crate) plan: Option<Plan>,
-    /// None where the search is short.
+    /// None where the search is not cut.
     pub(crate) parts: Vec<Part>,
 }
 
@@ -39,7 +39,7 @@ pub(crate) fn begun_alone(
         sketch,
         plan,
         mut parts,
-    } = ready(alloc, program)?;
+    } = ready(alloc, program, shown)?;
     if let Some(plan) = &plan {
         search_each(alloc, &mut parts, plan, shown, mode);
     }
@@ -67,7 +67,7 @@ pub(crate) fn begun_by<R: Threads + Sync, W: Watch + Sync>(
         sketch,
         plan,
         mut parts,
-    } = ready(alloc, program)?;
+    } = ready(alloc, program, shown)?;
     if let Some(plan) = &plan {
         let threads = usize::from(workers).max(1);
         search_by(rt, threads, alloc, parts.as_mut_slice(), plan, shown, mode, watch);
@@ -80,13 +80,13 @@ pub(crate) fn begun_by<R: Threads + Sync, W: Watch + Sync>(
 }
 
 /// A search with parts of which nothing is found yet.
-fn ready(alloc: Global, program: &Program) -> Result<Begun, AllocError>
+fn ready(alloc: Global, program: &Program, shown: &Shown) -> Result<Begun, AllocError>
     ensures { IfOk result (IsReady program.now) }
 {
     let sketch = Sketch::new(alloc, program, Mode::Fenced(GapSet::empty()))?;
     let plan = plan_for(alloc, &sketch)?;
     let parts = match &plan {
-        Some(plan) => parts_of(alloc, &sketch, plan)?,
+        Some(plan) => parts_of(alloc, &sketch, plan, shown)?,
         None => Vec::new(alloc),
     };
     Ok(Begun {
