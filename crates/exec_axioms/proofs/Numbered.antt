@@ -24,8 +24,8 @@ use Rattle.exec_axioms.specs.ProgramSketches.{ProgramSketch, mode_in, trace_in, 
 use Rattle.exec_axioms.specs.Kept.{view_of, KeepsTraces}
 use Rattle.exec_axioms.specs.Known.{IsInitialWrite}
 use Rattle.exec_axioms.specs.Choices.{IsOrdered}
-use Rattle.exec_axioms.specs.Endings.{HasLater, IsWritten}
-use Rattle.exec_axioms.specs.Rows.{accesses_at, access_of, IsOfThreads, AreAccesses, EachEnds, FitRow, AreRowsOf, IsRowOf, IsWriteAt, main_kind, rows_of}
+use Rattle.exec_axioms.specs.Endings.{HasLater, IsLastWith, IsWritten}
+use Rattle.exec_axioms.specs.Rows.{accesses_at, access_of, IsOfThreads, AreAccesses, EachEnds, FitRow, AreRowsOf, HasWrites, IsRowOf, IsWriteAt, main_kind, rows_of}
 use Rattle.exec_axioms.proofs.TracesKept.{trace_accesses, no_accesses, no_trace, trace_next, past_next}
 use Rattle.candidate_executions.proofs.Orders.Lists.{some_value}
 use Rattle.exec_axioms.proofs.KnownParts.{of_some}
@@ -166,6 +166,12 @@ module _ (p : Listing) (mode : Mode) (thread_traces : List ThreadTrace) (sources
         let (k, at) = number_of events (At t i) ((accesses.exact (At t i)).1 there) in
         test.1 (k, (is_row k).1 (At t i, at, (w.0, access_same (At t i) there ∙ w.1, w.2, of_some w.0.written v w.3))),
   )
+
+  -- an access outside the row of the writes is the last write of no location
+  pub never_last : (events : List Event) (row d : ℕ) (x : Event) → HasWrites thread_traces events row → IsOfThreads thread_traces x → slice_get events d ≡ Some x → (IsIn row d → ⊥) → (l v : ℕ) → IsLastWith s l v x → ⊥
+  never_last events row d x holds own at none l v last =
+      let w = last.0 in
+      none (holds l d x at (w.0, access_same x own ∙ w.1, w.2, of_some w.0.written v w.3))
 
   -- the numbered events are the accesses, once each read has its value
   pub number_exact : (events : List Event) → AreAccesses thread_traces events → (e : Event) → Contains events e ↔ IsAccess s.program (mode_in s) (given_to s.chosen) e

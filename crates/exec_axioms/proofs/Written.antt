@@ -1,8 +1,10 @@
 -- The rows of the writes to each location.
-use Rattle.std.proofs.Common.{◌≡◌, ◌↔◌, ◌⊎◌, ℕ, ◌+◌, ◌<◌, List, Option, Some, IfSome, slice_get, slice_index, get_or, length, sym, ap, ◌∙◌, subst, inl, inr, refl, None, arith}
+use Rattle.std.proofs.Common.{◌≡◌, ◌↔◌, ◌⊎◌, ℕ, ◌+◌, ◌<◌, ◌≤◌, List, Option, Some, IfSome, slice_get, slice_index, get_or, length, sym, ap, ◌∙◌, subst, inl, inr, refl, None, arith}
 use Rattle.std.proofs.lemmas.Bool.{cases_lt}
 use Rattle.std.proofs.lemmas.Option.{slice_get-get_or, same_Some}
+use Rattle.std.proofs.lemmas.List.{get_or_past}
 use Rattle.bit_rows.specs.Rows.{IsIn, Relates}
+use Rattle.bit_rows.proofs.Bits.{none_in_zero}
 use Rattle.tso_program.specs.declared.limits.TheConstants.{MAX_LOCATIONS}
 use Rattle.candidate_executions.specs.declared.event.Event.{Event}
 use Rattle.candidate_executions.specs.declared.event.Event.TheVariants.{Initial}
@@ -41,3 +43,10 @@ writes_more thread_traces events n location rows next within below is each l =
 pub write_located : (thread_traces : List ThreadTrace) (e : Event) (location : Option ℕ) → AreLocated thread_traces → ((l : ℕ) → (location ≡ Some l) → IsWriteAt thread_traces l e) → IfSome location (λ l. l < MAX_LOCATIONS)
 write_located thread_traces e (Some l) located is = (let (y, at, same, wr) = is l refl in subst (λ z. z < MAX_LOCATIONS) same (located e y at))
 write_located thread_traces e None located is = tt
+
+-- what is in a row is joined, if it is in one of the first n and these are all
+pub joined_rows : (rows : List ℕ) (n all : ℕ) → length rows ≤ n → ((d e : ℕ) → d < n → IsIn (get_or rows d 0) e → IsIn all e) → (d e : ℕ) → Relates rows d e → IsIn all e
+joined_rows rows n all end joined d e here = elim (cases_lt d n) [
+  | inl low ↦ joined d e low here
+  | inr high ↦ absurd (none_in_zero e (subst (λ r. IsIn r e) (get_or_past rows d 0 (omega arith)) here))
+]

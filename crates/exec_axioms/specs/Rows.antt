@@ -91,6 +91,10 @@ IsWriteAt thread_traces l e = (y : Access) × (access_of thread_traces e ≡ Som
 abbrev pub AreWriteRows : List ThreadTrace → List Event → List ℕ → Type 0
 AreWriteRows thread_traces events rows = (l : ℕ) → IsRowOf events (IsWriteAt thread_traces l) (slice_index rows l)
 
+-- the row has each access that writes a location
+abbrev pub HasWrites : List ThreadTrace → List Event → ℕ → Type 0
+HasWrites thread_traces events row = (l d : ℕ) (x : Event) → slice_get events d ≡ Some x → IsWriteAt thread_traces l x → IsIn row d
+
 -- the event is chosen as the source of another than this one
 abbrev pub ReadsBut : List (Event × Event) → Event → Event → Event → Type 0
 ReadsBut sources source except read = Contains sources (read, source) × (read ≢ except)

@@ -1,4 +1,4 @@
-use Rattle.std.proofs.Common.{◌≡◌, ◌∙◌, ℕ, ◌++◌, ◌∷◌, [], None, Some, Contains, ap, sym, subst}
+use Rattle.std.proofs.Common.{◌≡◌, ◌∙◌, ℕ, true, false, ◌++◌, ◌∷◌, [], None, Some, Contains, ap, sym, subst}
 use Rattle.std.specs.Prelude.{IfSome, slice_index_or, slice_set}
 use Rattle.exec_axioms.specs.Endings.{AreLastValues}
 use Rattle.exec_axioms.proofs.LastValues.{values_same, values_more, values_differ}
@@ -18,3 +18,7 @@ returns-in-Some-clause-differ c other es before =
 
 pub returns-in-None-clause-kept : goal.returns-in-None-clause-kept
 returns-in-None-clause-kept c t es before = values_same c.args.self.now c.args.shown.now es c.args.event c.args.values.now c.in-None.ensures.write before
+
+pub returns-then-not-writes-clause-kept : goal.returns-then-not-writes-clause-kept
+returns-then-not-writes-clause-kept c t es before =
+    values_same c.args.self.now c.args.shown.now es c.args.event c.args.values.now (λ l v h. c.requires.written (λ w. (let f : false ≡ true = sym c.if-not-writes.true ∙ w in cc)) l v h) before

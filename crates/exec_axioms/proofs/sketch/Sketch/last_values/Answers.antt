@@ -7,11 +7,11 @@ use Rattle.candidate_executions.specs.declared.event.Event.TheVariants.{Initial}
 use Rattle.candidate_executions.specs.Candidates.{IsAccess}
 use Rattle.candidate_executions.specs.Sketches.{IsWhole, given_to}
 use Rattle.tso_machine.specs.Modes.{machine_of_mode}
-use Rattle.exec_axioms.specs.Rows.{NumberedTraces}
+use Rattle.exec_axioms.specs.Rows.{NumberedTraces, HasWrites}
 use Rattle.exec_axioms.specs.ProgramSketches.{ProgramSketch, mode_in}
 use Rattle.exec_axioms.specs.Kept.{view_of}
-use Rattle.exec_axioms.specs.Endings.{IsOwn, HasLater, AreLastValues}
-use Rattle.exec_axioms.proofs.Numbered.{contained, later_test, number_exact, number_own}
+use Rattle.exec_axioms.specs.Endings.{IsOwn, IsLastWith, HasLater, AreLastValues}
+use Rattle.exec_axioms.proofs.Numbered.{contained, later_test, never_last, number_exact, number_own}
 use Rattle.exec_axioms.proofs.LastValues.{values_all}
 use Rattle.exec_axioms.proofs.sketch.Sketch.last_values.Goals as goal
 
@@ -32,6 +32,18 @@ keep_last-requires-clause-later c =
     subst (λ (s : ProgramSketch). IsTrue c.has_any-has_later.result ↔ HasLater s x) c.self.view_is
     (later_test c.self.inside.program c.self.inside.mode (arc_value c.self.inside.traces).thread_traces c.self.inside.sources.items c.self.inside.pairs.items c.self.invariant.kept (arc_value c.self.inside.traces).events c.self.inside.rows.later c.loop-d.d x
     c.has_any-has_later.result c.self.invariant.rows.all c.self.invariant.rows.later_rows at c.has_any-has_later.ensures)
+
+pub keep_last-requires-clause-written : goal.keep_last-requires-clause-written
+keep_last-requires-clause-written c none l v within last =
+    let threads = (arc_value c.self.inside.traces).thread_traces in
+    let events = (arc_value c.self.inside.traces).events in
+    let same = c.events-events.ensures ∙ ap (λ (x : NumberedTraces). x.events) c.deref.ensures in
+    let x = get_or c.events-events.result.now c.loop-d.d (Initial 0) in
+    let at = subst (λ (es : List Event). slice_get es c.loop-d.d ≡ Some x) same (slice_get-get_or c.events-events.result.now c.loop-d.d (Initial 0) c.loop-d-test.true) in
+    let holds = subst (λ (x : NumberedTraces). HasWrites x.thread_traces x.events c.writes-all_writes.result) c.deref-2.ensures c.writes-all_writes.ensures in
+    never_last c.self.inside.program c.self.inside.mode threads c.self.inside.sources.items c.self.inside.pairs.items c.self.invariant.kept events c.writes-all_writes.result c.loop-d.d x holds
+    (c.self.invariant.rows.of_threads x (contained events x (c.loop-d.d, at))) at (λ i. none (c.has-writes.ensures.1 i)) l v
+    (subst (λ (s : ProgramSketch). IsLastWith s l v x) (sym c.self.view_is) last)
 
 pub returns-then-not-keep_last : goal.returns-then-not-keep_last
 returns-then-not-keep_last c = c.keep_last.ensures.differ (λ t. (let f : false ≡ true = sym c.if-not-keep_last.true ∙ t in cc)) (take c.loop-d.d c.events-events.result.now) c.loop-d.invariant
