@@ -3,7 +3,7 @@
 //!
 //! The first line of its input names the call and gives its arguments, and the rest is the text that the call takes. After the names
 //! `sequential`, `ask`, `foreign`, `search`, `hunt`, `place` and the like the word `--observed` may stand, for what the litmus text names, or
-//! `--condition`, for the truth of its condition; of their answers, what a search may choose comes last. `tests/calls.tsv` and `tests/solver.tsv` have one input in each line.
+//! `--condition`, for the truth of its condition; of their answers, what a search may choose comes last. `tests/data/calls.tsv` and `tests/data/solver.tsv` have one input in each line.
 #![tactic(auto)]
 
 mod answer;
