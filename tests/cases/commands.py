@@ -16,7 +16,7 @@ from judges import traces
 from judges.texts import canonical_of
 
 CLASH = "error: a file that is written must not be one that is read, nor be written twice"
-TRIED = ("--check", "--output", "--certificate")
+TRIED = ("--check", "--output", "--certificate", "--workers")
 # bad command lines: a name, the arguments, standard input, and how the text of the error begins
 FAULTS = (
     ("an unknown command", ["search", "-"], b"", b"error: unrecognized subcommand 'search'\n"),
@@ -36,6 +36,8 @@ FAULTS = (
     ("no litmus file to place", ["place"], b"", b"error: the following required arguments were not provided:\n  <LITMUS>\n"),
     ("no workers", ["place", "--workers", "0", "-"], b"", b"error: invalid value '0' for '--workers <"),
     ("more than 32 workers", ["place", "--workers", "33", "-"], b"", b"error: invalid value '33' for '--workers <"),
+    ("no workers of outcomes", ["outcomes", "--workers", "0", "-"], b"", b"error: invalid value '0' for '--workers <"),
+    ("more than 32 workers of outcomes", ["outcomes", "--workers", "33", "-"], b"", b"error: invalid value '33' for '--workers <"),
     ("workers that are no number", ["place", "--workers", "two", "-"], b"", b"error: invalid value 'two' for '--workers <"),
     ("costs twice", ["place", "--costs", "a", "--costs", "b", "-"], b"", b"error: the argument '--costs <"),
     ("a certificate without its file", ["place", "-", "--certificate"], b"", b"error: a value is required for '--certificate <"),

@@ -9,8 +9,6 @@ import tempfile
 from harness import EXAMPLES, PROGRAMS, TOP, Cases, bytes_of, same, tell, write
 
 PRINTED = ("answer ", "accepted ", "refused ", "outcome: ", "outcomes ", "passed", "without ", "run ", "Every ", "No ", "observation ", "condition ", "usage: ", "error: ")
-# a file of the repository in a document's text
-PATH = re.compile(r"`(?:\./)?((?:tests|bench|docs|examples|crates|\.ci)/[\w./-]+)[ `]")
 
 
 def documents():
@@ -53,13 +51,6 @@ def part(spelled):
 
 
 class Documentation(Cases):
-    def test_paths(self):
-        """The files that a document names are there."""
-        for path in [*documents(), os.path.join(TOP, "tests", "README.md"), os.path.join(TOP, "bench", "README.md")]:
-            named = {it for it in PATH.findall(bytes_of(path).decode()) if not re.search("CRATE|NAME", it)}
-            missing = sorted(it for it in named if not os.path.exists(os.path.join(TOP, it)))
-            same(f"the files that {os.path.relpath(path, TOP)} names and that are not there", missing, [])
-
     def test_commands(self):
         """Each command that a document shows prints what the document shows, and writes no file at the top that git shows."""
         with open(os.path.join(TOP, ".gitignore"), encoding="utf-8") as file:

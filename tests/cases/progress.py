@@ -36,11 +36,12 @@ exists (x=1)
 """
 FILES = [os.path.join(EXAMPLES, name + ".litmus") for name in ("SB", "MP", "R", "2+2W", "IRIW", "n6", "nothing")]
 SEARCHED = (
-    ["outcomes"], ["outcomes", "--observed", "--check", "--json"], ["place"], ["place", "--workers", "4"], ["place", "--json", "--check"], ["why"],
+    ["outcomes"], ["outcomes", "--observed", "--check", "--json"], ["outcomes", "--workers", "4"], ["place"], ["place", "--workers", "4"],
+    ["place", "--json", "--check"], ["why"],
 )
 SHARED = (
-    ["outcomes"], ["outcomes", "--observed"], ["outcomes", "--model", "sequential"], ["place", "--observed"], ["place", "--condition"],
-    ["why", "--condition"],
+    ["outcomes"], ["outcomes", "--observed"], ["outcomes", "--model", "sequential"], ["outcomes", "--workers", "3"], ["place", "--observed"],
+    ["place", "--observed", "--workers", "3"], ["place", "--condition"], ["why", "--condition"],
 )
 
 

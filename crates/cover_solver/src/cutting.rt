@@ -10,6 +10,7 @@ use crate::part::Part;
 use crate::plan::Plan;
 use exec_axioms::Sketch;
 use std::alloc::{AllocError, Global};
+use tso_program::Shown;
 
 /// A search of fewer combinations of traces is not cut.
 const MANY_COMBINATIONS: u64 = 10_000;
@@ -20,13 +21,18 @@ const ENOUGH_PARTS: usize = 32;
 /// Each part is cut at most so many times.
 const MOST_CUTS: usize = 16;
 
-/// The parts of the search of a sketch. None where that is short.
-pub(crate) fn parts_of(alloc: Global, sketch: &Sketch, plan: &Plan) -> Result<Vec<Part>, AllocError>
+/// The parts of the search of a sketch. None where that is not cut.
+pub(crate) fn parts_of(
+    alloc: Global,
+    sketch: &Sketch,
+    plan: &Plan,
+    shown: &Shown,
+) -> Result<Vec<Part>, AllocError>
     requires { IsBeforeLast sketch.now plan.now.last }
     ensures { IfOk result (λ parts. All (IsPartOf sketch.now plan.now.last) parts.items) }
 {
     let mut parts = Vec::new(alloc);
-    if plan.combinations(sketch) < MANY_COMBINATIONS {
+    if !is_cut(sketch, plan, shown) {
         return Ok(parts);
     }
     parts.push(Part::whole(alloc, sketch)?)?;
@@ -37,6 +43,15 @@ pub(crate) fn parts_of(alloc: Global, sketch: &Sketch, plan: &Plan) -> Result<Ve
         parts = cut_each(alloc, plan, &parts)?;
     }
     Ok(parts)
+}
+
+/// Whether a search is cut. One for the truth of a formula is not: it closes most branches once both truths are found, and
+/// each part would have to find them for itself.
+fn is_cut(sketch: &Sketch, plan: &Plan, shown: &Shown) -> bool {
+    match shown {
+        Shown::Truth(_) => false,
+        Shown::All | Shown::Only(_) => plan.combinations(sketch) >= MANY_COMBINATIONS,
+    }
 }
 
 /// The parts, each cut by the values of the next read.

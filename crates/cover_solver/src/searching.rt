@@ -8,6 +8,7 @@ ghost use Rattle.cover_solver.specs.Plans.{IsBeforeLast};
 use crate::cutting::parts_of;
 use crate::part::Part;
 use crate::plan::{Plan, plan_for};
+use crate::watch::{Unwatched, Watch};
 use exec_axioms::{Mode, Sketch};
 use gap_sets::GapSet;
 use std::alloc::{AllocError, Global};
@@ -21,7 +22,7 @@ pub(crate) struct Begun {
     pub(crate) sketch: Sketch,
     /// `None` if there is no thread.
     pub(crate) plan: Option<Plan>,
-    /// None where the search is short.
+    /// None where the search is not cut.
     pub(crate) parts: Vec<Part>,
 }
 
@@ -38,7 +39,7 @@ pub(crate) fn begun_alone(
         sketch,
         plan,
         mut parts,
-    } = ready(alloc, program)?;
+    } = ready(alloc, program, shown)?;
     if let Some(plan) = &plan {
         search_each(alloc, &mut parts, plan, shown, mode);
     }
@@ -49,15 +50,16 @@ pub(crate) fn begun_alone(
     })
 }
 
-/// A search whose parts are searched in at most so many threads. Where one can't be started, the caller's thread
-/// searches its parts.
-pub(crate) fn begun_by<R: Threads + Sync>(
+/// A search whose parts are searched in at most so many threads, which share a watch. Where one can't be started, the
+/// caller's thread searches its parts.
+pub(crate) fn begun_by<R: Threads + Sync, W: Watch + Sync>(
     rt: &R,
     workers: u8,
     alloc: Global,
     program: &Program,
     shown: &Shown,
     mode: &Mode,
+    watch: &W,
 ) -> Result<Begun, AllocError>
     ensures { IfOk result (λ begun. (none : Found) → IsBegun program.now shown.now (Open none mode.now) begun) }
 {
@@ -65,10 +67,10 @@ pub(crate) fn begun_by<R: Threads + Sync>(
         sketch,
         plan,
         mut parts,
-    } = ready(alloc, program)?;
+    } = ready(alloc, program, shown)?;
     if let Some(plan) = &plan {
         let threads = usize::from(workers).max(1);
-        search_by(rt, threads, alloc, parts.as_mut_slice(), plan, shown, mode);
+        search_by(rt, threads, alloc, parts.as_mut_slice(), plan, shown, mode, watch);
     }
     Ok(Begun {
         sketch,
@@ -78,13 +80,13 @@ pub(crate) fn begun_by<R: Threads + Sync>(
 }
 
 /// A search with parts of which nothing is found yet.
-fn ready(alloc: Global, program: &Program) -> Result<Begun, AllocError>
+fn ready(alloc: Global, program: &Program, shown: &Shown) -> Result<Begun, AllocError>
     ensures { IfOk result (IsReady program.now) }
 {
     let sketch = Sketch::new(alloc, program, Mode::Fenced(GapSet::empty()))?;
     let plan = plan_for(alloc, &sketch)?;
     let parts = match &plan {
-        Some(plan) => parts_of(alloc, &sketch, plan)?,
+        Some(plan) => parts_of(alloc, &sketch, plan, shown)?,
         None => Vec::new(alloc),
     };
     Ok(Begun {
@@ -100,12 +102,12 @@ fn search_each(alloc: Global, parts: &mut Vec<Part>, plan: &Plan, shown: &Shown,
     ensures { AreSearched shown.now mode.now parts.old.items parts.new.items }
 {
     for i in 0..parts.len() {
-        parts[i].search(alloc, plan, shown, *mode);
+        parts[i].search(alloc, plan, shown, *mode, &Unwatched);
     }
 }
 
 /// Searches each of the parts in at most so many threads.
-fn search_by<R: Threads + Sync>(
+fn search_by<R: Threads + Sync, W: Watch + Sync>(
     rt: &R,
     threads: usize,
     alloc: Global,
@@ -113,6 +115,7 @@ fn search_by<R: Threads + Sync>(
     plan: &Plan,
     shown: &Shown,
     mode: &Mode,
+    watch: &W,
 )
     requires threads { 0 < threads }
     requires before { All (λ part. IsBeforeLast part.sketch plan.now.last) parts.old }
@@ -125,6 +128,6 @@ fn search_by<R: Threads + Sync>(
         &|_, part|
             requires { IsBeforeLast part.now.sketch plan.now.last }
             ensures { IsSearched shown.entry.now mode.entry.now part.entry.now part.exit.now }
-        { part.search(alloc, plan, shown, *mode) },
+        { part.search(alloc, plan, shown, *mode, watch) },
     );
 }

@@ -9,4 +9,3 @@ pub mod PlacementMade
 pub mod Splitting
 pub mod Settling
 pub mod Workers
-pub mod Captures

@@ -7,7 +7,7 @@ use Rattle.fencer.specs.Outcomes.{ListsOutcomes, ListsRuns, TellsOutcomes}
 use Rattle.fencer.proofs.outcomes.outcomes_reply.Goals as goal
 
 pub returns-in-Ok-clause-list : goal.returns-in-Ok-clause-list
-returns-in-Ok-clause-list c =
+returns-in-Ok-clause-list g c =
     let query = c.args.asked.now in
     let litmus = c.in_ok-litmus.litmus in
     let outcomes = c.in_ok-list.list.outcomes.items in
