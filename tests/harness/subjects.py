@@ -127,13 +127,13 @@ def first_sentence(text):
 
 
 def list_subjects(every):
-    """Prints each subject with what it is about and how many cases it has, and so each of its groups."""
+    """Prints each subject with what it is about and how many cases it has, and so each of its groups: - where they were never counted."""
     counted = recorded()
     for subject, about, groups in every:
         print(f"{subject:<24} {sum(counted.get(group.name, 0) for group in groups):>7}  {first_sentence(about).partition(': ')[2]}")
         for group in groups:
             name = group.name.partition(".")[2]
-            print(f"  .{name:<21} {counted.get(group.name, 0):>7}  {first_sentence(group.test._testMethodDoc)}")
+            print(f"  .{name:<21} {counted.get(group.name, '-'):>7}  {first_sentence(group.test._testMethodDoc)}")
 
 
 def write_counts(groups):
