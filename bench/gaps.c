@@ -1,5 +1,5 @@
 // Measures variants of a thread that runs alone: prints for each the time stamps that an instance takes, the lower quartile of many
-// samples. bench/costs fills in what stands between @ signs.
+// samples. bench/measure-costs fills in what stands between @ signs.
 #define _GNU_SOURCE
 #include <pthread.h>
 #include <sched.h>

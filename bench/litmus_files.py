@@ -3,6 +3,7 @@ from __future__ import annotations
 
 import dataclasses
 import re
+from typing import Tuple
 
 REGISTERS = ("EAX", "EBX", "ECX", "EDX", "ESI", "EDI")
 LARGEST = 2**32 - 1
@@ -17,7 +18,7 @@ SHAPES = {
 }
 SPELLED = {"register": "{}", "memory": "[{}]", "number": "${}", "label": "{}"}
 CONDITIONS = ("locations", "exists", "forall", "~")
-Gap = tuple[int, int]
+Gap = Tuple[int, int]
 Formula = tuple
 
 

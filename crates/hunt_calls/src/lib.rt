@@ -4,7 +4,7 @@
 //! settling does to the tree under the lock.
 //!
 //! Begin with `push_of_hunt`, `HuntCall` and `push_exchanged`. Free to change: all that is printed, together
-//! with `tests/solver.tsv`. Relied on: `test_calls` alone stands on it.
+//! with `tests/data/solver.tsv`. Relied on: `test_calls` alone stands on it.
 #![tactic(auto)]
 
 mod answers;

@@ -4,7 +4,7 @@
 //! scripts.
 //!
 //! Begin with `litmus_message`, `check_message` and `Message`. Free to change: every word; its functions have
-//! no clauses, and `tests/messages.tsv` shows what is said. Relied on: nothing but that each call ends and is
+//! no clauses, and `tests/data/messages.tsv` shows what is said. Relied on: nothing but that each call ends and is
 //! safe; a message that can't be made or written leaves the answer as it is.
 #![tactic(auto)]
 

@@ -4,7 +4,7 @@
 //! workers run in threads, and how a hunt ends with a fault.
 //!
 //! Begin with `push_of_place`, `PlaceCall` and `PlacerCall`. Free to change: all that is printed, together
-//! with `tests/solver.tsv` and `tests/asks.tsv`. Relied on: `test_calls` alone stands on it.
+//! with `tests/data/solver.tsv` and `tests/data/asks.tsv`. Relied on: `test_calls` alone stands on it.
 #![tactic(auto)]
 
 mod answers;

@@ -3,7 +3,7 @@
 //! For people. What stands in it is worked out from the steps of `tso_machine::steps`.
 //!
 //! Begin with `run_table`, `instruction_cell` and `written`. Free to change: everything; no contract speaks
-//! of the table's bytes, which `tests/traces.py` compares with the states of another program. Relied on:
+//! of the table's bytes, which `tests/judges/traces.py` compares with the states of another program. Relied on:
 //! `run_graph` and `documents` take what a step does from here, so the three say the same.
 #![tactic(auto)]
 

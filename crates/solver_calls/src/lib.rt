@@ -4,7 +4,7 @@
 //! program's gaps, a run that passes none of them.
 //!
 //! Begin with `push_of_solver`, `table_of` and `options`. Free to change: all that is printed, together with
-//! `tests/solver.tsv`. Relied on: `hunt_calls` and `place_calls` take tables, costs and sets from here.
+//! `tests/data/solver.tsv`. Relied on: `hunt_calls` and `place_calls` take tables, costs and sets from here.
 #![tactic(auto)]
 
 mod lines;

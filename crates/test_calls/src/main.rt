@@ -3,7 +3,7 @@
 //! The first line of the input names the call, or a script of calls of one sketch, one search or one hunt,
 //! and gives its arguments; the rest is the text that the call takes. After a name like `ask` or `place` the
 //! word `--observed` may stand, for what the litmus text names, or `--condition`, for the truth of its
-//! condition. `tests/calls.tsv` and `tests/solver.tsv` have one input in each line.
+//! condition. `tests/data/calls.tsv` and `tests/data/solver.tsv` have one input in each line.
 //!
 //! Begin with `answer` and the table `CALLS`. Free to change: anything, together with these cases. Relied on:
 //! nothing stands above it; it is proved once, so that a case costs milliseconds.

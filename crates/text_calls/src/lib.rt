@@ -4,7 +4,7 @@
 //! it. It promises nothing beyond safety.
 //!
 //! Begin with `push_of_text`, `push_of_litmus` and `words_of`. Free to change: all that is printed, together
-//! with `tests/calls.tsv`, and the calls of sketches with `tests/candidates.py`. Relied on: the other
+//! with `tests/data/calls.tsv`, and the calls of sketches with `tests/judges/candidates.py`. Relied on: the other
 //! libraries of the tests take their words from here.
 #![tactic(auto)]
 

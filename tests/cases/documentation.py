@@ -1,0 +1,218 @@
+"""Documentation: what a reader of the documents does first, the commands that they show, the inputs that get a refusal, and what is made of the sources.
+
+The scripts in docs/ make the map of the crates with their table, the drawings, and the table of promises. The drawings are made of texts. Where such a text
+says `of: LITMUS WHAT`, it has a line of the certificate that `fencer place` makes, or a run of `fencer why`.
+"""
+import fnmatch
+import glob
+import os
+import re
+import shutil
+import subprocess
+import tempfile
+
+from harness import EXAMPLES, PROGRAMS, TOP, Cases, bytes_of, run, same, tell, write
+
+PRINTED = ("answer ", "accepted ", "refused ", "outcome: ", "outcomes ", "passed", "without ", "run ", "Every ", "No ", "observation ", "condition ", "usage: ", "error: ")
+MAKERS = ("make-map", "make-drawings", "make-promises")
+MOST_WORDS = 120
+MOST_WORDS_OF_A_CRATE = 60
+# a file or a folder in a document's text: from the top, or any file of these kinds
+FROM_TOP = re.compile(r"`(?:\./)?((?:tests|bench|docs|examples|crates|\.ci)/[\w./-]+)[ `]")
+OF_A_KIND = re.compile(r"`([\w+-][\w.+-]*(?:/[\w.+-]+)+\.(?:rt|antt|py|tsv|md|txt|js|litmus|cert|svg))`")
+
+
+def documents():
+    folders = [TOP, os.path.join(TOP, "docs"), EXAMPLES]
+    return [os.path.join(folder, file) for folder in folders for file in sorted(os.listdir(folder)) if file.endswith(".md")]
+
+
+def all_documents():
+    """Those documents and the pages of docs' folders, of the tests, and of measurements."""
+    pages = glob.glob(os.path.join(TOP, "docs", "*", "**", "*.md"), recursive=True)
+    return sorted([*documents(), *pages, *(os.path.join(TOP, folder, "README.md") for folder in ("tests", "bench"))])
+
+
+def lines_of(path):
+    with open(path, encoding="utf-8") as file:
+        return file.read().split("\n")
+
+
+def shown_commands(path):
+    """The lines of a document that show a command, each with the lines that it prints."""
+    text = "\n".join(lines_of(path))
+    blocks = re.findall(r"^    \$ (.*)\n((?:    (?!\$ ).*\n|\n(?=    (?!\$ )))*)", text, flags=re.M)
+    return [(command, [line[4:] for line in printed.split("\n")[:-1]]) for command, printed in blocks]
+
+
+def spans(line):
+    """The quoted texts of a line, with the bars that a table's row escapes."""
+    return [span.replace("\\|", "|") for span in re.findall(r"`([^`]*)`", line)]
+
+
+def programs_in(folder):
+    """A folder with the examples and the built programs by their names."""
+    shutil.copytree(EXAMPLES, os.path.join(folder, "examples"))
+    for name, program in PROGRAMS.items():
+        shutil.copy(program, os.path.join(folder, name))
+
+
+def printed_by(command, folder):
+    ran = subprocess.run(["bash", "-c", command], cwd=folder, stdin=subprocess.DEVNULL, capture_output=True, timeout=120)
+    return ran.stdout.decode().split("\n")[:-1]
+
+
+def part(spelled):
+    """A part of a text as a document spells it: \\n stands for a LF, \\xff for a byte."""
+    return spelled.encode().replace(b"\\n", b"\n").replace(b"\\xff", b"\xff")
+
+
+def lost_files(path):
+    """The files that a document names and that are not there. A name begins at the top, or at `crates`, inside some crate, or beside the document."""
+    text = bytes_of(path).decode()
+    from_top = {it for it in FROM_TOP.findall(text) if not re.search("CRATE|NAME", it)}
+    places = [TOP, *(os.path.join(TOP, "crates", *inside) for inside in ((), ("*",), ("*", "src"))), os.path.dirname(path)]
+    elsewhere = {it for it in OF_A_KIND.findall(text) if not any(glob.glob(os.path.join(place, it)) for place in places)}
+    return sorted(elsewhere | {it for it in from_top if not os.path.exists(os.path.join(TOP, it))})
+
+
+def long_paragraphs(path):
+    """How the paragraphs, entries and cells of a document begin that have too many words."""
+    texts = re.split(r"\n(?=\n|\||\s*(?:-|\d+\.) )|(?<=[^|]) \| ", bytes_of(path).decode())
+    return [text.strip()[:60] for text in texts if len(text.split()) > MOST_WORDS and not text.strip("\n").startswith("    ")]
+
+
+def lost_names(root):
+    """The names with which the head of a crate says to begin, and that its code has not."""
+    texts = [bytes_of(path).decode() for path in [root, *glob.glob(os.path.join(os.path.dirname(root), "*.rt"))]]
+    head = " ".join(line.removeprefix("//!").strip() for line in texts[0].splitlines() if line.startswith("//!"))
+    begin = re.search(r"Begin with (.*?)\. [A-Z]", head)
+    names = re.findall(r"`(?:\w+::)?(\w+)`", begin[1]) if begin else []
+    code = "\n".join(line for text in texts for line in text.splitlines() if not line.startswith("//!"))
+    return [name for name in names if not re.search(rf"\b{name}\b", code)]
+
+
+def drawn_line(name, panel):
+    """The line of a certificate that a drawn tree has: the words of its nodes, a node before its children."""
+    nodes = [line.partition(" | ")[0].strip().rpartition(": ")[2] for line in panel.splitlines()[1:] if line.strip()]
+    return " ".join([name, *nodes])
+
+
+def certified(litmus, name):
+    """The line of the certificate that begins with this word."""
+    with tempfile.TemporaryDirectory() as folder:
+        path = os.path.join(folder, "cert")
+        run(["place", "--certificate", path, litmus])
+        return next(line for line in lines_of(path) if line.split(" ")[0] == name)
+
+
+def drawn_run(panel):
+    """The steps of a drawn run, and the gaps that it passes."""
+    return [line.split() for line in panel.splitlines() if re.match(r"[ef]\d+ |passed", line)]
+
+
+def run_without(litmus, what):
+    """The same of the run that `fencer why` prints after this line."""
+    printed = run(["why", litmus])[1].decode()
+    return drawn_run(re.split(r"^without", printed.partition(what + "\n")[2], flags=re.M)[0])
+
+
+class Sources(Cases):
+    needs_programs = False
+
+    def test_made(self):
+        """What the makers in docs/ make is committed: the map, the drawings, the table of promises."""
+        for maker in MAKERS:
+            ran = subprocess.run([os.path.join(TOP, "docs", maker), "--check"], capture_output=True, text=True, timeout=120)
+            tell(f"what docs/{maker} makes is committed", ran.returncode == 0, ran.stdout + ran.stderr)
+
+    def test_lengths(self):
+        """Paragraphs, entries and cells of documents are short, and so is what is promised of each crate."""
+        for path in all_documents():
+            long = long_paragraphs(path)
+            tell(f"{os.path.relpath(path, TOP)} has no paragraph of more than {MOST_WORDS} words", not long, long)
+        promises = bytes_of(os.path.join(TOP, "docs", "promises.md")).decode()
+        crates = re.findall(r"^- `(\w+)`: (.*)$", promises.partition("## Command by command")[0], re.M)
+        long = [crate for crate, words in crates if len(words.split()) > MOST_WORDS_OF_A_CRATE]
+        tell(f"docs/promises.md has at most {MOST_WORDS_OF_A_CRATE} words of each crate", crates and not long, long)
+
+    def test_paths(self):
+        """The files that a document names are there."""
+        for path in all_documents():
+            lost = lost_files(path)
+            tell(f"the files that {os.path.relpath(path, TOP)} names are there", not lost, lost)
+
+    def test_heads(self):
+        """The names with which the head of a crate says to begin are there."""
+        for root in sorted(glob.glob(os.path.join(TOP, "crates", "*", "src", "lib.rt")) + glob.glob(os.path.join(TOP, "crates", "*", "src", "main.rt"))):
+            lost = lost_names(root)
+            tell(f"the head of {os.path.relpath(root, TOP)} names what is there", not lost, lost)
+
+
+class Documentation(Cases):
+    def test_drawn(self):
+        """Each drawn panel that is of an answer is as the program gives it."""
+        for path in sorted(glob.glob(os.path.join(TOP, "docs", "drawings", "*.txt"))):
+            for panel in re.split(r"^##? .*\n", bytes_of(path).decode(), flags=re.M):
+                named = re.match(r"of: (\S+) (.*)\n", panel)
+                if named:
+                    litmus, what = os.path.join(TOP, named[1]), named[2]
+                    of_run = what.startswith("without")
+                    drawn = drawn_run(panel) if of_run else drawn_line(what, panel)
+                    same(f"{os.path.basename(path)} draws {named[0].strip()}", drawn, run_without(litmus, what) if of_run else certified(litmus, what))
+
+    def test_commands(self):
+        """Each command that a document shows prints what the document shows, and writes no file at the top that git shows."""
+        with open(os.path.join(TOP, ".gitignore"), encoding="utf-8") as file:
+            ignored = [line[1:] for line in file.read().splitlines() if line.startswith("/")]
+        for path in documents():
+            name = os.path.relpath(path, TOP)
+            with tempfile.TemporaryDirectory() as folder:
+                programs_in(folder)
+                before = set(os.listdir(folder))
+                for command, wanted in shown_commands(path):
+                    found = printed_by(command, folder)
+                    same(f"{name}: {command}", found, wanted)
+                written = [file for file in set(os.listdir(folder)) - before if not any(fnmatch.fnmatch(file, it) for it in ignored)]
+                tell(f"{name}: its commands write no file that git shows", not written, written)
+        shown = [command for command, _ in shown_commands(os.path.join(TOP, "README.md"))]
+        tell("README.md shows how to begin", len(shown) >= 4, shown)
+
+    def test_tables(self):
+        """Each row of the examples' tables: what its commands print has each line that the row shows."""
+        with tempfile.TemporaryDirectory() as folder:
+            programs_in(folder)
+            rows = [line for line in lines_of(os.path.join(EXAMPLES, "README.md")) if line.startswith("| ")]
+            for row in rows:
+                words = [span for span in spans(row) if re.match(r"(place|replay|outcomes|trace|why|witness) .*\.litmus|examples/\S+ ", span)]
+                wanted = [span for span in spans(row) if span not in words and span.startswith(PRINTED)]
+                for command in words:
+                    program = "./fencecheck" if command.startswith("examples/") else "./fencer"
+                    found = printed_by(f"{program} {command}", folder)
+                    tell(f"examples/README.md: {command}", set(wanted) <= set(found), found, wanted)
+
+    def test_refusals(self):
+        """Each input that docs/formats.md shows beside a refusal gets it."""
+        litmus, certificate = (os.path.join(EXAMPLES, file) for file in ("SB.litmus", "SB.cert"))
+        rows = [row for row in lines_of(os.path.join(TOP, "docs", "formats.md")) if re.search(r"`: `refused [^`]*` \|$", row)]
+        tell("docs/formats.md shows refusals", len(rows) >= 30, len(rows))
+        for row in rows:
+            *shown, line = spans(row.replace("\\|", "\0").split("|")[-2].replace("\0", "|"))
+            kind = line.split()[1]
+            with tempfile.TemporaryDirectory() as folder:
+                changed = os.path.join(folder, "changed")
+                source = certificate if kind in ("certificate", "check") else litmus
+                text = bytes_of(source)
+                if kind != "costs" and len(shown) >= 2:
+                    new, old = map(part, shown[-2:])
+                    tell(f"{old} stands once", text.count(old) == 1, row)
+                    text = text.replace(old, new)
+                write(changed, part(shown[0]) if kind == "costs" else text)
+                words = {
+                    "litmus": ["fencer", "outcomes", changed],
+                    "costs": ["fencer", "place", "--costs", changed, litmus],
+                    "replay": ["fencer", "replay", changed, *shown[0].split()],
+                }.get(kind, ["fencecheck", litmus, changed])
+                ran = subprocess.run([PROGRAMS[words[0]], *words[1:]], capture_output=True, timeout=120)
+            found = ran.returncode, ran.stdout.decode()
+            same(f"docs/formats.md: {line}", found, (1, line + "\n"))

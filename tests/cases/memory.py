@@ -1,0 +1,244 @@
+"""Memory: each allocation refused in turn, on command lines of the two programs and on scripts of `test_calls`.
+
+An allocation is refused until a run meets no refusal. A script of `refused_calls.tsv` makes each call once more: a call that is refused has changed nothing, and succeeds then.
+"""
+import os
+import re
+from concurrent.futures import ThreadPoolExecutor
+
+from cases.progress import reads
+from harness import (
+    EXAMPLES, FENCECHECK, FENCER, TEST_CALLS, PreloadedCases, bytes_of, called, example, failing_in_turn, in_data, lines, run, same, tell, watched,
+    without_front, write,
+)
+from judges import documents
+
+MOST_ALLOCATIONS = 50_000
+MOST_REFUSED = 2_000
+# of a search in parts each of the first allocations is refused, and after it each that is so much further off than the one before
+FIRST_REFUSED = 200
+FURTHER = 1.1
+MOST_IN_PARTS = 1_000_000
+# lines that report a refusal for lack of memory
+REFUSED = r"(?:refused (?:memory|[a-z]+ (?:OutOfMemory|\S*\(.*OutOfMemory\)))|Err\(OutOfMemory\))"
+
+
+def refused_allocations(library, name, words, given, right, lawful, program=FENCER, certified=None, costs=()):
+    """Each allocation refused in turn, until a run meets no refusal; where there is an answer, the named certificate is accepted."""
+    for nth in range(1, MOST_ALLOCATIONS):
+        found, met = watched(library, nth, words, given, program)
+        tell(f"{name}, allocation {nth} refused", found == right or (met and found in lawful), found, f"{right!r}, or a refusal for lack of memory")
+        if certified and found == right:
+            accepted = re.sub(rb"^answer ", b"accepted ", right[1].split(b"\n")[0]) + b"\n"
+            same(f"{name}, its certificate with allocation {nth} refused", run(["-", certified, *costs], given, FENCECHECK), (0, accepted))
+            os.remove(certified)
+        if not met:
+            return
+    tell(f"{name}: the refusals end", False)
+
+
+def refused_to_threads(library, folder, test, workers, right, lawful):
+    """So many allocations of a placement by several threads refused in turn. Which one that is changes from run to run, so each is tried whatever a run met."""
+    given, name = example(test + ".litmus"), f"the placement of {test} with {workers} workers"
+    accepted = (0, re.sub(rb"^answer ", b"accepted ", right[1].split(b"\n")[0]) + b"\n")
+
+    def tried(nth):
+        certificate = os.path.join(folder, f"{workers}-{nth}")
+        words = ["place", "--workers", str(workers), "--certificate", certificate, "-"]
+        found, met = watched(library, nth, words, given, FENCER)
+        judged = run(["-", certificate], given, FENCECHECK) if found == right else accepted
+        if os.path.exists(certificate):
+            os.remove(certificate)
+        return nth, found, met, judged
+
+    with ThreadPoolExecutor() as pool:
+        tries = list(pool.map(tried, range(1, MOST_REFUSED + 1)))
+    for nth, found, met, judged in tries:
+        tell(f"{name}, allocation {nth} refused", found == right or (met and found in lawful), found, f"{right!r}, or a refusal for lack of memory")
+        same(f"{name}, its certificate with allocation {nth} refused", judged, accepted)
+    tell(f"{name}: one is refused memory for its search", (1, b"refused place 5 OutOfMemory\n") in (found for _, found, _, _ in tries))
+
+
+def parts_refused(library):
+    """Allocations of a search that three threads make in parts, refused in turn. A part that is refused memory is searched once more, so there is an answer then."""
+    name, given, words = "the outcomes of a search in parts", reads(5, 5, 4).encode(), ["outcomes", "--runs", "--workers", "3", "-"]
+    right, lawful = run(words, given), lawful_lines("solve 2 OutOfMemory")
+    tell(name, right[0] == 0, right)
+    numbers = [*range(1, FIRST_REFUSED)]
+    while numbers[-1] < MOST_IN_PARTS:
+        numbers.append(int(numbers[-1] * FURTHER) + 1)
+    with ThreadPoolExecutor() as pool:
+        tries = list(zip(numbers, pool.map(lambda nth: watched(library, nth, words, given, FENCER), numbers)))
+    for nth, (found, met) in tries:
+        tell(f"{name}, allocation {nth} refused", found == right or (met and found in lawful), found, f"{right!r}, or a refusal for lack of memory")
+    answers = {met: {found for _, (found, its) in tries if its == met} for met in (True, False)}
+    tell(f"{name}: a refusal that ends it", (1, b"refused solve 2 OutOfMemory\n") in answers[True])
+    tell(f"{name}: a refusal after which there is an answer", right in answers[True])
+    same(f"{name}: the refusals end", answers[False], {right})
+
+
+def lawful_lines(*told):
+    """What a program may answer where memory is refused: nothing, or one of these lines."""
+    return [(1, b""), *((1, f"refused {line}\n".encode()) for line in ("file 1 Read", "litmus 12 OutOfMemory", *told))]
+
+
+class RefusalDocuments:
+    """What a program may answer with `--json` where memory is refused: nothing, or the document of one of these lines."""
+
+    def __init__(self, lawful):
+        self.lawful = lawful
+
+    def __contains__(self, found):
+        status, text = found
+        document = documents.read(text)
+        line = f"refused {document['refused']}\n".encode() if document and "refused" in document else text
+        return (status, line) in self.lawful
+
+
+def replays_refused(library):
+    """A replay, its table, a replay that is refused, lists of outcomes, and runs that are sought."""
+    lawful = lawful_lines("run 2 OutOfMemory", "replay 6 OutOfMemory")
+    given, labels = example("SB.litmus"), ["-", "e0", "e1", "e0", "e1", "f0", "f1"]
+    right = (0, b"outcome: 0:EAX=0; 1:EAX=0; x=1; y=1;\npassed 0:1 1:1\n")
+    refused_allocations(library, "store buffering", ["replay", *labels], given, right, lawful)
+    refused_allocations(library, "the table of store buffering", ["trace", *labels], given, run(["trace", *labels], given), lawful)
+    right = (1, b"refused replay 2 AtEnd step 2\n")
+    refused_allocations(library, "a refusal", ["replay", "-", "e0", "e0", "e0"], given, right, lawful)
+    lawful = lawful_lines("solve 2 OutOfMemory")
+    for test, words in (
+        ("SB", ["outcomes", "-"]), ("n6", ["outcomes", "--observed", "-"]), ("SB", ["outcomes", "--progress", "-"]),
+        ("SB", ["outcomes", "--runs", "-"]), ("n6", ["outcomes", "--runs", "--json", "--observed", "-"]),
+    ):
+        given = example(test + ".litmus")
+        right = run(words, given)
+        tell(f"the outcomes of {test}", right[0] == 0, right)
+        refused_allocations(library, f"the outcomes of {test}", words, given, right, RefusalDocuments(lawful) if "--json" in words else lawful)
+    for test, options in (("SB", ["--fences", "0:1"]), ("SB", ["--fences", "0:1,1:1"]), ("n6", ["--not"])):
+        given, words = example(test + ".litmus"), ["witness", *options, "-"]
+        right = run(words, given)
+        tell(f"a run of {test} that is sought", right[0] == 0, right)
+        refused_allocations(library, f"a run of {test} that is sought, {options}", words, given, right, lawful)
+    given, right = example("SB.litmus"), (1, b"refused fences 1 NoSuchGap 0:2\n")
+    refused_allocations(library, "a fence at no gap", ["witness", "--fences", "0:2", "-"], given, right, lawful)
+
+
+PLACED_LAWFULLY = lawful_lines("costs 5 OutOfMemory", "place 5 OutOfMemory", "file 2 Write")
+
+
+def placements_refused(library, folder):
+    """Placements, with costs too, and the reasons of an answer."""
+    certificate = os.path.join(folder, "certificate")
+    for test, options in (("SB", []), ("n6", []), ("n6", ["--observed"]), ("SB", ["--condition"]), ("SB", ["--progress"])):
+        given = example(test + ".litmus")
+        right = run(["place", *options, "-"], given)
+        tell(f"the placement of {test}", right[0] == 0, right)
+        words = ["place", *options, "--certificate", certificate, "-"]
+        refused_allocations(library, f"the placement of {test}", words, given, right, PLACED_LAWFULLY, certified=certificate)
+        for workers in () if options else (2, 8):
+            refused_to_threads(library, folder, test, workers, right, PLACED_LAWFULLY)
+    for file, costs, line in (
+        ("../../examples/n6.litmus", "litmus/n6.costs", b"answer cost 1 set 0:2\n"),
+        ("canonical/jump-over-a-fence.litmus", "litmus/jump-over-a-fence.costs", b"answer cost 2 set 0:3 1:1\n"),
+    ):
+        given, costs = bytes_of(in_data(file)), in_data(costs)
+        right = run(["place", "--costs", costs, "-"], given)
+        tell(f"the placement of {file} with costs", right[0] == 0 and right[1].startswith(line), right)
+        words = ["place", "--costs", costs, "--certificate", certificate, "-"]
+        refused_allocations(library, f"the placement of {file} with costs", words, given, right, PLACED_LAWFULLY, certified=certificate, costs=[costs])
+    for test, options in (("n6", []), ("R", ["--condition"]), ("SB", ["--progress"])):
+        given, words = example(test + ".litmus"), ["why", *options, "-"]
+        right = run(words, given)
+        tell(f"the reasons of {test}", right[0] == 0, right)
+        refused_allocations(library, f"the reasons of {test}", words, given, right, PLACED_LAWFULLY)
+
+
+def certificates_refused(library, folder):
+    """Certificates that are accepted, and one that is refused after its costs are read."""
+    lawful = lawful_lines("certificate 8 OutOfMemory", "costs 5 OutOfMemory", "check 9 OutOfMemory")
+    for test, kind, line in (
+        ("SB", "", b"accepted cost 2 set 0:1 1:1\n"), ("nothing", "", b"accepted cost 0 set\n"),
+        ("n6-observed", "", b"accepted observed cost 0 set\n"), ("Two-looks", "-condition", b"accepted condition cost 2 set 0:1 1:1\n"),
+    ):
+        given = example(test + ".litmus") + example(f"{test}{kind}.cert")
+        refused_allocations(library, f"the certificate of {test}{kind}", [], given, (0, line), lawful, FENCECHECK)
+    costs = os.path.join(folder, "costs")
+    write(costs, b"0:1 5\n1:1 2\n")
+    words = [os.path.join(EXAMPLES, file) for file in ("SB.litmus", "SB.cert")]
+    right = (1, b"refused check 2 Cost\n")
+    refused_allocations(library, "files with costs", [*words, costs], b"", right, lawful, FENCECHECK)
+
+
+def pattern(text):
+    """What a text of `refused_calls.tsv` stands for."""
+    def of_line(line):
+        if line == "*":
+            return REFUSED
+        told = re.escape(without_front(line, "?")).replace(r"\#", "[0-9]+")
+        return rf"(?:{told}|(?:run )?{REFUSED})" if line.startswith("?") else told
+
+    return "".join(of_line(line) + "\n" for line in text.split("\\n")[:-1])
+
+
+def refused_script(library, name, given, texts, told):
+    """A call or a script of calls with each allocation refused in turn; some refusal leads to the line that is named."""
+    right, *others = map(pattern, texts)
+    lawful, found_told = "|".join((right, *others, REFUSED + "\n")), False
+    for nth, (status, text), met in failing_in_turn(library, [], given, TEST_CALLS):
+        text = text.decode()
+        is_lawful = re.fullmatch(lawful, text) if status == 0 else text == ""
+        tell(f"{name}, allocation {nth} refused", is_lawful if met else status == 0 and re.fullmatch(right, text), (status, text))
+        found_told = found_told or told in text.split("\n")
+    tell(f"{name}: a refusal leads to {told}", found_told)
+
+
+def scripts_refused(library):
+    for call, file, told, *texts in lines("refused_calls.tsv"):
+        given = call.encode() + b"\n" + bytes_of(in_data(file))
+        refused_script(library, f"{call} of {file}", given, texts, told)
+
+
+def texts_refused(library):
+    """Texts that are read and written by one call."""
+    for call, file in (
+        ("read", "../../examples/SB.litmus"), ("read", "../../examples/n6.litmus"),
+        ("read", "litmus/jump-over-the-load.litmus"), ("read", "canonical/jump-over-a-fence.litmus"),
+        ("read-fenced", "canonical/end-of-a-jump.fenced"), ("read-fenced", "canonical/jump-over-a-fence.fenced"),
+        ("canonical 0 1", "../../examples/SB.litmus"), ("canonical 0", "../../examples/n6.litmus"),
+        ("canonical 2 3", "litmus/jump-over-the-load.litmus"), ("canonical 2 3", "canonical/jump-over-a-fence.litmus"),
+        ("certificate", "../../examples/SB.cert"), ("certificate", "../../examples/n6-observed.cert"),
+    ):
+        text = bytes_of(in_data(file))
+        right = called(call, text).decode()
+        tell(f"{call} of {file}", right and not right.startswith("refused "), right)
+        kind = "certificate" if call == "certificate" else "litmus"
+        refused_script(library, f"{call} of {file}", call.encode() + b"\n" + text, [right.replace("\n", "\\n")], f"refused {kind} OutOfMemory")
+    refused_script(library, "a run text", b"run\ne0 e1 f255 f0", ["[Exec(0), Exec(1), Flush(255), Flush(0)]\\ne0 e1 f255 f0\\n"], "refused run OutOfMemory")
+
+
+class Memory(PreloadedCases):
+    source = "fail_nth.c"
+
+    def test_replays(self):
+        """Replays, their tables, lists of outcomes, and runs that are sought."""
+        tell(f"{self.source} is built", self.library)
+        replays_refused(self.library)
+
+    def test_parts(self):
+        """A search that is cut into parts, by three workers."""
+        parts_refused(self.library)
+
+    def test_placements(self):
+        """Placements by one worker and by several, and reasons."""
+        placements_refused(self.library, self.folder)
+
+    def test_certificates(self):
+        """Certificates, and their costs."""
+        certificates_refused(self.library, self.folder)
+
+    def test_scripts(self):
+        """The scripts of `refused_calls.tsv`."""
+        scripts_refused(self.library)
+
+    def test_texts(self):
+        """Texts that are read and written by one call."""
+        texts_refused(self.library)

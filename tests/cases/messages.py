@@ -1,0 +1,78 @@
+"""Messages: what the programs say on standard error, nothing with an answer, and one line for people after each line of a refusal."""
+import os
+import subprocess
+import tempfile
+
+from harness import EXAMPLES, LIMIT, PROGRAMS, Cases, example, lines, same, tell, text_of, write
+
+FILES = ("SB.litmus", "SB.cert", "n6.litmus")
+ROW = "MOV [x],$1 |  ;\n"
+
+
+def outputs(words, folder, given, error=subprocess.PIPE):
+    """The status of a call in a folder, what it prints, and what it says on standard error."""
+    name, *words = words if words[:1] == ["fencecheck"] else ["fencer", *words]
+    ran = subprocess.run([PROGRAMS[name], *words], cwd=folder, input=given, stdout=subprocess.PIPE, stderr=error, timeout=120)
+    return ran.returncode, ran.stdout, ran.stderr
+
+
+def changed(text, old, new):
+    """A text with one thing in place of another, which stands in it; all of it where nothing stood there."""
+    assert old in text
+    return text.replace(old, new, 1) if old else new
+
+
+def refused(words, files, line):
+    """A call says this line, and prints the same where nothing can be written to standard error."""
+    with tempfile.TemporaryDirectory() as folder:
+        for name, text in files.items():
+            write(os.path.join(folder, name), text)
+        given = files["SB.litmus"] + (b"" if len(words) > 1 else files["SB.cert"])
+        status, printed, said = outputs(words, folder, given)
+        name = f"the message of {' '.join(words)}: {line[:80]}"
+        begun = b'{"format":' if "--json" in words else b"refused "
+        right = status == 1 and printed.startswith(begun) and printed.count(b"\n") == 1
+        tell(name, right and said == line.encode() + b"\n", f"{said!r} with {status} {printed!r}", repr(line))
+        with open("/dev/full", "wb") as full:
+            without = outputs(words, folder, given, full)[:2]
+        same(f"{name}, which can't be written", without, (status, printed))
+
+
+def example_texts():
+    """The files that stand in the folder of a call."""
+    return {name: example(name) for name in FILES}
+
+
+class Messages(Cases):
+    def test_table(self):
+        """The refusals of `messages.tsv`."""
+        for words, name, old, new, line in lines("messages.tsv"):
+            files = example_texts()
+            if name:
+                files[name] = changed(files.get(name, b""), text_of(old), text_of(new))
+            refused(words.split(" "), files, text_of(line).decode())
+
+    def test_limits(self):
+        """Texts that are past a limit, and words that are too long to be shown."""
+        files = example_texts()
+        text = b"X86 t\n{ }\nP0 | P1 ;\n%bexists (true)\n"
+        for rows, line in (
+            (ROW * 33, "SB.litmus:3: there are more than 32 accesses to memory"),
+            ("MFENCE |  ;\n" * 65, "SB.litmus:3: thread 0 has too many instructions"),
+            ("A" * 41 + " |  ;\n", f"SB.litmus:4:1: {'A' * 40}.. is no instruction that is read; these are MOV, XCHG, MFENCE, CMP, JE, JNE and JMP"),
+        ):
+            refused(["outcomes", "SB.litmus"], {**files, "SB.litmus": text % rows.encode()}, line)
+        threads = b"X86 t\n{ }\nP0|P1|P2|P3|P4|P5|P6|P7;\n" + b"MFENCE|MFENCE|MFENCE|MFENCE|MFENCE|MFENCE|MFENCE|MFENCE;\n" * 18 + b"exists (true)\n"
+        refused(["outcomes", "SB.litmus"], {**files, "SB.litmus": threads}, "SB.litmus:3: there are more than 128 gaps")
+        long = {**files, "SB.litmus": files["SB.litmus"] + b" " * LIMIT}
+        for words, name in ((["outcomes", "SB.litmus"], "SB.litmus"), (["outcomes", "-"], "<stdin>"), (["fencecheck", "-", "SB.cert"], "<stdin>")):
+            refused(words, long, f"{name}: has more than {LIMIT} bytes, the most that are read")
+        refused(["fencecheck"], long, "<stdin>: has a litmus text or a certificate that is too long (docs/formats.md)")
+        deep = files["SB.cert"].replace(b"tree V 0 2", b"tree " + b"V 0 1 " * 600 + b"V 0 2")
+        line = f"SB.cert:8:{6 + 6 * 600}: V begins a node that is deeper than its tree may be"
+        refused(["fencecheck", "SB.litmus", "SB.cert"], {**files, "SB.cert": deep}, line)
+
+    def test_answers(self):
+        """An answer, a bad command line and a call for help say nothing."""
+        for words in (["outcomes", "SB.litmus"], ["place", "SB.litmus"], ["--help"], ["place"], ["fencecheck", "SB.litmus", "SB.cert"], ["fencecheck", "SB.litmus"]):
+            same(f"nothing is said of {' '.join(words)}", outputs(words, EXAMPLES, b"")[2], b"")

@@ -1,0 +1,90 @@
+"""Parts: searches that are long enough to be cut into parts. Whatever the number of workers, the same list with the same runs, and the same answer.
+
+The outcomes are those that `judges/machine.py` finds by walking the machine's states, and each run leaves the outcome that is printed before it.
+"""
+import os
+import re
+import tempfile
+
+from cases.outcomes import listed_runs
+from cases.progress import read_program, reads
+from harness import FENCECHECK, MODELS, Cases, run, same, tell, write
+from judges import machine
+from judges.texts import test_of
+
+WORKERS = (1, 2, 3, 32)
+TWO_THREADS = """X86 two-threads
+{ }
+ P0          | P1          ;
+ MOV [x],$1  | MOV [y],$1  ;
+ MOV EAX,[y] | MOV EAX,[x] ;
+ MOV EBX,[x] | MOV EBX,[y] ;
+ MOV ECX,[y] | MOV ECX,[x] ;
+ MOV [x],$2  | MOV [y],$2  ;
+ MOV EDX,[y] | MOV EDX,[x] ;
+ MOV ESI,[x] | MOV ESI,[y] ;
+exists (0:EAX=0 /\\ 1:EAX=0)
+"""
+EXCHANGES = """X86 exchanges
+{ }
+ P0           | P1           | P2          ;
+ MOV EAX,$1   | MOV EAX,$2   | MOV [x],$3  ;
+ XCHG [x],EAX | XCHG [x],EAX | MOV EAX,[y] ;
+ MOV [y],$1   | MOV EBX,[y]  | MOV EBX,[x] ;
+ MOV EBX,[x]  | MOV ECX,[x]  | MOV ECX,[y] ;
+ MOV ECX,[y]  |              |             ;
+exists (0:EAX=2 /\\ 1:EAX=1)
+"""
+CUT = 10_000
+PROGRAMS = (("reads", reads(5, 5, 5)), ("two threads", TWO_THREADS), ("exchanges", EXCHANGES))
+
+
+def listed(name, source):
+    """Lists with their runs, by several numbers of workers."""
+    test = test_of(source)
+    for model in MODELS:
+        words = ["outcomes", "--runs", "--model", model, "-"]
+        alone = run(words, source)
+        for workers in WORKERS:
+            found = run([*words, "--workers", str(workers)], source)
+            tell(f"{model} outcomes of {name} with {workers} workers", found == alone and alone[0] == 0, found, alone)
+        walked = [test.line(outcome) for outcome in machine.outcomes(test, model, ())]
+        same(f"{model} outcomes of {name} by the machine", [line + "\n" for line in alone[1].decode().splitlines() if line.startswith("outcome:")], walked)
+        listed_runs(test, name, source, model, ["--workers", "3"])
+
+
+def placed(name, litmus, folder):
+    """Answers, and what the checker says of their certificates."""
+    certificate = os.path.join(folder, "certificate")
+    for options in ([], ["--observed"]):
+        alone = run(["place", *options, litmus])
+        accepted = re.sub(rb"^answer ", b"accepted ", alone[1].split(b"\n")[0]) + b"\n"
+        for workers in WORKERS:
+            what = f"the answer for {name} {options} with {workers} workers"
+            found = run(["place", *options, "--workers", str(workers), "--certificate", certificate, litmus])
+            tell(what, found == alone and alone[0] == 0, found, alone)
+            same(f"{what}: its certificate", run([litmus, certificate], program=FENCECHECK), (0, accepted))
+
+
+class Parts(Cases):
+    def test_cut(self):
+        """The programs are long enough to be cut into parts."""
+        with tempfile.TemporaryDirectory() as folder:
+            litmus = os.path.join(folder, "made.litmus")
+            for name, text in PROGRAMS:
+                write(litmus, text.encode())
+                count = read_program(litmus).combinations()
+                tell(f"{name} is cut into parts", count >= CUT, count, f"at least {CUT} combinations")
+
+    def test_lists(self):
+        """Lists of outcomes with their runs, by 1, 2, 3 and 32 workers, and by the machine."""
+        for name, text in PROGRAMS:
+            listed(name, text.encode())
+
+    def test_answers(self):
+        """Answers by 1, 2, 3 and 32 workers, and their certificates."""
+        for name, text in PROGRAMS:
+            with tempfile.TemporaryDirectory() as folder:
+                litmus = os.path.join(folder, "made.litmus")
+                write(litmus, text.encode())
+                placed(name, litmus, folder)

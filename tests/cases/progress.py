@@ -1,0 +1,281 @@
+"""Progress: what is reported of a long search on standard error, with `--progress` or on a terminal, and that nothing else changes by it.
+
+The combinations of traces are worked out here alone, from the program that a document of `fencer outcomes --json` has.
+"""
+import functools
+import glob
+import itertools
+import json
+import os
+import pty
+import re
+import subprocess
+import tempfile
+
+from harness import EXAMPLES, FENCER, Cases, same, tell
+
+REGISTERS = ("EAX", "EBX", "ECX", "EDX", "ESI", "EDI")
+MOST_TRACES = 10_000_000
+MOST_CERTIFIED = 100_000_000
+LONG = 1_000_000
+WARNING = "fencer: warning: with more than 100000000 combinations the search may end without an answer or a certificate"
+DONE = re.compile(r"fencer: (\d+) % of the combinations are done; outcomes found: (\d+)")
+ASKED = re.compile(r"fencer: sets asked: (\d+)(?:; the answer costs at least (\d+))?")
+# threads whose traces have unlike lengths, so that a value of one read leaves more combinations than another
+JUMPS = """X86 jumps
+{ }
+ P0          | P1          | P2          ;
+ MOV [x],$1  | MOV [y],$1  | MOV [x],$2  ;
+ MOV EAX,[y] | MOV EAX,[x] | MOV EAX,[y] ;
+ CMP EAX,$1  | CMP EAX,$2  | MOV EBX,[x] ;
+ JE end      | JE end      | MOV [y],$2  ;
+ MOV EBX,[x] | MOV EBX,[y] | MOV ECX,[x] ;
+ MOV ECX,[y] | MOV ECX,[x] |             ;
+ end:        | end:        |             ;
+exists (x=1)
+"""
+FILES = [os.path.join(EXAMPLES, name + ".litmus") for name in ("SB", "MP", "R", "2+2W", "IRIW", "n6", "nothing")]
+SEARCHED = (
+    ["outcomes"], ["outcomes", "--observed", "--check", "--json"], ["outcomes", "--workers", "4"],
+    ["place"], ["place", "--workers", "4"], ["place", "--json", "--check"], ["why"],
+)
+SHARED = (
+    ["outcomes"], ["outcomes", "--observed"], ["outcomes", "--model", "sequential"], ["outcomes", "--workers", "3"],
+    ["place", "--observed"], ["place", "--observed", "--workers", "3"], ["place", "--condition"], ["why", "--condition"],
+)
+
+
+class Program:
+    """Instructions as (name, first operand, second operand), first values and labels, of a document's program."""
+
+    def __init__(self, document):
+        self.locations, self.memory = document["locations"], document["initial"]["memory"]
+        self.code = [[split(cell["text"]) for cell in thread["instructions"]] for thread in document["threads"]]
+        self.labels = [labels_of(thread) for thread in document["threads"]]
+        self.registers = [registers_of(names, first) for names, first in zip(document["registers"], document["initial"]["registers"])]
+
+    def values(self, location):
+        """What a location may hold."""
+        every = [instruction for code in self.code for instruction in code]
+        stored = {int(second[1:]) for name, first, second in every if name == "MOV" and first == location and second[0] == "$"}
+        values = stored | {self.memory[self.locations.index(location[1:-1])]}
+        if any(first == location and second in REGISTERS for name, first, second in every if name in ("MOV", "XCHG")):
+            numbers = {int(word[1:]) for _, *words in every for word in words if word[:1] == "$"}
+            values |= numbers | {0} | set(self.memory) | {value for first in self.registers for value in first}
+        return values
+
+    def traces(self, t):
+        """How many traces thread t has."""
+        code = self.code[t]
+
+        @functools.lru_cache(maxsize=None)
+        def count(place, registers, flag):
+            if place == len(code):
+                return 1
+            name, first, second = code[place]
+
+            def value(word):
+                return registers[REGISTERS.index(word)] if word in REGISTERS else int(word[1:])
+
+            def loaded(register, number):
+                index = REGISTERS.index(register)
+                return (*registers[:index], number, *registers[index + 1:])
+
+            if name in ("JMP", "JE", "JNE"):
+                taken = {"JMP": True, "JE": flag, "JNE": not flag}[name]
+                return count(self.labels[t][first] if taken else place + 1, registers, flag)
+            if name == "CMP":
+                return count(place + 1, registers, value(first) == value(second))
+            if name == "XCHG" or name == "MOV" and second[0] == "[":
+                register, location = (second, first) if name == "XCHG" else (first, second)
+                return sum(count(place + 1, loaded(register, number), flag) for number in self.values(location))
+            if name == "MOV" and first in REGISTERS:
+                return count(place + 1, loaded(first, value(second)), flag)
+            return count(place + 1, registers, flag)
+
+        return count(0, self.registers[t], False)
+
+    def combinations(self):
+        """How many combinations of traces there are."""
+        product = 1
+        for t in range(len(self.code)):
+            product *= self.traces(t)
+        return product
+
+
+def labels_of(thread):
+    """The place of each label of a thread."""
+    cells = [*thread["instructions"], {"labels": thread["end"]}]
+    return {label: place for place, cell in enumerate(cells) for label in cell["labels"]}
+
+
+def registers_of(names, first):
+    """The first value of each register."""
+    values = dict(zip(names, first))
+    return tuple(values.get(register, 0) for register in REGISTERS)
+
+
+def split(text):
+    """The name and the two operands of an instruction."""
+    name, _, operands = text.partition(" ")
+    return (name, *(operands.split(",") + ["", ""])[:2])
+
+
+def ahead(program):
+    """The lines before a search."""
+    count = program.combinations()
+    return [f"fencer: combinations of traces: {count}", *([WARNING] if count > MOST_CERTIFIED else [])]
+
+
+def shares(said, combinations, outcomes):
+    """Whether the lines at the front that say how many per cent are done, and how many outcomes are found, are right; and the other lines. The per cents
+    ascend, none of them twice, and end at 100; of few combinations only a share that a whole number of them is may be reported. The outcomes grow up to
+    those of the program."""
+    done = list(itertools.takewhile(bool, (DONE.fullmatch(line) for line in said)))
+    shares, found = [int(line[1]) for line in done], [int(line[2]) for line in done]
+    possible = {100 * count // combinations for count in range(1, combinations + 1)} if combinations < 10_000 else set(range(101))
+    right = shares == sorted(set(shares)) and shares[-1:] == [100] and set(shares) <= possible - {0} and found == sorted(found) and found[-1:] == [outcomes]
+    return right, said[len(done):]
+
+
+def ran(words, **more):
+    """The status of a call, what it prints, and the lines on standard error."""
+    call = subprocess.run([FENCER, *words], stdout=subprocess.PIPE, stderr=more.pop("stderr", subprocess.PIPE), timeout=120, **more)
+    return (call.returncode, call.stdout), (call.stderr or b"").decode().splitlines()
+
+
+def count_outcomes(path, *options):
+    """How many outcomes a program has."""
+    return int(ran(["outcomes", *options, path])[0][1].split()[1])
+
+
+def searched_outcomes(path, command):
+    """How many outcomes the search of a command finds: those of the machine that it is asked about, or the sequential ones, as far as they are shown. Of a
+    condition's truth there are as many as runs show, which the observation says."""
+    if command[0] == "outcomes":
+        return count_outcomes(path, *(option for option in command[1:] if option not in ("--check", "--json")))
+    if "--condition" in command:
+        observation = re.search(rb"observation (\w+)", ran(["outcomes", "--model", "sequential", path])[0][1])[1]
+        return 2 if observation == b"Sometimes" else 1
+    return count_outcomes(path, "--model", "sequential", *(option for option in command if option == "--observed"))
+
+
+def read_program(path):
+    return Program(json.loads(ran(["outcomes", "--json", path])[0][1]))
+
+
+def check_search(said, sequential, cost, bounded):
+    """Whether the lines of a search are right, after those before it."""
+    asked = [ASKED.fullmatch(line) for line in said[1:]]
+    if said[:1] != [f"fencer: sequential outcomes: {sequential}"] or not all(asked):
+        return False
+    bounds = [int(line[2]) for line in asked if line[2]]
+    doubled = [int(line[1]) for line in asked] == [2**i for i in range(len(asked))]
+    return doubled and bounds == sorted(bounds) and len(bounds) == (len(asked) if bounded else 0) and all(bound <= cost for bound in bounds)
+
+
+def searched(path):
+    """What is reported of one file, by each command."""
+    name, program = os.path.basename(path), read_program(path)
+    lines = ahead(program)
+    sequential = count_outcomes(path, "--model", "sequential")
+    for command in SEARCHED:
+        plain, silent = ran([*command, path])
+        found, said = ran([*command, "--progress", path])
+        what = f"progress of {' '.join(command)} {name}"
+        same(f"{what}: the answer is the same", (found, silent), (plain, []))
+        same(f"{what}: what lies ahead", said[:len(lines)], lines)
+        right, rest = shares(said[len(lines):], program.combinations(), searched_outcomes(path, command))
+        tell(f"{what}: the share that is done, and the outcomes found", right, said)
+        if command[0] == "outcomes":
+            same(f"{what}: nothing else", rest, [])
+        elif "--json" not in command:
+            cost = int(re.match(rb"answer cost (\d+)", plain[1])[1])
+            tell(f"{what}: the search", check_search(rest, sequential, cost, "4" not in command), rest)
+
+
+def on_terminal(words):
+    """What a call prints, and says on a terminal."""
+    ours, theirs = pty.openpty()
+    with subprocess.Popen([FENCER, *words], stdout=subprocess.PIPE, stderr=theirs) as call:
+        os.close(theirs)
+        printed = call.stdout.read()
+    said = b""
+    while True:
+        try:
+            part = os.read(ours, 4096)
+        except OSError:
+            part = b""
+        if not part:
+            break
+        said += part
+    os.close(ours)
+    return printed, said.decode().splitlines()
+
+
+def reads(*threads):
+    """A program whose threads read a location with two values so often."""
+    cells = [["MOV [x],$1"] * (t == 0) + ["MOV EAX,[x]"] * count for t, count in enumerate(threads)]
+    rows = "".join(" | ".join(cell[i] if i < len(cell) else "" for cell in cells) + " ;\n" for i in range(max(map(len, cells))))
+    return "X86 reads\n{ }\n" + " | ".join(f"P{t}" for t in range(len(threads))) + " ;\n" + rows + "exists (x=1)\n"
+
+
+class Progress(Cases):
+    def test_searches(self):
+        """What is reported of each command's search, in examples and in algorithms of the atlas."""
+        for path in [*FILES, *sorted(glob.glob(os.path.join(EXAMPLES, "atlas", "Pet*.litmus")))]:
+            searched(path)
+
+    def test_shares(self):
+        """The share that is done where some values settle the outcome long before all reads have theirs."""
+        for name, text in (("jumps", JUMPS), ("reads", reads(5, 5, 5)), ("one thread", reads(12))):
+            with tempfile.TemporaryDirectory() as folder:
+                path = os.path.join(folder, "made.litmus")
+                with open(path, "w", encoding="ascii") as file:
+                    file.write(text)
+                program = read_program(path)
+                lines = ahead(program)
+                for command in SHARED:
+                    plain, silent = ran([*command, path])
+                    found, said = ran([*command, "--progress", path])
+                    right, rest = shares(said[len(lines):], program.combinations(), searched_outcomes(path, command))
+                    what = f"the share of {name} that is done by {' '.join(command)}"
+                    tell(what, (found, silent, said[:len(lines)]) == (plain, [], lines) and right and not any(DONE.fullmatch(line) for line in rest), said)
+
+    def test_lost(self):
+        """Standard error that is closed, or that takes nothing."""
+        path = FILES[0]
+        for command in ("outcomes", "place", "why"):
+            plain = ran([command, path])[0]
+            closed = ran([command, "--progress", path], stderr=None, preexec_fn=lambda: os.close(2))[0]
+            with open("/dev/full", "wb") as full:
+                unwritten = ran([command, "--progress", path], stderr=full)[0]
+            tell(f"progress of {command} that can't be written", plain == closed == unwritten, (closed, unwritten))
+
+    def test_terminals(self):
+        """On a terminal long searches are reported, and short ones with `--progress` alone."""
+        short = FILES[0]
+        same("a short search says nothing on a terminal", on_terminal(["place", short])[1], [])
+        tell("a short search is reported on a terminal where that is asked for", on_terminal(["place", "--progress", short])[1][:1] == ahead(read_program(short)))
+        with tempfile.TemporaryDirectory() as folder:
+            path = os.path.join(folder, "long.litmus")
+            with open(path, "w", encoding="ascii") as file:
+                file.write(reads(10, 10))
+            lines = ahead(read_program(path))
+            printed, said = on_terminal(["outcomes", path])
+            right, rest = shares(said[len(lines):], 2**20, count_outcomes(path))
+            tell("a long search is reported on a terminal", said[:len(lines)] == lines and right and rest == [] and printed == ran(["outcomes", path])[0][1], said)
+
+    def test_endless(self):
+        """Threads of more traces than are counted: what lies ahead is said before the search, which is ended here."""
+        many = MOST_TRACES + 1
+        for threads, count in (((24,), many), ((24, 3), 8 * many), ((13, 14), None)):
+            with tempfile.TemporaryDirectory() as folder:
+                path = os.path.join(folder, "many.litmus")
+                with open(path, "w", encoding="ascii") as file:
+                    file.write(reads(*threads))
+                wanted = [f"fencer: combinations of traces: {count} or more" if count else f"fencer: combinations of traces: {2 ** sum(threads)}", WARNING]
+                with subprocess.Popen([FENCER, "outcomes", "--progress", path], stdout=subprocess.DEVNULL, stderr=subprocess.PIPE) as call:
+                    said = [call.stderr.readline().decode().rstrip("\n") for _ in wanted]
+                    call.kill()
+                same(f"what lies ahead of threads of {threads} reads", said, wanted)
