@@ -1,4 +1,4 @@
-"""Public calls of the libraries, in small cases that `test_calls` makes."""
+"""Calls: public calls of the libraries, in small cases that `test_calls` makes."""
 from harness import Cases, expect_call, lines, text_of
 
 
