@@ -24,15 +24,15 @@ use Rattle.tso_machine.specs.Outcomes.{IsShownRun, IsForeignRun}
 use Rattle.fence_laws.proofs.GapsAvoided.{fenced_runs_avoid}
 use Rattle.cert_forest.specs.Trees.{Cover}
 use Rattle.tree_laws.proofs.ListedOutcomes.{fenced_tree_serves}
-use Rattle.cover_solver.specs.Covers.{IsWholeCover}
+use Rattle.sketch_covers.specs.Covers.{IsWholeCover}
 use Rattle.cover_solver.specs.Facts.{IsSequentialTable, IsListOf, IsServing}
-use Rattle.cover_solver.specs.Found.{AreRunsOf, place_in, ArePlacesOf}
-use Rattle.cover_solver.proofs.OtherNumbers.{renumbered}
+use Rattle.sketch_covers.specs.OutcomeNumbers.{AreRunsOf, place_in, ArePlacesOf}
+use Rattle.partial_covers.proofs.OtherNumbers.{renumbered}
 use Rattle.tso_program.specs.Ordered.{outcome_cmp}
-use Rattle.cover_solver.specs.Ordered.{BelongsAt}
+use Rattle.sketch_covers.specs.Ascending.{BelongsAt}
 use Rattle.tree_laws.proofs.OneList.{one_list}
-use Rattle.cover_solver.proofs.Inserted.{not_there}
-use Rattle.cover_solver.proofs.Renumbering.{whole_renumbered}
+use Rattle.sketch_covers.proofs.Inserted.{not_there}
+use Rattle.partial_covers.proofs.RenumberedTrees.{whole_renumbered}
 use Rattle.tso_program.proofs.OutcomesOrdered.{one_way}
 use Rattle.std.specs.declared.cmp.Ordering.TheVariants.{Less}
 

@@ -2,7 +2,6 @@
 use Rattle.std.proofs.Common.{◌≡◌, ◌↔◌, ℕ, Bool, List, Option, Some, None, Contains, slice_get, sym, ap, subst, ◌∙◌}
 use Rattle.std.specs.Prelude.{MatchOption}
 use Rattle.std.specs.Global.{Vec}
-use Rattle.std.proofs.lemmas.Option.{same_Some}
 use Rattle.tso_program.specs.declared.atom.Atom.{Atom}
 use Rattle.tso_program.specs.declared.listing.Listing.{Listing}
 use Rattle.tso_program.specs.declared.outcome.Outcome.{Outcome}
@@ -14,8 +13,7 @@ use Rattle.tso_program.proofs.ReadOff.{told_apart}
 use Rattle.tso_machine.specs.declared.label.Label.{Label}
 use Rattle.tso_machine.specs.Machine.{Machine}
 use Rattle.tso_machine.specs.Outcomes.{IsShownRun, AllowsShown}
-use Rattle.cover_solver.specs.Found.{AreRunsOf}
-use Rattle.cover_solver.proofs.Listing.{zip_at_right}
+use Rattle.sketch_covers.specs.OutcomeNumbers.{AreRunsOf}
 use Rattle.cover_solver.specs.Witnesses.{IsWitness, HasNoWitness}
 
 -- a run that shows a truth
@@ -27,7 +25,7 @@ pub none_shows : (p : Listing) (machine : Machine) (f : Tree Atom) (b : Bool) (o
     → (Contains outcomes (told b) → ⊥) → HasNoWitness p machine f b
 none_shows p machine f b outcomes exact none labels (o, is_run, e) = none ((exact (told b)).1 (labels, (o, is_run, ap told (sym e))))
 
--- what is found of a list that has exactly what the machine shows, and a run of each
+-- what a list says that has exactly what the machine shows, and a run of each
 pub found_or_none : (p : Listing) (machine : Machine) (f g : Tree Atom) (b : Bool) (o : Outcome) (runs : List (List Label)) (outcomes : List Outcome) → g ≡ f → o ≡ told b
     → ((x : Outcome) → Contains outcomes x ↔ AllowsShown (asked p (Truth g)) machine x) → AreRunsOf (asked p (Truth g)) machine runs outcomes → (found : Option (Vec Label))
     → MatchOption found (Contains outcomes o → ⊥) (λ labels. (q : Question) (m : Machine) → AreRunsOf q m runs outcomes → IsShownRun q m labels.items o)
@@ -37,10 +35,3 @@ found_or_none p machine f g b o runs outcomes same is exact are None none =
 found_or_none p machine f g b o runs outcomes same is exact are (Some labels) run =
     subst (λ (h : Tree Atom). IsWitness p machine h b labels.items) same
     (shows_so p machine g b labels.items (subst (IsShownRun (asked p (Truth g)) machine labels.items) is (run (asked p (Truth g)) machine are)))
-
--- the run beside an outcome
-pub run_at : (q : Question) (machine : Machine) (runs : List (List Label)) (outcomes : List Outcome) (n : ℕ) (o : Outcome) (labels : List Label) → AreRunsOf q machine runs outcomes → slice_get outcomes n ≡ Some o → slice_get runs n ≡ Some labels →
-    IsShownRun q machine labels o
-run_at q machine runs outcomes n o labels are at there =
-    let (run, found, is) = zip_at_right (IsShownRun q machine) runs outcomes n o are at in
-    subst (λ (ls : List Label). IsShownRun q machine ls o) (same_Some run labels (sym found ∙ there)) is

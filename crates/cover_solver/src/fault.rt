@@ -2,10 +2,7 @@
 ghost use Rattle.std.specs.Prelude.{◌≡◌};
 ghost use Rattle.cover_solver.specs.declared.fault.SolveFault.TheVariants as solve;
 ghost use Rattle.cover_solver.specs.declared.fault.ForeignFault.TheVariants as foreign;
-ghost use Rattle.cover_solver.specs.declared.fault.Stop.TheVariants as stop;
 
-use exec_axioms::Sketch;
-use run_maker::MadeRun;
 use std::alloc::{AllocError, AllocFailed};
 use thiserror::Error;
 use tso_machine::ReplayFault;
@@ -62,29 +59,5 @@ impl<T: Drop> From<AllocFailed<T>> for ForeignFault {
 
     fn from(_error: AllocFailed<T>) -> ForeignFault {
         ForeignFault::OutOfMemory
-    }
-}
-
-/// Why a search for a tree ends without one.
-#[derive(Drop)]
-pub(crate) enum Stop {
-    /// A run has an outcome that is not in the list. The sketch is complete, and the run is one of it.
-    New { run: MadeRun, sketch: Box<Sketch> },
-    OutOfMemory,
-}
-
-impl From<AllocError> for Stop {
-    ghost from_gives = { λ _ why. why ≡ stop.OutOfMemory };
-
-    fn from(_error: AllocError) -> Stop {
-        Stop::OutOfMemory
-    }
-}
-
-impl<T: Drop> From<AllocFailed<T>> for Stop {
-    ghost from_gives = { λ _ why. why ≡ stop.OutOfMemory };
-
-    fn from(_error: AllocFailed<T>) -> Stop {
-        Stop::OutOfMemory
     }
 }

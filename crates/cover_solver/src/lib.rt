@@ -1,57 +1,31 @@
-//! The solver: it lists the outcomes of a program and finds, for a set of gaps, a run that leaves an
-//! outcome which no sequential run has, or a tree that shows that the set serves.
+//! The solver: a program's outcomes, and whether a set of gaps serves.
 //!
-//! It goes through the candidate executions of a mode by choices in a sketch. A choice closes where a
-//! known outcome is the only one that is left, or where a cycle leaves none.
+//! Where a set serves there is a tree that shows it; otherwise a run that leaves an outcome which no
+//! sequential run has. It searches once, with no gap fenced. The partial cover of that search and the runs of
+//! its holes answer all later questions.
+//!
+//! Begin with `sequential_watched`, `outcomes_with_runs` and `Solver::ask`. Free to change: which runs of holes
+//! are known, and which of them answers (`hole_runs.rt`, `solver.rt`). Relied on: a table has exactly the
+//! sequential outcomes and a valid tree over them, a run that answers is foreign and passes no gap of the
+//! set, and a set that serves has a valid tree.
 #![tactic(auto)]
 
-mod accesses;
-mod all_outcomes;
-mod branch;
-mod choices_left;
-mod cover;
-mod cutting;
 mod fault;
-mod filled;
-mod foreign;
-mod found;
-mod in_sequence;
-mod joining;
-mod kept_runs;
-mod kept_trace;
-mod kept_tree;
-mod kept_values;
-mod kept_whole;
-mod leaf;
-mod list;
-mod listed;
+mod foreign_run;
+mod hole_runs;
 mod oracle;
-mod ordered;
-mod part;
-mod plan;
-mod preference;
-mod reads_writes;
-mod renumber;
-mod run;
-mod same_machine;
-mod searching;
+mod outcome_list;
 mod served;
-mod settled;
-mod sketch_in;
 mod solver;
 mod table;
-mod tally;
-mod trace_size;
-mod traces;
-mod watch;
 mod witnesses;
 
 pub use fault::{ForeignFault, SolveFault};
-pub use foreign::ForeignRun;
-pub use list::{OutcomeList, outcomes, outcomes_with_runs};
+pub use foreign_run::ForeignRun;
 pub use oracle::{Oracle, Verdict};
+pub use outcome_list::{OutcomeList, outcomes, outcomes_with_runs};
+pub use partial_covers::Watch;
 pub use served::Served;
 pub use solver::Solver;
 pub use table::{SeqTable, sequential, sequential_watched};
-pub use watch::Watch;
 pub use witnesses::witness;

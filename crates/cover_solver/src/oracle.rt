@@ -5,7 +5,7 @@ ghost use Rattle.tso_machine.specs.Outcomes.{AreGapsOf};
 ghost use Rattle.cover_solver.specs.Verdicts.{IsVerdictOf};
 
 use crate::fault::SolveFault;
-use crate::foreign::ForeignRun;
+use crate::foreign_run::ForeignRun;
 use crate::served::Served;
 use gap_sets::GapSet;
 

@@ -4,16 +4,13 @@ ghost use Rattle.tso_machine.specs.Modes.{machine_of_mode};
 ghost use Rattle.tso_machine.specs.Machine.{Machine};
 ghost use Rattle.tso_machine.specs.Outcomes.{IsShownRun};
 ghost use Rattle.tso_program.specs.Shown.{Question};
-ghost use Rattle.cover_solver.specs.Found.{IsInOrder, AreRunsOf};
+ghost use Rattle.sketch_covers.specs.OutcomeNumbers.{IsInOrder, AreRunsOf};
 ghost use Rattle.cover_solver.specs.Witnesses.{IsWitness, HasNoWitness};
 
-use crate::all_outcomes::all_outcomes;
 use crate::fault::SolveFault;
-use crate::found::Found;
-use crate::ordered::place_of;
-use crate::searching::begun_alone;
-use crate::watch::Unwatched;
 use exec_axioms::Mode;
+use partial_covers::{Unwatched, all_outcomes, start_alone};
+use sketch_covers::{OutcomeIndex, place_of};
 use std::alloc::{AllocError, Global};
 use tso_machine::Label;
 use tso_program::{Formula, Outcome, Program, Shown};
@@ -30,14 +27,18 @@ pub fn witness(
     ensures fault { IfErr result (λ fault. fault ≡ SolveFault.OutOfMemory) }
 {
     let shown = Shown::Truth(formula.copy()?);
-    let begun = begun_alone(alloc, program, &shown, &mode)?;
-    let all = all_outcomes(alloc, begun, program, &shown, mode, &Unwatched)?;
+    let start = start_alone(alloc, program, &shown, &mode)?;
+    let all = all_outcomes(alloc, start, program, &shown, mode, &Unwatched)?;
     let told = Outcome::told(alloc, truth)?;
     Ok(run_of(alloc, &all.found, &told)?)
 }
 
 /// The run of an outcome that is found.
-fn run_of(alloc: Global, found: &Found, outcome: &Outcome) -> Result<Option<Vec<Label>>, AllocError>
+fn run_of(
+    alloc: Global,
+    found: &OutcomeIndex,
+    outcome: &Outcome,
+) -> Result<Option<Vec<Label>>, AllocError>
     requires { IsInOrder found.now }
     ensures { IfOk result (λ run. MatchOption run (Contains found.now.outcomes.items outcome.now → ⊥) (λ labels. (q : Question) (machine : Machine) → AreRunsOf q machine found.now.runs found.now.outcomes.items → IsShownRun q machine labels.items outcome.now)) }
 {

@@ -26,7 +26,7 @@ use Rattle.cert_forest.specs.Limits.{IsGapTo, gap_depth}
 use Rattle.tree_laws.specs.GapTrees.{IsValidGap}
 use Rattle.tree_laws.specs.Certificates.{IsRunOutside, IsValidCertificate, AreSequentialRuns}
 use Rattle.cover_solver.specs.Facts.{Table, Foreign, IsSequentialTable, IsListOf, IsServing, IsForeignValue}
-use Rattle.cover_solver.specs.Covers.{IsWholeCover}
+use Rattle.sketch_covers.specs.Covers.{IsWholeCover}
 use Rattle.search_core.specs.Work.{undecided}
 use Rattle.search_core.specs.Records.{Outcome, finished_state, IsOutcome}
 use Rattle.search_core.proofs.Kept.{Facts, facts_of}

@@ -17,8 +17,8 @@ use Rattle.tso_machine.specs.Outcomes.{AllowsShown}
 use Rattle.litmus_reader.specs.declared.litmus.Litmus.{Litmus}
 use Rattle.litmus_reader.specs.Texts.{IsLitmus, IsNoLitmus}
 use Rattle.cover_solver.specs.declared.fault.SolveFault.TheVariants as solve
-use Rattle.cover_solver.specs.Found.{AreRunsOf}
-use Rattle.cover_solver.specs.Ordered.{Ascend}
+use Rattle.sketch_covers.specs.OutcomeNumbers.{AreRunsOf}
+use Rattle.sketch_covers.specs.Ascending.{Ascend}
 use Rattle.litmus_reader.specs.Names.{TextNames}
 use Rattle.litmus_reader.specs.Shown.{shown_as, question_of}
 use Rattle.report.specs.Answers.{labels_line, outcome_line}

@@ -2,11 +2,11 @@ use Rattle.std.proofs.Common.{◌<◌, List, ℕ, map, length, ◌∙◌, ap, ar
 use Rattle.std.specs.Prelude.{◌^◌}
 use Rattle.std.specs.Arc.{arc_value}
 use Rattle.cert_forest.proofs.NodeLaws.{is_tree, same_tree}
-use Rattle.cover_solver.specs.Changed.{renumbered_node}
-use Rattle.cover_solver.specs.Found.{place_in}
-use Rattle.cover_solver.specs.Kept.{items_of, renumbered_item}
-use Rattle.cover_solver.proofs.OtherNumbers.{renumbered}
-use Rattle.cover_solver.proofs.KeptRenumbered.{table_kept, tree_renumbered}
+use Rattle.partial_covers.specs.NodeChanges.{renumbered_node}
+use Rattle.sketch_covers.specs.OutcomeNumbers.{place_in}
+use Rattle.partial_covers.specs.PartialCovers.{items_of, renumbered_item}
+use Rattle.partial_covers.proofs.OtherNumbers.{renumbered}
+use Rattle.partial_covers.proofs.PartialRenumbered.{table_renumbered, tree_renumbered}
 use Rattle.cover_solver.proofs.Tables.{table_of}
 use Rattle.cover_solver.proofs.table.sequential_of.Goals as goal
 
@@ -15,7 +15,7 @@ of_nodes-requires g c =
     let all = c.in_ok-all.all in
     let places = c.in_ok-places.places.items in
     let small = c.in_ok-places.ensures.small in
-    let spelled = tree_renumbered c.args.program.now c.args.shown.now all.found.listed.items (place_in places) small all.tree c.in_ok-places.ensures.few c.in_ok-all.ensures.tree c.in_ok-nodes.nodes.items c.renumber.new.nodes.items c.in_ok-nodes.ensures
+    let spelled = tree_renumbered c.args.program.now c.args.shown.now all.found.by_number.items (place_in places) small all.tree c.in_ok-places.ensures.few c.in_ok-all.ensures.tree c.in_ok-nodes.nodes.items c.renumber.new.nodes.items c.in_ok-nodes.ensures
     (c.renumber.ensures ∙ ap (λ (ns : List ℕ). map (renumbered_node (place_in ns)) c.in_ok-nodes.nodes.items) c.deref.ensures.value) in
     is_tree (renumbered (place_in places) all.tree) c.renumber.new.nodes.items spelled
 
@@ -27,7 +27,7 @@ invariant_of-result g c =
     let copied = c.in_ok-copy-2.field-0 in
     let all = c.in_ok-all.all in
     let is = c.in_ok-all.ensures in
-    let known = all.found.listed.items in
+    let known = all.found.by_number.items in
     let outcomes = all.found.outcomes.items in
     let places = c.in_ok-places.places.items in
     let small = c.in_ok-places.ensures.small in
@@ -37,9 +37,9 @@ invariant_of-result g c =
       table_of p copy shown copied known outcomes all.found.runs places all.tree c.in_ok-of_nodes.field-0 c.in_ok-copy.ensures c.in_ok-copy-2.ensures few
           (record { ascend = is.in_order.ascend; exact = is.exact }) is.runs is.tree c.in_ok-places.ensures.places
           (same_tree c.in_ok-of_nodes.field-0 (renumbered (place_in places) all.tree) (c.in_ok-of_nodes.ensures ∙ spelled)),
-      table_kept p copy shown copied known outcomes places all.kept (arc_value c.in_ok-new.field-0) c.in_ok-copy.ensures c.in_ok-copy-2.ensures few
+      table_renumbered p copy shown copied known outcomes places all.kept (arc_value c.in_ok-new.field-0) c.in_ok-copy.ensures c.in_ok-copy-2.ensures few
           c.in_ok-places.ensures.few small is.kept c.in_ok-places.ensures.places
-          (ap items_of c.in_ok-new.ensures.ok ∙ c.renumber_kept.ensures ∙ ap (λ (ns : List ℕ). map (renumbered_item (place_in ns)) (items_of all.kept)) c.deref-2.ensures.value),
+          (ap items_of c.in_ok-new.ensures.ok ∙ c.renumber_partial.ensures ∙ ap (λ (ns : List ℕ). map (renumbered_item (place_in ns)) (items_of all.kept)) c.deref-2.ensures.value),
     )
 
 pub returns-clause-table : goal.returns-clause-table
@@ -48,7 +48,7 @@ returns-clause-table g c =
     let shown = c.args.shown.now in
     let all = c.in_ok-all.all in
     let is = c.in_ok-all.ensures in
-    let known = all.found.listed.items in
+    let known = all.found.by_number.items in
     let outcomes = all.found.outcomes.items in
     let places = c.in_ok-places.places.items in
     let small = c.in_ok-places.ensures.small in

@@ -2,9 +2,9 @@ use Rattle.std.proofs.Common.{◌≡◌, List, Some, slice_get, sym, subst}
 use Rattle.tso_program.specs.declared.outcome.Outcome.{Outcome}
 use Rattle.tso_machine.specs.declared.label.Label.{Label}
 use Rattle.tso_machine.specs.Outcomes.{IsShownRun}
-use Rattle.cover_solver.specs.Ordered.{BelongsAt}
-use Rattle.cover_solver.proofs.Inserted.{not_there}
-use Rattle.cover_solver.proofs.Witnessed.{run_at}
+use Rattle.sketch_covers.specs.Ascending.{BelongsAt}
+use Rattle.sketch_covers.proofs.Inserted.{not_there}
+use Rattle.sketch_covers.proofs.RunAt.{run_at}
 use Rattle.cover_solver.proofs.witnesses.run_of.Goals as goal
 
 pub returns-in_ok-from_slice-in-Some : goal.returns-in_ok-from_slice-in-Some

@@ -1,19 +1,19 @@
 use Rattle.std.proofs.Common.{List, Contains, sym, ap, subst, ◌∙◌}
 use Rattle.tso_program.specs.declared.outcome.Outcome.{Outcome}
-use Rattle.cover_solver.specs.declared.kept_tree.KeptTree.{KeptTree}
+use Rattle.partial_covers.specs.declared.partial_cover.PartialCover.{PartialCover}
 use Rattle.tso_program.specs.Shown.{asked}
 use Rattle.tso_machine.specs.declared.mode.Mode.TheVariants as own
 use Rattle.tso_machine.specs.Modes.{machine_of_mode}
 use Rattle.cover_solver.specs.Facts.{Asked}
-use Rattle.cover_solver.specs.Kept.{IsKept}
-use Rattle.cover_solver.proofs.AllListed.{not_listed}
+use Rattle.partial_covers.specs.PartialCovers.{IsPartialCover}
+use Rattle.sketch_covers.proofs.AllOutcomes.{not_listed}
 use Rattle.cover_solver.proofs.solver.Solver.searched.Goals as goal
 
 pub cover_all-requires-clause-kept : goal.cover_all-requires-clause-kept
 cover_all-requires-clause-kept c =
     let s = c.self.inside in
-    subst (λ (outcomes : List Outcome). IsKept s.program s.shown outcomes c.deref.result.now) (sym c.deref-2.ensures.value)
-    (subst (λ (tree : KeptTree). IsKept s.program s.shown s.outcomes.items tree) (sym c.deref.ensures) c.self.invariant.1)
+    subst (λ (outcomes : List Outcome). IsPartialCover s.program s.shown outcomes c.deref.result.now) (sym c.deref-2.ensures.value)
+    (subst (λ (tree : PartialCover). IsPartialCover s.program s.shown s.outcomes.items tree) (sym c.deref.ensures) c.self.invariant.1)
 
 pub foreign-requires-clause-new : goal.foreign-requires-clause-new
 foreign-requires-clause-new c here =

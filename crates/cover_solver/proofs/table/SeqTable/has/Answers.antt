@@ -3,7 +3,7 @@ use Rattle.std.specs.Prelude.{IfOk, IfErr}
 use Rattle.tso_program.specs.declared.outcome.Outcome.{Outcome}
 use Rattle.tso_machine.specs.Outcomes.{IsSequentialOutcome}
 use Rattle.cover_solver.specs.Facts.{Table}
-use Rattle.cover_solver.specs.Ordered.{BelongsAt}
+use Rattle.sketch_covers.specs.Ascending.{BelongsAt}
 use Rattle.cover_solver.proofs.Tables.{found_by}
 use Rattle.cover_solver.proofs.table.SeqTable.has.Goals as goal
 

@@ -1,15 +1,15 @@
 use Rattle.std.proofs.Common.{◌≡◌, sym, subst}
 use Rattle.std.specs.Arc.{arc_value}
 use Rattle.cover_judge.proofs.Answered.{if_ok}
-use Rattle.cover_solver.specs.declared.kept_tree.KeptTree.{KeptTree}
+use Rattle.partial_covers.specs.declared.partial_cover.PartialCover.{PartialCover}
 use Rattle.cover_solver.specs.Facts.{Table}
-use Rattle.cover_solver.specs.Kept.{IsKept}
+use Rattle.partial_covers.specs.PartialCovers.{IsPartialCover}
 use Rattle.cover_solver.proofs.table.SeqTable.kept.Goals as goal
 
 pub returns : goal.returns
 returns c =
     let s = c.self.inside in
     let table = c.args.self.now in
-    if_ok c.try_clone.result (λ shared. arc_value shared ≡ arc_value s.kept) (λ shared. IsKept table.question.program table.question.shown table.outcomes (arc_value shared))
-    (λ shared same. subst (λ (t : Table). IsKept t.question.program t.question.shown t.outcomes (arc_value shared)) c.self.view_is
-    (subst (λ (tree : KeptTree). IsKept s.program s.shown s.outcomes.items tree) (sym same) c.self.invariant.1)) c.try_clone.ensures
+    if_ok c.try_clone.result (λ shared. arc_value shared ≡ arc_value s.kept) (λ shared. IsPartialCover table.question.program table.question.shown table.outcomes (arc_value shared))
+    (λ shared same. subst (λ (t : Table). IsPartialCover t.question.program t.question.shown t.outcomes (arc_value shared)) c.self.view_is
+    (subst (λ (tree : PartialCover). IsPartialCover s.program s.shown s.outcomes.items tree) (sym same) c.self.invariant.1)) c.try_clone.ensures

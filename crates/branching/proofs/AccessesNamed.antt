@@ -1,0 +1,18 @@
+-- Events of threads, and the accesses that name them.
+use Rattle.candidate_executions.specs.declared.event.Event.{Event}
+use Rattle.candidate_executions.specs.declared.event.Event.TheVariants.{Initial, Access as At}
+use Rattle.candidate_executions.specs.Candidates.{IsAccess}
+use Rattle.candidate_executions.specs.Sketches.{given_to}
+use Rattle.exec_axioms.specs.ProgramSketches.{ProgramSketch, mode_in}
+use Rattle.cert_forest.specs.declared.tree.AccessId.{AccessId}
+use Rattle.branching.specs.Accesses.{IsOfThread}
+
+-- an access is no initial write
+pub of_thread : (s : ProgramSketch) (e : Event) → IsAccess s.program (mode_in s) (given_to s.chosen) e → IsOfThread e
+of_thread s (Initial l) h = h
+of_thread s (At t i) h = tt
+
+-- the access that is the event
+abbrev pub id_of : Event → AccessId
+id_of (Initial l) = record { thread = 0; access = 0 }
+id_of (At t i) = record { thread = t; access = i }

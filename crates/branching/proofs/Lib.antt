@@ -1,0 +1,7 @@
+pub mod NothingLeft
+pub mod TakenIn
+pub mod Rounds
+pub mod AccessesNamed
+pub mod Tallied
+pub mod TraceTrees
+pub mod Planned

@@ -1,0 +1,15 @@
+use Rattle.std.proofs.Common.{◌≡◌, ℕ, ◌<◌, None, get_or}
+use Rattle.std.specs.Prelude.{IfSome}
+use Rattle.tree_laws.specs.CoverTrees.{event_of}
+use Rattle.exec_axioms.specs.Complete.{HasItsSource}
+use Rattle.branching.specs.declared.reads_writes.ReadValue.{ReadValue}
+use Rattle.branching.specs.declared.preference.RatedChoice.{RatedChoice}
+use Rattle.branching.specs.OpenChoices.{IsOpen}
+use Rattle.branching.proofs.preference.best_source.Given as goal
+
+-- the best is open; if there is none, the reads so far have their sources
+abbrev pub invariant-loop-read : goal.invariant-loop-read
+invariant-loop-read l = record {
+  is_open : IfSome l.best (λ (best : RatedChoice). IsOpen l.sketch best.next);
+  none : l.best ≡ None → (k : ℕ) (r : ReadValue) → k < l.read-index → get_or l.reads k r ≡ r → HasItsSource l.sketch (event_of r.read);
+}

@@ -1,0 +1,18 @@
+use Rattle.std.proofs.Common.{sym, subst}
+use Rattle.candidate_executions.specs.Sketches.{IsSourceOf}
+use Rattle.exec_axioms.specs.ProgramSketches.{mode_in}
+use Rattle.tree_laws.specs.CoverTrees.{event_of}
+use Rattle.branching.specs.declared.reads_writes.WrittenValue.{WrittenValue}
+use Rattle.branching.proofs.preference.merit_of_sources.Goals as goal
+
+pub with_source-merit-requires : goal.with_source-merit-requires
+with_source-merit-requires c =
+    let s = c.args.sketch.now in
+    let i = c.loop-write.write-index in
+    let d : WrittenValue = record { write = record { thread = 0; access = 0 }; location = 0; value = 0 } in
+    record {
+      whole = c.requires.is_open.whole;
+      is_source = subst (λ e. IsSourceOf s.program (mode_in s) s.chosen e (event_of c.args.read.read)) (sym c.event_of.ensures)
+          (c.gives.ensures s (c.requires.writes i d c.loop-write-test.true) c.requires.read c.if-gives.true);
+      free = c.requires.is_open.free;
+    }

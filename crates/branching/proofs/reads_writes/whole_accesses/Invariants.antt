@@ -1,0 +1,16 @@
+use Rattle.std.proofs.Common.{◌<◌}
+use Rattle.std.specs.Prelude.{All}
+use Rattle.exec_axioms.specs.Choices.{IsRead}
+use Rattle.cert_forest.specs.declared.tree.AccessId.{AccessId}
+use Rattle.tree_laws.specs.CoverTrees.{event_of}
+use Rattle.branching.specs.Accesses.{IsReadValue, NamesRead, IsWrittenValue, IsWrite, NamesWrite}
+use Rattle.branching.proofs.reads_writes.whole_accesses.Given as goal
+
+-- what the first threads read and write is taken in, and nothing else
+abbrev pub invariant-loop-t : goal.invariant-loop-t
+invariant-loop-t l = record {
+  reads : All (IsReadValue l.sketch) l.accesses.reads.items;
+  writes : All (IsWrittenValue l.sketch) l.accesses.writes.items;
+  read : (a : AccessId) → a.thread < l.t → IsRead l.sketch (event_of a) → NamesRead l.accesses.reads.items a;
+  written : (a : AccessId) → a.thread < l.t → IsWrite l.sketch a → NamesWrite l.accesses.writes.items a;
+}

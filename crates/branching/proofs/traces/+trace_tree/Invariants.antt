@@ -1,0 +1,14 @@
+use Rattle.std.proofs.Common.{◌+◌, map, take}
+use Rattle.branching.specs.Traces.{traces, trees_of, AreTraceTrees}
+use Rattle.branching.proofs.Rounds.{rounds}
+use Rattle.branching.proofs.traces.+trace_tree.Given as goal
+
+abbrev pub decreases-trace_tree : goal.decreases-trace_tree
+decreases-trace_tree l = rounds l.sketch.now + 1
+
+abbrev pub decreases-trees_after : goal.decreases-trees_after
+decreases-trees_after l = rounds l.sketch.now
+
+-- the trees follow the choices so far
+abbrev pub invariant-trees_after-loop-choice : goal.invariant-trees_after-loop-choice
+invariant-trees_after-loop-choice l = AreTraceTrees l.t l.sketch (trees_of (map traces l.after.items)) (take l.choice-index l.choices)

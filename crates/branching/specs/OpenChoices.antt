@@ -1,0 +1,41 @@
+-- What is left to be chosen in a sketch, and the choices that there are.
+use Rattle.std.specs.Prelude.{◌≡◌, List, [], ◌∷◌}
+use Rattle.candidate_executions.specs.declared.event.Event.{Event}
+use Rattle.candidate_executions.specs.Sketches.{IsPair}
+use Rattle.exec_axioms.specs.ProgramSketches.{ProgramSketch, mode_in}
+use Rattle.exec_axioms.specs.Choices.{IsRead, HasSource, IsOrdered, MayFollow}
+use Rattle.tree_laws.specs.CoverTrees.{event_of}
+use Rattle.cover_judge.specs.declared.choice.Choice.{Choice}
+use Rattle.cover_judge.specs.declared.choice.Choice.TheVariants as choice
+use Rattle.cover_judge.specs.Choices.{IsValueOpen, IsSourceOpen, AreValueChoices, AreSourceChoices, MayChooseEach}
+use Rattle.branching.specs.declared.branch.Branch.{Branch}
+use Rattle.branching.specs.declared.open_choice.OpenChoice.{OpenChoice}
+use Rattle.branching.specs.declared.open_choice.OpenChoice.TheVariants.{Value, Source, Order}
+
+-- the event is a read that has no source
+pub record NeedsSource (s : ProgramSketch) (e : Event) : Type 0 where
+  pub is_read : IsRead s e
+  pub free : HasSource s e → ⊥
+
+-- the events are two writes to one location, neither of them initial, in no order
+pub record NeedsOrder (s : ProgramSketch) (d e : Event) : Type 0 where
+  pub is_pair : IsPair s.program (mode_in s) s.chosen d e
+  pub free : IsOrdered s d e → ⊥
+
+-- this is left to be chosen; sources and orders are once each read has its value
+abbrev pub IsOpen : ProgramSketch → OpenChoice → Type 0
+IsOpen s (Value t) = IsValueOpen s t
+IsOpen s (Source read) = IsSourceOpen s read
+IsOpen s (Order first second) = MayFollow s (event_of first) (event_of second)
+
+-- these are the choices: each value, each source, or both orders
+abbrev pub AreChoicesOf : ProgramSketch → OpenChoice → List Choice → Type 0
+AreChoicesOf s (Value t) choices = AreValueChoices s t choices
+AreChoicesOf s (Source read) choices = AreSourceChoices s read choices
+AreChoicesOf s (Order first second) choices = choices ≡ choice.Order first second ∷ choice.Order second first ∷ []
+
+-- it is left to be chosen, these are its choices, and each of them may be made
+pub record IsBranch (s : ProgramSketch) (branch : Branch) : Type 0 where
+  pub is_open : IsOpen s branch.next
+  pub choices : AreChoicesOf s branch.next branch.choices.items
+  pub may : MayChooseEach s branch.choices.items

@@ -1,0 +1,42 @@
+-- Which thread gets its values last.
+use Rattle.std.specs.Prelude.{◌≡◌, ◌≢◌, ◌<◌, ℕ, List, [], All, length}
+use Rattle.candidate_executions.specs.Sketches.{given_to}
+use Rattle.exec_axioms.specs.ProgramSketches.{ProgramSketch}
+use Rattle.exec_axioms.specs.ThreadValues.{HasValuesAlone}
+use Rattle.cover_judge.specs.declared.choice.Choice.{Choice}
+use Rattle.cover_judge.specs.declared.choice.Choice.TheVariants as choice
+use Rattle.cover_judge.specs.Choices.{IsValueOpen}
+use Rattle.branching.specs.declared.plan.LastThread.{LastThread}
+use Rattle.branching.specs.Combinations.{AreAlike}
+use Rattle.branching.specs.Traces.{traces, root, IsTraceTree}
+
+-- a thread of the sketch's program, with what it does from its values in the sketch on
+pub record IsLast (s : ProgramSketch) (last : LastThread) : Type 0 where
+  pub there : last.thread < length s.program.threads
+  pub tree : IsTraceTree last.thread (traces last.tree)
+  pub root_is : root (traces last.tree) ≡ s
+
+-- a thread other than t has a next read, and no thread other than t has one
+abbrev pub IsOtherOpen : ProgramSketch → ℕ → ℕ → Type 0
+IsOtherOpen s t u = (u ≢ t) × IsValueOpen s u
+
+abbrev pub AreOthersFull : ProgramSketch → ℕ → Type 0
+AreOthersFull s t = (u : ℕ) → IsOtherOpen s t u → ⊥
+
+-- nothing but values of other threads is chosen, and this is what the last thread does
+pub record IsBeforeLast (s : ProgramSketch) (last : LastThread) : Type 0 where
+  pub alone : HasValuesAlone s.chosen
+  pub none : given_to s.chosen last.thread ≡ []
+  pub there : last.thread < length s.program.threads
+  pub tree : IsTraceTree last.thread (traces last.tree)
+  pub alike : AreAlike (root (traces last.tree)) s
+  pub start : given_to (root (traces last.tree)).chosen last.thread ≡ []
+
+-- the choices give values to threads other than t
+abbrev pub IsOfOther : ℕ → Choice → Type 0
+IsOfOther t (choice.Value u v) = u ≢ t
+IsOfOther t (choice.Source read source) = ⊥
+IsOfOther t (choice.Order first second) = ⊥
+
+abbrev pub AreOfOthers : ℕ → List Choice → Type 0
+AreOfOthers t choices = All (IsOfOther t) choices

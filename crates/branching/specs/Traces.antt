@@ -1,0 +1,60 @@
+-- What one thread does under the values that its reads may take.
+use Rattle.std.specs.Prelude.{◌≡◌, ℕ, List, [], ◌∷◌}
+use Rattle.exec_axioms.specs.ProgramSketches.{ProgramSketch, with_chosen}
+use Rattle.cover_judge.specs.declared.choice.Choice.{Choice}
+use Rattle.cover_judge.specs.Choices.{IsValueOpen, AreValueChoices, MayChooseEach, sketch_with}
+use Rattle.branching.specs.declared.traces.FullTrace.{FullTrace}
+use Rattle.branching.specs.declared.traces.TraceTree.{TraceTree}
+use Rattle.branching.specs.declared.traces.TraceTree.TheOpen as t
+use Rattle.branching.specs.declared.traces.TraceTree.TheFolds.{fold-TraceTree}
+use Rattle.branching.specs.Tallies.{IsTallyOf, IsOwn}
+
+-- the traces of a thread, without where they lie in memory, and several in order
+mutual
+  pub data Traces : Type 0 where
+    Read : ProgramSketch → List Choice → Several → Traces
+    Full : FullTrace → Traces
+
+  pub data Several : Type 0 where
+    NoTraces : Several
+    MoreTraces : Traces → Several → Several
+
+abbrev pub trees_of : List Traces → Several
+trees_of [] = NoTraces
+trees_of (t ∷ ts) = MoreTraces t (trees_of ts)
+
+-- one node, with what each child stands for in its place
+abbrev pub trace_node : t.TraceTree-F Traces → Traces
+trace_node (t.Read sketch choices after) = Read sketch choices.items (trees_of after.items)
+trace_node (t.Full trace) = Full trace
+
+abbrev pub traces : TraceTree → Traces
+traces = fold-TraceTree Traces trace_node
+
+-- the sketch of the first node
+abbrev pub root : Traces → ProgramSketch
+root (Read s choices after) = s
+root (Full trace) = trace.sketch
+
+-- the choices of the first node
+abbrev pub first_choices : Traces → List Choice
+first_choices (Read s choices after) = choices
+first_choices (Full trace) = []
+
+-- thread t has no next read, and this is what it reads and writes
+pub record IsFullTrace (t : ℕ) (trace : FullTrace) : Type 0 where
+  pub full : IsValueOpen trace.sketch t → ⊥
+  pub tally : IsTallyOf trace.sketch (IsOwn t) trace.tally
+
+abbrev mutual
+  -- a tree for each value of thread t's next read, or a full trace
+  pub IsTraceTree : ℕ → Traces → Type 0
+  IsTraceTree t (Read s choices after) = AreValueChoices s t choices × MayChooseEach s choices × AreTraceTrees t s after choices
+  IsTraceTree t (Full trace) = IsFullTrace t trace
+
+  -- as many trees as choices, each at the sketch after its choice
+  pub AreTraceTrees : ℕ → ProgramSketch → Several → List Choice → Type 0
+  AreTraceTrees t s NoTraces [] = Unit {0}
+  AreTraceTrees t s NoTraces (c ∷ cs) = ⊥
+  AreTraceTrees t s (MoreTraces tree trees) [] = ⊥
+  AreTraceTrees t s (MoreTraces tree trees) (c ∷ cs) = (root tree ≡ with_chosen s (sketch_with s.chosen c)) × IsTraceTree t tree × AreTraceTrees t s trees cs

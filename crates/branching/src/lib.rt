@@ -1,0 +1,28 @@
+//! What is chosen next in a sketch: whose values first, and then which source or which order.
+//!
+//! What a thread does under the values of its reads is worked out once, and what threads read and write is
+//! kept as bits.
+//!
+//! Begin with `plan_for`, `whole_accesses` and `next_branch`. Free to change: the ranks of the threads
+//! (`plan.rt`), and what makes one choice better than another (`preference.rt`, `ends.rt`). Relied on: what
+//! is given is left to be chosen and comes with each of its choices, nothing is given only where the sketch
+//! is complete, and a read whose bit two tallies lack has no write in either.
+#![tactic(auto)]
+
+mod branch;
+mod ends;
+mod open_choice;
+mod plan;
+mod preference;
+mod reads_writes;
+mod tally;
+mod trace_size;
+mod traces;
+
+pub use branch::{Branch, choices_of, next_branch};
+pub use open_choice::OpenChoice;
+pub use plan::{LastThread, Plan, plan_for};
+pub use reads_writes::{ReadValue, WholeAccesses, WrittenValue, whole_accesses};
+pub use tally::Tally;
+pub use trace_size::TraceSize;
+pub use traces::{FullTrace, TraceTree};

@@ -1,0 +1,153 @@
+//! What threads read and write under given values, as bits.
+//!
+//! Each location with a value has a bit in rows of bits. Two may share one: then a read may seem to have a
+//! source that it has not, and a sketch decides. No read seems to lack a source that it has.
+ghost use Rattle.std.specs.Prelude.{◌≡◌, ◌≢◌, ◌<◌, ◌↔◌, ◌⊎◌, ◌%◌, ℕ, [], Some, None, IsTrue, IfOk, OnOk, IfSome, slice_index, length};
+ghost use Rattle.bit_rows.specs.Rows.{Relates};
+ghost use Rattle.bit_rows.specs.declared.row.TheConstants.{ROW_BITS};
+ghost use Rattle.branching.specs.Tallies.{IsMarked, IsTallyOf, IsOwn, IsOther, TakesAccess, TakesThread, LacksWrite, LacksWriteOfBoth};
+
+use crate::reads_writes::ReadValue;
+use bit_rows::{ROW_BITS, has, put_rows, with};
+use cert_forest::AccessId;
+use cover_judge::event_of;
+use exec_axioms::{Access, Event, Sketch};
+use std::alloc::{AllocError, Global};
+
+/// What some threads read and write.
+#[derive(Drop)]
+pub struct Tally {
+    /// The reads whose value is not the initial one of their location.
+    pub reads: Vec<ReadValue>,
+    /// A bit for each location with a value that is written there.
+    pub written: [u32; ROW_BITS],
+}
+
+impl Tally {
+    /// Of no access.
+    fn none(alloc: Global) -> Tally
+        ensures { result.reads.items ≡ [] }
+    {
+        Tally {
+            reads: Vec::new(alloc),
+            written: [0; ROW_BITS],
+        }
+    }
+
+    /// The tally of a thread's accesses.
+    pub fn of_thread(alloc: Global, sketch: &Sketch, t: u8) -> Result<Tally, AllocError>
+        ensures { IfOk result (IsTallyOf sketch.now (IsOwn t)) }
+    {
+        let mut tally = Tally::none(alloc);
+        tally.add_thread(sketch, t)?;
+        Ok(tally)
+    }
+
+    /// The tally of the accesses of all threads but one.
+    pub fn of_others(alloc: Global, sketch: &Sketch, t: u8) -> Result<Tally, AllocError>
+        ensures { IfOk result (IsTallyOf sketch.now (IsOther t)) }
+    {
+        let mut tally = Tally::none(alloc);
+        let threads = sketch.program().threads().len() as u8;
+        for other in 0..threads {
+            if other != t {
+                tally.add_thread(sketch, other)?;
+            }
+        }
+        Ok(tally)
+    }
+
+    /// Takes a thread's accesses in.
+    fn add_thread(&mut self, sketch: &Sketch, t: u8) -> Result<(), AllocError>
+        ensures { OnOk result (TakesThread sketch.now t self.old self.new) }
+    {
+        for access in 0..sketch.accesses(t) {
+            self.add_access(sketch, AccessId { thread: t, access })?;
+        }
+        Ok(())
+    }
+
+    /// Takes an access in.
+    fn add_access(&mut self, sketch: &Sketch, id: AccessId) -> Result<(), AllocError>
+        ensures { OnOk result (TakesAccess sketch.now id self.old self.new) }
+    {
+        let Some(access) = sketch.access(event_of(id)) else {
+            return Ok(());
+        };
+        if let Some(value) = access.written {
+            mark(&mut self.written, access.location, value);
+        }
+        if let Some(value) = later_value(sketch, access) {
+            self.reads.push(ReadValue {
+                read: id,
+                location: access.location,
+                value,
+            })?;
+        }
+        Ok(())
+    }
+
+    /// A read of one of the two tallies that lacks its write in both.
+    pub fn lacking(&self, other: &Tally) -> Option<AccessId>
+        ensures { IfSome result (LacksWriteOfBoth self.now other.now) }
+    {
+        match lacking_of(&self.reads, &self.written, &other.written) {
+            Some(read) => Some(read),
+            None => lacking_of(&other.reads, &self.written, &other.written),
+        }
+    }
+}
+
+/// The value that an access reads, if it is not the initial one of its location.
+fn later_value(sketch: &Sketch, access: Access) -> Option<u32>
+    ensures { IfSome result (λ v. (access.read ≡ Some v) × (v ≢ slice_index sketch.now.program.memory access.location)) }
+{
+    let value = access.read?;
+    let initial = sketch.access(Event::Initial(access.location))?;
+    if initial.written == Some(value) {
+        return None;
+    }
+    Some(value)
+}
+
+/// Sets the bit of a location with a value.
+fn mark(rows: &mut [u32], location: u8, value: u32)
+    requires { length rows.old ≡ ROW_BITS }
+    ensures { (d e : ℕ) → Relates rows.new d e ↔ (Relates rows.old d e ⊎ ((d ≡ location % ROW_BITS) × (e ≡ value % ROW_BITS))) }
+{
+    let row = with(0, location % ROW_BITS as u8);
+    put_rows(rows, row, with(0, (value % ROW_BITS as u32) as u8));
+}
+
+/// Whether a location with a value has its bit.
+fn is_marked(rows: &[u32], location: u8, value: u32) -> bool
+    requires { length rows.now ≡ ROW_BITS }
+    ensures { IsTrue result ↔ IsMarked rows.now location value }
+{
+    let row = rows[location as usize % ROW_BITS];
+    has(row, (value % ROW_BITS as u32) as u8)
+}
+
+/// The first of the reads that lacks its write in both.
+fn lacking_of(reads: &[ReadValue], one: &[u32], other: &[u32]) -> Option<AccessId>
+    requires one { length one.now ≡ ROW_BITS }
+    requires other { length other.now ≡ ROW_BITS }
+    ensures { IfSome result (LacksWrite reads.now one.now other.now) }
+{
+    for tallied in reads {
+        if lacks_write(tallied, one, other) {
+            return Some(tallied.read);
+        }
+    }
+    None
+}
+
+fn lacks_write(tallied: &ReadValue, one: &[u32], other: &[u32]) -> bool
+    requires one { length one.now ≡ ROW_BITS }
+    requires other { length other.now ≡ ROW_BITS }
+    ensures one { IsTrue result → IsMarked one.now tallied.now.location tallied.now.value → ⊥ }
+    ensures other { IsTrue result → IsMarked other.now tallied.now.location tallied.now.value → ⊥ }
+{
+    !is_marked(one, tallied.location, tallied.value)
+        && !is_marked(other, tallied.location, tallied.value)
+}

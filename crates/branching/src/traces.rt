@@ -1,0 +1,84 @@
+//! What one thread does under the values that its reads may take, worked out once.
+ghost use Rattle.std.specs.Prelude.{◌≡◌, IfOk, map};
+ghost use Rattle.cover_judge.specs.Choices.{IsValueOpen, MayChooseEach};
+ghost use Rattle.branching.specs.Traces.{traces, trees_of, root, IsTraceTree, AreTraceTrees, IsFullTrace};
+
+use crate::tally::Tally;
+use cover_judge::{Choice, sketch_with, value_choices};
+use exec_axioms::Sketch;
+use std::alloc::{AllocError, Global};
+
+/// What a thread does from some given values on. The sketches have values for this thread alone.
+#[derive(Drop)]
+pub enum TraceTree {
+    /// The thread has a next read: these choices give it its values, and these trees follow them. The
+    /// sketch is kept for the proof alone.
+    Read {
+        sketch: Sketch,
+        choices: Vec<Choice>,
+        after: Vec<TraceTree>,
+    },
+    /// Each of the thread's reads has its value.
+    Full(FullTrace),
+}
+
+/// A thread each of whose reads has its value, with what it reads and writes.
+#[derive(Drop)]
+pub struct FullTrace {
+    pub sketch: Sketch,
+    pub tally: Tally,
+}
+
+/// What thread t does from its values in the sketch on.
+#[cycle(trace_tree)]
+pub(crate) fn trace_tree(alloc: Global, sketch: &Sketch, t: u8) -> Result<TraceTree, AllocError>
+    ensures tree { IfOk result (λ tree. IsTraceTree t (traces tree)) }
+    ensures root { IfOk result (λ tree. root (traces tree) ≡ sketch.now) }
+{
+    // For the proof alone: what holds of every sketch is known where its program is read.
+    let _ = sketch.program();
+    match value_choices(alloc, sketch, t)? {
+        Some(choices) => {
+            let after = trees_after(alloc, sketch, t, &choices)?;
+            Ok(TraceTree::Read {
+                sketch: sketch.copy()?,
+                choices,
+                after,
+            })
+        }
+        None => Ok(TraceTree::Full(full_trace(alloc, sketch, t)?)),
+    }
+}
+
+/// The same after each of the choices.
+#[cycle(trace_tree)]
+fn trees_after(
+    alloc: Global,
+    sketch: &Sketch,
+    t: u8,
+    choices: &[Choice],
+) -> Result<Vec<TraceTree>, AllocError>
+    requires { MayChooseEach sketch.now choices.now }
+    ensures { IfOk result (λ after. AreTraceTrees t sketch.now (trees_of (map traces after.items)) choices.now) }
+{
+    // For the proof alone: what holds of every sketch is known where its program is read.
+    let _ = sketch.program();
+    let mut after = Vec::new(alloc);
+    for choice in choices {
+        let next = sketch_with(sketch, *choice)?;
+        after.push(trace_tree(alloc, &next, t)?)?;
+    }
+    Ok(after)
+}
+
+/// The trace of a thread that has no next read.
+fn full_trace(alloc: Global, sketch: &Sketch, t: u8) -> Result<FullTrace, AllocError>
+    requires { IsValueOpen sketch.now t → ⊥ }
+    ensures is { IfOk result (IsFullTrace t) }
+    ensures sketch { IfOk result (λ trace. trace.sketch ≡ sketch.now) }
+{
+    Ok(FullTrace {
+        sketch: sketch.copy()?,
+        tally: Tally::of_thread(alloc, sketch, t)?,
+    })
+}

@@ -1,9 +1,0 @@
-use Rattle.std.proofs.Common.{sym, subst}
-use Rattle.std.specs.Prelude.{All}
-use Rattle.cover_solver.specs.Parts.{IsPartOf}
-use Rattle.cover_solver.proofs.cutting.parts_of.Goals as goal
-
-pub loop-preserved : goal.loop-preserved
-loop-preserved c =
-    let s = c.args.sketch.now in
-    c.in_ok-parts.ensures s (subst (All (IsPartOf s c.args.plan.now.last)) (sym c.deref.ensures.value) c.loop.invariant)

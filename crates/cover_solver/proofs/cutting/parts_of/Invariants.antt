@@ -1,7 +1,0 @@
-use Rattle.std.specs.Prelude.{All}
-use Rattle.cover_solver.specs.Parts.{IsPartOf}
-use Rattle.cover_solver.proofs.cutting.parts_of.Given as goal
-
--- these are parts of the sketch's search
-abbrev pub invariant-loop : goal.invariant-loop
-invariant-loop l = All (IsPartOf l.sketch l.plan.last) l.parts.items

@@ -1,7 +1,0 @@
-use Rattle.std.proofs.Common.{◌≡◌, ℕ, ◌<◌, get_or}
-use Rattle.cover_judge.specs.declared.choice.Choice.{Choice}
-use Rattle.cover_solver.proofs.joining.is_same_path.Given as goal
-
--- the choices so far are the same
-abbrev pub invariant-loop-i : goal.invariant-loop-i
-invariant-loop-i l = (k : ℕ) (d : Choice) → k < l.i → get_or l.a k d ≡ get_or l.b k d

@@ -1,0 +1,10 @@
+use Rattle.std.proofs.Common.{◌↔◌, Contains, subst}
+use Rattle.tso_program.specs.Shown.{asked}
+use Rattle.tso_machine.specs.Machine.{Machine}
+use Rattle.tso_machine.specs.Outcomes.{AllowsShown}
+use Rattle.cover_solver.proofs.outcome_list.outcomes.Goals as goal
+
+pub returns-clause-exact : goal.returns-clause-exact
+returns-clause-exact c o =
+    let p = c.args.program.now in
+    subst (λ (mode : Machine). Contains c.in_ok-all.all.found.outcomes.items o ↔ AllowsShown (asked p c.args.shown.now) mode o) (c.unfenced-mode.ensures p) (c.in_ok-all.ensures.exact o)

@@ -1,5 +1,0 @@
-use Rattle.std.proofs.Common.{refl}
-use Rattle.cover_solver.proofs.renumber.renumber_piece.Goals as goal
-
-pub returns : goal.returns
-returns c = record { nodes = c.renumber.ensures; path = refl }

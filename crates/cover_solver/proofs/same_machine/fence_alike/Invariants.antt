@@ -1,7 +1,0 @@
-use Rattle.std.proofs.Common.{◌<◌, ℕ}
-use Rattle.cover_solver.proofs.SameMachine.{AreAlikeAt}
-use Rattle.cover_solver.proofs.same_machine.fence_alike.Given as goal
-
--- each gap so far is in both sets or in neither
-abbrev pub invariant-loop-gap : goal.invariant-loop-gap
-invariant-loop-gap l = (gap : ℕ) → gap < l.gap → AreAlikeAt l.program l.one l.other gap

@@ -1,4 +1,0 @@
--- What contracts of private functions and proofs cite; no public contract does.
-pub mod Accesses
-pub mod ChoicesLeft
-pub mod Runs

@@ -1,0 +1,72 @@
+//! The outcomes of a program.
+ghost use Rattle.std.specs.Prelude.{◌≡◌, ◌↔◌, IfOk, IfErr, Contains};
+ghost use Rattle.std.specs.FinSet as set;
+ghost use Rattle.tso_program.specs.declared.outcome.Outcome.{Outcome};
+ghost use Rattle.tso_program.specs.Shown.{asked};
+ghost use Rattle.tso_machine.specs.Outcomes.{AllowsShown};
+ghost use Rattle.tso_machine.specs.Modes.{machine_of_model};
+ghost use Rattle.sketch_covers.specs.OutcomeNumbers.{AreRunsOf};
+ghost use Rattle.sketch_covers.specs.Ascending.{Ascend};
+
+use crate::fault::SolveFault;
+use cert_forest::Runs;
+use exec_axioms::Mode;
+use partial_covers::{Unwatched, Watch, all_outcomes, start_alone, start_by};
+use std::alloc::Global;
+use std::thread::Threads;
+use tso_machine::Model;
+use tso_program::{Outcome, Program, Shown};
+
+/// Outcomes, each with a run that leaves it.
+#[derive(Debug, Drop)]
+pub struct OutcomeList {
+    /// Ascending, each of them once.
+    pub outcomes: Vec<Outcome>,
+    /// A run of each, in the same order.
+    pub runs: Runs,
+}
+
+/// What is shown of the outcomes of a program under sequential consistency, or under x86-TSO with no
+/// gap fenced, ascending, each of them once and with a run that leaves it. A long search is in at most so many threads. A
+/// watch follows it.
+pub fn outcomes_with_runs<R: Threads + Sync, W: Watch + Sync>(
+    rt: &R,
+    alloc: Global,
+    program: &Program,
+    model: Model,
+    shown: &Shown,
+    workers: u8,
+    watch: &W,
+) -> Result<OutcomeList, SolveFault>
+    ensures ascend { IfOk result (λ list. Ascend list.outcomes.items) }
+    ensures runs { IfOk result (λ list. AreRunsOf (asked program.now shown.now) (machine_of_model program.now set.empty model) list.runs list.outcomes.items) }
+    ensures fault { IfErr result (λ fault. fault ≡ SolveFault.OutOfMemory) }
+    ensures exact { IfOk result (λ list. (o : Outcome) → Contains list.outcomes.items o ↔ AllowsShown (asked program.now shown.now) (machine_of_model program.now set.empty model) o) }
+{
+    let mode = Mode::unfenced(model);
+    let start = start_by(rt, workers, alloc, program, shown, &mode, watch)?;
+    let all = all_outcomes(alloc, start, program, shown, mode, watch)?;
+    let found = all.found;
+    Ok(OutcomeList {
+        outcomes: found.outcomes,
+        runs: found.runs,
+    })
+}
+
+/// What is shown of the outcomes of a program under sequential consistency, or under x86-TSO with no
+/// gap fenced, ascending, each of them once.
+pub fn outcomes(
+    alloc: Global,
+    program: &Program,
+    model: Model,
+    shown: &Shown,
+) -> Result<Vec<Outcome>, SolveFault>
+    ensures ascend { IfOk result (λ outcomes. Ascend outcomes.items) }
+    ensures fault { IfErr result (λ fault. fault ≡ SolveFault.OutOfMemory) }
+    ensures exact { IfOk result (λ outcomes. (o : Outcome) → Contains outcomes.items o ↔ AllowsShown (asked program.now shown.now) (machine_of_model program.now set.empty model) o) }
+{
+    let mode = Mode::unfenced(model);
+    let start = start_alone(alloc, program, shown, &mode)?;
+    let all = all_outcomes(alloc, start, program, shown, mode, &Unwatched)?;
+    Ok(all.found.outcomes)
+}

@@ -1,0 +1,46 @@
+-- Choices that are made one after another.
+use Rattle.std.proofs.Common.{◌≡◌, ℕ, zero, suc, ◌+◌, ◌<◌, ◌≤◌, List, [], ◌∷◌, ◌++◌, get_or, length, take, refl, ap, sym, ◌∙◌, subst, arith}
+use Rattle.std.proofs.lemmas.List.{take_more, take_all}
+use Rattle.tso_program.specs.declared.listing.Listing.{Listing}
+use Rattle.tso_machine.specs.Machine.{Machine}
+use Rattle.tso_machine.specs.declared.mode.Mode as own
+use Rattle.exec_axioms.specs.ProgramSketches.{ProgramSketch, mode_in, with_chosen}
+use Rattle.cover_judge.specs.declared.choice.Choice.{Choice}
+use Rattle.cover_judge.specs.Choices.{MayChoose, sketch_with}
+use Rattle.partial_covers.specs.PartialCovers.{after, unfenced, MayChooseAll}
+use Rattle.partial_covers.proofs.PartialRows.{after_more}
+
+-- the program and the mode stay
+pub same_program : (s : ProgramSketch) (path : List Choice) → (after s path).program ≡ s.program
+same_program s [] = refl
+same_program s (c ∷ cs) = same_program (with_chosen s (sketch_with s.chosen c)) cs
+
+pub same_mode : (s : ProgramSketch) (path : List Choice) → (after s path).mode ≡ s.mode
+same_mode s [] = refl
+same_mode s (c ∷ cs) = same_mode (with_chosen s (sketch_with s.chosen c)) cs
+
+pub same_machine : (s : ProgramSketch) (path : List Choice) → mode_in (after s path) ≡ mode_in s
+same_machine s [] = refl
+same_machine s (c ∷ cs) = same_machine (with_chosen s (sketch_with s.chosen c)) cs
+
+-- so the same choices may be made with no gap fenced
+pub after_unfenced : (s : ProgramSketch) (path : List Choice) → after (unfenced s) path ≡ unfenced (after s path)
+after_unfenced s [] = refl
+after_unfenced s (c ∷ cs) = after_unfenced (with_chosen s (sketch_with s.chosen c)) cs
+
+-- one more
+pub may_more : (s : ProgramSketch) (path : List Choice) (c : Choice) → MayChooseAll s path → MayChoose (after s path) c → MayChooseAll s (path ++ c ∷ [])
+may_more s [] c may one = (one, tt)
+may_more s (d ∷ path) c may one = (may.0, may_more (with_chosen s (sketch_with s.chosen d)) path c may.1 one)
+
+-- the one at a place
+pub may_at : (s : ProgramSketch) (path : List Choice) (i : ℕ) (d : Choice) → MayChooseAll s path → i < length path → MayChoose (after s (take i path)) (get_or path i d)
+may_at s [] i d may here = absurd (omega arith)
+may_at s (c ∷ path) zero d may here = may.0
+may_at s (c ∷ path) (suc i) d may here = may_at (with_chosen s (sketch_with s.chosen c)) path i d may.1 (omega arith)
+
+pub one_made : (s : ProgramSketch) (path : List Choice) (i : ℕ) (d : Choice) → i < length path → after s (take (i + 1) path) ≡ with_chosen (after s (take i path)) (sketch_with (after s (take i path)).chosen (get_or path i d))
+one_made s path i d here = ap (after s) (take_more path i d here) ∙ after_more s (take i path) (get_or path i d)
+
+pub all_made : (s : ProgramSketch) (path : List Choice) (i : ℕ) → length path ≤ i → after s (take i path) ≡ after s path
+all_made s path i past = ap (after s) (take_all i path past)

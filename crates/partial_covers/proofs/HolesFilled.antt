@@ -1,0 +1,83 @@
+-- What is known of the holes of a partial cover: the choices of each lead to a sketch in which each read has its value.
+use Rattle.std.proofs.Common.{◌≡◌, ℕ, zero, suc, ◌<◌, List, [], ◌∷◌, ◌++◌, get_or, length, map, refl, sym, ap, ◌∙◌, subst, arith, append_assoc}
+use Rattle.std.proofs.lemmas.List.{append-nil}
+use Rattle.tso_program.specs.declared.listing.Listing.{Listing}
+use Rattle.tso_program.specs.declared.outcome.Outcome.{Outcome}
+use Rattle.tso_program.specs.declared.shown.Shown.{Shown}
+use Rattle.tso_machine.specs.declared.mode.Mode.{Mode}
+use Rattle.candidate_executions.specs.Sketches.{IsWhole}
+use Rattle.exec_axioms.specs.ProgramSketches.{ProgramSketch, mode_in, nothing_chosen}
+use Rattle.cert_forest.specs.declared.node.Node.{Node}
+use Rattle.cert_forest.specs.Nodes.{spell}
+use Rattle.cover_judge.specs.declared.choice.Choice.{Choice}
+use Rattle.cover_judge.specs.declared.choice.Choice.TheVariants as choice
+use Rattle.cover_judge.specs.Choices.{AreValueChoices, MayChoose}
+use Rattle.tree_laws.proofs.Lists.{first_is_here, later_is_here}
+use Rattle.std.proofs.Common.{Contains}
+use Rattle.partial_covers.specs.declared.partial_cover.PartialCover.{PartialCover}
+use Rattle.partial_covers.specs.declared.partial_cover.Piece.{Piece}
+use Rattle.partial_covers.specs.PartialCovers.{Item, Has, Lacks, PartialTree, Closed, Values, Hole, PartialTrees, NoPartial, MorePartial, spell_partial, spell_partial_row, items_before, items_of, after, IsPartialAfter, ArePartialAfter, IsPartialCover, MayChooseAll, unfenced}
+use Rattle.partial_covers.proofs.ChoicesMade.{after_unfenced, may_more}
+use Rattle.partial_covers.proofs.FilledTrees.{whole_sketch_in_mode, choices_in_mode}
+
+module _ (s : ProgramSketch) where
+  -- the choices lead to a sketch in which each read has its value
+  pub record LeadsToWhole (path : List Choice) : Type 0 where
+    pub may : MayChooseAll s path
+    pub whole : IsWhole (after s path).program (mode_in (after s path)) (after s path).chosen
+
+  abbrev AllLead : List Item → Type 0
+  AllLead [] = Unit {0}
+  AllLead (Has x ∷ items) = AllLead items
+  AllLead (Lacks path ∷ items) = LeadsToWhole path × AllLead items
+
+  before_nodes : (xs : List Node) (items : List Item) → AllLead items → AllLead (map Has xs ++ items)
+  before_nodes [] items lead = lead
+  before_nodes (x ∷ xs) items lead = before_nodes xs items lead
+
+  past_nodes : (xs : List Node) (items : List Item) → AllLead (map Has xs ++ items) → AllLead items
+  past_nodes [] items lead = lead
+  past_nodes (x ∷ xs) items lead = past_nodes xs items lead
+
+  -- the hole of a piece
+  hole_at : (pieces : List Piece) (i : ℕ) (d : Piece) (items : List Item) → i < length pieces → AllLead (items_before pieces ++ items) → LeadsToWhole (get_or pieces i d).path.items
+  hole_at [] i d items here lead = absurd (omega arith)
+  hole_at (p ∷ ps) zero d items here lead =
+      (past_nodes p.nodes.items (Lacks p.path.items ∷ (items_before ps ++ items)) (subst AllLead (append_assoc (map Has p.nodes.items) (Lacks p.path.items ∷ items_before ps) items) lead)).0
+  hole_at (p ∷ ps) (suc i) d items here lead =
+      hole_at ps i d items (omega arith) (past_nodes p.nodes.items (Lacks p.path.items ∷ (items_before ps ++ items)) (subst AllLead (append_assoc (map Has p.nodes.items) (Lacks p.path.items ∷ items_before ps) items) lead)).1
+
+  module _ (shown : Shown) (outcomes : List Outcome) where
+    mutual
+      tree_leads : (path : List Choice) (tree : PartialTree) (items : List Item) → MayChooseAll s path → IsPartialAfter (unfenced s) shown outcomes path tree → AllLead items → AllLead (spell_partial tree ++ items)
+      tree_leads path (Closed tree) items may is lead = before_nodes (spell tree) items lead
+      tree_leads path (Values t children) items may (choices, are, each) lead =
+          let own = choices_in_mode (after s path) t choices (subst (λ (k : ProgramSketch). AreValueChoices k t choices) (after_unfenced s path) are) in
+          row_leads path t children own.values items may (λ v here. (own.next.location, own.next.next, (own.next.exact v).0 here)) (subst (ArePartialAfter (unfenced s) shown outcomes path children) own.each each) lead
+      tree_leads path (Hole to) items may (same, whole) lead = (
+        record {
+          may = subst (MayChooseAll s) (sym same) may;
+          whole = subst (λ (cs : List Choice). IsWhole (after s cs).program (mode_in (after s cs)) (after s cs).chosen) (sym same)
+              (whole_sketch_in_mode (after s path) (subst (λ (k : ProgramSketch). IsWhole k.program (mode_in k) k.chosen) (after_unfenced s path) whole));
+        },
+        lead,
+      )
+
+      row_leads : (path : List Choice) (t : ℕ) (children : PartialTrees) (values : List ℕ) (items : List Item) → MayChooseAll s path → ((v : ℕ) → Contains values v → MayChoose (after s path) (choice.Value t v))
+          → ArePartialAfter (unfenced s) shown outcomes path children (map (choice.Value t) values) → AllLead items → AllLead (spell_partial_row children ++ items)
+      row_leads path t NoPartial [] items may each are lead = lead
+      row_leads path t NoPartial (v ∷ vs) items may each are lead = absurd are
+      row_leads path t (MorePartial child children) [] items may each are lead = absurd are
+      row_leads path t (MorePartial child children) (v ∷ vs) items may each are lead =
+          let c = choice.Value t v in
+          subst AllLead (sym (append_assoc (spell_partial child) (spell_partial_row children) items))
+          (tree_leads (path ++ c ∷ []) child (spell_partial_row children ++ items) (may_more s path c may (each v (first_is_here v vs))) are.0
+          (row_leads path t children vs items may (λ w here. each w (later_is_here v vs w here)) are.1 lead))
+
+-- so each hole of the partial cover of a program, in any mode
+pub hole_leads : (p : Listing) (mode : Mode) (shown : Shown) (outcomes : List Outcome) (kept : PartialCover) (i : ℕ) (d : Piece) → IsPartialCover p shown outcomes kept → i < length kept.pieces.items →
+    LeadsToWhole (nothing_chosen p mode) (get_or kept.pieces.items i d).path.items
+hole_leads p mode shown outcomes kept i d is here =
+    let s = nothing_chosen p mode in
+    let lead = tree_leads s shown outcomes [] is.tree [] tt is.is tt in
+    hole_at s kept.pieces.items i d (map Has kept.nodes.items) here (subst (AllLead s) (append-nil (spell_partial is.tree) ∙ sym is.pushed) lead)

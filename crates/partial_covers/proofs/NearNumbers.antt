@@ -1,0 +1,27 @@
+-- The numbers of a valid tree over a list with a node for each number.
+use Rattle.std.proofs.Common.{ℕ, ◌≤◌, List, [], ◌∷◌, length, map, arith}
+use Rattle.std.proofs.lemmas.Option.{slice_get_within}
+use Rattle.tso_program.specs.declared.outcome.Outcome.{Outcome}
+use Rattle.tso_program.specs.Shown.{Question}
+use Rattle.tso_machine.specs.Machine.{Machine}
+use Rattle.candidate_executions.specs.Sketches.{Sketch, with_value, with_source, with_pair}
+use Rattle.cert_forest.specs.Trees.{Cover, Value, Source, Order, Cycle, Known, Covers, NoCover, MoreCovers}
+use Rattle.cert_forest.specs.declared.node.TheConstants.{NEAR_RUNS}
+use Rattle.tree_laws.specs.CoverTrees.{event_of, IsValidCover, AreValidCovers}
+use Rattle.partial_covers.proofs.OtherNumbers.{IsNear, AreNear}
+
+module _ (q : Question) (mode : Machine) (outcomes : List Outcome) (few : length outcomes ≤ NEAR_RUNS) where
+  mutual
+    pub valid_near : (tree : Cover) (k : Sketch) → IsValidCover q mode outcomes tree k → IsNear tree
+    valid_near (Value t trees) k (values, has, valid) = valid_each_near trees (map (with_value k t) values) valid
+    valid_near (Source read trees) k (sources, has, valid) = valid_each_near trees (map (with_source k (event_of read)) sources) valid
+    valid_near (Order first second one other) k (has, before, after) =
+        (valid_near one (with_pair k (event_of first) (event_of second)) before, valid_near other (with_pair k (event_of second) (event_of first)) after)
+    valid_near (Cycle kind events) k known = tt
+    valid_near (Known number) k must = (let within = slice_get_within outcomes number must.outcome must.is_outcome in omega arith)
+
+    valid_each_near : (trees : Covers) (ks : List Sketch) → AreValidCovers q mode outcomes trees ks → AreNear trees
+    valid_each_near NoCover [] valid = tt
+    valid_each_near NoCover (k ∷ ks) valid = absurd valid
+    valid_each_near (MoreCovers tree trees) [] valid = absurd valid
+    valid_each_near (MoreCovers tree trees) (k ∷ ks) (now, later) = (valid_near tree k now, valid_each_near trees ks later)

@@ -1,0 +1,80 @@
+-- Partial covers, node by node.
+use Rattle.std.proofs.Common.{◌≡◌, ◌≤◌, Bool, true, false, ℕ, List, [], ◌∷◌, ◌++◌, length, map, take, refl, sym, ap, ◌∙◌, subst, append_assoc}
+use Rattle.std.specs.Prelude.{Result, Ok, Err, OnOk}
+use Rattle.std.proofs.lemmas.List.{map-append, append-nil}
+use Rattle.tso_program.specs.declared.outcome.Outcome.{Outcome}
+use Rattle.tso_program.specs.declared.shown.Shown.{Shown}
+use Rattle.candidate_executions.specs.Sketches.{IsWhole}
+use Rattle.exec_axioms.specs.ProgramSketches.{ProgramSketch, mode_in}
+use Rattle.exec_axioms.specs.Kept.{IsLawful}
+use Rattle.exec_axioms.specs.Sizes.{choice_count, most_choices}
+use Rattle.cert_forest.specs.declared.node.Node.{Node}
+use Rattle.cert_forest.specs.Trees.{Cover}
+use Rattle.cert_forest.specs.Nodes.{spell}
+use Rattle.cover_judge.specs.declared.choice.Choice.{Choice}
+use Rattle.partial_covers.specs.declared.partial_cover.Piece.{Piece}
+use Rattle.sketch_covers.specs.Covers.{IsCoverAt}
+use Rattle.sketch_covers.specs.Pushing.{Pushes, Begins, IfKnown}
+use Rattle.sketch_covers.proofs.Leaves.{known_pushed, unknown_same}
+use Rattle.sketch_covers.proofs.Nodes.{leaf_cover}
+use Rattle.partial_covers.specs.PartialCovers.{Item, Has, Lacks, PartialTree, Closed, Hole, items_before, after, spell_partial, IsPartialAfter, PushesPartial, PushesPartialAt}
+
+-- nodes after the last piece
+pub items_pushed : (pieces : List Piece) (old new more : List Node) → new ≡ old ++ more → items_before pieces ++ map Has new ≡ (items_before pieces ++ map Has old) ++ map Has more
+items_pushed pieces old new more is =
+    ap (λ (xs : List Node). items_before pieces ++ map Has xs) is ∙ ap (λ (xs : List Item). items_before pieces ++ xs) (map-append Has old more)
+    ∙ sym (append_assoc (items_before pieces) (map Has old) (map Has more))
+
+-- the old nodes alone, where more came after them
+pub taken_back : {T : Type 0} (old new : List T) (n : ℕ) → (more : List T) × (new ≡ old ++ more) → n ≡ length old → take n new ≡ old
+taken_back old new n (more, is) start = (λ i. take (start i) (is i)) ∙ taken old more
+  where
+    taken : {A : Type 0} (xs ys : List A) → take (length xs) (xs ++ ys) ≡ xs
+    taken [] ys = refl
+    taken (x ∷ xs) ys = ap (λ zs. x ∷ zs) (taken xs ys)
+
+module _ (s : ProgramSketch) (shown : Shown) (outcomes : List Outcome) (path : List Choice) where
+  -- a tree after the rest
+  pub pushes_closed : (pieces : List Piece) (old new : List Node) → Pushes (IsCoverAt s shown outcomes) old new → PushesPartialAt s shown outcomes path (items_before pieces ++ map Has old) (items_before pieces ++ map Has new)
+  pushes_closed pieces old new more root leads = record {
+    tree = Closed more.tree;
+    is = subst (λ (k : ProgramSketch). IsCoverAt k shown outcomes more.tree) (sym leads) more.is;
+    pushed = items_pushed pieces old new (spell more.tree) more.pushed;
+  }
+
+  -- a hole
+  pub pushes_hole : (old new : List Item) → IsWhole s.program (mode_in s) s.chosen → new ≡ old ++ Lacks path ∷ [] → PushesPartialAt s shown outcomes path old new
+  pushes_hole old new whole is root leads = record {
+    tree = Hole path;
+    is = (refl, subst (λ (k : ProgramSketch). IsWhole k.program (mode_in k) k.chosen) (sym leads) whole);
+    pushed = is;
+  }
+
+-- where the sketch need not end as an outcome of the list nothing is put there
+module _ (s : ProgramSketch) (shown : Shown) (outcomes : List Outcome) where
+  pub nodes_same : (pieces : List Piece) (old new : List Node) (b : Bool) → b ≡ false → IfKnown s shown outcomes old new b → items_before pieces ++ map Has new ≡ items_before pieces ++ map Has old
+  nodes_same pieces old new b is_not known = ap (λ (xs : List Node). items_before pieces ++ map Has xs) (unknown_same s shown outcomes old new b is_not known).1
+
+  -- and where it must, a tree
+  pub leaf_pushed : IsLawful s → choice_count s ≤ most_choices → (old new : List Node) (b : Bool) → b ≡ true → IfKnown s shown outcomes old new b → Pushes (IsCoverAt s shown outcomes) old new
+  leaf_pushed lawful few old new b is_known known =
+      let more = known_pushed s shown outcomes old new b is_known known in
+      record { tree = more.tree; is = leaf_cover s shown outcomes lawful more.tree few more.is; pushed = more.pushed }
+
+-- a piece after the others
+pub pieces_pushed : (pieces : List Piece) (piece : Piece) → items_before (pieces ++ piece ∷ []) ≡ (items_before pieces ++ map Has piece.nodes.items) ++ Lacks piece.path.items ∷ []
+pieces_pushed [] piece = refl
+pieces_pushed (p ∷ ps) piece =
+    ap (λ (xs : List Item). map Has p.nodes.items ++ Lacks p.path.items ∷ xs) (pieces_pushed ps piece)
+    ∙ sym (append_assoc (map Has p.nodes.items) ((Lacks p.path.items ∷ items_before ps) ++ map Has piece.nodes.items) (Lacks piece.path.items ∷ []))
+    ∙ ap (λ (xs : List Item). xs ++ Lacks piece.path.items ∷ []) (sym (append_assoc (map Has p.nodes.items) (Lacks p.path.items ∷ items_before ps) (map Has piece.nodes.items)))
+
+pub piece_pushed : (old new : List Piece) (piece : Piece) (nodes none : List Node) (path : List Choice) → new ≡ old ++ piece ∷ [] → piece.nodes.items ≡ nodes → none ≡ [] → piece.path.items ≡ path →
+    items_before new ++ map Has none ≡ (items_before old ++ map Has nodes) ++ Lacks path ∷ []
+piece_pushed old new piece nodes none path pushed here empty leads =
+    (λ i. items_before (pushed i) ++ map Has (empty i)) ∙ append-nil (items_before (old ++ piece ∷ [])) ∙ pieces_pushed old piece
+    ∙ (λ i. (items_before old ++ map Has (here i)) ++ Lacks (leads i) ∷ [])
+
+pub on_ok : {T E : Type 0} (r : Result T E) (P Q : Type 0) → (P → Q) → OnOk r P → OnOk r Q
+on_ok (Ok v) P Q follows is = follows is
+on_ok (Err e) P Q follows is = tt

@@ -1,0 +1,139 @@
+-- Partial covers with other numbers for their outcomes.
+use Rattle.std.proofs.Common.{◌≡◌, ℕ, suc, ◌<◌, ◌≤◌, List, [], ◌∷◌, ◌++◌, ◌+◌, map, length, get_or, set, refl, sym, ap, ◌∙◌, subst, inl, inr, arith}
+use Rattle.std.specs.Prelude.{◌^◌}
+use Rattle.std.specs.FinSet as set
+use Rattle.std.proofs.lemmas.Bool.{cases_eq}
+use Rattle.std.proofs.lemmas.List.{map-append, get_or-set_same, get_or-set_other}
+use Rattle.tso_program.specs.declared.listing.Listing.{Listing}
+use Rattle.tso_program.specs.declared.outcome.Outcome.{Outcome}
+use Rattle.tso_program.specs.declared.shown.Shown.{Shown}
+use Rattle.tso_program.specs.Shown.{asked}
+use Rattle.tso_machine.specs.declared.mode.Mode.TheVariants as modes
+use Rattle.tso_machine.specs.Machine.{SequentialMachine}
+use Rattle.candidate_executions.specs.Sketches.{empty_sketch}
+use Rattle.exec_axioms.specs.ProgramSketches.{ProgramSketch, mode_in, nothing_chosen}
+use Rattle.exec_axioms.proofs.Lookups.{same_default}
+use Rattle.cert_forest.specs.declared.node.Node.{Node}
+use Rattle.cert_forest.specs.declared.node.Node.TheVariants as node
+use Rattle.cert_forest.specs.declared.node.TheConstants.{NEAR_RUNS}
+use Rattle.cert_forest.specs.Nodes.{spell}
+use Rattle.cert_forest.specs.Trees.{Cover}
+use Rattle.cover_judge.specs.declared.choice.Choice.{Choice}
+use Rattle.partial_covers.specs.declared.partial_cover.PartialCover.{PartialCover}
+use Rattle.partial_covers.specs.declared.partial_cover.Piece.{Piece}
+use Rattle.partial_covers.specs.NodeChanges.{renumbered_node}
+use Rattle.sketch_covers.specs.Covers.{IsWholeCover}
+use Rattle.sketch_covers.specs.OutcomeNumbers.{HasNumber, place_in, ArePlacesOf}
+use Rattle.partial_covers.specs.PartialCovers.{Item, Has, Lacks, renumbered_item, IsPieceRenumbered, PartialTree, Closed, Values, Hole, PartialTrees, NoPartial, MorePartial, count_partial, spell_partial, spell_partial_row, items_before, items_of, after, IsPartialAfter, ArePartialAfter, IsPartialCover}
+use Rattle.partial_covers.proofs.OtherNumbers.{renumbered}
+use Rattle.partial_covers.proofs.ChangedNodes.{spelled_renumbered}
+use Rattle.partial_covers.proofs.NearNumbers.{valid_near}
+use Rattle.partial_covers.proofs.RenumberedTrees.{cover_renumbered}
+
+-- ---- as it lies in memory
+
+map_has : (place : ℕ → ℕ) (xs : List Node) → map (renumbered_item place) (map Has xs) ≡ map Has (map (renumbered_node place) xs)
+map_has place [] = refl
+map_has place (x ∷ xs) = ap (λ (ys : List Item). Has (renumbered_node place x) ∷ ys) (map_has place xs)
+
+-- pieces with other numbers
+pub pieces_renumbered : (place : ℕ → ℕ) (old new : List Piece) → length new ≡ length old → ((k : ℕ) (d : Piece) → k < length old → IsPieceRenumbered place (get_or old k d) (get_or new k d)) →
+    items_before new ≡ map (renumbered_item place) (items_before old)
+pieces_renumbered place [] [] same each = refl
+pieces_renumbered place [] (q ∷ qs) same each = absurd (omega arith)
+pieces_renumbered place (p ∷ ps) [] same each = absurd (omega arith)
+pieces_renumbered place (p ∷ ps) (q ∷ qs) same each =
+    let first = each 0 p (omega arith) in
+    let rest = pieces_renumbered place ps qs (omega arith) (λ k d h. each (suc k) d (omega arith)) in
+    (λ i. map Has (first.nodes i) ++ Lacks (first.path i) ∷ rest i)
+    ∙ ap (λ (xs : List Item). xs ++ Lacks p.path.items ∷ map (renumbered_item place) (items_before ps)) (sym (map_has place p.nodes.items))
+    ∙ sym (map-append (renumbered_item place) (map Has p.nodes.items) (Lacks p.path.items ∷ items_before ps))
+
+-- one piece more has other numbers
+module _ (place : ℕ → ℕ) (old now : List Piece) (i : ℕ) (piece new : Piece) (here : i < length old) (long : length now ≡ length old) (left : (k : ℕ) (d : Piece) → i ≤ k → get_or now k d ≡ get_or old k d)
+    (at : piece ≡ get_or now i piece) (is : IsPieceRenumbered place piece new) where
+  within : i < length now
+  within = omega arith
+
+  was : (d : Piece) → get_or old i d ≡ piece
+  was d = sym (left i d (omega arith)) ∙ same_default now i d piece within ∙ sym at
+
+  pub pieces_made : ((k : ℕ) (d : Piece) → k < i → IsPieceRenumbered place (get_or old k d) (get_or now k d)) → (k : ℕ) (d : Piece) → k < i + 1 → IsPieceRenumbered place (get_or old k d) (get_or (set now i new) k d)
+  pieces_made made k d below = elim (cases_eq k i) [
+    | inl same ↦ subst (λ (j : ℕ). IsPieceRenumbered place (get_or old j d) (get_or (set now i new) j d)) (sym same)
+        (subst (λ (p : Piece). IsPieceRenumbered place p (get_or (set now i new) i d)) (sym (was d)) (subst (IsPieceRenumbered place piece) (sym (get_or-set_same now i new d within)) is))
+    | inr other ↦ subst (IsPieceRenumbered place (get_or old k d)) (sym (get_or-set_other now i k new d other)) (made k d (omega arith))
+  ]
+
+  pub pieces_left : (k : ℕ) (d : Piece) → i + 1 ≤ k → get_or (set now i new) k d ≡ get_or old k d
+  pieces_left k d above = get_or-set_other now i k new d (omega arith) ∙ left k d (omega arith)
+
+pub items_renumbered : (place : ℕ → ℕ) (old new : List Piece) (xs ys : List Node) → items_before new ≡ map (renumbered_item place) (items_before old) → ys ≡ map (renumbered_node place) xs →
+    items_before new ++ map Has ys ≡ map (renumbered_item place) (items_before old ++ map Has xs)
+items_renumbered place old new xs ys pieces nodes =
+    (λ i. pieces i ++ map Has (nodes i)) ∙ ap (λ (zs : List Item). map (renumbered_item place) (items_before old) ++ zs) (sym (map_has place xs))
+    ∙ sym (map-append (renumbered_item place) (items_before old) (map Has xs))
+
+-- ---- what holds of it
+
+-- a partial cover stays one over another list when its numbers are put for those of the same outcomes there
+module _ (s : ProgramSketch) (shown : Shown) (old new : List Outcome) (place : ℕ → ℕ) (few : length new < 2 ^ 64) (near : length old ≤ NEAR_RUNS) (small : (n : ℕ) → place n < NEAR_RUNS)
+    (moves : (n : ℕ) (o : Outcome) → HasNumber old n o → HasNumber new (place n) o) where
+  -- its nodes are those with the other numbers
+  pub record Renumbers (path : List Choice) (tree : PartialTree) : Type 0 where
+    pub made : PartialTree
+    pub is : IsPartialAfter s shown new path made
+    pub spelled : spell_partial made ≡ map (renumbered_item place) (spell_partial tree)
+
+  record RenumberEach (path choices : List Choice) (children : PartialTrees) : Type 0 where
+    made : PartialTrees
+    are : ArePartialAfter s shown new path made choices
+    count : count_partial made ≡ count_partial children
+    spelled : spell_partial_row made ≡ map (renumbered_item place) (spell_partial_row children)
+
+  mutual
+    pub partial_renumbered : (path : List Choice) (tree : PartialTree) → IsPartialAfter s shown old path tree → Renumbers path tree
+    partial_renumbered path (Closed tree) is =
+        let k = after s path in
+        record {
+          made = Closed (renumbered place tree);
+          is = cover_renumbered k shown old new place few moves tree is;
+          spelled = ap (map Has) (spelled_renumbered place small tree (valid_near (asked k.program shown) (mode_in k) old near tree k.chosen is.valid)) ∙ sym (map_has place (spell tree));
+        }
+    partial_renumbered path (Values t children) (choices, are, each) =
+        let below = each_renumbered path choices children each in
+        record {
+          made = Values t below.made;
+          is = (choices, are, below.are);
+          spelled = λ i. Has (node.Value t (below.count i)) ∷ below.spelled i;
+        }
+    partial_renumbered path (Hole to) is = record { made = Hole to; is = is; spelled = refl }
+
+    each_renumbered : (path choices : List Choice) (children : PartialTrees) → ArePartialAfter s shown old path children choices → RenumberEach path choices children
+    each_renumbered path [] NoPartial are = record { made = NoPartial; are = tt; count = refl; spelled = refl }
+    each_renumbered path (c ∷ cs) NoPartial are = absurd are
+    each_renumbered path [] (MorePartial child children) are = absurd are
+    each_renumbered path (c ∷ cs) (MorePartial child children) (now, later) =
+        let first = partial_renumbered (path ++ c ∷ []) child now in
+        let rest = each_renumbered path cs children later in
+        record {
+          made = MorePartial first.made rest.made;
+          are = (first.is, rest.are);
+          count = ap suc rest.count;
+          spelled = (λ i. first.spelled i ++ rest.spelled i) ∙ sym (map-append (renumbered_item place) (spell_partial child) (spell_partial_row children));
+        }
+
+-- so of a program's, which is renumbered by the places in the list
+pub table_renumbered : (p other : Listing) (shown copied : Shown) (known outcomes : List Outcome) (places : List ℕ) (before made : PartialCover) → other ≡ p → copied ≡ shown → length outcomes < 2 ^ 64 → length known ≤ NEAR_RUNS →
+    ((n : ℕ) → place_in places n < NEAR_RUNS) → IsPartialCover p shown known before → ArePlacesOf known outcomes places → items_of made ≡ map (renumbered_item (place_in places)) (items_of before) → IsPartialCover other copied outcomes made
+table_renumbered p other shown copied known outcomes places before made same alike few near small is moves by =
+    let again = partial_renumbered (nothing_chosen p (modes.Fenced set.empty)) shown known outcomes (place_in places) few near small moves [] is.tree is.is in
+    subst (λ (l : Listing). IsPartialCover l copied outcomes made) (sym same)
+    (subst (λ (sh : Shown). IsPartialCover p sh outcomes made) (sym alike)
+    (record { tree = again.made; is = again.is; pushed = by ∙ ap (map (renumbered_item (place_in places))) is.pushed ∙ sym again.spelled }))
+
+-- the nodes of a whole tree of the sequential machine, with other numbers, spell the tree with these
+pub tree_renumbered : (p : Listing) (shown : Shown) (known : List Outcome) (place : ℕ → ℕ) → ((n : ℕ) → place n < NEAR_RUNS) → (tree : Cover) → length known ≤ NEAR_RUNS → IsWholeCover (asked p shown) SequentialMachine known tree →
+    (old new : List Node) → old ≡ spell tree → new ≡ map (renumbered_node place) old → new ≡ spell (renumbered place tree)
+tree_renumbered p shown known place small tree few is old new spelled by =
+    by ∙ ap (map (renumbered_node place)) spelled ∙ sym (spelled_renumbered place small tree (valid_near (asked p shown) SequentialMachine known few tree (empty_sketch p) is.valid))

@@ -1,0 +1,90 @@
+-- Partial covers for each value of a read, put after the rest one by one.
+use Rattle.std.proofs.Common.{◌≡◌, ℕ, suc, ◌+◌, ◌<◌, List, [], ◌∷◌, ◌++◌, get_or, length, map, take, refl, sym, ap, ◌∙◌, subst, arith, append_assoc}
+use Rattle.std.proofs.lemmas.List.{take_more, append-nil}
+use Rattle.std.specs.FinSet as set
+use Rattle.tso_program.specs.declared.listing.Listing.{Listing}
+use Rattle.tso_program.specs.declared.outcome.Outcome.{Outcome}
+use Rattle.tso_program.specs.declared.shown.Shown.{Shown}
+use Rattle.tso_machine.specs.declared.mode.Mode.TheVariants as modes
+use Rattle.exec_axioms.specs.ProgramSketches.{ProgramSketch, mode_in, nothing_chosen, with_chosen}
+use Rattle.cert_forest.specs.declared.node.Node.TheVariants as node
+use Rattle.cover_judge.specs.declared.choice.Choice.{Choice}
+use Rattle.cover_judge.specs.Choices.{AreValueChoices, sketch_with}
+use Rattle.partial_covers.specs.declared.partial_cover.PartialCover.{PartialCover}
+use Rattle.sketch_covers.specs.OutcomeNumbers.{KeepsNumbers}
+use Rattle.partial_covers.specs.PartialCovers.{Item, Has, PartialTree, Closed, Values, Hole, PartialTrees, NoPartial, MorePartial, partial_of, count_partial, spell_partial, spell_partial_row, after, IsPartialAfter, ArePartialAfter, PushesPartial, PushesPartialRow, IsPartialCover}
+use Rattle.sketch_covers.proofs.Growing.{still_valid}
+
+-- one choice more
+pub after_more : (s : ProgramSketch) (path : List Choice) (c : Choice) → after s (path ++ c ∷ []) ≡ with_chosen (after s path) (sketch_with (after s path).chosen c)
+after_more s [] c = refl
+after_more s (d ∷ path) c = after_more (with_chosen s (sketch_with s.chosen d)) path c
+
+module _ (s : ProgramSketch) (shown : Shown) where
+  -- a partial cover stays one where each outcome keeps its number
+  mutual
+    pub partial_still : (old new : List Outcome) → KeepsNumbers old new → (path : List Choice) (tree : PartialTree) → IsPartialAfter s shown old path tree → IsPartialAfter s shown new path tree
+    partial_still old new keeps path (Closed tree) is = record {
+      valid = still_valid (record { program = (after s path).program; shown = shown }) (mode_in (after s path)) old new keeps tree (after s path).chosen is.valid;
+      neat = is.neat;
+      shallow = is.shallow;
+    }
+    partial_still old new keeps path (Values t children) (choices, are, each) = (choices, are, each_still old new keeps path children choices each)
+    partial_still old new keeps path (Hole to) is = is
+
+    pub each_still : (old new : List Outcome) → KeepsNumbers old new → (path : List Choice) (children : PartialTrees) (choices : List Choice) → ArePartialAfter s shown old path children choices → ArePartialAfter s shown new path children choices
+    each_still old new keeps path NoPartial [] are = tt
+    each_still old new keeps path NoPartial (c ∷ cs) are = absurd are
+    each_still old new keeps path (MorePartial child children) [] are = absurd are
+    each_still old new keeps path (MorePartial child children) (c ∷ cs) (now, later) = (partial_still old new keeps (path ++ c ∷ []) child now, each_still old new keeps path children cs later)
+
+  module _ (outcomes : List Outcome) (path : List Choice) where
+    partial_push : (children : List PartialTree) (choices : List Choice) (child : PartialTree) (c : Choice) → ArePartialAfter s shown outcomes path (partial_of children) choices →
+        IsPartialAfter s shown outcomes (path ++ c ∷ []) child → ArePartialAfter s shown outcomes path (partial_of (children ++ child ∷ [])) (choices ++ c ∷ [])
+    partial_push [] [] child c are is = (is, tt)
+    partial_push [] (d ∷ choices) child c are is = absurd are
+    partial_push (k ∷ children) [] child c are is = absurd are
+    partial_push (k ∷ children) (d ∷ choices) child c are is = (are.0, partial_push children choices child c are.1 is)
+
+    as_many_partial : (children : List PartialTree) (choices : List Choice) → ArePartialAfter s shown outcomes path (partial_of children) choices → count_partial (partial_of children) ≡ length choices
+    as_many_partial [] [] are = refl
+    as_many_partial [] (c ∷ cs) are = absurd are
+    as_many_partial (k ∷ ks) [] are = absurd are
+    as_many_partial (k ∷ ks) (c ∷ cs) are = ap suc (as_many_partial ks cs are.1)
+
+    row_more : (children : List PartialTree) (child : PartialTree) → spell_partial_row (partial_of (children ++ child ∷ [])) ≡ spell_partial_row (partial_of children) ++ spell_partial child
+    row_more [] child = append-nil (spell_partial child)
+    row_more (k ∷ ks) child = ap (λ (xs : List Item). spell_partial k ++ xs) (row_more ks child) ∙ sym (append_assoc (spell_partial k) (spell_partial_row (partial_of ks)) (spell_partial child))
+
+    -- none yet
+    pub none_partial : (choices : List Choice) (old : List Item) → PushesPartialRow s shown outcomes path (take 0 choices) old old
+    none_partial choices old = record { children = []; are = tt; pushed = sym (append-nil old) }
+
+    -- one more
+    pub one_partial : (before : List Outcome) (choices : List Choice) (i : ℕ) (d : Choice) (old now new : List Item) → i < length choices → KeepsNumbers before outcomes → PushesPartialRow s shown before path (take i choices) old now
+        → PushesPartial s shown outcomes (path ++ get_or choices i d ∷ []) now new → PushesPartialRow s shown outcomes path (take (i + 1) choices) old new
+    one_partial before choices i d old now new here keeps so more = record {
+      children = so.children ++ more.tree ∷ [];
+      are = subst (ArePartialAfter s shown outcomes path (partial_of (so.children ++ more.tree ∷ []))) (sym (take_more choices i d here))
+          (partial_push so.children (take i choices) more.tree (get_or choices i d) (each_still before outcomes keeps path (partial_of so.children) (take i choices) so.are) more.is);
+      pushed = more.pushed ∙ ap (λ (xs : List Item). xs ++ spell_partial more.tree) so.pushed ∙ append_assoc old (spell_partial_row (partial_of so.children)) (spell_partial more.tree)
+          ∙ ap (λ (xs : List Item). old ++ xs) (sym (row_more so.children more.tree));
+    }
+
+    -- the node, and then all of them
+    pub values_partial : (t : ℕ) (choices : List Choice) (old mid new : List Item) → AreValueChoices (after s path) t choices → mid ≡ old ++ Has (node.Value t (length choices)) ∷ [] → PushesPartialRow s shown outcomes path choices mid new
+        → PushesPartial s shown outcomes path old new
+    values_partial t choices old mid new are root so = record {
+      tree = Values t (partial_of so.children);
+      is = (choices, are, so.are);
+      pushed = so.pushed ∙ ap (λ (xs : List Item). xs ++ spell_partial_row (partial_of so.children)) root ∙ append_assoc old (Has (node.Value t (length choices)) ∷ []) (spell_partial_row (partial_of so.children))
+          ∙ ap (λ (n : ℕ). old ++ Has (node.Value t n) ∷ spell_partial_row (partial_of so.children)) (sym (as_many_partial so.children choices so.are));
+    }
+
+-- so of the partial cover of a program
+pub partial_grown : (p : Listing) (shown : Shown) (old new : List Outcome) (kept : PartialCover) → KeepsNumbers old new → IsPartialCover p shown old kept → IsPartialCover p shown new kept
+partial_grown p shown old new kept keeps is = record {
+  tree = is.tree;
+  is = partial_still (nothing_chosen p (modes.Fenced set.empty)) shown old new keeps [] is.tree is.is;
+  pushed = is.pushed;
+}

@@ -1,0 +1,129 @@
+-- Parts of a search, while the list of outcomes grows and choices are made, and the cover of one beside the rest.
+use Rattle.std.proofs.Common.{◌≡◌, Bool, true, false, ℕ, ◌+◌, ◌<◌, ◌≤◌, List, [], ◌∷◌, ◌++◌, Option, Some, None, get_or, set, take, drop, length, map, inl, inr, arith, refl, sym, ap, ◌∙◌, subst}
+use Rattle.std.specs.Prelude.{◌^◌, All, IfSome, MatchOption}
+use Rattle.std.proofs.lemmas.Bool.{cases_eq}
+use Rattle.std.proofs.lemmas.List.{get_or-set_same, get_or-set_other, append-nil, take_all, drop_all}
+use Rattle.exec_axioms.proofs.Lookups.{same_default}
+use Rattle.tso_machine.specs.declared.mode.Mode.{Mode}
+use Rattle.candidate_executions.specs.Sketches.{IsWhole}
+use Rattle.tso_program.specs.declared.outcome.Outcome.{Outcome}
+use Rattle.tso_program.specs.declared.shown.Shown.{Shown}
+use Rattle.tso_program.specs.Shown.{Question, asked}
+use Rattle.exec_axioms.specs.ProgramSketches.{ProgramSketch, mode_in, with_chosen}
+use Rattle.cert_forest.specs.declared.node.TheConstants.{NEAR_RUNS}
+use Rattle.cover_judge.specs.declared.choice.Choice.{Choice}
+use Rattle.cover_judge.specs.Choices.{sketch_with}
+use Rattle.sketch_covers.specs.declared.outcome_index.OutcomeIndex.{OutcomeIndex}
+use Rattle.sketch_covers.specs.declared.known_outcomes.KnownOutcomes.{KnownOutcomes}
+use Rattle.sketch_covers.specs.declared.known_outcomes.KnownOutcomes.TheVariants.{Closed, Open}
+use Rattle.partial_covers.specs.declared.part.PartCover.{PartCover}
+use Rattle.partial_covers.specs.declared.part.Part.{Part}
+use Rattle.sketch_covers.specs.OutcomeNumbers.{HasNumber}
+use Rattle.partial_covers.specs.PartialCovers.{Item, renumbered_item, after, PushesPartialAt}
+use Rattle.sketch_covers.specs.KnownOutcomes.{StaysOf}
+use Rattle.partial_covers.specs.Parts.{AreRunsFor, IsMadeAt, IsPartFor, ArePartsFor, IfJoined, IsMadeIn}
+use Rattle.partial_covers.proofs.PartialRenumbered.{partial_renumbered}
+use Rattle.branching.specs.declared.plan.LastThread.{LastThread}
+use Rattle.branching.specs.declared.plan.Plan.{Plan}
+use Rattle.branching.specs.Plans.{IsOfOther, IsLast, IsBeforeLast}
+use Rattle.partial_covers.specs.Parts.{IsPartOf, IsSearched, AreSearched, IsPlanned}
+use Rattle.partial_covers.proofs.CombinedCovers.{before_next}
+use Rattle.partial_covers.proofs.PartialRows.{after_more}
+
+runs_stay : (q : Question) (old new : KnownOutcomes) (found : OutcomeIndex) → StaysOf old new → AreRunsFor q old found → AreRunsFor q new found
+runs_stay q (Closed outcomes) new found stays runs = subst (λ (o : KnownOutcomes). AreRunsFor q o found) (sym stays) runs
+runs_stay q (Open other mode) new found stays runs = subst (λ (o : KnownOutcomes). AreRunsFor q o found) (sym stays.1) runs
+
+-- the list has grown
+module _ (shown : Shown) (old new : KnownOutcomes) (stays : StaysOf old new) where
+  made_still : (s : ProgramSketch) (path : List Choice) (made : Option PartCover) → IfSome made (IsMadeAt s shown old path) → IfSome made (IsMadeAt s shown new path)
+  made_still s path (Some made) is = record { in_order = is.in_order; runs = runs_stay (asked s.program shown) old new made.found stays is.runs; kept = is.kept }
+  made_still s path None is = tt
+
+  pub parts_still : (s : ProgramSketch) (path : List Choice) (parts : List Part) → ArePartsFor s shown old path parts → ArePartsFor s shown new path parts
+  parts_still s path parts are i d h = (let p = are i d h in record { root = p.root; leads = p.leads; is = made_still _ _ _ p.is })
+
+-- a choice more
+pub parts_after : (s next : ProgramSketch) (shown : Shown) (outcomes : KnownOutcomes) (path : List Choice) (c : Choice) (parts : List Part) → next ≡ with_chosen s (sketch_with s.chosen c) → ArePartsFor s shown outcomes path parts
+    → ArePartsFor next shown outcomes (path ++ c ∷ []) parts
+parts_after s next shown outcomes path c parts same are i d h =
+    let p = are i d h in
+    record { root = p.root; leads = after_more p.root path c ∙ ap (λ (k : ProgramSketch). with_chosen k (sketch_with k.chosen c)) p.leads ∙ sym same; is = p.is }
+
+-- the cover of a part, with the numbers of the same outcomes in another list, comes after the rest
+pub part_renumbered : (s : ProgramSketch) (shown : Shown) (old new : List Outcome) (place : ℕ → ℕ) → length new < 2 ^ 64 → length old ≤ NEAR_RUNS → ((n : ℕ) → place n < NEAR_RUNS) → ((n : ℕ) (o : Outcome) → HasNumber old n o → HasNumber new (place n) o) →
+    (path : List Choice) (items before now : List Item) → PushesPartialAt s shown old path [] items → now ≡ before ++ map (renumbered_item place) items → PushesPartialAt s shown new path before now
+part_renumbered s shown old new place few near small moves path items before now kept by root leads =
+    let has = kept root leads in
+    let again = partial_renumbered root shown old new place few near small moves path has.tree has.is in
+    record { tree = again.made; is = again.is; pushed = by ∙ ap (λ (xs : List Item). before ++ map (renumbered_item place) xs) has.pushed ∙ ap (λ (xs : List Item). before ++ xs) (sym again.spelled) }
+
+-- a part was joined, or none was
+module _ (s : ProgramSketch) (shown : Shown) (outcomes : List Outcome) (path : List Choice) (before now : List Item) (b : Bool) where
+  pub was_joined : b ≡ true → IfJoined s shown outcomes path before now b → PushesPartialAt s shown outcomes path before now
+  was_joined is joined = subst (IfJoined s shown outcomes path before now) is joined
+
+  pub not_joined : b ≡ false → IfJoined s shown outcomes path before now b → now ≡ before
+  not_joined is joined = subst (IfJoined s shown outcomes path before now) is joined
+
+-- the same part, and the part after a choice of another thread
+module _ (root : ProgramSketch) (last : LastThread) (part new : Part) (is : IsPartOf root last part) where
+  pub part_copied : new.path.items ≡ part.path.items → new.sketch ≡ part.sketch → IsPartOf root last new
+  part_copied path sketch = record { leads = ap (after root) path ∙ is.leads ∙ sym sketch; before = subst (λ (s : ProgramSketch). IsBeforeLast s last) (sym sketch) is.before }
+
+  pub part_next : (c : Choice) → IsOfOther last.thread c → new.path.items ≡ part.path.items ++ c ∷ [] → new.sketch ≡ with_chosen part.sketch (sketch_with part.sketch.chosen c) → IsPartOf root last new
+  part_next c other path sketch = record {
+    leads = ap (after root) path ∙ after_more root part.path.items c ∙ ap (λ (k : ProgramSketch). with_chosen k (sketch_with k.chosen c)) is.leads ∙ sym sketch;
+    before = before_next part.sketch new.sketch last c other sketch is.before;
+  }
+
+-- the cover of a part is so of the search of the root
+pub part_searched : (root : ProgramSketch) (last : LastThread) (shown : Shown) (other : OutcomeIndex) (mode : Mode) (old new : Part) → IsPartOf root last old → IsSearched shown mode old new → IsPartFor root shown (Open other mode) [] new
+part_searched root last shown other mode old new is searched = record {
+  root = root;
+  leads = refl;
+  is = made_from new.made (subst (λ (s : ProgramSketch). IfSome new.made (IsMadeIn s shown mode old.path.items)) (sym is.leads) searched.made);
+}
+  where
+    made_from : (made : Option PartCover) → IfSome made (IsMadeIn (after root old.path.items) shown mode old.path.items) → IfSome made (IsMadeAt (after root new.path.items) shown (Open other mode) new.path.items)
+    made_from (Some found) so = subst (λ (cs : List Choice). IsMadeAt (after root cs) shown (Open other mode) cs found) (sym searched.path) (so other)
+    made_from None so = tt
+
+-- one part more is searched
+module _ (shown : Shown) (mode : Mode) (old now : List Part) (i : ℕ) (part new : Part) (here : i < length old) (long : length now ≡ length old) (left : (k : ℕ) (d : Part) → i ≤ k → get_or now k d ≡ get_or old k d)
+    (at : part ≡ get_or now i part) (is : IsSearched shown mode part new) where
+  within : i < length now
+  within = omega arith
+
+  was : (d : Part) → get_or old i d ≡ part
+  was d = sym (left i d (omega arith)) ∙ same_default now i d part within ∙ sym at
+
+  pub searched_made : ((k : ℕ) (d : Part) → k < i → IsSearched shown mode (get_or old k d) (get_or now k d)) → (k : ℕ) (d : Part) → k < i + 1 → IsSearched shown mode (get_or old k d) (get_or (set now i new) k d)
+  searched_made made k d below = elim (cases_eq k i) [
+    | inl same ↦ subst (λ (j : ℕ). IsSearched shown mode (get_or old j d) (get_or (set now i new) j d)) (sym same)
+        (subst (λ (p : Part). IsSearched shown mode p (get_or (set now i new) i d)) (sym (was d)) (subst (IsSearched shown mode part) (sym (get_or-set_same now i new d within)) is))
+    | inr other ↦ subst (IsSearched shown mode (get_or old k d)) (sym (get_or-set_other now i k new d other)) (made k d (omega arith))
+  ]
+
+  pub searched_left : (k : ℕ) (d : Part) → i + 1 ≤ k → get_or (set now i new) k d ≡ get_or old k d
+  searched_left k d above = get_or-set_other now i k new d (omega arith) ∙ left k d (omega arith)
+
+-- each part of a search that is ready is as it must be, and their covers once they are searched are so
+pub parts_ready : (s : ProgramSketch) (plan : Option Plan) (one : Plan) (parts : List Part) → plan ≡ Some one → IsPlanned s plan parts → All (λ part. IsBeforeLast part.sketch one.last) parts
+parts_ready s plan one parts is planned i d h = ((subst (λ (p : Option Plan). IsPlanned s p parts) is planned).1 i d h).before
+
+pub parts_begun : (s : ProgramSketch) (shown : Shown) (none : OutcomeIndex) (mode : Mode) (plan : Option Plan) (one : Plan) (old new : List Part) → plan ≡ Some one → IsPlanned s plan old → AreSearched shown mode old new → ArePartsFor s shown (Open none mode) [] new
+parts_begun s shown none mode plan one old new is planned searched i d h =
+    let here : i < length old = (let same = searched.as_many in omega arith) in
+    part_searched s one.last shown none mode _ _ ((subst (λ (p : Option Plan). IsPlanned s p old) is planned).1 i d here) (searched.each i d here)
+
+pub none_begun : (s : ProgramSketch) (shown : Shown) (outcomes : KnownOutcomes) (plan : Option Plan) (parts : List Part) → plan ≡ None → IsPlanned s plan parts → ArePartsFor s shown outcomes [] parts
+none_begun s shown outcomes plan parts is planned i d h = (let none : length parts ≡ 0 = ap length (subst (λ (p : Option Plan). IsPlanned s p parts) is planned).1 in absurd (omega arith))
+
+pub planned_last : (s : ProgramSketch) (plan : Option Plan) (parts : List Part) → IsPlanned s plan parts → MatchOption plan (IsWhole s.program (mode_in s) s.chosen) (λ plan. IsLast s plan.last)
+planned_last s (Some plan) parts planned = planned.0
+planned_last s None parts planned = planned.0
+
+-- as many are written back as there were
+pub written_back : (old new : List Part) (n : ℕ) → n ≡ length old → length new ≡ length old → take n (new ++ drop (length new) old) ≡ new
+written_back old new n same many = ap (λ (xs : List Part). take n (new ++ xs)) (drop_all (length new) old (omega arith)) ∙ ap (take n) (append-nil new) ∙ take_all n new (omega arith)

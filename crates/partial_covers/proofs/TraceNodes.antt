@@ -1,0 +1,76 @@
+-- The nodes of a thread's traces, at a sketch in which the other threads have their values.
+use Rattle.std.proofs.Common.{◌≡◌, ℕ, ◌+◌, ◌<◌, ◌≤◌, List, [], ◌∷◌, ◌++◌, get_or, length, map, take, sym, ap, subst, arith}
+use Rattle.std.specs.Prelude.{◌^◌}
+use Rattle.std.proofs.lemmas.List.{length-map, take_all}
+use Rattle.tso_program.specs.declared.outcome.Outcome.{Outcome}
+use Rattle.tso_program.specs.declared.shown.Shown.{Shown}
+use Rattle.exec_axioms.specs.ProgramSketches.{ProgramSketch, with_chosen}
+use Rattle.exec_axioms.specs.Kept.{IsLawful}
+use Rattle.exec_axioms.specs.Sizes.{HaveAllRegisters}
+use Rattle.cover_judge.specs.declared.choice.Choice.{Choice}
+use Rattle.cover_judge.specs.declared.choice.Choice.TheVariants as choice
+use Rattle.cover_judge.specs.Choices.{AreValueChoices, sketch_with}
+use Rattle.branching.specs.declared.tally.Tally.{Tally}
+use Rattle.branching.specs.declared.traces.TraceTree.{TraceTree}
+use Rattle.branching.specs.Combinations.{AreAlike, IsBase, with_root}
+use Rattle.branching.specs.Traces.{Traces, Read, traces, trees_of, root, first_choices, IsTraceTree}
+use Rattle.partial_covers.proofs.CombinedCovers.{child_alike, child_parts}
+use Rattle.partial_covers.proofs.CombinedSketches.{lawful_merged, values_merged}
+use Rattle.cover_judge.proofs.ChoicesJudged.{next_is_open}
+use Rattle.branching.specs.declared.open_choice.OpenChoice.TheVariants as left
+use Rattle.sketch_covers.proofs.Nodes.{few_choices}
+use Rattle.branching.proofs.TraceTrees.{as_many_trees, child_tree}
+
+module _ (s : ProgramSketch) (t : ℕ) (others : Tally) (base : IsBase t s others) (lawful : IsLawful s) (u : ProgramSketch) (own : IsLawful u) (choices : List Choice) (after : List TraceTree)
+    (x : Traces) (is : x ≡ Read u choices (trees_of (map traces after))) (is_tree : IsTraceTree t x) (is_alike : AreAlike (root x) s) (shown : Shown) where
+  abbrev node : Traces
+  node = Read u choices (trees_of (map traces after))
+
+  abbrev merged : ProgramSketch
+  merged = with_root t s node
+
+  tree : IsTraceTree t node
+  tree = subst (IsTraceTree t) is is_tree
+
+  alike : AreAlike u s
+  alike = subst (λ (y : Traces). AreAlike (root y) s) is is_alike
+
+  lawful_here : IsLawful merged
+  lawful_here = lawful_merged s u t lawful base.alone base.there own alike
+
+  are : AreValueChoices merged t choices
+  are = values_merged s u t lawful base.alone base.there own alike choices tree.0
+
+  as_many : length after ≡ length choices
+  as_many = (let many = as_many_trees t u (map traces after) choices tree.2 in let long = length-map after traces in omega arith)
+
+  -- the child at a place
+  module _ (i : ℕ) (item : TraceTree) (here : i < length after) (at : item ≡ get_or after i item) where
+    abbrev ch : Choice
+    ch = get_or choices i (choice.Value 0 0)
+
+    child : (root (traces item) ≡ with_chosen u (sketch_with u.chosen ch)) × IsTraceTree t (traces item)
+    child = child_tree t u choices after tree.2 i item (choice.Value 0 0) here at
+
+    below : i < length choices
+    below = (let many = as_many in omega arith)
+
+    pub child_meets : IsTraceTree t (traces item) × AreAlike (root (traces item)) s
+    child_meets = (child.1, child_alike s u t lawful base.alone base.there own alike choices tree.0 i (choice.Value 0 0) below (traces item) child.0)
+
+    -- the sketch at it
+    pub child_at : with_root t s (traces item) ≡ with_chosen (with_root t s x) (sketch_with (with_root t s x).chosen (get_or (first_choices x) i (choice.Value 0 0)))
+    child_at = subst (λ (y : Traces). with_root t s (traces item) ≡ with_chosen (with_root t s y) (sketch_with (with_root t s y).chosen (get_or (first_choices y) i (choice.Value 0 0)))) (sym is)
+        (child_parts s u t lawful base.alone base.there own alike choices tree.0 i (choice.Value 0 0) below (traces item) child.0)
+
+  pub as_many_here : length after ≡ length (first_choices x)
+  as_many_here = subst (λ (y : Traces). length after ≡ length (first_choices y)) (sym is) as_many
+
+  pub choices_here : first_choices x ≡ choices
+  choices_here = ap first_choices is
+
+  pub are_here : AreValueChoices (with_root t s x) t (first_choices x)
+  are_here = subst (λ (y : Traces). AreValueChoices (with_root t s y) t (first_choices y)) (sym is) are
+
+  pub few_here : (outcomes : List Outcome) → HaveAllRegisters s.program.threads → length choices < 2 ^ 32
+  few_here outcomes six = few_choices merged shown outcomes lawful_here (left.Value t) choices six (next_is_open merged t are.values are.next) are

@@ -1,0 +1,8 @@
+use Rattle.std.specs.Prelude.{All}
+use Rattle.exec_axioms.specs.ProgramSketches.{ProgramSketch}
+use Rattle.partial_covers.specs.Parts.{IsPartOf}
+use Rattle.partial_covers.proofs.cutting.cut_each.Given as goal
+
+-- those so far are parts of each search of which the old ones are
+abbrev pub invariant-loop-part : goal.invariant-loop-part
+invariant-loop-part l = (root : ProgramSketch) → All (IsPartOf root l.plan.last) l.parts → All (IsPartOf root l.plan.last) l.smaller.items

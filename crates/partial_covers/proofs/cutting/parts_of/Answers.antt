@@ -1,0 +1,9 @@
+use Rattle.std.proofs.Common.{sym, subst}
+use Rattle.std.specs.Prelude.{All}
+use Rattle.partial_covers.specs.Parts.{IsPartOf}
+use Rattle.partial_covers.proofs.cutting.parts_of.Goals as goal
+
+pub loop-preserved : goal.loop-preserved
+loop-preserved c =
+    let s = c.args.sketch.now in
+    c.in_ok-parts.ensures s (subst (All (IsPartOf s c.args.plan.now.last)) (sym c.deref.ensures.value) c.loop.invariant)

@@ -1,0 +1,7 @@
+use Rattle.std.proofs.Common.{◌≡◌, take}
+use Rattle.partial_covers.specs.PartialCovers.{after}
+use Rattle.partial_covers.proofs.filling.choose_all.Given as goal
+
+-- the choices so far are made
+abbrev pub invariant-loop-choice : goal.invariant-loop-choice
+invariant-loop-choice l = l.sketch ≡ after l.fn.sketch (take l.choice-index l.choices)

@@ -1,0 +1,14 @@
+use Rattle.std.proofs.Common.{take}
+use Rattle.tso_program.specs.Shown.{asked}
+use Rattle.exec_axioms.specs.ProgramSketches.{nothing_chosen}
+use Rattle.partial_covers.specs.PartialCovers.{items_before}
+use Rattle.sketch_covers.specs.KnownOutcomes.{by_number, Grows}
+use Rattle.partial_covers.proofs.FilledNodes.{Filled}
+use Rattle.partial_covers.proofs.filling.fill.Given as goal
+
+-- the list has grown, and the nodes stand for the pieces so far
+abbrev pub invariant-loop-piece : goal.invariant-loop-piece
+invariant-loop-piece g l = record {
+  grows : Grows (asked l.program l.shown) l.fn.outcomes l.outcomes;
+  nodes : Filled (nothing_chosen l.program l.fn.mode) l.shown (by_number l.outcomes) (items_before (take l.piece-index l.kept.pieces.items)) l.nodes.items;
+}

@@ -1,0 +1,21 @@
+use Rattle.std.proofs.Common.{refl, sym, subst, ◌∙◌}
+use Rattle.tso_program.specs.Shown.{asked}
+use Rattle.tso_machine.specs.Modes.{machine_of_mode}
+use Rattle.exec_axioms.specs.ProgramSketches.{nothing_chosen}
+use Rattle.cert_forest.proofs.NodeLaws.{is_tree, same_tree}
+use Rattle.sketch_covers.specs.Covers.{IsWholeCover}
+use Rattle.sketch_covers.specs.KnownOutcomes.{by_number}
+use Rattle.sketch_covers.proofs.Nodes.{cover_first}
+use Rattle.partial_covers.proofs.outcome_search.cover_all.Goals as goal
+
+pub of_nodes-requires : goal.of_nodes-requires
+of_nodes-requires g c = (let made = c.in_ok-nodes.ensures.tree in is_tree made.tree c.in_ok-nodes.nodes.items made.pushed)
+
+pub returns-clause-tree : goal.returns-clause-tree
+returns-clause-tree g c =
+    let p = c.args.program.now in
+    let shown = c.args.shown.now in
+    let outcomes = by_number c.fill.new.outcomes in
+    let made = c.in_ok-nodes.ensures.tree in
+    subst (IsWholeCover (asked p shown) (machine_of_mode p c.args.mode) outcomes) (sym (same_tree c.in_ok-of_nodes.field-0 made.tree (c.in_ok-of_nodes.ensures ∙ made.pushed)))
+    (cover_first p c.args.mode (nothing_chosen p c.args.mode) shown outcomes made.tree refl made.is)

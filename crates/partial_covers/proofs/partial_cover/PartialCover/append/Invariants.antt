@@ -1,0 +1,7 @@
+use Rattle.std.proofs.Common.{◌≡◌, ◌++◌}
+use Rattle.partial_covers.specs.PartialCovers.{items_of, items_before}
+use Rattle.partial_covers.proofs.partial_cover.PartialCover.append.Given as goal
+
+-- the pieces so far come after the rest
+abbrev pub invariant-loop-piece : goal.invariant-loop-piece
+invariant-loop-piece l = items_of l.self ≡ items_of l.fn.self ++ items_before l.yielded

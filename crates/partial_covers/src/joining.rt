@@ -1,0 +1,117 @@
+//! How the cover of a part comes to the rest: its outcomes, and then its nodes with their numbers there.
+ghost use Rattle.std.specs.Prelude.{◌≡◌, List, [], IsTrue, IfOk, IfSome, OnOk};
+ghost use Rattle.tso_program.specs.declared.shown.Shown.{Shown as ShownValue};
+ghost use Rattle.tso_program.specs.Shown.{Question, asked};
+ghost use Rattle.tso_machine.specs.Machine.{Machine};
+ghost use Rattle.exec_axioms.specs.ProgramSketches.{ProgramSketch};
+ghost use Rattle.cover_judge.specs.declared.choice.Choice.{Choice as ChoiceValue};
+ghost use Rattle.sketch_covers.specs.declared.known_outcomes.KnownOutcomes.{KnownOutcomes as KnownValue};
+ghost use Rattle.sketch_covers.specs.OutcomeNumbers.{IsInOrder, KeepsNumbers, AreRunsOf};
+ghost use Rattle.partial_covers.specs.PartialCovers.{items_of, PushesPartialAt};
+ghost use Rattle.sketch_covers.specs.KnownOutcomes.{by_number, AreInOrder, Grows};
+ghost use Rattle.partial_covers.specs.Parts.{IsMadeAt, ArePartsFor, AreLeftOf, IfJoined, IsPathAt};
+
+use crate::part::{Part, PartCover};
+use crate::partial_cover::PartialCover;
+use crate::renumbering::renumber_partial;
+use cover_judge::Choice;
+use exec_axioms::Sketch;
+use sketch_covers::{KnownOutcomes, OutcomeIndex};
+use std::alloc::{AllocError, Global};
+use tso_program::Shown;
+
+/// Takes the cover of the part of a path, if there is one, and answers whether it did. The path leads to the sketch.
+pub(crate) fn join_part(
+    alloc: Global,
+    _sketch: &Sketch,
+    _shown: &Shown,
+    path: &[Choice],
+    parts: &mut Vec<Part>,
+    outcomes: &mut KnownOutcomes,
+    kept: &mut PartialCover,
+) -> Result<bool, AllocError>
+    requires in_order { AreInOrder outcomes.old }
+    requires parts { ArePartsFor _sketch.now _shown.now outcomes.old path.now parts.old.items }
+    ensures left { OnOk result (AreLeftOf parts.old.items parts.new.items) }
+    ensures grows { OnOk result (Grows (asked _sketch.now.program _shown.now) outcomes.old outcomes.new) }
+    ensures tree { IfOk result (IfJoined _sketch.now _shown.now (by_number outcomes.new) path.now (items_of kept.old) (items_of kept.new)) }
+{
+    let KnownOutcomes::Open { found, .. } = outcomes else {
+        return Ok(false);
+    };
+    match take_made(parts, path) {
+        Some(made) => {
+            join(alloc, made, found, kept)?;
+            Ok(true)
+        }
+        None => Ok(false),
+    }
+}
+
+/// Adds the outcomes that are new, and puts the part's cover after the rest.
+fn join(
+    alloc: Global,
+    made: PartCover,
+    found: &mut OutcomeIndex,
+    kept: &mut PartialCover,
+) -> Result<(), AllocError>
+    requires in_order { IsInOrder found.old }
+    requires made { IsInOrder made.found }
+    ensures in_order { OnOk result (IsInOrder found.new) }
+    ensures keeps { OnOk result (KeepsNumbers found.old.by_number.items found.new.by_number.items) }
+    ensures runs { OnOk result ((q : Question) (mode : Machine) → AreRunsOf q mode made.found.runs made.found.outcomes.items → AreRunsOf q mode found.old.runs found.old.outcomes.items → AreRunsOf q mode found.new.runs found.new.outcomes.items) }
+    ensures tree { OnOk result ((s : ProgramSketch) (shown : ShownValue) (path : List ChoiceValue) → PushesPartialAt s shown made.found.by_number.items path [] (items_of made.kept) → PushesPartialAt s shown found.new.by_number.items path (items_of kept.old) (items_of kept.new)) }
+{
+    let PartCover {
+        found: own,
+        kept: mut tree,
+    } = made;
+    let places = found.add_all(alloc, &own)?;
+    renumber_partial(&mut tree, &places);
+    kept.append(alloc, tree)
+}
+
+/// The cover of the part of a path. It is taken out.
+fn take_made(parts: &mut Vec<Part>, path: &[Choice]) -> Option<PartCover>
+    ensures left { AreLeftOf parts.old.items parts.new.items }
+    ensures made { (s : ProgramSketch) (shown : ShownValue) (outcomes : KnownValue) → ArePartsFor s shown outcomes path.now parts.old.items → IfSome result (IsMadeAt s shown outcomes path.now) }
+{
+    let place = place_of_path(parts, path)?;
+    parts[place].made.take()
+}
+
+/// The place of the part of a path.
+fn place_of_path(parts: &[Part], path: &[Choice]) -> Option<usize>
+    ensures { IfSome result (IsPathAt parts.now path.now) }
+{
+    for (place, part) in parts.iter().enumerate() {
+        if is_same_path(&part.path, path) {
+            return Some(place);
+        }
+    }
+    None
+}
+
+/// Whether two paths are one, of values alone.
+fn is_same_path(a: &[Choice], b: &[Choice]) -> bool
+    ensures { IsTrue result → a.now ≡ b.now }
+{
+    if a.len() != b.len() {
+        return false;
+    }
+    for i in 0..a.len() {
+        if !is_same_value(a[i], b[i]) {
+            return false;
+        }
+    }
+    true
+}
+
+fn is_same_value(a: Choice, b: Choice) -> bool
+    ensures { IsTrue result → a ≡ b }
+{
+    match (a, b) {
+        (Choice::Value(t, value), Choice::Value(u, other)) => t == u && value == other,
+        _ => false,
+    }
+}

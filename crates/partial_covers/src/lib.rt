@@ -1,0 +1,31 @@
+//! Cover trees of programs with holes, made once with no gap fenced, and filled for each machine.
+//!
+//! A long search is cut into parts, which threads may search. Each part has outcomes and a partial cover of
+//! its own, and the parts are joined in their order.
+//!
+//! Begin with `start_by`, `all_outcomes` and `cover_all`. Free to change: where a search is cut
+//! (`cutting.rt`), who searches the parts (`searching.rt`), and what a watch is given (`watch.rt`). Relied on:
+//! a partial cover holds in each machine but for its holes, each read has its value at a hole, a filled tree
+//! is valid, and a search that stops has a run whose outcome the list lacks.
+#![tactic(auto)]
+
+mod cover_or_hole;
+mod cutting;
+mod filling;
+mod joining;
+mod outcome_search;
+mod part;
+mod partial_cover;
+mod renumbering;
+mod searching;
+mod sequential_nodes;
+mod trace_covers;
+mod value_covers;
+mod watch;
+
+pub use outcome_search::{OutcomeCover, all_outcomes, cover_all};
+pub use part::{Part, PartCover};
+pub use partial_cover::{PartialCover, Piece};
+pub use renumbering::{renumber, renumber_partial};
+pub use searching::{SearchStart, start_alone, start_by};
+pub use watch::{Unwatched, Watch};

@@ -1,0 +1,117 @@
+//! Partial covers: cover trees with holes, that are made with no gap fenced. They hold with any gaps fenced, and in the sequential machine, since a tighter machine only has more known edges.
+ghost use Rattle.std.specs.Prelude.{◌≡◌, [], ◌∷◌, ◌++◌, ◌<◌, ◌^◌, OnOk, map};
+ghost use Rattle.cert_forest.specs.declared.node.Node.TheVariants as node;
+ghost use Rattle.partial_covers.specs.PartialCovers.{items_of, Has, Lacks};
+
+use cert_forest::Node;
+use cover_judge::Choice;
+use exec_axioms::Sketch;
+use std::alloc::{AllocError, Global};
+use std::mem;
+use tso_machine::Label;
+
+/// A cover tree over the values of all reads with no gap fenced, but for its holes.
+#[derive(Drop)]
+pub struct PartialCover {
+    /// The nodes up to each hole, in order.
+    pub pieces: Vec<Piece>,
+    /// The nodes after the last hole.
+    pub nodes: Vec<Node>,
+}
+
+/// Nodes, and a hole after them: a place where a tree lacks. Each read has its value there.
+#[derive(Drop)]
+pub struct Piece {
+    pub nodes: Vec<Node>,
+    /// The values that lead to the hole.
+    pub path: Vec<Choice>,
+    /// A run with no gap fenced whose outcome was not in the list. The sketch is complete, and the run is one of it. The
+    /// piece says neither, and whoever reads them judges them.
+    pub labels: Vec<Label>,
+    pub sketch: Box<Sketch>,
+}
+
+impl PartialCover {
+    /// Nothing yet.
+    pub(crate) fn none(alloc: Global) -> PartialCover
+        ensures { items_of result ≡ [] }
+    {
+        PartialCover {
+            pieces: Vec::new(alloc),
+            nodes: Vec::new(alloc),
+        }
+    }
+
+    /// Puts the node of a thread's next read after the others. So many trees follow it.
+    pub(crate) fn push_values(&mut self, thread: u8, choices: usize) -> Result<(), AllocError>
+        requires { choices < 2 ^ 32 }
+        ensures { OnOk result (items_of self.new ≡ items_of self.old ++ Has (node.Value thread choices) ∷ []) }
+    {
+        let count = choices as u32;
+        self.nodes.push(Node::Value { thread, count })?;
+        Ok(())
+    }
+
+    /// Puts a hole after the nodes.
+    pub(crate) fn push_hole(
+        &mut self,
+        alloc: Global,
+        path: &[Choice],
+        labels: Vec<Label>,
+        sketch: Box<Sketch>,
+    ) -> Result<(), AllocError>
+        ensures { OnOk result (items_of self.new ≡ items_of self.old ++ Lacks path.now ∷ []) }
+    {
+        let path = Vec::from_slice(alloc, path)?;
+        self.nodes.shrink_to_fit();
+        let nodes = mem::replace(&mut self.nodes, Vec::new(alloc));
+        self.pieces.push(Piece {
+            nodes,
+            path,
+            labels,
+            sketch,
+        })?;
+        Ok(())
+    }
+
+    /// Puts the cover of a part after the rest.
+    pub(crate) fn append(&mut self, alloc: Global, part: PartialCover) -> Result<(), AllocError>
+        ensures { OnOk result (items_of self.new ≡ items_of self.old ++ items_of part) }
+    {
+        let PartialCover { pieces, nodes } = part;
+        for piece in pieces {
+            self.push_piece(alloc, piece)?;
+        }
+        self.nodes.extend_from_slice(&nodes)
+    }
+
+    /// Puts a piece after the nodes.
+    fn push_piece(&mut self, alloc: Global, piece: Piece) -> Result<(), AllocError>
+        ensures { OnOk result (items_of self.new ≡ items_of self.old ++ map Has piece.nodes.items ++ Lacks piece.path.items ∷ []) }
+    {
+        let Piece {
+            nodes,
+            path,
+            labels,
+            sketch,
+        } = piece;
+        self.nodes.extend_from_slice(&nodes)?;
+        self.push_hole(alloc, &path, labels, sketch)
+    }
+
+    /// Gives back the memory that the last nodes do not need.
+    pub(crate) fn shrink(&mut self)
+        ensures { items_of self.new ≡ items_of self.old }
+    {
+        self.nodes.shrink_to_fit();
+    }
+
+    /// How many nodes there are, holes aside.
+    pub(crate) fn count(&self) -> usize {
+        let mut count = self.nodes.len();
+        for piece in &self.pieces {
+            count = count.saturating_add(piece.nodes.len());
+        }
+        count
+    }
+}

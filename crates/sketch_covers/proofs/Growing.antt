@@ -1,0 +1,114 @@
+-- Lists of outcomes that grow, and the trees over them.
+use Rattle.std.proofs.Common.{◌≡◌, List, [], ◌∷◌, map, refl, sym, subst}
+use Rattle.std.specs.Prelude.{Result, Ok, Err, IfErr}
+use Rattle.std.specs.Result.{IsErrAnd}
+use Rattle.tso_program.specs.declared.outcome.Outcome.{Outcome}
+use Rattle.tso_program.specs.declared.shown.Shown.{Shown}
+use Rattle.tso_program.specs.Shown.{Question, asked}
+use Rattle.tso_machine.specs.declared.mode.Mode as own
+use Rattle.tso_machine.specs.Machine.{Machine}
+use Rattle.tso_machine.specs.Modes.{machine_of_mode}
+use Rattle.candidate_executions.specs.Sketches.{Sketch, with_value, with_source, with_pair}
+use Rattle.exec_axioms.specs.ProgramSketches.{ProgramSketch, mode_in, with_chosen}
+use Rattle.cert_forest.specs.Trees.{Cover, Value, Source, Order, Cycle, Known, Covers, NoCover, MoreCovers, covers_of}
+use Rattle.tree_laws.specs.CoverTrees.{event_of, IsValidCover, AreValidCovers}
+use Rattle.cover_judge.specs.declared.choice.Choice.{Choice}
+use Rattle.cover_judge.specs.Choices.{sketch_with}
+use Rattle.cover_judge.proofs.SketchesAfter.{moved}
+use Rattle.sketch_covers.specs.declared.stop.Stop.{Stop}
+use Rattle.sketch_covers.specs.declared.stop.Stop.TheVariants as stop
+use Rattle.sketch_covers.specs.declared.outcome_index.OutcomeIndex.{OutcomeIndex}
+use Rattle.sketch_covers.specs.declared.known_outcomes.KnownOutcomes.{KnownOutcomes}
+use Rattle.sketch_covers.specs.declared.known_outcomes.KnownOutcomes.TheVariants.{Closed, Open}
+use Rattle.sketch_covers.specs.Covers.{AreCoversAfter}
+use Rattle.sketch_covers.specs.OutcomeNumbers.{KeepsNumbers, IsInOrder, AreRunsOf}
+use Rattle.sketch_covers.specs.KnownOutcomes.{AreInOrder, StaysOf, StopIs, Grows, OnTold}
+
+stays : (outcomes : KnownOutcomes) → StaysOf outcomes outcomes
+stays (Closed outcomes) = refl
+stays (Open found mode) = (found, refl)
+
+stays_twice : (old mid new : KnownOutcomes) → StaysOf old mid → StaysOf mid new → StaysOf old new
+stays_twice (Closed outcomes) mid new first second = subst (λ m. StaysOf m new) first second
+stays_twice (Open found mode) mid new first second = subst (λ m. StaysOf m new) first.1 second
+
+module _ (q : Question) where
+  -- nothing new
+  pub grows_none : (outcomes : KnownOutcomes) → AreInOrder outcomes → Grows q outcomes outcomes
+  grows_none outcomes in_order = record { in_order = in_order; keeps = λ n o here. here; runs = λ are. are; stays = stays outcomes; stops = λ mode why is. is }
+
+  -- one search after another
+  pub grows_twice : (old mid new : KnownOutcomes) → Grows q old mid → Grows q mid new → Grows q old new
+  grows_twice old mid new first second = record {
+    in_order = second.in_order;
+    keeps = λ n o here. second.keeps n o (first.keeps n o here);
+    runs = λ are. second.runs (first.runs are);
+    stays = stays_twice old mid new first.stays second.stays;
+    stops = λ mode why is. first.stops mode why (second.stops mode why is);
+  }
+
+-- an open list that found more stops for what it did before
+stops_open : (q : Question) (machine : Machine) (mode : own.Mode) (old new : OutcomeIndex) (why : Stop) → StopIs q machine (Open new mode) why → StopIs q machine (Open old mode) why
+stops_open q machine mode old new (stop.New run sketch) is = is
+stops_open q machine mode old new stop.OutOfMemory is = tt
+
+-- an open list that found more
+module _ (q : Question) (mode : own.Mode) (old new : OutcomeIndex) (in_order : IsInOrder new) (keeps : KeepsNumbers old.by_number.items new.by_number.items)
+    (runs : AreRunsOf q (machine_of_mode q.program mode) old.runs old.outcomes.items → AreRunsOf q (machine_of_mode q.program mode) new.runs new.outcomes.items) where
+  pub grows_open : Grows q (Open old mode) (Open new mode)
+  grows_open = record { in_order = in_order; keeps = keeps; runs = runs; stays = (new, refl); stops = λ machine why is. stops_open q machine mode old new why is }
+
+stopped : (T U : Type 0) (why : Stop) (P Q : Type 0) → (P → Q) → OnTold {T = T} (Err why) P → OnTold {T = U} (Err why) Q
+stopped T U (stop.New run sketch) P Q follows part = follows part
+stopped T U stop.OutOfMemory P Q follows part = tt
+
+-- a search that stops as a part of it did
+pub stops_as : (T U : Type 0) (why : Stop) (result : Result U Stop) (P Q : Type 0) → IsErrAnd result (λ other. other ≡ why) → (P → Q) → OnTold {T = T} (Err why) P → OnTold result Q
+stops_as T U why (Ok made) P Q same follows part = absurd same
+stops_as T U why (Err other) P Q same follows part = subst (λ (w : Stop). OnTold {T = U} (Err w) Q) (sym same) (stopped T U why P Q follows part)
+
+-- memory stops any search
+pub memory_stops : (q : Question) (machine : Machine) (outcomes : KnownOutcomes) → StopIs q machine outcomes stop.OutOfMemory
+memory_stops q machine (Closed outcomes) = tt
+memory_stops q machine (Open found of) = tt
+
+-- so for what is said of why it stops
+pub stops_for : {U : Type 0} (why : Stop) (result : Result U Stop) (Q : Stop → Type 0) → IsErrAnd result (λ other. other ≡ why) → Q why → IfErr result Q
+stops_for why (Ok made) Q same is = absurd same
+stops_for why (Err other) Q same is = subst Q (sym same) is
+
+-- a tree stays valid where each outcome keeps its number
+module _ (q : Question) (mode : Machine) (old new : List Outcome) (keeps : KeepsNumbers old new) where
+  mutual
+    pub still_valid : (tree : Cover) (k : Sketch) → IsValidCover q mode old tree k → IsValidCover q mode new tree k
+    still_valid (Value t trees) k (values, has, valid) = (values, has, still_valid_each trees (map (with_value k t) values) valid)
+    still_valid (Source read trees) k (sources, has, valid) = (sources, has, still_valid_each trees (map (with_source k (event_of read)) sources) valid)
+    still_valid (Order first second one other) k (has, before, after) = (
+      has,
+      still_valid one (with_pair k (event_of first) (event_of second)) before,
+      still_valid other (with_pair k (event_of second) (event_of first)) after,
+    )
+    still_valid (Cycle kind events) k known = known
+    still_valid (Known number) k must = record { outcome = must.outcome; is_outcome = keeps number must.outcome must.is_outcome; must_end = must.must_end }
+
+    still_valid_each : (trees : Covers) (ks : List Sketch) → AreValidCovers q mode old trees ks → AreValidCovers q mode new trees ks
+    still_valid_each NoCover [] valid = tt
+    still_valid_each NoCover (k ∷ ks) valid = absurd valid
+    still_valid_each (MoreCovers tree trees) [] valid = absurd valid
+    still_valid_each (MoreCovers tree trees) (k ∷ ks) (now, later) = (still_valid tree k now, still_valid_each trees ks later)
+
+-- and so do the trees after choices
+pub covers_still : (s : ProgramSketch) (shown : Shown) (old new : List Outcome) (choices : List Choice) (trees : List Cover) → KeepsNumbers old new → AreCoversAfter s shown old choices trees → AreCoversAfter s shown new choices trees
+covers_still s shown old new choices trees keeps are = record {
+  valid = still_valid_each (asked s.program shown) (mode_in s) old new keeps (covers_of trees) (map (sketch_with s.chosen) choices) are.valid;
+  neat = are.neat;
+  shallow = are.shallow;
+}
+
+-- what the search at the sketch after a choice does, and why it stops, is so at the sketch
+module _ (s next : ProgramSketch) (shown : Shown) (c : Choice) (same : next ≡ with_chosen s (sketch_with s.chosen c)) where
+  pub grows_after : (old new : KnownOutcomes) → Grows (asked next.program shown) old new → Grows (asked s.program shown) old new
+  grows_after old new grows = moved (λ p mode k. Grows (asked p shown) old new) s next c same grows
+
+  pub stops_after : (outcomes : KnownOutcomes) (why : Stop) → StopIs (asked next.program shown) (mode_in next) outcomes why → StopIs (asked s.program shown) (mode_in s) outcomes why
+  stops_after outcomes why is = moved (λ p mode k. StopIs (asked p shown) mode outcomes why) s next c same is

@@ -1,0 +1,97 @@
+-- What is put into a list at its place.
+use Rattle.std.proofs.Common.{◌≡◌, ℕ, zero, suc, ◌+◌, ◌-◌, ◌<◌, List, [], ◌∷◌, Some, Result, Ok, Err, IfOk, IfErr, Contains, slice_get, get_or, length, sym, ap, ◌∙◌, subst, inl, inr, arith}
+use Rattle.std.specs.List.{AllZip, insert}
+use Rattle.std.specs.List.Sorted.{IsSorted, IsSearchInRange, IsBinarySearchResult, IsNonDecreasingBy}
+use Rattle.std.specs.Ordering.{ordering_index, ordering_reverse, is_lt}
+use Rattle.std.specs.declared.cmp.Ordering.TheVariants.{Less, Equal, Greater}
+use Rattle.std.proofs.lemmas.Bool.{cases_lt}
+use Rattle.std.proofs.lemmas.List.Sorted.{searchable_from_sorted}
+use Rattle.std.proofs.lemmas.List.Edits.{length-insert, get_or-insert_below, get_or-insert_at, get_or-insert_above}
+use Rattle.std.proofs.lemmas.Option.{slice_get-get_or}
+use Rattle.tso_program.specs.declared.outcome.Outcome.{Outcome}
+use Rattle.tso_program.specs.Ordered.{outcome_cmp}
+use Rattle.tso_program.proofs.OutcomesOrdered.{outcomes_ordered, exact_outcomes, equal_itself}
+use Rattle.sketch_covers.specs.Ascending.{Ascend, BelongsAt}
+use Rattle.sketch_covers.specs.OutcomeNumbers.{Keeps}
+
+-- a list that ascends is sorted
+sorted_of : (os : List Outcome) → Ascend os → IsSorted outcome_cmp os
+sorted_of os up k d low high =
+    let a = get_or os k d in
+    let b = get_or os (k + 1) d in
+    ap is_lt (outcomes_ordered.antisymm b a ∙ ap ordering_reverse (up k (k + 1) d (omega arith) high))
+
+rises : (os : List Outcome) (o : Outcome) → Ascend os → IsNonDecreasingBy (λ y. ordering_index (outcome_cmp y o)) os
+rises os o up = searchable_from_sorted outcomes_ordered (λ (x : Outcome). x) os o (sorted_of os up)
+
+-- what a binary search tells of a list that ascends
+pub searched : (os : List Outcome) (o : Outcome) (r : Result ℕ ℕ) → Ascend os → IsSearchInRange r (length os) → IsBinarySearchResult (λ y. outcome_cmp y o) os r →
+    record { there : IfOk r (λ place. slice_get os place ≡ Some o); belongs : IfErr r (BelongsAt os o) }
+searched os o (Ok place) up within equal = record {
+  there = slice_get-get_or os place o within ∙ ap Some (exact_outcomes (get_or os place o) o (equal o));
+  belongs = tt;
+}
+searched os o (Err place) up within parted = record {
+  there = tt;
+  belongs = record {
+    within = within;
+    before = λ k d h. (parted (rises os o up)).0 k d (omega arith) h;
+    after = λ k d h l. (parted (rises os o up)).1 k d h l;
+  };
+}
+
+module _ (os : List Outcome) (o : Outcome) (p : ℕ) (belongs : BelongsAt os o p) where
+  above : (j : ℕ) (d : Outcome) → p < j → get_or (insert os p o) j d ≡ get_or os (j - 1) d
+  above j d h = (
+      let next : j ≡ j - 1 + 1 = omega arith in
+      ap (λ n. get_or (insert os p o) n d) next ∙ get_or-insert_above os p o d (j - 1) (omega arith) belongs.within)
+
+  long : length (insert os p o) ≡ length os + 1
+  long = length-insert os p o belongs.within
+
+  -- it ascends still
+  pub ascend_insert : Ascend os → Ascend (insert os p o)
+  ascend_insert up i j d h l = elim (cases_lt i p) [
+    | inl low ↦ subst (λ x. outcome_cmp x (get_or (insert os p o) j d) ≡ Less) (sym (get_or-insert_below os p o d i low belongs.within)) (elim (cases_lt j p) [
+      | inl also ↦ subst (λ y. outcome_cmp (get_or os i d) y ≡ Less) (sym (get_or-insert_below os p o d j also belongs.within)) (up i j d h (let w = belongs.within in omega arith))
+      | inr high ↦ elim (cases_lt p j) [
+        | inl more ↦ subst (λ y. outcome_cmp (get_or os i d) y ≡ Less) (sym (above j d more)) (up i (j - 1) d (omega arith) (let n = long in omega arith))
+        | inr least ↦ (
+            let same : j ≡ p = omega arith in
+            subst (λ y. outcome_cmp (get_or os i d) y ≡ Less) (sym (ap (λ n. get_or (insert os p o) n d) same ∙ get_or-insert_at os p o d belongs.within)) (belongs.before i d low))
+      ]
+    ])
+    | inr high ↦ elim (cases_lt p i) [
+      | inl more ↦ subst (λ x. outcome_cmp x (get_or (insert os p o) j d) ≡ Less) (sym (above i d more))
+          (subst (λ y. outcome_cmp (get_or os (i - 1) d) y ≡ Less) (sym (above j d (omega arith))) (up (i - 1) (j - 1) d (omega arith) (let n = long in omega arith)))
+      | inr least ↦ (
+          let same : i ≡ p = omega arith in
+          subst (λ x. outcome_cmp x (get_or (insert os p o) j d) ≡ Less) (sym (ap (λ n. get_or (insert os p o) n d) same ∙ get_or-insert_at os p o d belongs.within))
+          (subst (λ y. outcome_cmp o y ≡ Less) (sym (above j d (omega arith)))
+          (outcomes_ordered.antisymm o (get_or os (j - 1) d) ∙ ap ordering_reverse (belongs.after (j - 1) d (omega arith) (let n = long in omega arith)))))
+    ]
+  ]
+
+  pub has_insert : Contains (insert os p o) o
+  has_insert = (p, subst (λ n. p < n) (sym long) (let w = belongs.within in omega arith), get_or-insert_at os p o o belongs.within)
+
+  pub keeps_insert : Keeps os (insert os p o)
+  keeps_insert x (k, h, e) = elim (cases_lt k p) [
+    | inl low ↦ (k, subst (λ n. k < n) (sym long) (omega arith), get_or-insert_below os p o x k low belongs.within ∙ e)
+    | inr high ↦ (k + 1, subst (λ n. k + 1 < n) (sym long) (omega arith), get_or-insert_above os p o x k high belongs.within ∙ e)
+  ]
+
+-- two lists in step, and a value more in each
+pub zip_insert : {A B : Type 0} (R : A → B → Type 0) (xs : List A) (ys : List B) (i : ℕ) (x : A) (y : B) → AllZip R xs ys → R x y → AllZip R (insert xs i x) (insert ys i y)
+zip_insert R xs ys zero x y all r = (r, all)
+zip_insert R [] [] (suc i) x y all r = (r, tt)
+zip_insert R [] (b ∷ ys) (suc i) x y all r = absurd all
+zip_insert R (a ∷ xs) [] (suc i) x y all r = absurd all
+zip_insert R (a ∷ xs) (b ∷ ys) (suc i) x y all r = (all.0, zip_insert R xs ys i x y all.1 r)
+
+-- an outcome that belongs at a place is not there yet
+pub not_there : (os : List Outcome) (o : Outcome) (p : ℕ) → BelongsAt os o p → Contains os o → ⊥
+not_there os o p belongs (k, h, e) = elim (cases_lt k p) [
+  | inl low ↦ (let less : Equal ≡ Less = sym (equal_itself o) ∙ ap (λ x. outcome_cmp x o) (sym e) ∙ belongs.before k o low in absurd cc)
+  | inr high ↦ (let more : Equal ≡ Greater = sym (equal_itself o) ∙ ap (λ x. outcome_cmp x o) (sym e) ∙ belongs.after k o high h in absurd cc)
+]

@@ -1,0 +1,44 @@
+-- Leaves: a sketch that must end as an outcome of the list, or has a cycle.
+use Rattle.std.proofs.Common.{◌≡◌, ℕ, Bool, true, false, List, Option, Some, None, Contains, map, refl, sym, subst}
+use Rattle.std.specs.Prelude.{MatchOption}
+use Rattle.tso_program.specs.declared.outcome.Outcome.{Outcome}
+use Rattle.tso_program.specs.declared.shown.Shown.{Shown}
+use Rattle.tso_program.specs.Shown.{asked}
+use Rattle.candidate_executions.specs.declared.event.Event.{Event}
+use Rattle.candidate_executions.specs.declared.event.Kind.{Kind}
+use Rattle.candidate_executions.specs.Sketches.{IsKnownCycle}
+use Rattle.exec_axioms.specs.ProgramSketches.{ProgramSketch, mode_in}
+use Rattle.exec_axioms.specs.Completions.{MustEndSo}
+use Rattle.exec_axioms.specs.Search.{IsSimpleCycle, AreFewAccesses}
+use Rattle.cert_forest.specs.declared.tree.AccessId.{AccessId}
+use Rattle.cert_forest.specs.declared.node.Node.{Node}
+use Rattle.cert_forest.specs.Trees.{Cycle}
+use Rattle.tree_laws.specs.CoverTrees.{event_of, MustEndAsNumber}
+use Rattle.sketch_covers.specs.Covers.{IsEndNotListed, IsLeafAt}
+use Rattle.sketch_covers.specs.OutcomeNumbers.{HasNumber}
+use Rattle.sketch_covers.specs.Pushing.{Pushes, IfKnown}
+use Rattle.sketch_covers.proofs.Neat.{neat_cycle}
+
+-- the leaf of a cycle
+pub cycle_leaf : (s : ProgramSketch) (shown : Shown) (outcomes : List Outcome) (kind : Kind) (accesses : List AccessId) (es : List Event) → map event_of accesses ≡ es → IsSimpleCycle s kind es → AreFewAccesses s es →
+    IsLeafAt s shown outcomes (Cycle kind accesses)
+cycle_leaf s shown outcomes kind accesses es same simple few = record {
+  valid = subst (IsKnownCycle s.program (mode_in s) s.chosen kind) (sym same) simple.cycle;
+  neat = neat_cycle s kind accesses es same simple few;
+  leaf = refl;
+}
+
+-- the number of the outcome as which the sketch must end
+pub known_number : (s : ProgramSketch) (shown : Shown) (outcomes : List Outcome) (end : Outcome) → MustEndSo s shown end → (found : Option ℕ) →
+    MatchOption found (Contains outcomes end → ⊥) (λ number. HasNumber outcomes number end) →
+    MatchOption found (IsEndNotListed s shown outcomes) (MustEndAsNumber (asked s.program shown) (mode_in s) outcomes s.chosen)
+known_number s shown outcomes end must None lacks = λ acyclic o ends here. lacks (subst (Contains outcomes) (must.only acyclic o ends) here)
+known_number s shown outcomes end must (Some number) is = record { outcome = end; is_outcome = is; must_end = must.must_end }
+
+-- where the sketch must end as an outcome of the list its leaf is put there, and else nothing is
+module _ (s : ProgramSketch) (shown : Shown) (outcomes : List Outcome) (old new : List Node) (b : Bool) where
+  pub known_pushed : b ≡ true → IfKnown s shown outcomes old new b → Pushes (IsLeafAt s shown outcomes) old new
+  known_pushed is_known known = subst (IfKnown s shown outcomes old new) is_known known
+
+  pub unknown_same : b ≡ false → IfKnown s shown outcomes old new b → IsEndNotListed s shown outcomes × (new ≡ old)
+  unknown_same is_not known = subst (IfKnown s shown outcomes old new) is_not known

@@ -1,0 +1,13 @@
+pub mod Inserted
+pub mod Numbered
+pub mod Growing
+pub mod Covering
+pub mod OwnEnds
+pub mod SameMachine
+pub mod AllOutcomes
+pub mod RunEnds
+pub mod Leaves
+pub mod Listing
+pub mod Nodes
+pub mod Neat
+pub mod RunAt

@@ -1,0 +1,38 @@
+-- Lists of outcomes that are all that a machine allows.
+use Rattle.std.proofs.Common.{◌≡◌, ◌↔◌, ℕ, zero, suc, List, [], ◌∷◌, Some, Contains, slice_get, refl, ap, ◌∙◌, subst}
+use Rattle.std.specs.List.{AllZip}
+use Rattle.std.proofs.lemmas.Option.{same_Some, slice_get-get_or}
+use Rattle.tso_program.specs.declared.outcome.Outcome.{Outcome}
+use Rattle.tso_program.specs.Shown.{Question}
+use Rattle.tso_program.specs.Limits.{JumpForward}
+use Rattle.tso_machine.specs.declared.label.Label.{Label}
+use Rattle.tso_machine.specs.Machine.{Machine}
+use Rattle.tso_machine.specs.Outcomes.{IsShownRun, AllowsShown}
+use Rattle.candidate_executions.specs.Sketches.{empty_sketch}
+use Rattle.candidate_executions.proofs.Sketches.Choices.{empty_is_a_sketch}
+use Rattle.cert_forest.specs.Trees.{Cover}
+use Rattle.tree_laws.specs.CoverTrees.{IsValidCover, IsCovered}
+use Rattle.tree_laws.proofs.CoveredSketches.{valid_covers}
+use Rattle.tree_laws.proofs.ListedOutcomes.{listed}
+use Rattle.sketch_covers.specs.OutcomeNumbers.{AreRunsOf, Keeps}
+
+-- what stands beside a value of the second list
+pub zip_at_right : {A B : Type 0} (R : A → B → Type 0) (xs : List A) (ys : List B) (n : ℕ) (y : B) → AllZip R xs ys → slice_get ys n ≡ Some y → (x : A) × (slice_get xs n ≡ Some x) × R x y
+zip_at_right R xs [] n y all e = absurd cc
+zip_at_right R [] (b ∷ ys) n y all e = absurd all
+zip_at_right R (a ∷ xs) (b ∷ ys) zero y all e = (a, refl, subst (R a) (same_Some b y e) all.0)
+zip_at_right R (a ∷ xs) (b ∷ ys) (suc n) y all e = zip_at_right R xs ys n y all.1 e
+
+-- a list with a run of each outcome, and with each outcome of another over which a tree is valid, has exactly what the mode's machine allows
+module _ (q : Question) (mode : Machine) (runs : List (List Label)) (outcomes known : List Outcome) (tree : Cover) (forward : JumpForward q.program.threads) (are : AreRunsOf q mode runs outcomes) (keeps : Keeps known outcomes)
+    (valid : IsValidCover q mode known tree (empty_sketch q.program)) where
+  allowed : (o : Outcome) → Contains outcomes o → AllowsShown q mode o
+  allowed o (k, h, e) =
+      let at = slice_get-get_or outcomes k o h ∙ ap Some e in
+      let (labels, found, is_run) = zip_at_right (IsShownRun q mode) runs outcomes k o are at in (labels, is_run)
+
+  covered : IsCovered q mode outcomes (empty_sketch q.program)
+  covered c is = (let (o, here, has) = valid_covers q mode known tree (empty_sketch q.program) forward (empty_is_a_sketch q.program mode) valid c is in (o, keeps o here, has))
+
+  pub exactly_allowed : (o : Outcome) → Contains outcomes o ↔ AllowsShown q mode o
+  exactly_allowed o = (allowed o, listed q mode outcomes o forward covered)

@@ -1,0 +1,116 @@
+-- Outcomes by their numbers in a list that grows at its end.
+use Rattle.std.specs.Prelude.{◌^◌}
+use Rattle.cert_forest.specs.declared.node.TheConstants.{NEAR_RUNS}
+use Rattle.std.proofs.Common.{lit<, ◌≡◌, ℕ, zero, suc, ◌+◌, ◌<◌, ◌≤◌, List, [], ◌∷◌, ◌++◌, Some, Contains, slice_get, get_or, length, refl, sym, ap, ◌∙◌, subst, inl, inr, arith}
+use Rattle.std.specs.List.{AllZip, insert}
+use Rattle.std.proofs.Math.ListN.{get_or-append}
+use Rattle.std.proofs.lemmas.Bool.{cases_lt}
+use Rattle.std.proofs.lemmas.List.{length-append, get_or_push}
+use Rattle.std.proofs.lemmas.List.Edits.{length-insert}
+use Rattle.std.proofs.lemmas.List.Elements.{Contains-append_cases}
+use Rattle.std.proofs.lemmas.Option.{same_Some, slice_get_within, slice_get-get_or, get_or_from_slice_get, unwrap_or-slice_get}
+use Rattle.std.proofs.lemmas.Slice.Zip.{AllZip-long}
+use Rattle.tso_program.specs.declared.outcome.Outcome.{Outcome}
+use Rattle.tso_machine.specs.declared.label.Label.{Label}
+use Rattle.tree_laws.proofs.Lists.{none_here, first_or_later}
+use Rattle.sketch_covers.specs.declared.outcome_index.OutcomeIndex.{OutcomeIndex}
+use Rattle.sketch_covers.specs.OutcomeNumbers.{HasNumber, KeepsNumbers, IsInOrder, place_in}
+use Rattle.sketch_covers.specs.Ascending.{Ascend, BelongsAt}
+use Rattle.sketch_covers.proofs.Inserted.{ascend_insert, has_insert, keeps_insert, zip_insert, not_there}
+
+pub push_long : {A : Type 0} (xs : List A) (x : A) → length (xs ++ x ∷ []) ≡ length xs + 1
+push_long xs x = length-append xs (x ∷ [])
+
+-- with one more at the end each keeps its number
+pub keeps_push : (xs : List Outcome) (x : Outcome) → KeepsNumbers xs (xs ++ x ∷ [])
+keeps_push xs x n o at =
+    let within = slice_get_within xs n o at in
+    slice_get-get_or (xs ++ x ∷ []) n o (let long = push_long xs x in omega arith) ∙ ap Some (get_or-append xs (x ∷ []) o n within ∙ get_or_from_slice_get xs n o o at)
+
+-- and the last has the number of those before
+pub number_push : (xs : List Outcome) (x : Outcome) → HasNumber (xs ++ x ∷ []) (length xs) x
+number_push xs x = slice_get-get_or (xs ++ x ∷ []) (length xs) x (let long = push_long xs x in omega arith) ∙ ap Some (get_or_push xs x x (length xs) refl)
+
+still_numbers : (old new : List Outcome) (ns : List ℕ) (os : List Outcome) → KeepsNumbers old new → AllZip (HasNumber old) ns os → AllZip (HasNumber new) ns os
+still_numbers old new [] [] keeps all = tt
+still_numbers old new [] (o ∷ os) keeps all = absurd all
+still_numbers old new (n ∷ ns) [] keeps all = absurd all
+still_numbers old new (n ∷ ns) (o ∷ os) keeps all = (keeps n o all.0, still_numbers old new ns os keeps all.1)
+
+zip_at : {A B : Type 0} (R : A → B → Type 0) (xs : List A) (ys : List B) (i : ℕ) (d : A) (e : B) → AllZip R xs ys → i < length ys → R (get_or xs i d) (get_or ys i e)
+zip_at R xs [] i d e all h = absurd (omega arith)
+zip_at R [] (b ∷ ys) i d e all h = absurd all
+zip_at R (a ∷ xs) (b ∷ ys) zero d e all h = all.0
+zip_at R (a ∷ xs) (b ∷ ys) (suc i) d e all h = zip_at R xs ys i d e all.1 (omega arith)
+
+module _ (found : OutcomeIndex) (in_order : IsInOrder found) (o : Outcome) (place : ℕ) where
+  -- beside an outcome at its place stands its number
+  module _ (at : slice_get found.outcomes.items place ≡ Some o) where
+    pub number_within : place < length found.numbers.items
+    number_within = (let within = slice_get_within found.outcomes.items place o at in let long = AllZip-long (HasNumber found.by_number.items) found.numbers.items found.outcomes.items in_order.numbers in omega arith)
+
+    pub number_is : (n d : ℕ) → n ≡ get_or found.numbers.items place d → HasNumber found.by_number.items n o
+    number_is n d same =
+        subst (λ (x : Outcome). HasNumber found.by_number.items n x) (get_or_from_slice_get found.outcomes.items place o o at)
+        (subst (λ (m : ℕ). HasNumber found.by_number.items m (get_or found.outcomes.items place o)) (sym same)
+        (zip_at (HasNumber found.by_number.items) found.numbers.items found.outcomes.items place d o in_order.numbers (slice_get_within found.outcomes.items place o at)))
+
+  -- one that belongs at a place has none
+  module _ (belongs : BelongsAt found.outcomes.items o place) where
+    pub not_listed : Contains found.by_number.items o → ⊥
+    not_listed here = not_there found.outcomes.items o place belongs (in_order.all o here)
+
+    pub place_within : place ≤ length found.numbers.items
+    place_within = (let within = belongs.within in let long = AllZip-long (HasNumber found.by_number.items) found.numbers.items found.outcomes.items in_order.numbers in omega arith)
+
+    -- with this one added
+    pub in_order_added : (new : OutcomeIndex) (labels : List Label) → new.by_number.items ≡ found.by_number.items ++ o ∷ [] → new.outcomes.items ≡ insert found.outcomes.items place o →
+        new.numbers.items ≡ insert found.numbers.items place (length found.by_number.items) → new.runs ≡ insert found.runs place labels → IsInOrder new
+    in_order_added new labels names outcomes numbers runs = record {
+      ascend = subst Ascend (sym outcomes) (ascend_insert found.outcomes.items o place belongs in_order.ascend);
+      numbers = subst (λ (xs : List Outcome). AllZip (HasNumber xs) new.numbers.items new.outcomes.items) (sym names)
+          (subst (λ (ns : List ℕ). AllZip (HasNumber (found.by_number.items ++ o ∷ [])) ns new.outcomes.items) (sym numbers)
+          (subst (λ (os : List Outcome). AllZip (HasNumber (found.by_number.items ++ o ∷ [])) (insert found.numbers.items place (length found.by_number.items)) os) (sym outcomes)
+          (zip_insert (HasNumber (found.by_number.items ++ o ∷ [])) found.numbers.items found.outcomes.items place (length found.by_number.items) o
+          (still_numbers found.by_number.items (found.by_number.items ++ o ∷ []) found.numbers.items found.outcomes.items (keeps_push found.by_number.items o) in_order.numbers) (number_push found.by_number.items o))));
+      all = λ x here. subst (λ (xs : List Outcome). Contains xs x) (sym outcomes) (elim (Contains-append_cases found.by_number.items (o ∷ []) x (subst (λ (xs : List Outcome). Contains xs x) names here)) [
+        | inl before ↦ keeps_insert found.outcomes.items o place belongs x (in_order.all x before)
+        | inr last ↦ elim (first_or_later o [] x last) [
+          | inl e ↦ subst (Contains (insert found.outcomes.items place o)) e (has_insert found.outcomes.items o place belongs)
+          | inr none ↦ absurd (none_here x none)
+        ]
+      ]);
+      as_many = (
+          let long = ap length runs ∙ length-insert found.runs place labels (let w = belongs.within in let same = in_order.as_many in omega arith) in
+          let many = ap length outcomes ∙ length-insert found.outcomes.items place o belongs.within in
+          let same = in_order.as_many in omega arith);
+    }
+
+-- the places of one outcome more
+pub places_more : (by_number outcomes : List Outcome) (places more : List ℕ) (i p : ℕ) (o : Outcome) → length places ≡ i → more ≡ places ++ p ∷ [] → HasNumber by_number i o → HasNumber outcomes p o →
+    ((n : ℕ) (x : Outcome) → n < i → HasNumber by_number n x → HasNumber outcomes (place_in places n) x) → (n : ℕ) (x : Outcome) → n < i + 1 → HasNumber by_number n x → HasNumber outcomes (place_in more n) x
+places_more by_number outcomes places more i p o long pushed here at before n x h has =
+    subst (λ (m : ℕ). HasNumber outcomes m x) (sym (ap (λ (ps : List ℕ). place_in ps n) pushed ∙ unwrap_or-slice_get (places ++ p ∷ []) n 0))
+    (elim (cases_lt n i) [
+      | inl low ↦ subst (λ (m : ℕ). HasNumber outcomes m x) (unwrap_or-slice_get places n 0 ∙ sym (get_or-append places (p ∷ []) 0 n (omega arith))) (before n x low has)
+      | inr high ↦ (
+          let same : n ≡ i = omega arith in
+          let one : o ≡ x = same_Some o x (sym here ∙ ap (slice_get by_number) (sym same) ∙ has) in
+          subst (λ (m : ℕ). HasNumber outcomes m x) (sym (get_or_push places p 0 n (long ∙ sym same))) (subst (HasNumber outcomes p) one at))
+    ])
+
+-- places have a node each
+pub small_places : (places : List ℕ) → ((k : ℕ) → get_or places k 0 < 2 ^ 32) → (n : ℕ) → place_in places n < NEAR_RUNS
+small_places places each n = subst (λ (m : ℕ). m < NEAR_RUNS) (sym (unwrap_or-slice_get places n 0)) (each n)
+
+pub small_push : (places more : List ℕ) (place : ℕ) → more ≡ places ++ place ∷ [] → place < 2 ^ 32 → ((k : ℕ) → get_or places k 0 < 2 ^ 32) → (k : ℕ) → get_or more k 0 < 2 ^ 32
+small_push places more place pushed small each k = subst (λ (xs : List ℕ). get_or xs k 0 < 2 ^ 32) (sym pushed) (go places each k)
+  where
+    one : (k : ℕ) → get_or (place ∷ []) k 0 < 2 ^ 32
+    one zero = small
+    one (suc k) = lit< tt
+
+    go : (xs : List ℕ) → ((k : ℕ) → get_or xs k 0 < 2 ^ 32) → (k : ℕ) → get_or (xs ++ place ∷ []) k 0 < 2 ^ 32
+    go [] each k = one k
+    go (x ∷ xs) each zero = each 0
+    go (x ∷ xs) each (suc k) = go xs (λ j. each (suc j)) k

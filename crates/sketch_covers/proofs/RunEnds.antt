@@ -1,0 +1,12 @@
+-- How sketches end, as far as it is shown.
+use Rattle.std.proofs.Common.{◌≡◌, refl, sym, subst}
+use Rattle.tso_program.specs.declared.shown.Shown.{Shown}
+use Rattle.tso_program.specs.Shown.{show}
+use Rattle.exec_axioms.specs.ProgramSketches.{ProgramSketch}
+use Rattle.run_maker.specs.declared.run.MadeRun.{MadeRun}
+use Rattle.run_maker.specs.MadeRuns.{IsMadeRun}
+use Rattle.sketch_covers.specs.ShownRuns.{IsShownRunOf}
+
+-- the run of a sketch, with what is shown of its outcome
+pub shown_run_of : (s : ProgramSketch) (shown : Shown) (run made : MadeRun) → IsMadeRun s run.labels.items run.outcome → made ≡ record run { outcome = show shown run.outcome } → IsShownRunOf s shown made
+shown_run_of s shown run made is same = subst (IsShownRunOf s shown) (sym same) (record { is_run = (run.outcome, is.is_run, refl); must_end = is.must_end shown })

@@ -1,0 +1,34 @@
+use Rattle.std.proofs.Common.{IfSome, sym, subst}
+use Rattle.std.specs.Option.{IsSomeAnd}
+use Rattle.tso_program.specs.Shown.{asked}
+use Rattle.tso_machine.specs.Modes.{machine_of_mode}
+use Rattle.tso_machine.specs.Outcomes.{IsShownRun}
+use Rattle.sketch_covers.specs.declared.known_outcomes.KnownOutcomes.{KnownOutcomes}
+use Rattle.sketch_covers.specs.declared.known_outcomes.KnownOutcomes.TheVariants.{Open}
+use Rattle.sketch_covers.specs.KnownOutcomes.{Grows}
+use Rattle.sketch_covers.specs.ShownRuns.{IsShownRunOf}
+use Rattle.sketch_covers.proofs.Growing.{grows_none, grows_open}
+use Rattle.sketch_covers.proofs.OwnEnds.{numbered_is_listed}
+use Rattle.sketch_covers.proofs.known_outcomes.KnownOutcomes.add.Goals as goal
+
+pub returns-in_ok-add-clause-grows : goal.returns-in_ok-add-clause-grows
+returns-in_ok-add-clause-grows c =
+    let q = asked c.args.sketch.now.program c.args.shown.now in
+    let mode = c.in-Open.mode in
+    let machine = machine_of_mode c.args.sketch.now.program mode in
+    let new = c.add.new.self in
+    let is_run = subst (λ found. IfSome found (λ run. IsShownRun q machine run.labels.items run.outcome)) c.in-Some.is c.in_ok-run.ensures.run in
+    subst (λ (old : KnownOutcomes). Grows q old (Open new mode)) (sym c.in-Open.is)
+    (grows_open q mode c.in-Open.found new c.in_ok-add.ensures.in_order c.in_ok-add.ensures.keeps (λ are. c.in_ok-add.ensures.runs q machine are is_run))
+
+pub returns-in_ok-add-clause-own : goal.returns-in_ok-add-clause-own
+returns-in_ok-add-clause-own c same =
+    let outcomes = c.add.new.self.by_number.items in
+    let outcome = c.in-Some.run'.outcome in
+    let made = subst (λ found. IsSomeAnd found (IsShownRunOf c.args.sketch.now c.args.shown.now)) c.in-Some.is (c.in_ok-run.ensures.own same) in
+    (outcome, made.must_end, numbered_is_listed outcomes c.in_ok-add.field-0 outcome c.in_ok-add.ensures.number)
+
+pub returns-in_default-2-clause-grows : goal.returns-in_default-2-clause-grows
+returns-in_default-2-clause-grows c =
+    let q = asked c.args.sketch.now.program c.args.shown.now in
+    subst (λ (new : KnownOutcomes). Grows q c.args.self.now new) c.in-Open.is (grows_none q c.args.self.now c.requires.in_order)

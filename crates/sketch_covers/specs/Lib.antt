@@ -1,0 +1,6 @@
+pub mod Ascending
+pub mod OutcomeNumbers
+pub mod KnownOutcomes
+pub mod Covers
+pub mod Pushing
+pub mod ShownRuns

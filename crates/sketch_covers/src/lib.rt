@@ -1,0 +1,28 @@
+//! Cover trees of sketches in which each read has its value, over lists of outcomes.
+//!
+//! A list is closed, or open for the outcomes of one machine. Where a complete sketch has a new outcome, an
+//! open list takes that of the same choices in its own machine.
+//!
+//! Begin with `KnownOutcomes`, `cover_whole` and `known_leaf`. Free to change: which cycle or which known
+//! outcome closes a sketch (`leaf.rt`), and whether a child takes its parent's place (`cover.rt`). Relied on:
+//! a tree is valid and within the limits of a certificate's text, an open list grows by outcomes of its own
+//! machine alone, each with a run, and each outcome keeps its number.
+#![tactic(auto)]
+
+mod access_ids;
+mod ascending;
+mod cover;
+mod known_outcomes;
+mod leaf;
+mod outcome_index;
+mod run;
+mod same_choices;
+mod same_machine;
+mod stop;
+
+pub use ascending::{copies, place_of};
+pub use cover::cover_whole;
+pub use known_outcomes::KnownOutcomes;
+pub use leaf::known_leaf;
+pub use outcome_index::OutcomeIndex;
+pub use stop::Stop;

@@ -1,0 +1,31 @@
+//! Why a search for a cover tree ends without one.
+ghost use Rattle.std.specs.Prelude.{◌≡◌};
+ghost use Rattle.sketch_covers.specs.declared.stop.Stop.TheVariants as stop;
+
+use exec_axioms::Sketch;
+use run_maker::MadeRun;
+use std::alloc::{AllocError, AllocFailed};
+
+/// Why a search for a tree ends without one.
+#[derive(Drop)]
+pub enum Stop {
+    /// A run has an outcome that is not in the list. The sketch is complete, and the run is one of it.
+    New { run: MadeRun, sketch: Box<Sketch> },
+    OutOfMemory,
+}
+
+impl From<AllocError> for Stop {
+    ghost from_gives = { λ _ why. why ≡ stop.OutOfMemory };
+
+    fn from(_error: AllocError) -> Stop {
+        Stop::OutOfMemory
+    }
+}
+
+impl<T: Drop> From<AllocFailed<T>> for Stop {
+    ghost from_gives = { λ _ why. why ≡ stop.OutOfMemory };
+
+    fn from(_error: AllocFailed<T>) -> Stop {
+        Stop::OutOfMemory
+    }
+}
