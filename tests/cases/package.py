@@ -64,7 +64,9 @@ def unpacked(folder):
     named = re.findall(r"`((?:docs|examples)/[\w.]+)`", readme)
     there = all(os.path.exists(os.path.join(folder, it)) for it in named)
     tell("the documents that the package's README names", len(named) >= 5 and there, named)
-    same("what is no document in the package's docs", [it for it in os.listdir(os.path.join(folder, "docs")) if not it.endswith(".md")], [])
+    found = os.path.join(folder, "docs")
+    others = [it for it in sorted(os.listdir(found)) if os.path.isfile(os.path.join(found, it)) and not it.endswith((".md", ".svg"))]
+    same("the scripts among the package's documents", others, [])
     for example in sorted(os.listdir(EXAMPLES)):
         tell(f"the package has examples/{example}", os.path.exists(os.path.join(folder, "examples", example)))
 
