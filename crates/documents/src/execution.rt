@@ -3,7 +3,7 @@
 use crate::named::{location, number};
 use json_text::{JsonArray, JsonObject, JsonText};
 use litmus_text::{Litmus, NameTable};
-use run_graph::{Edge, Event, Relation, candidate_of};
+use run_views::{Edge, Event, Relation, candidate_of};
 use std::alloc::{AllocError, Global};
 use tso_machine::Step;
 use tso_program::Program;

@@ -7,7 +7,7 @@ use crate::named::located;
 use crate::program::{register_values, values};
 use json_text::{JsonArray, JsonObject, JsonText};
 use litmus_text::{Litmus, NameTable};
-use run_table::{action_of, waits, written};
+use run_views::{action_of, waits, written};
 use std::alloc::{AllocError, Global};
 use tso_machine::{Label, Pending, Step};
 use tso_program::{Action, Program};

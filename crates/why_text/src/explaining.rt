@@ -17,7 +17,7 @@ use json_text::JsonArray;
 use litmus_text::Litmus;
 use placed_text::{Effort, Found, TextFault, place_gaps, read_gap_costs, read_program, shown_of};
 use report::answer_line;
-use run_graph::RunGraph;
+use run_views::RunGraph;
 use std::alloc::{AllocError, Global};
 use std::sync::Wait;
 use std::thread::Threads;

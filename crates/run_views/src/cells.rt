@@ -7,7 +7,7 @@ use tso_machine::{Label, Pending, Step, write_run};
 use tso_program::{Action, Instr, Program};
 
 /// `x=1`
-pub fn push_value(
+pub(crate) fn push_value(
     alloc: Global,
     out: &mut Vec<u8>,
     names: &NameTable,
@@ -39,7 +39,7 @@ fn instr_at(program: &Program, t: u8, k: u8) -> Option<Instr> {
 }
 
 /// The instruction that a step executes, as it is written.
-pub fn instruction_cell(
+pub(crate) fn instruction_cell(
     alloc: Global,
     litmus: &Litmus<Program>,
     step: &Step,

@@ -4,7 +4,7 @@ use crate::candidate::{Candidate, candidate_of};
 use crate::edges::{Edge, Relation};
 use crate::events::{Access, Event};
 use litmus_text::{Litmus, NameTable, location_name};
-use run_table::push_value;
+use crate::cells::push_value;
 use std::alloc::{AllocError, Global};
 use tso_machine::Step;
 use tso_program::Program;

@@ -1,0 +1,25 @@
+//! What a run looks like: its table, a line a step, and its candidate execution as a graph for Graphviz.
+//!
+//! For people. Both are worked out from the steps of `tso_machine::steps` alone, so they show runs of both
+//! machines and need no sketch.
+//!
+//! Begin with `run_table`, `RunGraph` and `candidate_of`. Free to change: everything; no contract speaks of the
+//! bytes of a table or a graph. `tests/judges/traces.py` compares tables with the states of another program, and
+//! `tests/judges/graphs.py` works out nodes, edges and a shortest cycle by itself. Relied on: `documents` takes
+//! from here what a step does and the edges of a run, so that all three say the same.
+#![tactic(auto)]
+
+mod candidate;
+mod cells;
+mod cycle;
+mod edges;
+mod events;
+mod graph;
+mod table;
+
+pub use candidate::{Candidate, candidate_of};
+pub use cells::{action_of, waits, written};
+pub use edges::{Edge, Relation};
+pub use events::Event;
+pub use graph::RunGraph;
+pub use table::run_table;
