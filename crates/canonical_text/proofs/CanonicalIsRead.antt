@@ -27,7 +27,7 @@ use Rattle.litmus_reader.specs.declared.litmus.Litmus.{Litmus}
 use Rattle.litmus_lines.specs.FirstLine.{AreVisible}
 use Rattle.litmus_reader.specs.Names.{TextNames, all_registers, number_in}
 use Rattle.litmus_reader.specs.Places.{entry_place, row_places, sign_places, places, location_name, is_register, names_of, names_among}
-use Rattle.litmus_reader.specs.Outcomes.{is_named}
+use Rattle.litmus_reader.specs.Names.{is_named}
 use Rattle.litmus_reader.specs.declared.label.Label.{Label}
 use Rattle.litmus_reader.specs.Labels.{column, labels_behind, thread_labels, all_labels, position_in, are_found, JumpsAreFound}
 use Rattle.litmus_reader.specs.Meaning.{first_value, memory_of, registers_of, thread_read, listing_of, observed_of, numbered_atom, condition_of}

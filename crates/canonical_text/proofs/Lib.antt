@@ -10,6 +10,7 @@ pub mod AsciiTexts
 pub mod PrintedIsRead
 pub mod TextsGrow
 pub mod Lists
+pub mod Joined
 pub mod ToldCode
 pub mod SaidSigns
 pub mod NamedByText

@@ -16,7 +16,7 @@ use Rattle.litmus_syntax.specs.Places.{same_place}
 use Rattle.litmus_syntax.proofs.SeenLaws.{same_place_itself}
 use Rattle.litmus_reader.specs.Names.{all_registers, with_name}
 use Rattle.litmus_reader.specs.Places.{code_places, cell_places, cells_places, row_places, sign_places, entry_place, places, location_name, is_register, names_of}
-use Rattle.litmus_reader.specs.Outcomes.{is_named}
+use Rattle.litmus_reader.specs.Names.{is_named}
 use Rattle.litmus_reader.specs.Meaning.{first_value}
 use Rattle.canonical_text.specs.Printable.{IsTextNumber, IsLocationName, IsPrintablePlace, IsPrintableEntry, IsPrintableCode, IsPrintableContent, IsPrintableCell, IsPrintableRow, IsPrintableSign}
 use Rattle.canonical_text.proofs.ToldCode.{IsKnown}

@@ -20,7 +20,7 @@ use Rattle.litmus_syntax.specs.Places.{same_place}
 use Rattle.litmus_syntax.proofs.SeenLaws.{same_place_is}
 use Rattle.litmus_reader.specs.Names.{TextNames, all_registers}
 use Rattle.litmus_reader.specs.Places.{location_name, is_register}
-use Rattle.litmus_reader.specs.Outcomes.{is_named}
+use Rattle.litmus_reader.specs.Names.{is_named}
 use Rattle.litmus_reader.specs.Meaning.{first_value}
 use Rattle.canonical_text.specs.Canonical.{location_name_at, location_entry, location_entries, named_entry, register_entries}
 use Rattle.canonical_text.specs.Printable.{IsTextNumber, IsLocationName, IsPrintableEntry}

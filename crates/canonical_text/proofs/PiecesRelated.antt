@@ -13,7 +13,7 @@ use Rattle.litmus_syntax.specs.Views.{PlaceView, Location, Register, EntryView, 
 use Rattle.litmus_syntax.specs.Words.{mnemonic_of}
 use Rattle.litmus_syntax.specs.Phrases.{Phrase, ◌▸◌, mark, number, begins_with_word, Items, end, item}
 use Rattle.litmus_syntax.specs.Grammar.{IsPlace, IsEntryItem, NoneTwice, place_of_entry, IsInitial, HasThread, MoreColumns, last, column, IsHeader, IsCode, IsLabelMark, IsContent, ends_cell, IsCell, IsNextCell, IsRow, ends_rows, before_ending, IsRows, IsBody, IsObservedItem, IsObserved, IsQuantifier, IsSign, the_end, IsSigns, IsEnding}
-use Rattle.litmus_reader.specs.Outcomes.{register_name}
+use Rattle.litmus_reader.specs.Names.{register_name}
 use Rattle.canonical_text.specs.Spelling.{space, line_end, sign, next, joined_by, bar, gap, place_pieces, valued_pieces, entry_pieces, initial_pieces, row_end, column_pieces, header_pieces, code_pieces, label_pieces, cell_pieces, row_pieces, observed_place_pieces, observed_pieces, sign_pieces, condition_pieces, ending_pieces, lines_pieces}
 use Rattle.canonical_text.specs.Printable.{IsLabelName, IsPrintablePlace, IsPrintableEntry, IsPrintableCode, IsPrintableContent, IsPrintableCell, IsPrintableRow, IsPrintable, IsPrintableSign, ArePrintable, IsPrintableEnding}
 use Rattle.canonical_text.proofs.WordsWritten.{opens, opens_all, opens_locations, register_named}

@@ -10,7 +10,7 @@ use Rattle.text_tokens.proofs.NumberLaws.{own}
 use Rattle.tso_program.specs.declared.instruction.Reg.{Reg}
 use Rattle.tso_program.specs.declared.instruction.Reg.TheVariants.{Eax, Ebx, Ecx, Edx, Esi, Edi}
 use Rattle.litmus_syntax.specs.Words.{reg_of, opens_condition, column_name}
-use Rattle.litmus_reader.specs.Outcomes.{register_name}
+use Rattle.litmus_reader.specs.Names.{register_name}
 
 -- ---- words
 

@@ -23,8 +23,7 @@ use Rattle.litmus_reader.specs.declared.label.Label.{Label}
 use Rattle.litmus_reader.specs.declared.observed.Observed.{Observed}
 use Rattle.litmus_reader.specs.declared.observed.Observed.TheVariants as observed
 use Rattle.litmus_reader.specs.declared.litmus.Litmus.{Litmus}
-use Rattle.litmus_reader.specs.Names.{TextNames, all_registers}
-use Rattle.litmus_reader.specs.Outcomes.{is_named}
+use Rattle.litmus_reader.specs.Names.{TextNames, all_registers, is_named}
 use Rattle.canonical_text.specs.Spelling.{text_with}
 
 -- the name of a location; none where the text has no such location

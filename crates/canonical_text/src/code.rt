@@ -2,7 +2,7 @@
 ghost use Rattle.std.specs.Prelude.{◌≡◌, ◌++◌, ◌∷◌, OnOk, codes};
 ghost use Rattle.text_tokens.specs.Pieces.{text_of};
 ghost use Rattle.tso_program.specs.Fences.{gaps_in};
-ghost use Rattle.litmus_reader.specs.Outcomes.{register_name};
+ghost use Rattle.litmus_reader.specs.Names.{register_name};
 ghost use Rattle.canonical_text.specs.Spelling.{memory_pieces, immediate_pieces, jump_pieces, code_pieces};
 ghost use Rattle.canonical_text.specs.Canonical.{location_name_at, label_name_at, own_labels, moved_labels, code_named};
 

@@ -3,7 +3,6 @@ pub mod Rows
 pub mod Filled
 pub mod NamesOnce
 pub mod FirstValues
-pub mod Joined
 pub mod Faults
 pub mod Positions
 pub mod Targets

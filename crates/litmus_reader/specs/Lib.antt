@@ -4,7 +4,6 @@ pub mod Labels
 pub mod Meaning
 pub mod Faults
 pub mod Texts
-pub mod Outcomes
 pub mod Shown
 pub mod Laws
 pub mod Example

@@ -3,7 +3,7 @@
 //! It takes the syntax of `litmus_syntax`, numbers the locations by their first appearance, finds the
 //! position of each label, and makes the program within its limits.
 //!
-//! Begin with `read_litmus`, `Litmus::shown_as` and `write_outcome`. Free to change: how `NameTable` finds a
+//! Begin with `read_litmus`, `Litmus::shown_as` and `NameTable`. Free to change: how `NameTable` finds a
 //! name, and in which order the parts are put together. Relied on: a test is read exactly where grammar and
 //! meaning relate the text to it (`IsLitmus` in `specs/Texts.antt`), and the inner fault of `Program` is the
 //! first limit that the text's program breaks.
@@ -19,7 +19,6 @@ mod litmus;
 mod names;
 mod noted_names;
 mod observed;
-mod outcome;
 mod program;
 mod reader;
 mod shown;
@@ -28,7 +27,6 @@ pub use fault::ReadFault;
 pub use label::Label;
 pub use laws::{store_buffering_is_read, texts_name_few_locations};
 pub use litmus::Litmus;
-pub use names::NameTable;
+pub use names::{NameTable, location_name, register_name};
 pub use observed::Observed;
-pub use outcome::{location_name, register_name, write_outcome};
 pub use reader::{read_fenced, read_litmus};

@@ -1,9 +1,8 @@
 //! The names of a text.
-ghost use Rattle.std.specs.Prelude.{◌≡◌, true, IfOk, OnOk, option_map, slice_get, length};
+ghost use Rattle.std.specs.Prelude.{◌≡◌, [], true, IfOk, OnOk, option_map, slice_get, slice_index_or, length};
 ghost use Rattle.tso_program.specs.Instructions.{number};
 ghost use Rattle.litmus_syntax.specs.Views.{place_view};
-ghost use Rattle.litmus_reader.specs.Names.{with_name};
-ghost use Rattle.litmus_reader.specs.Outcomes.{is_named};
+ghost use Rattle.litmus_reader.specs.Names.{with_name, is_named, register_name};
 ghost use Rattle.litmus_reader.specs.Internal.Filling.{no_names, noted, with_put, byte_in};
 
 use indexmap::IndexSet;
@@ -103,5 +102,29 @@ impl NameTable {
             Some(named) => named[register.index()],
             None => false,
         }
+    }
+}
+
+/// The register's name, in capitals.
+pub fn register_name(register: Reg) -> &'static str
+    ensures { result.now ≡ register_name register }
+{
+    match register {
+        Reg::Eax => "EAX",
+        Reg::Ebx => "EBX",
+        Reg::Ecx => "ECX",
+        Reg::Edx => "EDX",
+        Reg::Esi => "ESI",
+        Reg::Edi => "EDI",
+    }
+}
+
+/// The name of the location with this number; no bytes where the text has no such location.
+pub fn location_name(names: &NameTable, number: usize) -> &[u8]
+    ensures { result.now ≡ slice_index_or names.now.locations number [] }
+{
+    match names.location(number) {
+        Some(name) => name,
+        None => b"",
     }
 }

@@ -9,7 +9,7 @@ use Rattle.tso_program.specs.declared.shown.Shown.TheVariants.{All, Only, Truth}
 use Rattle.tso_machine.specs.declared.label.Label.{Label}
 use Rattle.tso_machine.specs.RunTexts.{run_text}
 use Rattle.litmus_reader.specs.Names.{TextNames}
-use Rattle.litmus_reader.specs.Outcomes.{outcome_text}
+use Rattle.canonical_text.specs.Outcomes.{outcome_text}
 use Rattle.report.specs.Places.{gap_text, gaps_text}
 
 -- a text after a space, or nothing where there is no text

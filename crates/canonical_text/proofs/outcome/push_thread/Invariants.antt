@@ -1,9 +1,9 @@
 use Rattle.std.proofs.Common.{◌≡◌, ◌++◌, take}
 use Rattle.std.specs.List.{flat_map}
 use Rattle.litmus_reader.specs.Internal.Filling.{texts}
-use Rattle.litmus_reader.specs.Outcomes.{named_item}
+use Rattle.canonical_text.specs.Outcomes.{named_item}
 use Rattle.litmus_reader.specs.Names.{all_registers}
-use Rattle.litmus_reader.proofs.outcome.push_thread.Given as goal
+use Rattle.canonical_text.proofs.outcome.push_thread.Given as goal
 
 -- the items of the registers so far
 abbrev pub invariant-loop-register : goal.invariant-loop-register

@@ -1,10 +1,10 @@
 use Rattle.std.proofs.Common.{List, ◌++◌, get_or, ap, ◌∙◌, ℕ}
 use Rattle.tso_program.specs.declared.instruction.Reg.TheVariants.{Eax}
 use Rattle.litmus_reader.specs.Internal.Filling.{texts}
-use Rattle.litmus_reader.specs.Outcomes.{named_item}
+use Rattle.canonical_text.specs.Outcomes.{named_item}
 use Rattle.litmus_reader.specs.Names.{all_registers}
-use Rattle.litmus_reader.proofs.Joined.{flat_more}
-use Rattle.litmus_reader.proofs.outcome.push_thread.Goals as goal
+use Rattle.canonical_text.proofs.Joined.{flat_more}
+use Rattle.canonical_text.proofs.outcome.push_thread.Goals as goal
 
 pub loop-register-preserved : goal.loop-register-preserved
 loop-register-preserved c =

@@ -1,7 +1,7 @@
 use Rattle.std.proofs.Common.{◌≡◌, ◌++◌}
 use Rattle.litmus_reader.specs.Internal.Filling.{texts}
-use Rattle.litmus_reader.specs.Outcomes.{register_items}
-use Rattle.litmus_reader.proofs.outcome.push_threads.Given as goal
+use Rattle.canonical_text.specs.Outcomes.{register_items}
+use Rattle.canonical_text.proofs.outcome.push_threads.Given as goal
 
 -- the items of the threads so far
 abbrev pub invariant-loop-thread : goal.invariant-loop-thread

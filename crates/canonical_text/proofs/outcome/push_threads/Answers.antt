@@ -1,8 +1,8 @@
 use Rattle.std.proofs.Common.{ℕ, List, [], ◌++◌, get_or, ap, ◌∙◌}
 use Rattle.litmus_reader.specs.Internal.Filling.{texts}
-use Rattle.litmus_reader.specs.Outcomes.{thread_items}
-use Rattle.litmus_reader.proofs.Joined.{flat_range_more}
-use Rattle.litmus_reader.proofs.outcome.push_threads.Goals as goal
+use Rattle.canonical_text.specs.Outcomes.{thread_items}
+use Rattle.canonical_text.proofs.Joined.{flat_range_more}
+use Rattle.canonical_text.proofs.outcome.push_threads.Goals as goal
 
 pub loop-thread-preserved : goal.loop-thread-preserved
 loop-thread-preserved c =

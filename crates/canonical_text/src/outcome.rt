@@ -1,26 +1,12 @@
 //! How an outcome is written.
-ghost use Rattle.std.specs.Prelude.{◌≡◌, ◌++◌, [], IfOk, OnOk, length, slice_index_or};
+ghost use Rattle.std.specs.Prelude.{◌≡◌, ◌++◌, IfOk, OnOk, length};
 ghost use Rattle.std.specs.List.{join_with_byte};
 ghost use Rattle.litmus_reader.specs.Internal.Filling.{texts};
-ghost use Rattle.litmus_reader.specs.Outcomes.{register_name, register_item, location_item, named_item, thread_items, register_items, shown_item, location_items, outcome_text};
+ghost use Rattle.canonical_text.specs.Outcomes.{register_item, location_item, named_item, thread_items, register_items, shown_item, location_items, outcome_text};
 
-use crate::names::NameTable;
+use litmus_reader::{NameTable, location_name, register_name};
 use std::alloc::{AllocError, Global};
 use tso_program::{Outcome, Reg, Shown};
-
-/// The register's name, in capitals.
-pub fn register_name(register: Reg) -> &'static str
-    ensures { result.now ≡ register_name register }
-{
-    match register {
-        Reg::Eax => "EAX",
-        Reg::Ebx => "EBX",
-        Reg::Ecx => "ECX",
-        Reg::Edx => "EDX",
-        Reg::Esi => "ESI",
-        Reg::Edi => "EDI",
-    }
-}
 
 /// `t:REG=n;`
 fn register_item(
@@ -34,16 +20,6 @@ fn register_item(
     let name = register_name(register);
     let text = format!(in alloc; "{thread}:{name}={value};")?;
     Ok(text.into_bytes())
-}
-
-/// The name of the location with this number; no bytes where the text has no such location.
-pub fn location_name(names: &NameTable, number: usize) -> &[u8]
-    ensures { result.now ≡ slice_index_or names.now.locations number [] }
-{
-    match names.location(number) {
-        Some(name) => name,
-        None => b"",
-    }
 }
 
 /// `x=n;`

@@ -1,7 +1,7 @@
 use Rattle.std.proofs.Common.{◌≡◌, ◌++◌}
 use Rattle.litmus_reader.specs.Internal.Filling.{texts}
-use Rattle.litmus_reader.specs.Outcomes.{location_items}
-use Rattle.litmus_reader.proofs.outcome.push_locations.Given as goal
+use Rattle.canonical_text.specs.Outcomes.{location_items}
+use Rattle.canonical_text.proofs.outcome.push_locations.Given as goal
 
 -- the items of the locations so far
 abbrev pub invariant-loop-location : goal.invariant-loop-location

@@ -1,7 +1,7 @@
 use Rattle.std.proofs.Common.{◌≡◌, take}
 use Rattle.std.specs.List.{join_with_byte}
 use Rattle.litmus_reader.specs.Internal.Filling.{texts}
-use Rattle.litmus_reader.proofs.outcome.join.Given as goal
+use Rattle.canonical_text.proofs.outcome.join.Given as goal
 
 -- the items so far, joined
 abbrev pub invariant-loop-index : goal.invariant-loop-index

@@ -1,8 +1,8 @@
 use Rattle.std.proofs.Common.{ℕ, List, ◌++◌, get_or, ap, ◌∙◌}
 use Rattle.litmus_reader.specs.Internal.Filling.{texts}
-use Rattle.litmus_reader.specs.Outcomes.{shown_item}
-use Rattle.litmus_reader.proofs.Joined.{flat_range_more}
-use Rattle.litmus_reader.proofs.outcome.push_locations.Goals as goal
+use Rattle.canonical_text.specs.Outcomes.{shown_item}
+use Rattle.canonical_text.proofs.Joined.{flat_range_more}
+use Rattle.canonical_text.proofs.outcome.push_locations.Goals as goal
 
 pub loop-location-preserved : goal.loop-location-preserved
 loop-location-preserved c =

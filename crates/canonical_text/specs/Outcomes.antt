@@ -3,21 +3,11 @@ use Rattle.std.specs.Prelude.{ℕ, Bool, false, List, [], ◌∷◌, ◌++◌, l
 use Rattle.std.specs.List.{join_with_byte, flat_map, range_with_len}
 use Rattle.std.specs.Fmt.{decimal}
 use Rattle.tso_program.specs.declared.instruction.Reg.{Reg}
-use Rattle.tso_program.specs.declared.instruction.Reg.TheVariants.{Eax, Ebx, Ecx, Edx, Esi, Edi}
 use Rattle.tso_program.specs.declared.outcome.Outcome.{Outcome}
 use Rattle.tso_program.specs.declared.shown.Shown.{Shown}
 use Rattle.tso_program.specs.Shown.{shows_register, shows_location}
 use Rattle.tso_program.specs.Instructions.{number}
-use Rattle.litmus_reader.specs.Names.{TextNames, all_registers}
-
--- a register's name, in capitals
-abbrev pub register_name : Reg → List ℕ
-register_name Eax = codes "EAX"
-register_name Ebx = codes "EBX"
-register_name Ecx = codes "ECX"
-register_name Edx = codes "EDX"
-register_name Esi = codes "ESI"
-register_name Edi = codes "EDI"
+use Rattle.litmus_reader.specs.Names.{TextNames, all_registers, register_name, is_named}
 
 -- `=n;`
 abbrev pub value_text : ℕ → List ℕ
@@ -30,10 +20,6 @@ register_item t r n = decimal t ++ (codes ":" ++ (register_name r ++ value_text 
 -- `x=n;`
 abbrev pub location_item : List ℕ → ℕ → List ℕ
 location_item x n = x ++ value_text n
-
--- whether the text names register r of thread t
-abbrev pub is_named : TextNames → ℕ → Reg → Bool
-is_named names t r = slice_index_or (slice_index_or names.registers t []) (number r) false
 
 -- a register with its value, where it is shown and the text names it
 abbrev pub named_item : TextNames → Shown → ℕ → List ℕ → Reg → List (List ℕ)

@@ -2,9 +2,9 @@ use Rattle.std.proofs.Common.{ℕ, List, [], ◌++◌, ◌∷◌, take, get_or, 
 use Rattle.std.specs.List.{join_with_byte}
 use Rattle.std.specs.Global.{Vec}
 use Rattle.litmus_reader.specs.Internal.Filling.{texts}
-use Rattle.litmus_reader.proofs.Joined.{join_more, join_first}
-use Rattle.litmus_reader.proofs.outcome.join.Goals as goal
-use Rattle.litmus_reader.proofs.outcome.join.Goals.{then-index-gt0+in_ok-push, else-index-gt0}
+use Rattle.canonical_text.proofs.Joined.{join_more, join_first}
+use Rattle.canonical_text.proofs.outcome.join.Goals as goal
+use Rattle.canonical_text.proofs.outcome.join.Goals.{then-index-gt0+in_ok-push, else-index-gt0}
 
 pub loop-index-preserved : goal.loop-index-preserved
 loop-index-preserved c =
