@@ -6,6 +6,7 @@ ghost use Rattle.gap_sets.specs.Order.{Better};
 ghost use Rattle.gap_sets.specs.declared.gap_set.TheConstants.{MAX_GAPS};
 ghost use Rattle.tso_program.specs.declared.listing.Listing.{Listing};
 ghost use Rattle.tso_machine.specs.declared.label.Label.{Label};
+ghost use Rattle.cert_forest.specs.Trees.{Split, gap_trees_of};
 ghost use Rattle.cert_forest.specs.GapNodes.{first_gap};
 ghost use Rattle.tree_laws.specs.GapTrees.{IsSplitBy, IsValidGap};
 ghost use Rattle.cert_check.specs.Internal.Replays.{HavePassed};
@@ -61,11 +62,29 @@ fn judge_gap(
 {
     match walk.next_node() {
         GapNode::Bound => judge_bound(alloc, region, bounds),
-        GapNode::Split { count, run } => {
-            let gaps = split_gaps(alloc, run, region, count as usize, bounds.passed)?;
-            judge_gaps(alloc, walk, region, &gaps, bounds)
-        }
+        GapNode::Split { count, run } => judge_split(alloc, run, count, walk, region, bounds),
     }
+}
+
+/// Judges a split whose children come first in the walk.
+#[cycle(judge_gap)]
+fn judge_split(
+    alloc: Global,
+    run: u64,
+    count: u32,
+    walk: &mut GapWalk<'_>,
+    region: &Region,
+    bounds: &Bounds,
+) -> Result<(), TreeFault>
+    requires { count ≤ length walk.old }
+    ensures after { OnOk result (walk.new ≡ drop count walk.old) }
+    ensures valid { (p : Listing) (runs : List (List Label)) → HavePassed p runs bounds.now.passed.now
+        → OnOk result (IsValidGap p bounds.now.costs.now bounds.now.answer runs (Split run (gap_trees_of (take count walk.old))) region.now) }
+    ensures wrong { (p : Listing) (runs : List (List Label)) → HavePassed p runs bounds.now.passed.now
+        → IfErr result (IfWrong (FirstWrongGap p bounds.now.costs.now bounds.now.answer runs (Split run (gap_trees_of (take count walk.old))) region.now)) }
+{
+    let gaps = split_gaps(alloc, run, region, count as usize, bounds.passed)?;
+    judge_gaps(alloc, walk, region, &gaps, bounds)
 }
 
 /// Judges the children of a split in order, which come first in the walk: each must have its gap, and never those before it.

@@ -27,13 +27,13 @@ row_fits (MoreGaps t ts) more = omega (arith, row_fits ts more)
 -- ---- trees
 
 mutual
-  gap_first : (t : Gap) (xs : List GapNode) → gap_trees_in (spell_gap t ++ xs) ≡ t ∷ gap_trees_in xs
+  pub gap_first : (t : Gap) (xs : List GapNode) → gap_trees_in (spell_gap t ++ xs) ≡ t ∷ gap_trees_in xs
   gap_first (Split run ts) xs =
       ap (gap_before (node.Split (count_gaps ts) run)) (row_first ts xs)
       ∙ (λ i. Split run (row_taken ts (gap_trees_in xs) i) ∷ row_dropped ts (gap_trees_in xs) i)
   gap_first Bound xs = refl
 
-  row_first : (ts : GapTrees) (xs : List GapNode) → gap_trees_in (spell_gap_row ts ++ xs) ≡ gap_list ts ++ gap_trees_in xs
+  pub row_first : (ts : GapTrees) (xs : List GapNode) → gap_trees_in (spell_gap_row ts ++ xs) ≡ gap_list ts ++ gap_trees_in xs
   row_first NoGap xs = refl
   row_first (MoreGaps t ts) xs =
       ap gap_trees_in (append_assoc (spell_gap t) (spell_gap_row ts) xs) ∙ gap_first t (spell_gap_row ts ++ xs) ∙ ap (λ us. t ∷ us) (row_first ts xs)

@@ -8,13 +8,16 @@ use Rattle.cert_check.proofs.gap.+judge_gap.Given as goal
 
 -- the nodes that are left, and the calls before the next one is taken
 abbrev pub decreases-judge_gap : goal.decreases-judge_gap
-decreases-judge_gap l = 3 * length (spell_gaps l.walk.now)
+decreases-judge_gap l = 4 * length (spell_gaps l.walk.now)
 
 abbrev pub decreases-judge_gap_child : goal.decreases-judge_gap_child
-decreases-judge_gap_child l = 3 * length (spell_gaps l.walk.now) + 1
+decreases-judge_gap_child l = 4 * length (spell_gaps l.walk.now) + 1
 
 abbrev pub decreases-judge_gaps : goal.decreases-judge_gaps
-decreases-judge_gaps l = 3 * length (spell_gaps l.walk.now) + 2
+decreases-judge_gaps l = 4 * length (spell_gaps l.walk.now) + 2
+
+abbrev pub decreases-judge_split : goal.decreases-judge_split
+decreases-judge_split l = 4 * length (spell_gaps l.walk.now) + 3
 
 -- the walk is past the children that were judged, and those that are left decide
 abbrev pub invariant-judge_gaps-loop-number : goal.invariant-judge_gaps-loop-number
