@@ -1,6 +1,6 @@
 -- The nodes of the record's gap tree, put after the others one by one.
 use Rattle.std.proofs.Common.{◌≡◌, ℕ, zero, suc, ◌+◌, true, List, [], ◌∷◌, ◌++◌, Some, length, refl, sym, ap, ◌∙◌, subst, append_assoc}
-use Rattle.std.specs.Prelude.{Result, Ok, Err, OnOk, slice_get}
+use Rattle.std.specs.Prelude.{slice_get}
 use Rattle.std.proofs.lemmas.List.{append-nil}
 use Rattle.gap_sets.specs.Regions.{open_gaps}
 use Rattle.cert_forest.specs.declared.node.GapNode.{GapNode}
@@ -16,10 +16,6 @@ use Rattle.search_core.specs.declared.entry.Status.TheVariants as status
 use Rattle.search_core.specs.Entries.{is_closed}
 use Rattle.fence_place.specs.Recorded.{AreRecorded, PushesRecorded, PushesRecords}
 use Rattle.fence_place.proofs.Recording.{recorded_more}
-
-pub on_ok : {T E : Type 0} {P Q : Type 0} (r : Result T E) → (P → Q) → OnOk r P → OnOk r Q
-on_ok (Ok v) f h = f h
-on_ok (Err x) f h = tt
 
 module _ (entries : List Entry) (numbers : List ℕ) where
   -- as many trees as nodes

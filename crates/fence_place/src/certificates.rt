@@ -134,8 +134,9 @@ fn push_tree(
         unreachable!()
     };
     let count = count_open(run.passed(), settled.node.never);
+    let children = count as u32;
     nodes.push(GapNode::Split {
-        count: count as u32,
+        count: children,
         run: numbers[number] as u64,
     })?;
     push_trees(finished, numbers, first, count, nodes)

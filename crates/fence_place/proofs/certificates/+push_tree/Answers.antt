@@ -5,9 +5,9 @@ use Rattle.gap_sets.specs.declared.gap_set.TheConstants.{MAX_GAPS}
 use Rattle.tree_laws.proofs.OpenGaps.{few_open}
 use Rattle.cert_forest.specs.Trees.{Bound}
 use Rattle.search_core.specs.Entries.{is_closed}
-use Rattle.fence_place.specs.Recorded.{PushesRecords}
+use Rattle.cover_judge.proofs.Answered.{on_ok}
 use Rattle.fence_place.proofs.Recording.{split_event, other_event, kids_there, split_facts}
-use Rattle.fence_place.proofs.RecordPushed.{bound_pushed, split_pushed, none_pushed, one_pushed, on_ok}
+use Rattle.fence_place.proofs.RecordPushed.{bound_pushed, split_pushed, none_pushed, one_pushed}
 use Rattle.fence_place.proofs.certificates.+push_tree.Goals as goal
 
 pub push_tree-returns-in_ok-push-in_default-event : goal.push_tree-returns-in_ok-push-in_default-event
@@ -21,6 +21,12 @@ push_tree-unreachable-requires-in_default-first_child t c =
     let (e, there, is) = c.in-Some.ensures in
     let s = split_event e.status c.in-Some.settled.event c.in-Split.run' c.in-Split.is is.is_event in
     c.in_default-first_child.ensures.none s.1 (e, there, s.0, s.2)
+
+pub push_tree-overflow_cast-children : goal.push_tree-overflow_cast-children
+push_tree-overflow_cast-children t c =
+    let few : length (open_gaps c.passed.result c.in-Some.settled.node.never) ≤ MAX_GAPS = few_open c.passed.result c.in-Some.settled.node.never in
+    let count : c.count_open-count.result ≡ length (open_gaps c.passed.result c.in-Some.settled.node.never) = c.count_open-count.ensures in
+    omega arith
 
 pub push_tree-push_trees-requires : goal.push_tree-push_trees-requires
 push_tree-push_trees-requires t c =
@@ -46,7 +52,7 @@ push_tree-returns t c =
     let count : c.count_open-count.result ≡ length (open_gaps f.passed e.node.never) = c.count_open-count.ensures ∙ (λ i. length (open_gaps (c.passed.ensures i) c.in-Some.settled.node.never))
     ∙ (λ i. length (open_gaps (same_run i).passed (same_node i).never)) in
     let run = get_or c.args.numbers.now number 0 in
-    on_ok c.push_trees.result (split_pushed o.entries c.args.numbers.now number run c.count_open-count.result e f first c.args.nodes.now.items _ c.push_trees.new.nodes.items there split
+    on_ok c.push_trees.result _ _ (split_pushed o.entries c.args.numbers.now number run c.count_open-count.result e f first c.args.nodes.now.items _ c.push_trees.new.nodes.items there split
     (slice_get-get_or c.args.numbers.now number 0 c.requires.there) count c.in_ok-push.ensures.items) c.push_trees.ensures
 
 pub push_trees-loop-i-entry : goal.push_trees-loop-i-entry
