@@ -13,7 +13,7 @@ import tempfile
 HERE = os.path.dirname(os.path.abspath(__file__))
 EXAMPLES = os.path.join(os.path.dirname(HERE), "examples")
 CLASH = "error: a file that is written must not be one that is read, nor be written twice"
-TRIED = ("--check", "--output", "--certificate")
+TRIED = ("--check", "--output", "--certificate", "--workers")
 
 
 def bytes_of(path):

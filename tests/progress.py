@@ -159,7 +159,7 @@ def search_cases(tell, fencer, path):
     name, program = os.path.basename(path), read_program(fencer, path)
     lines = ahead(program)
     sequential = count_outcomes(fencer, path, "--model", "sequential")
-    for command in (["outcomes"], ["outcomes", "--observed", "--check", "--json"], ["place"], ["place", "--workers", "4"], ["place", "--json", "--check"], ["why"]):
+    for command in (["outcomes"], ["outcomes", "--observed", "--check", "--json"], ["outcomes", "--workers", "4"], ["place"], ["place", "--workers", "4"], ["place", "--json", "--check"], ["why"]):
         plain, silent = ran(fencer, [*command, path])
         found, said = ran(fencer, [*command, "--progress", path])
         what = f"progress of {' '.join(command)} {name}"
@@ -183,7 +183,7 @@ def share_cases(tell, fencer):
                 file.write(text)
             program = read_program(fencer, path)
             lines = ahead(program)
-            for command in (["outcomes"], ["outcomes", "--observed"], ["outcomes", "--model", "sequential"], ["place", "--observed"], ["place", "--condition"], ["why", "--condition"]):
+            for command in (["outcomes"], ["outcomes", "--observed"], ["outcomes", "--model", "sequential"], ["outcomes", "--workers", "3"], ["place", "--observed"], ["place", "--observed", "--workers", "3"], ["place", "--condition"], ["why", "--condition"]):
                 plain, silent = ran(fencer, [*command, path])
                 found, said = ran(fencer, [*command, "--progress", path])
                 right, rest = shares(said[len(lines):], program.combinations(), searched_outcomes(fencer, path, command))

@@ -9,9 +9,14 @@ from concurrent.futures import ThreadPoolExecutor
 
 import documents
 from harness import FENCECHECK, FENCER, HERE, TEST_CALLS, TOP, bytes_of, called, example, expect, failing_in_turn, lines, preloaded, run, tell, watched
+from progress import reads
 
 MOST_ALLOCATIONS = 50_000
 MOST_REFUSED = 2_000
+# of a search in parts each of the first allocations is refused, and after it each that is so much further off than the one before
+FIRST_REFUSED = 200
+FURTHER = 1.1
+MOST_IN_PARTS = 1_000_000
 # lines that tell of a refusal for want of memory
 REFUSED = r"(?:refused (?:memory|[a-z]+ (?:OutOfMemory|\S*\(.*OutOfMemory\)))|Err\(OutOfMemory\))"
 
@@ -50,6 +55,24 @@ def refused_to_threads(library, folder, test, workers, right, lawful):
         tell(f"{name}, allocation {nth} refused", found == right or (met and found in lawful), f"found {found!r}")
         tell(f"{name}, its certificate with allocation {nth} refused", judged == accepted, judged)
     tell(f"{name}: one is refused memory for its search", (1, b"refused place 5 OutOfMemory\n") in (found for _, found, _, _ in tries))
+
+
+def refused_in_parts(library):
+    """Allocations of a search that three threads make in parts, refused in turn. A part that is refused memory is searched once more, so there is an answer then."""
+    given, words = reads(5, 5, 4).encode(), ["outcomes", "--runs", "--workers", "3", "-"]
+    right, lawful = run(words, given), lawful_lines("solve 2 OutOfMemory")
+    tell("the outcomes of a search in parts", right[0] == 0, right)
+    numbers = [*range(1, FIRST_REFUSED)]
+    while numbers[-1] < MOST_IN_PARTS:
+        numbers.append(int(numbers[-1] * FURTHER) + 1)
+    with ThreadPoolExecutor() as pool:
+        tries = list(zip(numbers, pool.map(lambda nth: watched(library, nth, words, given, FENCER), numbers)))
+    for nth, (found, met) in tries:
+        tell(f"the outcomes of a search in parts, allocation {nth} refused", found == right or (met and found in lawful), f"found {found!r}")
+    told = {met: {found for _, (found, its) in tries if its == met} for met in (True, False)}
+    tell("the outcomes of a search in parts: a refusal that ends it", (1, b"refused solve 2 OutOfMemory\n") in told[True])
+    tell("the outcomes of a search in parts: a refusal after which there is an answer", right in told[True])
+    tell("the outcomes of a search in parts: the refusals end", told[False] == {right}, told[False])
 
 
 def lawful_lines(*told):
@@ -93,6 +116,7 @@ def replay_cases(library):
         right = run(words, given)
         tell(f"a run of {test} that is sought", right[0] == 0, right)
         refused_allocations(library, f"a run of {test} that is sought, {options}", words, given, right, lawful)
+    refused_in_parts(library)
     given, right = example("SB.litmus"), (1, b"refused fences 1 NoSuchGap 0:2\n")
     refused_allocations(library, "a fence at no gap", ["witness", "--fences", "0:2", "-"], given, right, lawful)
 

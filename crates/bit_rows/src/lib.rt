@@ -1,8 +1,12 @@
-//! Relations between the numbers below 32, as rows of bits, with what they lead to.
+//! Relations between the numbers below 32 as rows of bits, with what paths lead to.
 //!
-//! Row d of a [`Relation`] has the numbers to which d is related. Beside it stands the row of the
-//! numbers to which a path leads from d, brought up to date with each edge, so that a cycle is seen
-//! without a search.
+//! Row d of a relation has the numbers to which d is related. Beside it stands the row of the numbers to
+//! which a path leads from d, brought up to date with each edge, so that a cycle is seen without a search. No
+//! call takes memory.
+//!
+//! Begin with `Relation::connect`, `Relation::closes` and `Relation::on_cycles`. Free to change: how the rows
+//! are brought up to date, and what is kept beside them. Relied on: both lists of rows are exact, and whether
+//! more edges would close a path is answered exactly, with the relation as it was.
 #![tactic(auto)]
 
 mod relation;

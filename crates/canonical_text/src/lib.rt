@@ -1,4 +1,12 @@
-//! The canonical text of a litmus test: one spelling for each, which reads back.
+//! The canonical text of a litmus test with its fences: one spelling, which is read back.
+//!
+//! It stands apart from the reader, since the law that what is written is read again needs both its grammar
+//! and its meaning.
+//!
+//! Begin with `write_litmus`, `push_code` and `canonical_text_is_read`. Free to change: how the text is
+//! gathered. The spelling itself is a definition (`specs/Spelling.antt`, `specs/Canonical.antt`). Relied on:
+//! what is written of a test is read as its fenced program, with the same names and condition, and each label
+//! where its instruction or its fence stands.
 #![tactic(auto)]
 
 mod code;

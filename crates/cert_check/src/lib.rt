@@ -1,5 +1,12 @@
-//! The checker of certificates: it accepts a certificate only where its set of gaps is the answer for the
-//! program and its costs, and names the first fault of any other. It uses nothing of a solver.
+//! The checker: accepts exactly the valid certificates, names the first fault of any other.
+//!
+//! Where it accepts, the headline holds of the certificate's set: it serves, and no better set does. It uses
+//! nothing of a solver.
+//!
+//! Begin with `check`, `certificate_proves_answer` and `the_first_fault_is_unique`. Free to change: how
+//! outcomes are looked up, and what of the replays is kept (`runs.rt`). Relied on: `fencecheck` prints what
+//! it answers; `place` takes from `certificate_proves_answer` what its own certificate proves, without
+//! judging it.
 #![tactic(auto)]
 
 mod checker;

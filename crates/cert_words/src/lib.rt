@@ -1,5 +1,11 @@
-//! Words of a certificate's text: the spaces before them, the ends of lines, numbers, and why a word can't stand where it
-//! does.
+//! Words, numbers and line ends of a certificate's text.
+//!
+//! Each word stands after one space, and a number has no leading zeros. A call reads one of them from the
+//! bytes, or says why it can't stand there.
+//!
+//! Begin with `word`, `number` and `can_become`. Free to change: how the bytes are gone through. Relied on:
+//! words and numbers are read exactly, so that a certificate has one text; a word that the end cuts is
+//! `Ended` exactly where more digits could complete it.
 #![tactic(auto)]
 
 mod completions;

@@ -31,7 +31,7 @@ pub struct OutcomeList {
 /// What is shown of the outcomes of a program under sequential consistency, or under x86-TSO with no
 /// gap fenced, ascending, each of them once and with a run that leaves it. A long search is in at most so many threads. A
 /// watch follows it.
-pub fn outcomes_with_runs<R: Threads + Sync, W: Watch>(
+pub fn outcomes_with_runs<R: Threads + Sync, W: Watch + Sync>(
     rt: &R,
     alloc: Global,
     program: &Program,
@@ -46,7 +46,7 @@ pub fn outcomes_with_runs<R: Threads + Sync, W: Watch>(
     ensures exact { IfOk result (λ list. (o : Outcome) → Contains list.outcomes.items o ↔ AllowsShown (asked program.now shown.now) (machine_of_model program.now set.empty model) o) }
 {
     let mode = Mode::unfenced(model);
-    let begun = begun_by(rt, workers, alloc, program, shown, &mode)?;
+    let begun = begun_by(rt, workers, alloc, program, shown, &mode, watch)?;
     let all = all_outcomes(alloc, begun, program, shown, mode, watch)?;
     let found = all.found;
     Ok(OutcomeList {

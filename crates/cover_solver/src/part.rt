@@ -11,7 +11,7 @@ use crate::kept_tree::KeptTree;
 use crate::kept_values::kept_values;
 use crate::listed::Listed;
 use crate::plan::Plan;
-use crate::watch::Unwatched;
+use crate::watch::{PartWatch, Watch};
 use cover_judge::{Choice, sketch_with};
 use exec_axioms::{Mode, Sketch};
 use std::alloc::{AllocError, Global};
@@ -73,23 +73,32 @@ impl Part {
         })
     }
 
-    /// Searches the part.
-    pub(crate) fn search(&mut self, alloc: Global, plan: &Plan, shown: &Shown, mode: Mode)
+    /// Searches the part, and reports to the watch of the whole search.
+    pub(crate) fn search<W: Watch>(
+        &mut self,
+        alloc: Global,
+        plan: &Plan,
+        shown: &Shown,
+        mode: Mode,
+        watch: &W,
+    )
         requires { IsBeforeLast self.old.sketch plan.now.last }
         ensures { IsSearched shown.now mode self.old self.new }
     {
-        self.made = made_of(alloc, &self.sketch, &self.path, plan, shown, mode).ok();
+        let own = PartWatch::new(watch);
+        self.made = made_of(alloc, &self.sketch, &self.path, plan, shown, mode, &own).ok();
     }
 }
 
 /// What is found of a sketch to which a path leads.
-fn made_of(
+fn made_of<W: Watch>(
     alloc: Global,
     sketch: &Sketch,
     path: &[Choice],
     plan: &Plan,
     shown: &Shown,
     mode: Mode,
+    watch: &W,
 ) -> Result<Made, AllocError>
     requires { IsBeforeLast sketch.now plan.now.last }
     ensures { IfOk result (IsMadeIn sketch.now shown.now mode path.now) }
@@ -107,8 +116,9 @@ fn made_of(
         &mut no_parts,
         &mut outcomes,
         &mut kept,
-        &Unwatched,
+        watch,
     )?;
+    watch.finished(outcomes.count());
     kept.shrink();
     match outcomes {
         Listed::Open { found, .. } => Ok(Made { found, kept }),

@@ -8,6 +8,7 @@ ghost use Rattle.cover_solver.specs.Plans.{IsBeforeLast};
 use crate::cutting::parts_of;
 use crate::part::Part;
 use crate::plan::{Plan, plan_for};
+use crate::watch::{Unwatched, Watch};
 use exec_axioms::{Mode, Sketch};
 use gap_sets::GapSet;
 use std::alloc::{AllocError, Global};
@@ -49,15 +50,16 @@ pub(crate) fn begun_alone(
     })
 }
 
-/// A search whose parts are searched in at most so many threads. Where one can't be started, the caller's thread
-/// searches its parts.
-pub(crate) fn begun_by<R: Threads + Sync>(
+/// A search whose parts are searched in at most so many threads, which share a watch. Where one can't be started, the
+/// caller's thread searches its parts.
+pub(crate) fn begun_by<R: Threads + Sync, W: Watch + Sync>(
     rt: &R,
     workers: u8,
     alloc: Global,
     program: &Program,
     shown: &Shown,
     mode: &Mode,
+    watch: &W,
 ) -> Result<Begun, AllocError>
     ensures { IfOk result (λ begun. (none : Found) → IsBegun program.now shown.now (Open none mode.now) begun) }
 {
@@ -68,7 +70,7 @@ pub(crate) fn begun_by<R: Threads + Sync>(
     } = ready(alloc, program)?;
     if let Some(plan) = &plan {
         let threads = usize::from(workers).max(1);
-        search_by(rt, threads, alloc, parts.as_mut_slice(), plan, shown, mode);
+        search_by(rt, threads, alloc, parts.as_mut_slice(), plan, shown, mode, watch);
     }
     Ok(Begun {
         sketch,
@@ -100,12 +102,12 @@ fn search_each(alloc: Global, parts: &mut Vec<Part>, plan: &Plan, shown: &Shown,
     ensures { AreSearched shown.now mode.now parts.old.items parts.new.items }
 {
     for i in 0..parts.len() {
-        parts[i].search(alloc, plan, shown, *mode);
+        parts[i].search(alloc, plan, shown, *mode, &Unwatched);
     }
 }
 
 /// Searches each of the parts in at most so many threads.
-fn search_by<R: Threads + Sync>(
+fn search_by<R: Threads + Sync, W: Watch + Sync>(
     rt: &R,
     threads: usize,
     alloc: Global,
@@ -113,6 +115,7 @@ fn search_by<R: Threads + Sync>(
     plan: &Plan,
     shown: &Shown,
     mode: &Mode,
+    watch: &W,
 )
     requires threads { 0 < threads }
     requires before { All (λ part. IsBeforeLast part.sketch plan.now.last) parts.old }
@@ -125,6 +128,6 @@ fn search_by<R: Threads + Sync>(
         &|_, part|
             requires { IsBeforeLast part.now.sketch plan.now.last }
             ensures { IsSearched shown.entry.now mode.entry.now part.entry.now part.exit.now }
-        { part.search(alloc, plan, shown, *mode) },
+        { part.search(alloc, plan, shown, *mode, watch) },
     );
 }

@@ -1,4 +1,10 @@
-//! What the commands say, as JSON: a document a command, of which no byte is `<`.
+//! What the commands answer, as one JSON object each.
+//!
+//! With `--json` it is printed in place of the text, and the page of `--html` is made around it.
+//!
+//! Begin with `placed_document`, `why_document` and `refusal_document`. Free to change: what is said of a
+//! step and of the candidate execution, which tests alone show. Relied on: gaps, costs, sets, labels,
+//! outcomes and passed gaps are those of the text that the command prints, and no byte is `<`.
 #![tactic(auto)]
 
 mod answer;

@@ -1,5 +1,5 @@
 -- Sketches in which values alone are chosen: a value that is given and taken back, and reads that lack a source.
-use Rattle.std.proofs.Common.{◌≡◌, ◌⊎◌, ℕ, zero, suc, ◌<◌, List, [], ◌∷◌, ◌++◌, Option, Some, None, IsSome, slice_get, slice_index, set, length, All, refl, sym, ap, ◌∙◌, subst, inl, inr, arith}
+use Rattle.std.proofs.Common.{◌≡◌, ℕ, zero, suc, ◌<◌, List, [], ◌∷◌, ◌++◌, Option, Some, None, IsSome, slice_get, slice_index, set, length, All, refl, sym, ap, ◌∙◌, subst, inl, inr, arith}
 use Rattle.std.specs.Prelude.{unwrap_or}
 use Rattle.std.proofs.lemmas.Bool.{cases_eq}
 use Rattle.std.proofs.lemmas.Option.{same_Some, slice_get_within}
@@ -17,7 +17,7 @@ use Rattle.exec_axioms.specs.ProgramSketches.{ProgramSketch, mode_in, with_chose
 use Rattle.exec_axioms.specs.ThreadTraces.{IsThreadTraceOf}
 use Rattle.exec_axioms.specs.ThreadValues.{with_values}
 use Rattle.exec_axioms.specs.Kept.{view_of, KeepsTraces}
-use Rattle.exec_axioms.specs.KnownTraces.{AreKnown, IsKnownAfter}
+use Rattle.exec_axioms.specs.KnownTraces.{AreAmong, AreFrom, AreKnown, IsAmong, IsKnownAfter}
 use Rattle.exec_axioms.specs.ValueSketches.{MarkedThread, IsValueMarkOf, LacksSource}
 use Rattle.exec_axioms.specs.Rows.{EachEnds, access_of}
 use Rattle.exec_axioms.proofs.ThreadValues.{merged_kept, merged_parts}
@@ -28,37 +28,60 @@ use Rattle.exec_axioms.proofs.Lawful.{none_in}
 -- ---- traces that are known
 
 -- none is known at first
-pub none_known : (p : Listing) (mode : Mode) (known : List (Option KnownTrace)) → All (λ place. place ≡ None) known → AreKnown p mode known
-none_known p mode [] all i k e = absurd cc
-none_known p mode (x ∷ xs) all zero k e = (let none : x ≡ None = all 0 x (omega arith) in absurd cc)
-none_known p mode (x ∷ xs) all (suc i) k e = none_known p mode xs (λ n d h. all (suc n) d (omega arith)) i k e
+pub none_known : (p : Listing) (mode : Mode) (known : List (Option KnownTrace)) → known ≡ [] → AreKnown p mode known
+none_known p mode known none = subst (AreKnown p mode) (sym none) (λ i k e. absurd cc)
 
--- one more is known
-pub one_known : (p : Listing) (mode : Mode) (known : List (Option KnownTrace)) (place : ℕ) (own : KnownTrace) → place < length known → AreKnown p mode known →
-    IsThreadTraceOf p (machine_of_mode p mode) own.thread own.trace.given own.trace → AreKnown p mode (set known place (Some own))
-one_known p mode known place own here are is i k e = elim (cases_eq i place) [
+-- empty places have no trace
+pub none_placed : (known : List (Option KnownTrace)) → All (λ place. place ≡ None) known → (old : List (Option KnownTrace)) → AreAmong old known
+none_placed [] all old i k e = absurd cc
+none_placed (x ∷ xs) all old zero k e = (let none : x ≡ None = all 0 x (omega arith) in absurd cc)
+none_placed (x ∷ xs) all old (suc i) k e = none_placed xs (λ n d h. all (suc n) d (omega arith)) old i k e
+
+-- one that is put at a place
+pub put_from : (known : List (Option KnownTrace)) (place : ℕ) (own : KnownTrace) → place < length known → AreFrom known own (set known place (Some own))
+put_from known place own here i k e = elim (cases_eq i place) [
   | inl q ↦ (let same : ◌≡◌ {A = Option (Option KnownTrace)} (Some (Some own)) (Some (Some k)) = sym (get_set_same known place (Some own) here) ∙ ap (λ n. slice_get (set known place (Some own)) n) (sym q) ∙ e in
-      let one : own ≡ k = same_Some own k (same_Some (Some own) (Some k) same) in
-      subst (λ (x : KnownTrace). IsThreadTraceOf p (machine_of_mode p mode) x.thread x.trace.given x.trace) one is)
-  | inr ne ↦ are i k (sym (get_set_other known place (Some own) i ne) ∙ e)
+      inr (sym (same_Some own k (same_Some (Some own) (Some k) same))))
+  | inr ne ↦ inl (i, sym (get_set_other known place (Some own) i ne) ∙ e)
 ]
 
--- and kept where there is a place
-pub kept_known : (p : Listing) (mode : Mode) (known after : List (Option KnownTrace)) (place t : ℕ) (given : List ℕ) (next copy : ThreadTrace) → copy ≡ next →
-    IsThreadTraceOf p (machine_of_mode p mode) t given next → AreKnown p mode known →
-    (after ≡ known) ⊎ ((place < length known) × (after ≡ set known place (Some (record { thread = t; trace = copy })))) → AreKnown p mode after
-kept_known p mode known after place t given next copy same is are kept =
+-- nothing is put
+pub unchanged_from : (known : List (Option KnownTrace)) (own : KnownTrace) → AreFrom known own known
+unchanged_from known own i k e = inl (i, e)
+
+-- nothing is changed
+pub unchanged_among : (known : List (Option KnownTrace)) → AreAmong known known
+unchanged_among known i k e = (i, e)
+
+-- one of the old ones that is put among some of them
+pub among_put : (old known after : List (Option KnownTrace)) (own : KnownTrace) → AreAmong old known → IsAmong old own → AreFrom known own after → AreAmong old after
+among_put old known after own are is from i k e = elim (from i k e) [
+  | inl (j, h) ↦ are j k h
+  | inr same ↦ subst (IsAmong old) (sym same) is
+]
+
+-- one that is put among some of the old ones
+pub from_among : (old known after : List (Option KnownTrace)) (own : KnownTrace) → AreAmong old known → AreFrom known own after → AreFrom old own after
+from_among old known after own are from i k e = elim (from i k e) [
+  | inl (j, h) ↦ inl (are j k h)
+  | inr same ↦ inr same
+]
+
+-- and with one more all are known
+pub kept_known : (p : Listing) (mode : Mode) (known after : List (Option KnownTrace)) (number t : ℕ) (given : List ℕ) (next copy : ThreadTrace) → copy ≡ next →
+    IsThreadTraceOf p (machine_of_mode p mode) t given next → AreKnown p mode known → AreFrom known (record { number = number; thread = t; trace = copy }) after → AreKnown p mode after
+kept_known p mode known after number t given next copy same is are from i k e =
     let own : IsThreadTraceOf p (machine_of_mode p mode) t copy.given copy = subst (λ (x : ThreadTrace). IsThreadTraceOf p (machine_of_mode p mode) t x.given x) (sym same)
     (subst (λ g. IsThreadTraceOf p (machine_of_mode p mode) t g next) (sym is.given_is) is) in
-    elim kept [
-      | inl e ↦ subst (AreKnown p mode) (sym e) are
-      | inr h ↦ subst (AreKnown p mode) (sym h.1) (one_known p mode known place (record { thread = t; trace = copy }) h.0 are own)
+    elim (from i k e) [
+      | inl (j, h) ↦ are j k h
+      | inr one ↦ subst (λ (x : KnownTrace). IsThreadTraceOf p (machine_of_mode p mode) x.thread x.trace.given x.trace) (sym one) own
     ]
 
 -- what is known under these values is what the thread does under them
 pub known_is : (p : Listing) (mode : Mode) (known : List (Option KnownTrace)) (t : ℕ) (given : List ℕ) (trace : ThreadTrace) → AreKnown p mode known → IsKnownAfter known t given trace →
     IsThreadTraceOf p (machine_of_mode p mode) t given trace
-known_is p mode known t given trace are (i, k, at, thread, values, is) =
+known_is p mode known t given trace are (k, ((i, at), thread, values), is) =
     subst (λ (x : ThreadTrace). IsThreadTraceOf p (machine_of_mode p mode) t given x) (sym is)
     (subst (λ g. IsThreadTraceOf p (machine_of_mode p mode) t g k.trace) values
     (subst (λ u. IsThreadTraceOf p (machine_of_mode p mode) u k.trace.given k.trace) thread (are i k at)))

@@ -1,29 +1,51 @@
 //! What threads do under their given values, kept for the next time that the values are given.
-ghost use Rattle.std.specs.Prelude.{◌≡◌, ◌<◌, ◌⊎◌, ◌++◌, ◌∷◌, [], Some, IsTrue, IfSome, None, IfOk, All, length, slice_set};
+ghost use Rattle.std.specs.Prelude.{◌≡◌, ◌<◌, ◌⊎◌, ◌++◌, ◌∷◌, [], ℕ, Some, IsTrue, IfSome, None, IfOk, All, length};
+ghost use Rattle.std.specs.Option.{option_copied};
 ghost use Rattle.exec_axioms.specs.ProgramSketches.{mode_in};
 ghost use Rattle.exec_axioms.specs.ThreadTraces.{IsThreadTraceOf};
-ghost use Rattle.exec_axioms.specs.KnownTraces.{AreKnown, IsKnownAfter};
+ghost use Rattle.exec_axioms.specs.declared.known_traces.TheConstants.{MOST_PLACES};
+ghost use Rattle.exec_axioms.specs.KnownTraces.{AreAmong, AreFrom, AreKnown, IsKnownAfter, IsOneAfter};
 
 use crate::Sketch;
 use crate::thread_trace::{SharedTrace, thread_trace_of};
 use std::alloc::{AllocError, Global};
 
-/// How many traces are kept for the next time that their values are given.
-const PLACES: usize = 4096;
+/// How many places there are once a trace is kept.
+const FIRST_PLACES: usize = 64;
 
-/// What a thread does under its given values.
+/// How many places there are at most.
+const MOST_PLACES: usize = 16_384;
+
+/// So many places, one after another, may have a trace.
+const WAYS: usize = 8;
+
+/// What a thread does under its given values, and the number that they have.
 #[derive(Drop)]
 pub(crate) struct KnownTrace {
+    pub(crate) number: u32,
     pub(crate) thread: u8,
     pub(crate) trace: SharedTrace,
 }
 
-/// Places for traces, all empty.
-pub(crate) fn no_traces(alloc: Global) -> Result<Vec<Option<KnownTrace>>, AllocError>
+impl KnownTrace {
+    /// The same trace.
+    fn copy(&self) -> Result<KnownTrace, AllocError>
+        ensures { IfOk result (λ other. other ≡ self.now) }
+    {
+        Ok(KnownTrace {
+            number: self.number,
+            thread: self.thread,
+            trace: self.trace.copy()?,
+        })
+    }
+}
+
+/// So many places for traces, all empty.
+fn empty_places(alloc: Global, places: usize) -> Result<Vec<Option<KnownTrace>>, AllocError>
     ensures { IfOk result (λ known. All (λ place. place ≡ None) known.items) }
 {
-    let mut known = Vec::with_capacity(alloc, PLACES)?;
-    for _ in 0..PLACES {
+    let mut known = Vec::with_capacity(alloc, places)?;
+    for _ in 0..places {
         known.push(None)?;
     }
     Ok(known)
@@ -43,59 +65,138 @@ pub(crate) fn trace_after(
     ensures trace { IfOk result (λ next. IsThreadTraceOf base.now.program (mode_in base.now) t (trace.now.given ++ value ∷ []) next) }
     ensures known { AreKnown base.now.program base.now.mode known.new.items }
 {
-    let place = place_of(trace.trace().given.as_slice(), t, value);
-    if let Some(found) = known_after(known, trace, t, value, place)? {
+    let number = number_of(trace.trace().given.as_slice(), t, value);
+    if let Some(found) = known_after(known, trace, t, value, number)? {
         return Ok(found);
     }
     let given = trace.with_given(alloc, value)?;
     let next = thread_trace_of(alloc, base.program(), base.mode(), t, given)?;
     let own = KnownTrace {
+        number,
         thread: t,
         trace: next.copy()?,
     };
-    keep(known, place, own);
+    keep(alloc, known, own)?;
     Ok(next)
 }
 
-/// Keeps a trace at this place, if there is one.
-fn keep(known: &mut Vec<Option<KnownTrace>>, place: usize, own: KnownTrace)
-    ensures { (known.new.items ≡ known.old.items) ⊎ ((place < length known.old.items) × (known.new.items ≡ slice_set known.old.items place (Some own))) }
-{
-    if place < known.len() {
-        known[place] = Some(own);
-    }
-}
-
-/// The trace of thread t under one more value, if it is at this place.
+/// The trace of thread t under one more value, if it is known. The values have this number.
 fn known_after(
     known: &[Option<KnownTrace>],
     trace: &SharedTrace,
     t: u8,
     value: u32,
-    place: usize,
+    number: u32,
 ) -> Result<Option<SharedTrace>, AllocError>
     ensures { IfOk result (λ found. IfSome found (IsKnownAfter known.now t (trace.now.given ++ value ∷ []))) }
 {
-    match known.get(place) {
-        Some(Some(found)) => {
-            if is_after(found, trace.trace().given.as_slice(), t, value) {
-                Ok(Some(found.trace.copy()?))
-            } else {
-                Ok(None)
-            }
-        }
-        _ => Ok(None),
+    match one_after(known, trace.trace().given.as_slice(), t, value, number) {
+        Some(found) => Ok(Some(found.trace.copy()?)),
+        None => Ok(None),
     }
 }
 
-/// Where the trace of a thread under one more value is kept.
-fn place_of(given: &[u32], t: u8, value: u32) -> usize {
-    let mut sum = t as u32;
+/// What is known of thread t under one more value. The values have this number.
+fn one_after<'a>(
+    known: &'a [Option<KnownTrace>],
+    given: &[u32],
+    t: u8,
+    value: u32,
+    number: u32,
+) -> Option<&'a KnownTrace>
+    ensures { IfSome (option_copied result) (IsOneAfter known.now t (given.now ++ value ∷ [])) }
+{
+    for way in 0..WAYS {
+        if let Some(Some(found)) = known.get(place_of(known.len(), number, way)) {
+            if found.number == number && is_after(found, given, t, value) {
+                return Some(found);
+            }
+        }
+    }
+    None
+}
+
+/// Keeps a trace.
+fn keep(
+    alloc: Global,
+    known: &mut Vec<Option<KnownTrace>>,
+    own: KnownTrace,
+) -> Result<(), AllocError>
+    ensures { AreFrom known.old.items own known.new.items }
+{
+    make_room(alloc, known, own.number)?;
+    put(known, own);
+    Ok(())
+}
+
+/// Makes more places where those of a number are all taken.
+fn make_room(
+    alloc: Global,
+    known: &mut Vec<Option<KnownTrace>>,
+    number: u32,
+) -> Result<(), AllocError>
+    ensures { AreAmong known.old.items known.new.items }
+{
+    if free_place(known, number).is_none() && known.len() < MOST_PLACES {
+        *known = in_more_places(alloc, known)?;
+    }
+    Ok(())
+}
+
+/// The same traces in twice as many places, but for those that find all of their own taken.
+fn in_more_places(
+    alloc: Global,
+    known: &[Option<KnownTrace>],
+) -> Result<Vec<Option<KnownTrace>>, AllocError>
+    requires { length known.now < MOST_PLACES }
+    ensures { IfOk result (λ more. AreAmong known.now more.items) }
+{
+    let mut more = empty_places(alloc, FIRST_PLACES.max(2 * known.len()))?;
+    for place in known {
+        if let Some(own) = place {
+            put(&mut more, own.copy()?);
+        }
+    }
+    Ok(more)
+}
+
+/// Puts a trace at one of its places, if there are any: an empty one, or else the first.
+fn put(known: &mut [Option<KnownTrace>], own: KnownTrace)
+    ensures { AreFrom known.old own known.new }
+{
+    let place = match free_place(known, own.number) {
+        Some(place) => place,
+        None => place_of(known.len(), own.number, 0),
+    };
+    if place < known.len() {
+        known[place] = Some(own);
+    }
+}
+
+/// The first empty one of the places of a number.
+fn free_place(known: &[Option<KnownTrace>], number: u32) -> Option<usize> {
+    for way in 0..WAYS {
+        let place = place_of(known.len(), number, way);
+        if let Some(None) = known.get(place) {
+            return Some(place);
+        }
+    }
+    None
+}
+
+/// One of the places of a number, of so many. Their count is a power of two, or 0: then it is none of them.
+fn place_of(places: usize, number: u32, way: usize) -> usize {
+    (number as usize).wrapping_add(way) & places.wrapping_sub(1)
+}
+
+/// The number of a thread's values and one more. Others may have the same.
+fn number_of(given: &[u32], t: u8, value: u32) -> u32 {
+    let mut sum = (u32::from(t) + 1).wrapping_mul(0x85eb_ca6b);
     for v in given {
         sum = sum.wrapping_add(*v).wrapping_mul(0x9e37_79b1);
     }
     let all = sum.wrapping_add(value).wrapping_mul(0x9e37_79b1);
-    (all >> 20) as usize
+    (all ^ all >> 15).wrapping_mul(0x85eb_ca6b) >> 8
 }
 
 /// Whether the trace is that of thread t under one more value.

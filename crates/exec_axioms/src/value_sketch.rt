@@ -10,7 +10,7 @@ ghost use Rattle.exec_axioms.specs.declared.thread_trace.ThreadTrace.{ThreadTrac
 ghost use Rattle.exec_axioms.specs.ValueSketches.{IsValueMarkOf, LacksSource};
 
 use crate::connect::EdgeRows;
-use crate::known_traces::{KnownTrace, no_traces, trace_after};
+use crate::known_traces::{KnownTrace, trace_after};
 use crate::ordered::in_order;
 use crate::sketch::thread_trace_at;
 use crate::thread_trace::SharedTrace;
@@ -77,7 +77,7 @@ impl ValueSketch {
             return Ok(None);
         }
         let values = value_lists(sketch.alloc, sketch)?;
-        let known = no_traces(sketch.alloc)?;
+        let known = Vec::new(sketch.alloc);
         Ok(Some(ValueSketch {
             alloc: sketch.alloc,
             base: sketch.copy()?,

@@ -1,5 +1,11 @@
-//! The laws of fenced programs: what fences in a program's text, and the gaps that its runs pass, have
-//! to do with its outcomes.
+//! Laws that tie fences in a program's text to its machine, its runs and its answers.
+//!
+//! Laws alone: their statements stand in `specs/`, and no program runs them.
+//!
+//! Begin with `fencing_is_the_machine_with_gaps`, `fenced_runs_pass_no_gap_of_the_set` and
+//! `the_headline_is_the_answer`. Free to change: the proofs. Relied on: searches and trees judge gaps on a
+//! machine that waits at them, and the headline speaks of MFENCEs in the text; here it is proved that both
+//! say the same.
 #![tactic(auto)]
 
 mod laws;

@@ -10,4 +10,3 @@ pub mod PlacementMade
 pub mod Splitting
 pub mod Settling
 pub mod Workers
-pub mod Captures

@@ -1,7 +1,12 @@
-//! The placer: the best set of gaps that serves, and a certificate of it that the checker accepts.
+//! The placer: the best set of gaps that serves, with a certificate of it.
 //!
-//! The search asks an oracle about sets of gaps. What became of each of its nodes is kept, and the
-//! certificate's gap tree is read from that record.
+//! Workers ask an oracle about sets of gaps. What became of each node is kept, and the certificate's gap tree
+//! is read from that record.
+//!
+//! Begin with `place`, `hunt_with` and `certify`. Free to change: which known run splits a node (`known.rt`),
+//! which worker waits for whose question (`turns.rt`), and the second search by the runs of the first
+//! (`retracing.rt`). Relied on: over any oracle that keeps its law the headline holds of the set, and the
+//! certificate is valid and within the limits of its text.
 #![tactic(auto)]
 
 mod arguments;

@@ -1,4 +1,11 @@
-//! The program `fencecheck`.
+//! The program `fencecheck`: from a litmus text and a certificate to one line and a status.
+//!
+//! It is built over nothing that searches, so that the maker of a certificate need not be trusted.
+//!
+//! Begin with `run_command`, `judge` and `accepted_inputs_are_certified`. Free to change: what is said on
+//! standard error (`advice.rt`). Relied on: nothing stands above it but what `docs/trust.md` says of an
+//! accepted line: at status 0 the certificate is valid for the program and the costs that were read, and the
+//! headline holds.
 #![tactic(auto)]
 
 mod advice;

@@ -28,9 +28,6 @@ use std::io::Read;
 use std::thread::Threads;
 use tso_program::{Outcome, Program, Shown};
 
-/// How many threads list outcomes.
-const WORKERS: u8 = 1;
-
 /// The line of the run of this number, if there is one.
 fn push_run(
     alloc: Global,
@@ -102,7 +99,8 @@ fn listed<T: Threads + Sync>(
     ensures runs { IfOk result (λ list. ListsRuns asked.now.runs (question program.now shown.now) (machine_of_model program.now set.empty asked.now.model) list.runs list.outcomes.items) }
     ensures fault { IfErr result (λ fault. fault ≡ solve.OutOfMemory) }
 {
-    let list = outcomes_with_runs(rt, alloc, program, asked.model, shown, WORKERS, ahead)?;
+    let workers = asked.workers;
+    let list = outcomes_with_runs(rt, alloc, program, asked.model, shown, workers, ahead)?;
     if asked.runs {
         Ok(list)
     } else {

@@ -80,9 +80,9 @@ workers_rule = record (named_rule (codes "workers")) {
 abbrev pub replay_app : ModelNames → App
 replay_app models = with_rule (with_rule (with_rule (new_app (codes "replay")) (model_rule models)) litmus_rule) label_rule
 
--- `outcomes [--model MODEL] [--runs] [--observed] [--check] [--json] [--progress] LITMUS`
+-- `outcomes [--model MODEL] [--workers N] [--runs] [--observed] [--check] [--json] [--progress] LITMUS`
 abbrev pub outcomes_app : ModelNames → App
-outcomes_app models = with_rule (with_rule (with_rule (with_rule (with_rule (with_rule (with_rule (new_app (codes "outcomes")) (model_rule models)) (flag_rule (codes "runs"))) (flag_rule (codes "observed"))) (flag_rule (codes "check"))) (flag_rule (codes "json"))) (flag_rule (codes "progress"))) litmus_rule
+outcomes_app models = with_rule (with_rule (with_rule (with_rule (with_rule (with_rule (with_rule (with_rule (new_app (codes "outcomes")) (model_rule models)) workers_rule) (flag_rule (codes "runs"))) (flag_rule (codes "observed"))) (flag_rule (codes "check"))) (flag_rule (codes "json"))) (flag_rule (codes "progress"))) litmus_rule
 
 -- `place [--costs FILE] [--workers N] [--certificate FILE] [--output FILE] [--observed | --condition] [--check] [--json] [--progress] LITMUS`
 abbrev pub place_app : App
@@ -180,6 +180,7 @@ IsJobOf name rows (Trace asked) =
 IsJobOf name rows (Outcomes asked) =
     (name ≡ codes "outcomes")
     × (asked.model ≡ model_in rows)
+    × AreWorkers (text_in (codes "workers") rows) asked.workers
     × (asked.runs ≡ is_flagged (codes "runs") rows)
     × (asked.observed ≡ is_flagged (codes "observed") rows)
     × (asked.check ≡ is_flagged (codes "check") rows)

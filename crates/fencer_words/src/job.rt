@@ -61,6 +61,8 @@ pub struct TraceQuery {
 #[derive(Debug, Drop)]
 pub struct OutcomeQuery {
     pub model: Model,
+    /// How many workers search: 1 to `MAX_WORKERS`.
+    pub workers: u8,
     /// Print a run of each outcome too.
     pub runs: bool,
     /// Show only what the condition and `locations` name.

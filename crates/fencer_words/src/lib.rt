@@ -1,4 +1,10 @@
-//! The command lines of `fencer`.
+//! The command lines of `fencer`: from arguments to a job.
+//!
+//! Each command is a module with its arguments and its job.
+//!
+//! Begin with `read_words`, `Job` and `Placement`. Free to change: the sentences of the help, which tests
+//! alone show. Relied on: a job is given exactly as `clap` reads the arguments by the definitions of
+//! `specs/CommandLines.antt`; no job writes a file that it reads, nor one file twice.
 #![tactic(auto)]
 
 mod arguments;

@@ -1,4 +1,4 @@
-//! `outcomes [--model MODEL] [--runs] [--observed] [--check] [--json] [--progress] LITMUS`
+//! `outcomes [--model MODEL] [--workers N] [--runs] [--observed] [--check] [--json] [--progress] LITMUS`
 
 ghost use Rattle.std.specs.Prelude.{IfOk, codes};
 ghost use Rattle.clap.specs.Words.{found_of, rows_of};
@@ -7,9 +7,10 @@ ghost use Rattle.fencer_words.specs.Commands.{IsBuiltAs};
 
 use crate::arguments::{
     described_command, flag_arg, is_flagged, json_arg, litmus_arg, model_arg, model_in,
-    observed_arg, progress_arg, text_in,
+    observed_arg, progress_arg, text_in, value_in,
 };
 use crate::job::{Job, OutcomeQuery};
+use crate::place::{workers_arg, workers_of};
 use clap::{ArgMatches, Command};
 use std::alloc::{AllocError, Global};
 
@@ -34,6 +35,7 @@ pub fn outcomes_command<'a>(alloc: Global, models: &'a [&'a str]) -> Result<Comm
 {
     described_command(alloc, "outcomes", FIRST, LAST)
         .arg(model_arg(alloc, models))?
+        .arg(workers_arg(alloc))?
         .arg(flag_arg(alloc, "runs", RUNS_HELP))?
         .arg(observed_arg(alloc))?
         .arg(flag_arg(alloc, "check", CHECK_HELP))?
@@ -47,6 +49,7 @@ pub fn outcomes_job(alloc: Global, matches: &ArgMatches<'_>) -> Result<Job, Allo
 {
     Ok(Job::Outcomes(OutcomeQuery {
         model: model_in(matches),
+        workers: workers_of(value_in(matches, "workers")),
         runs: is_flagged(matches, "runs"),
         observed: is_flagged(matches, "observed"),
         check: is_flagged(matches, "check"),

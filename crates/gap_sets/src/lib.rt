@@ -1,8 +1,13 @@
-//! Sets of gap numbers, the costs of gaps, and the order by which one set of gaps is better than another.
+//! Sets of gaps, what gaps cost, and which of two sets is better.
 //!
-//! A gap is a place where a fence may go. A program has at most `MAX_GAPS`, numbered from 0. Of the sets that serve
-//! a program the best is wanted: the cheapest, and of two equally cheap sets the one that has the least gap
-//! in which they differ. (Least fence sets: Bouajjani, Derevenetc and Meyer, ESOP 2013.)
+//! A gap is a place where a fence may go, by its number below `MAX_GAPS`. Of the sets that serve a program
+//! the best is wanted: the cheapest, and of two equally cheap ones the one that has the least gap in which
+//! they differ (least fence sets: Bouajjani, Derevenetc and Meyer, ESOP 2013).
+//!
+//! Begin with `GapSet`, `Costs::better` and `Region`. Free to change: how a set lies in the bits of a word,
+//! and that copies of costs share one list. Relied on: that better is a strict total order, and that a proper
+//! subset is better where each gap costs at least 1 (`better_is_an_order`, `a_proper_subset_is_better`);
+//! without these an answer would not be the only one.
 #![tactic(auto)]
 
 mod costs;

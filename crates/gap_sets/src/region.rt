@@ -1,5 +1,5 @@
 //! Regions of sets of gaps.
-ghost use Rattle.std.specs.Prelude.{◌≡◌, ◌<◌};
+ghost use Rattle.std.specs.Prelude.{◌≡◌, ◌<◌, ◌↔◌, IsTrue};
 ghost use Rattle.gap_sets.specs.declared.gap_set.TheConstants.{MAX_GAPS};
 ghost use Rattle.gap_sets.specs.Regions.{all_sets, with_gap, without_gap};
 
@@ -46,5 +46,12 @@ impl Region {
             must: self.must,
             never: self.never.with(gap),
         }
+    }
+
+    /// Whether both hold and avoid the same gaps.
+    pub fn same(&self, other: &Region) -> bool
+        ensures { IsTrue result ↔ (self.now ≡ other.now) }
+    {
+        self.must.same(&other.must) && self.never.same(&other.never)
     }
 }

@@ -5,6 +5,5 @@ pub mod Found
 pub mod Marks
 pub mod CloseFaults
 pub mod Moves
-pub mod SamePrograms
 pub mod Walks
 pub mod Crossing

@@ -5,7 +5,6 @@ ghost use Rattle.cover_solver.specs.Facts.{IsForeignValue};
 ghost use Rattle.once_cell.specs.Once.{cell_name};
 ghost use Rattle.hunt_board.specs.Cells.{IsIn, IsThere, place_of, run_in};
 
-use crate::same::same_program;
 use cover_solver::ForeignRun;
 use once_cell::race::{Note, OnceBox};
 use std::alloc::{AllocError, AllocFailed, Global};
@@ -122,7 +121,7 @@ impl RunCells {
         ensures there { IfSome result (λ _. IsThere (map cell_name self.now.cells.items) seat index) }
     {
         let run = self.cells.get(place_of(seat, index)?)?.get()?;
-        if same_program(run.program(), program) && run.shown().same(shown) {
+        if run.program().same(program) && run.shown().same(shown) {
             Some(run)
         } else {
             None

@@ -19,7 +19,6 @@ ghost use Rattle.hunt_board.specs.Internal.Events.{IsFor, IsLawfulThere};
 use crate::cells::{PostFault, Posted, RunCells};
 use crate::events::{is_waiting, settle_node};
 use crate::record::check_receipts;
-use crate::same::{is_search_of, same_region};
 use crate::word::{CeilingWord, WordSeat};
 use crate::{CloseFault, HuntSeat, Next, Receipt, Settling};
 use cover_solver::{ForeignRun, Served};
@@ -331,7 +330,7 @@ impl Hunt {
             return false;
         }
         match tree.held(seat) {
-            Some(held) => same_region(&held, node),
+            Some(held) => held.same(node),
             None => false,
         }
     }
@@ -365,4 +364,11 @@ fn join_all(word: &CeilingWord, mut seats: Vec<HuntSeat>)
     while let Some(seat) = seats.pop() {
         last.take_in(word, seat);
     }
+}
+
+/// Whether the tree is of this program with what is shown, and of these costs.
+fn is_search_of(tree: &SearchTree, program: &Program, shown: &Shown, costs: &Costs) -> bool
+    ensures { IsTrue result ↔ ((tree.now.question ≡ asked program.now shown.now) × (tree.now.costs ≡ costs.now)) }
+{
+    tree.shown().same(shown) && tree.costs().same(costs) && tree.program().same(program)
 }

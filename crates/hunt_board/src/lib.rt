@@ -1,11 +1,13 @@
-//! A search tree that several workers share through one lock, with a ceiling and runs beside it.
+//! A search tree that workers share through one lock, with a ceiling and runs beside it.
 //!
-//! A worker works from a seat. It takes a node, finds out how to settle it, and settles it; the receipt
-//! says how. Each call is one event of the search, under the lock, and nothing of it is done outside. A
-//! seat that finds no open node waits until one is opened or no node is left.
+//! A worker takes a node from its seat, finds out how to settle it, and settles it; the receipt says how. A
+//! seat that finds no open node waits. Beside the lock, and without waiting, workers share the least cost
+//! that one of them knows of a serving set, and the runs that they post.
 //!
-//! Beside the lock, and without waiting, the workers share the least cost that one of them knows of a
-//! serving set, and the runs that they post.
+//! Begin with `Hunt::next`, `Hunt::settle` and `Hunt::close`. Free to change: how many runs a row keeps
+//! (`ROW_CELLS`), when those that wait are woken, and what is posted. Relied on: a hunt that closes is a
+//! search that is done, whose record the receipts name whole. No contract reads what a lock guards, so a
+//! settling is shown by its receipt.
 #![tactic(auto)]
 
 mod cells;
@@ -14,7 +16,6 @@ mod fault;
 mod hunt;
 mod record;
 mod rule;
-mod same;
 mod seat;
 mod settling;
 mod steps;

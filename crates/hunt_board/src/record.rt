@@ -7,7 +7,6 @@ ghost use Rattle.hunt_board.specs.Internal.Marks.{IsMarked, IsNotMarked, RecordF
 ghost use Rattle.hunt_board.specs.Internal.Places.{Leads, StandsOnlyAt, child_of, number_of_child};
 ghost use Rattle.hunt_board.specs.Internal.Settled.{IsSameEvent, SaysSame};
 
-use crate::same::same_region;
 use crate::{CloseFault, Event, Receipt};
 use gap_sets::{GapSet, Region};
 use search_core::{Finished, Settled};
@@ -68,7 +67,7 @@ fn is_receipt_of(settled: &Settled<'_>, receipt: &Receipt) -> bool
     ensures { IsTrue result ↔ SaysSame settled.now receipt.now }
 {
     settled.seat == receipt.seat
-        && same_region(&settled.node, &receipt.node)
+        && settled.node.same(&receipt.node)
         && is_same_event(settled.event, &receipt.event)
 }
 

@@ -1,4 +1,10 @@
-//! A library of the tests: what a search and a hunt answer at each call of a script.
+//! Tests: scripts of calls of one search or one hunt, and what each call answers.
+//!
+//! A search and a hunt change from call to call, so a case is a script. It shows what no contract can: what a
+//! settling does to the tree under the lock.
+//!
+//! Begin with `push_of_hunt`, `HuntCall` and `push_exchanged`. Free to change: all that is printed, together
+//! with `tests/solver.tsv`. Relied on: `test_calls` alone stands on it.
 #![tactic(auto)]
 
 mod answers;

@@ -1,4 +1,11 @@
-//! The lines of a litmus text before its initial values: the first line with the test's name, and the lines that are skipped.
+//! The lines of a litmus text before its initial values.
+//!
+//! The first line has the test's name; then come quoted lines, information lines, white space and comments up
+//! to `{`. They are read as bytes, without tokens.
+//!
+//! Begin with `read_first_line`, `skip_lines` and `line_number`. Free to change: how the lines are gone
+//! through. Relied on: the name and the text from `{` on are exact in both directions, and no two refusals
+//! fit the lines that are skipped (`one_fault_of_lines`).
 #![tactic(auto)]
 
 mod fault;

@@ -1,4 +1,12 @@
-//! Litmus texts: which program and which condition a text stands for.
+//! Which program, names and condition a litmus text stands for.
+//!
+//! It takes the syntax of `litmus_syntax`, numbers the locations by their first appearance, finds the
+//! position of each label, and makes the program within its limits.
+//!
+//! Begin with `read_litmus`, `Litmus::shown_as` and `write_outcome`. Free to change: how `NameTable` finds a
+//! name, and in which order the parts are put together. Relied on: a test is read exactly where grammar and
+//! meaning relate the text to it (`IsLitmus` in `specs/Texts.antt`), and the inner fault of `Program` is the
+//! first limit that the text's program breaks.
 #![tactic(auto)]
 
 mod condition;

@@ -1,7 +1,12 @@
-//! The syntax of a litmus text: its tokens read as initial values, header row, rows, observed places and the signs of
-//! its condition, with names.
+//! The grammar of a litmus text: from tokens to syntax with names.
 //!
-//! The grammar stands in `specs/Grammar.antt` as relations; the readers are exact in both directions.
+//! Initial values, the header row, rows, observed places and the signs of the condition. The grammar stands
+//! in `specs/Grammar.antt` as relations; the readers are exact in both directions. What is read borrows its
+//! names from the tokens.
+//!
+//! Begin with `read_body`, `read_ending` and `Code`. Free to change: how the readers are divided, how a name
+//! that is given twice is found (`seen.rt`), and which part and line a refusal names, which tests alone show.
+//! Relied on: what is read is what the grammar relates to the tokens, and nothing else.
 #![tactic(auto)]
 
 mod body;

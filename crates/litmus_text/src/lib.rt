@@ -1,7 +1,10 @@
-//! Litmus texts and the cost files that go with them: what reads them, what writes them, and the types of their parts.
+//! Litmus texts and cost files under one name: what reads and writes them.
 //!
-//! Each item is of a crate below and has its contract there. A crate that needs only a part names that crate itself:
-//! `litmus_reader` reads litmus texts, `canonical_text` writes them, `cost_text` reads cost files.
+//! It has no code of its own. Each item is of a crate below and has its contract there; a crate that needs
+//! only a part names that crate itself, so that it does not wait for the others.
+//!
+//! Begin with `read_litmus`, `write_litmus` and `read_costs`. Free to change: which items are handed on.
+//! Relied on: the types in the fields and signatures of these calls come with them.
 #![tactic(auto)]
 
 pub use canonical_text::{

@@ -1,5 +1,11 @@
-//! What the programs say to people where they refuse something: the file, the line and the column, what stands there,
-//! and what could stand there.
+//! What is said to people of a refusal: where it is, what stands there and what could.
+//!
+//! Tables of words without semantics. A message goes to standard error, after the line `refused ..` for
+//! scripts.
+//!
+//! Begin with `litmus_message`, `check_message` and `Message`. Free to change: every word; its functions have
+//! no clauses, and `tests/messages.tsv` shows what is said. Relied on: nothing but that each call ends and is
+//! safe; a message that can't be made or written leaves the answer as it is.
 #![tactic(auto)]
 
 mod certificates;

@@ -3,7 +3,7 @@
 use cover_solver::Watch;
 use program_streams::Progress;
 use std::alloc::{AllocError, Global};
-use std::cell::Cell;
+use std::sync::atomic::{AtomicBool, AtomicU64, AtomicUsize, Ordering};
 use trace_combinations::{Combinations, trace_combinations};
 use tso_program::Program;
 
@@ -11,26 +11,39 @@ use tso_program::Program;
 const LONG_SEARCH: u64 = 1_000_000;
 /// Of more combinations a certificate may be too large to be made.
 const MOST_CERTIFIED: u64 = 100_000_000;
+/// So many per cent are all.
+const ALL_DONE: u64 = 100;
 
-/// What lies ahead of a search. It reports each new per cent that is done, if the number of all combinations is known.
+/// What lies ahead of a search, whose threads share it. It reports each new per cent that is done, if the number of all
+/// combinations is known. One thread reports at a time, and the others go on.
 #[derive(Drop)]
 pub struct Ahead {
     alloc: Global,
     progress: Progress,
-    combinations: Combinations,
-    done: Cell<u64>,
+    /// How many combinations there are, if that is known and the share that is done is reported.
+    all: Option<u64>,
+    done: AtomicU64,
     /// When so many are done the next per cent is.
-    due: Cell<u64>,
+    due: AtomicU64,
+    /// The most outcomes that one part of the search has found.
+    outcomes: AtomicUsize,
+    is_reporting: AtomicBool,
 }
 
 impl Ahead {
-    fn new(alloc: Global, progress: Progress, combinations: Combinations) -> Ahead {
+    fn new(alloc: Global, progress: Progress, all: Option<u64>) -> Ahead {
+        let due = match all {
+            Some(all) => due_after(0, all),
+            None => u64::MAX,
+        };
         Ahead {
             alloc,
             progress,
-            combinations,
-            done: Cell::new(0),
-            due: Cell::new(due_after(0, combinations)),
+            all,
+            done: AtomicU64::new(0),
+            due: AtomicU64::new(due),
+            outcomes: AtomicUsize::new(0),
+            is_reporting: AtomicBool::new(false),
         }
     }
 
@@ -39,26 +52,46 @@ impl Ahead {
         self.progress
     }
 
-    /// Reports how many per cent are done, if the number of all is known, and how many outcomes are found.
-    fn report(&self, outcomes: usize) {
-        let Combinations::Exactly(all) = self.combinations else {
+    /// Reports how many per cent of all are done, if that is due still. That all are done is reported at the end.
+    fn report(&self, all: u64) {
+        let done = self.done.load(Ordering::SeqCst);
+        if done < self.due.load(Ordering::SeqCst) {
             return;
-        };
-        let share = share_of(self.done.get(), all);
-        self.due.set(due_after(share, self.combinations));
-        if self.progress.is_shown() {
-            self.progress
-                .report(share_line(self.alloc, share, outcomes));
         }
+        let share = share_of(done, all);
+        self.due.store(due_after(share, all), Ordering::SeqCst);
+        if share < ALL_DONE {
+            self.report_share(share);
+        }
+    }
+
+    fn report_share(&self, share: u64) {
+        let outcomes = self.outcomes.load(Ordering::SeqCst);
+        self.progress
+            .report(share_line(self.alloc, share, outcomes));
     }
 }
 
 impl Watch for Ahead {
     fn done(&self, combinations: u64, outcomes: usize) {
-        let done = self.done.get().saturating_add(combinations);
-        self.done.set(done);
-        if done >= self.due.get() {
-            self.report(outcomes);
+        let Some(all) = self.all else {
+            return;
+        };
+        self.outcomes.fetch_max(outcomes, Ordering::SeqCst);
+        let before = self.done.fetch_add(combinations, Ordering::SeqCst);
+        let done = before.saturating_add(combinations);
+        if done >= self.due.load(Ordering::SeqCst)
+            && !self.is_reporting.swap(true, Ordering::SeqCst)
+        {
+            self.report(all);
+            self.is_reporting.store(false, Ordering::SeqCst);
+        }
+    }
+
+    fn finished(&self, outcomes: usize) {
+        self.outcomes.store(outcomes, Ordering::SeqCst);
+        if self.all.is_some() {
+            self.report_share(ALL_DONE);
         }
     }
 }
@@ -66,20 +99,18 @@ impl Watch for Ahead {
 /// How many per cent of all so many are.
 fn share_of(done: u64, all: u64) -> u64 {
     if done >= all {
-        return 100;
+        return ALL_DONE;
     }
     (u128::from(done) * 100 / u128::from(all)).min(100) as u64
 }
 
 /// How many combinations are done with one per cent more than so many.
-fn due_after(share: u64, combinations: Combinations) -> u64 {
-    match combinations {
-        Combinations::Exactly(all) if share < 100 => {
-            let due = (u128::from(share + 1) * u128::from(all) + 99) / 100;
-            due.min(u128::from(all)) as u64
-        }
-        _ => u64::MAX,
+fn due_after(share: u64, all: u64) -> u64 {
+    if share >= ALL_DONE {
+        return u64::MAX;
     }
+    let due = (u128::from(share + 1) * u128::from(all) + 99) / 100;
+    due.min(u128::from(all)) as u64
 }
 
 fn share_line(alloc: Global, share: u64, outcomes: usize) -> Result<Vec<u8>, AllocError> {
@@ -91,19 +122,23 @@ fn share_line(alloc: Global, share: u64, outcomes: usize) -> Result<Vec<u8>, All
 
 /// Reports what lies ahead of a search for a program's outcomes. Nothing is reported where there is no memory to work it out.
 pub fn report_ahead(alloc: Global, program: &Program, progress: Progress) -> Ahead {
-    let unknown = Combinations::AtLeast(0);
     if !progress.is_shown() {
-        return Ahead::new(alloc, progress, unknown);
+        return Ahead::new(alloc, progress, None);
     }
     let Ok(combinations) = trace_combinations(alloc, program) else {
-        return Ahead::new(alloc, Progress::none(), unknown);
+        return Ahead::new(alloc, Progress::none(), None);
     };
     let progress = progress.of_search(is_over(combinations, LONG_SEARCH));
     progress.report(ahead_line(alloc, combinations));
     if is_over(combinations, MOST_CERTIFIED) {
         progress.report(warning_line(alloc));
     }
-    Ahead::new(alloc, progress, combinations)
+    match combinations {
+        Combinations::Exactly(all) if progress.is_shown() => {
+            Ahead::new(alloc, progress, Some(all))
+        }
+        _ => Ahead::new(alloc, progress, None),
+    }
 }
 
 /// Whether there are more combinations than that, or too many to be counted.

@@ -1,4 +1,11 @@
-//! What the programs read and write: whole inputs up to a limit, whole files, the words of a line, and answers with their status, and how far a search is.
+//! What the programs read and write: streams and files up to a limit, arguments, answers.
+//!
+//! For any program and over any reader, writer and store of files, so that contracts can name their bytes.
+//! Beside these stands where a long search reports how far it is.
+//!
+//! Begin with `read_up_to`, `FileStore` and `print`. Free to change: how much is read at a time, and when
+//! `Progress` reports. Relied on: no more than one byte past a limit is read; what a named file holds after a
+//! write, with every other file as it was; what a writer took of an answer, and with which status.
 #![tactic(auto)]
 
 mod command_line;

@@ -1,4 +1,11 @@
-//! The lines that the programs print. Each ends with a line feed, and each call gives exactly its line's bytes.
+//! The lines that the programs print, each of exact bytes.
+//!
+//! An answer, an accepted set, an outcome, the passed gaps, what outcomes show of a condition, and a line for
+//! each refusal. Each ends with a line feed.
+//!
+//! Begin with `answer_line`, `accepted_line` and `outcome_line`. Free to change: how a line is gathered. The
+//! bytes themselves are definitions (`specs/`), and the contracts of both programs cite them. Relied on: the
+//! places in a line are those of the gaps' numbers (`printed_places_are_the_gaps`).
 #![tactic(auto)]
 
 mod accepted;

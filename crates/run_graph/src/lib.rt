@@ -1,4 +1,10 @@
-//! The candidate executions of runs, and graphs of them, for Graphviz.
+//! The candidate executions of runs, each with a cycle, and graphs of them for Graphviz.
+//!
+//! Worked out from a run's steps alone, so that it shows runs of both machines and needs no sketch.
+//!
+//! Begin with `RunGraph`, `candidate_of` and `Edge`. Free to change: everything; no contract speaks of the
+//! graph's bytes, and `tests/graphs.py` works out nodes, edges and a shortest cycle by itself. Relied on:
+//! `documents` puts the same edges into the document of a run.
 #![tactic(auto)]
 
 mod candidate;

@@ -1,4 +1,10 @@
-//! A library of the tests: calls of the solver, and what searches, hunts and placers are given.
+//! Tests: calls of the solver, and what searches, hunts and placers are given.
+//!
+//! It promises nothing beyond safety, but for what a call of the libraries below asks for: a set of the
+//! program's gaps, a run that passes none of them.
+//!
+//! Begin with `push_of_solver`, `table_of` and `options`. Free to change: all that is printed, together with
+//! `tests/solver.tsv`. Relied on: `hunt_calls` and `place_calls` take tables, costs and sets from here.
 #![tactic(auto)]
 
 mod lines;

@@ -1,9 +1,12 @@
-//! A program of the tests: it makes one public call of the libraries, or a script of calls of one sketch, one search or one hunt, and prints
-//! what they answer.
+//! Tests: the program that makes the call which its input names, and prints the answers.
 //!
-//! The first line of its input names the call and gives its arguments, and the rest is the text that the call takes. After the names
-//! `sequential`, `ask`, `foreign`, `search`, `hunt`, `place` and the like the word `--observed` may stand, for what the litmus text names, or
-//! `--condition`, for the truth of its condition; of their answers, what a search may choose comes last. `tests/calls.tsv` and `tests/solver.tsv` have one input in each line.
+//! The first line of the input names the call, or a script of calls of one sketch, one search or one hunt,
+//! and gives its arguments; the rest is the text that the call takes. After a name like `ask` or `place` the
+//! word `--observed` may stand, for what the litmus text names, or `--condition`, for the truth of its
+//! condition. `tests/calls.tsv` and `tests/solver.tsv` have one input in each line.
+//!
+//! Begin with `answer` and the table `CALLS`. Free to change: anything, together with these cases. Relied on:
+//! nothing stands above it; it is proved once, so that a case costs milliseconds.
 #![tactic(auto)]
 
 mod answer;

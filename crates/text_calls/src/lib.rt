@@ -1,4 +1,11 @@
-//! A library of the tests: calls of texts, sets, costs, programs, machines, sketches and certificates, and the words of all calls.
+//! Tests: calls of texts, sets, costs, programs, machines, sketches and certificates.
+//!
+//! The words of all calls stand here too: how an input is cut, and how numbers, gaps and labels are read from
+//! it. It promises nothing beyond safety.
+//!
+//! Begin with `push_of_text`, `push_of_litmus` and `words_of`. Free to change: all that is printed, together
+//! with `tests/calls.tsv`, and the calls of sketches with `tests/candidates.py`. Relied on: the other
+//! libraries of the tests take their words from here.
 #![tactic(auto)]
 
 mod answers;

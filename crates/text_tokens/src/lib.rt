@@ -1,4 +1,12 @@
-//! What the text formats share, and the tokens of a litmus text: bytes to tokens, exact in both directions.
+//! What the text formats share: bytes, decimal numbers, and tokens with their lines.
+//!
+//! The tokens of a text are words, numbers and marks; white space and comments, which nest, are not tokens. What is
+//! read is exact in both directions.
+//!
+//! Begin with `lex`, `after_space` and `value_up_to`. Free to change: how the list of tokens lies in memory,
+//! and which line a token is said to stand on, which tests alone show. Relied on: a text has one list of
+//! tokens (`a_text_has_one_list_of_tokens`), and what is written in pieces is read as their tokens
+//! (`pieces_are_read_again`).
 #![tactic(auto)]
 
 mod bytes;

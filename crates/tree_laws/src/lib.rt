@@ -1,5 +1,12 @@
-//! What the trees of a certificate mean: a valid cover tree shows every outcome, a valid gap tree shows
-//! that no better set of gaps serves, and a valid certificate shows the answer.
+//! When a certificate's trees are valid, and that a valid certificate proves the headline.
+//!
+//! Laws alone. The definitions in `specs/` are those of validity: a change there changes which certificates
+//! are accepted.
+//!
+//! Begin with `a_valid_certificate_proves_the_headline`, `a_valid_cover_tree_covers` and
+//! `a_valid_gap_tree_leaves_no_better`. Free to change: the proofs. Relied on: the checker judges these
+//! definitions and the placer makes certificates that meet them; a tree that is valid with no gap fenced is
+//! valid with any gaps fenced (`a_tighter_mode_keeps_a_cover`), which lets the solver search once.
 #![tactic(auto)]
 
 mod laws;

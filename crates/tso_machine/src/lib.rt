@@ -1,4 +1,13 @@
-//! Runs of a program under sequential consistency and under x86-TSO.
+//! The sequential machine and the store buffer machine: runs, outcomes, replays.
+//!
+//! A machine is a function over `Listing`s in `specs/Machine.antt`; a run is a list of labels, each possible
+//! in turn, that ends with every thread at its end and every buffer empty.
+//!
+//! Begin with `replay`, `steps` and `read_run`. Free to change: how a replay keeps buffers and memory
+//! (`state.rt`, `cores.rt`). Relied on: a replay accepts exactly the runs, with their whole outcome and the
+//! gaps that they pass, and otherwise names the first step that is not possible; fences change a run exactly
+//! where it passes them (`fences_are_avoided`). `Headline` of `specs/Outcomes.antt` is what an accepted line
+//! says.
 #![tactic(auto)]
 
 mod cores;

@@ -1,8 +1,13 @@
-//! Programs of a few threads over a few locations, and what they leave.
+//! Programs of a few threads over a few locations, their fences, and what they leave.
 //!
-//! A program is a [`Listing`]: threads of numbered instructions, the initial registers of each, and
-//! an initial value for each location. A [`Program`] is a listing within the limits, a
-//! [`FencedProgram`] one with fences in it, within limits of its own.
+//! A program is a `Listing`: threads of numbered instructions, the initial registers of each, and an initial
+//! value for each location. A `Program` is a listing within the limits, a `FencedProgram` one with fences in
+//! it, within limits of its own.
+//!
+//! Begin with `Program::new`, `Program::fenced` and `Outcome::show`. Free to change: how programs, formulas
+//! and sets of names lie in memory, and that their copies share it. Relied on: what an instruction does is
+//! the one definition of `Action`, which the machines, the replay and traces share; the limits, in the order
+//! of their refusals; what is shown of an outcome.
 #![tactic(auto)]
 
 mod action;

@@ -1,5 +1,5 @@
 //! A program within the limits.
-ghost use Rattle.std.specs.Prelude.{◌≡◌, ◌≤◌, ◌<◌, ℕ, None, Some, Err, OnOk, IsOkUnless, length, IfSome, IfOk, nat_lt};
+ghost use Rattle.std.specs.Prelude.{◌≡◌, ◌≤◌, ◌<◌, ◌↔◌, ℕ, IsTrue, None, Some, Err, OnOk, IsOkUnless, length, IfSome, IfOk, nat_lt};
 ghost use Rattle.std.specs.FinSet as set;
 ghost use Rattle.tso_program.specs.declared.limits.TheConstants.{MAX_LOCATIONS};
 ghost use Rattle.gap_sets.specs.declared.gap_set.TheConstants.{MAX_GAPS};
@@ -145,6 +145,13 @@ impl Program {
             Some(instr) => act(Some(instr), local),
             None => Action::Stop,
         }
+    }
+
+    /// Whether the two programs have the same threads and the same initial values. Takes no memory.
+    pub fn same(&self, other: &Program) -> bool
+        ensures { IsTrue result ↔ (self.now ≡ other.now) }
+    {
+        self.memory() == other.memory() && self.threads() == other.threads()
     }
 
     /// An equal program, which shares its parts with this one.

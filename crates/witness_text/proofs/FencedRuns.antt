@@ -38,7 +38,7 @@ none_fenced p models.Buffered gaps labels o ended is_run replayed gap fenced pas
     let passes = subst (λ (g : Gaps). ArePassed p (StoreBufferMachine g) labels ended.passed) (empty_fences_nothing p) replayed.passed in
     ((fenced_runs_avoid p gaps labels o).0 is_run).1 gap fenced ((passes gap).0 passed)
 
--- what is said of its replay tells it
+-- what is said of its replay says it
 pub told_run : (source : Litmus Listing) (sought : Sought) (labels : List Label) (ended : Ended) (text run : List ℕ)
     → IsWitness source.program (machine_of source.program sought) source.condition.formula sought.meets labels → IsReplayed source.program sought.model labels ended
     → IsRunText source labels ended.outcome ended.passed text → TellsRun source All (OfMachine sought.model) labels ended.outcome ended.passed run → TellsWitness source sought text run

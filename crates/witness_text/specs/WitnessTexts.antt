@@ -72,7 +72,7 @@ pub record IsWitnessText (litmus : List ℕ) (model : Model) (meets : Bool) (pla
   pub fenced : AreGapsAt source.program.threads places fences
   pub told : TellsSought source (record { model = model; fences = fences; meets = meets }) text document
 
--- why nothing is told: the text is no litmus text, no gap lies at a place, or memory was wanting
+-- why nothing is shown: the text is no litmus text, no gap lies at a place, or memory was wanting
 abbrev pub HasNoWitnessText : List ℕ → List Place → WitnessFault → Type 0
 HasNoWitnessText litmus places (fault.Read why) = IsNoLitmus litmus why
 HasNoWitnessText litmus places (fault.NoSuchGap t k) = (source : Litmus Listing) × IsLitmus litmus source × IsFirstWithoutGap source.program.threads places (t, k)

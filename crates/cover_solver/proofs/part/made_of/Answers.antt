@@ -8,7 +8,7 @@ use Rattle.cover_solver.proofs.AllListed.{runs_found}
 use Rattle.cover_solver.proofs.part.made_of.Goals as goal
 
 pub returns : goal.returns
-returns c other =
+returns g c other =
     let s = c.args.sketch.now in
     let shown = c.args.shown.now in
     let q = asked s.program shown in

@@ -15,4 +15,12 @@ returns-clause-known c =
     let mode = c.args.base.now.mode in
     let given = c.args.trace.now.given ++ c.args.value ∷ [] in
     let is : IsThreadTraceOf p (machine_of_mode p mode) c.args.t given c.in_ok-next.next = grind arith in
-    kept_known p mode c.args.known.now.items c.keep.new.known.items c.place_of-place.result c.args.t given c.in_ok-next.next c.in_ok-copy.field-0 c.in_ok-copy.ensures is c.requires.known c.keep.ensures
+    kept_known p mode c.args.known.now.items c.keep.new.known.items c.number_of-number.result c.args.t given c.in_ok-next.next c.in_ok-copy.field-0 c.in_ok-copy.ensures is c.requires.known c.keep.ensures
+
+pub returns-in_err-keep-clause-known : goal.returns-in_err-keep-clause-known
+returns-in_err-keep-clause-known c =
+    let p = c.args.base.now.program in
+    let mode = c.args.base.now.mode in
+    let given = c.args.trace.now.given ++ c.args.value ∷ [] in
+    let is : IsThreadTraceOf p (machine_of_mode p mode) c.args.t given c.in_ok-next.next = grind arith in
+    kept_known p mode c.args.known.now.items c.keep.new.known.items c.number_of-number.result c.args.t given c.in_ok-next.next c.in_ok-copy.field-0 c.in_ok-copy.ensures is c.requires.known c.keep.ensures

@@ -6,7 +6,7 @@ use Rattle.std.proofs.alloc.Global.TheSendSync as global
 use Rattle.cover_solver.proofs.foreign.ForeignRun.TheSendSync as run
 use Rattle.hunt_board.proofs.Crossing.{seat_send, hunt_sync}
 use Rattle.hunt_board.proofs.settling.Receipt.TheSendSync as receipt
-use Rattle.fence_place.proofs.Captures.{captures_sync}
+use Rattle.cover_solver.proofs.Captures.{captures_sync}
 use Rattle.fence_place.proofs.turns.Turns.TheSendSync as turns
 use Rattle.fence_place.specs.contracts.worker.Worker as worker
 use Rattle.fence_place.proofs.worker.Stop.TheSendSync as stop

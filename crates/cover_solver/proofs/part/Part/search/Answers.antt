@@ -11,7 +11,7 @@ some_of (Ok v) P is = is
 some_of (Err e) P is = tt
 
 pub returns : goal.returns
-returns c =
+returns g c =
     let s = c.args.self.now.sketch in
     let shown = c.args.shown.now in
     let mode = c.args.mode in

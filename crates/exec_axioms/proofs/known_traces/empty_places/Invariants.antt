@@ -1,5 +1,5 @@
 use Rattle.std.proofs.Common.{◌≡◌, None, All}
-use Rattle.exec_axioms.proofs.known_traces.no_traces.Given as goal
+use Rattle.exec_axioms.proofs.known_traces.empty_places.Given as goal
 
 -- the places so far are empty
 abbrev pub invariant-loop : goal.invariant-loop
