@@ -1,4 +1,4 @@
-use Rattle.std.proofs.Common.{◌≡◌, ◌++◌}
+use Rattle.std.proofs.Common.{◌++◌}
 use Rattle.std.specs.Prelude.{string_bytes}
 use Rattle.cert_forest.proofs.TreeTexts.{gap_text}
 use Rattle.cert_forest.proofs.GapNodeLaws.{next_gap_is_shorter}
