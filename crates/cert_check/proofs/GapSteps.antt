@@ -1,15 +1,15 @@
 -- The children of a split, judged in order: what is left to be judged decides.
-use Rattle.std.proofs.Common.{◌≡◌, ℕ, suc, ◌+◌, ◌<◌, List, [], ◌∷◌, length, map, drop, get_or, sym, subst, arith}
+use Rattle.std.proofs.Common.{◌≡◌, ℕ, suc, ◌+◌, ◌<◌, ◌≤◌, List, [], ◌∷◌, length, take, drop, get_or, refl, sym, ap, ◌∙◌, subst, arith}
+use Rattle.std.proofs.lemmas.List.{drop_all}
 use Rattle.gap_sets.specs.Gaps.{SetOfGaps}
 use Rattle.gap_sets.specs.Regions.{with_gap, without_gap}
 use Rattle.gap_sets.specs.declared.region.Region.{Region}
 use Rattle.tso_program.specs.declared.listing.Listing.{Listing}
 use Rattle.tso_machine.specs.declared.label.Label.{Label}
-use Rattle.cert_forest.specs.declared.tree.GapTree.{GapTree}
-use Rattle.cert_forest.specs.Views.{gap}
+use Rattle.cert_forest.specs.GapNodes.{first_gap}
 use Rattle.cert_forest.specs.Trees.{Gap}
 use Rattle.tree_laws.specs.GapTrees.{IsValidGap}
-use Rattle.cover_judge.proofs.Mapped.{left_from, mapped_from}
+use Rattle.cover_judge.proofs.Mapped.{left_from}
 use Rattle.cert_check.specs.GapDefects.{FirstWrongGap}
 use Rattle.cert_check.specs.Internal.Children.{AreValidIn, IsWrongChildIn}
 use Rattle.cover_judge.specs.Judged.{IsBelow}
@@ -44,25 +44,36 @@ module _ (p : Listing) (costs : List ℕ) (answer : SetOfGaps) (runs : List (Lis
   pub none_left : (judged : ℕ) (rest : Region) → IsLeft judged [] rest [] → AreValidIn p costs answer runs trees region gaps
   none_left judged rest is = is.valid tt
 
-module _ (p : Listing) (costs : List ℕ) (answer : SetOfGaps) (runs : List (List Label)) (trees : List GapTree) (region : Region) (gaps : List ℕ)
-    (n : ℕ) (x : GapTree) (rest : Region) (here : n < length trees) (at : x ≡ get_or trees n x) (many : length trees ≡ length gaps)
-    (is : IsLeft p costs answer runs (map gap trees) region gaps n (map gap (drop n trees)) rest (drop n gaps)) where
-  abbrev this : ℕ
-  this = get_or gaps n 0
+-- the trees that are left of a walk, from the first one on
+walk_left : (m : ℕ) (walk : List Gap) → 0 < length walk → take (suc m) walk ≡ first_gap walk ∷ take m (drop 1 walk)
+walk_left m [] some = absurd (omega arith)
+walk_left m (t ∷ ts) some = refl
 
-  first : IsLeft p costs answer runs (map gap trees) region gaps n (gap x ∷ map gap (drop (n + 1) trees)) rest (this ∷ drop (n + 1) gaps)
-  first = subst (λ ts. IsLeft p costs answer runs (map gap trees) region gaps n ts rest (this ∷ drop (n + 1) gaps)) (mapped_from gap trees n x here at)
-      (subst (λ gs. IsLeft p costs answer runs (map gap trees) region gaps n (map gap (drop n trees)) rest gs) (left_from gaps n 0 (omega arith)) is)
+module _ (p : Listing) (costs : List ℕ) (answer : SetOfGaps) (runs : List (List Label)) (trees : List Gap) (region : Region) (gaps : List ℕ)
+    (n : ℕ) (walk : List Gap) (gap : ℕ) (rest : Region) (some : 0 < length walk) (here : n < length gaps) (at : gap ≡ get_or gaps n gap)
+    (is : IsLeft p costs answer runs trees region gaps n (take (length (drop n gaps)) walk) rest (drop n gaps)) where
+  abbrev more : List ℕ
+  more = drop (n + 1) gaps
 
-  -- the tree in memory is valid for the region that must have its gap
-  pub go_on : (child next : Region) → child ≡ with_gap rest this → next ≡ without_gap rest this → IsValidGap p costs answer runs (gap x) child →
-      IsLeft p costs answer runs (map gap trees) region gaps (n + 1) (map gap (drop (n + 1) trees)) next (drop (n + 1) gaps)
-  go_on child next same e valid = subst (λ r. IsLeft p costs answer runs (map gap trees) region gaps (n + 1) (map gap (drop (n + 1) trees)) r (drop (n + 1) gaps)) (sym e)
-      (next_valid p costs answer runs (map gap trees) region gaps n (gap x) (map gap (drop (n + 1) trees)) rest this (drop (n + 1) gaps) first (subst (IsValidGap p costs answer runs (gap x)) same valid))
+  first : IsLeft p costs answer runs trees region gaps n (first_gap walk ∷ take (length more) (drop 1 walk)) rest (gap ∷ more)
+  first = subst (λ ts. IsLeft p costs answer runs trees region gaps n ts rest (gap ∷ more)) (walk_left (length more) walk some)
+      (subst (λ gs. IsLeft p costs answer runs trees region gaps n (take (length gs) walk) rest gs) (left_from gaps n gap here ∙ ap (λ g. g ∷ more) (sym at)) is)
+
+  -- the first tree of the walk is valid for the region that must have its gap
+  pub go_on : (child next : Region) → child ≡ with_gap rest gap → next ≡ without_gap rest gap → IsValidGap p costs answer runs (first_gap walk) child →
+      IsLeft p costs answer runs trees region gaps (n + 1) (take (length more) (drop 1 walk)) next more
+  go_on child next same e valid = subst (λ r. IsLeft p costs answer runs trees region gaps (n + 1) (take (length more) (drop 1 walk)) r more) (sym e)
+      (next_valid p costs answer runs trees region gaps n (first_gap walk) (take (length more) (drop 1 walk)) rest gap more first (subst (IsValidGap p costs answer runs (first_gap walk)) same valid))
 
   -- or wrong
-  pub stop_here : (child : Region) → child ≡ with_gap rest this → (path : List ℕ) → IsBelow (λ m others. (m ≡ n) × FirstWrongGap p costs answer runs (gap x) child others) path →
-      IsBelow (IsWrongChildIn p costs answer runs (map gap trees) region gaps) path
+  pub stop_here : (child : Region) → child ≡ with_gap rest gap → (path : List ℕ) → IsBelow (λ m others. (m ≡ n) × FirstWrongGap p costs answer runs (first_gap walk) child others) path →
+      IsBelow (IsWrongChildIn p costs answer runs trees region gaps) path
   stop_here child same path wrong =
-      next_wrong p costs answer runs (map gap trees) region gaps n (gap x) (map gap (drop (n + 1) trees)) rest this (drop (n + 1) gaps) first path
-      (subst (λ r. IsBelow (λ m others. (m ≡ n) × FirstWrongGap p costs answer runs (gap x) r others) path) same wrong)
+      next_wrong p costs answer runs trees region gaps n (first_gap walk) (take (length more) (drop 1 walk)) rest gap more first path
+      (subst (λ r. IsBelow (λ m others. (m ≡ n) × FirstWrongGap p costs answer runs (first_gap walk) r others) path) same wrong)
+
+-- no gap is left
+pub none_left_of : (p : Listing) (costs : List ℕ) (answer : SetOfGaps) (runs : List (List Label)) (trees : List Gap) (region : Region) (gaps : List ℕ) (n : ℕ) (walk : List Gap) (rest : Region) → length gaps ≤ n
+    → IsLeft p costs answer runs trees region gaps n (take (length (drop n gaps)) walk) rest (drop n gaps) → AreValidIn p costs answer runs trees region gaps
+none_left_of p costs answer runs trees region gaps n walk rest le is =
+    none_left p costs answer runs trees region gaps n rest (subst (λ (gs : List ℕ). IsLeft p costs answer runs trees region gaps n (take (length gs) walk) rest gs) (drop_all n gaps le) is)

@@ -23,7 +23,7 @@ ghost use Rattle.cert_check.specs.Internal.Replays.{HavePassed};
 use crate::CheckFault;
 use crate::cover::judge_from_start;
 use crate::fault::RunsFault;
-use crate::gap::{Bounds, judge_gap};
+use crate::gap::{Bounds, judge_gap_tree};
 use crate::runs::{first_outcome_listed, replay_all};
 use cert_forest::{Certificate, Shows};
 use cover_judge::TreeFault;
@@ -253,7 +253,7 @@ fn check_gaps(
         answer: certificate.set,
         passed,
     };
-    match judge_gap(alloc, &certificate.gap_tree, &Region::all(), &bounds) {
+    match judge_gap_tree(alloc, &certificate.gap_tree, &Region::all(), &bounds) {
         Ok(()) => Ok(()),
         Err(TreeFault::Wrong(path)) => Err(CheckFault::GapTree(path)),
         Err(TreeFault::OutOfMemory) => Err(CheckFault::OutOfMemory),

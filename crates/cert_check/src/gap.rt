@@ -1,12 +1,13 @@
 //! Gap trees, judged node by node.
-ghost use Rattle.std.specs.Prelude.{◌≡◌, ◌↔◌, ℕ, List, ◌<◌, true, false, IsTrue, OnOk, IfOk, IfErr, All, Contains, length, map};
+ghost use Rattle.std.specs.Prelude.{◌≡◌, ◌↔◌, ℕ, List, ◌<◌, ◌≤◌, true, false, OnOk, IfOk, IfErr, All, Contains, length, take, drop};
 ghost use Rattle.std.specs.List.Sorted.{IsStrictlyIncreasing};
 ghost use Rattle.std.specs.FinSet as set;
 ghost use Rattle.gap_sets.specs.Order.{Better};
 ghost use Rattle.gap_sets.specs.declared.gap_set.TheConstants.{MAX_GAPS};
 ghost use Rattle.tso_program.specs.declared.listing.Listing.{Listing};
 ghost use Rattle.tso_machine.specs.declared.label.Label.{Label};
-ghost use Rattle.cert_forest.specs.Views.{gap};
+ghost use Rattle.cert_forest.specs.Trees.{Split, gap_trees_of};
+ghost use Rattle.cert_forest.specs.GapNodes.{first_gap};
 ghost use Rattle.tree_laws.specs.GapTrees.{IsSplitBy, IsValidGap};
 ghost use Rattle.cert_check.specs.Internal.Replays.{HavePassed};
 ghost use Rattle.cert_check.specs.GapDefects.{HasNoSplit, FirstWrongGap};
@@ -14,7 +15,7 @@ ghost use Rattle.cover_judge.specs.Judged.{IfWrong, IsAtRoot, IsBelow};
 ghost use Rattle.cert_check.specs.Internal.Children.{AreValidIn, IsWrongChildIn};
 
 use crate::runs::passed_by;
-use cert_forest::GapTree;
+use cert_forest::{GapNode, GapTree, GapWalk};
 use cover_judge::TreeFault;
 use gap_sets::{Costs, GapSet, Region};
 use std::alloc::{AllocError, Global};
@@ -28,70 +29,108 @@ pub(crate) struct Bounds<'a> {
     pub(crate) passed: &'a [GapSet],
 }
 
-/// Judges a tree for a region. It recurses as deep as the tree is.
-#[cycle(judge_gap)]
-pub(crate) fn judge_gap(
+/// Judges a tree for a region.
+pub(crate) fn judge_gap_tree(
     alloc: Global,
     tree: &GapTree,
     region: &Region,
     bounds: &Bounds,
 ) -> Result<(), TreeFault>
     ensures valid { (p : Listing) (runs : List (List Label)) → HavePassed p runs bounds.now.passed.now
-        → OnOk result (IsValidGap p bounds.now.costs.now bounds.now.answer runs (gap tree.now) region.now) }
+        → OnOk result (IsValidGap p bounds.now.costs.now bounds.now.answer runs tree.now region.now) }
     ensures wrong { (p : Listing) (runs : List (List Label)) → HavePassed p runs bounds.now.passed.now
-        → IfErr result (IfWrong (FirstWrongGap p bounds.now.costs.now bounds.now.answer runs (gap tree.now) region.now)) }
+        → IfErr result (IfWrong (FirstWrongGap p bounds.now.costs.now bounds.now.answer runs tree.now region.now)) }
 {
-    match tree {
-        GapTree::Bound => judge_bound(alloc, region, bounds),
-        GapTree::Split { run, children } => {
-            let gaps = split_gaps(alloc, *run, region, children.len(), bounds.passed)?;
-            judge_gaps(alloc, children, region, &gaps, bounds)
-        }
+    judge_gap(alloc, &mut tree.walk(), region, bounds)
+}
+
+/// Judges the first tree of a walk for a region. After a valid one the walk is past it; else it is anywhere. It recurses
+/// as deep as the tree is.
+#[cycle(judge_gap)]
+fn judge_gap(
+    alloc: Global,
+    walk: &mut GapWalk<'_>,
+    region: &Region,
+    bounds: &Bounds,
+) -> Result<(), TreeFault>
+    requires { 0 < length walk.old }
+    ensures after { OnOk result (walk.new ≡ drop 1 walk.old) }
+    ensures valid { (p : Listing) (runs : List (List Label)) → HavePassed p runs bounds.now.passed.now
+        → OnOk result (IsValidGap p bounds.now.costs.now bounds.now.answer runs (first_gap walk.old) region.now) }
+    ensures wrong { (p : Listing) (runs : List (List Label)) → HavePassed p runs bounds.now.passed.now
+        → IfErr result (IfWrong (FirstWrongGap p bounds.now.costs.now bounds.now.answer runs (first_gap walk.old) region.now)) }
+{
+    match walk.next_node() {
+        GapNode::Bound => judge_bound(alloc, region, bounds),
+        GapNode::Split { count, run } => judge_split(alloc, run, count, walk, region, bounds),
     }
 }
 
-/// Judges the children of a split in order: each must have its gap, and never those before it.
+/// Judges a split whose children come first in the walk.
+#[cycle(judge_gap)]
+fn judge_split(
+    alloc: Global,
+    run: u64,
+    count: u32,
+    walk: &mut GapWalk<'_>,
+    region: &Region,
+    bounds: &Bounds,
+) -> Result<(), TreeFault>
+    requires { count ≤ length walk.old }
+    ensures after { OnOk result (walk.new ≡ drop count walk.old) }
+    ensures valid { (p : Listing) (runs : List (List Label)) → HavePassed p runs bounds.now.passed.now
+        → OnOk result (IsValidGap p bounds.now.costs.now bounds.now.answer runs (Split run (gap_trees_of (take count walk.old))) region.now) }
+    ensures wrong { (p : Listing) (runs : List (List Label)) → HavePassed p runs bounds.now.passed.now
+        → IfErr result (IfWrong (FirstWrongGap p bounds.now.costs.now bounds.now.answer runs (Split run (gap_trees_of (take count walk.old))) region.now)) }
+{
+    let gaps = split_gaps(alloc, run, region, count as usize, bounds.passed)?;
+    judge_gaps(alloc, walk, region, &gaps, bounds)
+}
+
+/// Judges the children of a split in order, which come first in the walk: each must have its gap, and never those before it.
 #[cycle(judge_gap)]
 fn judge_gaps(
     alloc: Global,
-    trees: &[GapTree],
+    walk: &mut GapWalk<'_>,
     region: &Region,
     gaps: &[u8],
     bounds: &Bounds,
 ) -> Result<(), TreeFault>
     requires below { All (λ gap. gap < MAX_GAPS) gaps.now }
-    requires as_many { length trees.now ≡ length gaps.now }
+    requires as_many { length gaps.now ≤ length walk.old }
+    ensures after { OnOk result (walk.new ≡ drop (length gaps.now) walk.old) }
     ensures valid { (p : Listing) (runs : List (List Label)) → HavePassed p runs bounds.now.passed.now
-        → OnOk result (AreValidIn p bounds.now.costs.now bounds.now.answer runs (map gap trees.now) region.now gaps.now) }
+        → OnOk result (AreValidIn p bounds.now.costs.now bounds.now.answer runs (take (length gaps.now) walk.old) region.now gaps.now) }
     ensures wrong { (p : Listing) (runs : List (List Label)) → HavePassed p runs bounds.now.passed.now
-        → IfErr result (IfWrong (IsBelow (IsWrongChildIn p bounds.now.costs.now bounds.now.answer runs (map gap trees.now) region.now gaps.now))) }
+        → IfErr result (IfWrong (IsBelow (IsWrongChildIn p bounds.now.costs.now bounds.now.answer runs (take (length gaps.now) walk.old) region.now gaps.now))) }
 {
     let mut rest = *region;
-    for (number, tree) in trees.iter().enumerate() {
-        let gap = gaps[number];
-        let child = rest.with(gap);
-        judge_gap_child(alloc, tree, &child, number, bounds)?;
-        rest = rest.without(gap);
+    for (number, gap) in gaps.iter().enumerate() {
+        let child = rest.with(*gap);
+        judge_gap_child(alloc, walk, &child, number, bounds)?;
+        rest = rest.without(*gap);
     }
     Ok(())
 }
 
-/// Judges the child of this number.
+/// Judges the first tree of a walk, the child of this number.
 #[cycle(judge_gap)]
 fn judge_gap_child(
     alloc: Global,
-    tree: &GapTree,
+    walk: &mut GapWalk<'_>,
     region: &Region,
     number: usize,
     bounds: &Bounds,
 ) -> Result<(), TreeFault>
+    requires { 0 < length walk.old }
+    ensures after { OnOk result (walk.new ≡ drop 1 walk.old) }
     ensures valid { (p : Listing) (runs : List (List Label)) → HavePassed p runs bounds.now.passed.now
-        → OnOk result (IsValidGap p bounds.now.costs.now bounds.now.answer runs (gap tree.now) region.now) }
+        → OnOk result (IsValidGap p bounds.now.costs.now bounds.now.answer runs (first_gap walk.old) region.now) }
     ensures wrong { (p : Listing) (runs : List (List Label)) → HavePassed p runs bounds.now.passed.now
         → IfErr result (IfWrong (IsBelow (λ n path. (n ≡ number)
-        × FirstWrongGap p bounds.now.costs.now bounds.now.answer runs (gap tree.now) region.now path))) }
+        × FirstWrongGap p bounds.now.costs.now bounds.now.answer runs (first_gap walk.old) region.now path))) }
 {
-    match judge_gap(alloc, tree, region, bounds) {
+    match judge_gap(alloc, walk, region, bounds) {
         Ok(()) => Ok(()),
         Err(fault) => Err(fault.from_parent(number)),
     }

@@ -3,7 +3,7 @@ use Rattle.std.proofs.Common.{◌≡◌, ℕ, zero, suc, ◌<◌, ◌≤◌, ◌
 use Rattle.std.specs.Prelude.{codes}
 use Rattle.std.proofs.lemmas.Bool.{eqb-true}
 use Rattle.cert_words.specs.declared.numbers.TheConstants.{MAX_COUNT}
-use Rattle.cert_forest.specs.Trees.{Gap, Split, Bound, GapTrees, gap_trees_of}
+use Rattle.cert_forest.specs.Trees.{Gap, Split, Bound, GapTrees, gap_trees_of, gap_list}
 use Rattle.cert_words.specs.Lines.{texts_of, spaced}
 use Rattle.cert_forest.specs.Texts.{count_gaps}
 use Rattle.cert_forest.specs.Limits.{gaps_depth, IsGapTo}
@@ -14,7 +14,7 @@ use Rattle.text_tokens.proofs.StepLaws.{bind_some, by_test}
 use Rattle.std.proofs.lemmas.Option.{cond_some, same_Some}
 use Rattle.cert_words.proofs.Steps.{Starts, IsExact, takes_two, again_two, repeat_takes, repeat_again, starts_all}
 use Rattle.cert_words.proofs.WordLaws.{number_text, number_exact, below64, count_exact, letter_takes, letter_again}
-use Rattle.cert_forest.proofs.TreeTexts.{gap_text, gap_list, gaps_again, gaps_text, gaps_count, gaps_to, gaps_from, gap_deep, regroup}
+use Rattle.cert_forest.proofs.TreeTexts.{gap_text, gaps_again, gaps_text, gaps_count, gaps_to, gaps_from, gap_deep, regroup}
 
 abbrev both : ℕ → ℕ → ℕ × ℕ
 both run n = (run, n)
@@ -22,7 +22,7 @@ both run n = (run, n)
 abbrev split_text : ℕ × ℕ → List ℕ
 split_text node = number_text node.0 ++ number_text node.1
 
-split_takes : (bytes : List ℕ) (x : (ℕ × ℕ) × List ℕ) → split_at bytes ≡ Some x → (bytes ≡ split_text x.0 ++ x.1) × (x.0.0 < 2 ^ 64) × (x.0.1 ≤ MAX_COUNT)
+pub split_takes : (bytes : List ℕ) (x : (ℕ × ℕ) × List ℕ) → split_at bytes ≡ Some x → (bytes ≡ split_text x.0 ++ x.1) × (x.0.0 < 2 ^ 64) × (x.0.1 ≤ MAX_COUNT)
 unfolding split_at
 split_takes bytes x e =
     let t = takes_two (number_within_at 18446744073709551615) count_at number_text number_text (λ n. n ≤ 18446744073709551615) (λ n. n ≤ MAX_COUNT) (number_exact 18446744073709551615 below64) count_exact both bytes x e in

@@ -2,6 +2,7 @@ pub mod PassedGaps
 pub mod Bounds
 pub mod GapTreeValid
 pub mod Recording
+pub mod RecordPushed
 pub mod GapTreeSmall
 pub mod ShortRuns
 pub mod CertificateMade

@@ -3,7 +3,9 @@ use Rattle.std.specs.Prelude.{◌≡◌, ◌≢◌, ℕ, zero, suc, ◌+◌, tru
 use Rattle.std.specs.List.{AllPairs}
 use Rattle.gap_sets.specs.Regions.{open_gaps}
 use Rattle.tso_machine.specs.declared.label.Label.{Label}
-use Rattle.cert_forest.specs.Trees.{Gap, Split, Bound, GapTrees, NoGap, MoreGaps}
+use Rattle.cert_forest.specs.declared.node.GapNode.{GapNode}
+use Rattle.cert_forest.specs.Trees.{Gap, Split, Bound, GapTrees, NoGap, MoreGaps, gap_trees_of}
+use Rattle.cert_forest.specs.GapNodes.{spell_gap, spell_gaps}
 use Rattle.cover_solver.specs.Facts.{Foreign}
 use Rattle.search_core.specs.declared.entry.Entry.{Entry}
 use Rattle.search_core.specs.declared.entry.Status.TheVariants as status
@@ -54,3 +56,15 @@ module _ (entries : List Entry) (numbers : List ℕ) where
     AreRecorded NoGap place (suc count) = ⊥
     AreRecorded (MoreGaps tree trees) place zero = ⊥
     AreRecorded (MoreGaps tree trees) place (suc count) = IsRecorded tree place × AreRecorded trees (place + 1) count
+
+  -- the nodes of a tree that says so of the node at this place are put after the others
+  pub record PushesRecorded (place : ℕ) (old new : List GapNode) : Type 0 where
+    pub tree : Gap
+    pub recorded : IsRecorded tree place
+    pub pushed : new ≡ old ++ spell_gap tree
+
+  -- so are those of so many trees, of the nodes from this place on
+  pub record PushesRecords (place count : ℕ) (old new : List GapNode) : Type 0 where
+    pub trees : List Gap
+    pub recorded : AreRecorded (gap_trees_of trees) place count
+    pub pushed : new ≡ old ++ spell_gaps trees

@@ -1,14 +1,12 @@
 //! The certificate of a search that is done.
-ghost use Rattle.std.specs.Prelude.{◌≡◌, ◌<◌, ◌+◌, ℕ, IfOk, length, map};
+ghost use Rattle.std.specs.Prelude.{◌≡◌, ◌<◌, ◌+◌, ℕ, IfOk, OnOk, length};
 ghost use Rattle.cert_forest.specs.Limits.{AreShownPlaces};
 ghost use Rattle.cert_forest.specs.Shows.{shows_of};
-ghost use Rattle.cert_forest.specs.Trees.{gap_trees_of};
-ghost use Rattle.cert_forest.specs.Views.{gap};
-ghost use Rattle.fence_place.specs.Recorded.{AreNumbersOf, AreSplitRuns, AreDistinct, ListsEvent, IsRecorded, AreRecorded};
+ghost use Rattle.fence_place.specs.Recorded.{AreNumbersOf, AreSplitRuns, AreDistinct, ListsEvent, IsRecorded, PushesRecorded, PushesRecords};
 ghost use Rattle.fence_place.specs.Proofs.{IsProof};
 
 use crate::gaps::count_open;
-use cert_forest::{Certificate, GapTree, Runs, Shows};
+use cert_forest::{Certificate, GapNode, GapTree, Runs, Shows};
 use cover_solver::SeqTable;
 use search_core::{Event, Finished};
 use std::alloc::{AllocError, Global};
@@ -35,7 +33,7 @@ pub fn certify(
     names_have_places(shown);
     let shows = Shows::of(shown);
     let (runs, numbers) = listed_runs(alloc, finished)?;
-    let gap_tree = gap_tree(alloc, finished, &numbers, 0)?;
+    let gap_tree = gap_tree(alloc, finished, &numbers)?;
     let set = served.set();
     let seq_runs = table.runs().copy(alloc)?;
     // As for these: there are no more of them than a number can count.
@@ -100,54 +98,65 @@ fn run_number(alloc: Global, runs: &mut Runs, event: Event<'_>) -> Result<usize,
     Ok(number)
 }
 
-/// What became of the node of this number and of its descendants. It recurses as deep as a tree of gaps
-/// may be.
-#[cycle(gap_tree)]
-fn gap_tree(
-    alloc: Global,
+/// What became of the first node and of its descendants.
+fn gap_tree(alloc: Global, finished: &Finished, numbers: &[usize]) -> Result<GapTree, AllocError>
+    requires as_many { length numbers.now ≡ length finished.now.entries }
+    requires there { 0 < length numbers.now }
+    ensures { IfOk result (λ tree. IsRecorded finished.now.entries numbers.now tree 0) }
+{
+    let mut nodes = Vec::new(alloc);
+    push_tree(finished, numbers, 0, &mut nodes)?;
+    GapTree::of_nodes(alloc, nodes)
+}
+
+/// Puts after the others the nodes of a tree that says what became of the node of this number and of its descendants. It
+/// recurses as deep as a tree of gaps may be.
+#[cycle(push_tree)]
+fn push_tree(
     finished: &Finished,
     numbers: &[usize],
     number: usize,
-) -> Result<GapTree, AllocError>
+    nodes: &mut Vec<GapNode>,
+) -> Result<(), AllocError>
     requires as_many { length numbers.now ≡ length finished.now.entries }
     requires there { number < length numbers.now }
-    ensures { IfOk result (λ tree. IsRecorded finished.now.entries numbers.now (gap tree) number) }
+    ensures { OnOk result (PushesRecorded finished.now.entries numbers.now number nodes.old.items nodes.new.items) }
 {
     let _ = finished.program();
     let Some(settled) = finished.settled(number) else {
         unreachable!()
     };
     let Event::Split(run) = settled.event else {
-        return Ok(GapTree::Bound);
+        nodes.push(GapNode::Bound)?;
+        return Ok(());
     };
     let Some(first) = finished.first_child(number) else {
         unreachable!()
     };
     let count = count_open(run.passed(), settled.node.never);
-    let children = gap_trees(alloc, finished, numbers, first, count)?;
-    Ok(GapTree::Split {
+    let children = count as u32;
+    nodes.push(GapNode::Split {
+        count: children,
         run: numbers[number] as u64,
-        children,
-    })
+    })?;
+    push_trees(finished, numbers, first, count, nodes)
 }
 
 /// The same of so many nodes from this number on.
-#[cycle(gap_tree)]
-fn gap_trees(
-    alloc: Global,
+#[cycle(push_tree)]
+fn push_trees(
     finished: &Finished,
     numbers: &[usize],
     first: usize,
     count: usize,
-) -> Result<Vec<GapTree>, AllocError>
+    nodes: &mut Vec<GapNode>,
+) -> Result<(), AllocError>
     requires as_many { length numbers.now ≡ length finished.now.entries }
     requires there { (i : ℕ) → i < count → first + i < length numbers.now }
-    ensures { IfOk result (λ trees. AreRecorded finished.now.entries numbers.now (gap_trees_of (map gap trees.items)) first count) }
+    ensures { OnOk result (PushesRecords finished.now.entries numbers.now first count nodes.old.items nodes.new.items) }
 {
-    let mut trees = Vec::new(alloc);
     for i in 0..count {
-        let tree = gap_tree(alloc, finished, numbers, first + i)?;
-        trees.push(tree)?;
+        push_tree(finished, numbers, first + i, nodes)?;
     }
-    Ok(trees)
+    Ok(())
 }

@@ -10,10 +10,10 @@ use litmus_text::read_litmus;
 use std::alloc::{AllocError, Global};
 use tso_program::{Program, Shown};
 
-fn copy_trees(alloc: Global, certificate: &mut Certificate) -> Result<(), AllocError> {
+fn copy_trees(certificate: &mut Certificate) -> Result<(), AllocError> {
     certificate.seq_tree = certificate.seq_tree.copy()?;
     certificate.fenced_tree = certificate.fenced_tree.copy()?;
-    certificate.gap_tree = certificate.gap_tree.copy(alloc)?;
+    certificate.gap_tree = certificate.gap_tree.copy()?;
     Ok(())
 }
 
@@ -22,7 +22,7 @@ fn push_written(
     certificate: &mut Certificate,
     printed: &mut String,
 ) -> Result<(), AllocError> {
-    copy_trees(alloc, certificate)?;
+    copy_trees(certificate)?;
     push_bytes(printed, &write_cert(alloc, certificate)?)
 }
 

@@ -6,7 +6,7 @@ use Rattle.tso_program.specs.Fences.{gaps_in}
 use Rattle.tso_program.specs.Limits.{JumpForward}
 use Rattle.tso_machine.specs.declared.label.Label.{Label}
 use Rattle.tso_machine.specs.Machine.{Machine, SequentialMachine, StoreBufferMachine}
-use Rattle.tso_machine.specs.Outcomes.{IsShownRun, AllowsShown, IsSequentialOutcome}
+use Rattle.tso_machine.specs.Outcomes.{IsShownRun, IsSequentialOutcome}
 use Rattle.candidate_executions.specs.Sketches.{empty_sketch}
 use Rattle.candidate_executions.proofs.Sketches.Choices.{empty_is_a_sketch}
 use Rattle.candidate_executions.proofs.FromRuns.RunsAreCandidates.{every_run_is_a_completion}

@@ -1,9 +1,8 @@
--- The gaps of one set that are not in another.
-use Rattle.std.proofs.Common.{◌≡◌, ◌↔◌, ℕ, ◌+◌, ◌<◌, ◌≤◌, Bool, true, false, not, List, [], ◌∷◌, ◌++◌, cond, get_or, length, Contains, sym, ap, ◌∙◌, refl, arith, append_assoc, zero-add}
-use Rattle.std.specs.List.{filter, range_with_len}
+-- The gaps of a set in order, and those of one set that are not in another.
+use Rattle.std.proofs.Common.{◌≡◌, ◌↔◌, ℕ, ◌+◌, ◌<◌, ◌≤◌, Bool, true, false, not, get_or, length, Contains, ◌∙◌, refl, arith, zero-add}
+use Rattle.std.specs.List.{range_with_len}
 use Rattle.std.specs.List.Sorted.{IsStrictlyIncreasing}
 use Rattle.std.specs.FinSet as set
-use Rattle.std.proofs.lemmas.List.{append-nil}
 use Rattle.std.proofs.lemmas.List.FromFn.{length-range_with_len, get_or-range_with_len}
 use Rattle.std.proofs.lemmas.List.Kept.{IsStrictlyIncreasing-filter}
 use Rattle.std.proofs.lemmas.List.Sums.{length-filter, count_by-le-length}
@@ -13,35 +12,21 @@ use Rattle.gap_sets.specs.declared.gap_set.TheConstants.{MAX_GAPS}
 use Rattle.tree_laws.proofs.Filtered.{of_filter, to_filter}
 
 -- a test that fails
-pub not_true : (b : Bool) → not b ≡ true → b ≡ false
+not_true : (b : Bool) → not b ≡ true → b ≡ false
 not_true true e = absurd cc
 not_true false e = refl
 
-pub not_false : (b : Bool) → b ≡ false → not b ≡ true
+not_false : (b : Bool) → b ≡ false → not b ≡ true
 not_false true e = absurd cc
 not_false false e = refl
 
--- one gap of those to come, which is free or not
-module _ (p : ℕ → Bool) (old left rest whole : List ℕ) (gap : ℕ) (next : left ≡ gap ∷ rest) (so : old ++ filter p left ≡ whole) where
-  pub one_taken : (more : List ℕ) → more ≡ old ++ gap ∷ [] → p gap ≡ true → more ++ filter p rest ≡ whole
-  one_taken more pushed e =
-      ap (λ (xs : List ℕ). xs ++ filter p rest) pushed ∙ append_assoc old (gap ∷ []) (filter p rest)
-      ∙ ap (λ b. old ++ cond b (gap ∷ filter p rest) (filter p rest)) (sym e) ∙ ap (λ xs. old ++ filter p xs) (sym next) ∙ so
-
-  pub one_left_out : p gap ≡ false → old ++ filter p rest ≡ whole
-  one_left_out e = ap (λ b. old ++ cond b (gap ∷ filter p rest) (filter p rest)) (sym e) ∙ ap (λ xs. old ++ filter p xs) (sym next) ∙ so
-
--- none is to come
-pub none_to_come : (p : ℕ → Bool) (gaps left whole : List ℕ) → left ≡ [] → gaps ++ filter p left ≡ whole → gaps ≡ whole
-none_to_come p gaps left whole none so = sym (append-nil gaps) ∙ ap (λ xs. gaps ++ filter p xs) (sym none) ∙ so
-
 -- each gap of a set is listed
-listed : (s : SetOfGaps) (g : ℕ) → g < MAX_GAPS → set.contains s g ≡ true → Contains (numbers_of_set s) g
+pub listed : (s : SetOfGaps) (g : ℕ) → g < MAX_GAPS → set.contains s g ≡ true → Contains (numbers_of_set s) g
 unfolding numbers_of_set
 listed s g low there = to_filter (set.contains s) (range_with_len 0 MAX_GAPS) g
     (g, (let long = length-range_with_len 0 MAX_GAPS in omega arith), get_or-range_with_len 0 MAX_GAPS g g low ∙ zero-add g) there
 
-unlisted : (s : SetOfGaps) (g : ℕ) → Contains (numbers_of_set s) g → set.contains s g ≡ true
+pub unlisted : (s : SetOfGaps) (g : ℕ) → Contains (numbers_of_set s) g → set.contains s g ≡ true
 unfolding numbers_of_set
 unlisted s g here = (of_filter (set.contains s) (range_with_len 0 MAX_GAPS) g here).1
 
@@ -52,19 +37,19 @@ open_exact passed never small g = (
   (λ both. to_filter (is_free never) (numbers_of_set passed) g (listed passed g (small g both.0) both.0) (not_false _ both.1)),
 )
 
-rising : (s : SetOfGaps) → IsStrictlyIncreasing (numbers_of_set s)
+-- they ascend
+pub rising : (s : SetOfGaps) → IsStrictlyIncreasing (numbers_of_set s)
 unfolding numbers_of_set
 rising s = IsStrictlyIncreasing-filter (set.contains s) (range_with_len 0 MAX_GAPS) (λ k h. let a : get_or (range_with_len 0 MAX_GAPS) k 0 ≡ 0 + k = get_or-range_with_len 0 MAX_GAPS k 0 (omega arith) in
     let b : get_or (range_with_len 0 MAX_GAPS) (k + 1) 0 ≡ 0 + (k + 1) = get_or-range_with_len 0 MAX_GAPS (k + 1) 0 (omega arith) in omega arith)
 
--- and ascend
 pub open_ascending : (passed never : SetOfGaps) → IsStrictlyIncreasing (open_gaps passed never)
 open_ascending passed never = IsStrictlyIncreasing-filter (is_free never) (numbers_of_set passed) (rising passed)
 
-few_gaps : (s : SetOfGaps) → length (numbers_of_set s) ≤ MAX_GAPS
+-- they are few
+pub few_gaps : (s : SetOfGaps) → length (numbers_of_set s) ≤ MAX_GAPS
 unfolding numbers_of_set
 few_gaps s = omega (arith, length-filter (set.contains s) (range_with_len 0 MAX_GAPS), count_by-le-length (set.contains s) (range_with_len 0 MAX_GAPS), length-range_with_len 0 MAX_GAPS)
 
--- and are few
 pub few_open : (passed never : SetOfGaps) → length (open_gaps passed never) ≤ MAX_GAPS
 few_open passed never = omega (arith, few_gaps passed, length-filter (is_free never) (numbers_of_set passed), count_by-le-length (is_free never) (numbers_of_set passed))

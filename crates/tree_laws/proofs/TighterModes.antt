@@ -9,7 +9,6 @@ use Rattle.tso_program.specs.declared.shown.Shown.{Shown}
 use Rattle.tso_program.specs.declared.shown.Shown.TheVariants.{All, Only, Truth}
 use Rattle.tso_program.specs.declared.atom.Atom.{Atom}
 use Rattle.tso_program.specs.declared.atom.Atom.TheVariants as atom
-use Rattle.tso_program.specs.Tree.{Tree}
 use Rattle.tso_program.specs.Truth.{is_true_at}
 use Rattle.tso_program.proofs.KnownTruths.{known_more}
 use Rattle.tso_program.specs.Shown.{Question, show_registers}

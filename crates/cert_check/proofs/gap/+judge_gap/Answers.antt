@@ -1,65 +1,180 @@
-use Rattle.std.proofs.Common.{◌≡◌, ◌∙◌, map, length, sym, subst, rules, arith}
-use Rattle.std.specs.Prelude.{IfErr}
-use Rattle.std.proofs.lemmas.List.{length-map}
-use Rattle.cert_forest.specs.declared.tree.GapTree.TheViews.{the_lemmas}
-use Rattle.cert_forest.specs.declared.tree.GapTree.TheFolds.{fold-roll-GapTree, fold_out-GapTree}
-use Rattle.cert_forest.specs.Views.{gap, gap_node}
-use Rattle.cert_forest.specs.Trees.{Gap, Split, gap_trees_of}
-use Rattle.cover_judge.specs.declared.fault.TreeFault.{TreeFault}
+use Rattle.std.proofs.Common.{◌≡◌, ◌∙◌, ℕ, ◌+◌, ◌<◌, List, length, take, drop, get_or, sym, ap, subst, arith}
+use Rattle.std.specs.Prelude.{IfErr, OnOk}
+use Rattle.std.proofs.lemmas.List.{length-take-le}
+use Rattle.cert_forest.specs.Trees.{Gap, Split, Bound, gap_trees_of}
+use Rattle.cert_forest.specs.GapNodes.{first_gap, spell_gaps}
+use Rattle.cert_forest.proofs.GapNodeLaws.{next_gap_is_shorter, split_next, bound_next, gaps_no_longer}
+use Rattle.exec_axioms.proofs.Lookups.{same_default}
+use Rattle.gap_sets.specs.Order.{Better}
+use Rattle.tree_laws.specs.GapTrees.{IsValidGap}
 use Rattle.cover_judge.specs.Judged.{IfWrong, IsAtRoot, IsBelow}
-use Rattle.cert_check.specs.GapDefects.{HasNoSplit, FirstWrongGap}
-use Rattle.cert_check.specs.Internal.Children.{IsWrongChildIn}
-use Rattle.cover_judge.proofs.Answered.{err_up, if_err}
+use Rattle.cover_judge.proofs.Answered.{err_up, if_err, on_ok}
 use Rattle.cover_judge.proofs.ChoicesJudged.{if_wrong}
-use Rattle.cert_check.proofs.GapNodes.{split_here, split_below}
-use Rattle.cert_check.proofs.GapSteps.{go_on, stop_here}
+use Rattle.cover_judge.proofs.CoverSteps.{left_some, walked_on}
+use Rattle.cert_check.specs.GapDefects.{HasNoSplit, FirstWrongGap}
+use Rattle.cert_check.specs.Internal.Children.{AreValidIn, IsWrongChildIn}
+use Rattle.cert_check.proofs.GapNodes.{bound_here, split_here, split_below, split_valid}
+use Rattle.cert_check.proofs.GapSteps.{IsLeft, go_on, stop_here, none_left_of}
 use Rattle.cert_check.proofs.gap.+judge_gap.Goals as goal
 
-pub judge_gap-returns-in_err-gaps-in-Split-clause-wrong : goal.judge_gap-returns-in_err-gaps-in-Split-clause-wrong
-judge_gap-returns-in_err-gaps-in-Split-clause-wrong t c p runs each =
-    let kids = map gap c.in-Split.children.items in
-    let is : gap c.args.tree.now ≡ Split c.in-Split.run' (gap_trees_of kids) = search (rules, the_lemmas, fold-roll-GapTree Gap gap_node, fold_out-GapTree Gap gap_node) in
-    let len : c.len.result ≡ length kids = omega (arith, length-map c.in-Split.children.items gap, c.in-Split.children.ok.0, c.len.ensures) in
-    let bounds = c.args.bounds.now in
-    let region = c.args.region.now in
-    let P : TreeFault → Type 0 = IfWrong (FirstWrongGap p bounds.costs.now bounds.answer runs (gap c.args.tree.now) region) in
-    err_up c.from_residual.result c.in_err-gaps-in-Split.field-0.0 P c.from_residual.ensures.1
-    (subst (λ tree. IfWrong (FirstWrongGap p bounds.costs.now bounds.answer runs tree region) c.in_err-gaps-in-Split.field-0.0) (sym is)
-    (if_wrong (IsAtRoot (HasNoSplit p runs region c.in-Split.run' (length kids))) (FirstWrongGap p bounds.costs.now bounds.answer runs (Split c.in-Split.run' (gap_trees_of kids)) region) c.in_err-gaps-in-Split.field-0.0
-    (split_here p bounds.costs.now bounds.answer runs region c.in-Split.run' kids)
-    (subst (λ n. IfWrong (IsAtRoot (HasNoSplit p runs region c.in-Split.run' n)) c.in_err-gaps-in-Split.field-0.0) len (c.in_err-gaps-in-Split.ensures.wrong p runs each))))
+pub judge_gap-judge_split-requires : goal.judge_gap-judge_split-requires
+judge_gap-judge_split-requires t c = (
+  omega (arith, next_gap_is_shorter c.args.walk.now c.next_node.new.self c.next_node.result c.next_node.ensures),
+  (split_next c.args.walk.now c.in-Split.run' c.in-Split.count c.next_node.new.self c.in-Split.ensures).fits,
+)
 
-pub judge_gap-returns-in_ok-gaps-in-Split-clause-wrong : goal.judge_gap-returns-in_ok-gaps-in-Split-clause-wrong
-judge_gap-returns-in_ok-gaps-in-Split-clause-wrong t c p runs each =
-    let kids = map gap c.in-Split.children.items in
-    let gaps = c.in_ok-gaps-in-Split.gaps.items in
-    let is : gap c.args.tree.now ≡ Split c.in-Split.run' (gap_trees_of kids) = search (rules, the_lemmas, fold-roll-GapTree Gap gap_node, fold_out-GapTree Gap gap_node) in
-    let len : c.len.result ≡ length kids = omega (arith, length-map c.in-Split.children.items gap, c.in-Split.children.ok.0, c.len.ensures) in
+pub judge_gap-returns-in-Split-clause-after : goal.judge_gap-returns-in-Split-clause-after
+judge_gap-returns-in-Split-clause-after t c =
+    let next = split_next c.args.walk.now c.in-Split.run' c.in-Split.count c.next_node.new.self c.in-Split.ensures in
+    on_ok c.judge_split.result (c.judge_split.new.walk ≡ drop c.in-Split.count c.next_node.new.self) (c.judge_split.new.walk ≡ drop 1 c.args.walk.now) (λ e. e ∙ next.rest) c.judge_split.ensures.after
+
+pub judge_gap-returns-in-Split-clause-valid : goal.judge_gap-returns-in-Split-clause-valid
+judge_gap-returns-in-Split-clause-valid t c p runs each =
+    let bounds = c.args.bounds.now in
+    let next = split_next c.args.walk.now c.in-Split.run' c.in-Split.count c.next_node.new.self c.in-Split.ensures in
+    subst (λ (tree : Gap). OnOk c.judge_split.result (IsValidGap p bounds.costs.now bounds.answer runs tree c.args.region.now)) (sym next.first) (c.judge_split.ensures.valid p runs each)
+
+pub judge_gap-returns-in-Split-clause-wrong : goal.judge_gap-returns-in-Split-clause-wrong
+judge_gap-returns-in-Split-clause-wrong t c p runs each =
+    let bounds = c.args.bounds.now in
+    let next = split_next c.args.walk.now c.in-Split.run' c.in-Split.count c.next_node.new.self c.in-Split.ensures in
+    subst (λ (tree : Gap). IfErr c.judge_split.result (IfWrong (FirstWrongGap p bounds.costs.now bounds.answer runs tree c.args.region.now))) (sym next.first) (c.judge_split.ensures.wrong p runs each)
+
+pub judge_gap-returns-in-Bound-clause-after : goal.judge_gap-returns-in-Bound-clause-after
+judge_gap-returns-in-Bound-clause-after t c =
+    let next = bound_next c.args.walk.now c.next_node.new.self c.in-Bound.ensures in
+    on_ok c.judge_bound.result _ (c.next_node.new.self ≡ drop 1 c.args.walk.now) (λ none. next.1) c.judge_bound.ensures.bound
+
+pub judge_gap-returns-in-Bound-clause-valid : goal.judge_gap-returns-in-Bound-clause-valid
+judge_gap-returns-in-Bound-clause-valid t c p runs each =
+    let bounds = c.args.bounds.now in
+    let next = bound_next c.args.walk.now c.next_node.new.self c.in-Bound.ensures in
+    subst (λ (tree : Gap). OnOk c.judge_bound.result (IsValidGap p bounds.costs.now bounds.answer runs tree c.args.region.now)) (sym next.0) c.judge_bound.ensures.bound
+
+pub judge_gap-returns-in-Bound-clause-wrong : goal.judge_gap-returns-in-Bound-clause-wrong
+judge_gap-returns-in-Bound-clause-wrong t c p runs each =
     let bounds = c.args.bounds.now in
     let region = c.args.region.now in
-    let wrong = rw c.deref.ensures.value at (rw c.deref-in-Split.ensures.value at (c.judge_gaps.ensures.wrong p runs each)) in
-    subst (λ tree. IfErr c.judge_gaps.result (IfWrong (FirstWrongGap p bounds.costs.now bounds.answer runs tree region))) (sym is)
-    (if_err c.judge_gaps.result (IfWrong (IsBelow (IsWrongChildIn p bounds.costs.now bounds.answer runs kids region gaps))) (IfWrong (FirstWrongGap p bounds.costs.now bounds.answer runs (Split c.in-Split.run' (gap_trees_of kids)) region))
-    (λ fault. if_wrong (IsBelow (IsWrongChildIn p bounds.costs.now bounds.answer runs kids region gaps)) (FirstWrongGap p bounds.costs.now bounds.answer runs (Split c.in-Split.run' (gap_trees_of kids)) region) fault
-    (split_below p bounds.costs.now bounds.answer runs region c.in-Split.run' kids gaps (c.in_ok-gaps-in-Split.ensures.split p runs each) (sym len ∙ c.in_ok-gaps-in-Split.ensures.as_many)))
-    wrong)
+    let next = bound_next c.args.walk.now c.next_node.new.self c.in-Bound.ensures in
+    let At = IsAtRoot (Better bounds.costs.now region.must bounds.answer) in
+    let P = FirstWrongGap p bounds.costs.now bounds.answer runs Bound region in
+    subst (λ (tree : Gap). IfErr c.judge_bound.result (IfWrong (FirstWrongGap p bounds.costs.now bounds.answer runs tree region))) (sym next.0)
+    (if_err c.judge_bound.result (IfWrong At) (IfWrong P) (λ fault. if_wrong At P fault (bound_here p bounds.costs.now bounds.answer runs region)) c.judge_bound.ensures.wrong)
+
+pub judge_split-judge_gaps-requires : goal.judge_split-judge_gaps-requires
+judge_split-judge_gaps-requires t c =
+    let gaps = c.in_ok-gaps.gaps.items in
+    let many : c.args.count ≡ length gaps = c.in_ok-gaps.ensures.as_many in
+    let fits : length gaps ≤ length c.args.walk.now = subst (λ (n : ℕ). n ≤ length c.args.walk.now) many c.requires in
+    rw c.deref.ensures.value (omega arith, (c.in_ok-gaps.ensures.below, fits))
+
+pub judge_split-returns-in_err-gaps-clause-wrong : goal.judge_split-returns-in_err-gaps-clause-wrong
+judge_split-returns-in_err-gaps-clause-wrong t c p runs each =
+    let kids = take c.args.count c.args.walk.now in
+    let len : c.args.count ≡ length kids = sym (length-take-le c.args.count c.args.walk.now c.requires) in
+    let bounds = c.args.bounds.now in
+    let region = c.args.region.now in
+    let fault = c.in_err-gaps.field-0.0 in
+    let At = FirstWrongGap p bounds.costs.now bounds.answer runs (Split c.args.run' (gap_trees_of kids)) region in
+    err_up c.from_residual.result fault (IfWrong At) c.from_residual.ensures.1
+    (if_wrong (IsAtRoot (HasNoSplit p runs region c.args.run' (length kids))) At fault
+    (split_here p bounds.costs.now bounds.answer runs region c.args.run' kids)
+    (subst (λ n. IfWrong (IsAtRoot (HasNoSplit p runs region c.args.run' n)) fault) len (c.in_err-gaps.ensures.wrong p runs each)))
+
+pub judge_split-returns-clause-after : goal.judge_split-returns-clause-after
+judge_split-returns-clause-after t c =
+    let gaps = c.in_ok-gaps.gaps.items in
+    let many : c.args.count ≡ length gaps = c.in_ok-gaps.ensures.as_many in
+    on_ok c.judge_gaps.result (c.judge_gaps.new.walk ≡ drop (length gaps) c.args.walk.now) (c.judge_gaps.new.walk ≡ drop c.args.count c.args.walk.now)
+    (λ e. e ∙ ap (λ (n : ℕ). drop n c.args.walk.now) (sym many)) (rw c.deref.ensures.value at c.judge_gaps.ensures.after)
+
+pub judge_split-returns-clause-valid : goal.judge_split-returns-clause-valid
+judge_split-returns-clause-valid t c p runs each =
+    let walk = c.args.walk.now in
+    let bounds = c.args.bounds.now in
+    let region = c.args.region.now in
+    let gaps = c.in_ok-gaps.gaps.items in
+    let kids = take c.args.count walk in
+    let many : c.args.count ≡ length gaps = c.in_ok-gaps.ensures.as_many in
+    on_ok c.judge_gaps.result (AreValidIn p bounds.costs.now bounds.answer runs kids region gaps) (IsValidGap p bounds.costs.now bounds.answer runs (Split c.args.run' (gap_trees_of kids)) region)
+    (split_valid p bounds.costs.now bounds.answer runs region c.args.run' kids gaps (c.in_ok-gaps.ensures.split p runs each))
+    (subst (λ (n : ℕ). OnOk c.judge_gaps.result (AreValidIn p bounds.costs.now bounds.answer runs (take n walk) region gaps)) (sym many) (rw c.deref.ensures.value at (c.judge_gaps.ensures.valid p runs each)))
+
+pub judge_split-returns-clause-wrong : goal.judge_split-returns-clause-wrong
+judge_split-returns-clause-wrong t c p runs each =
+    let walk = c.args.walk.now in
+    let bounds = c.args.bounds.now in
+    let region = c.args.region.now in
+    let gaps = c.in_ok-gaps.gaps.items in
+    let kids = take c.args.count walk in
+    let as_many : c.args.count ≡ length gaps = c.in_ok-gaps.ensures.as_many in
+    let many : length kids ≡ length gaps = length-take-le c.args.count walk c.requires ∙ as_many in
+    let P = IsBelow (IsWrongChildIn p bounds.costs.now bounds.answer runs kids region gaps) in
+    let At = FirstWrongGap p bounds.costs.now bounds.answer runs (Split c.args.run' (gap_trees_of kids)) region in
+    if_err c.judge_gaps.result (IfWrong P) (IfWrong At)
+    (λ fault. if_wrong P At fault (split_below p bounds.costs.now bounds.answer runs region c.args.run' kids gaps (c.in_ok-gaps.ensures.split p runs each) many))
+    (subst (λ (n : ℕ). IfErr c.judge_gaps.result (IfWrong (IsBelow (IsWrongChildIn p bounds.costs.now bounds.answer runs (take n walk) region gaps)))) (sym as_many) (rw c.deref.ensures.value at (c.judge_gaps.ensures.wrong p runs each)))
+
+pub judge_gaps-judge_gap_child-requires : goal.judge_gaps-judge_gap_child-requires
+judge_gaps-judge_gap_child-requires t c =
+    let number = c.loop-number.number in
+    let gaps = c.args.gaps.now in
+    let walk = c.loop-number.walk in
+    let inv = c.loop-number.invariant in
+    let same : length (spell_gaps walk) ≡ length (spell_gaps (drop number c.args.walk.now)) = ap (λ (ws : List Gap). length (spell_gaps ws)) inv.walked in (
+      omega (arith, gaps_no_longer number c.args.walk.now, same),
+      left_some number (length gaps) c.args.walk.now walk c.loop-number-test.true c.requires.as_many inv.walked,
+    )
+
+pub judge_gaps-loop-number-preserved : goal.judge_gaps-loop-number-preserved
+judge_gaps-loop-number-preserved t c =
+    let bounds = c.args.bounds.now in
+    let gaps = c.args.gaps.now in
+    let all = c.args.walk.now in
+    let walk = c.loop-number.walk in
+    let number = c.loop-number.number in
+    let gap = get_or gaps number 0 in
+    let inv = c.loop-number.invariant in
+    let here : number < length gaps = c.loop-number-test.true in
+    let at : gap ≡ get_or gaps number gap = same_default gaps number 0 gap here in
+    let some : 0 < length walk = left_some number (length gaps) all walk here c.requires.as_many inv.walked in
+    let more = drop (number + 1) gaps in
+    record {
+      walked = c.in_ok-judge_gap_child.ensures.after ∙ walked_on number all walk inv.walked;
+      left = λ p runs each.
+          (subst (λ (ws : List Gap). IsLeft p bounds.costs.now bounds.answer runs (take (length gaps) all) c.args.region.now gaps (number + 1) (take (length more) ws) c.without-rest.result more) (sym c.in_ok-judge_gap_child.ensures.after)
+          (go_on p bounds.costs.now bounds.answer runs (take (length gaps) all) c.args.region.now gaps number walk gap c.loop-number.rest some here at (inv.left p runs each)
+          c.with-child.result c.without-rest.result c.with-child.ensures c.without-rest.ensures (c.in_ok-judge_gap_child.ensures.valid p runs each)));
+    }
 
 pub judge_gaps-returns-in_err-judge_gap_child-clause-wrong : goal.judge_gaps-returns-in_err-judge_gap_child-clause-wrong
 judge_gaps-returns-in_err-judge_gap_child-clause-wrong t c p runs each =
     let bounds = c.args.bounds.now in
     let region = c.args.region.now in
+    let gaps = c.args.gaps.now in
+    let all = c.args.walk.now in
+    let trees = take (length gaps) all in
+    let walk = c.loop-number.walk in
     let number = c.loop-number.number in
-    let x = c.index-trees-number.result in
-    let below = IsBelow (IsWrongChildIn p bounds.costs.now bounds.answer runs (map gap c.args.trees.now) region c.args.gaps.now) in
-    err_up c.from_residual.result c.in_err-judge_gap_child.field-0.0 (IfWrong below) c.from_residual.ensures.1
-    (if_wrong (IsBelow (λ m others. (m ≡ number) × FirstWrongGap p bounds.costs.now bounds.answer runs (gap x) c.with-child.result others)) below c.in_err-judge_gap_child.field-0.0
-    (stop_here p bounds.costs.now bounds.answer runs c.args.trees.now region c.args.gaps.now number x c.loop-number.rest c.loop-number-test.true c.index-trees-number.is c.requires.as_many
-    (c.loop-number.invariant p runs each) c.with-child.result c.with-child.ensures)
+    let gap = get_or gaps number 0 in
+    let inv = c.loop-number.invariant in
+    let here : number < length gaps = c.loop-number-test.true in
+    let at : gap ≡ get_or gaps number gap = same_default gaps number 0 gap here in
+    let some : 0 < length walk = left_some number (length gaps) all walk here c.requires.as_many inv.walked in
+    let below = IsBelow (IsWrongChildIn p bounds.costs.now bounds.answer runs trees region gaps) in
+    let fault = c.in_err-judge_gap_child.field-0.0 in
+    err_up c.from_residual.result fault (IfWrong below) c.from_residual.ensures.1
+    (if_wrong (IsBelow (λ m others. (m ≡ number) × FirstWrongGap p bounds.costs.now bounds.answer runs (first_gap walk) c.with-child.result others)) below fault
+    (stop_here p bounds.costs.now bounds.answer runs trees region gaps number walk gap c.loop-number.rest some here at (inv.left p runs each) c.with-child.result c.with-child.ensures)
     (c.in_err-judge_gap_child.ensures.wrong p runs each))
 
-pub judge_gaps-loop-number-preserved : goal.judge_gaps-loop-number-preserved
-judge_gaps-loop-number-preserved t c p runs each =
+pub judge_gaps-returns-clause-after : goal.judge_gaps-returns-clause-after
+judge_gaps-returns-clause-after t c =
+    let all : c.loop-number.number ≡ length c.args.gaps.now = omega (arith, c.loop-number-test.false) in
+    c.loop-number.invariant.walked ∙ ap (λ (n : ℕ). drop n c.args.walk.now) all
+
+pub judge_gaps-returns-clause-valid : goal.judge_gaps-returns-clause-valid
+judge_gaps-returns-clause-valid t c p runs each =
     let bounds = c.args.bounds.now in
-    go_on p bounds.costs.now bounds.answer runs c.args.trees.now c.args.region.now c.args.gaps.now c.loop-number.number c.index-trees-number.result c.loop-number.rest c.loop-number-test.true
-    c.index-trees-number.is c.requires.as_many (c.loop-number.invariant p runs each) c.with-child.result c.without-rest.result c.with-child.ensures c.without-rest.ensures
-    (c.in_ok-judge_gap_child.ensures.valid p runs each)
+    none_left_of p bounds.costs.now bounds.answer runs (take (length c.args.gaps.now) c.args.walk.now) c.args.region.now c.args.gaps.now c.loop-number.number c.loop-number.walk c.loop-number.rest
+    c.loop-number-test.false (c.loop-number.invariant.left p runs each)

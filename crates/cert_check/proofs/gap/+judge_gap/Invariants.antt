@@ -1,12 +1,28 @@
-use Rattle.std.proofs.Common.{List, map, drop}
+use Rattle.std.proofs.Common.{◌≡◌, ◌+◌, ◌*◌, List, length, take, drop}
 use Rattle.tso_program.specs.declared.listing.Listing.{Listing}
 use Rattle.tso_machine.specs.declared.label.Label.{Label}
-use Rattle.cert_forest.specs.Views.{gap}
+use Rattle.cert_forest.specs.GapNodes.{spell_gaps}
 use Rattle.cert_check.specs.Internal.Replays.{HavePassed}
 use Rattle.cert_check.proofs.GapSteps.{IsLeft}
 use Rattle.cert_check.proofs.gap.+judge_gap.Given as goal
 
--- the children that are left decide
+-- the nodes that are left, and the calls before the next one is taken
+abbrev pub decreases-judge_gap : goal.decreases-judge_gap
+decreases-judge_gap l = 4 * length (spell_gaps l.walk.now)
+
+abbrev pub decreases-judge_gap_child : goal.decreases-judge_gap_child
+decreases-judge_gap_child l = 4 * length (spell_gaps l.walk.now) + 1
+
+abbrev pub decreases-judge_gaps : goal.decreases-judge_gaps
+decreases-judge_gaps l = 4 * length (spell_gaps l.walk.now) + 2
+
+abbrev pub decreases-judge_split : goal.decreases-judge_split
+decreases-judge_split l = 4 * length (spell_gaps l.walk.now) + 3
+
+-- the walk is past the children that were judged, and those that are left decide
 abbrev pub invariant-judge_gaps-loop-number : goal.invariant-judge_gaps-loop-number
-invariant-judge_gaps-loop-number l = (p : Listing) (runs : List (List Label)) → HavePassed p runs l.bounds.passed.now →
-    IsLeft p l.bounds.costs.now l.bounds.answer runs (map gap l.trees) l.region l.gaps l.number (map gap (drop l.number l.trees)) l.rest (drop l.number l.gaps)
+invariant-judge_gaps-loop-number l = record {
+  walked : l.walk ≡ drop l.number l.fn.walk;
+  left : (p : Listing) (runs : List (List Label)) → HavePassed p runs l.bounds.passed.now →
+      IsLeft p l.bounds.costs.now l.bounds.answer runs (take (length l.gaps) l.fn.walk) l.region l.gaps l.number (take (length (drop l.number l.gaps)) l.walk) l.rest (drop l.number l.gaps);
+}

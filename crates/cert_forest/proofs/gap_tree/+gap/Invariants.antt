@@ -1,7 +1,7 @@
-use Rattle.std.proofs.Common.{◌≡◌, ◌-◌, ◌+◌, ◌*◌, [], map}
-use Rattle.cert_forest.specs.Views.{gap}
-use Rattle.cert_words.specs.Words.{repeat_at}
+use Rattle.std.proofs.Common.{◌+◌, ◌*◌}
+use Rattle.cert_forest.specs.GapNodes.{spell_gap}
 use Rattle.cert_forest.specs.Internal.Reading.{gap_at}
+use Rattle.cert_forest.proofs.PushedTrees.{PushedSoFar}
 use Rattle.cert_forest.proofs.gap_tree.+gap.Given as goal
 
 abbrev pub decreases-gap : goal.decreases-gap
@@ -11,4 +11,4 @@ abbrev pub decreases-gaps : goal.decreases-gaps
 decreases-gaps l = 2 * l.depth + 1
 
 abbrev pub invariant-gaps-loop : goal.invariant-gaps-loop
-invariant-gaps-loop l = repeat_at (gap_at l.depth) (l.count - l.counter) (map gap l.found.items) l.rest ≡ repeat_at (gap_at l.depth) l.count [] l.bytes
+invariant-gaps-loop l = PushedSoFar spell_gap (gap_at l.depth) l.count l.counter l.fn.nodes.items l.nodes.items l.bytes l.rest

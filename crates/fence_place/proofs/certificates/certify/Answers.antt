@@ -4,7 +4,6 @@ use Rattle.tso_machine.specs.declared.label.Label.{Label}
 use Rattle.cert_forest.specs.Certificates.{Certificate}
 use Rattle.cert_forest.specs.Limits.{AreShownPlaces}
 use Rattle.cert_forest.specs.Shows.{shows_of}
-use Rattle.cert_forest.specs.Views.{gap}
 use Rattle.cover_solver.specs.Facts.{Serving, IsServing}
 use Rattle.fence_place.specs.Recorded.{IsRecorded}
 use Rattle.fence_place.specs.Proofs.{IsProof}
@@ -27,7 +26,7 @@ returns-clause-proof c =
       seq_tree = c.in_ok-copy.field-0;
       runs = runs;
       fenced_tree = c.in_ok-copy-2.field-0;
-      gap_tree = gap c.in_ok-gap_tree.gap_tree;
+      gap_tree = c.in_ok-gap_tree.gap_tree;
     } in
     subst (λ (runs : List (List Label)). IsProof o.question o.costs (with_runs runs)) (sym c.runs.view_is)
     (is_proof t o c.in_ok-runs.numbers.items (with_runs c.in_ok-runs.runs)
@@ -42,7 +41,7 @@ returns-clause-proof c =
       fenced_tree = c.in_ok-copy-2.ensures ∙ c.tree-2.ensures ∙ ap (λ (s : Serving). s.tree) is_served;
       numbered = c.in_ok-runs.ensures.numbers;
       of_nodes = c.in_ok-runs.ensures.runs;
-      recorded = subst (λ (ns : List ℕ). IsRecorded o.entries ns (gap c.in_ok-gap_tree.gap_tree) 0) c.deref.ensures.value c.in_ok-gap_tree.ensures;
+      recorded = subst (λ (ns : List ℕ). IsRecorded o.entries ns c.in_ok-gap_tree.gap_tree 0) c.deref.ensures.value c.in_ok-gap_tree.ensures;
       few_runs = c.len.ensures.few;
       few_seq_runs = c.len-2.ensures.few;
     }))

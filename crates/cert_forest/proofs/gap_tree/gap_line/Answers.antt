@@ -1,0 +1,18 @@
+use Rattle.std.proofs.Common.{◌≡◌, ◌++◌, List, sym, ap, ◌∙◌}
+use Rattle.cert_forest.specs.declared.node.GapNode.{GapNode}
+use Rattle.cert_forest.specs.GapNodes.{spell_gap}
+use Rattle.cert_forest.specs.Internal.Reading.{gap_line_at}
+use Rattle.cert_forest.proofs.GapNodeLaws.{is_gap_tree, same_gap}
+use Rattle.cert_forest.proofs.gap_tree.gap_line.Goals as goal
+
+pub of_nodes-requires : goal.of_nodes-requires
+of_nodes-requires c =
+    let p = c.in_ok-rest-2.ensures.pushes in
+    is_gap_tree p.tree c.gap.new.nodes.items (p.pushed ∙ ap (λ (xs : List GapNode). xs ++ spell_gap p.tree) c.new-nodes.ensures.items)
+
+pub returns : goal.returns
+unfolding gap_line_at
+returns c =
+    let p = c.in_ok-rest-2.ensures.pushes in
+    let is : p.tree ≡ c.in_ok-of_nodes.field-0 = same_gap p.tree c.in_ok-of_nodes.field-0 (sym (p.pushed ∙ ap (λ (xs : List GapNode). xs ++ spell_gap p.tree) c.new-nodes.ensures.items) ∙ sym c.in_ok-of_nodes.ensures) in
+    rw (c.in_ok-rest.ensures, p.is_read, c.in_ok-rest-3.ensures) (cc)

@@ -1,0 +1,52 @@
+-- The nodes of the record's gap tree, put after the others one by one.
+use Rattle.std.proofs.Common.{◌≡◌, ℕ, zero, suc, ◌+◌, true, List, [], ◌∷◌, ◌++◌, Some, length, refl, sym, ap, ◌∙◌, subst, append_assoc}
+use Rattle.std.specs.Prelude.{slice_get}
+use Rattle.std.proofs.lemmas.List.{append-nil}
+use Rattle.gap_sets.specs.Regions.{open_gaps}
+use Rattle.cert_forest.specs.declared.node.GapNode.{GapNode}
+use Rattle.cert_forest.specs.declared.node.GapNode.TheVariants as node
+use Rattle.cert_forest.specs.Trees.{Split, Bound, GapTrees, NoGap, MoreGaps, gap_trees_of}
+use Rattle.cert_forest.specs.Texts.{count_gaps}
+use Rattle.cert_forest.specs.GapNodes.{spell_gap, spell_gaps}
+use Rattle.cert_forest.proofs.Spelled.{each_append}
+use Rattle.cert_forest.proofs.GapNodeLaws.{listed_gaps}
+use Rattle.cover_solver.specs.Facts.{Foreign}
+use Rattle.search_core.specs.declared.entry.Entry.{Entry}
+use Rattle.search_core.specs.declared.entry.Status.TheVariants as status
+use Rattle.search_core.specs.Entries.{is_closed}
+use Rattle.fence_place.specs.Recorded.{AreRecorded, PushesRecorded, PushesRecords}
+use Rattle.fence_place.proofs.Recording.{recorded_more}
+
+module _ (entries : List Entry) (numbers : List ℕ) where
+  -- as many trees as nodes
+  many : (ts : GapTrees) (place count : ℕ) → AreRecorded entries numbers ts place count → count_gaps ts ≡ count
+  many NoGap place zero h = refl
+  many NoGap place (suc count) h = absurd h
+  many (MoreGaps t ts) place zero h = absurd h
+  many (MoreGaps t ts) place (suc count) h = ap suc (many ts (place + 1) count h.1)
+
+  pub bound_pushed : (place : ℕ) (e : Entry) (old new : List GapNode) → slice_get entries place ≡ Some e → is_closed e ≡ true → new ≡ old ++ node.Bound ∷ [] → PushesRecorded entries numbers place old new
+  bound_pushed place e old new there closed pushed = record { tree = Bound; recorded = (e, there, closed); pushed = pushed }
+
+  pub split_pushed : (place run count : ℕ) (e : Entry) (f : Foreign) (first : ℕ) (old mid new : List GapNode) → slice_get entries place ≡ Some e → e.status ≡ status.Split f first → slice_get numbers place ≡ Some run
+      → count ≡ length (open_gaps f.passed e.node.never) → mid ≡ old ++ node.Split count run ∷ [] → PushesRecords entries numbers first count mid new → PushesRecorded entries numbers place old new
+  split_pushed place run count e f first old mid new there split numbered same root kids = record {
+    tree = Split run (gap_trees_of kids.trees);
+    recorded = (e, f, first, there, split, numbered, subst (AreRecorded entries numbers (gap_trees_of kids.trees) first) same kids.recorded);
+    pushed =
+        kids.pushed ∙ ap (λ xs. xs ++ spell_gaps kids.trees) root ∙ append_assoc old (node.Split count run ∷ []) (spell_gaps kids.trees)
+        ∙ (λ i. old ++ node.Split (sym (many (gap_trees_of kids.trees) first count kids.recorded) i) run ∷ sym (listed_gaps kids.trees) i);
+  }
+
+  pub none_pushed : (first : ℕ) (old : List GapNode) → PushesRecords entries numbers first 0 old old
+  none_pushed first old = record { trees = []; recorded = tt; pushed = sym (append-nil old) }
+
+  pub one_pushed : (first i : ℕ) (old now new : List GapNode) → PushesRecords entries numbers first i old now → PushesRecorded entries numbers (first + i) now new → PushesRecords entries numbers first (i + 1) old new
+  one_pushed first i old now new so more = record {
+    trees = so.trees ++ more.tree ∷ [];
+    recorded = recorded_more entries numbers so.trees more.tree first i so.recorded more.recorded;
+    pushed =
+        more.pushed ∙ ap (λ xs. xs ++ spell_gap more.tree) so.pushed ∙ append_assoc old (spell_gaps so.trees) (spell_gap more.tree)
+        ∙ ap (λ xs. old ++ (spell_gaps so.trees ++ xs)) (sym (append-nil (spell_gap more.tree)))
+        ∙ ap (λ xs. old ++ xs) (sym (each_append spell_gap so.trees (more.tree ∷ [])));
+  }
