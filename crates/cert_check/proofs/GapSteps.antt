@@ -1,6 +1,5 @@
 -- The children of a split, judged in order: what is left to be judged decides.
-use Rattle.std.proofs.Common.{◌≡◌, ℕ, suc, ◌+◌, ◌<◌, ◌≤◌, List, [], ◌∷◌, length, take, drop, get_or, refl, sym, ap, ◌∙◌, subst, arith}
-use Rattle.std.proofs.lemmas.List.{drop_all}
+use Rattle.std.proofs.Common.{◌≡◌, ℕ, suc, ◌+◌, ◌<◌, List, [], ◌∷◌, length, take, drop, refl, sym, subst, arith}
 use Rattle.gap_sets.specs.Gaps.{SetOfGaps}
 use Rattle.gap_sets.specs.Regions.{with_gap, without_gap}
 use Rattle.gap_sets.specs.declared.region.Region.{Region}
@@ -9,7 +8,6 @@ use Rattle.tso_machine.specs.declared.label.Label.{Label}
 use Rattle.cert_forest.specs.GapNodes.{first_gap}
 use Rattle.cert_forest.specs.Trees.{Gap}
 use Rattle.tree_laws.specs.GapTrees.{IsValidGap}
-use Rattle.cover_judge.proofs.Mapped.{left_from}
 use Rattle.cert_check.specs.GapDefects.{FirstWrongGap}
 use Rattle.cert_check.specs.Internal.Children.{AreValidIn, IsWrongChildIn}
 use Rattle.cover_judge.specs.Judged.{IsBelow}
@@ -50,19 +48,16 @@ walk_left m [] some = absurd (omega arith)
 walk_left m (t ∷ ts) some = refl
 
 module _ (p : Listing) (costs : List ℕ) (answer : SetOfGaps) (runs : List (List Label)) (trees : List Gap) (region : Region) (gaps : List ℕ)
-    (n : ℕ) (walk : List Gap) (gap : ℕ) (rest : Region) (some : 0 < length walk) (here : n < length gaps) (at : gap ≡ get_or gaps n gap)
-    (is : IsLeft p costs answer runs trees region gaps n (take (length (drop n gaps)) walk) rest (drop n gaps)) where
-  abbrev more : List ℕ
-  more = drop (n + 1) gaps
-
+    (n : ℕ) (walk : List Gap) (left more : List ℕ) (gap : ℕ) (rest : Region) (some : 0 < length walk) (next : left ≡ gap ∷ more)
+    (is : IsLeft p costs answer runs trees region gaps n (take (length left) walk) rest left) where
   first : IsLeft p costs answer runs trees region gaps n (first_gap walk ∷ take (length more) (drop 1 walk)) rest (gap ∷ more)
   first = subst (λ ts. IsLeft p costs answer runs trees region gaps n ts rest (gap ∷ more)) (walk_left (length more) walk some)
-      (subst (λ gs. IsLeft p costs answer runs trees region gaps n (take (length gs) walk) rest gs) (left_from gaps n gap here ∙ ap (λ g. g ∷ more) (sym at)) is)
+      (subst (λ gs. IsLeft p costs answer runs trees region gaps n (take (length gs) walk) rest gs) next is)
 
   -- the first tree of the walk is valid for the region that must have its gap
-  pub go_on : (child next : Region) → child ≡ with_gap rest gap → next ≡ without_gap rest gap → IsValidGap p costs answer runs (first_gap walk) child →
-      IsLeft p costs answer runs trees region gaps (n + 1) (take (length more) (drop 1 walk)) next more
-  go_on child next same e valid = subst (λ r. IsLeft p costs answer runs trees region gaps (n + 1) (take (length more) (drop 1 walk)) r more) (sym e)
+  pub go_on : (child after : Region) → child ≡ with_gap rest gap → after ≡ without_gap rest gap → IsValidGap p costs answer runs (first_gap walk) child →
+      IsLeft p costs answer runs trees region gaps (n + 1) (take (length more) (drop 1 walk)) after more
+  go_on child after same e valid = subst (λ r. IsLeft p costs answer runs trees region gaps (n + 1) (take (length more) (drop 1 walk)) r more) (sym e)
       (next_valid p costs answer runs trees region gaps n (first_gap walk) (take (length more) (drop 1 walk)) rest gap more first (subst (IsValidGap p costs answer runs (first_gap walk)) same valid))
 
   -- or wrong
@@ -73,7 +68,7 @@ module _ (p : Listing) (costs : List ℕ) (answer : SetOfGaps) (runs : List (Lis
       (subst (λ r. IsBelow (λ m others. (m ≡ n) × FirstWrongGap p costs answer runs (first_gap walk) r others) path) same wrong)
 
 -- no gap is left
-pub none_left_of : (p : Listing) (costs : List ℕ) (answer : SetOfGaps) (runs : List (List Label)) (trees : List Gap) (region : Region) (gaps : List ℕ) (n : ℕ) (walk : List Gap) (rest : Region) → length gaps ≤ n
-    → IsLeft p costs answer runs trees region gaps n (take (length (drop n gaps)) walk) rest (drop n gaps) → AreValidIn p costs answer runs trees region gaps
-none_left_of p costs answer runs trees region gaps n walk rest le is =
-    none_left p costs answer runs trees region gaps n rest (subst (λ (gs : List ℕ). IsLeft p costs answer runs trees region gaps n (take (length gs) walk) rest gs) (drop_all n gaps le) is)
+pub none_left_of : (p : Listing) (costs : List ℕ) (answer : SetOfGaps) (runs : List (List Label)) (trees : List Gap) (region : Region) (gaps : List ℕ) (n : ℕ) (walk : List Gap) (left : List ℕ) (rest : Region) → left ≡ []
+    → IsLeft p costs answer runs trees region gaps n (take (length left) walk) rest left → AreValidIn p costs answer runs trees region gaps
+none_left_of p costs answer runs trees region gaps n walk left rest none is =
+    none_left p costs answer runs trees region gaps n rest (subst (λ (gs : List ℕ). IsLeft p costs answer runs trees region gaps n (take (length gs) walk) rest gs) none is)

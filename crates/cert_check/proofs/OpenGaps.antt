@@ -1,28 +1,110 @@
--- The gaps of one set that are not in another, where the gaps of the first are listed.
-use Rattle.std.proofs.Common.{◌≡◌, ◌↔◌, ℕ, ◌<◌, true, false, List, All, Contains, sym, ap, ◌∙◌, subst}
-use Rattle.std.specs.List.{filter}
-use Rattle.std.specs.List.Sorted.{IsStrictlyIncreasing}
+-- The gaps of one set that are not in another: as they are found, how many they are, and which.
+use Rattle.std.proofs.Common.{◌≡◌, ◌↔◌, ℕ, zero, suc, cond, ◌+◌, Bool, true, false, not, ◌&&◌, ◌||◌, List, [], ◌∷◌, length, Contains, refl, sym, ap, ◌∙◌, arith}
+use Rattle.std.specs.List.{filter, range_with_len}
+use Rattle.std.specs.Ordering.{nat_cmp, eq_by_cmp}
 use Rattle.std.specs.FinSet as set
-use Rattle.std.proofs.lemmas.List.Elements.{All-filter}
-use Rattle.std.proofs.lemmas.List.Kept.{IsStrictlyIncreasing-filter}
-use Rattle.gap_sets.specs.Gaps.{SetOfGaps}
-use Rattle.gap_sets.specs.Regions.{is_free}
+use Rattle.std.specs.Cmp.{nat_cmp_total}
+use Rattle.std.proofs.lemmas.Bool.Decides.{nat_tests}
+use Rattle.gap_sets.specs.Gaps.{SetOfGaps, IsGapSet, numbers_of_set}
+use Rattle.gap_sets.specs.Internal.BitsLaws.{any-below}
 use Rattle.gap_sets.specs.declared.gap_set.TheConstants.{MAX_GAPS}
-use Rattle.tree_laws.proofs.Filtered.{of_filter, to_filter, has_any, any_has}
-use Rattle.tree_laws.proofs.OpenGaps.{not_true, not_false}
+use Rattle.tree_laws.proofs.Filtered.{has_any, any_has}
+use Rattle.tree_laws.proofs.OpenGaps.{listed, unlisted}
 
--- where the gaps of a set are listed, those that are free are the ones that are in it and not in the other
-module _ (passed never : SetOfGaps) (listed gaps : List ℕ) (is : gaps ≡ filter (is_free never) listed) where
-  pub free_ascending : IsStrictlyIncreasing listed → IsStrictlyIncreasing gaps
-  free_ascending ascending = subst IsStrictlyIncreasing (sym is) (IsStrictlyIncreasing-filter (is_free never) listed ascending)
+tied : (q g : ℕ) → eq_by_cmp nat_cmp q g ≡ true → q ≡ g
+tied q g e = grind (arith, nat_tests)
 
-  pub free_below : All (λ g. g < MAX_GAPS) listed → All (λ g. g < MAX_GAPS) gaps
-  free_below below = subst (All (λ g. g < MAX_GAPS)) (sym is) (All-filter (is_free never) (λ g. g < MAX_GAPS) listed below)
+-- ---- one gap of those to come, which is in the other set or not
 
-  pub free_exact : set.from_list listed ≡ passed → (g : ℕ) → Contains gaps g ↔ ((set.contains passed g ≡ true) × (set.contains never g ≡ false))
-  free_exact members g = (
-    (λ here. (let both = of_filter (is_free never) listed g (subst (λ xs. Contains xs g) is here) in
-        (ap (λ s. set.contains s g) (sym members) ∙ set.contains-from_list_nat listed g ∙ any_has listed g both.0, not_true _ both.1))),
-    (λ both. subst (λ xs. Contains xs g) (sym is)
-        (to_filter (is_free never) listed g (has_any listed g (sym (set.contains-from_list_nat listed g) ∙ ap (λ s. set.contains s g) members ∙ both.0)) (not_false _ both.1))),
+taken : (a o r n w : Bool) → (a ≡ true → n ≡ false) → (o || ((a || r) && not n)) ≡ w → ((a || o) || (r && not n)) ≡ w
+taken true o r true w free e = absurd (let no : true ≡ false = free refl in cc)
+taken true true r false w free e = e
+taken true false r false w free e = e
+taken false o r n w free e = e
+
+left_out : (a o r n w : Bool) → (a ≡ true → n ≡ true) → (o || ((a || r) && not n)) ≡ w → (o || (r && not n)) ≡ w
+left_out true o r false w held e = absurd (let no : false ≡ true = held refl in cc)
+left_out true o true true w held e = e
+left_out true o false true w held e = e
+left_out false o r n w held e = e
+
+module _ (passed never : SetOfGaps) where
+  -- the gaps so far and those to come, where they are not in the other set, are all
+  abbrev pub AreOpenSoFar : SetOfGaps → List ℕ → Type 0
+  AreOpenSoFar gaps left = (g : ℕ) → (set.contains gaps g || (set.contains (set.from_list {R = nat_cmp} left) g && not (set.contains never g))) ≡ (set.contains passed g && not (set.contains never g))
+
+  pub none_so_far : (left : List ℕ) → set.from_list {R = nat_cmp} left ≡ passed → AreOpenSoFar set.empty left
+  none_so_far left members g = ap (λ b. b || (set.contains (set.from_list {R = nat_cmp} left) g && not (set.contains never g))) (set.contains-empty nat_cmp g) ∙ ap (λ s. set.contains s g && not (set.contains never g)) members
+
+  module _ (gaps : SetOfGaps) (left rest : List ℕ) (gap : ℕ) (next : left ≡ gap ∷ rest) (so : AreOpenSoFar gaps left) where
+    so_at : (g : ℕ) → (set.contains gaps g || ((eq_by_cmp nat_cmp g gap || set.contains (set.from_list {R = nat_cmp} rest) g) && not (set.contains never g))) ≡ (set.contains passed g && not (set.contains never g))
+    so_at g = ap (λ b. set.contains gaps g || (b && not (set.contains never g))) (sym (ap (λ l. set.contains (set.from_list {R = nat_cmp} l) g) next ∙ set.contains-insert nat_cmp_total (set.from_list rest) gap g)) ∙ so g
+
+    pub one_taken : set.contains never gap ≡ false → AreOpenSoFar (set.insert gaps gap) rest
+    one_taken free g =
+        ap (λ b. b || (set.contains (set.from_list {R = nat_cmp} rest) g && not (set.contains never g))) (set.contains-insert nat_cmp_total gaps gap g)
+        ∙ taken (eq_by_cmp nat_cmp g gap) (set.contains gaps g) (set.contains (set.from_list {R = nat_cmp} rest) g) (set.contains never g) _ (λ is. ap (set.contains never) (tied g gap is) ∙ free) (so_at g)
+
+    pub one_left_out : set.contains never gap ≡ true → AreOpenSoFar gaps rest
+    one_left_out held g =
+        left_out (eq_by_cmp nat_cmp g gap) (set.contains gaps g) (set.contains (set.from_list {R = nat_cmp} rest) g) (set.contains never g) _ (λ is. ap (set.contains never) (tied g gap is) ∙ held) (so_at g)
+
+  or_none : (b n : Bool) → (b || (false && not n)) ≡ b
+  or_none true n = refl
+  or_none false n = refl
+
+  pub none_to_come : (gaps : SetOfGaps) (left : List ℕ) → left ≡ [] → AreOpenSoFar gaps left → gaps ≡ set.difference passed never
+  none_to_come gaps left none so = set.same_set nat_cmp_total set.nat_cmp-IsAntisymmetric gaps (set.difference passed never) (λ g.
+      sym (or_none (set.contains gaps g) (set.contains never g))
+      ∙ ap (λ b. set.contains gaps g || (b && not (set.contains never g))) (sym (ap (λ l. set.contains (set.from_list {R = nat_cmp} l) g) none ∙ set.contains-empty nat_cmp g))
+      ∙ so g ∙ sym (set.contains-difference nat_cmp_total passed never g))
+
+-- ---- how many they are
+
+one_more : (t : Bool) (a : ℕ) (rest : List ℕ) → set.contains (set.from_list {R = nat_cmp} rest) a ≡ false → set.len (set.from_list {R = nat_cmp} rest) ≡ length rest
+    → set.len (set.from_list {R = nat_cmp} (cond t (a ∷ rest) rest)) ≡ length (cond t (a ∷ rest) rest)
+one_more true a rest absent len = set.len-insert nat_cmp_total (set.from_list rest) a ∙ rw absent (omega arith)
+one_more false a rest absent len = len
+
+filtered_len : (p : ℕ → Bool) (a n : ℕ) → set.len (set.from_list {R = nat_cmp} (filter p (range_with_len a n))) ≡ length (filter p (range_with_len a n))
+filtered_len p a zero = set.len-empty nat_cmp
+filtered_len p a (suc n) = one_more (p a) a _ (set.contains-from_list_nat _ a ∙ any-below p (a + 1) n a (omega arith)) (filtered_len p (a + 1) n)
+
+alike : (a b : Bool) → (a ≡ true → b ≡ true) → (b ≡ true → a ≡ true) → a ≡ b
+alike true b to back = sym (to refl)
+alike false true to back = back refl
+alike false false to back = refl
+
+-- a set is that of the gaps that it lists
+of_listed : (s : SetOfGaps) → IsGapSet s → set.from_list (numbers_of_set s) ≡ s
+of_listed s small = set.same_set nat_cmp_total set.nat_cmp-IsAntisymmetric (set.from_list (numbers_of_set s)) s (λ g.
+    set.contains-from_list_nat (numbers_of_set s) g
+    ∙ alike _ (set.contains s g) (λ any. unlisted s g (has_any (numbers_of_set s) g any)) (λ there. any_has (numbers_of_set s) g (listed s g (small g there) there)))
+
+-- and it has as many gaps as it lists
+pub as_many_listed : (s : SetOfGaps) → IsGapSet s → set.len s ≡ length (numbers_of_set s)
+unfolding numbers_of_set
+as_many_listed s small = ap (λ (t : SetOfGaps). set.len t) (sym (of_listed s small)) ∙ filtered_len (set.contains s) 0 MAX_GAPS
+
+-- ---- which they are
+
+both : (a b : Bool) → (a && not b) ≡ true → (a ≡ true) × (b ≡ false)
+both true true e = absurd cc
+both true false e = (refl, refl)
+both false b e = absurd cc
+
+only : (a b : Bool) → a ≡ true → b ≡ false → (a && not b) ≡ true
+only true true a b = absurd cc
+only true false a b = refl
+only false b a e = absurd cc
+
+module _ (passed never gaps : SetOfGaps) (is : gaps ≡ set.difference passed never) (small : IsGapSet gaps) where
+  contains_open : (g : ℕ) → set.contains gaps g ≡ (set.contains passed g && not (set.contains never g))
+  contains_open g = ap (λ s. set.contains s g) is ∙ set.contains-difference nat_cmp_total passed never g
+
+  -- the gaps of the first set that are not in the second
+  pub listed_exact : (g : ℕ) → Contains (numbers_of_set gaps) g ↔ ((set.contains passed g ≡ true) × (set.contains never g ≡ false))
+  listed_exact g = (
+    (λ here. both _ _ (sym (contains_open g) ∙ unlisted gaps g here)),
+    (λ (there, free). (let has : set.contains gaps g ≡ true = contains_open g ∙ only _ _ there free in listed gaps g (small g has) has)),
   )

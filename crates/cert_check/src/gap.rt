@@ -1,9 +1,8 @@
 //! Gap trees, judged node by node.
-ghost use Rattle.std.specs.Prelude.{◌≡◌, ◌↔◌, ℕ, List, ◌<◌, ◌≤◌, true, false, OnOk, IfOk, IfErr, All, Contains, length, take, drop};
-ghost use Rattle.std.specs.List.Sorted.{IsStrictlyIncreasing};
+ghost use Rattle.std.specs.Prelude.{◌≡◌, ℕ, List, ◌<◌, ◌≤◌, OnOk, IfOk, IfErr, length, take, drop};
 ghost use Rattle.std.specs.FinSet as set;
+ghost use Rattle.gap_sets.specs.Gaps.{numbers_of_set};
 ghost use Rattle.gap_sets.specs.Order.{Better};
-ghost use Rattle.gap_sets.specs.declared.gap_set.TheConstants.{MAX_GAPS};
 ghost use Rattle.tso_program.specs.declared.listing.Listing.{Listing};
 ghost use Rattle.tso_machine.specs.declared.label.Label.{Label};
 ghost use Rattle.cert_forest.specs.Trees.{Split, gap_trees_of};
@@ -18,7 +17,7 @@ use crate::runs::passed_by;
 use cert_forest::{GapNode, GapTree, GapWalk};
 use cover_judge::TreeFault;
 use gap_sets::{Costs, GapSet, Region};
-use std::alloc::{AllocError, Global};
+use std::alloc::Global;
 
 /// What gap trees are judged by: the costs, the set that is to be the answer, and the gaps that each foreign
 /// run passes.
@@ -83,8 +82,8 @@ fn judge_split(
     ensures wrong { (p : Listing) (runs : List (List Label)) → HavePassed p runs bounds.now.passed.now
         → IfErr result (IfWrong (FirstWrongGap p bounds.now.costs.now bounds.now.answer runs (Split run (gap_trees_of (take count walk.old))) region.now)) }
 {
-    let gaps = split_gaps(alloc, run, region, count as usize, bounds.passed)?;
-    judge_gaps(alloc, walk, region, &gaps, bounds)
+    let gaps = split_gaps(alloc, run, region, count, bounds.passed)?;
+    judge_gaps(alloc, walk, region, gaps, bounds)
 }
 
 /// Judges the children of a split in order, which come first in the walk: each must have its gap, and never those before it.
@@ -93,22 +92,20 @@ fn judge_gaps(
     alloc: Global,
     walk: &mut GapWalk<'_>,
     region: &Region,
-    gaps: &[u8],
+    gaps: GapSet,
     bounds: &Bounds,
 ) -> Result<(), TreeFault>
-    requires below { All (λ gap. gap < MAX_GAPS) gaps.now }
-    requires as_many { length gaps.now ≤ length walk.old }
-    ensures after { OnOk result (walk.new ≡ drop (length gaps.now) walk.old) }
+    requires { length (numbers_of_set gaps) ≤ length walk.old }
+    ensures after { OnOk result (walk.new ≡ drop (length (numbers_of_set gaps)) walk.old) }
     ensures valid { (p : Listing) (runs : List (List Label)) → HavePassed p runs bounds.now.passed.now
-        → OnOk result (AreValidIn p bounds.now.costs.now bounds.now.answer runs (take (length gaps.now) walk.old) region.now gaps.now) }
+        → OnOk result (AreValidIn p bounds.now.costs.now bounds.now.answer runs (take (length (numbers_of_set gaps)) walk.old) region.now (numbers_of_set gaps)) }
     ensures wrong { (p : Listing) (runs : List (List Label)) → HavePassed p runs bounds.now.passed.now
-        → IfErr result (IfWrong (IsBelow (IsWrongChildIn p bounds.now.costs.now bounds.now.answer runs (take (length gaps.now) walk.old) region.now gaps.now))) }
+        → IfErr result (IfWrong (IsBelow (IsWrongChildIn p bounds.now.costs.now bounds.now.answer runs (take (length (numbers_of_set gaps)) walk.old) region.now (numbers_of_set gaps)))) }
 {
     let mut rest = *region;
     for (number, gap) in gaps.iter().enumerate() {
-        let child = rest.with(*gap);
-        judge_gap_child(alloc, walk, &child, number, bounds)?;
-        rest = rest.without(*gap);
+        judge_gap_child(alloc, walk, &rest.with(gap), number, bounds)?;
+        rest = rest.without(gap);
     }
     Ok(())
 }
@@ -154,13 +151,12 @@ fn split_gaps(
     alloc: Global,
     run: u64,
     region: &Region,
-    count: usize,
+    count: u32,
     passed: &[GapSet],
-) -> Result<Vec<u8>, TreeFault>
+) -> Result<GapSet, TreeFault>
     ensures split { (p : Listing) (labels : List (List Label)) → HavePassed p labels passed.now
-        → IfOk result (λ gaps. IsSplitBy p labels region.now run gaps.items) }
-    ensures as_many { IfOk result (λ gaps. count ≡ length gaps.items) }
-    ensures below { IfOk result (λ gaps. All (λ gap. gap < MAX_GAPS) gaps.items) }
+        → IfOk result (λ gaps. IsSplitBy p labels region.now run (numbers_of_set gaps)) }
+    ensures as_many { IfOk result (λ gaps. count ≡ length (numbers_of_set gaps)) }
     ensures wrong { (p : Listing) (labels : List (List Label)) → HavePassed p labels passed.now
         → IfErr result (IfWrong (IsAtRoot (HasNoSplit p labels region.now run count))) }
 {
@@ -170,24 +166,22 @@ fn split_gaps(
     if passed.meets(&region.must) {
         return Err(TreeFault::at_root(alloc));
     }
-    let gaps = open_gaps(alloc, passed, region.never)?;
+    let gaps = open_gaps(passed, region.never);
     if gaps.len() != count {
         return Err(TreeFault::at_root(alloc));
     }
     Ok(gaps)
 }
 
-/// The gaps of the first set that aren't in the second, ascending.
-fn open_gaps(alloc: Global, passed: GapSet, never: GapSet) -> Result<Vec<u8>, AllocError>
-    ensures ascending { IfOk result (λ gaps. IsStrictlyIncreasing gaps.items) }
-    ensures exact { IfOk result (λ gaps. (gap : ℕ) → Contains gaps.items gap ↔ ((set.contains passed gap ≡ true) × (set.contains never gap ≡ false))) }
-    ensures below { IfOk result (λ gaps. All (λ gap. gap < MAX_GAPS) gaps.items) }
+/// The gaps of the first set that aren't in the second.
+fn open_gaps(passed: GapSet, never: GapSet) -> GapSet
+    ensures { result ≡ set.difference passed never }
 {
-    let mut gaps = Vec::new(alloc);
+    let mut gaps = GapSet::empty();
     for gap in passed.iter() {
         if !never.has(gap) {
-            gaps.push(gap)?;
+            gaps = gaps.with(gap);
         }
     }
-    Ok(gaps)
+    gaps
 }

@@ -1,12 +1,14 @@
-use Rattle.std.proofs.Common.{◌≡◌, ◌∙◌, ℕ, ◌+◌, ◌<◌, List, length, take, drop, get_or, sym, ap, subst, arith}
+use Rattle.std.proofs.Common.{◌≡◌, ◌∙◌, ℕ, suc, ◌+◌, ◌<◌, ◌≤◌, List, ◌∷◌, All, length, get_or, take, drop, refl, sym, ap, subst, arith}
 use Rattle.std.specs.Prelude.{IfErr, OnOk}
 use Rattle.std.proofs.lemmas.List.{length-take-le}
 use Rattle.cert_forest.specs.Trees.{Gap, Split, Bound, gap_trees_of}
 use Rattle.cert_forest.specs.GapNodes.{first_gap, spell_gaps}
 use Rattle.cert_forest.proofs.GapNodeLaws.{next_gap_is_shorter, split_next, bound_next, gaps_no_longer}
-use Rattle.exec_axioms.proofs.Lookups.{same_default}
+use Rattle.gap_sets.specs.Gaps.{numbers_of_set}
 use Rattle.gap_sets.specs.Order.{Better}
+use Rattle.gap_sets.specs.declared.gap_set.TheConstants.{MAX_GAPS}
 use Rattle.tree_laws.specs.GapTrees.{IsValidGap}
+use Rattle.tree_laws.proofs.OpenGaps.{few_gaps}
 use Rattle.cover_judge.specs.Judged.{IfWrong, IsAtRoot, IsBelow}
 use Rattle.cover_judge.proofs.Answered.{err_up, if_err, on_ok}
 use Rattle.cover_judge.proofs.ChoicesJudged.{if_wrong}
@@ -14,7 +16,7 @@ use Rattle.cover_judge.proofs.CoverSteps.{left_some, walked_on}
 use Rattle.cert_check.specs.GapDefects.{HasNoSplit, FirstWrongGap}
 use Rattle.cert_check.specs.Internal.Children.{AreValidIn, IsWrongChildIn}
 use Rattle.cert_check.proofs.GapNodes.{bound_here, split_here, split_below, split_valid}
-use Rattle.cert_check.proofs.GapSteps.{IsLeft, go_on, stop_here, none_left_of}
+use Rattle.cert_check.proofs.GapSteps.{IsLeft, all_left, go_on, stop_here, none_left_of}
 use Rattle.cert_check.proofs.gap.+judge_gap.Goals as goal
 
 pub judge_gap-judge_split-requires : goal.judge_gap-judge_split-requires
@@ -63,10 +65,8 @@ judge_gap-returns-in-Bound-clause-wrong t c p runs each =
 
 pub judge_split-judge_gaps-requires : goal.judge_split-judge_gaps-requires
 judge_split-judge_gaps-requires t c =
-    let gaps = c.in_ok-gaps.gaps.items in
-    let many : c.args.count ≡ length gaps = c.in_ok-gaps.ensures.as_many in
-    let fits : length gaps ≤ length c.args.walk.now = subst (λ (n : ℕ). n ≤ length c.args.walk.now) many c.requires in
-    rw c.deref.ensures.value (omega arith, (c.in_ok-gaps.ensures.below, fits))
+    let many : c.args.count ≡ length (numbers_of_set c.in_ok-gaps.gaps) = c.in_ok-gaps.ensures.as_many in
+    (omega arith, subst (λ (n : ℕ). n ≤ length c.args.walk.now) many c.requires)
 
 pub judge_split-returns-in_err-gaps-clause-wrong : goal.judge_split-returns-in_err-gaps-clause-wrong
 judge_split-returns-in_err-gaps-clause-wrong t c p runs each =
@@ -75,106 +75,139 @@ judge_split-returns-in_err-gaps-clause-wrong t c p runs each =
     let bounds = c.args.bounds.now in
     let region = c.args.region.now in
     let fault = c.in_err-gaps.field-0.0 in
-    let At = FirstWrongGap p bounds.costs.now bounds.answer runs (Split c.args.run' (gap_trees_of kids)) region in
+    let At = FirstWrongGap p bounds.costs.now bounds.answer runs (Split c.args.run (gap_trees_of kids)) region in
     err_up c.from_residual.result fault (IfWrong At) c.from_residual.ensures.1
-    (if_wrong (IsAtRoot (HasNoSplit p runs region c.args.run' (length kids))) At fault
-    (split_here p bounds.costs.now bounds.answer runs region c.args.run' kids)
-    (subst (λ n. IfWrong (IsAtRoot (HasNoSplit p runs region c.args.run' n)) fault) len (c.in_err-gaps.ensures.wrong p runs each)))
+    (if_wrong (IsAtRoot (HasNoSplit p runs region c.args.run (length kids))) At fault
+    (split_here p bounds.costs.now bounds.answer runs region c.args.run kids)
+    (subst (λ n. IfWrong (IsAtRoot (HasNoSplit p runs region c.args.run n)) fault) len (c.in_err-gaps.ensures.wrong p runs each)))
 
 pub judge_split-returns-clause-after : goal.judge_split-returns-clause-after
 judge_split-returns-clause-after t c =
-    let gaps = c.in_ok-gaps.gaps.items in
-    let many : c.args.count ≡ length gaps = c.in_ok-gaps.ensures.as_many in
-    on_ok c.judge_gaps.result (c.judge_gaps.new.walk ≡ drop (length gaps) c.args.walk.now) (c.judge_gaps.new.walk ≡ drop c.args.count c.args.walk.now)
-    (λ e. e ∙ ap (λ (n : ℕ). drop n c.args.walk.now) (sym many)) (rw c.deref.ensures.value at c.judge_gaps.ensures.after)
+    let walk = c.args.walk.now in
+    let many : c.args.count ≡ length (numbers_of_set c.in_ok-gaps.gaps) = c.in_ok-gaps.ensures.as_many in
+    subst (λ (n : ℕ). OnOk c.judge_gaps.result (c.judge_gaps.new.walk ≡ drop n walk)) (sym many) c.judge_gaps.ensures.after
 
 pub judge_split-returns-clause-valid : goal.judge_split-returns-clause-valid
 judge_split-returns-clause-valid t c p runs each =
     let walk = c.args.walk.now in
     let bounds = c.args.bounds.now in
     let region = c.args.region.now in
-    let gaps = c.in_ok-gaps.gaps.items in
+    let gaps = numbers_of_set c.in_ok-gaps.gaps in
     let kids = take c.args.count walk in
     let many : c.args.count ≡ length gaps = c.in_ok-gaps.ensures.as_many in
-    on_ok c.judge_gaps.result (AreValidIn p bounds.costs.now bounds.answer runs kids region gaps) (IsValidGap p bounds.costs.now bounds.answer runs (Split c.args.run' (gap_trees_of kids)) region)
-    (split_valid p bounds.costs.now bounds.answer runs region c.args.run' kids gaps (c.in_ok-gaps.ensures.split p runs each))
-    (subst (λ (n : ℕ). OnOk c.judge_gaps.result (AreValidIn p bounds.costs.now bounds.answer runs (take n walk) region gaps)) (sym many) (rw c.deref.ensures.value at (c.judge_gaps.ensures.valid p runs each)))
+    on_ok c.judge_gaps.result (AreValidIn p bounds.costs.now bounds.answer runs kids region gaps) (IsValidGap p bounds.costs.now bounds.answer runs (Split c.args.run (gap_trees_of kids)) region)
+    (split_valid p bounds.costs.now bounds.answer runs region c.args.run kids gaps (c.in_ok-gaps.ensures.split p runs each))
+    (subst (λ (n : ℕ). OnOk c.judge_gaps.result (AreValidIn p bounds.costs.now bounds.answer runs (take n walk) region gaps)) (sym many) (c.judge_gaps.ensures.valid p runs each))
 
 pub judge_split-returns-clause-wrong : goal.judge_split-returns-clause-wrong
 judge_split-returns-clause-wrong t c p runs each =
     let walk = c.args.walk.now in
     let bounds = c.args.bounds.now in
     let region = c.args.region.now in
-    let gaps = c.in_ok-gaps.gaps.items in
+    let gaps = numbers_of_set c.in_ok-gaps.gaps in
     let kids = take c.args.count walk in
     let as_many : c.args.count ≡ length gaps = c.in_ok-gaps.ensures.as_many in
     let many : length kids ≡ length gaps = length-take-le c.args.count walk c.requires ∙ as_many in
     let P = IsBelow (IsWrongChildIn p bounds.costs.now bounds.answer runs kids region gaps) in
-    let At = FirstWrongGap p bounds.costs.now bounds.answer runs (Split c.args.run' (gap_trees_of kids)) region in
+    let At = FirstWrongGap p bounds.costs.now bounds.answer runs (Split c.args.run (gap_trees_of kids)) region in
     if_err c.judge_gaps.result (IfWrong P) (IfWrong At)
-    (λ fault. if_wrong P At fault (split_below p bounds.costs.now bounds.answer runs region c.args.run' kids gaps (c.in_ok-gaps.ensures.split p runs each) many))
-    (subst (λ (n : ℕ). IfErr c.judge_gaps.result (IfWrong (IsBelow (IsWrongChildIn p bounds.costs.now bounds.answer runs (take n walk) region gaps)))) (sym as_many) (rw c.deref.ensures.value at (c.judge_gaps.ensures.wrong p runs each)))
+    (λ fault. if_wrong P At fault (split_below p bounds.costs.now bounds.answer runs region c.args.run kids gaps (c.in_ok-gaps.ensures.split p runs each) many))
+    (subst (λ (n : ℕ). IfErr c.judge_gaps.result (IfWrong (IsBelow (IsWrongChildIn p bounds.costs.now bounds.answer runs (take n walk) region gaps)))) (sym as_many) (c.judge_gaps.ensures.wrong p runs each))
+
+-- the others are low too
+later_low : (left more : List ℕ) (gap : ℕ) → left ≡ gap ∷ more → All (λ g. g < MAX_GAPS) left → All (λ g. g < MAX_GAPS) more
+later_low left more gap next low k d h = subst (λ (gs : List ℕ). (j e : ℕ) → j < length gs → get_or gs j e < MAX_GAPS) next low (suc k) d (omega arith)
+
+-- a gap that comes next is one of those that are left
+is_left : (number whole gap : ℕ) (left more : List ℕ) → number + length left ≡ whole → left ≡ gap ∷ more → number < whole
+is_left number whole gap left more counted next = omega (arith, ap length next)
 
 pub judge_gaps-judge_gap_child-requires : goal.judge_gaps-judge_gap_child-requires
 judge_gaps-judge_gap_child-requires t c =
     let number = c.loop-number.number in
-    let gaps = c.args.gaps.now in
     let walk = c.loop-number.walk in
     let inv = c.loop-number.invariant in
+    let gaps = numbers_of_set c.args.gaps in
     let same : length (spell_gaps walk) ≡ length (spell_gaps (drop number c.args.walk.now)) = ap (λ (ws : List Gap). length (spell_gaps ws)) inv.walked in (
       omega (arith, gaps_no_longer number c.args.walk.now, same),
-      left_some number (length gaps) c.args.walk.now walk c.loop-number-test.true c.requires.as_many inv.walked,
+      left_some number (length gaps) c.args.walk.now walk (is_left number (length gaps) c.in-Some.gap c.loop-number.gap-iterator c.next.new.self inv.counted c.in-Some.ensures.steps) c.requires inv.walked,
     )
+
+pub judge_gaps-loop-number-init : goal.judge_gaps-loop-number-init
+judge_gaps-loop-number-init t c =
+    let bounds = c.args.bounds.now in
+    let region = c.args.region.now in
+    let gaps = numbers_of_set c.args.gaps in
+    let all : c.iter-gap-items.result ≡ gaps = c.iter-gap-items.ensures.value in
+    let many : length c.iter-gap-items.result ≡ length gaps = ap (λ (gs : List ℕ). length gs) all in
+    record {
+      walked = refl;
+      counted = omega arith;
+      few = omega (arith, few_gaps c.args.gaps);
+      low = c.iter-gap-items.ensures.below;
+      left = λ p runs each. (let trees = take (length gaps) c.args.walk.now in
+          subst (λ (gs : List ℕ). IsLeft p bounds.costs.now bounds.answer runs trees region gaps 0 (take (length gs) c.args.walk.now) region gs) (sym all)
+          (all_left p bounds.costs.now bounds.answer runs trees region gaps));
+    }
 
 pub judge_gaps-loop-number-preserved : goal.judge_gaps-loop-number-preserved
 judge_gaps-loop-number-preserved t c =
     let bounds = c.args.bounds.now in
-    let gaps = c.args.gaps.now in
+    let region = c.args.region.now in
+    let gaps = numbers_of_set c.args.gaps in
     let all = c.args.walk.now in
     let walk = c.loop-number.walk in
     let number = c.loop-number.number in
-    let gap = get_or gaps number 0 in
+    let left = c.loop-number.gap-iterator in
+    let more = c.next.new.self in
+    let gap = c.in-Some.gap in
     let inv = c.loop-number.invariant in
-    let here : number < length gaps = c.loop-number-test.true in
-    let at : gap ≡ get_or gaps number gap = same_default gaps number 0 gap here in
-    let some : 0 < length walk = left_some number (length gaps) all walk here c.requires.as_many inv.walked in
-    let more = drop (number + 1) gaps in
+    let next : left ≡ gap ∷ more = c.in-Some.ensures.steps in
+    let one : length left ≡ suc (length more) = ap (λ (gs : List ℕ). length gs) next in
+    let some : 0 < length walk = left_some number (length gaps) all walk (is_left number (length gaps) gap left more inv.counted next) c.requires inv.walked in
     record {
       walked = c.in_ok-judge_gap_child.ensures.after ∙ walked_on number all walk inv.walked;
+      counted = omega arith;
+      few = omega arith;
+      low = later_low left more gap next inv.low;
       left = λ p runs each.
-          (subst (λ (ws : List Gap). IsLeft p bounds.costs.now bounds.answer runs (take (length gaps) all) c.args.region.now gaps (number + 1) (take (length more) ws) c.without-rest.result more) (sym c.in_ok-judge_gap_child.ensures.after)
-          (go_on p bounds.costs.now bounds.answer runs (take (length gaps) all) c.args.region.now gaps number walk gap c.loop-number.rest some here at (inv.left p runs each)
-          c.with-child.result c.without-rest.result c.with-child.ensures c.without-rest.ensures (c.in_ok-judge_gap_child.ensures.valid p runs each)));
+          (subst (λ (ws : List Gap). IsLeft p bounds.costs.now bounds.answer runs (take (length gaps) all) region gaps (number + 1) (take (length more) ws) c.without-rest.result more) (sym c.in_ok-judge_gap_child.ensures.after)
+          (go_on p bounds.costs.now bounds.answer runs (take (length gaps) all) region gaps number walk left more gap c.loop-number.rest some next (inv.left p runs each)
+          c.with.result c.without-rest.result c.with.ensures c.without-rest.ensures (c.in_ok-judge_gap_child.ensures.valid p runs each)));
     }
 
 pub judge_gaps-returns-in_err-judge_gap_child-clause-wrong : goal.judge_gaps-returns-in_err-judge_gap_child-clause-wrong
 judge_gaps-returns-in_err-judge_gap_child-clause-wrong t c p runs each =
     let bounds = c.args.bounds.now in
     let region = c.args.region.now in
-    let gaps = c.args.gaps.now in
+    let gaps = numbers_of_set c.args.gaps in
     let all = c.args.walk.now in
     let trees = take (length gaps) all in
     let walk = c.loop-number.walk in
     let number = c.loop-number.number in
-    let gap = get_or gaps number 0 in
+    let left = c.loop-number.gap-iterator in
+    let more = c.next.new.self in
+    let gap = c.in-Some.gap in
     let inv = c.loop-number.invariant in
-    let here : number < length gaps = c.loop-number-test.true in
-    let at : gap ≡ get_or gaps number gap = same_default gaps number 0 gap here in
-    let some : 0 < length walk = left_some number (length gaps) all walk here c.requires.as_many inv.walked in
+    let next : left ≡ gap ∷ more = c.in-Some.ensures.steps in
+    let some : 0 < length walk = left_some number (length gaps) all walk (is_left number (length gaps) gap left more inv.counted next) c.requires inv.walked in
     let below = IsBelow (IsWrongChildIn p bounds.costs.now bounds.answer runs trees region gaps) in
     let fault = c.in_err-judge_gap_child.field-0.0 in
     err_up c.from_residual.result fault (IfWrong below) c.from_residual.ensures.1
-    (if_wrong (IsBelow (λ m others. (m ≡ number) × FirstWrongGap p bounds.costs.now bounds.answer runs (first_gap walk) c.with-child.result others)) below fault
-    (stop_here p bounds.costs.now bounds.answer runs trees region gaps number walk gap c.loop-number.rest some here at (inv.left p runs each) c.with-child.result c.with-child.ensures)
+    (if_wrong (IsBelow (λ m others. (m ≡ number) × FirstWrongGap p bounds.costs.now bounds.answer runs (first_gap walk) c.with.result others)) below fault
+    (stop_here p bounds.costs.now bounds.answer runs trees region gaps number walk left more gap c.loop-number.rest some next (inv.left p runs each) c.with.result c.with.ensures)
     (c.in_err-judge_gap_child.ensures.wrong p runs each))
 
 pub judge_gaps-returns-clause-after : goal.judge_gaps-returns-clause-after
 judge_gaps-returns-clause-after t c =
-    let all : c.loop-number.number ≡ length c.args.gaps.now = omega (arith, c.loop-number-test.false) in
-    c.loop-number.invariant.walked ∙ ap (λ (n : ℕ). drop n c.args.walk.now) all
+    let inv = c.loop-number.invariant in
+    let none : length c.loop-number.gap-iterator ≡ 0 = ap (λ (gs : List ℕ). length gs) c.in-None.ensures.steps.0 in
+    let all : c.loop-number.number ≡ length (numbers_of_set c.args.gaps) = omega arith in
+    inv.walked ∙ ap (λ (n : ℕ). drop n c.args.walk.now) all
 
 pub judge_gaps-returns-clause-valid : goal.judge_gaps-returns-clause-valid
 judge_gaps-returns-clause-valid t c p runs each =
     let bounds = c.args.bounds.now in
-    none_left_of p bounds.costs.now bounds.answer runs (take (length c.args.gaps.now) c.args.walk.now) c.args.region.now c.args.gaps.now c.loop-number.number c.loop-number.walk c.loop-number.rest
-    c.loop-number-test.false (c.loop-number.invariant.left p runs each)
+    let gaps = numbers_of_set c.args.gaps in
+    none_left_of p bounds.costs.now bounds.answer runs (take (length gaps) c.args.walk.now) c.args.region.now gaps c.loop-number.number c.loop-number.walk c.loop-number.gap-iterator c.loop-number.rest
+    c.in-None.ensures.steps.0 (c.loop-number.invariant.left p runs each)

@@ -1,4 +1,6 @@
-use Rattle.std.proofs.Common.{◌≡◌, ◌+◌, ◌*◌, List, length, take, drop}
+use Rattle.std.proofs.Common.{◌≡◌, ◌+◌, ◌*◌, ◌≤◌, ◌<◌, List, All, length, take, drop}
+use Rattle.gap_sets.specs.Gaps.{numbers_of_set}
+use Rattle.gap_sets.specs.declared.gap_set.TheConstants.{MAX_GAPS}
 use Rattle.tso_program.specs.declared.listing.Listing.{Listing}
 use Rattle.tso_machine.specs.declared.label.Label.{Label}
 use Rattle.cert_forest.specs.GapNodes.{spell_gaps}
@@ -23,6 +25,9 @@ decreases-judge_split l = 4 * length (spell_gaps l.walk.now) + 3
 abbrev pub invariant-judge_gaps-loop-number : goal.invariant-judge_gaps-loop-number
 invariant-judge_gaps-loop-number l = record {
   walked : l.walk ≡ drop l.number l.fn.walk;
+  counted : l.number + length l.gap-iterator ≡ length (numbers_of_set l.fn.gaps);
+  few : l.number + length l.gap-iterator ≤ MAX_GAPS;
+  low : All (λ gap. gap < MAX_GAPS) l.gap-iterator;
   left : (p : Listing) (runs : List (List Label)) → HavePassed p runs l.bounds.passed.now →
-      IsLeft p l.bounds.costs.now l.bounds.answer runs (take (length l.gaps) l.fn.walk) l.region l.gaps l.number (take (length (drop l.number l.gaps)) l.walk) l.rest (drop l.number l.gaps);
+      IsLeft p l.bounds.costs.now l.bounds.answer runs (take (length (numbers_of_set l.fn.gaps)) l.fn.walk) l.region (numbers_of_set l.fn.gaps) l.number (take (length l.gap-iterator) l.walk) l.rest l.gap-iterator;
 }

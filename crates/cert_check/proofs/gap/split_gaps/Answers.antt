@@ -1,6 +1,9 @@
-use Rattle.std.proofs.Common.{◌≡◌, true, false, sym, ◌∙◌, arith}
+use Rattle.std.proofs.Common.{◌≡◌, true, false, sym, ◌∙◌}
+use Rattle.gap_sets.specs.Gaps.{numbers_of_set}
+use Rattle.tree_laws.proofs.OpenGaps.{rising}
 use Rattle.cert_check.specs.GapDefects.{HasNoSplit}
 use Rattle.cover_judge.proofs.ChoicesJudged.{here}
+use Rattle.cert_check.proofs.OpenGaps.{as_many_listed, listed_exact}
 use Rattle.cert_check.proofs.GapNodes.{not_there, must_pass, splits, not_as_many}
 use Rattle.cert_check.proofs.gap.split_gaps.Goals as goal
 
@@ -19,13 +22,22 @@ returns-then-meets-clause-wrong c p labels each =
 pub returns-clause-split : goal.returns-clause-split
 returns-clause-split c p labels each =
     let these = c.in-Some.passed in
-    splits p labels c.args.passed.now c.args.region.now c.args.run each these (sym c.in-Some.ensures) c.in_ok-gaps.gaps.items
-    (λ gap passed must. (let yes = c.meets.ensures.1 (gap, passed, must) in let no : true ≡ false = sym yes ∙ c.if-meets.false in cc)) c.in_ok-gaps.ensures.ascending c.in_ok-gaps.ensures.exact
+    let never = c.args.region.now.never in
+    let gaps = c.open_gaps-gaps.result in
+    splits p labels c.args.passed.now c.args.region.now c.args.run each these (sym c.in-Some.ensures) (numbers_of_set gaps)
+    (λ gap passed must. (let yes = c.meets.ensures.1 (gap, passed, must) in let no : true ≡ false = sym yes ∙ c.if-meets.false in cc)) (rising gaps)
+    (listed_exact these never gaps c.open_gaps-gaps.ensures c.len.ensures.gaps)
+
+pub returns-clause-as_many : goal.returns-clause-as_many
+returns-clause-as_many c = sym c.if-len-count.false ∙ c.len.ensures.value ∙ as_many_listed c.open_gaps-gaps.result c.len.ensures.gaps
 
 pub returns-then-len-count-clause-wrong : goal.returns-then-len-count-clause-wrong
 returns-then-len-count-clause-wrong c p labels each =
     let these = c.in-Some.passed in
-    let split = splits p labels c.args.passed.now c.args.region.now c.args.run each these (sym c.in-Some.ensures) c.in_ok-gaps.gaps.items
-    (λ gap passed must. (let yes = c.meets.ensures.1 (gap, passed, must) in let no : true ≡ false = sym yes ∙ c.if-meets.false in cc)) c.in_ok-gaps.ensures.ascending c.in_ok-gaps.ensures.exact in
+    let never = c.args.region.now.never in
+    let gaps = c.open_gaps-gaps.result in
+    let split = splits p labels c.args.passed.now c.args.region.now c.args.run each these (sym c.in-Some.ensures) (numbers_of_set gaps)
+    (λ gap passed must. (let yes = c.meets.ensures.1 (gap, passed, must) in let no : true ≡ false = sym yes ∙ c.if-meets.false in cc)) (rising gaps)
+    (listed_exact these never gaps c.open_gaps-gaps.ensures c.len.ensures.gaps) in
     here (HasNoSplit p labels c.args.region.now c.args.run c.args.count) c.at_root-then-len-count.result c.at_root-then-len-count.ensures
-    (not_as_many p labels c.args.region.now c.args.run c.args.count c.in_ok-gaps.gaps.items split (λ e. c.if-len-count.true (let long = c.in_ok-gaps.gaps.ok.0 in let len = c.len.ensures in omega arith)))
+    (not_as_many p labels c.args.region.now c.args.run c.args.count (numbers_of_set gaps) split (λ e. c.if-len-count.true (c.len.ensures.value ∙ as_many_listed gaps c.len.ensures.gaps ∙ e)))

@@ -10,11 +10,11 @@ use Rattle.fence_place.proofs.Recording.{split_event, other_event, kids_there, s
 use Rattle.fence_place.proofs.RecordPushed.{bound_pushed, split_pushed, none_pushed, one_pushed}
 use Rattle.fence_place.proofs.certificates.+push_tree.Goals as goal
 
-pub push_tree-returns-in_ok-push-in_default-event : goal.push_tree-returns-in_ok-push-in_default-event
-push_tree-returns-in_ok-push-in_default-event t c =
+pub push_tree-returns-in_default-event : goal.push_tree-returns-in_default-event
+push_tree-returns-in_default-event t c =
     let (e, there, is) = c.in-Some.ensures in
     let closed : is_closed e ≡ true = other_event e.status c.in-Some.settled.event c.in_default-event.not-Split is.is_event in
-    bound_pushed c.args.finished.now.entries c.args.numbers.now c.args.number e c.args.nodes.now.items c.push.new.self.items there closed c.in_ok-push-in_default-event.ensures.items
+    bound_pushed c.args.finished.now.entries c.args.numbers.now c.args.number e c.args.nodes.now.items c.push.new.self.items there closed c.in_ok-push.ensures.items
 
 pub push_tree-unreachable-requires-in_default-first_child : goal.push_tree-unreachable-requires-in_default-first_child
 push_tree-unreachable-requires-in_default-first_child t c =
@@ -53,10 +53,10 @@ push_tree-returns t c =
     ∙ (λ i. length (open_gaps (same_run i).passed (same_node i).never)) in
     let run = get_or c.args.numbers.now number 0 in
     on_ok c.push_trees.result _ _ (split_pushed o.entries c.args.numbers.now number run c.count_open-count.result e f first c.args.nodes.now.items _ c.push_trees.new.nodes.items there split
-    (slice_get-get_or c.args.numbers.now number 0 c.requires.there) count c.in_ok-push.ensures.items) c.push_trees.ensures
+    (slice_get-get_or c.args.numbers.now number 0 c.requires.there) count c.in_ok-push-2.ensures.items) c.push_trees.ensures
 
-pub push_trees-loop-i-entry : goal.push_trees-loop-i-entry
-push_trees-loop-i-entry t c = none_pushed c.args.finished.now.entries c.args.numbers.now c.args.first c.args.nodes.now.items
+pub push_trees-loop-i-init : goal.push_trees-loop-i-init
+push_trees-loop-i-init t c = none_pushed c.args.finished.now.entries c.args.numbers.now c.args.first c.args.nodes.now.items
 
 pub push_trees-loop-i-preserved : goal.push_trees-loop-i-preserved
 push_trees-loop-i-preserved t c =
