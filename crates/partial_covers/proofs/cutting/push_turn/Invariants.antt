@@ -1,0 +1,9 @@
+use Rattle.std.specs.Prelude.{All}
+use Rattle.exec_axioms.specs.ProgramSketches.{ProgramSketch}
+use Rattle.branching.specs.declared.plan.LastThread.{LastThread}
+use Rattle.partial_covers.specs.Parts.{IsPartOf}
+use Rattle.partial_covers.proofs.cutting.push_turn.Given as goal
+
+-- those so far are parts of each search of which these and the old ones are
+abbrev pub invariant-loop-part : goal.invariant-loop-part
+invariant-loop-part l = (root : ProgramSketch) (last : LastThread) → All (IsPartOf root last) l.parts → All (IsPartOf root last) l.fn.dealt.items → All (IsPartOf root last) l.dealt.items
