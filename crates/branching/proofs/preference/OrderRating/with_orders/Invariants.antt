@@ -4,11 +4,11 @@ use Rattle.branching.specs.declared.preference.RatedChoice.{RatedChoice}
 use Rattle.branching.specs.declared.reads_writes.WrittenValue.{WrittenValue}
 use Rattle.branching.specs.OpenChoices.{IsOpen}
 use Rattle.branching.specs.ChoicesLeft.{AreWritesInOrder}
-use Rattle.branching.proofs.preference.with_orders.Given as goal
+use Rattle.branching.proofs.preference.OrderRating.with_orders.Given as goal
 
 -- the best is open; if there is none, the write is in order with the later ones so far
 abbrev pub invariant-loop-later : goal.invariant-loop-later
 invariant-loop-later l = record {
-  is_open : IfSome l.best (λ (best : RatedChoice). IsOpen l.sketch best.next);
-  none : l.best ≡ None → (l.fn.best ≡ None) × ((j : ℕ) (d : WrittenValue) → l.place < j → j < l.later → AreWritesInOrder l.sketch (get_or l.accesses.writes.items l.place d) (get_or l.accesses.writes.items j d));
+  is_open : IfSome l.best (λ (best : RatedChoice). IsOpen l.self.sketch.now best.next);
+  none : l.best ≡ None → (l.fn.best ≡ None) × ((j : ℕ) (d : WrittenValue) → l.place < j → j < l.later → AreWritesInOrder l.self.sketch.now (get_or l.self.accesses.now.writes.items l.place d) (get_or l.self.accesses.now.writes.items j d));
 }

@@ -1,6 +1,6 @@
 use Rattle.exec_axioms.proofs.Lookups.{each_index}
 use Rattle.branching.specs.ChoicesLeft.{IsInOrderWithLater}
-use Rattle.branching.proofs.preference.best_order.Goals as goal
+use Rattle.branching.proofs.preference.OrderRating.best_order.Goals as goal
 
 pub loop-place-preserved : goal.loop-place-preserved
 loop-place-preserved c = record {
@@ -8,5 +8,5 @@ loop-place-preserved c = record {
   none = λ e. (
       let (was, here) = c.with_orders-best.ensures.none e in
       let (none, below) = c.loop-place.invariant.none was in
-      (none, each_index (IsInOrderWithLater c.args.sketch.now c.args.accesses.now.writes.items) c.loop-place.place below here));
+      (none, each_index (IsInOrderWithLater c.args.self.now.sketch.now c.args.self.now.accesses.now.writes.items) c.loop-place.place below here));
 }

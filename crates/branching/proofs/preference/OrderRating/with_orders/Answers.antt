@@ -7,26 +7,26 @@ use Rattle.branching.specs.OpenChoices.{IsOpen}
 use Rattle.branching.specs.Accesses.{IsWrittenValue}
 use Rattle.branching.specs.ChoicesLeft.{AreWritesInOrder}
 use Rattle.branching.proofs.NothingLeft.{in_order_at}
-use Rattle.branching.proofs.preference.with_orders.Goals as goal
-use Rattle.branching.proofs.preference.with_orders.Goals.{then-needs_order, else-needs_order}
+use Rattle.branching.proofs.preference.OrderRating.with_orders.Goals as goal
+use Rattle.branching.proofs.preference.OrderRating.with_orders.Goals.{then-needs_order, else-needs_order}
 
 pub needs_order-requires-clause-first : goal.needs_order-requires-clause-first
 needs_order-requires-clause-first c =
     let first : WrittenValue = record { write = record { thread = 0; access = 0 }; location = 0; value = 0 } in
-    subst (λ (ws : List WrittenValue). IsWrittenValue c.args.sketch.now (get_or ws c.args.place first)) (sym c.as_slice-writes.ensures.value) (c.requires.accesses.writes.each c.args.place first c.requires.place)
+    subst (λ (ws : List WrittenValue). IsWrittenValue c.args.self.now.sketch.now (get_or ws c.args.place first)) (sym c.as_slice-writes.ensures.value) (c.requires.accesses.writes.each c.args.place first c.requires.place)
 
 pub needs_order-requires-clause-second : goal.needs_order-requires-clause-second
 needs_order-requires-clause-second c =
     let first : WrittenValue = record { write = record { thread = 0; access = 0 }; location = 0; value = 0 } in
     let n = c.loop-later.later in
-    subst (λ (ws : List WrittenValue). IsWrittenValue c.args.sketch.now (get_or ws n first)) (sym c.as_slice-writes.ensures.value)
+    subst (λ (ws : List WrittenValue). IsWrittenValue c.args.self.now.sketch.now (get_or ws n first)) (sym c.as_slice-writes.ensures.value)
     (c.requires.accesses.writes.each n first (subst (λ (ws : List WrittenValue). n < length ws) c.as_slice-writes.ensures.value c.loop-later-test.true))
 
 pub loop-later-preserved : goal.loop-later-preserved
 loop-later-preserved c =
-    let s = c.args.sketch.now in
+    let s = c.args.self.now.sketch.now in
     let n = c.loop-later.later in
-    let writes = c.args.accesses.now.writes.items in
+    let writes = c.args.self.now.accesses.now.writes.items in
     let first : WrittenValue = record { write = record { thread = 0; access = 0 }; location = 0; value = 0 } in
     let within : n < length writes = subst (λ (ws : List WrittenValue). n < length ws) c.as_slice-writes.ensures.value c.loop-later-test.true in
     let Open = λ (best : RatedChoice). IsOpen s best.next in
