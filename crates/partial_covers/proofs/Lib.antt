@@ -15,4 +15,5 @@ pub mod HolesFilled
 pub mod NearNumbers
 pub mod PartialRenumbered
 pub mod PartsJoined
+pub mod CoveringSteps
 pub mod Captures

@@ -1,3 +1,4 @@
 pub mod Parts
 pub mod PartialCovers
 pub mod NodeChanges
+pub mod Coverings
