@@ -20,10 +20,10 @@ use Rattle.cover_judge.proofs.ChoicesJudged.{values_may}
 use Rattle.branching.specs.declared.plan.LastThread.{LastThread}
 use Rattle.branching.specs.declared.plan.ThreadTraces.{ThreadTraces}
 use Rattle.branching.specs.declared.tally.Tally.{Tally}
-use Rattle.branching.specs.Combinations.{AreAlike, IsBase, with_root}
+use Rattle.branching.specs.Combinations.{AreAlike, IsBase, IsRest, with_root}
 use Rattle.sketch_covers.specs.Covers.{IsCoverAt, IsCoverAfter}
-use Rattle.branching.specs.Plans.{AreTracesOf, AreTracesFor, IsLast, IsBeforeLast, AreOthersFull, IsOfOther, AreOfOthers}
-use Rattle.branching.specs.Tallies.{IsTallyOf, IsOther}
+use Rattle.branching.specs.Plans.{AreTracesOf, AreTracesFor, IsLast, IsBeforeLast, IsBeforeNext, AreOthersFull, IsOfOther, AreOfOthers}
+use Rattle.branching.specs.Tallies.{IsTallyOf, IsOther, IsNeither}
 use Rattle.branching.specs.Traces.{Traces, traces, root}
 use Rattle.sketch_covers.proofs.Nodes.{cover_next}
 use Rattle.branching.proofs.TraceTrees.{get_mapped}
@@ -97,6 +97,16 @@ pub at_start : (s : ProgramSketch) (last : LastThread) → IsLawful s → IsBefo
 at_start s last lawful before =
     ap (λ (given : List ℕ). with_chosen s (with_values s.chosen last.thread given)) before.start
     ∙ ap (λ (given : List (List ℕ)). with_chosen s (record s.chosen { given = given })) (set_none s.chosen.given last.thread (let each = lawful.is_sketch.each_thread in let there = before.there in omega arith) before.none)
+
+-- where only the thread before it has none of its values too, the others have theirs
+pub rest_of : (s : ProgramSketch) (last : ℕ) (x : ThreadTraces) (rest : Tally) → IsBeforeNext s last x → IsTallyOf s (IsNeither x.thread last) rest → IsRest x.thread last s rest
+rest_of s last x rest is tally = record { there = is.traces.there; differ = is.differ; full = λ u own other is_open. is.alone.full u own (other, is_open); tally = tally }
+
+-- with no value of that thread yet the sketch is as it is
+pub at_its_start : (s : ProgramSketch) (last : ℕ) (x : ThreadTraces) → IsLawful s → IsBeforeNext s last x → with_root x.thread s (traces x.tree) ≡ s
+at_its_start s last x lawful is =
+    ap (λ (given : List ℕ). with_chosen s (with_values s.chosen x.thread given)) is.traces.start
+    ∙ ap (λ (given : List (List ℕ)). with_chosen s (record s.chosen { given = given })) (set_none s.chosen.given x.thread (let each = lawful.is_sketch.each_thread in let there = is.traces.there in omega arith) is.alone.none)
 
 traces_first : (p : Listing) (mode : Mode) (s : ProgramSketch) (o : Option ThreadTraces) → s ≡ nothing_chosen p mode → IfSome o (AreTracesOf s) → IfSome o (AreTracesFor s)
 traces_first p mode s None same are = are

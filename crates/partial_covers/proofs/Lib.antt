@@ -6,6 +6,8 @@ pub mod TighterTrees
 pub mod RenumberedTrees
 pub mod CombinedSketches
 pub mod CombinedCovers
+pub mod PairSketches
+pub mod UnsourcedTrees
 pub mod OtherNumbers
 pub mod LawfulValues
 pub mod ChoicesMade

@@ -6,7 +6,7 @@ ghost use Rattle.candidate_executions.specs.Sketches.{IsWhole};
 ghost use Rattle.exec_axioms.specs.ProgramSketches.{nothing_chosen, mode_in};
 ghost use Rattle.cover_judge.specs.Choices.{MayChooseEach};
 ghost use Rattle.branching.specs.Combinations.{AreAlike, IsBase, with_root, with_trace};
-ghost use Rattle.branching.specs.Plans.{IsLast, IsBeforeLast, AreOfOthers, AreOthersFull};
+ghost use Rattle.branching.specs.Plans.{IsLast, IsBeforeLast, IsOtherOpen, AreOfOthers, AreOthersFull};
 ghost use Rattle.branching.specs.Traces.{traces, root, IsTraceTree, IsFullTrace};
 ghost use Rattle.sketch_covers.specs.declared.outcome_index.OutcomeIndex.{OutcomeIndex as IndexValue};
 ghost use Rattle.sketch_covers.specs.declared.known_outcomes.KnownOutcomes.TheVariants.{Open};
@@ -109,13 +109,38 @@ impl Covering<'_> {
             return Ok(());
         }
         match plan.next_thread(sketch) {
-            Some(t) => {
-                let choices = choices_of(self.alloc, sketch, OpenChoice::Value(t))?;
-                self.kept.push_values(t, choices.len())?;
-                self.cover_each_value(sketch, plan, &choices, parts, watch)
-            }
+            Some(t) => self.cover_next(sketch, plan, t, parts, watch),
             None => self.cover_last(sketch, plan, watch),
         }
+    }
+
+    /// Covers a sketch over the values of thread t's next read.
+    #[cycle(cover_values)]
+    fn cover_next<W: Watch>(
+        &mut self,
+        sketch: &Sketch,
+        plan: &Plan,
+        t: u8,
+        parts: &mut Vec<Part>,
+        watch: &W,
+    ) -> Result<(), AllocError>
+        requires in_order { AreInOrder self.old.outcomes }
+        requires before { IsBeforeLast sketch.now plan.now.last }
+        requires open { IsOtherOpen sketch.now plan.now.last.thread t }
+        requires parts { ArePartsFor sketch.now self.old.shown.now self.old.outcomes self.old.path.items parts.old.items }
+        ensures left { OnOk result (AreLeftOf parts.old.items parts.new.items) }
+        ensures covers { OnOk result (Covers sketch.now self.old self.new) }
+    {
+        // For the proof alone: what holds of every sketch is known where its program is read.
+        let _ = sketch.program();
+        if parts.is_empty() && needs_values(self.shown) {
+            if let Some(before) = plan.before_last(sketch, t) {
+                return self.cover_before(sketch, before, &plan.last, watch);
+            }
+        }
+        let choices = choices_of(self.alloc, sketch, OpenChoice::Value(t))?;
+        self.kept.push_values(t, choices.len())?;
+        self.cover_each_value(sketch, plan, &choices, parts, watch)
     }
 
     /// The same after each of the choices.
@@ -188,7 +213,7 @@ impl Covering<'_> {
     /// Covers the sketch with the values of thread t at the first node. All other threads have their values in the
     /// sketch, and read and write what the tally of them says.
     #[cycle(cover_traces)]
-    fn cover_traces<W: Watch>(
+    pub(crate) fn cover_traces<W: Watch>(
         &mut self,
         sketch: &Sketch,
         others: &Tally,
@@ -283,4 +308,9 @@ impl Covering<'_> {
             Err(Stop::OutOfMemory) => Err(AllocError),
         }
     }
+}
+
+/// Whether no outcome is known before each read has its value.
+fn needs_values(shown: &Shown) -> bool {
+    !matches!(shown, Shown::Truth(_))
 }

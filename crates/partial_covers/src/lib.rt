@@ -14,11 +14,13 @@ mod cutting;
 mod filling;
 mod joining;
 mod outcome_search;
+mod pair_covers;
 mod part;
 mod partial_cover;
 mod renumbering;
 mod searching;
 mod sequential_nodes;
+mod unsourced_trees;
 mod watch;
 
 pub use outcome_search::{OutcomeCover, all_outcomes, cover_all};

@@ -1,4 +1,4 @@
-use Rattle.std.proofs.Common.{◌≡◌, List, [], ◌∷◌, ◌++◌, ◌∙◌, get_or, length, refl, sym, ap, subst, arith}
+use Rattle.std.proofs.Common.{◌≡◌, ℕ, List, [], ◌∷◌, ◌++◌, ◌∙◌, get_or, length, refl, sym, ap, subst, arith}
 use Rattle.tso_program.specs.declared.shown.Shown.{Shown}
 use Rattle.tso_program.specs.Shown.{asked}
 use Rattle.cert_forest.specs.declared.node.Node.TheVariants as node
@@ -51,12 +51,31 @@ cover_each_value-cover_values-requires g t c κs within =
       ),
     )
 
-pub cover_values-cover_each_value-requires : goal.cover_values-cover_each_value-requires
-cover_values-cover_each_value-requires g t c κs within =
+pub cover_next-cover_each_value-requires : goal.cover_next-cover_each_value-requires
+cover_next-cover_each_value-requires g t c κs within =
     let s = c.args.sketch.now in
     let last = c.args.plan.now.last.thread in
-    let choices = c.in_ok-choices-in-Some.choices.items in
-    let others = of_others s c.in-Some.t last choices c.in_ok-choices-in-Some.ensures.choices c.in-Some.ensures.0 in
+    let choices = c.in_ok-choices.choices.items in
+    let others = of_others s c.args.t last choices c.in_ok-choices.ensures.choices c.requires.open.0 in (
+      omega arith,
+      (
+        within,
+        (
+          c.requires.in_order,
+          (
+            c.requires.before,
+            (
+              subst (MayChooseEach s) (sym c.deref.ensures.value) c.in_ok-choices.ensures.may,
+              (subst (AreOfOthers last) (sym c.deref.ensures.value) others, c.requires.parts),
+            ),
+          ),
+        ),
+      ),
+    )
+
+pub cover_values-cover_next-requires : goal.cover_values-cover_next-requires
+cover_values-cover_next-requires g t c κs within =
+    let s = c.args.sketch.now in
     let old = c.args.self.now in
     let mid = c.join_part.new.self in
     let parts = c.join_part.new.parts.items in
@@ -70,11 +89,8 @@ cover_values-cover_each_value-requires g t c κs within =
           (
             c.requires.before,
             (
-              subst (MayChooseEach s) (sym c.deref.ensures.value) c.in_ok-choices-in-Some.ensures.may,
-              (
-                subst (AreOfOthers last) (sym c.deref.ensures.value) others,
-                subst (λ (sh : Shown). ArePartsFor s sh mid.outcomes mid.path.items parts) (sym joined.shown) (subst (λ (cs : List Choice). ArePartsFor s old.shown.now mid.outcomes cs parts) (sym joined.path) still),
-              ),
+              c.in-Some.ensures,
+              subst (λ (sh : Shown). ArePartsFor s sh mid.outcomes mid.path.items parts) (sym joined.shown) (subst (λ (cs : List Choice). ArePartsFor s old.shown.now mid.outcomes cs parts) (sym joined.path) still),
             ),
           ),
         ),
@@ -111,33 +127,41 @@ cover_each_value-loop-choice-preserved g t c =
       covers = each_more c.args.sketch.now c.in_ok-next.next c.args.choices.now i d old c.loop-choice.self new c.push.new.self c.pop.new.self c.loop-choice-test.true c.in_ok-next.ensures c.in_ok-push.ensures.items back inv.covers made.covers;
     }
 
-pub cover_values-push_values-requires : goal.cover_values-push_values-requires
-cover_values-push_values-requires g t c =
+pub cover_next-push_values-requires : goal.cover_next-push_values-requires
+cover_next-push_values-requires g t c =
     let s = c.args.sketch.now in
-    let choices = c.in_ok-choices-in-Some.choices in
-    let few = few_choices s c.args.self.now.shown.now (by_number c.args.self.now.outcomes) c.program.ensures.lawful (left.Value c.in-Some.t) choices.items c.program.ensures.registers c.in-Some.ensures.1 c.in_ok-choices-in-Some.ensures.choices in
+    let choices = c.in_ok-choices.choices in
+    let few = few_choices s c.args.self.now.shown.now (by_number c.args.self.now.outcomes) c.program.ensures.lawful (left.Value c.args.t) choices.items c.program.ensures.registers c.requires.open.1 c.in_ok-choices.ensures.choices in
     omega (arith, few, c.len.ensures, choices.ok.0)
 
-pub cover_values-returns-in_ok-push_values-in-Some-clause-covers : goal.cover_values-returns-in_ok-push_values-in-Some-clause-covers
-cover_values-returns-in_ok-push_values-in-Some-clause-covers g t c =
+pub cover_next-returns-clause-covers : goal.cover_next-returns-clause-covers
+cover_next-returns-clause-covers g t c =
+    let s = c.args.sketch.now in
+    let old = c.args.self.now in
+    let new = c.cover_each_value.new.self in
+    let choices = c.in_ok-choices.choices in
+    let long : c.len.result ≡ length choices.items = omega (arith, c.len.ensures, choices.ok.0) in
+    let node_is = c.in_ok-push_values.ensures ∙ ap (λ (n : ℕ). items_of old.kept ++ Has (node.Value c.args.t n) ∷ []) long in
+    let with_node : Covering = record old { kept = c.push_values.new.self } in
+    on_ok c.cover_each_value.result (CoversEach s c.deref.result.now with_node new) (Covers s old new)
+    (λ made. covers_values s old with_node new refl refl (grows_none (asked s.program old.shown.now) old.outcomes c.requires.in_order) c.args.t choices.items c.in_ok-choices.ensures.choices node_is
+    (subst (λ (cs : List Choice). CoversEach s cs with_node new) c.deref.ensures.value made))
+    c.cover_each_value.ensures.covers
+
+pub cover_values-returns-in-Some-clause-covers : goal.cover_values-returns-in-Some-clause-covers
+cover_values-returns-in-Some-clause-covers g t c =
     let s = c.args.sketch.now in
     let old = c.args.self.now in
     let mid = c.join_part.new.self in
-    let new = c.cover_each_value.new.self in
-    let choices = c.in_ok-choices-in-Some.choices in
+    let new = c.cover_next.new.self in
     let joined = c.in_ok-join_part.ensures.covers in
     let same = nodes_same s old.shown.now (by_number old.outcomes) old.kept.pieces.items old.kept.nodes.items c.known_leaf.new.nodes.items c.in_ok-known_leaf.field-0 c.if-branch.false c.in_ok-known_leaf.ensures in
-    let long : c.len.result ≡ length choices.items = omega (arith, c.len.ensures, choices.ok.0) in
     let still = not_joined s old.shown.now (by_number mid.outcomes) old.path.items (items_of (record old.kept { nodes = c.known_leaf.new.nodes })) (items_of mid.kept) c.in_ok-join_part.field-0 c.if-branch-2.false joined.tree ∙ same in
-    let node_is = c.in_ok-push_values-in-Some.ensures ∙ (λ i. still i ++ Has (node.Value c.in-Some.t (long i)) ∷ []) in
-    let with_node : Covering = record mid { kept = c.push_values.new.self } in
-    on_ok c.cover_each_value.result (CoversEach s c.deref.result.now with_node new) (Covers s old new)
-    (λ made. covers_values s old with_node new joined.shown joined.path joined.grows c.in-Some.t choices.items c.in_ok-choices-in-Some.ensures.choices node_is (subst (λ (cs : List Choice). CoversEach s cs with_node new) c.deref.ensures.value made))
-    c.cover_each_value.ensures.covers
+    on_ok c.cover_next.result (Covers s mid new) (Covers s old new) (covers_next s old mid new joined.shown joined.path joined.grows still) c.cover_next.ensures.covers
 
-pub cover_values-returns-in_ok-push_values-in-Some-clause-left : goal.cover_values-returns-in_ok-push_values-in-Some-clause-left
-cover_values-returns-in_ok-push_values-in-Some-clause-left g t c =
-    on_ok c.cover_each_value.result _ _ (λ left k shown outcomes path are. left k shown outcomes path (c.in_ok-join_part.ensures.left k shown outcomes path are)) c.cover_each_value.ensures.left
+pub cover_values-returns-in-Some-clause-left : goal.cover_values-returns-in-Some-clause-left
+cover_values-returns-in-Some-clause-left g t c =
+    on_ok c.cover_next.result _ _ (λ left k shown outcomes path are. left k shown outcomes path (c.in_ok-join_part.ensures.left k shown outcomes path are)) c.cover_next.ensures.left
 
 pub cover_values-returns-in-None-clause-covers : goal.cover_values-returns-in-None-clause-covers
 cover_values-returns-in-None-clause-covers g t c =

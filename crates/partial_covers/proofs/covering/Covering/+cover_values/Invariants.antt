@@ -5,7 +5,10 @@ use Rattle.branching.proofs.Rounds.{rounds}
 use Rattle.partial_covers.proofs.covering.Covering.+cover_values.Given as goal
 
 abbrev pub decreases-cover_values : goal.decreases-cover_values
-decreases-cover_values g l = rounds l.sketch.now + 1
+decreases-cover_values g l = rounds l.sketch.now + 2
+
+abbrev pub decreases-cover_next : goal.decreases-cover_next
+decreases-cover_next g l = rounds l.sketch.now + 1
 
 abbrev pub decreases-cover_each_value : goal.decreases-cover_each_value
 decreases-cover_each_value g l = rounds l.sketch.now
