@@ -6,7 +6,7 @@ use Rattle.exec_axioms.specs.ThreadValues.{with_values, HasValuesAlone}
 use Rattle.cover_judge.specs.Choices.{IsValueOpen}
 use Rattle.branching.specs.declared.tally.Tally.{Tally}
 use Rattle.branching.specs.declared.traces.FullTrace.{FullTrace}
-use Rattle.branching.specs.Tallies.{IsTallyOf, IsOther}
+use Rattle.branching.specs.Tallies.{IsTallyOf, IsOther, IsNeither}
 use Rattle.branching.specs.Traces.{Traces, root}
 
 -- of one program, and of one mode
@@ -20,6 +20,13 @@ pub record IsBase (t : ℕ) (s : ProgramSketch) (others : Tally) : Type 0 where
   pub there : t < length s.program.threads
   pub full : (u : ℕ) → u ≢ t → IsValueOpen s u → ⊥
   pub tally : IsTallyOf s (IsOther t) others
+
+-- thread t is of the program and not the last, and each thread but the two has all of its values; this is what those read and write
+pub record IsRest (t last : ℕ) (s : ProgramSketch) (rest : Tally) : Type 0 where
+  pub there : t < length s.program.threads
+  pub differ : t ≢ last
+  pub full : (u : ℕ) → u ≢ t → u ≢ last → IsValueOpen s u → ⊥
+  pub tally : IsTallyOf s (IsNeither t last) rest
 
 -- the sketch with the values that thread t has in the trace, and at the first node of a tree
 abbrev pub with_trace : ℕ → ProgramSketch → FullTrace → ProgramSketch

@@ -35,6 +35,10 @@ IsOwn t u = u ≡ t
 abbrev pub IsOther : ℕ → ℕ → Type 0
 IsOther t u = u ≢ t
 
+-- each thread but two
+abbrev pub IsNeither : ℕ → ℕ → ℕ → Type 0
+IsNeither t u v = (v ≢ t) × (v ≢ u)
+
 -- the read is one of the old tally, or is a read of the thread
 abbrev pub IsOldOrOf : ProgramSketch → ℕ → Tally → ReadValue → Type 0
 IsOldOrOf s t old r = Contains old.reads.items r ⊎ ((r.read.thread ≡ t) × IsTalliedRead s r)
@@ -42,6 +46,12 @@ IsOldOrOf s t old r = Contains old.reads.items r ⊎ ((r.read.thread ≡ t) × I
 -- no bit is taken away
 abbrev pub KeepsBits : List ℕ → List ℕ → Type 0
 KeepsBits old new = (d e : ℕ) → Relates old d e → Relates new d e
+
+-- its reads are reads of the two, and it has the bits of both
+pub record Joins (a b new : Tally) : Type 0 where
+  pub reads : (r : ReadValue) → Contains new.reads.items r → Contains a.reads.items r ⊎ Contains b.reads.items r
+  pub first : (l v : ℕ) → IsMarked a.written l v → IsMarked new.written l v
+  pub second : (l v : ℕ) → IsMarked b.written l v → IsMarked new.written l v
 
 -- an access is taken in
 pub record TakesAccess (s : ProgramSketch) (a : AccessId) (old new : Tally) : Type 0 where

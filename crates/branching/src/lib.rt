@@ -21,7 +21,7 @@ mod traces;
 
 pub use branch::{Branch, choices_of, next_branch};
 pub use open_choice::OpenChoice;
-pub use plan::{LastThread, Plan, plan_for};
+pub use plan::{LastThread, Plan, ThreadTraces, plan_for};
 pub use reads_writes::{ReadValue, WholeAccesses, WrittenValue, whole_accesses};
 pub use tally::Tally;
 pub use trace_size::TraceSize;

@@ -35,6 +35,16 @@ struct RatedChoice {
     merit: Merit,
 }
 
+/// What orders are rated by: a sketch with what it reads and writes, its ends, and the outcomes that are known.
+#[derive(Clone, Copy)]
+struct OrderRating<'a> {
+    sketch: &'a Sketch,
+    accesses: &'a WholeAccesses,
+    shown: &'a Shown,
+    outcomes: &'a [Outcome],
+    ends: SketchEnds,
+}
+
 /// What is chosen first. `None` if the sketch is complete. A read that no write gives its value is, and
 /// what leaves no child open, and then no other is looked at.
 pub(crate) fn preferred(
@@ -99,7 +109,14 @@ fn or_order(
     if leaves_none_open(best) {
         return best;
     }
-    best_order(sketch, accesses, shown, outcomes, best)
+    let rating = OrderRating {
+        sketch,
+        accesses,
+        shown,
+        outcomes,
+        ends: sketch_ends(sketch, shown, &accesses.writes),
+    };
+    rating.best_order(best)
 }
 
 /// The best of the reads without a source.
@@ -247,128 +264,105 @@ fn with_open(merit: Merit) -> Merit {
     }
 }
 
-/// The better of the best so far and the orders that are left.
-fn best_order(
-    sketch: &Sketch,
-    accesses: &WholeAccesses,
-    shown: &Shown,
-    outcomes: &[Outcome],
-    best: Option<RatedChoice>,
-) -> Option<RatedChoice>
-    requires accesses { AreAccessesOf sketch.now accesses.now }
-    requires best { IfSome best (λ best. IsOpen sketch.now best.next) }
-    ensures is_open { IfSome result (λ best. IsOpen sketch.now best.next) }
-    ensures none { result ≡ None → (best ≡ None) × IsEachInOrder sketch.now accesses.now.writes.items }
-{
-    let mut best = best;
-    let ends = sketch_ends(sketch, shown, &accesses.writes);
-    for place in 0..accesses.writes.len() {
-        if leaves_none_open(best) {
-            return best;
+impl OrderRating<'_> {
+    /// The better of the best so far and the orders that are left.
+    fn best_order(&self, best: Option<RatedChoice>) -> Option<RatedChoice>
+        requires accesses { AreAccessesOf self.now.sketch.now self.now.accesses.now }
+        requires best { IfSome best (λ best. IsOpen self.now.sketch.now best.next) }
+        ensures is_open { IfSome result (λ best. IsOpen self.now.sketch.now best.next) }
+        ensures none { result ≡ None → (best ≡ None) × IsEachInOrder self.now.sketch.now self.now.accesses.now.writes.items }
+    {
+        let mut best = best;
+        for place in 0..self.accesses.writes.len() {
+            if leaves_none_open(best) {
+                return best;
+            }
+            best = self.with_orders(place, best);
         }
-        best = with_orders(sketch, accesses, shown, outcomes, &ends, place, best);
+        best
     }
-    best
-}
 
-/// The same of the orders of the write at this place and the later ones.
-fn with_orders(
-    sketch: &Sketch,
-    accesses: &WholeAccesses,
-    shown: &Shown,
-    outcomes: &[Outcome],
-    ends: &SketchEnds,
-    place: usize,
-    best: Option<RatedChoice>,
-) -> Option<RatedChoice>
-    requires accesses { AreAccessesOf sketch.now accesses.now }
-    requires place { place < length accesses.now.writes.items }
-    requires best { IfSome best (λ best. IsOpen sketch.now best.next) }
-    ensures is_open { IfSome result (λ best. IsOpen sketch.now best.next) }
-    ensures none { result ≡ None → (best ≡ None) × IsInOrderWithLater sketch.now accesses.now.writes.items place }
-{
-    let mut best = best;
-    let writes = accesses.writes.as_slice();
-    for later in place + 1..writes.len() {
-        if leaves_none_open(best) {
-            return best;
+    /// The same of the orders of the write at this place and the later ones.
+    fn with_orders(&self, place: usize, best: Option<RatedChoice>) -> Option<RatedChoice>
+        requires accesses { AreAccessesOf self.now.sketch.now self.now.accesses.now }
+        requires place { place < length self.now.accesses.now.writes.items }
+        requires best { IfSome best (λ best. IsOpen self.now.sketch.now best.next) }
+        ensures is_open { IfSome result (λ best. IsOpen self.now.sketch.now best.next) }
+        ensures none { result ≡ None → (best ≡ None) × IsInOrderWithLater self.now.sketch.now self.now.accesses.now.writes.items place }
+    {
+        let mut best = best;
+        let writes = self.accesses.writes.as_slice();
+        for later in place + 1..writes.len() {
+            if leaves_none_open(best) {
+                return best;
+            }
+            let pair = (writes[place], writes[later]);
+            if needs_order(self.sketch, pair.0, pair.1) {
+                best = Some(self.better_order(pair, best));
+            }
         }
-        let pair = (writes[place], writes[later]);
-        if needs_order(sketch, pair.0, pair.1) {
-            best = Some(better_order(sketch, accesses, shown, outcomes, ends, pair, best));
+        best
+    }
+
+    /// The better of the best so far and the orders of two writes.
+    fn better_order(
+        &self,
+        pair: (WrittenValue, WrittenValue),
+        best: Option<RatedChoice>,
+    ) -> RatedChoice
+        requires is_open { IsOpen self.now.sketch.now (OpenChoice.Order pair.0.write pair.1.write) }
+        requires best { IfSome best (λ best. IsOpen self.now.sketch.now best.next) }
+        ensures { IsOpen self.now.sketch.now result.next }
+    {
+        let other = RatedChoice {
+            next: OpenChoice::Order(pair.0.write, pair.1.write),
+            merit: self.merit_of_orders(pair, merit_of(best)),
+        };
+        better(best, other)
+    }
+
+    /// The merit of the orders of two writes, counted until it is no better than the best: either may be the
+    /// first.
+    fn merit_of_orders(&self, pair: (WrittenValue, WrittenValue), best: Merit) -> Merit
+        requires { IsOpen self.now.sketch.now (OpenChoice.Order pair.0.write pair.1.write) }
+    {
+        let (first, second) = pair;
+        let mut merit = Merit {
+            open: 0,
+            children: 2,
+            is_order: true,
+        };
+        if self.stays_open(first, second) {
+            merit = with_open(merit);
         }
+        if is_no_better(merit, best) {
+            return merit;
+        }
+        if self.stays_open(second, first) {
+            merit = with_open(merit);
+        }
+        merit
     }
-    best
-}
 
-/// The better of the best so far and the orders of two writes.
-fn better_order(
-    sketch: &Sketch,
-    accesses: &WholeAccesses,
-    shown: &Shown,
-    outcomes: &[Outcome],
-    ends: &SketchEnds,
-    pair: (WrittenValue, WrittenValue),
-    best: Option<RatedChoice>,
-) -> RatedChoice
-    requires is_open { IsOpen sketch.now (OpenChoice.Order pair.0.write pair.1.write) }
-    requires best { IfSome best (λ best. IsOpen sketch.now best.next) }
-    ensures { IsOpen sketch.now result.next }
-{
-    let most = merit_of(best);
-    let other = RatedChoice {
-        next: OpenChoice::Order(pair.0.write, pair.1.write),
-        merit: merit_of_orders(sketch, accesses, shown, outcomes, ends, pair, most),
-    };
-    better(best, other)
-}
-
-/// The merit of the orders of two writes, counted until it is no better than the best: either may be the
-/// first.
-fn merit_of_orders(
-    sketch: &Sketch,
-    accesses: &WholeAccesses,
-    shown: &Shown,
-    outcomes: &[Outcome],
-    ends: &SketchEnds,
-    pair: (WrittenValue, WrittenValue),
-    best: Merit,
-) -> Merit
-    requires { IsOpen sketch.now (OpenChoice.Order pair.0.write pair.1.write) }
-{
-    let (first, second) = pair;
-    let mut merit = Merit {
-        open: 0,
-        children: 2,
-        is_order: true,
-    };
-    if stays_open(sketch, accesses, shown, outcomes, ends, first, second) {
-        merit = with_open(merit);
+    /// Whether an open sketch stays open after an order: neither a cycle nor an outcome of the list closes
+    /// it. Where all ends are settled, the outcome is that of the sketch, which isn't listed.
+    fn stays_open(&self, first: WrittenValue, second: WrittenValue) -> bool
+        requires { MayChoose self.now.sketch.now (Choice.Order first.write second.write) }
+    {
+        if self
+            .sketch
+            .closes_order(event_of(first.write), event_of(second.write))
+        {
+            return false;
+        }
+        self.ends.unsettled == 0
+            || !is_listed_without(
+                self.sketch,
+                self.shown,
+                self.outcomes,
+                self.accesses,
+                &self.ends,
+                first,
+            )
     }
-    if is_no_better(merit, best) {
-        return merit;
-    }
-    if stays_open(sketch, accesses, shown, outcomes, ends, second, first) {
-        merit = with_open(merit);
-    }
-    merit
-}
-
-/// Whether an open sketch stays open after an order: neither a cycle nor an outcome of the list closes
-/// it. Where all ends are settled, the outcome is that of the sketch, which isn't listed.
-fn stays_open(
-    sketch: &Sketch,
-    accesses: &WholeAccesses,
-    shown: &Shown,
-    outcomes: &[Outcome],
-    ends: &SketchEnds,
-    first: WrittenValue,
-    second: WrittenValue,
-) -> bool
-    requires { MayChoose sketch.now (Choice.Order first.write second.write) }
-{
-    if sketch.closes_order(event_of(first.write), event_of(second.write)) {
-        return false;
-    }
-    ends.unsettled == 0 || !is_listed_without(sketch, shown, outcomes, accesses, ends, first)
 }

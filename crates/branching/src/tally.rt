@@ -2,13 +2,13 @@
 //!
 //! Each location with a value has a bit in rows of bits. Two may share one: then a read may seem to have a
 //! source that it has not, and a sketch decides. No read seems to lack a source that it has.
-ghost use Rattle.std.specs.Prelude.{◌≡◌, ◌≢◌, ◌<◌, ◌↔◌, ◌⊎◌, ◌%◌, ℕ, [], Some, None, IsTrue, IfOk, OnOk, IfSome, slice_index, length};
+ghost use Rattle.std.specs.Prelude.{◌≡◌, ◌≢◌, ◌<◌, ◌≤◌, ◌↔◌, ◌⊎◌, ◌%◌, ℕ, [], Some, None, IsTrue, IfOk, OnOk, IfSome, slice_index, length};
 ghost use Rattle.bit_rows.specs.Rows.{Relates};
 ghost use Rattle.bit_rows.specs.declared.row.TheConstants.{ROW_BITS};
-ghost use Rattle.branching.specs.Tallies.{IsMarked, IsTallyOf, IsOwn, IsOther, TakesAccess, TakesThread, LacksWrite, LacksWriteOfBoth};
+ghost use Rattle.branching.specs.Tallies.{IsMarked, IsTallyOf, IsOwn, IsOther, IsNeither, Joins, TakesAccess, TakesThread, LacksWrite, LacksWriteOfBoth};
 
 use crate::reads_writes::ReadValue;
-use bit_rows::{ROW_BITS, has, put_rows, with};
+use bit_rows::{ROW_BITS, has, joined, put_rows, with};
 use cert_forest::AccessId;
 use cover_judge::event_of;
 use exec_axioms::{Access, Event, Sketch};
@@ -57,6 +57,47 @@ impl Tally {
         Ok(tally)
     }
 
+    /// Of the accesses of all threads but two.
+    pub fn of_rest(alloc: Global, sketch: &Sketch, t: u8, u: u8) -> Result<Tally, AllocError>
+        ensures { IfOk result (IsTallyOf sketch.now (IsNeither t u)) }
+    {
+        let mut tally = Tally::none(alloc);
+        let threads = sketch.program().threads().len() as u8;
+        for other in 0..threads {
+            if is_neither(other, t, u) {
+                tally.add_thread(sketch, other)?;
+            }
+        }
+        Ok(tally)
+    }
+
+    /// Together with the tally of thread t. The reads stay in the order of the threads.
+    pub fn with_thread(&self, alloc: Global, t: u8, own: &Tally) -> Result<Tally, AllocError>
+        ensures { IfOk result (Joins self.now own.now) }
+    {
+        let (before, beyond) = self.reads.split_at(self.place_of(t));
+        let count = self.reads.len().saturating_add(own.reads.len());
+        let mut reads = Vec::with_capacity(alloc, count)?;
+        reads.extend_from_slice(before)?;
+        reads.extend_from_slice(&own.reads)?;
+        reads.extend_from_slice(beyond)?;
+        let mut written = self.written;
+        join_rows(&mut written, &own.written);
+        Ok(Tally { reads, written })
+    }
+
+    /// How many reads are of threads before thread t.
+    fn place_of(&self, t: u8) -> usize
+        ensures { result ≤ length self.now.reads.items }
+    {
+        for (place, tallied) in self.reads.iter().enumerate() {
+            if tallied.read.thread > t {
+                return place;
+            }
+        }
+        self.reads.len()
+    }
+
     /// Takes a thread's accesses in.
     fn add_thread(&mut self, sketch: &Sketch, t: u8) -> Result<(), AllocError>
         ensures { OnOk result (TakesThread sketch.now t self.old self.new) }
@@ -98,6 +139,13 @@ impl Tally {
     }
 }
 
+/// Whether a thread is none of two.
+fn is_neither(thread: u8, t: u8, u: u8) -> bool
+    ensures { IsTrue result ↔ IsNeither t u thread }
+{
+    thread != t && thread != u
+}
+
 /// The value that an access reads, if it is not the initial one of its location.
 fn later_value(sketch: &Sketch, access: Access) -> Option<u32>
     ensures { IfSome result (λ v. (access.read ≡ Some v) × (v ≢ slice_index sketch.now.program.memory access.location)) }
@@ -108,6 +156,17 @@ fn later_value(sketch: &Sketch, access: Access) -> Option<u32>
         return None;
     }
     Some(value)
+}
+
+/// Sets the bits that other rows have.
+fn join_rows(rows: &mut [u32], more: &[u32])
+    requires rows { length rows.old ≡ ROW_BITS }
+    requires more { length more.now ≡ ROW_BITS }
+    ensures { (d e : ℕ) → d < ROW_BITS → Relates rows.old d e ⊎ Relates more.now d e → Relates rows.new d e }
+{
+    for d in 0..ROW_BITS {
+        rows[d] = joined(rows[d], more[d]);
+    }
 }
 
 /// Sets the bit of a location with a value.

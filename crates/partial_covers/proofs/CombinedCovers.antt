@@ -1,11 +1,12 @@
 -- Cover trees over the values of one thread after those of the others.
-use Rattle.std.proofs.Common.{◌≡◌, ◌≢◌, ℕ, zero, suc, ◌<◌, List, [], ◌∷◌, ◌++◌, get_or, slice_get, unwrap_or, set, length, sym, ap, ◌∙◌, subst, arith}
+use Rattle.std.proofs.Common.{◌≡◌, ◌≢◌, ℕ, zero, suc, ◌<◌, List, [], ◌∷◌, ◌++◌, get_or, Option, Some, None, slice_get, unwrap_or, set, length, sym, ap, ◌∙◌, subst, arith}
+use Rattle.std.specs.Prelude.{IfSome}
 use Rattle.std.proofs.lemmas.List.{length-map}
 use Rattle.tso_program.specs.declared.listing.Listing.{Listing}
 use Rattle.tso_program.specs.declared.outcome.Outcome.{Outcome}
 use Rattle.tso_program.specs.declared.shown.Shown.{Shown}
 use Rattle.tso_machine.specs.declared.mode.Mode.{Mode}
-use Rattle.candidate_executions.specs.Sketches.{given_to}
+use Rattle.candidate_executions.specs.Sketches.{Sketch, given_to}
 use Rattle.candidate_executions.proofs.Sketches.GivenValues.{none_given}
 use Rattle.exec_axioms.specs.ProgramSketches.{ProgramSketch, nothing_chosen, with_chosen}
 use Rattle.exec_axioms.specs.Kept.{IsLawful}
@@ -17,11 +18,12 @@ use Rattle.cover_judge.specs.declared.choice.Choice.TheVariants as choice
 use Rattle.cover_judge.specs.Choices.{AreValueChoices, sketch_with}
 use Rattle.cover_judge.proofs.ChoicesJudged.{values_may}
 use Rattle.branching.specs.declared.plan.LastThread.{LastThread}
+use Rattle.branching.specs.declared.plan.ThreadTraces.{ThreadTraces}
 use Rattle.branching.specs.declared.tally.Tally.{Tally}
-use Rattle.branching.specs.Combinations.{AreAlike, IsBase, with_root}
+use Rattle.branching.specs.Combinations.{AreAlike, IsBase, IsRest, with_root}
 use Rattle.sketch_covers.specs.Covers.{IsCoverAt, IsCoverAfter}
-use Rattle.branching.specs.Plans.{IsLast, IsBeforeLast, AreOthersFull, IsOfOther, AreOfOthers}
-use Rattle.branching.specs.Tallies.{IsTallyOf, IsOther}
+use Rattle.branching.specs.Plans.{AreTracesOf, AreTracesFor, IsLast, IsBeforeLast, IsBeforeNext, AreOthersFull, IsOfOther, AreOfOthers}
+use Rattle.branching.specs.Tallies.{IsTallyOf, IsOther, IsNeither}
 use Rattle.branching.specs.Traces.{Traces, traces, root}
 use Rattle.sketch_covers.proofs.Nodes.{cover_next}
 use Rattle.branching.proofs.TraceTrees.{get_mapped}
@@ -62,6 +64,11 @@ module _ (s u : ProgramSketch) (t : ℕ) (lawful : IsLawful s) (alone : HasValue
       let may = (values_may merged t choices (values_merged s u t lawful alone there own alike choices are)).each i d h in
       cover_next merged shown outcomes lawful_here (with_root t s x) (get_or choices i d) tree may child_parts is
 
+-- what a thread does is the same whatever is chosen
+pub traces_still : (s : ProgramSketch) (k : Sketch) (o : Option ThreadTraces) → IfSome o (AreTracesFor s) → IfSome o (AreTracesFor (with_chosen s k))
+traces_still s k None are = are
+traces_still s k (Some x) are = record { there = are.there; tree = are.tree; alike = record { program = are.alike.program; mode = are.alike.mode }; start = are.start }
+
 -- what the last thread does is the same after a choice of another thread
 pub before_next : (s next : ProgramSketch) (last : LastThread) (c : Choice) → IsOfOther last.thread c → next ≡ with_chosen s (sketch_with s.chosen c) → IsBeforeLast s last → IsBeforeLast next last
 before_next s next last (choice.Source read source) of_other same before = absurd of_other
@@ -73,6 +80,7 @@ before_next s next last (choice.Value u v) of_other same before = subst (λ (n :
   tree = before.tree;
   alike = record { program = before.alike.program; mode = before.alike.mode };
   start = before.start;
+  before = traces_still s (sketch_with s.chosen (choice.Value u v)) last.before before.before;
 })
 
 -- where all other threads have their values, only the last thread's are left
@@ -90,6 +98,25 @@ at_start s last lawful before =
     ap (λ (given : List ℕ). with_chosen s (with_values s.chosen last.thread given)) before.start
     ∙ ap (λ (given : List (List ℕ)). with_chosen s (record s.chosen { given = given })) (set_none s.chosen.given last.thread (let each = lawful.is_sketch.each_thread in let there = before.there in omega arith) before.none)
 
+-- where only the thread before it has none of its values too, the others have theirs
+pub rest_of : (s : ProgramSketch) (last : ℕ) (x : ThreadTraces) (rest : Tally) → IsBeforeNext s last x → IsTallyOf s (IsNeither x.thread last) rest → IsRest x.thread last s rest
+rest_of s last x rest is tally = record { there = is.traces.there; differ = is.differ; full = λ u own other is_open. is.alone.full u own (other, is_open); tally = tally }
+
+-- with no value of that thread yet the sketch is as it is
+pub at_its_start : (s : ProgramSketch) (last : ℕ) (x : ThreadTraces) → IsLawful s → IsBeforeNext s last x → with_root x.thread s (traces x.tree) ≡ s
+at_its_start s last x lawful is =
+    ap (λ (given : List ℕ). with_chosen s (with_values s.chosen x.thread given)) is.traces.start
+    ∙ ap (λ (given : List (List ℕ)). with_chosen s (record s.chosen { given = given })) (set_none s.chosen.given x.thread (let each = lawful.is_sketch.each_thread in let there = is.traces.there in omega arith) is.alone.none)
+
+traces_first : (p : Listing) (mode : Mode) (s : ProgramSketch) (o : Option ThreadTraces) → s ≡ nothing_chosen p mode → IfSome o (AreTracesOf s) → IfSome o (AreTracesFor s)
+traces_first p mode s None same are = are
+traces_first p mode s (Some x) same are = record {
+  there = are.there;
+  tree = are.tree;
+  alike = record { program = ap (λ (n : ProgramSketch). n.program) are.root_is; mode = ap (λ (n : ProgramSketch). n.mode) are.root_is };
+  start = ap (λ (n : ProgramSketch). given_to n.chosen x.thread) are.root_is ∙ ap (λ (n : ProgramSketch). given_to n.chosen x.thread) same ∙ none_given p x.thread;
+}
+
 -- a sketch with nothing chosen
 pub before_first : (p : Listing) (mode : Mode) (s : ProgramSketch) (last : LastThread) → s ≡ nothing_chosen p mode → IsLast s last → IsBeforeLast s last
 before_first p mode s last same is =
@@ -101,4 +128,5 @@ before_first p mode s last same is =
       tree = is.tree;
       alike = record { program = ap (λ (n : ProgramSketch). n.program) is.root_is; mode = ap (λ (n : ProgramSketch). n.mode) is.root_is };
       start = ap (λ (n : ProgramSketch). given_to n.chosen last.thread) is.root_is ∙ none;
+      before = traces_first p mode s last.before same is.before;
     }

@@ -65,16 +65,16 @@ module _ (s u : ProgramSketch) (t : ℕ) (lawful : IsLawful s) (alone : HasValue
   trace_elsewhere : (v : ℕ) → v ≢ t → trace_in merged v ≡ trace_in s v
   trace_elsewhere v other = ap (does s.program s.mode v) (values_elsewhere s.chosen t (given_to u.chosen t) v other)
 
-  access_here : (v i : ℕ) → v ≡ t → access_in merged (At v i) ≡ access_in u (At v i)
+  pub access_here : (v i : ℕ) → v ≡ t → access_in merged (At v i) ≡ access_in u (At v i)
   access_here v i e = subst (λ z. access_in merged (At z i) ≡ access_in u (At z i)) (sym e) (ap (λ (r : Trace). slice_get r.accesses i) trace_here)
 
-  access_elsewhere : (v i : ℕ) → v ≢ t → access_in merged (At v i) ≡ access_in s (At v i)
+  pub access_elsewhere : (v i : ℕ) → v ≢ t → access_in merged (At v i) ≡ access_in s (At v i)
   access_elsewhere v i other = ap (λ (r : Trace). slice_get r.accesses i) (trace_elsewhere v other)
 
-  next_here : next_read merged.program (mode_in merged) merged.chosen t ≡ next_read u.program (mode_in u) u.chosen t
+  pub next_here : next_read merged.program (mode_in merged) merged.chosen t ≡ next_read u.program (mode_in u) u.chosen t
   next_here = (λ i. read_by (action (sym alike.program i).threads t (trace_here i).last))
 
-  next_elsewhere : (v : ℕ) → v ≢ t → next_read merged.program (mode_in merged) merged.chosen v ≡ next_read s.program (mode_in s) s.chosen v
+  pub next_elsewhere : (v : ℕ) → v ≢ t → next_read merged.program (mode_in merged) merged.chosen v ≡ next_read s.program (mode_in s) s.chosen v
   next_elsewhere v other = ap (λ (r : Trace). read_by (action s.program.threads v r.last)) (trace_elsewhere v other)
 
   -- the thread's next read has the same values

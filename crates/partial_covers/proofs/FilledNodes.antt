@@ -1,21 +1,20 @@
 -- Nodes that stand for a partial cover: copies of nodes, and the nodes of other trees in place of the holes.
-use Rattle.std.proofs.Common.{◌≡◌, ℕ, zero, suc, ◌+◌, ◌<◌, ◌≤◌, List, [], ◌∷◌, ◌++◌, get_or, length, map, take, Contains, refl, sym, ap, ◌∙◌, subst, arith, append_assoc}
-use Rattle.std.proofs.lemmas.List.{append-nil, map-append, take_more, take_all}
+use Rattle.std.proofs.Common.{◌≡◌, ℕ, suc, ◌+◌, ◌<◌, List, [], ◌∷◌, ◌++◌, get_or, length, map, take, Contains, refl, sym, ap, ◌∙◌, subst, arith, append_assoc}
+use Rattle.std.proofs.lemmas.List.{append-nil, take_more}
 use Rattle.tso_program.specs.declared.listing.Listing.{Listing}
 use Rattle.tso_program.specs.declared.outcome.Outcome.{Outcome}
 use Rattle.tso_program.specs.declared.shown.Shown.{Shown}
 use Rattle.tso_machine.specs.declared.mode.Mode.{Mode}
 use Rattle.tso_machine.specs.declared.mode.Mode.TheVariants as modes
 use Rattle.tso_machine.specs.Modes.{machine_of_mode}
-use Rattle.candidate_executions.specs.Sketches.{IsWhole}
-use Rattle.exec_axioms.specs.ProgramSketches.{ProgramSketch, mode_in, nothing_chosen, with_chosen}
+use Rattle.exec_axioms.specs.ProgramSketches.{ProgramSketch, mode_in, nothing_chosen}
 use Rattle.exec_axioms.specs.Kept.{IsLawful}
 use Rattle.exec_axioms.specs.Sizes.{HaveAllRegisters}
 use Rattle.exec_axioms.proofs.ChoicesCounted.{choices_few}
 use Rattle.cert_forest.specs.declared.node.Node.{Node}
 use Rattle.cert_forest.specs.declared.node.Node.TheVariants as node
 use Rattle.cert_forest.specs.Trees.{Cover, Value, covers_of}
-use Rattle.cert_forest.specs.Nodes.{spell, spell_all, spell_row}
+use Rattle.cert_forest.specs.Nodes.{spell, spell_all}
 use Rattle.cert_forest.specs.Texts.{count_covers}
 use Rattle.cert_forest.proofs.TreeTexts.{covers_count}
 use Rattle.cert_forest.proofs.PushedTrees.{listed}
@@ -31,11 +30,11 @@ use Rattle.partial_covers.specs.declared.partial_cover.Piece.{Piece}
 use Rattle.partial_covers.specs.NodeChanges.{sequential_node, copied_in}
 use Rattle.sketch_covers.specs.Covers.{IsCoverAt, AreCoversAfter}
 use Rattle.sketch_covers.specs.OutcomeNumbers.{KeepsNumbers}
-use Rattle.partial_covers.specs.PartialCovers.{Item, Has, Lacks, PartialTree, Closed, Values, Hole, PartialTrees, NoPartial, MorePartial, count_partial, spell_partial, spell_partial_row, items_before, items_of, after, IsPartialAfter, ArePartialAfter, IsPartialCover, MayChooseAll, unfenced}
+use Rattle.partial_covers.specs.PartialCovers.{Item, Has, Lacks, PartialTree, Closed, Values, Hole, PartialTrees, NoPartial, MorePartial, count_partial, spell_partial, spell_partial_row, items_before, items_of, after, IsPartialAfter, ArePartialAfter, IsPartialCover, unfenced}
 use Rattle.sketch_covers.specs.Pushing.{Pushes}
 use Rattle.partial_covers.proofs.ChangedNodes.{spelled_in_sequence}
-use Rattle.partial_covers.proofs.ChoicesMade.{same_program, same_mode, after_unfenced, may_more}
-use Rattle.partial_covers.proofs.FilledTrees.{cover_in_mode, whole_sketch_in_mode, choices_in_mode}
+use Rattle.partial_covers.proofs.ChoicesMade.{same_program, same_mode, after_unfenced}
+use Rattle.partial_covers.proofs.FilledTrees.{cover_in_mode, choices_in_mode}
 use Rattle.sketch_covers.proofs.Growing.{still_valid}
 use Rattle.partial_covers.proofs.PartialNodes.{pieces_pushed}
 use Rattle.partial_covers.proofs.PartialRows.{after_more, partial_still}

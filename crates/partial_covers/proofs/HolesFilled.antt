@@ -1,5 +1,5 @@
 -- What is known of the holes of a partial cover: the choices of each lead to a sketch in which each read has its value.
-use Rattle.std.proofs.Common.{◌≡◌, ℕ, zero, suc, ◌<◌, List, [], ◌∷◌, ◌++◌, get_or, length, map, refl, sym, ap, ◌∙◌, subst, arith, append_assoc}
+use Rattle.std.proofs.Common.{ℕ, zero, suc, ◌<◌, List, [], ◌∷◌, ◌++◌, get_or, length, map, sym, ◌∙◌, subst, arith, append_assoc}
 use Rattle.std.proofs.lemmas.List.{append-nil}
 use Rattle.tso_program.specs.declared.listing.Listing.{Listing}
 use Rattle.tso_program.specs.declared.outcome.Outcome.{Outcome}
@@ -16,7 +16,7 @@ use Rattle.tree_laws.proofs.Lists.{first_is_here, later_is_here}
 use Rattle.std.proofs.Common.{Contains}
 use Rattle.partial_covers.specs.declared.partial_cover.PartialCover.{PartialCover}
 use Rattle.partial_covers.specs.declared.partial_cover.Piece.{Piece}
-use Rattle.partial_covers.specs.PartialCovers.{Item, Has, Lacks, PartialTree, Closed, Values, Hole, PartialTrees, NoPartial, MorePartial, spell_partial, spell_partial_row, items_before, items_of, after, IsPartialAfter, ArePartialAfter, IsPartialCover, MayChooseAll, unfenced}
+use Rattle.partial_covers.specs.PartialCovers.{Item, Has, Lacks, PartialTree, Closed, Values, Hole, PartialTrees, NoPartial, MorePartial, spell_partial, spell_partial_row, items_before, after, IsPartialAfter, ArePartialAfter, IsPartialCover, MayChooseAll, unfenced}
 use Rattle.partial_covers.proofs.ChoicesMade.{after_unfenced, may_more}
 use Rattle.partial_covers.proofs.FilledTrees.{whole_sketch_in_mode, choices_in_mode}
 

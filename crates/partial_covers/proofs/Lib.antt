@@ -6,6 +6,8 @@ pub mod TighterTrees
 pub mod RenumberedTrees
 pub mod CombinedSketches
 pub mod CombinedCovers
+pub mod PairSketches
+pub mod UnsourcedTrees
 pub mod OtherNumbers
 pub mod LawfulValues
 pub mod ChoicesMade
@@ -15,4 +17,5 @@ pub mod HolesFilled
 pub mod NearNumbers
 pub mod PartialRenumbered
 pub mod PartsJoined
+pub mod CoveringSteps
 pub mod Captures

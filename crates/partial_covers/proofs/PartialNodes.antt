@@ -9,15 +9,16 @@ use Rattle.exec_axioms.specs.ProgramSketches.{ProgramSketch, mode_in}
 use Rattle.exec_axioms.specs.Kept.{IsLawful}
 use Rattle.exec_axioms.specs.Sizes.{choice_count, most_choices}
 use Rattle.cert_forest.specs.declared.node.Node.{Node}
-use Rattle.cert_forest.specs.Trees.{Cover}
 use Rattle.cert_forest.specs.Nodes.{spell}
 use Rattle.cover_judge.specs.declared.choice.Choice.{Choice}
 use Rattle.partial_covers.specs.declared.partial_cover.Piece.{Piece}
+use Rattle.sketch_covers.specs.declared.stop.Stop.{Stop}
 use Rattle.sketch_covers.specs.Covers.{IsCoverAt}
-use Rattle.sketch_covers.specs.Pushing.{Pushes, Begins, IfKnown}
+use Rattle.sketch_covers.specs.KnownOutcomes.{OnTold}
+use Rattle.sketch_covers.specs.Pushing.{Pushes, IfKnown}
 use Rattle.sketch_covers.proofs.Leaves.{known_pushed, unknown_same}
 use Rattle.sketch_covers.proofs.Nodes.{leaf_cover}
-use Rattle.partial_covers.specs.PartialCovers.{Item, Has, Lacks, PartialTree, Closed, Hole, items_before, after, spell_partial, IsPartialAfter, PushesPartial, PushesPartialAt}
+use Rattle.partial_covers.specs.PartialCovers.{Item, Has, Lacks, Closed, Hole, items_before, PushesPartialAt}
 
 -- nodes after the last piece
 pub items_pushed : (pieces : List Piece) (old new more : List Node) → new ≡ old ++ more → items_before pieces ++ map Has new ≡ (items_before pieces ++ map Has old) ++ map Has more
@@ -78,3 +79,7 @@ piece_pushed old new piece nodes none path pushed here empty leads =
 pub on_ok : {T E : Type 0} (r : Result T E) (P Q : Type 0) → (P → Q) → OnOk r P → OnOk r Q
 on_ok (Ok v) P Q follows is = follows is
 on_ok (Err e) P Q follows is = tt
+
+-- what is said of a search that stops, by why it stops
+pub told_as : (why other : Stop) (P : Type 0) → why ≡ other → OnTold {T = ℕ} (Err why) P → OnTold {T = ℕ} (Err other) P
+told_as why other P is told = subst (λ (w : Stop). OnTold {T = ℕ} (Err w) P) is told

@@ -1,27 +1,29 @@
 -- The nodes of a thread's traces, at a sketch in which the other threads have their values.
-use Rattle.std.proofs.Common.{◌≡◌, ℕ, ◌+◌, ◌<◌, ◌≤◌, List, [], ◌∷◌, ◌++◌, get_or, length, map, take, sym, ap, subst, arith}
+use Rattle.std.proofs.Common.{◌≡◌, ℕ, ◌<◌, List, get_or, length, map, sym, ap, subst, arith}
 use Rattle.std.specs.Prelude.{◌^◌}
-use Rattle.std.proofs.lemmas.List.{length-map, take_all}
+use Rattle.std.proofs.lemmas.List.{length-map}
 use Rattle.tso_program.specs.declared.outcome.Outcome.{Outcome}
 use Rattle.tso_program.specs.declared.shown.Shown.{Shown}
 use Rattle.exec_axioms.specs.ProgramSketches.{ProgramSketch, with_chosen}
 use Rattle.exec_axioms.specs.Kept.{IsLawful}
 use Rattle.exec_axioms.specs.Sizes.{HaveAllRegisters}
+use Rattle.exec_axioms.specs.ThreadValues.{HasValuesAlone}
+use Rattle.cert_forest.specs.Trees.{Cover}
 use Rattle.cover_judge.specs.declared.choice.Choice.{Choice}
 use Rattle.cover_judge.specs.declared.choice.Choice.TheVariants as choice
-use Rattle.cover_judge.specs.Choices.{AreValueChoices, sketch_with}
-use Rattle.branching.specs.declared.tally.Tally.{Tally}
+use Rattle.cover_judge.specs.Choices.{IsValueOpen, AreValueChoices, sketch_with}
 use Rattle.branching.specs.declared.traces.TraceTree.{TraceTree}
-use Rattle.branching.specs.Combinations.{AreAlike, IsBase, with_root}
+use Rattle.branching.specs.Combinations.{AreAlike, with_root}
+use Rattle.sketch_covers.specs.Covers.{IsCoverAt, IsCoverAfter}
 use Rattle.branching.specs.Traces.{Traces, Read, traces, trees_of, root, first_choices, IsTraceTree}
-use Rattle.partial_covers.proofs.CombinedCovers.{child_alike, child_parts}
+use Rattle.partial_covers.proofs.CombinedCovers.{child_alike, child_cover, child_parts}
 use Rattle.partial_covers.proofs.CombinedSketches.{lawful_merged, values_merged}
 use Rattle.cover_judge.proofs.ChoicesJudged.{next_is_open}
 use Rattle.branching.specs.declared.open_choice.OpenChoice.TheVariants as left
 use Rattle.sketch_covers.proofs.Nodes.{few_choices}
 use Rattle.branching.proofs.TraceTrees.{as_many_trees, child_tree}
 
-module _ (s : ProgramSketch) (t : ℕ) (others : Tally) (base : IsBase t s others) (lawful : IsLawful s) (u : ProgramSketch) (own : IsLawful u) (choices : List Choice) (after : List TraceTree)
+module _ (s : ProgramSketch) (t : ℕ) (alone : HasValuesAlone s.chosen) (there : t < length s.program.threads) (lawful : IsLawful s) (u : ProgramSketch) (own : IsLawful u) (choices : List Choice) (after : List TraceTree)
     (x : Traces) (is : x ≡ Read u choices (trees_of (map traces after))) (is_tree : IsTraceTree t x) (is_alike : AreAlike (root x) s) (shown : Shown) where
   abbrev node : Traces
   node = Read u choices (trees_of (map traces after))
@@ -36,10 +38,10 @@ module _ (s : ProgramSketch) (t : ℕ) (others : Tally) (base : IsBase t s other
   alike = subst (λ (y : Traces). AreAlike (root y) s) is is_alike
 
   lawful_here : IsLawful merged
-  lawful_here = lawful_merged s u t lawful base.alone base.there own alike
+  lawful_here = lawful_merged s u t lawful alone there own alike
 
   are : AreValueChoices merged t choices
-  are = values_merged s u t lawful base.alone base.there own alike choices tree.0
+  are = values_merged s u t lawful alone there own alike choices tree.0
 
   as_many : length after ≡ length choices
   as_many = (let many = as_many_trees t u (map traces after) choices tree.2 in let long = length-map after traces in omega arith)
@@ -56,12 +58,20 @@ module _ (s : ProgramSketch) (t : ℕ) (others : Tally) (base : IsBase t s other
     below = (let many = as_many in omega arith)
 
     pub child_meets : IsTraceTree t (traces item) × AreAlike (root (traces item)) s
-    child_meets = (child.1, child_alike s u t lawful base.alone base.there own alike choices tree.0 i (choice.Value 0 0) below (traces item) child.0)
+    child_meets = (child.1, child_alike s u t lawful alone there own alike choices tree.0 i (choice.Value 0 0) below (traces item) child.0)
 
     -- the sketch at it
     pub child_at : with_root t s (traces item) ≡ with_chosen (with_root t s x) (sketch_with (with_root t s x).chosen (get_or (first_choices x) i (choice.Value 0 0)))
     child_at = subst (λ (y : Traces). with_root t s (traces item) ≡ with_chosen (with_root t s y) (sketch_with (with_root t s y).chosen (get_or (first_choices y) i (choice.Value 0 0)))) (sym is)
-        (child_parts s u t lawful base.alone base.there own alike choices tree.0 i (choice.Value 0 0) below (traces item) child.0)
+        (child_parts s u t lawful alone there own alike choices tree.0 i (choice.Value 0 0) below (traces item) child.0)
+
+    -- a tree that is valid there is one after the choice
+    pub cover_at : (outcomes : List Outcome) (made : Cover) → IsCoverAt (with_root t s (traces item)) shown outcomes made → IsCoverAfter (with_root t s x) shown outcomes (get_or (first_choices x) i (choice.Value 0 0)) made
+    cover_at outcomes made valid = subst (λ (y : Traces). IsCoverAfter (with_root t s y) shown outcomes (get_or (first_choices y) i (choice.Value 0 0)) made) (sym is)
+        (child_cover s u t lawful alone there own alike choices tree.0 i (choice.Value 0 0) below (traces item) child.0 shown outcomes made valid)
+
+  pub lawful_at : IsLawful (with_root t s x)
+  lawful_at = subst (λ (y : Traces). IsLawful (with_root t s y)) (sym is) lawful_here
 
   pub as_many_here : length after ≡ length (first_choices x)
   as_many_here = subst (λ (y : Traces). length after ≡ length (first_choices y)) (sym is) as_many
@@ -71,6 +81,9 @@ module _ (s : ProgramSketch) (t : ℕ) (others : Tally) (base : IsBase t s other
 
   pub are_here : AreValueChoices (with_root t s x) t (first_choices x)
   are_here = subst (λ (y : Traces). AreValueChoices (with_root t s y) t (first_choices y)) (sym is) are
+
+  pub open_here : IsValueOpen (with_root t s x) t
+  open_here = (let values = are_here in next_is_open (with_root t s x) t values.values values.next)
 
   pub few_here : (outcomes : List Outcome) → HaveAllRegisters s.program.threads → length choices < 2 ^ 32
   few_here outcomes six = few_choices merged shown outcomes lawful_here (left.Value t) choices six (next_is_open merged t are.values are.next) are

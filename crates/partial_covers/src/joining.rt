@@ -1,55 +1,24 @@
 //! How the cover of a part comes to the rest: its outcomes, and then its nodes with their numbers there.
-ghost use Rattle.std.specs.Prelude.{◌≡◌, List, [], IsTrue, IfOk, IfSome, OnOk};
+ghost use Rattle.std.specs.Prelude.{◌≡◌, List, [], IsTrue, IfSome, OnOk};
 ghost use Rattle.tso_program.specs.declared.shown.Shown.{Shown as ShownValue};
-ghost use Rattle.tso_program.specs.Shown.{Question, asked};
+ghost use Rattle.tso_program.specs.Shown.{Question};
 ghost use Rattle.tso_machine.specs.Machine.{Machine};
 ghost use Rattle.exec_axioms.specs.ProgramSketches.{ProgramSketch};
 ghost use Rattle.cover_judge.specs.declared.choice.Choice.{Choice as ChoiceValue};
 ghost use Rattle.sketch_covers.specs.declared.known_outcomes.KnownOutcomes.{KnownOutcomes as KnownValue};
 ghost use Rattle.sketch_covers.specs.OutcomeNumbers.{IsInOrder, KeepsNumbers, AreRunsOf};
 ghost use Rattle.partial_covers.specs.PartialCovers.{items_of, PushesPartialAt};
-ghost use Rattle.sketch_covers.specs.KnownOutcomes.{by_number, AreInOrder, Grows};
-ghost use Rattle.partial_covers.specs.Parts.{IsMadeAt, ArePartsFor, AreLeftOf, IfJoined, IsPathAt};
+ghost use Rattle.partial_covers.specs.Parts.{IsMadeAt, ArePartsFor, AreLeftOf, IsPathAt};
 
 use crate::part::{Part, PartCover};
 use crate::partial_cover::PartialCover;
 use crate::renumbering::renumber_partial;
 use cover_judge::Choice;
-use exec_axioms::Sketch;
-use sketch_covers::{KnownOutcomes, OutcomeIndex};
+use sketch_covers::OutcomeIndex;
 use std::alloc::{AllocError, Global};
-use tso_program::Shown;
-
-/// Takes the cover of the part of a path, if there is one, and answers whether it did. The path leads to the sketch.
-pub(crate) fn join_part(
-    alloc: Global,
-    _sketch: &Sketch,
-    _shown: &Shown,
-    path: &[Choice],
-    parts: &mut Vec<Part>,
-    outcomes: &mut KnownOutcomes,
-    kept: &mut PartialCover,
-) -> Result<bool, AllocError>
-    requires in_order { AreInOrder outcomes.old }
-    requires parts { ArePartsFor _sketch.now _shown.now outcomes.old path.now parts.old.items }
-    ensures left { OnOk result (AreLeftOf parts.old.items parts.new.items) }
-    ensures grows { OnOk result (Grows (asked _sketch.now.program _shown.now) outcomes.old outcomes.new) }
-    ensures tree { IfOk result (IfJoined _sketch.now _shown.now (by_number outcomes.new) path.now (items_of kept.old) (items_of kept.new)) }
-{
-    let KnownOutcomes::Open { found, .. } = outcomes else {
-        return Ok(false);
-    };
-    match take_made(parts, path) {
-        Some(made) => {
-            join(alloc, made, found, kept)?;
-            Ok(true)
-        }
-        None => Ok(false),
-    }
-}
 
 /// Adds the outcomes that are new, and puts the part's cover after the rest.
-fn join(
+pub(crate) fn join(
     alloc: Global,
     made: PartCover,
     found: &mut OutcomeIndex,
@@ -72,7 +41,7 @@ fn join(
 }
 
 /// The cover of the part of a path. It is taken out.
-fn take_made(parts: &mut Vec<Part>, path: &[Choice]) -> Option<PartCover>
+pub(crate) fn take_made(parts: &mut Vec<Part>, path: &[Choice]) -> Option<PartCover>
     ensures left { AreLeftOf parts.old.items parts.new.items }
     ensures made { (s : ProgramSketch) (shown : ShownValue) (outcomes : KnownValue) → ArePartsFor s shown outcomes path.now parts.old.items → IfSome result (IsMadeAt s shown outcomes path.now) }
 {

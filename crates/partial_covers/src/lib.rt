@@ -9,18 +9,18 @@
 //! is valid, and a search that stops has a run whose outcome the list lacks.
 #![tactic(auto)]
 
-mod cover_or_hole;
+mod covering;
 mod cutting;
 mod filling;
 mod joining;
 mod outcome_search;
+mod pair_covers;
 mod part;
 mod partial_cover;
 mod renumbering;
 mod searching;
 mod sequential_nodes;
-mod trace_covers;
-mod value_covers;
+mod unsourced_trees;
 mod watch;
 
 pub use outcome_search::{OutcomeCover, all_outcomes, cover_all};

@@ -5,9 +5,8 @@ ghost use Rattle.cover_judge.specs.Choices as choices;
 ghost use Rattle.partial_covers.specs.Parts.{IsMadeIn, IsSearched};
 ghost use Rattle.branching.specs.Plans.{IsBeforeLast};
 
-use crate::outcome_search::none_of;
+use crate::covering::Covering;
 use crate::partial_cover::PartialCover;
-use crate::value_covers::cover_values;
 use crate::watch::{PartWatch, Watch};
 use branching::Plan;
 use cover_judge::{Choice, sketch_with};
@@ -85,42 +84,35 @@ impl Part {
         ensures { IsSearched shown.now mode self.old self.new }
     {
         let own = PartWatch::new(watch);
-        self.made = made_of(alloc, &self.sketch, &self.path, plan, shown, mode, &own).ok();
+        self.made = self.cover(alloc, plan, shown, mode, &own).ok();
     }
-}
 
-/// The cover of a sketch to which a path leads.
-fn made_of<W: Watch>(
-    alloc: Global,
-    sketch: &Sketch,
-    path: &[Choice],
-    plan: &Plan,
-    shown: &Shown,
-    mode: Mode,
-    watch: &W,
-) -> Result<PartCover, AllocError>
-    requires { IsBeforeLast sketch.now plan.now.last }
-    ensures { IfOk result (IsMadeIn sketch.now shown.now mode path.now) }
-{
-    let mut path = Vec::from_slice(alloc, path)?;
-    let mut no_parts = Vec::new(alloc);
-    let mut outcomes = none_of(alloc, &mode);
-    let mut kept = PartialCover::none(alloc);
-    cover_values(
-        alloc,
-        sketch,
-        plan,
-        &mut path,
-        shown,
-        &mut no_parts,
-        &mut outcomes,
-        &mut kept,
-        watch,
-    )?;
-    watch.finished(outcomes.count());
-    kept.shrink();
-    match outcomes {
-        KnownOutcomes::Open { found, .. } => Ok(PartCover { found, kept }),
-        KnownOutcomes::Closed(_) => unreachable!(),
+    /// The cover of the part.
+    fn cover<W: Watch>(
+        &self,
+        alloc: Global,
+        plan: &Plan,
+        shown: &Shown,
+        mode: Mode,
+        watch: &W,
+    ) -> Result<PartCover, AllocError>
+        requires { IsBeforeLast self.now.sketch plan.now.last }
+        ensures { IfOk result (IsMadeIn self.now.sketch shown.now mode self.now.path.items) }
+    {
+        let path = Vec::from_slice(alloc, &self.path)?;
+        let mut no_parts = Vec::new(alloc);
+        let mut covering = Covering::none(alloc, shown, mode, path);
+        covering.cover_values(&self.sketch, plan, &mut no_parts, watch)?;
+        let Covering {
+            outcomes,
+            mut kept,
+            ..
+        } = covering;
+        watch.finished(outcomes.count());
+        kept.shrink();
+        match outcomes {
+            KnownOutcomes::Open { found, .. } => Ok(PartCover { found, kept }),
+            KnownOutcomes::Closed(_) => unreachable!(),
+        }
     }
 }

@@ -1,9 +1,7 @@
-use Rattle.std.proofs.Common.{◌≡◌, get_or, take, refl, sym, ap, ◌∙◌, subst}
+use Rattle.std.proofs.Common.{get_or, sym, ap, ◌∙◌, subst}
 use Rattle.exec_axioms.specs.ProgramSketches.{ProgramSketch, with_chosen}
-use Rattle.cover_judge.specs.declared.choice.Choice.{Choice}
 use Rattle.cover_judge.specs.declared.choice.Choice.TheVariants as choice
 use Rattle.cover_judge.specs.Choices.{MayChoose, sketch_with}
-use Rattle.partial_covers.specs.PartialCovers.{after}
 use Rattle.partial_covers.proofs.ChoicesMade.{may_at, one_made, all_made}
 use Rattle.partial_covers.proofs.filling.choose_all.Goals as goal
 

@@ -1,4 +1,4 @@
-use Rattle.std.proofs.Common.{◌≡◌, ◌<◌, ◌≤◌, List, [], ◌++◌, get_or, length, take, map, refl, sym, ap, ◌∙◌, subst, rules}
+use Rattle.std.proofs.Common.{◌≡◌, ◌<◌, ◌≤◌, List, ◌++◌, get_or, length, sym, ap, ◌∙◌, subst, rules}
 use Rattle.std.proofs.lemmas.List.{take_all}
 use Rattle.tso_program.specs.Shown.{asked}
 use Rattle.tso_program.specs.declared.listing.Listing.{Listing}
@@ -7,12 +7,10 @@ use Rattle.tso_machine.specs.Machine.{Machine}
 use Rattle.exec_axioms.specs.Kept.{IsLawful}
 use Rattle.exec_axioms.specs.ProgramSketches.{ProgramSketch, mode_in, nothing_chosen}
 use Rattle.exec_axioms.specs.Sizes.{HaveAllRegisters}
-use Rattle.cert_forest.specs.declared.node.Node.{Node}
-use Rattle.cover_judge.specs.declared.choice.Choice.{Choice}
 use Rattle.partial_covers.specs.declared.partial_cover.Piece.{Piece}
 use Rattle.partial_covers.specs.NodeChanges.{copied_in}
 use Rattle.sketch_covers.specs.Covers.{IsCoverAt}
-use Rattle.partial_covers.specs.PartialCovers.{Item, Has, items_before, items_of, after, MayChooseAll}
+use Rattle.partial_covers.specs.PartialCovers.{items_before, after, MayChooseAll}
 use Rattle.sketch_covers.specs.KnownOutcomes.{by_number, Grows, StopIs}
 use Rattle.sketch_covers.specs.Pushing.{Pushes}
 use Rattle.partial_covers.proofs.ChoicesMade.{same_program, same_machine}

@@ -1,22 +1,53 @@
-use Rattle.std.proofs.Common.{◌≡◌, List, [], refl, sym, subst}
+use Rattle.std.proofs.Common.{◌≡◌, [], ◌∙◌, List, refl, sym, subst}
 use Rattle.std.specs.FinSet as set
+use Rattle.tso_program.specs.declared.shown.Shown.{Shown}
 use Rattle.tso_program.specs.Shown.{asked}
 use Rattle.tso_machine.specs.declared.mode.Mode.TheVariants as modes
 use Rattle.exec_axioms.specs.ProgramSketches.{ProgramSketch, nothing_chosen}
-use Rattle.partial_covers.specs.PartialCovers.{Item, items_of, PushesPartial}
-use Rattle.sketch_covers.specs.KnownOutcomes.{by_number, Grows}
+use Rattle.cover_judge.specs.declared.choice.Choice.{Choice}
+use Rattle.sketch_covers.specs.declared.known_outcomes.KnownOutcomes.{KnownOutcomes}
+use Rattle.sketch_covers.specs.KnownOutcomes.{by_number, HasRunOfEach, StaysOf}
+use Rattle.partial_covers.specs.PartialCovers.{PushesPartial}
+use Rattle.partial_covers.specs.Parts.{ArePartsFor}
+use Rattle.partial_covers.proofs.CoveringSteps.{grows_from, tree_from}
 use Rattle.partial_covers.proofs.outcome_search.partial_of_all.Goals as goal
 
 pub cover_first-requires-clause-first : goal.cover_first-requires-clause-first
-cover_first-requires-clause-first g c = subst (λ (k : ProgramSketch). k ≡ nothing_chosen k.program k.mode) (sym c.requires.start.sketch) refl
+cover_first-requires-clause-first g c =
+    subst (λ (k : ProgramSketch). k ≡ nothing_chosen k.program k.mode) (sym (c.requires c.none-all.ensures.open.0).sketch) refl
 
-pub returns-clause-grows : goal.returns-clause-grows
-returns-clause-grows g c =
-    subst (λ (k : ProgramSketch). Grows (asked k.program c.args.shown.now) c.args.outcomes.now c.cover_first.new.outcomes) c.requires.start.sketch c.in_ok-cover_first.ensures.grows
+pub cover_first-requires-clause-plan : goal.cover_first-requires-clause-plan
+cover_first-requires-clause-plan g c = (c.requires c.none-all.ensures.open.0).plan
+
+pub cover_first-requires-clause-parts : goal.cover_first-requires-clause-parts
+cover_first-requires-clause-parts g c =
+    let s = c.args.start.sketch in
+    let parts = c.args.start.parts.items in
+    let none = c.none-all.result in
+    let begins = c.none-all.ensures in
+    subst (λ (sh : Shown). ArePartsFor s sh none.outcomes none.path.items parts) (sym begins.shown)
+    (subst (λ (cs : List Choice). ArePartsFor s c.args.shown.now none.outcomes cs parts) (sym (begins.path ∙ c.new.ensures.items))
+    (subst (λ (o : KnownOutcomes). ArePartsFor s c.args.shown.now o [] parts) (sym begins.open.1) (c.requires begins.open.0).parts))
+
+pub returns-clause-in_order : goal.returns-clause-in_order
+returns-clause-in_order g c = c.in_ok-cover_first.ensures.grows.in_order
+
+pub returns-clause-runs : goal.returns-clause-runs
+returns-clause-runs g c =
+    let s = c.args.start.sketch in
+    let shown = c.args.shown.now in
+    let begins = c.none-all.ensures in
+    let grows = grows_from s shown c.none-all.result c.cover_first.new.self begins.shown c.in_ok-cover_first.ensures in
+    subst (λ (k : ProgramSketch). HasRunOfEach (asked k.program shown) c.cover_first.new.self.outcomes) (c.requires begins.open.0).sketch (grows.runs (begins.runs (asked s.program shown)))
+
+pub returns-clause-open : goal.returns-clause-open
+returns-clause-open g c = subst (λ (o : KnownOutcomes). StaysOf o c.cover_first.new.self.outcomes) c.none-all.ensures.open.1 c.in_ok-cover_first.ensures.grows.stays
 
 pub returns-clause-kept : goal.returns-clause-kept
 returns-clause-kept g c =
+    let begins = c.none-all.ensures in
+    let new = c.cover_first.new.self in
+    let shown = c.args.shown.now in
     let root = nothing_chosen c.args.program.now (modes.Fenced set.empty) in
-    let outcomes = by_number c.cover_first.new.outcomes in
-    subst (PushesPartial root c.args.shown.now outcomes [] []) (sym c.shrink.ensures)
-    (subst (λ (old : List Item). PushesPartial root c.args.shown.now outcomes [] old (items_of c.cover_first.new.kept)) c.none-kept.ensures (c.in_ok-cover_first.ensures.tree root (sym c.requires.start.sketch)))
+    let tree = tree_from c.args.start.sketch shown c.none-all.result new begins.shown c.in_ok-cover_first.ensures [] (begins.path ∙ c.new.ensures.items) begins.kept in
+    subst (PushesPartial root shown (by_number new.outcomes) [] []) (sym c.shrink.ensures) (tree root (sym (c.requires begins.open.0).sketch))

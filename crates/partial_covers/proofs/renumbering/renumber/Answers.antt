@@ -1,4 +1,4 @@
-use Rattle.std.proofs.Common.{◌≡◌, ◌<◌, ◌≤◌, length, sym, ◌∙◌, arith}
+use Rattle.std.proofs.Common.{◌<◌, ◌≤◌, length, sym, ◌∙◌, arith}
 use Rattle.partial_covers.specs.NodeChanges.{renumbered_node}
 use Rattle.sketch_covers.specs.OutcomeNumbers.{place_in}
 use Rattle.partial_covers.proofs.ChangedNodes.{changed_step, changed_all}

@@ -1,4 +1,4 @@
-use Rattle.std.proofs.Common.{◌≡◌, ◌<◌, length, refl, ◌∙◌, arith, length-set}
+use Rattle.std.proofs.Common.{◌<◌, length, refl, ◌∙◌, arith, length-set}
 use Rattle.sketch_covers.specs.OutcomeNumbers.{place_in}
 use Rattle.partial_covers.proofs.PartialRenumbered.{pieces_renumbered, pieces_made, pieces_left}
 use Rattle.partial_covers.proofs.renumbering.renumber_pieces.Goals as goal

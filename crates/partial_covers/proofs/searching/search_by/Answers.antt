@@ -1,5 +1,5 @@
 use denote.Exit.{no}
-use denote.Param.Send.{IsSend, IsSync, param_send, param_sync, arg_send, arg_sync, shr_sync, sendable}
+use denote.Param.Send.{IsSync, param_send, param_sync, arg_send, arg_sync, shr_sync, sendable}
 use Rattle.std.proofs.Crossing.{crosses}
 use Rattle.std.proofs.alloc.Global.TheSendSync as global
 use Rattle.tso_program.proofs.shown.Shown.TheSendSync as shown

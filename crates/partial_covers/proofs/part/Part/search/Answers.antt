@@ -1,7 +1,6 @@
-use Rattle.std.proofs.Common.{List, Option, Result, Ok, Err, IfOk, refl, sym, subst}
+use Rattle.std.proofs.Common.{Option, Result, Ok, Err, IfOk, refl, sym, subst}
 use Rattle.std.specs.Prelude.{IfSome}
 use Rattle.std.specs.Result.{result_ok}
-use Rattle.cover_judge.specs.declared.choice.Choice.{Choice}
 use Rattle.partial_covers.specs.declared.part.PartCover.{PartCover}
 use Rattle.partial_covers.specs.Parts.{IsMadeIn}
 use Rattle.partial_covers.proofs.part.Part.search.Goals as goal
@@ -18,6 +17,5 @@ returns g c =
     let path = c.args.self.now.path.items in
     record {
       path = refl;
-      made = subst (λ (made : Option PartCover). IfSome made (IsMadeIn s shown mode path)) (sym c.ok.ensures.value)
-          (subst (λ (cs : List Choice). IfSome (result_ok c.made_of.result) (IsMadeIn s shown mode cs)) c.deref.ensures.value (some_of c.made_of.result (IsMadeIn s shown mode c.deref.result.now) c.made_of.ensures));
+      made = subst (λ (made : Option PartCover). IfSome made (IsMadeIn s shown mode path)) (sym c.ok.ensures.value) (some_of c.cover.result (IsMadeIn s shown mode path) c.cover.ensures);
     }

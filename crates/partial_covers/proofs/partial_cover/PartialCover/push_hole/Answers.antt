@@ -1,8 +1,4 @@
-use Rattle.std.proofs.Common.{◌≡◌, ◌∷◌, [], ◌++◌, ◌∙◌, List, ap, sym, map}
-use Rattle.cert_forest.specs.declared.node.Node.{Node}
-use Rattle.cover_judge.specs.declared.choice.Choice.{Choice}
-use Rattle.partial_covers.specs.declared.partial_cover.Piece.{Piece}
-use Rattle.partial_covers.specs.PartialCovers.{Item, Has, Lacks, items_before}
+use Rattle.std.proofs.Common.{◌∙◌, ap}
 use Rattle.partial_covers.proofs.PartialNodes.{piece_pushed}
 use Rattle.partial_covers.proofs.partial_cover.PartialCover.push_hole.Goals as goal
 

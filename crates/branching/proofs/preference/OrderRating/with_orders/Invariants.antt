@@ -1,0 +1,14 @@
+use Rattle.std.proofs.Common.{◌≡◌, ℕ, ◌<◌, None, get_or}
+use Rattle.std.specs.Prelude.{IfSome}
+use Rattle.branching.specs.declared.preference.RatedChoice.{RatedChoice}
+use Rattle.branching.specs.declared.reads_writes.WrittenValue.{WrittenValue}
+use Rattle.branching.specs.OpenChoices.{IsOpen}
+use Rattle.branching.specs.ChoicesLeft.{AreWritesInOrder}
+use Rattle.branching.proofs.preference.OrderRating.with_orders.Given as goal
+
+-- the best is open; if there is none, the write is in order with the later ones so far
+abbrev pub invariant-loop-later : goal.invariant-loop-later
+invariant-loop-later l = record {
+  is_open : IfSome l.best (λ (best : RatedChoice). IsOpen l.self.sketch.now best.next);
+  none : l.best ≡ None → (l.fn.best ≡ None) × ((j : ℕ) (d : WrittenValue) → l.place < j → j < l.later → AreWritesInOrder l.self.sketch.now (get_or l.self.accesses.now.writes.items l.place d) (get_or l.self.accesses.now.writes.items j d));
+}

@@ -1,6 +1,0 @@
-use Rattle.tree_laws.specs.CoverTrees.{event_of}
-use Rattle.cover_judge.proofs.ChoicesJudged.{other_way}
-use Rattle.branching.proofs.preference.merit_of_orders.Goals as goal
-
-pub stays_open-requires-2 : goal.stays_open-requires-2
-stays_open-requires-2 c = other_way c.args.sketch.now (event_of c.args.pair.0.write) (event_of c.args.pair.1.write) c.requires

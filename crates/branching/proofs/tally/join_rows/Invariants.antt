@@ -1,0 +1,12 @@
+use Rattle.std.proofs.Common.{◌≡◌, ◌⊎◌, ℕ, ◌<◌, length}
+use Rattle.bit_rows.specs.Rows.{Relates}
+use Rattle.bit_rows.specs.declared.row.TheConstants.{ROW_BITS}
+use Rattle.branching.proofs.tally.join_rows.Given as goal
+
+-- the first rows have the bits of both, and the others are as they were
+abbrev pub invariant-loop-d : goal.invariant-loop-d
+invariant-loop-d l = record {
+  long : length l.rows ≡ ROW_BITS;
+  both : (n e : ℕ) → n < l.d → Relates l.initial.rows n e ⊎ Relates l.more n e → Relates l.rows n e;
+  rest : (n e : ℕ) → n < ROW_BITS → (n < l.d → ⊥) → Relates l.initial.rows n e → Relates l.rows n e;
+}

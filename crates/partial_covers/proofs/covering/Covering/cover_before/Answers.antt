@@ -1,0 +1,21 @@
+use Rattle.std.proofs.Common.{subst}
+use Rattle.exec_axioms.specs.ProgramSketches.{ProgramSketch}
+use Rattle.branching.specs.Combinations.{with_root}
+use Rattle.branching.specs.Traces.{traces}
+use Rattle.partial_covers.specs.Coverings.{Covers}
+use Rattle.partial_covers.proofs.CombinedCovers.{at_its_start, rest_of}
+use Rattle.partial_covers.proofs.PartialNodes.{on_ok}
+use Rattle.partial_covers.proofs.covering.Covering.cover_before.Goals as goal
+
+pub cover_pair-requires-clause-pair : goal.cover_pair-requires-clause-pair
+cover_pair-requires-clause-pair g c = record {
+  last = c.requires.last;
+  rest = rest_of c.args.sketch.now c.args.last.now.thread c.args.before.now c.in_ok-of_rest.field-0 c.requires.before c.in_ok-of_rest.ensures;
+}
+
+pub returns : goal.returns
+returns g c =
+    let s = c.args.sketch.now in
+    let before = c.args.before.now in
+    let P : ProgramSketch → Type 0 = λ n. Covers n c.args.self.now c.cover_pair.new.self in
+    on_ok c.cover_pair.result (P (with_root before.thread s (traces before.tree))) (P s) (subst P (at_its_start s c.args.last.now.thread before c.program.ensures.lawful c.requires.before)) c.cover_pair.ensures

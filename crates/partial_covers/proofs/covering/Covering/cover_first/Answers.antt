@@ -1,0 +1,14 @@
+use Rattle.std.proofs.Common.{Option, subst}
+use Rattle.std.specs.Option.{MatchOption}
+use Rattle.candidate_executions.specs.Sketches.{IsWhole}
+use Rattle.exec_axioms.specs.ProgramSketches.{mode_in}
+use Rattle.branching.specs.declared.plan.Plan.{Plan}
+use Rattle.branching.specs.Plans.{IsLast}
+use Rattle.partial_covers.proofs.CombinedCovers.{before_first}
+use Rattle.partial_covers.proofs.covering.Covering.cover_first.Goals as goal
+
+pub cover_values-requires-clause-before : goal.cover_values-requires-clause-before
+cover_values-requires-clause-before g c =
+    let s = c.args.sketch.now in
+    before_first s.program s.mode s c.in-Some.plan.last c.requires.first
+    (subst (λ (plan : Option Plan). MatchOption plan (IsWhole s.program (mode_in s) s.chosen) (λ plan. IsLast s plan.last)) c.in-Some.is c.requires.plan)

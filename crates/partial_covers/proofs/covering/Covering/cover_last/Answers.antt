@@ -1,0 +1,15 @@
+use Rattle.std.proofs.Common.{subst}
+use Rattle.exec_axioms.specs.ProgramSketches.{ProgramSketch}
+use Rattle.branching.specs.Combinations.{with_root}
+use Rattle.branching.specs.Traces.{traces}
+use Rattle.partial_covers.specs.Coverings.{Covers}
+use Rattle.partial_covers.proofs.CombinedCovers.{at_start}
+use Rattle.partial_covers.proofs.PartialNodes.{on_ok}
+use Rattle.partial_covers.proofs.covering.Covering.cover_last.Goals as goal
+
+pub returns : goal.returns
+returns g c =
+    let s = c.args.sketch.now in
+    let last = c.args.plan.now.last in
+    let P : ProgramSketch → Type 0 = λ n. Covers n c.args.self.now c.cover_traces.new.self in
+    on_ok c.cover_traces.result (P (with_root last.thread s (traces last.tree))) (P s) (subst P (at_start s last c.program.ensures.lawful c.requires.before)) c.cover_traces.ensures

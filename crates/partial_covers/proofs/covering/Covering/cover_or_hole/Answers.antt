@@ -1,0 +1,34 @@
+use Rattle.std.proofs.Common.{◌≡◌, ◌∷◌, [], ◌++◌, ◌∙◌, List, map, refl, subst, arith}
+use Rattle.tso_program.specs.Shown.{asked}
+use Rattle.sketch_covers.specs.KnownOutcomes.{by_number, Grows}
+use Rattle.sketch_covers.specs.Pushing.{BeginsIfNew}
+use Rattle.partial_covers.specs.Coverings.{Covers}
+use Rattle.partial_covers.specs.PartialCovers.{Item, Has, Lacks, items_before, items_of}
+use Rattle.partial_covers.proofs.PartialNodes.{pushes_closed, pushes_hole, taken_back, on_ok, told_as}
+use Rattle.partial_covers.proofs.covering.Covering.cover_or_hole.Goals as goal
+
+pub returns-in-Ok-clause-covers : goal.returns-in-Ok-clause-covers
+returns-in-Ok-clause-covers g c =
+    let old = c.args.self.now in
+    record {
+      shown = refl;
+      path = refl;
+      grows = c.in-Ok.ensures.grows;
+      tree = pushes_closed c.args.sketch.now old.shown.now (by_number c.cover_whole-covered.new.outcomes) old.path.items old.kept.pieces.items old.kept.nodes.items c.cover_whole-covered.new.nodes.items c.in-Ok.ensures.tree;
+    }
+
+pub returns-in-Err-New-clause-covers : goal.returns-in-Err-New-clause-covers
+returns-in-Err-New-clause-covers g c =
+    let s = c.args.sketch.now in
+    let old = c.args.self.now in
+    let nodes = old.kept.nodes.items in
+    let back : c.truncate.new.self.items ≡ nodes = c.truncate.ensures.items ∙ taken_back nodes c.cover_whole-covered.new.nodes.items c.len-start.result (subst (BeginsIfNew nodes c.cover_whole-covered.new.nodes.items) c.in-Err-New.field-0-is c.in-Err-New.ensures.stays) (omega (arith, c.len-start.ensures, old.kept.nodes.ok.0)) in
+    let mid : List Item = items_before old.kept.pieces.items ++ map Has c.truncate.new.self.items in
+    on_ok c.push_hole.result (items_of c.push_hole.new.self ≡ mid ++ Lacks c.deref.result.now ∷ []) (Covers s old (record old { outcomes = c.cover_whole-covered.new.outcomes; kept = c.push_hole.new.self }))
+    (λ is. record {
+      shown = refl;
+      path = refl;
+      grows = told_as c.in-Err-New.field-0 _ (Grows (asked s.program old.shown.now) old.outcomes c.cover_whole-covered.new.outcomes) c.in-Err-New.field-0-is c.in-Err-New.ensures.grows;
+      tree = pushes_hole s old.shown.now (by_number c.cover_whole-covered.new.outcomes) old.path.items (items_of old.kept) (items_of c.push_hole.new.self) c.requires.whole
+          (is ∙ (λ i. (items_before old.kept.pieces.items ++ map Has (back i)) ++ Lacks (c.deref.ensures.value i) ∷ []));
+    }) c.push_hole.ensures

@@ -1,0 +1,45 @@
+use Rattle.std.proofs.Common.{refl, sym, subst}
+use Rattle.tso_program.specs.Shown.{asked}
+use Rattle.candidate_executions.specs.Sketches.{IsWhole}
+use Rattle.exec_axioms.specs.ProgramSketches.{ProgramSketch, mode_in}
+use Rattle.cert_forest.specs.Trees.{Source, NoCover}
+use Rattle.branching.specs.Combinations.{with_trace}
+use Rattle.sketch_covers.specs.KnownOutcomes.{by_number}
+use Rattle.partial_covers.specs.Coverings.{Covers}
+use Rattle.partial_covers.proofs.CombinedSketches.{whole_merged, unsourced_cover}
+use Rattle.sketch_covers.proofs.Growing.{grows_none}
+use Rattle.partial_covers.proofs.PartialNodes.{pushes_closed, on_ok}
+use Rattle.partial_covers.proofs.covering.Covering.cover_trace.Goals as goal
+
+pub cover_or_hole-requires-clause-whole : goal.cover_or_hole-requires-clause-whole
+cover_or_hole-requires-clause-whole g c =
+    let base = c.requires.base in
+    subst (λ (n : ProgramSketch). IsWhole n.program (mode_in n) n.chosen) (sym c.in_ok-whole-in-None.ensures)
+    (whole_merged c.args.sketch.now c.args.trace.now.sketch c.args.t c.program.ensures.lawful base.alone base.there c.program-2.ensures.lawful c.requires.alike c.requires.trace.full base.full)
+
+pub returns-in_ok-push-in-Some : goal.returns-in_ok-push-in-Some
+returns-in_ok-push-in-Some g c =
+    let s = c.args.sketch.now in
+    let u = c.args.trace.now.sketch in
+    let base = c.requires.base in
+    let lawful = c.program.ensures.lawful in
+    let own = c.program-2.ensures.lawful in
+    let old = c.args.self.now in
+    let outs = by_number old.outcomes in
+    let whole = whole_merged s u c.args.t lawful base.alone base.there own c.requires.alike c.requires.trace.full base.full in
+    record {
+      shown = refl;
+      path = refl;
+      grows = grows_none (asked s.program old.shown.now) old.outcomes c.requires.in_order;
+      tree = pushes_closed (with_trace c.args.t s c.args.trace.now) old.shown.now outs old.path.items old.kept.pieces.items old.kept.nodes.items c.push.new.self.items (record {
+        tree = Source c.in-Some.read NoCover;
+        is = unsourced_cover s u c.args.t lawful base.alone base.there own c.requires.alike c.args.trace.now.tally c.args.others.now c.requires.trace.tally base.tally
+            old.shown.now outs c.program.ensures.registers whole c.in-Some.read c.in-Some.ensures;
+        pushed = c.in_ok-push-in-Some.ensures.items;
+      });
+    }
+
+pub returns-in_ok-whole-in-None : goal.returns-in_ok-whole-in-None
+returns-in_ok-whole-in-None g c =
+    let P : ProgramSketch → Type 0 = λ n. Covers n c.args.self.now c.cover_or_hole.new.self in
+    on_ok c.cover_or_hole.result (P c.in_ok-whole-in-None.whole) (P (with_trace c.args.t c.args.sketch.now c.args.trace.now)) (subst P c.in_ok-whole-in-None.ensures) c.cover_or_hole.ensures.covers

@@ -1,0 +1,47 @@
+use Rattle.std.proofs.Common.{List, refl, sym, subst}
+use Rattle.tso_program.specs.Shown.{asked}
+use Rattle.tso_machine.specs.Modes.{machine_of_mode}
+use Rattle.cover_judge.specs.declared.choice.Choice.{Choice}
+use Rattle.sketch_covers.specs.declared.known_outcomes.KnownOutcomes.{KnownOutcomes}
+use Rattle.sketch_covers.specs.declared.known_outcomes.KnownOutcomes.TheVariants.{Open}
+use Rattle.sketch_covers.specs.KnownOutcomes.{Grows}
+use Rattle.partial_covers.specs.Parts.{AreRunsFor, ArePartsFor, IsMadeAt}
+use Rattle.sketch_covers.proofs.Growing.{grows_none, grows_open}
+use Rattle.partial_covers.proofs.covering.Covering.join_part.Goals as goal
+
+pub join-requires-clause-made : goal.join-requires-clause-made
+join-requires-clause-made c =
+    let s = c.args._sketch.now in
+    let old = c.args.self.now in
+    let parts = subst (λ (cs : List Choice). ArePartsFor s old.shown.now old.outcomes cs c.args.parts.now.items) (sym c.deref.ensures.value) c.requires.parts in
+    (c.in-Some.ensures.made s old.shown.now old.outcomes parts).in_order
+
+pub returns-in_ok-join-in-Some-clause-covers : goal.returns-in_ok-join-in-Some-clause-covers
+returns-in_ok-join-in-Some-clause-covers c =
+    let s = c.args._sketch.now in
+    let old = c.args.self.now in
+    let q = asked s.program old.shown.now in
+    let mode = c.in-Open.mode in
+    let new = c.join.new.found in
+    let made = c.in-Some.made in
+    let parts = subst (λ (cs : List Choice). ArePartsFor s old.shown.now old.outcomes cs c.args.parts.now.items) (sym c.deref.ensures.value) c.requires.parts in
+    let is = subst (λ (cs : List Choice). IsMadeAt s old.shown.now old.outcomes cs made) c.deref.ensures.value (c.in-Some.ensures.made s old.shown.now old.outcomes parts) in
+    let theirs = subst (λ (o : KnownOutcomes). AreRunsFor q o made.found) c.in-Open.is is.runs in
+    record {
+      shown = refl;
+      path = refl;
+      grows = subst (λ (o : KnownOutcomes). Grows q o (Open new mode)) (sym c.in-Open.is)
+          (grows_open q mode c.in-Open.found new c.in_ok-join-in-Some.ensures.in_order c.in_ok-join-in-Some.ensures.keeps (λ ours. c.in_ok-join-in-Some.ensures.runs q (machine_of_mode q.program mode) theirs ours));
+      tree = c.in_ok-join-in-Some.ensures.tree s old.shown.now old.path.items is.kept;
+    }
+
+pub returns-in-None-clause-covers : goal.returns-in-None-clause-covers
+returns-in-None-clause-covers c =
+    let old = c.args.self.now in
+    let q = asked c.args._sketch.now.program old.shown.now in
+    record {
+      shown = refl;
+      path = refl;
+      grows = subst (λ (new : KnownOutcomes). Grows q old.outcomes new) c.in-Open.is (grows_none q old.outcomes c.requires.in_order);
+      tree = refl;
+    }

@@ -1,0 +1,5 @@
+use Rattle.std.proofs.Common.{refl}
+use Rattle.partial_covers.proofs.covering.Covering.none.Goals as goal
+
+pub returns-clause-open : goal.returns-clause-open
+returns-clause-open c = (c.none-found.result, refl)

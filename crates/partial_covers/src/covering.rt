@@ -1,0 +1,316 @@
+//! What a search for outcomes has so far, and how it goes on: over the values of all reads, a thread at a time, up to
+//! a sketch that must end as an outcome of the list. The sketches have no gap fenced.
+ghost use Rattle.std.specs.Prelude.{◌≡◌, [], IfOk, OnOk, MatchOption};
+ghost use Rattle.tso_program.specs.Shown.{Question};
+ghost use Rattle.candidate_executions.specs.Sketches.{IsWhole};
+ghost use Rattle.exec_axioms.specs.ProgramSketches.{nothing_chosen, mode_in};
+ghost use Rattle.cover_judge.specs.Choices.{MayChooseEach};
+ghost use Rattle.branching.specs.Combinations.{AreAlike, IsBase, with_root, with_trace};
+ghost use Rattle.branching.specs.Plans.{IsLast, IsBeforeLast, IsOtherOpen, AreOfOthers, AreOthersFull};
+ghost use Rattle.branching.specs.Traces.{traces, root, IsTraceTree, IsFullTrace};
+ghost use Rattle.sketch_covers.specs.declared.outcome_index.OutcomeIndex.{OutcomeIndex as IndexValue};
+ghost use Rattle.sketch_covers.specs.declared.known_outcomes.KnownOutcomes.TheVariants.{Open};
+ghost use Rattle.sketch_covers.specs.KnownOutcomes.{AreInOrder, HasRunOfEach};
+ghost use Rattle.partial_covers.specs.Coverings.{Covers, CoversEach, CoversIf};
+ghost use Rattle.partial_covers.specs.PartialCovers.{items_of};
+ghost use Rattle.partial_covers.specs.Parts.{ArePartsFor, AreLeftOf};
+
+use crate::joining::{join, take_made};
+use crate::part::Part;
+use crate::partial_cover::PartialCover;
+use crate::watch::Watch;
+use branching::{FullTrace, OpenChoice, Plan, Tally, TraceTree, choices_of};
+use cert_forest::Node;
+use cover_judge::{Choice, sketch_with};
+use exec_axioms::{Mode, Sketch};
+use sketch_covers::{KnownOutcomes, OutcomeIndex, Stop, cover_whole, known_leaf};
+use std::alloc::{AllocError, Global};
+use tso_program::Shown;
+
+/// What a search for outcomes has so far: the outcomes, the cover over them, and the path to the next sketch.
+#[derive(Drop)]
+pub(crate) struct Covering<'a> {
+    pub(crate) alloc: Global,
+    pub(crate) shown: &'a Shown,
+    pub(crate) outcomes: KnownOutcomes<'a>,
+    pub(crate) kept: PartialCover,
+    pub(crate) path: Vec<Choice>,
+}
+
+impl<'a> Covering<'a> {
+    /// Nothing yet, where the path leads. The list is open for outcomes of the mode.
+    pub(crate) fn none(
+        alloc: Global,
+        shown: &'a Shown,
+        mode: Mode,
+        path: Vec<Choice>,
+    ) -> Covering<'a>
+        ensures shown { result.shown.now ≡ shown.now }
+        ensures path { result.path.items ≡ path.items }
+        ensures kept { items_of result.kept ≡ [] }
+        ensures in_order { AreInOrder result.outcomes }
+        ensures runs { (q : Question) → HasRunOfEach q result.outcomes }
+        ensures open { (found : IndexValue) × (result.outcomes ≡ Open found mode) }
+    {
+        let found = OutcomeIndex::none(alloc);
+        Covering {
+            alloc,
+            shown,
+            outcomes: KnownOutcomes::Open { found, mode },
+            kept: PartialCover::none(alloc),
+            path,
+        }
+    }
+}
+
+impl Covering<'_> {
+    /// Covers a sketch with no choice.
+    pub(crate) fn cover_first<W: Watch>(
+        &mut self,
+        sketch: &mut Sketch,
+        plan: &Option<Plan>,
+        parts: &mut Vec<Part>,
+        watch: &W,
+    ) -> Result<(), AllocError>
+        requires in_order { AreInOrder self.old.outcomes }
+        requires first { sketch.old ≡ nothing_chosen sketch.old.program sketch.old.mode }
+        requires plan { MatchOption plan.now (IsWhole sketch.old.program (mode_in sketch.old) sketch.old.chosen) (λ plan. IsLast sketch.old plan.last) }
+        requires parts { ArePartsFor sketch.old self.old.shown.now self.old.outcomes self.old.path.items parts.old.items }
+        ensures { OnOk result (Covers sketch.old self.old self.new) }
+    {
+        match plan {
+            Some(plan) => self.cover_values(sketch, plan, parts, watch),
+            None => self.cover_or_hole(sketch, watch),
+        }
+    }
+
+    /// Covers a sketch in which the last thread has no value yet. The cover of a part is taken from there.
+    #[cycle(cover_values)]
+    pub(crate) fn cover_values<W: Watch>(
+        &mut self,
+        sketch: &Sketch,
+        plan: &Plan,
+        parts: &mut Vec<Part>,
+        watch: &W,
+    ) -> Result<(), AllocError>
+        requires in_order { AreInOrder self.old.outcomes }
+        requires before { IsBeforeLast sketch.now plan.now.last }
+        requires parts { ArePartsFor sketch.now self.old.shown.now self.old.outcomes self.old.path.items parts.old.items }
+        ensures left { OnOk result (AreLeftOf parts.old.items parts.new.items) }
+        ensures covers { OnOk result (Covers sketch.now self.old self.new) }
+    {
+        // For the proof alone: what holds of every sketch is known where its program is read.
+        let _ = sketch.program();
+        if known_leaf(sketch, self.shown, &self.outcomes, &mut self.kept.nodes)? {
+            watch.done(plan.combinations(sketch), self.outcomes.count());
+            return Ok(());
+        }
+        if self.join_part(sketch, parts)? {
+            return Ok(());
+        }
+        match plan.next_thread(sketch) {
+            Some(t) => self.cover_next(sketch, plan, t, parts, watch),
+            None => self.cover_last(sketch, plan, watch),
+        }
+    }
+
+    /// Covers a sketch over the values of thread t's next read.
+    #[cycle(cover_values)]
+    fn cover_next<W: Watch>(
+        &mut self,
+        sketch: &Sketch,
+        plan: &Plan,
+        t: u8,
+        parts: &mut Vec<Part>,
+        watch: &W,
+    ) -> Result<(), AllocError>
+        requires in_order { AreInOrder self.old.outcomes }
+        requires before { IsBeforeLast sketch.now plan.now.last }
+        requires open { IsOtherOpen sketch.now plan.now.last.thread t }
+        requires parts { ArePartsFor sketch.now self.old.shown.now self.old.outcomes self.old.path.items parts.old.items }
+        ensures left { OnOk result (AreLeftOf parts.old.items parts.new.items) }
+        ensures covers { OnOk result (Covers sketch.now self.old self.new) }
+    {
+        // For the proof alone: what holds of every sketch is known where its program is read.
+        let _ = sketch.program();
+        if parts.is_empty() && needs_values(self.shown) {
+            if let Some(before) = plan.before_last(sketch, t) {
+                return self.cover_before(sketch, before, &plan.last, watch);
+            }
+        }
+        let choices = choices_of(self.alloc, sketch, OpenChoice::Value(t))?;
+        self.kept.push_values(t, choices.len())?;
+        self.cover_each_value(sketch, plan, &choices, parts, watch)
+    }
+
+    /// The same after each of the choices.
+    #[cycle(cover_values)]
+    fn cover_each_value<W: Watch>(
+        &mut self,
+        sketch: &Sketch,
+        plan: &Plan,
+        choices: &[Choice],
+        parts: &mut Vec<Part>,
+        watch: &W,
+    ) -> Result<(), AllocError>
+        requires in_order { AreInOrder self.old.outcomes }
+        requires before { IsBeforeLast sketch.now plan.now.last }
+        requires may { MayChooseEach sketch.now choices.now }
+        requires others { AreOfOthers plan.now.last.thread choices.now }
+        requires parts { ArePartsFor sketch.now self.old.shown.now self.old.outcomes self.old.path.items parts.old.items }
+        ensures left { OnOk result (AreLeftOf parts.old.items parts.new.items) }
+        ensures covers { OnOk result (CoversEach sketch.now choices.now self.old self.new) }
+    {
+        // For the proof alone: what holds of every sketch is known where its program is read.
+        let _ = sketch.program();
+        for choice in choices {
+            let next = sketch_with(sketch, *choice)?;
+            self.path.push(*choice)?;
+            self.cover_values(&next, plan, parts, watch)?;
+            self.path.pop();
+        }
+        Ok(())
+    }
+
+    /// Takes the cover of the part to which the path leads, if there is one, and answers whether it did.
+    fn join_part(&mut self, _sketch: &Sketch, parts: &mut Vec<Part>) -> Result<bool, AllocError>
+        requires in_order { AreInOrder self.old.outcomes }
+        requires parts { ArePartsFor _sketch.now self.old.shown.now self.old.outcomes self.old.path.items parts.old.items }
+        ensures left { OnOk result (AreLeftOf parts.old.items parts.new.items) }
+        ensures covers { IfOk result (CoversIf _sketch.now self.old self.new) }
+    {
+        let KnownOutcomes::Open { found, .. } = &mut self.outcomes else {
+            return Ok(false);
+        };
+        match take_made(parts, &self.path) {
+            Some(made) => {
+                join(self.alloc, made, found, &mut self.kept)?;
+                Ok(true)
+            }
+            None => Ok(false),
+        }
+    }
+
+    /// Covers a sketch in which all threads but the last have their values.
+    fn cover_last<W: Watch>(
+        &mut self,
+        sketch: &Sketch,
+        plan: &Plan,
+        watch: &W,
+    ) -> Result<(), AllocError>
+        requires in_order { AreInOrder self.old.outcomes }
+        requires before { IsBeforeLast sketch.now plan.now.last }
+        requires full { AreOthersFull sketch.now plan.now.last.thread }
+        ensures { OnOk result (Covers sketch.now self.old self.new) }
+    {
+        // For the proof alone: what holds of every sketch is known where its program is read.
+        let _ = sketch.program();
+        let t = plan.last.thread;
+        let others = Tally::of_others(self.alloc, sketch, t)?;
+        self.cover_traces(sketch, &others, t, &plan.last.tree, watch)
+    }
+
+    /// Covers the sketch with the values of thread t at the first node. All other threads have their values in the
+    /// sketch, and read and write what the tally of them says.
+    #[cycle(cover_traces)]
+    pub(crate) fn cover_traces<W: Watch>(
+        &mut self,
+        sketch: &Sketch,
+        others: &Tally,
+        t: u8,
+        tree: &TraceTree,
+        watch: &W,
+    ) -> Result<(), AllocError>
+        requires in_order { AreInOrder self.old.outcomes }
+        requires base { IsBase t sketch.now others.now }
+        requires tree { IsTraceTree t (traces tree.now) }
+        requires alike { AreAlike (root (traces tree.now)) sketch.now }
+        ensures { OnOk result (Covers (with_root t sketch.now (traces tree.now)) self.old self.new) }
+    {
+        // For the proof alone: what holds of every sketch is known where its program is read.
+        let _ = sketch.program();
+        match tree {
+            TraceTree::Read {
+                sketch: own,
+                choices,
+                after,
+            } => {
+                // For the proof alone, as above.
+                let _ = own.program();
+                self.kept.push_values(t, choices.len())?;
+                for (i, next) in after.iter().enumerate() {
+                    self.path.push(choices[i])?;
+                    self.cover_traces(sketch, others, t, next, watch)?;
+                    self.path.pop();
+                }
+                Ok(())
+            }
+            TraceTree::Full(trace) => self.cover_trace(sketch, others, t, trace, watch),
+        }
+    }
+
+    /// Covers the sketch with the values of thread t in the trace: a read without a source closes it at once.
+    fn cover_trace<W: Watch>(
+        &mut self,
+        sketch: &Sketch,
+        others: &Tally,
+        t: u8,
+        trace: &FullTrace,
+        watch: &W,
+    ) -> Result<(), AllocError>
+        requires in_order { AreInOrder self.old.outcomes }
+        requires base { IsBase t sketch.now others.now }
+        requires trace { IsFullTrace t trace.now }
+        requires alike { AreAlike trace.now.sketch sketch.now }
+        ensures { OnOk result (Covers (with_trace t sketch.now trace.now) self.old self.new) }
+    {
+        // For the proof alone: what holds of every sketch is known where its program is read.
+        let _ = sketch.program();
+        let _ = trace.sketch.program();
+        match trace.tally.lacking(others) {
+            Some(read) => {
+                watch.done(1, self.outcomes.count());
+                self.kept.nodes.push(Node::Source { read, count: 0 })?;
+                Ok(())
+            }
+            None => {
+                let mut whole = sketch.with_thread(t, &trace.sketch)?;
+                self.cover_or_hole(&mut whole, watch)
+            }
+        }
+    }
+
+    /// Puts the tree of the sketch after the rest, or a hole if some run has an outcome that the list does not take.
+    fn cover_or_hole<W: Watch>(&mut self, sketch: &mut Sketch, watch: &W) -> Result<(), AllocError>
+        requires in_order { AreInOrder self.old.outcomes }
+        requires whole { IsWhole sketch.old.program (mode_in sketch.old) sketch.old.chosen }
+        ensures same { sketch.new ≡ sketch.old }
+        ensures covers { OnOk result (Covers sketch.old self.old self.new) }
+    {
+        let start = self.kept.nodes.len();
+        let covered = cover_whole(
+            self.alloc,
+            sketch,
+            self.shown,
+            &mut self.outcomes,
+            &mut self.kept.nodes,
+        );
+        match covered {
+            Ok(()) => {
+                watch.done(1, self.outcomes.count());
+                Ok(())
+            }
+            Err(Stop::New { run, sketch }) => {
+                self.kept.nodes.truncate(start);
+                self.kept
+                    .push_hole(self.alloc, &self.path, run.labels, sketch)
+            }
+            Err(Stop::OutOfMemory) => Err(AllocError),
+        }
+    }
+}
+
+/// Whether no outcome is known before each read has its value.
+fn needs_values(shown: &Shown) -> bool {
+    !matches!(shown, Shown::Truth(_))
+}
