@@ -1,23 +1,7 @@
-use Rattle.std.proofs.Common.{◌∙◌, Ok, Err, ap}
-use Rattle.std.specs.Prelude.{OnOk, OnErr}
-use Rattle.std.specs.declared.result.Result.{Result}
-use Rattle.hunt_board.specs.Seats.{SeatView}
+use Rattle.fence_place.proofs.Workers.{dealt_with}
 use Rattle.fence_place.proofs.worker.settle_by_oracle.Goals as goal
 
-on_ok : {X E : Type 0} (P Q : Type 0) (r : Result X E) → (P → Q) → OnOk r P → OnOk r Q
-on_ok P Q (Ok x) f h = f h
-on_ok P Q (Err e) f h = tt
-
-on_err : {X E : Type 0} (P Q : Type 0) (r : Result X E) → (P → Q) → OnErr r P → OnErr r Q
-on_err P Q (Ok x) f h = tt
-on_err P Q (Err e) f h = f h
-
-pub returns-clause-settled : goal.returns-clause-settled
-returns-clause-settled g c =
-    on_ok _ _ c.keep_receipt.result (λ free. record { of = c.keep_receipt.ensures.of; holds = free; known = rw c.keep_receipt.ensures.same.0 c.pass_on.ensures.at.known }) c.keep_receipt.ensures.settled
-
-pub returns-clause-held : goal.returns-clause-held
-returns-clause-held g c =
-    on_err _ _ c.keep_receipt.result
-    (λ same. record { of = c.keep_receipt.ensures.of; holds = ap (λ (s : SeatView). s.node) same ∙ c.pass_on.ensures.at.holds; known = rw c.keep_receipt.ensures.same.0 c.pass_on.ensures.at.known })
-    c.keep_receipt.ensures.held
+pub returns : goal.returns
+returns g c =
+    dealt_with c.args.shared.now.hunt (g.O.Oracle.may_lack_runs c.args.oracle.now) c.args.worker.now c.pass_on.new.worker c.keep_receipt.new.worker c.args.node.now c.keep_receipt.result c.pass_on.ensures
+    c.keep_receipt.ensures.of c.keep_receipt.ensures.settled c.keep_receipt.ensures.held c.keep_receipt.ensures.fault c.keep_receipt.ensures.same
