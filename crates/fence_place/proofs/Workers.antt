@@ -1,18 +1,17 @@
 -- Workers of a hunt: what they know, and why they end.
-use Rattle.std.proofs.Common.{◌≡◌, ◌∙◌, Bool, true, false, ℕ, List, Option, Some, None, Result, Ok, Err, refl, sym, ap, subst}
-use Rattle.std.specs.Prelude.{All, IfErr, IfSome, MatchOption, OnErr, OnOk, slice_get, slice_index_or}
+use Rattle.std.proofs.Common.{◌≡◌, ◌∙◌, Bool, true, false, ℕ, List, Option, Some, None, refl, sym, subst}
+use Rattle.std.specs.Prelude.{All, IfSome, MatchOption, slice_get, slice_index_or}
 use Rattle.std.proofs.lemmas.List.Elements.{All-get_or}
 use Rattle.std.proofs.lemmas.Option.{slice_get_within, get_or_from_slice_get, same_Some, none-some}
 use Rattle.gap_sets.specs.Gaps.{SetOfGaps}
 use Rattle.gap_sets.specs.Order.{Better}
-use Rattle.gap_sets.specs.declared.region.Region.{Region}
-use Rattle.cover_solver.specs.Facts.{Serving, AreOf, IsServing}
+use Rattle.cover_solver.specs.Facts.{Serving, IsServing}
 use Rattle.search_core.specs.Events.{IsBeatenBy}
-use Rattle.hunt_board.specs.Seats.{HuntView, SeatView, IsOf}
+use Rattle.hunt_board.specs.Seats.{HuntView}
 use Rattle.fence_place.specs.declared.worker.Stop.{Stop}
 use Rattle.fence_place.specs.declared.worker.Stop.TheVariants.{Later, Beaten, NoRun, OutOfMemory}
 use Rattle.fence_place.specs.declared.worker.Worker.{Worker}
-use Rattle.fence_place.specs.Internal.Workers.{HasDealtWith, HasEnded, IsStillAt, MayStop, NoneLacksRun, FaultIsAfter, lacks_run_for}
+use Rattle.fence_place.specs.Internal.Workers.{HasEnded, MayStop, NoneLacksRun, FaultIsAfter, lacks_run_for}
 use Rattle.fence_place.specs.Faults.{MayHuntFail}
 use Rattle.fence_place.specs.declared.fault.PlaceFault.{PlaceFault}
 use Rattle.fence_place.specs.declared.fault.PlaceFault.TheVariants as fault
@@ -49,19 +48,3 @@ hunt_fails h may workers fault.Costs ended is = is
 hunt_fails h may workers fault.NotCertified ended is = may_lack h may workers ended is
 hunt_fails h may workers fault.Board ended is = tt
 hunt_fails h may workers fault.OutOfMemory ended is = tt
-
--- a worker at a node that keeps the receipt of its settling has dealt with the node
-pub dealt_with : (h : HuntView) (may : Bool) (before at after : Worker) (n : Region) (r : Result (Unit {0}) Stop) → IsStillAt h before at n →
-    IsOf h after.seat → OnOk r (after.seat.node ≡ None) → OnErr r (after.seat ≡ at.seat) → IfErr r (λ stop. stop ≡ OutOfMemory) → (after.known ≡ at.known) × (after.stop ≡ at.stop) → HasDealtWith h may before after n r
-dealt_with h may before at after n (Ok done) still of free same no_fault rest = record {
-  settled = record { of = of; holds = free; known = subst (λ runs. AreOf h.question runs.items) (sym rest.0) still.at.known };
-  held = tt;
-  fault = tt;
-  stop = rest.1 ∙ still.stop;
-}
-dealt_with h may before at after n (Err why) still of free same fault rest = record {
-  settled = tt;
-  held = record { of = of; holds = ap (λ (s : SeatView). s.node) same ∙ still.at.holds; known = subst (λ runs. AreOf h.question runs.items) (sym rest.0) still.at.known };
-  fault = subst (MayStop may) (sym fault) tt;
-  stop = rest.1 ∙ still.stop;
-}
