@@ -6,7 +6,7 @@ ghost use Rattle.program_streams.specs.Files.{ReadsOfInput};
 ghost use Rattle.placed_text.specs.TextFaults.{HasNoPlacedText};
 ghost use Rattle.fencer_words.specs.CommandFiles.{name_of};
 ghost use Rattle.fencer.specs.Deliveries.{KeepFilesBut};
-ghost use Rattle.fencer.specs.Placements.{place_line, text_fault_line, DeliversTexts, IsJudged, IsPlaced, PrintsPlacement};
+ghost use Rattle.fencer.specs.Placements.{text_fault_line, DeliversTexts, IsJudged, IsPlaced, PrintsPlacement};
 
 use crate::advice::{text_fault_advice, unread_advice};
 use crate::delivery::{Answer, deliver};
@@ -14,7 +14,6 @@ use crate::documented::printed;
 use crate::refused::tell_refusal;
 use crate::status::check_status;
 use crate::texts::{Texts, read_texts};
-use fence_place::PlaceFault;
 use fencer_words::Placement;
 use placed_text::{Effort, PlacedText, TextFault, place_text};
 use program_streams::{Console, Progress, TEXT_LIMIT, WritableFileStore, file_line};
@@ -24,19 +23,6 @@ use std::io::Read;
 use std::sync::Wait;
 use std::thread::Threads;
 
-/// Why nothing is placed.
-fn place_line(alloc: Global, fault: PlaceFault) -> Result<Vec<u8>, AllocError>
-    ensures { IfOk result (λ line. line.items ≡ place_line fault) }
-{
-    match fault {
-        PlaceFault::Workers => Vec::from_slice(alloc, b"refused place 1 Workers\n"),
-        PlaceFault::Costs => Vec::from_slice(alloc, b"refused place 2 Costs\n"),
-        PlaceFault::NotCertified => Vec::from_slice(alloc, b"refused place 3 NotCertified\n"),
-        PlaceFault::Board => Vec::from_slice(alloc, b"refused place 4 Board\n"),
-        PlaceFault::OutOfMemory => Vec::from_slice(alloc, b"refused place 5 OutOfMemory\n"),
-    }
-}
-
 /// Why nothing is placed in the program of a text.
 pub(crate) fn text_fault_line(alloc: Global, fault: TextFault) -> Result<Vec<u8>, AllocError>
     ensures { IfOk result (λ line. line.items ≡ text_fault_line fault) }
@@ -44,8 +30,8 @@ pub(crate) fn text_fault_line(alloc: Global, fault: TextFault) -> Result<Vec<u8>
     match fault {
         TextFault::Read(why) => litmus_line(alloc, why),
         TextFault::CostText(why) => costs_line(alloc, why),
-        TextFault::Place(why) => place_line(alloc, why),
-        TextFault::OutOfMemory => place_line(alloc, PlaceFault::OutOfMemory),
+        TextFault::Workers => Vec::from_slice(alloc, b"refused place 1 Workers\n"),
+        TextFault::OutOfMemory => Vec::from_slice(alloc, b"refused place 5 OutOfMemory\n"),
     }
 }
 

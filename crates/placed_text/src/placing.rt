@@ -47,8 +47,8 @@ pub fn place_gaps<R: Threads + Sync, W: Wait + Sync>(
     let ahead = report_ahead(alloc, program, effort.progress);
     let table = match sequential_watched(rt, alloc, program, shown, effort.workers, &ahead) {
         Ok(table) => table,
-        Err(SolveFault::NoRun) => return Err(TextFault::Place(PlaceFault::NotCertified)),
         Err(SolveFault::OutOfMemory) => return Err(TextFault::OutOfMemory),
+        Err(SolveFault::NoRun) => unreachable!(),
     };
     let progress = ahead.progress();
     report_outcomes(alloc, progress, table.outcomes().len());
@@ -69,7 +69,8 @@ pub fn place_gaps<R: Threads + Sync, W: Wait + Sync>(
     match placed {
         Ok(placed) => Ok(Found { placed, solver }),
         Err(PlaceFault::OutOfMemory) => Err(TextFault::OutOfMemory),
-        Err(fault) => Err(TextFault::Place(fault)),
+        Err(PlaceFault::Workers) => Err(TextFault::Workers),
+        Err(_) => unreachable!(),
     }
 }
 
