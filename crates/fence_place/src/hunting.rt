@@ -24,9 +24,8 @@ use std::thread::{self, Threads};
 ///
 /// A worker for whose question or answer there is no memory ends, and so does one whose question the oracle has no
 /// run for. Nothing is found then.
-pub fn hunt_with<R: Threads + Sync, W: Wait + Sync, O: Oracle>(
+pub fn hunt_with<R: Threads + Wait + Sync, O: Oracle>(
     rt: &R,
-    wait: &W,
     alloc: Global,
     oracle: &O,
     table: &SeqTable,
@@ -43,16 +42,15 @@ pub fn hunt_with<R: Threads + Sync, W: Wait + Sync, O: Oracle>(
 {
     judge_arguments(table, costs, workers)?;
     let tree = SearchTree::new(alloc, table, costs, workers)?;
-    let finished = hunt(rt, wait, alloc, oracle, tree)?;
+    let finished = hunt(rt, alloc, oracle, tree)?;
     // For the proof alone: what holds of every search that is done is known where its answer is read.
     let _ = finished.served();
     Ok(finished)
 }
 
 /// The same from the start of a search, by a worker for each of its seats.
-pub(crate) fn hunt<R: Threads + Sync, W: Wait + Sync, O: Oracle>(
+pub(crate) fn hunt<R: Threads + Wait + Sync, O: Oracle>(
     rt: &R,
-    wait: &W,
     alloc: Global,
     oracle: &O,
     tree: SearchTree,
@@ -67,14 +65,13 @@ pub(crate) fn hunt<R: Threads + Sync, W: Wait + Sync, O: Oracle>(
     let turns = Turns::new(alloc, workers)?;
     let shared = SharedHunt { alloc, hunt, turns };
     let row = workers_at(alloc, &shared.hunt, seats)?;
-    let row = work_all(rt, wait, &shared, oracle, row);
+    let row = work_all(rt, &shared, oracle, row);
     close(shared, row)
 }
 
 /// All workers work, each in a thread where one can be started.
-fn work_all<R: Threads + Sync, W: Wait + Sync, O: Oracle>(
+fn work_all<R: Threads + Wait + Sync, O: Oracle>(
     rt: &R,
-    wait: &W,
     shared: &SharedHunt,
     oracle: &O,
     mut row: Vec<Worker>,
@@ -91,7 +88,7 @@ fn work_all<R: Threads + Sync, W: Wait + Sync, O: Oracle>(
         &|_, worker|
             requires { IsReady shared.now.hunt worker.now × (O.question oracle.now ≡ shared.now.hunt.question) }
             ensures { HasEnded shared.entry.now.hunt (O.may_lack_runs oracle.entry.now) worker.exit.now }
-        { work(wait, shared, oracle, worker) },
+        { work(rt, shared, oracle, worker) },
     );
     row
 }

@@ -44,9 +44,8 @@ pub struct Placed {
 ///
 /// It hunts as [`crate::hunt_with`] does. Where the oracle lacks a run, or the record of the hunt doesn't close, it
 /// searches again on the caller's thread, by a solver of its own.
-pub fn place<R: Threads + Sync, W: Wait + Sync, O: Oracle>(
+pub fn place<R: Threads + Wait + Sync, O: Oracle>(
     rt: &R,
-    wait: &W,
     alloc: Global,
     oracle: &O,
     table: &SeqTable,
@@ -74,7 +73,7 @@ pub fn place<R: Threads + Sync, W: Wait + Sync, O: Oracle>(
 {
     judge_arguments(table, costs, workers)?;
     let tree = SearchTree::new(alloc, table, costs, workers)?;
-    let hunted = hunt(rt, wait, alloc, oracle, tree);
+    let hunted = hunt(rt, alloc, oracle, tree);
     Ok(placement(alloc, table, costs, hunted)?)
 }
 

@@ -62,9 +62,8 @@ fn joined(texts: PlacedText, check: bool, json: bool) -> Result<Answer, TextFaul
 }
 
 /// What is placed in the program of a text.
-fn answer_of<T: Threads + Sync, U: Wait + Sync>(
+fn answer_of<T: Threads + Wait + Sync>(
     rt: &T,
-    wait: &U,
     alloc: Global,
     asked: &Placement,
     texts: &Texts,
@@ -78,14 +77,13 @@ fn answer_of<T: Threads + Sync, U: Wait + Sync>(
         workers: asked.workers,
         progress: progress.asked(asked.progress),
     };
-    let placed = place_text(rt, wait, alloc, &texts.litmus, costs, asked.kind, effort)?;
+    let placed = place_text(rt, alloc, &texts.litmus, costs, asked.kind, effort)?;
     joined(placed, asked.check, asked.json)
 }
 
 /// Judges texts, prints what is placed, and returns the status.
-fn place_texts<T: Threads + Sync, U: Wait + Sync, S: WritableFileStore, W: Console>(
+fn place_texts<T: Threads + Wait + Sync, S: WritableFileStore, W: Console>(
     rt: &T,
-    wait: &U,
     alloc: Global,
     files: &mut S,
     asked: &Placement,
@@ -98,7 +96,7 @@ fn place_texts<T: Threads + Sync, U: Wait + Sync, S: WritableFileStore, W: Conso
     let program = asked.output.as_deref();
     let certificate = asked.certificate.as_deref();
     let progress = output.progress();
-    match answer_of(rt, wait, alloc, asked, texts, progress) {
+    match answer_of(rt, alloc, asked, texts, progress) {
         Ok(answer) => deliver(alloc, files, program, certificate, answer, output),
         Err(fault) => {
             let named = (asked.litmus.as_str(), asked.costs.as_deref());
@@ -116,9 +114,8 @@ fn place_texts<T: Threads + Sync, U: Wait + Sync, S: WritableFileStore, W: Conso
 
 /// Places fences in the program of a litmus file, writes the fenced program and the certificate, prints the answer, and
 /// returns the status.
-pub fn run_place<T: Threads + Sync, U: Wait + Sync, S: WritableFileStore, R: Read, W: Console>(
+pub fn run_place<T: Threads + Wait + Sync, S: WritableFileStore, R: Read, W: Console>(
     rt: &T,
-    wait: &U,
     alloc: Global,
     files: &mut S,
     asked: &Placement,
@@ -131,7 +128,7 @@ pub fn run_place<T: Threads + Sync, U: Wait + Sync, S: WritableFileStore, R: Rea
 {
     let costs = asked.costs.as_deref();
     match read_texts(alloc, &*files, asked.litmus.as_str(), costs, input) {
-        Ok(texts) => place_texts(rt, wait, alloc, files, asked, &texts, output),
+        Ok(texts) => place_texts(rt, alloc, files, asked, &texts, output),
         Err(file) => {
             let message = unread_advice(alloc, &*files, file);
             tell_refusal(
