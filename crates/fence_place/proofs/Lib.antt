@@ -7,6 +7,5 @@ pub mod GapTreeSmall
 pub mod ShortRuns
 pub mod CertificateMade
 pub mod PlacementMade
-pub mod Splitting
 pub mod Settling
 pub mod Workers

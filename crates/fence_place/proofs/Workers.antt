@@ -1,6 +1,6 @@
 -- Workers of a hunt: what they know, and why they end.
-use Rattle.std.proofs.Common.{◌≡◌, Bool, true, false, ℕ, List, Option, Some, None, refl, sym, subst}
-use Rattle.std.specs.Prelude.{All, IfSome, MatchOption, slice_get}
+use Rattle.std.proofs.Common.{◌≡◌, ◌∙◌, Bool, true, false, ℕ, List, Option, Some, None, refl, sym, subst}
+use Rattle.std.specs.Prelude.{All, IfSome, MatchOption, slice_get, slice_index_or}
 use Rattle.std.proofs.lemmas.List.Elements.{All-get_or}
 use Rattle.std.proofs.lemmas.Option.{slice_get_within, get_or_from_slice_get, same_Some, none-some}
 use Rattle.gap_sets.specs.Gaps.{SetOfGaps}
@@ -19,6 +19,10 @@ use Rattle.fence_place.specs.declared.fault.PlaceFault.TheVariants as fault
 -- what holds of each element holds of the one at a place
 pub element : {X : Type 0} (P : X → Type 0) (xs : List X) (place : ℕ) (x : X) → slice_get xs place ≡ Some x → All P xs → P x
 element P xs place x at all = subst P (get_or_from_slice_get xs place x x at) (All-get_or P xs place x (slice_get_within xs place x at) all)
+
+-- what is read at a place where an element stands is that element
+pub read_at : {X : Type 0} (xs : List X) (place : ℕ) (x y d : X) → slice_get xs place ≡ Some x → y ≡ slice_index_or xs place d → x ≡ y
+read_at xs place x y d at is = sym (is ∙ get_or_from_slice_get xs place x d at)
 
 none_lacked : (stop : Option Stop) → IfSome stop (MayStop false) → lacks_run_for stop ≡ false
 none_lacked None may = refl

@@ -3,6 +3,8 @@ use Rattle.std.specs.Prelude.{◌≡◌, ◌≢◌, ◌⊎◌, ℕ, ◌<◌, Boo
 use Rattle.tso_program.specs.declared.listing.Listing.{Listing}
 use Rattle.tso_program.specs.declared.limits.TheConstants.{MAX_WORKERS}
 use Rattle.tso_program.specs.Listings.{gap_count}
+use Rattle.cover_solver.specs.declared.fault.SolveFault.{SolveFault}
+use Rattle.cover_solver.specs.declared.fault.SolveFault.TheVariants as solve
 use Rattle.fence_place.specs.declared.fault.PlaceFault.{PlaceFault}
 use Rattle.fence_place.specs.declared.fault.PlaceFault.TheVariants as fault
 
@@ -23,12 +25,8 @@ ArgumentFaultIs p costs workers fault.Board = ⊥
 ArgumentFaultIs p costs workers fault.OutOfMemory = ⊥
 
 -- the oracle lacks a run, where it may, or out of memory
-abbrev pub MaySearchFail : Bool → PlaceFault → Type 0
-MaySearchFail may_lack_runs fault.Workers = ⊥
-MaySearchFail may_lack_runs fault.Costs = ⊥
-MaySearchFail may_lack_runs fault.NotCertified = may_lack_runs ≡ true
-MaySearchFail may_lack_runs fault.Board = ⊥
-MaySearchFail may_lack_runs fault.OutOfMemory = Unit {0}
+abbrev pub MaySearchFail : Bool → SolveFault → Type 0
+MaySearchFail may_lack_runs why = why ≡ solve.NoRun → may_lack_runs ≡ true
 
 -- so it is, or the record doesn't close
 abbrev pub MayHuntFail : Bool → PlaceFault → Type 0

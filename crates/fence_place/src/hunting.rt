@@ -1,16 +1,16 @@
 //! The hunt: workers round one search.
-ghost use Rattle.std.specs.Prelude.{◌≡◌, ◌↔◌, All, Err, IfErr, IfOk, IfSome, IsTrue, length};
-ghost use Rattle.tso_program.specs.Listings.{gap_count};
+ghost use Rattle.std.specs.Prelude.{◌≡◌, ◌↔◌, All, Err, IfErr, IfOk, IfSome, IsTrue};
 ghost use Rattle.tso_machine.specs.Outcomes.{IsTheAnswer};
-ghost use Rattle.search_core.specs.States.{IsSeatCount};
+ghost use Rattle.search_core.specs.States.{IsStart};
 ghost use Rattle.hunt_board.specs.Seats.{IsOf, IsFresh};
 ghost use Rattle.fence_place.specs.Faults.{AreTooFewOrMany, HasOtherLength, HuntFaultIs, MayHuntFail};
+ghost use Rattle.fence_place.specs.Internal.Searches.{IsSearchFor};
 ghost use Rattle.fence_place.specs.Internal.Workers.{IsReady, HasEnded, NoneLacksRun, FaultIsOf, FaultIsAfter};
 
 use crate::PlaceFault;
 use crate::arguments::judge_arguments;
 use crate::turns::Turns;
-use crate::worker::{Worker, work};
+use crate::worker::{SharedHunt, Worker, work};
 use cover_solver::{Oracle, SeqTable};
 use gap_sets::Costs;
 use hunt_board::{CloseFault, Hunt, HuntSeat, Receipt};
@@ -24,9 +24,8 @@ use std::thread::{self, Threads};
 ///
 /// A worker for whose question or answer there is no memory ends, and so does one whose question the oracle has no
 /// run for. Nothing is found then.
-pub fn hunt_with<R: Threads + Sync, W: Wait + Sync, O: Oracle>(
+pub fn hunt_with<R: Threads + Wait + Sync, O: Oracle>(
     rt: &R,
-    wait: &W,
     alloc: Global,
     oracle: &O,
     table: &SeqTable,
@@ -42,52 +41,44 @@ pub fn hunt_with<R: Threads + Sync, W: Wait + Sync, O: Oracle>(
     ensures fault { IfErr result (HuntFaultIs table.now.question.program costs.now workers (O.may_lack_runs oracle.now)) }
 {
     judge_arguments(table, costs, workers)?;
-    let finished = hunt(rt, wait, alloc, oracle, table, costs, workers)?;
+    let tree = SearchTree::new(alloc, table, costs, workers)?;
+    let finished = hunt(rt, alloc, oracle, tree)?;
     // For the proof alone: what holds of every search that is done is known where its answer is read.
     let _ = finished.served();
     Ok(finished)
 }
 
-/// The same, where the number of workers can be and there is one cost for each gap.
-pub(crate) fn hunt<R: Threads + Sync, W: Wait + Sync, O: Oracle>(
+/// The same from the start of a search, by a worker for each of its seats.
+pub(crate) fn hunt<R: Threads + Wait + Sync, O: Oracle>(
     rt: &R,
-    wait: &W,
     alloc: Global,
     oracle: &O,
-    table: &SeqTable,
-    costs: &Costs,
-    workers: u8,
+    tree: SearchTree,
 ) -> Result<Finished, PlaceFault>
-    requires of_question { O.question oracle.now ≡ table.now.question }
-    requires one_each { length costs.now ≡ gap_count table.now.question.program.threads }
-    requires workers { IsSeatCount workers }
-    ensures question { IfOk result (λ finished. finished.question ≡ table.now.question) }
-    ensures costs { IfOk result (λ finished. finished.costs ≡ costs.now) }
+    requires start { IsStart tree }
+    requires of_question { O.question oracle.now ≡ tree.question }
+    ensures search { IfOk result (IsSearchFor tree.question tree.costs) }
     ensures fault { IfErr result (MayHuntFail (O.may_lack_runs oracle.now)) }
 {
-    let Ok(tree) = SearchTree::new(alloc, table, costs, workers) else {
-        return Err(PlaceFault::OutOfMemory);
-    };
+    let workers = tree.seats();
     let (hunt, seats) = Hunt::new(alloc, tree, workers)?;
     let turns = Turns::new(alloc, workers)?;
-    let row = workers_at(alloc, &hunt, seats)?;
-    let row = work_all(rt, wait, alloc, &hunt, &turns, oracle, row);
-    close(alloc, hunt, row)
+    let shared = SharedHunt { alloc, hunt, turns };
+    let row = workers_at(alloc, &shared.hunt, seats)?;
+    let row = work_all(rt, &shared, oracle, row);
+    close(shared, row)
 }
 
 /// All workers work, each in a thread where one can be started.
-fn work_all<R: Threads + Sync, W: Wait + Sync, O: Oracle>(
+fn work_all<R: Threads + Wait + Sync, O: Oracle>(
     rt: &R,
-    wait: &W,
-    alloc: Global,
-    hunt: &Hunt,
-    turns: &Turns,
+    shared: &SharedHunt,
     oracle: &O,
     mut row: Vec<Worker>,
 ) -> Vec<Worker>
-    requires ready { All (IsReady hunt.now) row.items }
-    requires oracle { O.question oracle.now ≡ hunt.now.question }
-    ensures { All (HasEnded hunt.now (O.may_lack_runs oracle.now)) result.items }
+    requires ready { All (IsReady shared.now.hunt) row.items }
+    requires oracle { O.question oracle.now ≡ shared.now.hunt.question }
+    ensures { All (HasEnded shared.now.hunt (O.may_lack_runs oracle.now)) result.items }
 {
     let threads = row.len().max(1);
     thread::for_each_mut(
@@ -95,9 +86,9 @@ fn work_all<R: Threads + Sync, W: Wait + Sync, O: Oracle>(
         row.as_mut_slice(),
         threads,
         &|_, worker|
-            requires { IsReady hunt.now worker.now × (O.question oracle.now ≡ hunt.now.question) }
-            ensures { HasEnded hunt.entry.now (O.may_lack_runs oracle.entry.now) worker.exit.now }
-        { work(wait, alloc, hunt, turns, oracle, worker) },
+            requires { IsReady shared.now.hunt worker.now × (O.question oracle.now ≡ shared.now.hunt.question) }
+            ensures { HasEnded shared.entry.now.hunt (O.may_lack_runs oracle.entry.now) worker.exit.now }
+        { work(rt, shared, oracle, worker) },
     );
     row
 }
@@ -178,12 +169,16 @@ fn left_by(
 }
 
 /// What the hunt leaves, where no worker met a fault and the record closes.
-fn close(alloc: Global, hunt: Hunt, workers: Vec<Worker>) -> Result<Finished, PlaceFault>
-    requires { All (λ worker. IsOf hunt worker.seat) workers.items }
-    ensures question { IfOk result (λ finished. finished.question ≡ hunt.question) }
-    ensures costs { IfOk result (λ finished. finished.costs ≡ hunt.costs) }
+fn close(shared: SharedHunt, workers: Vec<Worker>) -> Result<Finished, PlaceFault>
+    requires { All (λ worker. IsOf shared.hunt worker.seat) workers.items }
+    ensures search { IfOk result (IsSearchFor shared.hunt.question shared.hunt.costs) }
     ensures fault { IfErr result (FaultIsAfter workers.items) }
 {
+    let SharedHunt {
+        alloc,
+        hunt,
+        turns: _,
+    } = shared;
     if let Some(fault) = fault_of(&workers) {
         return Err(fault);
     }

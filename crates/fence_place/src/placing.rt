@@ -1,14 +1,14 @@
 //! Placing fences.
-ghost use Rattle.std.specs.Prelude.{◌≡◌, IfOk, IfErr, Err, false, length};
+ghost use Rattle.std.specs.Prelude.{◌≡◌, IfOk, IfErr, Err, length};
 ghost use Rattle.tso_program.specs.Listings.{gap_count};
-ghost use Rattle.search_core.specs.States.{IsSeatCount};
 ghost use Rattle.tso_machine.specs.Outcomes.{Headline, IsTheAnswer};
 ghost use Rattle.the_answer.specs.Answers.{the_answer, least_cost};
 ghost use Rattle.gap_sets.specs.Order.{total};
 ghost use Rattle.fence_place.specs.Placements.{IsPlacement};
 ghost use Rattle.fence_place.specs.Proofs.{IsProof};
 ghost use Rattle.fence_place.specs.Recorded.{AreDistinct};
-ghost use Rattle.fence_place.specs.Faults.{AreTooFewOrMany, HasOtherLength, PlaceFaultIs, MaySearchFail};
+ghost use Rattle.fence_place.specs.Faults.{AreTooFewOrMany, HasOtherLength, PlaceFaultIs};
+ghost use Rattle.fence_place.specs.Internal.Searches.{IsSearchFor};
 
 use crate::PlaceFault;
 use crate::arguments::judge_arguments;
@@ -18,10 +18,10 @@ use crate::retracing::retraced;
 use crate::searching::search;
 use cert_check::certificate_proves_answer;
 use cert_forest::Certificate;
-use cover_solver::{Oracle, SeqTable, Solver};
+use cover_solver::{Oracle, SeqTable, SolveFault, Solver};
 use gap_sets::{Costs, GapSet};
-use search_core::Finished;
-use std::alloc::Global;
+use search_core::{Finished, SearchTree};
+use std::alloc::{AllocError, Global};
 use std::sync::Wait;
 use std::thread::Threads;
 
@@ -44,9 +44,8 @@ pub struct Placed {
 ///
 /// It hunts as [`crate::hunt_with`] does. Where the oracle lacks a run, or the record of the hunt doesn't close, it
 /// searches again on the caller's thread, by a solver of its own.
-pub fn place<R: Threads + Sync, W: Wait + Sync, O: Oracle>(
+pub fn place<R: Threads + Wait + Sync, O: Oracle>(
     rt: &R,
-    wait: &W,
     alloc: Global,
     oracle: &O,
     table: &SeqTable,
@@ -73,26 +72,23 @@ pub fn place<R: Threads + Sync, W: Wait + Sync, O: Oracle>(
     ensures fault { IfErr result (PlaceFaultIs table.now.question.program costs.now workers) }
 {
     judge_arguments(table, costs, workers)?;
-    find_placement(rt, wait, alloc, oracle, table, costs, workers)
+    let tree = SearchTree::new(alloc, table, costs, workers)?;
+    let hunted = hunt(rt, alloc, oracle, tree);
+    Ok(placement(alloc, table, costs, hunted)?)
 }
 
-/// Finds the best set and its certificate, where the number of workers can be and there is one cost for each gap.
-fn find_placement<R: Threads + Sync, W: Wait + Sync, O: Oracle>(
-    rt: &R,
-    wait: &W,
+/// The answer and its certificate, by what a hunt found or else by a search that is made again.
+fn placement(
     alloc: Global,
-    oracle: &O,
     table: &SeqTable,
     costs: &Costs,
-    workers: u8,
-) -> Result<Placed, PlaceFault>
-    requires of_question { O.question oracle.now ≡ table.now.question }
+    hunted: Result<Finished, PlaceFault>,
+) -> Result<Placed, AllocError>
     requires one_each { length costs.now ≡ gap_count table.now.question.program.threads }
-    requires workers { IsSeatCount workers }
-    ensures placed { IfOk result (IsPlacement table.now.question costs.now) }
-    ensures fault { IfErr result (λ fault. fault ≡ PlaceFault.OutOfMemory) }
+    requires hunted { IfOk hunted (IsSearchFor table.now.question costs.now) }
+    ensures { IfOk result (IsPlacement table.now.question costs.now) }
 {
-    let finished = found(rt, wait, alloc, oracle, table, costs, workers)?;
+    let finished = searched(alloc, table, costs, hunted)?;
     let certificate = certify(alloc, table, &finished)?;
     // For the proof alone: the certificate is valid, so its set is the answer.
     certificate_proves_answer(table.program(), table.shown(), costs);
@@ -103,48 +99,33 @@ fn find_placement<R: Threads + Sync, W: Wait + Sync, O: Oracle>(
     })
 }
 
-/// The hunt, retraced; or where it fails for another cause than memory the search that is made again.
-fn found<R: Threads + Sync, W: Wait + Sync, O: Oracle>(
-    rt: &R,
-    wait: &W,
+/// What a hunt found, retraced; or where it failed for another cause than memory the search that is made again.
+fn searched(
     alloc: Global,
-    oracle: &O,
     table: &SeqTable,
     costs: &Costs,
-    workers: u8,
-) -> Result<Finished, PlaceFault>
-    requires of_question { O.question oracle.now ≡ table.now.question }
+    hunted: Result<Finished, PlaceFault>,
+) -> Result<Finished, AllocError>
     requires one_each { length costs.now ≡ gap_count table.now.question.program.threads }
-    requires workers { IsSeatCount workers }
-    ensures question { IfOk result (λ finished. finished.question ≡ table.now.question) }
-    ensures costs { IfOk result (λ finished. finished.costs ≡ costs.now) }
-    ensures fault { IfErr result (λ fault. fault ≡ PlaceFault.OutOfMemory) }
+    requires hunted { IfOk hunted (IsSearchFor table.now.question costs.now) }
+    ensures { IfOk result (IsSearchFor table.now.question costs.now) }
 {
-    match hunt(rt, wait, alloc, oracle, table, costs, workers) {
+    match hunted {
         Ok(finished) => Ok(retraced(alloc, table, costs, finished)),
-        Err(PlaceFault::OutOfMemory) => Err(PlaceFault::OutOfMemory),
+        Err(PlaceFault::OutOfMemory) => Err(AllocError),
         Err(_) => search_again(alloc, table, costs),
     }
 }
 
-/// The search by one seat on the caller's thread, by a solver of its own.
-fn search_again(alloc: Global, table: &SeqTable, costs: &Costs) -> Result<Finished, PlaceFault>
+/// The search by one seat on the caller's thread, by a solver of its own, which lacks no run.
+fn search_again(alloc: Global, table: &SeqTable, costs: &Costs) -> Result<Finished, AllocError>
     requires { length costs.now ≡ gap_count table.now.question.program.threads }
-    ensures question { IfOk result (λ finished. finished.question ≡ table.now.question) }
-    ensures costs { IfOk result (λ finished. finished.costs ≡ costs.now) }
-    ensures fault { IfErr result (λ fault. fault ≡ PlaceFault.OutOfMemory) }
+    ensures { IfOk result (IsSearchFor table.now.question costs.now) }
 {
     let solver = Solver::new(alloc, table.program(), table)?;
     match search(alloc, &solver, table, costs, Vec::new(alloc)) {
         Ok(finished) => Ok(finished),
-        Err(fault) => Err(of_search(fault)),
+        Err(SolveFault::OutOfMemory) => Err(AllocError),
+        Err(SolveFault::NoRun) => unreachable!(),
     }
-}
-
-/// The fault of a search by a solver, which lacks no run.
-fn of_search(_fault: PlaceFault) -> PlaceFault
-    requires { MaySearchFail false _fault }
-    ensures { result ≡ PlaceFault.OutOfMemory }
-{
-    PlaceFault::OutOfMemory
 }

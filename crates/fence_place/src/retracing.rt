@@ -7,9 +7,8 @@ ghost use Rattle.std.specs.Prelude.{◌≡◌, true, IfOk, OnOk, length};
 ghost use Rattle.tso_program.specs.Shown.{Question};
 ghost use Rattle.tso_program.specs.Listings.{gap_count};
 ghost use Rattle.cover_solver.specs.Facts.{AreOf};
-ghost use Rattle.fence_place.specs.Internal.Searches.{IsOfQuestion};
+ghost use Rattle.fence_place.specs.Internal.Searches.{IsOfQuestion, IsSearchFor};
 
-use crate::PlaceFault;
 use crate::searching::search;
 use cover_solver::{ForeignRun, Oracle, SeqTable, Served, SolveFault, Verdict};
 use gap_sets::{Costs, GapSet};
@@ -43,11 +42,9 @@ pub(crate) fn retraced(
     costs: &Costs,
     finished: Finished,
 ) -> Finished
-    requires of_question { finished.question ≡ table.now.question }
-    requires of_costs { finished.costs ≡ costs.now }
+    requires search { IsSearchFor table.now.question costs.now finished }
     requires one_each { length costs.now ≡ gap_count table.now.question.program.threads }
-    ensures question { result.question ≡ table.now.question }
-    ensures costs { result.costs ≡ costs.now }
+    ensures { IsSearchFor table.now.question costs.now result }
 {
     let Ok(other) = search_by_its_runs(alloc, table, costs, &finished) else {
         return finished;
@@ -65,11 +62,10 @@ fn search_by_its_runs(
     table: &SeqTable,
     costs: &Costs,
     finished: &Finished,
-) -> Result<Finished, PlaceFault>
+) -> Result<Finished, SolveFault>
     requires of_question { finished.now.question ≡ table.now.question }
     requires one_each { length costs.now ≡ gap_count table.now.question.program.threads }
-    ensures question { IfOk result (λ other. other.question ≡ table.now.question) }
-    ensures costs { IfOk result (λ other. other.costs ≡ costs.now) }
+    ensures { IfOk result (IsSearchFor table.now.question costs.now) }
 {
     let runs = runs_of(alloc, finished)?;
     let answered = Answered {

@@ -2,11 +2,10 @@
 ghost use Rattle.std.specs.Prelude.{◌≡◌, ◌<◌, IfSome, MatchOption};
 ghost use Rattle.gap_sets.specs.Gaps.{SetOfGaps};
 ghost use Rattle.gap_sets.specs.Order.{total};
-ghost use Rattle.cover_solver.specs.Facts.{IsForeignValue};
-ghost use Rattle.cover_solver.specs.Verdicts.{IsVerdictOf, PassesNoneOf};
+ghost use Rattle.cover_solver.specs.Verdicts.{IsVerdictOf};
 ghost use Rattle.search_core.specs.Ceilings.{IsCeilingOf};
 ghost use Rattle.hunt_board.specs.Seats.{IsOf};
-ghost use Rattle.fence_place.specs.Internal.Sharing.{HasShared};
+ghost use Rattle.fence_place.specs.Internal.Sharing.{CanSplit, HasShared};
 
 use crate::gaps::count_open;
 use crate::known::may_split;
@@ -41,9 +40,7 @@ struct Place {
 
 /// A copy of a posted run that splits the node, where there is one, and memory for it.
 pub(crate) fn copy_of_posted(alloc: Global, hunt: &Hunt, node: &Region) -> Option<ForeignRun>
-    ensures of { IfSome result (λ run. run.question ≡ hunt.now.question) }
-    ensures foreign { IfSome result IsForeignValue }
-    ensures passes_none { IfSome result (PassesNoneOf node.now.must) }
+    ensures { IfSome result (CanSplit hunt.now.question node.now) }
 {
     let place = posted_run(hunt, node)?;
     let run = hunt.look(place.seat, place.index)?;
@@ -89,27 +86,13 @@ pub(crate) fn share(
     ensures of { IfSome result (λ run. run.question ≡ hunt.now.question) }
     ensures shared { HasShared hunt.now seat.old seat.new }
 {
-    match verdict {
-        Verdict::Foreign(run) => post_copy(alloc, hunt, seat, run),
+    let run = match verdict {
+        Verdict::Foreign(run) => run,
         Verdict::Serves(served) => {
             hunt.lower(seat, served);
-            None
+            return None;
         }
-    }
-}
-
-/// Posts a copy of the run, where there is memory for it.
-fn post_copy(
-    alloc: Global,
-    hunt: &Hunt,
-    seat: &mut HuntSeat,
-    run: &ForeignRun,
-) -> Option<ForeignRun>
-    requires of { IsOf hunt.now seat.old }
-    requires question { run.now.question ≡ hunt.now.question }
-    ensures of { IfSome result (λ run. run.question ≡ hunt.now.question) }
-    ensures shared { HasShared hunt.now seat.old seat.new }
-{
+    };
     let copy = run.copy(alloc).ok()?;
     match hunt.post(seat, copy) {
         Ok(_) => None,

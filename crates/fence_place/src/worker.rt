@@ -6,7 +6,8 @@ ghost use Rattle.cover_solver.specs.Verdicts.{IsVerdictOf, PassesNoneOf};
 ghost use Rattle.search_core.specs.Events.{IsBeatenBy};
 ghost use Rattle.hunt_board.specs.Seats.{IsOf};
 ghost use Rattle.hunt_board.specs.Settlings.{IsLawful, MaySettle};
-ghost use Rattle.fence_place.specs.Internal.Workers.{IsAt, IsReady, HasEnded, MayStop, lacks_run};
+ghost use Rattle.fence_place.specs.Internal.Sharing.{CanSplit};
+ghost use Rattle.fence_place.specs.Internal.Workers.{HasDealtWith, HasEnded, IsAt, IsReady, IsStillAt, IsToSettle, MayStop, lacks_run};
 
 use crate::known::known_run;
 use crate::sharing::{ceiling_below, copy_of_posted, share};
@@ -72,25 +73,31 @@ impl Worker {
     }
 }
 
+/// A hunt as its workers share it, with the turns at which they ask.
+#[derive(Drop)]
+pub(crate) struct SharedHunt {
+    pub(crate) alloc: Global,
+    pub(crate) hunt: Hunt,
+    pub(crate) turns: Turns,
+}
+
 /// Settles nodes until all are settled, or the worker stops: its node is open again then.
 pub(crate) fn work<W: Wait, O: Oracle>(
     wait: &W,
-    alloc: Global,
-    hunt: &Hunt,
-    turns: &Turns,
+    shared: &SharedHunt,
     oracle: &O,
     worker: &mut Worker,
 )
-    requires ready { IsReady hunt.now worker.old }
-    requires oracle { O.question oracle.now ≡ hunt.now.question }
-    ensures { HasEnded hunt.now (O.may_lack_runs oracle.now) worker.new }
+    requires ready { IsReady shared.now.hunt worker.old }
+    requires oracle { O.question oracle.now ≡ shared.now.hunt.question }
+    ensures { HasEnded shared.now.hunt (O.may_lack_runs oracle.now) worker.new }
 {
     for _ in wait.forever() {
-        let Next::Work(node) = hunt.next(wait, &mut worker.seat) else {
+        let Next::Work(node) = shared.hunt.next(wait, &mut worker.seat) else {
             break;
         };
-        if let Err(stop) = settle(wait, alloc, hunt, turns, oracle, worker, &node) {
-            hunt.give_back(wait, &mut worker.seat);
+        if let Err(stop) = settle(wait, shared, oracle, worker, &node) {
+            shared.hunt.give_back(wait, &mut worker.seat);
             if stop != Stop::Later {
                 worker.stop = Some(stop);
                 break;
@@ -102,24 +109,17 @@ pub(crate) fn work<W: Wait, O: Oracle>(
 /// Settles the worker's node, without a question where that can be.
 fn settle<W: Wait, O: Oracle>(
     wait: &W,
-    alloc: Global,
-    hunt: &Hunt,
-    turns: &Turns,
+    shared: &SharedHunt,
     oracle: &O,
     worker: &mut Worker,
     node: &Region,
 ) -> Result<(), Stop>
-    requires at { IsAt hunt.now worker.old (Some node.now) }
-    requires gaps { AreGapsOf hunt.now.question.program node.now.must }
-    requires oracle { O.question oracle.now ≡ hunt.now.question }
-    ensures settled { OnOk result (IsAt hunt.now worker.new None) }
-    ensures held { OnErr result (IsAt hunt.now worker.new (Some node.now)) }
-    ensures fault { IfErr result (MayStop (O.may_lack_runs oracle.now)) }
-    ensures stop { worker.new.stop ≡ worker.old.stop }
+    requires { IsToSettle (O.question oracle.now) shared.now.hunt worker.old node.now }
+    ensures { HasDealtWith shared.now.hunt (O.may_lack_runs oracle.now) worker.old worker.new node.now result }
 {
-    match known_settling(alloc, hunt, worker, node) {
-        Some(settling) => keep_receipt(wait, hunt, worker, settling),
-        None => settle_in_turn(wait, alloc, hunt, turns, oracle, worker, node),
+    match known_settling(shared.alloc, &shared.hunt, worker, node) {
+        Some(settling) => keep_receipt(wait, &shared.hunt, worker, settling),
+        None => settle_in_turn(wait, shared, oracle, worker, node),
     }
 }
 
@@ -133,8 +133,7 @@ fn known_settling(
 ) -> Option<Settling>
     requires { IsAt hunt.now worker.old (Some node.now) }
     ensures lawful { IfSome result (IsLawful hunt.now worker.new.seat.best node.now) }
-    ensures at { IsAt hunt.now worker.new (Some node.now) }
-    ensures stop { worker.new.stop ≡ worker.old.stop }
+    ensures still { IsStillAt hunt.now worker.old worker.new node.now }
 {
     if is_beaten(hunt.costs(), &worker.seat, &node.must) {
         return Some(Settling::Best);
@@ -154,9 +153,7 @@ fn run_at_hand(
     node: &Region,
 ) -> Option<ForeignRun>
     requires { AreOf hunt.now.question known.now }
-    ensures of { IfSome result (λ run. run.question ≡ hunt.now.question) }
-    ensures foreign { IfSome result IsForeignValue }
-    ensures passes_none { IfSome result (PassesNoneOf node.now.must) }
+    ensures { IfSome result (CanSplit hunt.now.question node.now) }
 {
     match copy_of_known(alloc, known, node) {
         Some(run) => Some(run),
@@ -215,60 +212,47 @@ fn keep_receipt<W: Wait>(
 /// Settles the worker's node by a question, once it is the worker's turn to ask.
 fn settle_in_turn<W: Wait, O: Oracle>(
     wait: &W,
-    alloc: Global,
-    hunt: &Hunt,
-    turns: &Turns,
+    shared: &SharedHunt,
     oracle: &O,
     worker: &mut Worker,
     node: &Region,
 ) -> Result<(), Stop>
-    requires at { IsAt hunt.now worker.old (Some node.now) }
-    requires gaps { AreGapsOf hunt.now.question.program node.now.must }
-    requires oracle { O.question oracle.now ≡ hunt.now.question }
-    ensures settled { OnOk result (IsAt hunt.now worker.new None) }
-    ensures held { OnErr result (IsAt hunt.now worker.new (Some node.now)) }
-    ensures fault { IfErr result (MayStop (O.may_lack_runs oracle.now)) }
-    ensures stop { worker.new.stop ≡ worker.old.stop }
+    requires { IsToSettle (O.question oracle.now) shared.now.hunt worker.old node.now }
+    ensures { HasDealtWith shared.now.hunt (O.may_lack_runs oracle.now) worker.old worker.new node.now result }
 {
     let seat = worker.seat.number();
-    match turns.begin(wait, hunt.costs(), seat, &node.must) {
+    let costs = shared.hunt.costs();
+    match shared.turns.begin(wait, costs, seat, &node.must) {
         Turn::Now => {}
         Turn::Later => return Err(Stop::Later),
         Turn::Never => return Err(Stop::Beaten),
     }
-    let settled = settle_by_oracle(wait, alloc, hunt, oracle, worker, node);
-    turns.end(wait, hunt.costs(), seat, worker.seat.best());
+    let settled = settle_by_oracle(wait, shared, oracle, worker, node);
+    shared.turns.end(wait, costs, seat, worker.seat.best());
     settled
 }
 
 /// Settles the worker's node by what the oracle says of its set, which the other workers learn before.
 fn settle_by_oracle<W: Wait, O: Oracle>(
     wait: &W,
-    alloc: Global,
-    hunt: &Hunt,
+    shared: &SharedHunt,
     oracle: &O,
     worker: &mut Worker,
     node: &Region,
 ) -> Result<(), Stop>
-    requires at { IsAt hunt.now worker.old (Some node.now) }
-    requires gaps { AreGapsOf hunt.now.question.program node.now.must }
-    requires oracle { O.question oracle.now ≡ hunt.now.question }
-    ensures settled { OnOk result (IsAt hunt.now worker.new None) }
-    ensures held { OnErr result (IsAt hunt.now worker.new (Some node.now)) }
-    ensures fault { IfErr result (MayStop (O.may_lack_runs oracle.now)) }
-    ensures stop { worker.new.stop ≡ worker.old.stop }
+    requires { IsToSettle (O.question oracle.now) shared.now.hunt worker.old node.now }
+    ensures { HasDealtWith shared.now.hunt (O.may_lack_runs oracle.now) worker.old worker.new node.now result }
 {
     let verdict = ask(oracle, &node.must)?;
-    pass_on(alloc, hunt, worker, node, &verdict);
-    keep_receipt(wait, hunt, worker, Settling::Asked(verdict))
+    pass_on(shared.alloc, &shared.hunt, worker, node, &verdict);
+    keep_receipt(wait, &shared.hunt, worker, Settling::Asked(verdict))
 }
 
 /// The other workers learn what the oracle said. A copy of a run that can't be posted is known to this worker alone.
 fn pass_on(alloc: Global, hunt: &Hunt, worker: &mut Worker, node: &Region, verdict: &Verdict)
     requires at { IsAt hunt.now worker.old (Some node.now) }
     requires verdict { IsVerdictOf hunt.now.question node.now.must verdict.now }
-    ensures at { IsAt hunt.now worker.new (Some node.now) }
-    ensures stop { worker.new.stop ≡ worker.old.stop }
+    ensures { IsStillAt hunt.now worker.old worker.new node.now }
 {
     if let Some(run) = share(alloc, hunt, &mut worker.seat, verdict) {
         keep(&mut worker.known, run);

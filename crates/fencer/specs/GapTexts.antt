@@ -39,7 +39,7 @@ pub record PrintsGaps (template : Bool) (litmus : List ℕ) (costs : Option (Lis
 abbrev pub HasNoGaps : List ℕ → Option (List ℕ) → TextFault → Type 0
 HasNoGaps litmus costs (fault.Read why) = IsRefusedText litmus why
 HasNoGaps litmus costs (fault.CostText why) = (source : Litmus Listing) × IsLitmus litmus source × AreNoCosts source.program costs why
-HasNoGaps litmus costs (fault.Place why) = ⊥
+HasNoGaps litmus costs fault.Workers = ⊥
 HasNoGaps litmus costs fault.OutOfMemory = ⊤
 
 -- the answer to texts, with its status; or why there is none

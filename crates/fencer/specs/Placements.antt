@@ -7,8 +7,6 @@ use Rattle.program_streams.specs.FileLines.{file_line}
 use Rattle.tso_program.specs.declared.shown.ShownKind.{ShownKind}
 use Rattle.fencer_words.specs.declared.job.Placement.{Placement}
 use Rattle.fencer_words.specs.CommandFiles.{name_of}
-use Rattle.fence_place.specs.declared.fault.PlaceFault.{PlaceFault}
-use Rattle.fence_place.specs.declared.fault.PlaceFault.TheVariants as place
 use Rattle.placed_text.specs.declared.fault.TextFault.{TextFault}
 use Rattle.placed_text.specs.declared.fault.TextFault.TheVariants as fault
 use Rattle.placed_text.specs.declared.writing.PlacedText.{PlacedText}
@@ -24,19 +22,12 @@ use Rattle.fencer.specs.Statuses.{check_status}
 
 -- ---- lines
 
-abbrev pub place_line : PlaceFault → List ℕ
-place_line place.Workers = refused (codes "place 1 Workers")
-place_line place.Costs = refused (codes "place 2 Costs")
-place_line place.NotCertified = refused (codes "place 3 NotCertified")
-place_line place.Board = refused (codes "place 4 Board")
-place_line place.OutOfMemory = refused (codes "place 5 OutOfMemory")
-
 -- a text that isn't read is reported as a fault of its part
 abbrev pub text_fault_line : TextFault → List ℕ
 text_fault_line (fault.Read why) = litmus_line why
 text_fault_line (fault.CostText why) = costs_line why
-text_fault_line (fault.Place why) = place_line why
-text_fault_line fault.OutOfMemory = place_line place.OutOfMemory
+text_fault_line fault.Workers = refused (codes "place 1 Workers")
+text_fault_line fault.OutOfMemory = refused (codes "place 5 OutOfMemory")
 
 -- What is delivered of what is placed: the lines are the answer and the program with its fences, or the document in their place;
 -- the first file that is written has the program, the second the certificate; with a check the status is 3 where the answer has a

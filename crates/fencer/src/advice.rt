@@ -103,7 +103,7 @@ pub(crate) fn text_fault_advice(
             let source = Source::new(cost_file.unwrap_or(""), costs);
             costs_message(alloc, source, why, &texts.litmus)
         }
-        TextFault::Place(_) | TextFault::OutOfMemory => {
+        TextFault::Workers | TextFault::OutOfMemory => {
             let text = format!(in alloc; "{fault}")?;
             Message::of_file(alloc, name, text.as_str())
         }

@@ -43,9 +43,8 @@ fn error_text(alloc: Global, error: &Error) -> Result<Vec<u8>, AllocError>
 }
 
 /// Does a job, and answers the status.
-fn run_job<T: Threads + Sync, U: Wait + Sync, S: WritableFileStore, R: Read, W: Console>(
+fn run_job<T: Threads + Wait + Sync, S: WritableFileStore, R: Read, W: Console>(
     rt: &T,
-    wait: &U,
     alloc: Global,
     files: &mut S,
     job: &Job,
@@ -60,17 +59,16 @@ fn run_job<T: Threads + Sync, U: Wait + Sync, S: WritableFileStore, R: Read, W: 
         Job::Replay(asked) => run_replay(alloc, &*files, asked, input, output),
         Job::Trace(asked) => run_trace(alloc, files, asked, input, output),
         Job::Outcomes(asked) => run_outcomes(rt, alloc, &*files, asked, input, output),
-        Job::Place(asked) => run_place(rt, wait, alloc, files, asked, input, output),
-        Job::Why(asked) => run_why(rt, wait, alloc, files, asked, input, output),
+        Job::Place(asked) => run_place(rt, alloc, files, asked, input, output),
+        Job::Why(asked) => run_why(rt, alloc, files, asked, input, output),
         Job::Gaps(asked) => run_gaps(alloc, &*files, asked, input, output),
         Job::Witness(asked) => run_witness(alloc, files, asked, input, output),
     }
 }
 
 /// Does what words ask for, and answers the status.
-fn run_words<T: Threads + Sync, U: Wait + Sync, S: WritableFileStore, R: Read, W: Console>(
+fn run_words<T: Threads + Wait + Sync, S: WritableFileStore, R: Read, W: Console>(
     rt: &T,
-    wait: &U,
     alloc: Global,
     files: &mut S,
     words: &[String],
@@ -85,7 +83,7 @@ fn run_words<T: Threads + Sync, U: Wait + Sync, S: WritableFileStore, R: Read, W
         return print(output, version_line(alloc, NAME), 0);
     }
     match read_words(alloc, words) {
-        Ok(job) => run_job(rt, wait, alloc, files, &job, input, output),
+        Ok(job) => run_job(rt, alloc, files, &job, input, output),
         Err(error) => match error.kind() {
             ErrorKind::OutOfMemory => 1,
             _ => print(output, error_text(alloc, &error), 2),
@@ -98,15 +96,14 @@ fn run_words<T: Threads + Sync, U: Wait + Sync, S: WritableFileStore, R: Read, W
 /// the input than shows that the line or the litmus file is too long.
 ///
 /// Wherever any of a placement's answer is printed, the files that the arguments name hold its certificate and the fenced program;
-/// no file is changed but these, and those that they name for a page or for graphs. With `rt` the workers of a placement start threads, and with
-/// `wait` they wait for one another; nothing else does either.
+/// no file is changed but these, and those that they name for a page or for graphs. With `rt` the workers of a placement start threads and
+/// wait for one another, and a search for outcomes starts threads; nothing else does either.
 ///
 /// Status 0 means that the whole answer is written, and status 3 that it is and that a check which is asked for finds a fault. Status 1
 /// is a refusal, reported by one line, a writer that fails or takes no byte, and out of memory for the words or for that line, with
 /// nothing written. Status 2 is a bad command line or a call for help, reported on the writer too.
-pub fn run_command<T: Threads + Sync, U: Wait + Sync, S: WritableFileStore, R: Read, W: Console>(
+pub fn run_command<T: Threads + Wait + Sync, S: WritableFileStore, R: Read, W: Console>(
     rt: &T,
-    wait: &U,
     alloc: Global,
     files: &mut S,
     words: &[String],
@@ -118,7 +115,7 @@ pub fn run_command<T: Threads + Sync, U: Wait + Sync, S: WritableFileStore, R: R
     ensures read { ReadsFor (map string_bytes words.now) (R.remaining input.old) (R.remaining input.new) }
 {
     if !words.is_empty() {
-        return run_words(rt, wait, alloc, files, words, input, output);
+        return run_words(rt, alloc, files, words, input, output);
     }
     let line = match read_line_up_to(alloc, input, TEXT_LIMIT) {
         Ok(line) => line,
@@ -128,7 +125,7 @@ pub fn run_command<T: Threads + Sync, U: Wait + Sync, S: WritableFileStore, R: R
         }
     };
     match line_words(alloc, &line) {
-        Ok(words) => run_words(rt, wait, alloc, files, words.as_slice(), input, output),
+        Ok(words) => run_words(rt, alloc, files, words.as_slice(), input, output),
         Err(LineFault::NotUtf8) => refuse_words(alloc, output),
         Err(LineFault::OutOfMemory) => 1,
     }

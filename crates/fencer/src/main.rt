@@ -35,7 +35,6 @@ fn main(rt: HostRuntime) -> ExitCode {
     let status = match given_words(&rt, &mut output) {
         Ok(words) => command::run_command(
             &rt,
-            &rt,
             rt.alloc(),
             &mut SystemFiles::new(&rt),
             words.as_slice(),

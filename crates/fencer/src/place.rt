@@ -6,7 +6,7 @@ ghost use Rattle.program_streams.specs.Files.{ReadsOfInput};
 ghost use Rattle.placed_text.specs.TextFaults.{HasNoPlacedText};
 ghost use Rattle.fencer_words.specs.CommandFiles.{name_of};
 ghost use Rattle.fencer.specs.Deliveries.{KeepFilesBut};
-ghost use Rattle.fencer.specs.Placements.{place_line, text_fault_line, DeliversTexts, IsJudged, IsPlaced, PrintsPlacement};
+ghost use Rattle.fencer.specs.Placements.{text_fault_line, DeliversTexts, IsJudged, IsPlaced, PrintsPlacement};
 
 use crate::advice::{text_fault_advice, unread_advice};
 use crate::delivery::{Answer, deliver};
@@ -14,7 +14,6 @@ use crate::documented::printed;
 use crate::refused::tell_refusal;
 use crate::status::check_status;
 use crate::texts::{Texts, read_texts};
-use fence_place::PlaceFault;
 use fencer_words::Placement;
 use placed_text::{Effort, PlacedText, TextFault, place_text};
 use program_streams::{Console, Progress, TEXT_LIMIT, WritableFileStore, file_line};
@@ -24,19 +23,6 @@ use std::io::Read;
 use std::sync::Wait;
 use std::thread::Threads;
 
-/// Why nothing is placed.
-fn place_line(alloc: Global, fault: PlaceFault) -> Result<Vec<u8>, AllocError>
-    ensures { IfOk result (λ line. line.items ≡ place_line fault) }
-{
-    match fault {
-        PlaceFault::Workers => Vec::from_slice(alloc, b"refused place 1 Workers\n"),
-        PlaceFault::Costs => Vec::from_slice(alloc, b"refused place 2 Costs\n"),
-        PlaceFault::NotCertified => Vec::from_slice(alloc, b"refused place 3 NotCertified\n"),
-        PlaceFault::Board => Vec::from_slice(alloc, b"refused place 4 Board\n"),
-        PlaceFault::OutOfMemory => Vec::from_slice(alloc, b"refused place 5 OutOfMemory\n"),
-    }
-}
-
 /// Why nothing is placed in the program of a text.
 pub(crate) fn text_fault_line(alloc: Global, fault: TextFault) -> Result<Vec<u8>, AllocError>
     ensures { IfOk result (λ line. line.items ≡ text_fault_line fault) }
@@ -44,8 +30,8 @@ pub(crate) fn text_fault_line(alloc: Global, fault: TextFault) -> Result<Vec<u8>
     match fault {
         TextFault::Read(why) => litmus_line(alloc, why),
         TextFault::CostText(why) => costs_line(alloc, why),
-        TextFault::Place(why) => place_line(alloc, why),
-        TextFault::OutOfMemory => place_line(alloc, PlaceFault::OutOfMemory),
+        TextFault::Workers => Vec::from_slice(alloc, b"refused place 1 Workers\n"),
+        TextFault::OutOfMemory => Vec::from_slice(alloc, b"refused place 5 OutOfMemory\n"),
     }
 }
 
@@ -76,9 +62,8 @@ fn joined(texts: PlacedText, check: bool, json: bool) -> Result<Answer, TextFaul
 }
 
 /// What is placed in the program of a text.
-fn answer_of<T: Threads + Sync, U: Wait + Sync>(
+fn answer_of<T: Threads + Wait + Sync>(
     rt: &T,
-    wait: &U,
     alloc: Global,
     asked: &Placement,
     texts: &Texts,
@@ -92,14 +77,13 @@ fn answer_of<T: Threads + Sync, U: Wait + Sync>(
         workers: asked.workers,
         progress: progress.asked(asked.progress),
     };
-    let placed = place_text(rt, wait, alloc, &texts.litmus, costs, asked.kind, effort)?;
+    let placed = place_text(rt, alloc, &texts.litmus, costs, asked.kind, effort)?;
     joined(placed, asked.check, asked.json)
 }
 
 /// Judges texts, prints what is placed, and returns the status.
-fn place_texts<T: Threads + Sync, U: Wait + Sync, S: WritableFileStore, W: Console>(
+fn place_texts<T: Threads + Wait + Sync, S: WritableFileStore, W: Console>(
     rt: &T,
-    wait: &U,
     alloc: Global,
     files: &mut S,
     asked: &Placement,
@@ -112,7 +96,7 @@ fn place_texts<T: Threads + Sync, U: Wait + Sync, S: WritableFileStore, W: Conso
     let program = asked.output.as_deref();
     let certificate = asked.certificate.as_deref();
     let progress = output.progress();
-    match answer_of(rt, wait, alloc, asked, texts, progress) {
+    match answer_of(rt, alloc, asked, texts, progress) {
         Ok(answer) => deliver(alloc, files, program, certificate, answer, output),
         Err(fault) => {
             let named = (asked.litmus.as_str(), asked.costs.as_deref());
@@ -130,9 +114,8 @@ fn place_texts<T: Threads + Sync, U: Wait + Sync, S: WritableFileStore, W: Conso
 
 /// Places fences in the program of a litmus file, writes the fenced program and the certificate, prints the answer, and
 /// returns the status.
-pub fn run_place<T: Threads + Sync, U: Wait + Sync, S: WritableFileStore, R: Read, W: Console>(
+pub fn run_place<T: Threads + Wait + Sync, S: WritableFileStore, R: Read, W: Console>(
     rt: &T,
-    wait: &U,
     alloc: Global,
     files: &mut S,
     asked: &Placement,
@@ -145,7 +128,7 @@ pub fn run_place<T: Threads + Sync, U: Wait + Sync, S: WritableFileStore, R: Rea
 {
     let costs = asked.costs.as_deref();
     match read_texts(alloc, &*files, asked.litmus.as_str(), costs, input) {
-        Ok(texts) => place_texts(rt, wait, alloc, files, asked, &texts, output),
+        Ok(texts) => place_texts(rt, alloc, files, asked, &texts, output),
         Err(file) => {
             let message = unread_advice(alloc, &*files, file);
             tell_refusal(

@@ -24,9 +24,8 @@ use std::thread::Threads;
 use why_text::{WhyText, why_text};
 
 /// What is delivered of the reasons why the fences of an answer are needed.
-fn explained<T: Threads + Sync, U: Wait + Sync>(
+fn explained<T: Threads + Wait + Sync>(
     rt: &T,
-    wait: &U,
     alloc: Global,
     asked: &WhyQuery,
     texts: &Texts,
@@ -46,7 +45,7 @@ fn explained<T: Threads + Sync, U: Wait + Sync>(
         progress: progress.asked(asked.placement.progress),
     };
     let costs = texts.costs.as_deref();
-    let reasons = why_text(rt, wait, alloc, &texts.litmus, costs, *kind, effort)?;
+    let reasons = why_text(rt, alloc, &texts.litmus, costs, *kind, effort)?;
     let WhyText {
         lines,
         graph,
@@ -59,9 +58,8 @@ fn explained<T: Threads + Sync, U: Wait + Sync>(
 }
 
 /// Judges texts, writes the page and the graphs, prints why each fence of the answer is needed, and returns the status.
-fn explain_texts<T: Threads + Sync, U: Wait + Sync, S: WritableFileStore, W: Console>(
+fn explain_texts<T: Threads + Wait + Sync, S: WritableFileStore, W: Console>(
     rt: &T,
-    wait: &U,
     alloc: Global,
     files: &mut S,
     asked: &WhyQuery,
@@ -74,7 +72,7 @@ fn explain_texts<T: Threads + Sync, U: Wait + Sync, S: WritableFileStore, W: Con
     let page = asked.page.as_deref();
     let graphs = asked.graphs.as_deref();
     let progress = output.progress();
-    match explained(rt, wait, alloc, asked, texts, progress) {
+    match explained(rt, alloc, asked, texts, progress) {
         Ok(answer) => deliver(alloc, files, page, graphs, answer, output),
         Err(fault) => {
             let Placement { litmus, costs, .. } = &asked.placement;
@@ -93,9 +91,8 @@ fn explain_texts<T: Threads + Sync, U: Wait + Sync, S: WritableFileStore, W: Con
 
 /// Shows for each fence of a placement in the program of a litmus file why it is needed, writes the page and the graphs to
 /// files if they are named, prints the answer, and returns the status.
-pub fn run_why<T: Threads + Sync, U: Wait + Sync, S: WritableFileStore, R: Read, W: Console>(
+pub fn run_why<T: Threads + Wait + Sync, S: WritableFileStore, R: Read, W: Console>(
     rt: &T,
-    wait: &U,
     alloc: Global,
     files: &mut S,
     asked: &WhyQuery,
@@ -109,7 +106,7 @@ pub fn run_why<T: Threads + Sync, U: Wait + Sync, S: WritableFileStore, R: Read,
     let litmus = asked.placement.litmus.as_str();
     let costs = asked.placement.costs.as_deref();
     match read_texts(alloc, &*files, litmus, costs, input) {
-        Ok(texts) => explain_texts(rt, wait, alloc, files, asked, &texts, output),
+        Ok(texts) => explain_texts(rt, alloc, files, asked, &texts, output),
         Err(file) => {
             let message = unread_advice(alloc, &*files, file);
             tell_refusal(

@@ -48,6 +48,12 @@ pub record IsSeatOf (w : Word) (k : Known) : Type 0 where
 abbrev pub with_least : Known → ℕ → Known
 with_least k n = record { table = k.table; goal = k.goal; least = n }
 
+-- the seat after the word was lowered: its least is no more than this number nor than before, and the rest is the same
+pub record HasLowered (before after : Known) (to : ℕ) : Type 0 where
+  pub lowered : after.least ≤ to
+  pub least : after.least ≤ before.least
+  pub seat : after ≡ with_least before after.least
+
 abbrev pub knows : ℕ → ℕ → View
 knows goal least = record { goal = goal; least = least; live = true }
 
@@ -80,6 +86,12 @@ pub record IsLive (goal : ℕ) (me : Me ℕ View) : Type 0 where
   pub goal_is : me.0.goal ≡ goal
   pub live : me.0.live ≡ true
   pub slots : me.1 ≡ []
+
+-- a seat of the word's table, which has that one word; it holds no slot, is not spent and has the word's goal
+pub record SitsAt (table : TableId) (about : Problem) (of : TableId) (me : Me ℕ View) : Type 0 where
+  pub of_table : of ≡ table
+  pub one_word : table.words ≡ 1
+  pub live : IsLive (goal_of about) me
 
 -- the number found is no more than the seat's least, which it becomes
 pub record Loaded (t : Step ℕ) (me : Me ℕ View) (n : ℕ) (after : Me ℕ View) : Type 0 where

@@ -1,6 +1,6 @@
 //! Single steps on the ceiling word. Each keeps its rule.
 ghost use Rattle.std.specs.Prelude.{◌≡◌, ◌≤◌, min};
-ghost use Rattle.hunt_board.specs.Word.{IsLive, IsAbove, goal_of};
+ghost use Rattle.hunt_board.specs.Word.{IsAbove, SitsAt, goal_of};
 
 use crate::rule::{Joins, Loads, Lowers, Splits, View, WordRule};
 use atomic_table::{Seat, Shared};
@@ -12,11 +12,8 @@ pub type TableSeat = Seat<u8, View>;
 
 /// Reads the word.
 pub fn load(word: &SharedWord, seat: &mut TableSeat) -> u64
-    requires table { seat.old.table_id ≡ word.now.table_id }
-    requires words { word.now.table_id.words ≡ 1 }
-    requires seat { IsLive (goal_of word.now.key) seat.old.me }
-    ensures same { seat.new.table_id ≡ seat.old.table_id }
-    ensures seat { IsLive (goal_of word.now.key) seat.new.me }
+    requires seat { SitsAt word.now.table_id word.now.key seat.old.table_id seat.old.me }
+    ensures seat { SitsAt word.now.table_id word.now.key seat.new.table_id seat.new.me }
     ensures least { (result ≤ seat.old.me.0.least) × (seat.new.me.0.least ≡ result) }
     ensures above { IsAbove (goal_of word.now.key) result }
 {
@@ -25,12 +22,9 @@ pub fn load(word: &SharedWord, seat: &mut TableSeat) -> u64
 
 /// Lowers the word, where it is higher.
 pub fn lower(word: &SharedWord, seat: &mut TableSeat, to: u64)
-    requires table { seat.old.table_id ≡ word.now.table_id }
-    requires words { word.now.table_id.words ≡ 1 }
-    requires seat { IsLive (goal_of word.now.key) seat.old.me }
+    requires seat { SitsAt word.now.table_id word.now.key seat.old.table_id seat.old.me }
     requires to { goal_of word.now.key ≤ to }
-    ensures same { seat.new.table_id ≡ seat.old.table_id }
-    ensures seat { IsLive (goal_of word.now.key) seat.new.me }
+    ensures seat { SitsAt word.now.table_id word.now.key seat.new.table_id seat.new.me }
     ensures least { (seat.new.me.0.least ≤ to) × (seat.new.me.0.least ≤ seat.old.me.0.least) }
 {
     word.fetch_min::<Lowers>(seat, 0, to);
@@ -38,9 +32,7 @@ pub fn lower(word: &SharedWord, seat: &mut TableSeat, to: u64)
 
 /// A new seat that knows as much.
 pub fn split(word: &SharedWord, seat: &mut TableSeat) -> TableSeat
-    requires table { seat.old.table_id ≡ word.now.table_id }
-    requires words { word.now.table_id.words ≡ 1 }
-    requires seat { IsLive (goal_of word.now.key) seat.old.me }
+    requires seat { SitsAt word.now.table_id word.now.key seat.old.table_id seat.old.me }
     ensures same { (seat.new.table_id ≡ seat.old.table_id) × (seat.new.me ≡ seat.old.me) }
     ensures made { (result.table_id ≡ word.now.table_id) × (result.me ≡ seat.old.me) }
 {
@@ -49,11 +41,9 @@ pub fn split(word: &SharedWord, seat: &mut TableSeat) -> TableSeat
 
 /// Takes another seat in. What the two know, the one knows.
 pub fn join(word: &SharedWord, seat: &mut TableSeat, other: TableSeat)
-    requires tables { (seat.old.table_id ≡ word.now.table_id) × (other.table_id ≡ word.now.table_id) }
-    requires words { word.now.table_id.words ≡ 1 }
-    requires seats { IsLive (goal_of word.now.key) seat.old.me × IsLive (goal_of word.now.key) other.me }
-    ensures same { seat.new.table_id ≡ seat.old.table_id }
-    ensures seat { IsLive (goal_of word.now.key) seat.new.me }
+    requires seat { SitsAt word.now.table_id word.now.key seat.old.table_id seat.old.me }
+    requires other { SitsAt word.now.table_id word.now.key other.table_id other.me }
+    ensures seat { SitsAt word.now.table_id word.now.key seat.new.table_id seat.new.me }
     ensures least { seat.new.me.0.least ≡ min seat.old.me.0.least other.me.0.least }
 {
     word.join_seat::<Joins>(seat, other);

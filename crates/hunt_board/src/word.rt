@@ -3,7 +3,7 @@ ghost use Rattle.std.specs.Prelude.{◌≡◌, ◌≤◌, IfOk, IfSome, min};
 ghost use Rattle.gap_sets.specs.Order.{total};
 ghost use Rattle.tso_program.specs.Shown.{asked};
 ghost use Rattle.search_core.specs.Ceilings.{IsCeilingOf, problem};
-ghost use Rattle.hunt_board.specs.Word.{IsSeatOf, goal_of, no_ceiling, number_in, number_of, with_least, word_with};
+ghost use Rattle.hunt_board.specs.Word.{HasLowered, IsSeatOf, goal_of, no_ceiling, number_in, number_of, with_least, word_with};
 
 use crate::rule::{View, WordRule};
 use crate::steps;
@@ -90,9 +90,7 @@ impl CeilingWord {
     fn lower_to(&self, seat: &mut WordSeat, to: u64)
         requires seat { IsSeatOf (word_with self.now.table.shared.key self.now.table.shared.table_id) seat.old }
         requires goal { goal_of self.now.table.shared.key ≤ to }
-        ensures lowered { seat.new.least ≤ to }
-        ensures least { seat.new.least ≤ seat.old.least }
-        ensures seat { seat.new ≡ with_least seat.old seat.new.least }
+        ensures { HasLowered seat.old seat.new to }
     {
         steps::lower(&self.table.shared, &mut seat.seat, to);
     }
@@ -120,9 +118,7 @@ impl CeilingWord {
     pub fn lower(&self, seat: &mut WordSeat, served: &Served, costs: &Costs)
         requires seat { IsSeatOf (word_with self.now.table.shared.key self.now.table.shared.table_id) seat.old }
         requires problem { self.now.table.shared.key ≡ problem served.now.question costs.now }
-        ensures lowered { seat.new.least ≤ total costs.now served.now.gaps }
-        ensures least { seat.new.least ≤ seat.old.least }
-        ensures seat { seat.new ≡ with_least seat.old seat.new.least }
+        ensures { HasLowered seat.old seat.new (total costs.now served.now.gaps) }
     {
         // For the proof alone: that the set serves, and that jumps lead forward, is known where these are read.
         let program = served.program();

@@ -21,9 +21,8 @@ pub enum PlaceCall {
 }
 
 /// The answer to a call with the sequential outcomes.
-pub fn push_of_place<R: Threads + Sync, W: Wait + Sync>(
+pub fn push_of_place<R: Threads + Wait + Sync>(
     rt: &R,
-    wait: &W,
     alloc: Global,
     call: PlaceCall,
     words: &[&[u8]],
@@ -31,10 +30,10 @@ pub fn push_of_place<R: Threads + Sync, W: Wait + Sync>(
     printed: &mut String,
 ) -> Result<(), PlaceRefusal> {
     match call {
-        PlaceCall::Place => push_placed(rt, wait, alloc, table, words, printed),
-        PlaceCall::HuntWith => push_hunted_with(rt, wait, alloc, table, words, printed),
-        PlaceCall::Gated(call) => push_gated(rt, wait, alloc, call, table, words, printed),
-        PlaceCall::Shared(call) => push_shared(rt, wait, alloc, call, table, words, printed),
-        PlaceCall::Lacking(call) => push_lacking(rt, wait, alloc, call, table, words, printed),
+        PlaceCall::Place => push_placed(rt, alloc, table, words, printed),
+        PlaceCall::HuntWith => push_hunted_with(rt, alloc, table, words, printed),
+        PlaceCall::Gated(call) => push_gated(rt, alloc, call, table, words, printed),
+        PlaceCall::Shared(call) => push_shared(rt, alloc, call, table, words, printed),
+        PlaceCall::Lacking(call) => push_lacking(rt, alloc, call, table, words, printed),
     }
 }

@@ -83,9 +83,8 @@ fn push_lines(set: &GapSet, gate: &Gate, printed: &mut String) -> Result<(), All
 
 /// The set that a number of workers find, where the solver answers its first question by a run of these labels, and whether a
 /// third question began while the second was held.
-pub fn push_gated<R: Threads + Sync, W: Wait + Sync>(
+pub fn push_gated<R: Threads + Wait + Sync>(
     rt: &R,
-    wait: &W,
     alloc: Global,
     call: PlacerCall,
     table: &SeqTable,
@@ -94,6 +93,6 @@ pub fn push_gated<R: Threads + Sync, W: Wait + Sync>(
 ) -> Result<(), PlaceRefusal> {
     let gate = new_gate(alloc, table, words)?;
     let workers = byte_at(words, 0)?;
-    let set = set_by(rt, wait, alloc, call, table, &gate, workers)?;
+    let set = set_by(rt, alloc, call, table, &gate, workers)?;
     Ok(push_lines(&set, &gate, printed)?)
 }

@@ -60,9 +60,8 @@ fn new_lacking(alloc: Global, table: &SeqTable, words: &[&[u8]]) -> Result<Lacki
 }
 
 /// The set that a number of workers find, where the solver has no answer to some of its first questions.
-pub fn push_lacking<R: Threads + Sync, W: Wait + Sync>(
+pub fn push_lacking<R: Threads + Wait + Sync>(
     rt: &R,
-    wait: &W,
     alloc: Global,
     call: PlacerCall,
     table: &SeqTable,
@@ -71,7 +70,7 @@ pub fn push_lacking<R: Threads + Sync, W: Wait + Sync>(
 ) -> Result<(), PlaceRefusal> {
     let lacking = new_lacking(alloc, table, words)?;
     let workers = byte_at(words, 0)?;
-    let set = set_by(rt, wait, alloc, call, table, &lacking, workers)?;
+    let set = set_by(rt, alloc, call, table, &lacking, workers)?;
     push_gaps_after("set", &set, printed)?;
     Ok(printed.push('\n')?)
 }

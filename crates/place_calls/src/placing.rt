@@ -43,9 +43,8 @@ pub enum PlacerCall {
 }
 
 /// The best set of gaps, each of which costs 1, as a number of workers find it.
-pub fn set_by<R: Threads + Sync, W: Wait + Sync, O: Oracle>(
+pub fn set_by<R: Threads + Wait + Sync, O: Oracle>(
     rt: &R,
-    wait: &W,
     alloc: Global,
     call: PlacerCall,
     table: &SeqTable,
@@ -57,11 +56,11 @@ pub fn set_by<R: Threads + Sync, W: Wait + Sync, O: Oracle>(
     let costs = equal_costs(alloc, table)?;
     match call {
         PlacerCall::Place => {
-            let placed = place(rt, wait, alloc, oracle, table, &costs, workers)?;
+            let placed = place(rt, alloc, oracle, table, &costs, workers)?;
             Ok(placed.set)
         }
         PlacerCall::Hunt => {
-            let finished = hunt_with(rt, wait, alloc, oracle, table, &costs, workers)?;
+            let finished = hunt_with(rt, alloc, oracle, table, &costs, workers)?;
             Ok(finished.served().set())
         }
     }
@@ -102,9 +101,8 @@ fn new_counting(alloc: Global, table: &SeqTable) -> Result<Counting, PlaceRefusa
 }
 
 /// What is placed: the first word is the number of workers, and the costs of the gaps may follow.
-fn placed_by<R: Threads + Sync, W: Wait + Sync>(
+fn placed_by<R: Threads + Wait + Sync>(
     rt: &R,
-    wait: &W,
     alloc: Global,
     table: &SeqTable,
     solver: &Counting,
@@ -114,28 +112,26 @@ fn placed_by<R: Threads + Sync, W: Wait + Sync>(
 {
     let workers = byte_at(words, 0)?;
     let costs = costs_of(alloc, table, words)?;
-    Ok(place(rt, wait, alloc, solver, table, &costs, workers)?)
+    Ok(place(rt, alloc, solver, table, &costs, workers)?)
 }
 
 /// Places fences, and says how many sets the solver was asked about.
-pub fn push_placed<R: Threads + Sync, W: Wait + Sync>(
+pub fn push_placed<R: Threads + Wait + Sync>(
     rt: &R,
-    wait: &W,
     alloc: Global,
     table: &SeqTable,
     words: &[&[u8]],
     printed: &mut String,
 ) -> Result<(), PlaceRefusal> {
     let solver = new_counting(alloc, table)?;
-    let placed = placed_by(rt, wait, alloc, table, &solver, words)?;
+    let placed = placed_by(rt, alloc, table, &solver, words)?;
     Ok(push_lines(&placed, &solver, printed)?)
 }
 
 /// What one hunt finds, without another search where it does not close: the first word is the number of workers, and the
 /// costs of the gaps may follow.
-fn hunted_with<R: Threads + Sync, W: Wait + Sync>(
+fn hunted_with<R: Threads + Wait + Sync>(
     rt: &R,
-    wait: &W,
     alloc: Global,
     table: &SeqTable,
     solver: &Solver,
@@ -145,21 +141,20 @@ fn hunted_with<R: Threads + Sync, W: Wait + Sync>(
 {
     let workers = byte_at(words, 0)?;
     let costs = costs_of(alloc, table, words)?;
-    let finished = hunt_with(rt, wait, alloc, solver, table, &costs, workers)?;
+    let finished = hunt_with(rt, alloc, solver, table, &costs, workers)?;
     Ok(finished.served().set())
 }
 
 /// The set that one hunt finds.
-pub fn push_hunted_with<R: Threads + Sync, W: Wait + Sync>(
+pub fn push_hunted_with<R: Threads + Wait + Sync>(
     rt: &R,
-    wait: &W,
     alloc: Global,
     table: &SeqTable,
     words: &[&[u8]],
     printed: &mut String,
 ) -> Result<(), PlaceRefusal> {
     let solver = Solver::new(alloc, table.program(), table)?;
-    let set = hunted_with(rt, wait, alloc, table, &solver, words)?;
+    let set = hunted_with(rt, alloc, table, &solver, words)?;
     push_gaps_after("set", &set, printed)?;
     Ok(printed.push('\n')?)
 }

@@ -97,9 +97,8 @@ fn push_lines(set: &GapSet, runs: &TwoRuns, printed: &mut String) -> Result<(), 
 
 /// The set that a number of workers find, where the solver has these two runs at hand, and how many questions each of them
 /// answered.
-pub fn push_shared<R: Threads + Sync, W: Wait + Sync>(
+pub fn push_shared<R: Threads + Wait + Sync>(
     rt: &R,
-    wait: &W,
     alloc: Global,
     call: PlacerCall,
     table: &SeqTable,
@@ -108,6 +107,6 @@ pub fn push_shared<R: Threads + Sync, W: Wait + Sync>(
 ) -> Result<(), PlaceRefusal> {
     let runs = new_runs(alloc, table, words)?;
     let workers = byte_at(words, 0)?;
-    let set = set_by(rt, wait, alloc, call, table, &runs, workers)?;
+    let set = set_by(rt, alloc, call, table, &runs, workers)?;
     Ok(push_lines(&set, &runs, printed)?)
 }

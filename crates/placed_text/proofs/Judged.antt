@@ -54,19 +54,19 @@ module _ (litmus : List ℕ) (costs : Option (List ℕ)) where
     pub no_program : (why : TextFault) → HasNoProgram litmus why → HasNoPlacedText litmus costs workers why
     no_program (fault.Read why) is = is
     no_program (fault.CostText why) is = absurd is
-    no_program (fault.Place why) is = absurd is
+    no_program fault.Workers is = absurd is
     no_program fault.OutOfMemory is = tt
 
     -- the costs are not given
     pub no_costs : (source : Litmus Listing) (why : TextFault) → IsLitmus litmus source → HasNoCosts source.program costs why → HasNoPlacedText litmus costs workers why
     no_costs source (fault.Read why) of_text is = absurd is
     no_costs source (fault.CostText why) of_text is = (source, of_text, is)
-    no_costs source (fault.Place why) of_text is = absurd is
+    no_costs source fault.Workers of_text is = absurd is
     no_costs source fault.OutOfMemory of_text is = tt
 
     -- the number of workers is too small or too large
     pub no_placement : (source : Litmus Listing) (gap_costs : List ℕ) (why : TextFault) → IsLitmus litmus source → AreGiven source.program costs gap_costs → HasNoPlacement workers why → HasNoPlacedText litmus costs workers why
     no_placement source gap_costs (fault.Read why) of_text given is = absurd is
     no_placement source gap_costs (fault.CostText why) of_text given is = absurd is
-    no_placement source gap_costs (fault.Place why) of_text given is = (source, gap_costs, of_text, given, is)
+    no_placement source gap_costs fault.Workers of_text given is = (source, gap_costs, of_text, given, is)
     no_placement source gap_costs fault.OutOfMemory of_text given is = tt

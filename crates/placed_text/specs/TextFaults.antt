@@ -9,8 +9,6 @@ use Rattle.cost_text.specs.declared.fault.CostTextFault.{CostTextFault}
 use Rattle.cost_text.specs.declared.fault.CostTextFault.TheVariants as cost_fault
 use Rattle.cost_text.specs.CostTexts as cost_texts
 use Rattle.cost_text.specs.GivenCosts.{AreGiven}
-use Rattle.fence_place.specs.declared.fault.PlaceFault.{PlaceFault}
-use Rattle.fence_place.specs.declared.fault.PlaceFault.TheVariants as place
 use Rattle.fence_place.specs.Faults.{AreTooFewOrMany}
 use Rattle.placed_text.specs.declared.fault.TextFault.{TextFault}
 use Rattle.placed_text.specs.declared.fault.TextFault.TheVariants as fault
@@ -22,7 +20,7 @@ IsRefusedText text why = IsNoLitmus text why × (why ≢ read_fault.OutOfMemory)
 abbrev pub HasNoProgram : List ℕ → TextFault → Type 0
 HasNoProgram text (fault.Read why) = IsRefusedText text why
 HasNoProgram text (fault.CostText why) = ⊥
-HasNoProgram text (fault.Place why) = ⊥
+HasNoProgram text fault.Workers = ⊥
 HasNoProgram text fault.OutOfMemory = ⊤
 
 -- a text of costs is given that gives the gaps of the program none, and what the fault says of it
@@ -36,27 +34,19 @@ pub record AreNoCosts (p : Listing) (costs : Option (List ℕ)) (why : CostTextF
 abbrev pub HasNoCosts : Listing → Option (List ℕ) → TextFault → Type 0
 HasNoCosts p costs (fault.Read why) = ⊥
 HasNoCosts p costs (fault.CostText why) = AreNoCosts p costs why
-HasNoCosts p costs (fault.Place why) = ⊥
+HasNoCosts p costs fault.Workers = ⊥
 HasNoCosts p costs fault.OutOfMemory = ⊤
-
--- of the faults of the placer only the number of workers is left
-abbrev pub IsNoPlacement : ℕ → PlaceFault → Type 0
-IsNoPlacement workers place.Workers = AreTooFewOrMany workers
-IsNoPlacement workers place.Costs = ⊥
-IsNoPlacement workers place.NotCertified = ⊥
-IsNoPlacement workers place.Board = ⊥
-IsNoPlacement workers place.OutOfMemory = ⊥
 
 abbrev pub HasNoPlacement : ℕ → TextFault → Type 0
 HasNoPlacement workers (fault.Read why) = ⊥
 HasNoPlacement workers (fault.CostText why) = ⊥
-HasNoPlacement workers (fault.Place why) = IsNoPlacement workers why
+HasNoPlacement workers fault.Workers = AreTooFewOrMany workers
 HasNoPlacement workers fault.OutOfMemory = ⊤
 
 -- Why there are no texts: the litmus text is judged first, then the costs, then the number of workers.
 abbrev pub HasNoPlacedText : List ℕ → Option (List ℕ) → ℕ → TextFault → Type 0
 HasNoPlacedText litmus costs workers (fault.Read why) = IsRefusedText litmus why
 HasNoPlacedText litmus costs workers (fault.CostText why) = (source : Litmus Listing) × IsLitmus litmus source × AreNoCosts source.program costs why
-HasNoPlacedText litmus costs workers (fault.Place why) =
-    (source : Litmus Listing) × (gap_costs : List ℕ) × IsLitmus litmus source × AreGiven source.program costs gap_costs × IsNoPlacement workers why
+HasNoPlacedText litmus costs workers fault.Workers =
+    (source : Litmus Listing) × (gap_costs : List ℕ) × IsLitmus litmus source × AreGiven source.program costs gap_costs × AreTooFewOrMany workers
 HasNoPlacedText litmus costs workers fault.OutOfMemory = ⊤

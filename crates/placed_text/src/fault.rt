@@ -1,6 +1,5 @@
 //! Why nothing is placed in the program of a text.
 
-use fence_place::PlaceFault;
 use litmus_text::{CostTextFault, ReadFault};
 use thiserror::Error;
 
@@ -14,9 +13,9 @@ pub enum TextFault {
     /// The text of costs isn't one for the program.
     #[error("the costs: {0}")]
     CostText(CostTextFault),
-    /// There is no such number of workers.
-    #[error("{0}")]
-    Place(PlaceFault),
+    /// There are no workers, or more than `MAX_WORKERS`.
+    #[error("the number of workers is not from 1 to 32")]
+    Workers,
     #[error("out of memory")]
     OutOfMemory,
 }

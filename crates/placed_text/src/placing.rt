@@ -29,9 +29,8 @@ pub struct Found {
 }
 
 /// Finds the best set of a program's gaps that serves, by a solver of its own, and reports how far it is.
-pub fn place_gaps<R: Threads + Sync, W: Wait + Sync>(
+pub fn place_gaps<R: Threads + Wait + Sync>(
     rt: &R,
-    wait: &W,
     alloc: Global,
     program: &Program,
     shown: &Shown,
@@ -47,8 +46,8 @@ pub fn place_gaps<R: Threads + Sync, W: Wait + Sync>(
     let ahead = report_ahead(alloc, program, effort.progress);
     let table = match sequential_watched(rt, alloc, program, shown, effort.workers, &ahead) {
         Ok(table) => table,
-        Err(SolveFault::NoRun) => return Err(TextFault::Place(PlaceFault::NotCertified)),
         Err(SolveFault::OutOfMemory) => return Err(TextFault::OutOfMemory),
+        Err(SolveFault::NoRun) => unreachable!(),
     };
     let progress = ahead.progress();
     report_outcomes(alloc, progress, table.outcomes().len());
@@ -64,12 +63,13 @@ pub fn place_gaps<R: Threads + Sync, W: Wait + Sync>(
             effort: Effort { workers, progress },
             asked: AtomicU64::new(0),
         };
-        place(rt, wait, alloc, &watched, &table, costs, workers)
+        place(rt, alloc, &watched, &table, costs, workers)
     };
     match placed {
         Ok(placed) => Ok(Found { placed, solver }),
         Err(PlaceFault::OutOfMemory) => Err(TextFault::OutOfMemory),
-        Err(fault) => Err(TextFault::Place(fault)),
+        Err(PlaceFault::Workers) => Err(TextFault::Workers),
+        Err(PlaceFault::Costs | PlaceFault::NotCertified | PlaceFault::Board) => unreachable!(),
     }
 }
 
@@ -77,11 +77,10 @@ pub fn place_gaps<R: Threads + Sync, W: Wait + Sync>(
 /// each without one: the best set of gaps after which the program has its sequential outcomes and no
 /// others. What is shown of outcomes, by its kind, tells them apart.
 ///
-/// The litmus text is judged first, then the costs, then the number of workers. With `rt` workers start threads, and
-/// with `wait` they wait for one another ([`fence_place::place`]). [`Effort`] says where it reports how far it is.
-pub fn place_text<R: Threads + Sync, W: Wait + Sync>(
+/// The litmus text is judged first, then the costs, then the number of workers. With `rt` workers start threads
+/// and wait for one another ([`fence_place::place`]). [`Effort`] says where it reports how far it is.
+pub fn place_text<R: Threads + Wait + Sync>(
     rt: &R,
-    wait: &W,
     alloc: Global,
     litmus: &[u8],
     costs: Option<&[u8]>,
@@ -95,7 +94,7 @@ pub fn place_text<R: Threads + Sync, W: Wait + Sync>(
     let source = read_program(alloc, litmus)?;
     let costs = read_gap_costs(alloc, costs, &source.program)?;
     let shown = shown_of(&source, kind)?;
-    let found = place_gaps(rt, wait, alloc, &source.program, &shown, &costs, effort)?;
+    let found = place_gaps(rt, alloc, &source.program, &shown, &costs, effort)?;
     // What the solver keeps is as large as a tree of the certificate: it goes before the text is made.
     let Found { placed, solver } = found;
     drop(solver);

@@ -12,3 +12,4 @@ pub mod Opening
 pub mod Moves
 pub mod Working
 pub mod WorkLaws
+pub mod Refusals

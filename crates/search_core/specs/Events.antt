@@ -10,7 +10,7 @@ use Rattle.search_core.specs.declared.entry.Status.TheVariants.{Open, Held, Spli
 use Rattle.search_core.specs.Children.{children}
 use Rattle.search_core.specs.Entries.{entry}
 use Rattle.search_core.specs.Ceilings.{IsCeiling}
-use Rattle.search_core.specs.States.{SearchState, IsOpenAt, IsHeldAt, HoldsNothing, put_at}
+use Rattle.search_core.specs.States.{SearchState, IsOpenAt, IsHeldAt, HasInHand, HoldsNothing, put_at}
 
 -- nodes that are open
 abbrev pub open_entries : ℕ → List Region → List Entry
@@ -33,6 +33,20 @@ abbrev pub IsBestAfter : List ℕ → Serving → Option Serving → Option Serv
 IsBestAfter costs b before after =
     ((after ≡ Some b) × IfSome before (λ old. Better costs b.gaps old.gaps))
     ⊎ ((old : Serving) × (before ≡ Some old) × (after ≡ before) × (¬ Better costs b.gaps old.gaps))
+
+-- the run is of the search's question, and passes no gap of the `must` of the node that the seat has in hand
+pub record MaySplit (s : SearchState) (seat : ℕ) (f : Foreign) : Type 0 where
+  pub node : Region
+  pub in_hand : HasInHand s seat node
+  pub of_question : f.question ≡ s.question
+  pub passes_none : PassesNoneOf node.must f
+
+-- the set is of the search's question, and is what the sets of the node that the seat has in hand must have
+pub record MayConfirm (s : SearchState) (seat : ℕ) (b : Serving) : Type 0 where
+  pub node : Region
+  pub in_hand : HasInHand s seat node
+  pub of_question : b.question ≡ s.question
+  pub of_node : b.gaps ≡ node.must
 
 module _ (s after : SearchState) (seat : ℕ) where
   -- the seat takes an open node

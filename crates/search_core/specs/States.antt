@@ -1,5 +1,5 @@
 -- The state of a search.
-use Rattle.std.specs.Prelude.{◌≡◌, ◌≤◌, ℕ, true, false, List, [], ◌∷◌, Option, Some, None, slice_get, slice_set}
+use Rattle.std.specs.Prelude.{◌≡◌, ◌≤◌, ◌<◌, ℕ, true, false, List, [], ◌∷◌, Option, Some, None, slice_get, slice_set}
 use Rattle.gap_sets.specs.Regions.{all_sets}
 use Rattle.gap_sets.specs.declared.region.Region.{Region}
 use Rattle.tso_program.specs.Shown.{Question}
@@ -44,6 +44,11 @@ HoldsNothing s seat = (n : Region) → ¬ HoldsNode s seat n
 pub record HoldsOnly (s : SearchState) (seat : ℕ) (n : Region) : Type 0 where
   pub held : HoldsNode s seat n
   pub only : (m : Region) → HoldsNode s seat m → m ≡ n
+
+-- the seat is one of the search's, and holds this node and no other
+pub record HasInHand (s : SearchState) (seat : ℕ) (n : Region) : Type 0 where
+  pub is_seat : seat < s.seats
+  pub holds : HoldsOnly s seat n
 
 abbrev pub HasNoOpen : SearchState → Type 0
 HasNoOpen s = (place : ℕ) (n : Region) → ¬ IsOpenAt s.entries place n

@@ -4,7 +4,7 @@ ghost use Rattle.gap_sets.specs.declared.region.Region.{Region};
 ghost use Rattle.tso_program.specs.Listings.{gap_count};
 ghost use Rattle.tso_machine.specs.Outcomes.{AreGapsOf, IsTheAnswer};
 ghost use Rattle.search_core.specs.States.{HoldsNothing, HoldsOnly, HoldsNode, HasNoOpen, IsDone, IsSameSearch, IsSeatCount, IsStart};
-ghost use Rattle.search_core.specs.Events.{TakesNode, GivesBack, Splits, Cuts, Confirms};
+ghost use Rattle.search_core.specs.Events.{TakesNode, GivesBack, Splits, Cuts, Confirms, MaySplit, MayConfirm};
 ghost use Rattle.search_core.specs.Faults.{IsReasonOf, IsCutBy, TakeFaultIs, SplitFaultIs, CutFaultIs, IsWithoutNode};
 ghost use Rattle.search_core.specs.Histories.{IsReached};
 ghost use Rattle.search_core.specs.Records.{finished_state};
@@ -15,7 +15,7 @@ use crate::entry::{Entry, Status};
 use crate::{Finished, Reason, TreeFault};
 use cover_solver::{ForeignRun, SeqTable, Served};
 use gap_sets::{Costs, Region};
-use std::alloc::Global;
+use std::alloc::{AllocError, Global};
 use std::marker::Model;
 use tso_program::{MAX_WORKERS, Program, Shown};
 
@@ -62,12 +62,11 @@ impl SearchTree {
         table: &SeqTable,
         costs: &Costs,
         seats: u8,
-    ) -> Result<SearchTree, TreeFault>
+    ) -> Result<SearchTree, AllocError>
         requires one_each { length costs.now ≡ gap_count table.now.question.program.threads }
         requires seats { IsSeatCount seats }
         ensures start { IfOk result IsStart }
         ensures parts { IfOk result (λ tree. (tree.question ≡ table.now.question) × (tree.costs ≡ costs.now) × (tree.seats ≡ seats)) }
-        ensures refused { IfErr result (λ fault. fault ≡ TreeFault.OutOfMemory) }
     {
         // For the proof alone: what holds of every program and of every list of costs is known where the
         // threads, and how many costs there are, are read.
@@ -245,6 +244,34 @@ impl SearchTree {
         }
         self.best = Some(served);
         Ok(())
+    }
+
+    /// The node that the seat has in hand is split by a run that passes no gap that its sets must have.
+    pub fn split_held(&mut self, seat: u8, run: &ForeignRun) -> Result<(), AllocError>
+        requires { MaySplit self.old seat run.now }
+        ensures split { OnOk result (Splits self.old self.new seat run.now) }
+        ensures same { IsSameSearch self.old self.new }
+        ensures unchanged { OnErr result (self.new ≡ self.old) }
+    {
+        let Err(fault) = self.split(seat, run) else {
+            return Ok(());
+        };
+        match fault {
+            TreeFault::OutOfMemory => Err(AllocError),
+            _ => unreachable!(),
+        }
+    }
+
+    /// What the sets of the node that the seat has in hand must have serves.
+    pub fn confirm_held(&mut self, seat: u8, served: Served)
+        requires { MayConfirm self.old seat served }
+        ensures confirmed { Confirms self.old self.new seat served }
+        ensures same { IsSameSearch self.old self.new }
+    {
+        match self.confirm(seat, served) {
+            Ok(()) => {}
+            Err(_) => unreachable!(),
+        }
     }
 
     /// Whether no node is open or held.

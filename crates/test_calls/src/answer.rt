@@ -17,9 +17,8 @@ use tso_program::Program;
 const ROOM: usize = 4_096;
 
 /// The answer to a call with the sequential outcomes.
-fn push_of_outcomes<R: Threads + Sync, W: Wait + Sync>(
+fn push_of_outcomes<R: Threads + Wait + Sync>(
     rt: &R,
-    wait: &W,
     alloc: Global,
     call: TableCall,
     words: &[&[u8]],
@@ -29,15 +28,14 @@ fn push_of_outcomes<R: Threads + Sync, W: Wait + Sync>(
 ) -> Result<(), Refusal> {
     match call {
         TableCall::Solver(call) => Ok(push_of_solver(alloc, call, words, names, table, printed)?),
-        TableCall::Hunt(call) => Ok(push_of_hunt(wait, alloc, call, words, table, printed)?),
-        TableCall::Place(call) => Ok(push_of_place(rt, wait, alloc, call, words, table, printed)?),
+        TableCall::Hunt(call) => Ok(push_of_hunt(rt, alloc, call, words, table, printed)?),
+        TableCall::Place(call) => Ok(push_of_place(rt, alloc, call, words, table, printed)?),
     }
 }
 
 /// The answer to a call with the sequential outcomes of a test.
-fn push_of_test<R: Threads + Sync, W: Wait + Sync>(
+fn push_of_test<R: Threads + Wait + Sync>(
     rt: &R,
-    wait: &W,
     alloc: Global,
     call: TableCall,
     words: &[&[u8]],
@@ -46,13 +44,12 @@ fn push_of_test<R: Threads + Sync, W: Wait + Sync>(
 ) -> Result<(), Refusal> {
     let (kind, words) = options(words);
     let table = table_of(alloc, litmus, kind)?;
-    push_of_outcomes(rt, wait, alloc, call, words, &litmus.names, &table, printed)
+    push_of_outcomes(rt, alloc, call, words, &litmus.names, &table, printed)
 }
 
 /// The answer to a call with the sequential outcomes of a litmus text.
-fn push_of_table<R: Threads + Sync, W: Wait + Sync>(
+fn push_of_table<R: Threads + Wait + Sync>(
     rt: &R,
-    wait: &W,
     alloc: Global,
     call: TableCall,
     words: &[&[u8]],
@@ -60,7 +57,7 @@ fn push_of_table<R: Threads + Sync, W: Wait + Sync>(
     printed: &mut String,
 ) -> Result<(), Refusal> {
     let litmus = read_litmus(alloc, text)?;
-    push_of_test(rt, wait, alloc, call, words, &litmus, printed)
+    push_of_test(rt, alloc, call, words, &litmus, printed)
 }
 
 /// The answer to a call with a litmus text.
@@ -76,9 +73,8 @@ fn push_read(
 }
 
 /// The answer to a call.
-fn push_of_call<R: Threads + Sync, W: Wait + Sync>(
+fn push_of_call<R: Threads + Wait + Sync>(
     rt: &R,
-    wait: &W,
     alloc: Global,
     call: Call,
     words: &[&[u8]],
@@ -88,15 +84,14 @@ fn push_of_call<R: Threads + Sync, W: Wait + Sync>(
     match call {
         Call::Text(call) => Ok(push_of_text(alloc, call, words, text, printed)?),
         Call::Litmus(call) => push_read(alloc, call, words, text, printed),
-        Call::Table(call) => push_of_table(rt, wait, alloc, call, words, text, printed),
-        Call::Exchange => Ok(push_exchanged(wait, alloc, words, text, printed)?),
+        Call::Table(call) => push_of_table(rt, alloc, call, words, text, printed),
+        Call::Exchange => Ok(push_exchanged(rt, alloc, words, text, printed)?),
     }
 }
 
 /// The answer to the call of the first of these words.
-fn push_of_words<R: Threads + Sync, W: Wait + Sync>(
+fn push_of_words<R: Threads + Wait + Sync>(
     rt: &R,
-    wait: &W,
     alloc: Global,
     words: &[&[u8]],
     text: &[u8],
@@ -106,30 +101,28 @@ fn push_of_words<R: Threads + Sync, W: Wait + Sync>(
         return Err(Refusal::Call);
     };
     let call = named(&CALLS, name)?;
-    push_of_call(rt, wait, alloc, call, words, text, printed)
+    push_of_call(rt, alloc, call, words, text, printed)
 }
 
-fn push_answer<R: Threads + Sync, W: Wait + Sync>(
+fn push_answer<R: Threads + Wait + Sync>(
     rt: &R,
-    wait: &W,
     alloc: Global,
     input: &[u8],
     printed: &mut String,
 ) -> Result<(), Refusal> {
     let (line, text) = split_line(input);
     let words = words_of(alloc, line)?;
-    push_of_words(rt, wait, alloc, words.as_slice(), text, printed)
+    push_of_words(rt, alloc, words.as_slice(), text, printed)
 }
 
 /// What is printed for an input.
-pub fn answer<R: Threads + Sync, W: Wait + Sync>(
+pub fn answer<R: Threads + Wait + Sync>(
     rt: &R,
-    wait: &W,
     alloc: Global,
     input: &[u8],
 ) -> Result<String, AllocError> {
     let mut printed = String::with_capacity(alloc, ROOM)?;
-    match push_answer(rt, wait, alloc, input, &mut printed) {
+    match push_answer(rt, alloc, input, &mut printed) {
         Ok(()) => Ok(printed),
         Err(refusal) => format!(in alloc; "refused {refusal}\n"),
     }

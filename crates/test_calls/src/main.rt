@@ -18,6 +18,6 @@ use std::io::{self, Read, Write};
 fn main(rt: HostRuntime) -> io::Result<()> {
     let mut bytes = Vec::new(rt.alloc());
     rt.stdin().read_to_end(&mut bytes)?;
-    let printed = answer::answer(&rt, &rt, rt.alloc(), &bytes)?;
+    let printed = answer::answer(&rt, rt.alloc(), &bytes)?;
     rt.stdout().write_all(printed.as_bytes())
 }

@@ -9,7 +9,7 @@ ghost use Rattle.fence_place.specs.Faults.{AreTooFewOrMany};
 ghost use Rattle.placed_text.specs.TextFaults.{HasNoPlacedText};
 ghost use Rattle.why_text.specs.WhyTexts.{none_line, reasons_or_none, IsWhyText, TellsReasons, TellsWhy};
 
-use crate::reasons::{reason_of, run_without};
+use crate::reasons::{push_graph, reason_of, run_without};
 use cover_solver::Solver;
 use documents::why_document;
 use gap_sets::{Costs, GapSet};
@@ -63,7 +63,8 @@ fn reasons(
     let mut runs = JsonArray::new(alloc);
     for gap in set.iter() {
         let run = run_without(solver, costs, set, gap)?;
-        let reason = reason_of(alloc, &mut graph, litmus, shown, set, gap, &run)?;
+        let reason = reason_of(alloc, litmus, shown, set, gap, &run)?;
+        push_graph(alloc, &mut graph, litmus, gap, &reason.steps)?;
         lines.extend_from_slice(&reason.lines)?;
         runs.add(reason.run)?;
     }
@@ -126,9 +127,8 @@ fn explained(
 /// Places fences in the program of a litmus text as [`placed_text::place_text`] does, and says why each of them is
 /// needed: after the answer line, for each gap of the answer a run with the other gaps fenced, whose outcome no
 /// sequential run has. The graph has these runs, and the document says what the lines say.
-pub fn why_text<R: Threads + Sync, W: Wait + Sync>(
+pub fn why_text<R: Threads + Wait + Sync>(
     rt: &R,
-    wait: &W,
     alloc: Global,
     litmus: &[u8],
     costs: Option<&[u8]>,
@@ -142,7 +142,7 @@ pub fn why_text<R: Threads + Sync, W: Wait + Sync>(
     let source = read_program(alloc, litmus)?;
     let costs = read_gap_costs(alloc, costs, &source.program)?;
     let shown = shown_of(&source, kind)?;
-    let found = place_gaps(rt, wait, alloc, &source.program, &shown, &costs, effort)?;
+    let found = place_gaps(rt, alloc, &source.program, &shown, &costs, effort)?;
     match explained(alloc, &source, &shown, &costs, &found) {
         Ok(reasons) => Ok(reasons),
         Err(_) => Err(TextFault::OutOfMemory),

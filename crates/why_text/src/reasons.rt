@@ -10,7 +10,7 @@ ghost use Rattle.cover_solver.specs.Facts as facts;
 ghost use Rattle.cover_solver.specs.Verdicts.{PassesNoneOf};
 ghost use Rattle.tso_program.specs.Listings.{gap_count};
 ghost use Rattle.report.specs.Answers.{labels_line, without_line};
-ghost use Rattle.why_text.specs.WhyTexts.{is_foreign, met_line, alone_line, foreign_lines, printed_of, ending_text, IsReasonText, IsReason};
+ghost use Rattle.why_text.specs.WhyTexts.{is_foreign, met_line, alone_line, foreign_lines, printed_of, ending_text, IsReason};
 
 use cover_solver::{ForeignRun, Oracle, Solver, Verdict};
 use documents::{Setting, run_value};
@@ -30,6 +30,8 @@ pub(crate) struct Reason {
     pub(crate) lines: Vec<u8>,
     /// What the document says of the run.
     pub(crate) run: JsonText,
+    /// The steps of the run.
+    pub(crate) steps: Vec<Step>,
 }
 
 /// The other gaps of the answer don't serve: a run that passes none of them.
@@ -57,7 +59,7 @@ pub(crate) fn run_without(
 }
 
 /// Adds a run to a graph, under the gap that it needs.
-fn push_graph(
+pub(crate) fn push_graph(
     alloc: Global,
     graph: &mut RunGraph,
     litmus: &Litmus<Program>,
@@ -189,27 +191,9 @@ fn lines_with(
     Ok(lines)
 }
 
-/// The lines of a run and of how it ends.
-fn reason_lines(
-    alloc: Global,
-    litmus: &Litmus<Program>,
-    shown: &Shown,
-    gap: u8,
-    run: &ForeignRun,
-    steps: &[Step],
-    ended: &Ended,
-) -> Result<Vec<u8>, AllocError>
-    ensures { IfOk result (λ lines. IsReasonText litmus.now shown.now gap run.now.labels ended.now.outcome ended.now.passed lines.items) }
-{
-    let table = run_table(alloc, litmus, steps)?;
-    let ending = ending_lines(alloc, litmus, shown, ended)?;
-    lines_with(alloc, &litmus.program, gap, run.labels(), &table, &ending)
-}
-
-/// Why a gap of the answer is needed, by a run that passes none of the others, and that is added to a graph.
+/// Why a gap of the answer is needed, by a run that passes none of the others.
 pub(crate) fn reason_of(
     alloc: Global,
-    graph: &mut RunGraph,
     litmus: &Litmus<Program>,
     shown: &Shown,
     gaps: &GapSet,
@@ -222,19 +206,13 @@ pub(crate) fn reason_of(
     requires gap { gap < MAX_GAPS }
     ensures { IfOk result (λ reason. IsReason litmus.now shown.now gaps.now gap (reason.lines.items, reason.run)) }
 {
-    let all = steps_of(alloc, gaps, gap, run)?;
-    let steps = all.as_slice();
-    push_graph(alloc, graph, litmus, gap, steps)?;
+    let steps = steps_of(alloc, gaps, gap, run)?;
     let ended = ended_of(alloc, run)?;
-    let lines = reason_lines(alloc, litmus, shown, gap, run, steps, &ended)?;
+    let table = run_table(alloc, litmus, &steps)?;
+    let ending = ending_lines(alloc, litmus, shown, &ended)?;
+    let lines = lines_with(alloc, &litmus.program, gap, run.labels(), &table, &ending)?;
     let printed = printed_of(shown);
-    let said = run_value(
-        alloc,
-        litmus,
-        &printed,
-        Setting::Without(gap),
-        steps,
-        &ended,
-    )?;
-    Ok(Reason { lines, run: said })
+    let setting = Setting::Without(gap);
+    let run = run_value(alloc, litmus, &printed, setting, &steps, &ended)?;
+    Ok(Reason { lines, run, steps })
 }

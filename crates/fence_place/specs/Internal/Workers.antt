@@ -1,6 +1,8 @@
 -- Workers of a hunt.
-use Rattle.std.specs.Prelude.{◌≡◌, Bool, true, false, ℕ, List, Option, Some, None, IfSome, slice_get}
+use Rattle.std.specs.Prelude.{◌≡◌, Bool, true, false, ℕ, List, Option, Some, None, IfSome, Result, IfErr, OnOk, OnErr, slice_get}
 use Rattle.gap_sets.specs.declared.region.Region.{Region}
+use Rattle.tso_program.specs.Shown.{Question}
+use Rattle.tso_machine.specs.Outcomes.{AreGapsOf}
 use Rattle.cover_solver.specs.Facts.{AreOf}
 use Rattle.hunt_board.specs.Seats.{HuntView, IsOf}
 use Rattle.fence_place.specs.declared.fault.PlaceFault.{PlaceFault}
@@ -25,6 +27,24 @@ MayStop may_lack_runs Later = Unit {0}
 MayStop may_lack_runs Beaten = Unit {0}
 MayStop may_lack_runs NoRun = may_lack_runs ≡ true
 MayStop may_lack_runs OutOfMemory = Unit {0}
+
+-- the worker is to settle this node, with an oracle of this question
+pub record IsToSettle (q : Question) (h : HuntView) (w : Worker) (n : Region) : Type 0 where
+  pub of_question : q ≡ h.question
+  pub at : IsAt h w (Some n)
+  pub gaps : AreGapsOf q.program n.must
+
+-- the worker is at this node, and has not ended since
+pub record IsStillAt (h : HuntView) (before after : Worker) (n : Region) : Type 0 where
+  pub at : IsAt h after (Some n)
+  pub stop : after.stop ≡ before.stop
+
+-- the worker has settled this node, or it still holds it and has cause to give it back; it has not ended since
+pub record HasDealtWith (h : HuntView) (may_lack_runs : Bool) (before after : Worker) (n : Region) (r : Result (Unit {0}) Stop) : Type 0 where
+  pub settled : OnOk r (IsAt h after None)
+  pub held : OnErr r (IsAt h after (Some n))
+  pub fault : IfErr r (MayStop may_lack_runs)
+  pub stop : after.stop ≡ before.stop
 
 -- it holds nothing, and where it ended early it had cause
 abbrev pub HasEnded : HuntView → Bool → Worker → Type 0

@@ -1,26 +1,13 @@
 use denote.Exit.{no}
-use denote.Param.Send.{IsSend, param_send, param_sync, arg_send, arg_sync, shr_sync, recorded_send, struct_send, sendable}
+use denote.Param.Send.{IsSend, param_send, arg_send, recorded_send, struct_send, sendable}
 use denote.Struct.Declared.{shape}
 use Rattle.std.proofs.Crossing.{crosses}
-use Rattle.std.proofs.alloc.Global.TheSendSync as global
 use Rattle.cover_solver.proofs.foreign_run.ForeignRun.TheSendSync as run
-use Rattle.hunt_board.proofs.Crossing.{seat_send, hunt_sync}
+use Rattle.hunt_board.proofs.Crossing.{seat_send}
 use Rattle.hunt_board.proofs.settling.Receipt.TheSendSync as receipt
-use Rattle.partial_covers.proofs.Captures.{captures_sync}
-use Rattle.fence_place.proofs.turns.Turns.TheSendSync as turns
 use Rattle.fence_place.specs.contracts.worker.Worker as worker
 use Rattle.fence_place.proofs.worker.Stop.TheSendSync as stop
 use Rattle.fence_place.proofs.hunting.work_all.Goals as goal
-
--- the closure holds five references, each to what threads may share
-pub for_each_mut-requires-sync-F : goal.for_each_mut-requires-sync-F
-for_each_mut-requires-sync-F g c κs within =
-    param_sync _ _ (arg_sync _ no _ (captures_sync _ _ _ _ _ _
-    (shr_sync _ _ _ c.type_bounds.sync-W)
-    (shr_sync _ _ _ global.the_sync)
-    (shr_sync _ _ _ hunt_sync)
-    (shr_sync _ _ _ turns.the_sync)
-    (shr_sync _ _ _ c.type_bounds.sync-O)))
 
 -- a worker holds a seat, runs, receipts, and why it stops, and each may go to another thread
 worker_send : IsSend worker.the_row

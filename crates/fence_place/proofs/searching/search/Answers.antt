@@ -1,12 +1,19 @@
-use Rattle.std.proofs.Common.{◌≡◌, arith}
+use Rattle.std.proofs.Common.{◌≡◌, ◌∙◌, arith, subst, sym}
+use Rattle.tso_program.specs.Shown.{Question}
+use Rattle.cover_solver.specs.Facts.{AreOf}
 use Rattle.fence_place.proofs.Settling.{start_unheld}
 use Rattle.fence_place.proofs.searching.search.Goals as goal
 
 pub loop-tree-init : goal.loop-tree-init
-loop-tree-init g c = record {
-  question = c.in-Ok.ensures.parts.0;
-  costs = c.in-Ok.ensures.parts.1;
-  seats = (let one : c.in-Ok.tree.seats ≡ 1 = c.in-Ok.ensures.parts.2 in omega arith);
-  known = c.requires.known;
-  unheld = start_unheld c.in-Ok.tree c.in-Ok.ensures.start;
-}
+loop-tree-init g c =
+    let tree = c.in_ok-tree.tree in
+    let parts = c.in_ok-tree.ensures.parts in
+    let one : tree.seats ≡ 1 = parts.2 in (
+      record {
+        of_question = parts.0 ∙ sym c.requires.of_question;
+        seats = omega arith;
+        known = subst (λ (q : Question). AreOf q c.args.known.items) (sym c.requires.of_question) c.requires.known;
+        none_held = start_unheld tree c.in_ok-tree.ensures.start;
+      },
+      parts.1,
+    )

@@ -1,24 +1,30 @@
-use Rattle.std.proofs.Common.{◌≡◌, ◌∙◌, ap, sym, subst}
-use Rattle.gap_sets.specs.Gaps.{SetOfGaps}
-use Rattle.gap_sets.specs.declared.region.Region.{Region}
-use Rattle.tso_program.specs.Shown.{Question}
-use Rattle.cover_solver.specs.declared.oracle.Verdict.{Verdict}
-use Rattle.cover_solver.specs.declared.oracle.Verdict.TheVariants as verdict
-use Rattle.cover_solver.specs.Facts.{Serving}
+use Rattle.std.proofs.Common.{◌≡◌, ◌∙◌, sym, subst}
+use Rattle.std.proofs.lemmas.List.Elements.{All-push}
+use Rattle.cover_solver.specs.Facts.{Foreign, AreOf}
 use Rattle.cover_solver.specs.Verdicts.{IsVerdictOf}
-use Rattle.search_core.specs.Events.{by_confirm}
+use Rattle.search_core.specs.Events.{by_confirm, by_split}
 use Rattle.fence_place.proofs.searching.settle_by_oracle.Goals as goal
 
-of_set : (q : Question) (gaps : SetOfGaps) (v : Verdict) (b : Serving) → v ≡ verdict.Serves b → IsVerdictOf q gaps v → b.gaps ≡ gaps
-of_set q gaps v b e h = (subst (IsVerdictOf q gaps) e h).1
+pub split_held-requires : goal.split_held-requires
+split_held-requires g c =
+    let said = subst (IsVerdictOf (g.O.Oracle.question c.args.oracle.now) c.args.node.now.must) c.in-Foreign.is c.in_ok-run.ensures.verdict in
+    record { node = c.args.node.now; in_hand = c.requires.in_hand; of_question = said.0 ∙ sym c.requires.of_question; passes_none = said.2 }
 
-pub confirm-requires-clause-of_node : goal.confirm-requires-clause-of_node
-confirm-requires-clause-of_node g c = λ node holds.
-    of_set (g.O.Oracle.question c.args.oracle.now) c.args.node.now.must c.in-Ok-Serves.field-0 c.in-Ok-Serves.served c.in-Ok-Serves.field-0-is c.in-Ok-Serves.ensures.verdict
-    ∙ ap (λ (n : Region). n.must) (sym (c.requires.holds.only node holds))
+pub confirm_held-requires : goal.confirm_held-requires
+confirm_held-requires g c =
+    let said = subst (IsVerdictOf (g.O.Oracle.question c.args.oracle.now) c.args.node.now.must) c.in-Serves.is c.in_ok-run.ensures.verdict in
+    record { node = c.args.node.now; in_hand = c.requires.in_hand; of_question = said.0 ∙ sym c.requires.of_question; of_node = said.1 }
 
-pub returns-in-Ok-clause-settled : goal.returns-in-Ok-clause-settled
-returns-in-Ok-clause-settled g c = by_confirm c.in-Ok-Serves.served c.in-Ok.ensures.confirmed
+pub returns-in_ok-push-in-Foreign : goal.returns-in_ok-push-in-Foreign
+returns-in_ok-push-in-Foreign g c =
+    let q = g.O.Oracle.question c.args.oracle.now in
+    let said = subst (IsVerdictOf q c.args.node.now.must) c.in-Foreign.is c.in_ok-run.ensures.verdict in
+    record {
+      settled = by_split c.in-Foreign.run' c.in_ok-split_held-in-Foreign.ensures.split;
+      known = subst (AreOf q) (sym c.in_ok-push-in-Foreign.ensures.items) (All-push (λ (run : Foreign). run.question ≡ q) c.args.known.now.items c.in-Foreign.run' c.requires.known said.0);
+      same = c.split_held.ensures.same;
+      fault = tt;
+    }
 
-pub unreachable-requires : goal.unreachable-requires
-unreachable-requires g c = c.in-Err.ensures.fault.1 c.args.node.now c.requires.holds.held
+pub returns-in-Serves : goal.returns-in-Serves
+returns-in-Serves g c = record { settled = by_confirm c.in-Serves.served c.confirm_held.ensures.confirmed; known = c.requires.known; same = c.confirm_held.ensures.same; fault = tt }

@@ -3,7 +3,10 @@ use Rattle.cover_solver.specs.Facts.{Foreign}
 use Rattle.fence_place.proofs.Workers.{element}
 use Rattle.fence_place.proofs.worker.run_at_hand.Goals as goal
 
-pub returns-in-Some-clause-of : goal.returns-in-Some-clause-of
-returns-in-Some-clause-of c =
-    let found = c.in-Some.ensures in
-    element (λ (run : Foreign). run.question ≡ c.args.hunt.now.question) c.args.known.now found.known.0 c.in-Some.run' found.known.1 c.requires
+pub returns-in-Some : goal.returns-in-Some
+returns-in-Some c =
+    let found = c.in-Some.ensures in (
+      element (λ (run : Foreign). run.question ≡ c.args.hunt.now.question) c.args.known.now found.known.0 c.in-Some.run' found.known.1 c.requires,
+      found.foreign,
+      found.passes_none,
+    )

@@ -1,7 +1,9 @@
-use Rattle.std.proofs.Common.{arith}
+use Rattle.std.proofs.Common.{◌≡◌, arith}
 use Rattle.hunt_board.specs.Word.{goal_of}
 use Rattle.hunt_board.proofs.Moves.{lowers}
 use Rattle.hunt_board.proofs.steps.lower.Goals as goal
 
 pub fetch_min-requires : goal.fetch_min-requires
-fetch_min-requires c = (c.requires.table, omega arith, lowers (goal_of c.args.word.now.key) c.args.word.now.table_id.slots c.args.seat.now.id c.args.seat.now.me c.args.to c.requires.seat.live c.requires.to (omega arith))
+fetch_min-requires c =
+    let one : c.args.word.now.table_id.words ≡ 1 = c.requires.seat.one_word in
+    (c.requires.seat.of_table, omega arith, lowers (goal_of c.args.word.now.key) c.args.word.now.table_id.slots c.args.seat.now.id c.args.seat.now.me c.args.to c.requires.seat.live.live c.requires.to (omega arith))

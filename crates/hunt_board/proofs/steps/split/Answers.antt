@@ -1,7 +1,9 @@
-use Rattle.std.proofs.Common.{arith}
+use Rattle.std.proofs.Common.{◌≡◌, arith}
 use Rattle.hunt_board.specs.Word.{goal_of}
 use Rattle.hunt_board.proofs.Moves.{splits}
 use Rattle.hunt_board.proofs.steps.split.Goals as goal
 
 pub split_seat-requires : goal.split_seat-requires
-split_seat-requires c = (c.requires.table, omega arith, splits (goal_of c.args.word.now.key) c.args.seat.now.id c.args.seat.now.me.0)
+split_seat-requires c =
+    let one : c.args.word.now.table_id.words ≡ 1 = c.requires.seat.one_word in
+    (c.requires.seat.of_table, omega arith, splits (goal_of c.args.word.now.key) c.args.seat.now.id c.args.seat.now.me.0)

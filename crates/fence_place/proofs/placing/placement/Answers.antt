@@ -3,15 +3,15 @@ use Rattle.tso_program.specs.Shown.{Question}
 use Rattle.cert_forest.specs.Certificates.{Certificate}
 use Rattle.fence_place.specs.Proofs.{IsProof}
 use Rattle.fence_place.proofs.PlacementMade.{is_placement}
-use Rattle.fence_place.proofs.placing.find_placement.Goals as goal
+use Rattle.fence_place.proofs.placing.placement.Goals as goal
 
-pub returns-clause-placed : goal.returns-clause-placed
-returns-clause-placed g c =
+pub returns : goal.returns
+returns c =
     let q = c.args.table.now.question in
     let costs = c.args.costs.now in
     let made = c.in_ok-certificate.certificate in
-    let of_costs = subst (λ (each : List ℕ). IsProof c.in_ok-finished.finished.question each made) c.in_ok-finished.ensures.costs c.in_ok-certificate.ensures.proof in
-    let proof = subst (λ (question : Question). IsProof question costs made) c.in_ok-finished.ensures.question of_costs in
+    let of_costs = subst (λ (each : List ℕ). IsProof c.in_ok-finished.finished.question each made) c.in_ok-finished.ensures.of_costs c.in_ok-certificate.ensures.proof in
+    let proof = subst (λ (question : Question). IsProof question costs made) c.in_ok-finished.ensures.of_question of_costs in
     let same_view = sym c.certificate.view_is in
     is_placement q costs _ proof c.in_ok-certificate.ensures.once (ap (λ (certificate : Certificate). certificate.gaps) same_view) (ap (λ (certificate : Certificate). certificate.cost) same_view)
     c.program.result.now c.shown.result.now c.program.ensures.value c.shown.ensures c.certificate_proves_answer.ensures.valid c.certificate_proves_answer.ensures.told
