@@ -3,7 +3,7 @@ use Rattle.candidate_executions.specs.declared.event.Event.{Event}
 use Rattle.candidate_executions.specs.declared.event.Event.TheVariants.{Initial, Access as At}
 use Rattle.candidate_executions.specs.Candidates.{IsAccess}
 use Rattle.candidate_executions.specs.Sketches.{given_to}
-use Rattle.exec_axioms.specs.ProgramSketches.{ProgramSketch, mode_in}
+use Rattle.known_edges.specs.ProgramSketches.{ProgramSketch, mode_in}
 use Rattle.cert_forest.specs.declared.tree.AccessId.{AccessId}
 use Rattle.branching.specs.Accesses.{IsOfThread}
 

@@ -8,16 +8,16 @@ use Rattle.candidate_executions.specs.declared.event.Event.TheVariants.{Initial,
 use Rattle.candidate_executions.specs.Candidates.{IsAccess, Writes}
 use Rattle.candidate_executions.specs.Sketches as sketches
 use Rattle.candidate_executions.specs.Sketches.{given_to, IsPair, IsWhole}
-use Rattle.exec_axioms.specs.ProgramSketches.{ProgramSketch, mode_in, trace_in, access_in, with_chosen}
-use Rattle.exec_axioms.specs.Choices.{IsOrdered, MayFollow}
+use Rattle.known_edges.specs.ProgramSketches.{ProgramSketch, mode_in, trace_in, access_in, with_chosen}
+use Rattle.known_edges.specs.Choices.{IsOrdered, MayFollow}
 use Rattle.cover_judge.specs.declared.choice.Choice.{Choice}
 use Rattle.cover_judge.specs.declared.choice.Choice.TheVariants as choice
 use Rattle.cover_judge.specs.Choices.{sketch_with, MayChoose, MayChooseEach}
 use Rattle.cover_judge.proofs.ChoicesJudged.{other_way, turned}
-use Rattle.exec_axioms.proofs.TracesKept.{no_action}
-use Rattle.exec_axioms.proofs.Lookups.{same_default}
-use Rattle.exec_axioms.specs.Complete.{IsComplete, HasItsSource, IsOrderedWith}
-use Rattle.exec_axioms.proofs.Completeness.{read_there, first_there, second_there}
+use Rattle.thread_traces.proofs.TracesKept.{no_action}
+use Rattle.known_edges.proofs.Lookups.{same_default}
+use Rattle.sketches.specs.Complete.{IsComplete, HasItsSource, IsOrderedWith}
+use Rattle.sketches.proofs.Completeness.{read_there, first_there, second_there}
 use Rattle.cert_forest.specs.declared.tree.AccessId.{AccessId}
 use Rattle.tree_laws.specs.CoverTrees.{event_of}
 use Rattle.branching.specs.declared.reads_writes.ReadValue.{ReadValue}

@@ -4,9 +4,9 @@ use Rattle.std.proofs.lemmas.List.Elements.{All-push, Contains-append_left, Cont
 use Rattle.std.proofs.lemmas.Bool.{cases_lt}
 use Rattle.std.proofs.lemmas.Option.{same_Some}
 use Rattle.candidate_executions.specs.declared.access.Access.{Access}
-use Rattle.exec_axioms.specs.ProgramSketches.{ProgramSketch, access_in, trace_in}
-use Rattle.exec_axioms.specs.Choices.{IsRead}
-use Rattle.exec_axioms.proofs.Accesses.{none_past}
+use Rattle.known_edges.specs.ProgramSketches.{ProgramSketch, access_in, trace_in}
+use Rattle.known_edges.specs.Choices.{IsRead}
+use Rattle.known_edges.proofs.Accesses.{none_past}
 use Rattle.cert_forest.specs.declared.tree.AccessId.{AccessId}
 use Rattle.tree_laws.specs.CoverTrees.{event_of}
 use Rattle.branching.specs.declared.reads_writes.ReadValue.{ReadValue}

@@ -3,8 +3,8 @@ use Rattle.std.proofs.Common.{◌≡◌, ◌⊎◌, ℕ, ◌%◌, List, [], Cont
 use Rattle.bit_rows.specs.declared.row.TheConstants.{ROW_BITS}
 use Rattle.candidate_executions.specs.declared.event.Event.TheVariants.{Access as At}
 use Rattle.candidate_executions.specs.Candidates.{Writes}
-use Rattle.exec_axioms.specs.ProgramSketches.{ProgramSketch, access_in}
-use Rattle.exec_axioms.proofs.Lawful.{none_in}
+use Rattle.known_edges.specs.ProgramSketches.{ProgramSketch, access_in}
+use Rattle.known_edges.proofs.Lawful.{none_in}
 use Rattle.branching.specs.declared.reads_writes.ReadValue.{ReadValue}
 use Rattle.branching.specs.declared.tally.Tally.{Tally}
 use Rattle.branching.specs.Tallies.{IsTallyOf, IsTalliedRead, TakesThread, IsOldOrOf}

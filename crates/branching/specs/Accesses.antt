@@ -5,8 +5,8 @@ use Rattle.candidate_executions.specs.declared.event.Event.{Event}
 use Rattle.candidate_executions.specs.declared.event.Event.TheVariants.{Initial, Access as At}
 use Rattle.candidate_executions.specs.Candidates.{Writes}
 use Rattle.candidate_executions.specs.Sketches.{IsWhole}
-use Rattle.exec_axioms.specs.ProgramSketches.{ProgramSketch, mode_in, access_in}
-use Rattle.exec_axioms.specs.Choices.{IsRead}
+use Rattle.known_edges.specs.ProgramSketches.{ProgramSketch, mode_in, access_in}
+use Rattle.known_edges.specs.Choices.{IsRead}
 use Rattle.cert_forest.specs.declared.tree.AccessId.{AccessId}
 use Rattle.tree_laws.specs.CoverTrees.{event_of}
 use Rattle.branching.specs.declared.reads_writes.ReadValue.{ReadValue}

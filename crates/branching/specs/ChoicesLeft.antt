@@ -1,8 +1,8 @@
 -- What it says of a sketch that nothing is left to be chosen.
 use Rattle.std.specs.Prelude.{ℕ, ◌<◌, List, Contains, length, slice_index_or}
 use Rattle.std.specs.List.{AllPairs}
-use Rattle.exec_axioms.specs.ProgramSketches.{ProgramSketch}
-use Rattle.exec_axioms.specs.Complete.{HasItsSource, IsOrderedWith}
+use Rattle.known_edges.specs.ProgramSketches.{ProgramSketch}
+use Rattle.sketches.specs.Complete.{HasItsSource, IsOrderedWith}
 use Rattle.tree_laws.specs.CoverTrees.{event_of}
 use Rattle.branching.specs.declared.reads_writes.ReadValue.{ReadValue}
 use Rattle.branching.specs.declared.reads_writes.WrittenValue.{WrittenValue}

@@ -1,8 +1,8 @@
 -- Sketches in which one thread takes its values from another sketch.
 use Rattle.std.specs.Prelude.{◌≡◌, ◌≢◌, ◌<◌, ℕ, length}
 use Rattle.candidate_executions.specs.Sketches.{given_to}
-use Rattle.exec_axioms.specs.ProgramSketches.{ProgramSketch, with_chosen}
-use Rattle.exec_axioms.specs.ThreadValues.{with_values, HasValuesAlone}
+use Rattle.known_edges.specs.ProgramSketches.{ProgramSketch, with_chosen}
+use Rattle.sketches.specs.ThreadValues.{with_values, HasValuesAlone}
 use Rattle.cover_judge.specs.Choices.{IsValueOpen}
 use Rattle.branching.specs.declared.tally.Tally.{Tally}
 use Rattle.branching.specs.declared.traces.FullTrace.{FullTrace}

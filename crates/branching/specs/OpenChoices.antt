@@ -2,8 +2,8 @@
 use Rattle.std.specs.Prelude.{◌≡◌, List, [], ◌∷◌}
 use Rattle.candidate_executions.specs.declared.event.Event.{Event}
 use Rattle.candidate_executions.specs.Sketches.{IsPair}
-use Rattle.exec_axioms.specs.ProgramSketches.{ProgramSketch, mode_in}
-use Rattle.exec_axioms.specs.Choices.{IsRead, HasSource, IsOrdered, MayFollow}
+use Rattle.known_edges.specs.ProgramSketches.{ProgramSketch, mode_in}
+use Rattle.known_edges.specs.Choices.{IsRead, HasSource, IsOrdered, MayFollow}
 use Rattle.tree_laws.specs.CoverTrees.{event_of}
 use Rattle.cover_judge.specs.declared.choice.Choice.{Choice}
 use Rattle.cover_judge.specs.declared.choice.Choice.TheVariants as choice

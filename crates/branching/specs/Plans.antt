@@ -1,8 +1,8 @@
 -- Which thread gets its values last.
 use Rattle.std.specs.Prelude.{◌≡◌, ◌≢◌, ◌<◌, ℕ, List, [], All, IfSome, length}
 use Rattle.candidate_executions.specs.Sketches.{given_to}
-use Rattle.exec_axioms.specs.ProgramSketches.{ProgramSketch}
-use Rattle.exec_axioms.specs.ThreadValues.{HasValuesAlone}
+use Rattle.known_edges.specs.ProgramSketches.{ProgramSketch}
+use Rattle.sketches.specs.ThreadValues.{HasValuesAlone}
 use Rattle.cover_judge.specs.declared.choice.Choice.{Choice}
 use Rattle.cover_judge.specs.declared.choice.Choice.TheVariants as choice
 use Rattle.cover_judge.specs.Choices.{IsValueOpen}

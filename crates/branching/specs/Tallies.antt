@@ -5,7 +5,7 @@ use Rattle.bit_rows.specs.declared.row.TheConstants.{ROW_BITS}
 use Rattle.candidate_executions.specs.declared.access.Access.{Access}
 use Rattle.candidate_executions.specs.declared.event.Event.TheVariants.{Access as At}
 use Rattle.candidate_executions.specs.Candidates.{Writes}
-use Rattle.exec_axioms.specs.ProgramSketches.{ProgramSketch, access_in}
+use Rattle.known_edges.specs.ProgramSketches.{ProgramSketch, access_in}
 use Rattle.cert_forest.specs.declared.tree.AccessId.{AccessId}
 use Rattle.tree_laws.specs.CoverTrees.{event_of}
 use Rattle.branching.specs.declared.reads_writes.ReadValue.{ReadValue}

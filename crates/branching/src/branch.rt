@@ -1,6 +1,6 @@
 //! Branches: what is chosen next, and its choices.
 ghost use Rattle.std.specs.Prelude.{◌≡◌, IfOk, MatchOption, [], ◌∷◌};
-ghost use Rattle.exec_axioms.specs.Complete.{IsComplete};
+ghost use Rattle.sketches.specs.Complete.{IsComplete};
 ghost use Rattle.cover_judge.specs.Choices.{MayChooseEach};
 ghost use Rattle.branching.specs.OpenChoices.{IsOpen, IsBranch, AreChoicesOf};
 ghost use Rattle.branching.specs.Accesses.{AreAccessesOf};
@@ -10,7 +10,7 @@ use crate::preference::preferred;
 use crate::reads_writes::WholeAccesses;
 use cert_forest::AccessId;
 use cover_judge::{Choice, source_choices, value_choices};
-use exec_axioms::Sketch;
+use sketches::Sketch;
 use std::alloc::{AllocError, Global};
 use tso_program::{Outcome, Shown};
 

@@ -7,7 +7,7 @@
 use crate::reads_writes::{WholeAccesses, WrittenValue};
 use bit_rows::{ROW_BITS, has_any, joined, minus, with};
 use cover_judge::event_of;
-use exec_axioms::Sketch;
+use sketches::Sketch;
 use std::cmp::Ordering;
 use tso_program::{MAX_LOCATIONS, Outcome, REGISTERS, Shown};
 

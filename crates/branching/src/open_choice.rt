@@ -1,8 +1,8 @@
 //! What is left to be chosen in a sketch.
 ghost use Rattle.std.specs.Prelude.{◌≡◌, ◌↔◌, IsTrue, false};
 ghost use Rattle.tree_laws.specs.CoverTrees as trees;
-ghost use Rattle.exec_axioms.specs.Choices.{IsOrdered};
-ghost use Rattle.exec_axioms.specs.Complete.{HasItsSource};
+ghost use Rattle.known_edges.specs.Choices.{IsOrdered};
+ghost use Rattle.sketches.specs.Complete.{HasItsSource};
 ghost use Rattle.branching.specs.OpenChoices.{NeedsSource, NeedsOrder};
 ghost use Rattle.branching.specs.Accesses.{IsReadValue, IsWrittenValue};
 ghost use Rattle.branching.specs.ChoicesLeft.{AreWritesInOrder};
@@ -10,7 +10,7 @@ ghost use Rattle.branching.specs.ChoicesLeft.{AreWritesInOrder};
 use crate::reads_writes::{ReadValue, WrittenValue};
 use cert_forest::AccessId;
 use cover_judge::event_of;
-use exec_axioms::{Event, Sketch};
+use sketches::{Event, Sketch};
 
 /// Something that is left to be chosen.
 #[derive(Clone, Copy, Debug)]

@@ -2,9 +2,9 @@
 //! that it is left to be chosen.
 ghost use Rattle.std.specs.Prelude.{◌≡◌, ◌<◌, None, IsTrue, IsSome, IfSome, MatchOption, All, length};
 ghost use Rattle.candidate_executions.specs.Sketches.{IsWhole};
-ghost use Rattle.exec_axioms.specs.ProgramSketches.{ProgramSketch, mode_in};
-ghost use Rattle.exec_axioms.specs.Choices.{MayRead};
-ghost use Rattle.exec_axioms.specs.Complete.{IsComplete};
+ghost use Rattle.known_edges.specs.ProgramSketches.{ProgramSketch, mode_in};
+ghost use Rattle.known_edges.specs.Choices.{MayRead};
+ghost use Rattle.sketches.specs.Complete.{IsComplete};
 ghost use Rattle.tree_laws.specs.CoverTrees as trees;
 ghost use Rattle.cover_judge.specs.Choices.{MayChoose, IsSourceOpen};
 ghost use Rattle.branching.specs.OpenChoices.{IsOpen};
@@ -16,7 +16,7 @@ use crate::open_choice::{OpenChoice, needs_order, needs_source};
 use crate::reads_writes::{ReadValue, WholeAccesses, WrittenValue, gives, gives_at_first};
 use cert_forest::AccessId;
 use cover_judge::{Choice, event_of};
-use exec_axioms::{Event, Sketch};
+use sketches::{Event, Sketch};
 use tso_program::{Outcome, Shown};
 
 /// How many children stay open after a choice, how many there are, and whether it is an order: the

@@ -5,7 +5,7 @@ ghost use Rattle.branching.specs.Traces.{traces, trees_of, root, IsTraceTree, Ar
 
 use crate::tally::Tally;
 use cover_judge::{Choice, sketch_with, value_choices};
-use exec_axioms::Sketch;
+use sketches::Sketch;
 use std::alloc::{AllocError, Global};
 
 /// What a thread does from some given values on. The sketches have values for this thread alone.

@@ -14,8 +14,8 @@ use Rattle.tso_machine.specs.Machine as machine
 use Rattle.candidate_executions.specs.declared.event.Event.{Event}
 use Rattle.candidate_executions.specs.Events.{ComesBefore}
 use Rattle.candidate_executions.specs.Sketches.{Sketch, IsSourceOf, IsPair, IsWhole, MustEndAs}
-use Rattle.exec_axioms.specs.ProgramSketches.{ProgramSketch, mode_in}
-use Rattle.exec_axioms.specs.Choices as choices
+use Rattle.known_edges.specs.ProgramSketches.{ProgramSketch, mode_in}
+use Rattle.known_edges.specs.Choices as choices
 use Rattle.cert_forest.specs.declared.tree.AccessId.{AccessId}
 use Rattle.tree_laws.specs.CoverTrees.{event_of, HasNextValues, HasSources, HasNoOrder, MustEndAsNumber}
 use Rattle.tree_laws.proofs.OneList.{one_list_of_values, one_list_of_sources}

@@ -2,8 +2,8 @@
 use Rattle.std.proofs.Common.{[], List, Contains, arith}
 use Rattle.tso_program.specs.declared.outcome.Outcome.{Outcome}
 use Rattle.tso_program.specs.declared.shown.Shown.{Shown}
-use Rattle.exec_axioms.specs.ProgramSketches.{ProgramSketch}
-use Rattle.exec_axioms.specs.ValueSketches.{LacksSource}
+use Rattle.known_edges.specs.ProgramSketches.{ProgramSketch}
+use Rattle.sketches.specs.ValueSketches.{LacksSource}
 use Rattle.cert_forest.specs.declared.tree.AccessId.{AccessId}
 use Rattle.cert_forest.specs.Trees.{Source, NoCover}
 use Rattle.tree_laws.specs.CoverTrees.{event_of}

@@ -4,7 +4,7 @@ ghost use Rattle.std.specs.Prelude.{◌≡◌, ◌<◌, ◌≤◌, OnOk, IfOk, I
 ghost use Rattle.candidate_executions.specs.Sketches.{with_value};
 ghost use Rattle.cert_forest.specs.Nodes.{first_tree};
 ghost use Rattle.cert_forest.specs.Trees.{Value, covers_of};
-ghost use Rattle.exec_axioms.specs.ProgramSketches.{mode_in};
+ghost use Rattle.known_edges.specs.ProgramSketches.{mode_in};
 ghost use Rattle.tree_laws.specs.CoverTrees.{HasNextValues};
 ghost use Rattle.cover_judge.specs.Choices.{MayChoose};
 ghost use Rattle.cover_judge.specs.CoverDefects.{HasNoValues};
@@ -14,7 +14,7 @@ use crate::choice::{Choice, event_of};
 use crate::cover::judge;
 use crate::fault::TreeFault;
 use cert_forest::{CoverNode, Walk};
-use exec_axioms::{SharedValues, ValueSketch};
+use sketches::{SharedValues, ValueSketch};
 use std::alloc::Global;
 use tso_program::{Outcome, Shown};
 

@@ -1,13 +1,13 @@
 //! What branches in a sketch.
 ghost use Rattle.std.specs.Prelude.{◌≡◌, ◌↔◌, IsTrue, IfOk, OnOk, OnErr, IfSome, MatchOption, map};
-ghost use Rattle.exec_axioms.specs.ProgramSketches.{with_chosen};
-ghost use Rattle.exec_axioms.specs.Choices.{IsOrdered};
+ghost use Rattle.known_edges.specs.ProgramSketches.{with_chosen};
+ghost use Rattle.known_edges.specs.Choices.{IsOrdered};
 ghost use Rattle.tree_laws.specs.CoverTrees as trees;
 ghost use Rattle.cover_judge.specs.Choices.{sketch_with, MayChoose, MayChooseEach, IsValueOpen, IsSourceOpen, AreValueChoices, AreSourceChoices};
 
 use candidate_executions::Event;
 use cert_forest::AccessId;
-use exec_axioms::{Sketch, SketchFault};
+use sketches::{Sketch, SketchFault};
 use std::alloc::{AllocError, Global};
 
 /// A choice in a sketch.

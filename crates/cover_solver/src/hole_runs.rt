@@ -8,10 +8,10 @@ ghost use Rattle.cover_solver.specs.Facts.{AreOf};
 use crate::fault::ForeignFault;
 use crate::foreign_run::ForeignRun;
 use crate::table::SeqTable;
-use exec_axioms::Sketch;
 use gap_sets::GapSet;
 use partial_covers::PartialCover;
 use run_maker::{MakeFault, make_run_for};
+use sketches::Sketch;
 use std::alloc::{AllocError, Global};
 use tso_machine::Label;
 

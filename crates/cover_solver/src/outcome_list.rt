@@ -10,8 +10,8 @@ ghost use Rattle.sketch_covers.specs.Ascending.{Ascend};
 
 use crate::fault::SolveFault;
 use cert_forest::Runs;
-use exec_axioms::Mode;
 use partial_covers::{Unwatched, Watch, all_outcomes, start_alone, start_by};
+use sketches::Mode;
 use std::alloc::Global;
 use std::thread::Threads;
 use tso_machine::Model;

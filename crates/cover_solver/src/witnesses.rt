@@ -8,9 +8,9 @@ ghost use Rattle.sketch_covers.specs.OutcomeNumbers.{IsInOrder, AreRunsOf};
 ghost use Rattle.cover_solver.specs.Witnesses.{IsWitness, HasNoWitness};
 
 use crate::fault::SolveFault;
-use exec_axioms::Mode;
 use partial_covers::{Unwatched, all_outcomes, start_alone};
 use sketch_covers::{OutcomeIndex, place_of};
+use sketches::Mode;
 use std::alloc::{AllocError, Global};
 use tso_machine::Label;
 use tso_program::{Formula, Outcome, Program, Shown};

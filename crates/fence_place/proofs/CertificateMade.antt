@@ -16,7 +16,7 @@ use Rattle.tso_machine.specs.declared.label.Label.{Label}
 use Rattle.tso_machine.specs.Machine.{Machine, SequentialMachine, StoreBufferMachine, no_gaps}
 use Rattle.tso_program.specs.Fences.{gaps_in as gaps_of_set}
 use Rattle.tso_machine.specs.Outcomes.{IsTheAnswer, IsShownRun, IsSequentialOutcome, AreGapsOf}
-use Rattle.exec_axioms.specs.Sizes.{most_choices}
+use Rattle.known_edges.specs.Sizes.{most_choices}
 use Rattle.cert_forest.specs.Trees.{Cover}
 use Rattle.cert_forest.specs.declared.tree.TheConstants.{MAX_COVER_DEPTH, MAX_GAP_DEPTH}
 use Rattle.cert_forest.specs.Certificates.{Certificate}

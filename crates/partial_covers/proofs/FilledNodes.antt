@@ -7,10 +7,10 @@ use Rattle.tso_program.specs.declared.shown.Shown.{Shown}
 use Rattle.tso_machine.specs.declared.mode.Mode.{Mode}
 use Rattle.tso_machine.specs.declared.mode.Mode.TheVariants as modes
 use Rattle.tso_machine.specs.Modes.{machine_of_mode}
-use Rattle.exec_axioms.specs.ProgramSketches.{ProgramSketch, mode_in, nothing_chosen}
-use Rattle.exec_axioms.specs.Kept.{IsLawful}
-use Rattle.exec_axioms.specs.Sizes.{HaveAllRegisters}
-use Rattle.exec_axioms.proofs.ChoicesCounted.{choices_few}
+use Rattle.known_edges.specs.ProgramSketches.{ProgramSketch, mode_in, nothing_chosen}
+use Rattle.known_edges.specs.Kept.{IsLawful}
+use Rattle.known_edges.specs.Sizes.{HaveAllRegisters}
+use Rattle.known_edges.proofs.ChoicesCounted.{choices_few}
 use Rattle.cert_forest.specs.declared.node.Node.{Node}
 use Rattle.cert_forest.specs.declared.node.Node.TheVariants as node
 use Rattle.cert_forest.specs.Trees.{Cover, Value, covers_of}

@@ -13,7 +13,7 @@ use Rattle.tso_machine.specs.declared.mode.Mode as own
 use Rattle.tso_machine.specs.declared.mode.Mode.TheVariants as modes
 use Rattle.tso_machine.specs.Modes.{machine_of_mode}
 use Rattle.candidate_executions.specs.Sketches.{IsWhole}
-use Rattle.exec_axioms.specs.ProgramSketches.{ProgramSketch, mode_in}
+use Rattle.known_edges.specs.ProgramSketches.{ProgramSketch, mode_in}
 use Rattle.cert_forest.specs.Trees.{Cover}
 use Rattle.tree_laws.specs.TighterModes.{IsNoLooser, in_mode}
 use Rattle.tree_laws.proofs.TighterModes.{tighter_keeps_cover, tighter_keeps_values, tighter_keeps_whole}

@@ -7,7 +7,7 @@ use Rattle.tso_program.specs.declared.shown.Shown.{Shown}
 use Rattle.tso_program.specs.Shown.{Question, asked}
 use Rattle.tso_machine.specs.Machine.{Machine}
 use Rattle.candidate_executions.specs.Sketches.{Sketch, empty_sketch, with_value, with_source, with_pair}
-use Rattle.exec_axioms.specs.ProgramSketches.{ProgramSketch, mode_in}
+use Rattle.known_edges.specs.ProgramSketches.{ProgramSketch, mode_in}
 use Rattle.cert_forest.specs.Trees.{Cover, Value, Source, Order, Cycle, Known, Covers, NoCover, MoreCovers}
 use Rattle.cert_forest.specs.Texts.{count_covers}
 use Rattle.cert_forest.specs.Limits.{cover_depth, covers_depth}

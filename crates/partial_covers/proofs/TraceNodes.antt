@@ -4,10 +4,10 @@ use Rattle.std.specs.Prelude.{◌^◌}
 use Rattle.std.proofs.lemmas.List.{length-map}
 use Rattle.tso_program.specs.declared.outcome.Outcome.{Outcome}
 use Rattle.tso_program.specs.declared.shown.Shown.{Shown}
-use Rattle.exec_axioms.specs.ProgramSketches.{ProgramSketch, with_chosen}
-use Rattle.exec_axioms.specs.Kept.{IsLawful}
-use Rattle.exec_axioms.specs.Sizes.{HaveAllRegisters}
-use Rattle.exec_axioms.specs.ThreadValues.{HasValuesAlone}
+use Rattle.known_edges.specs.ProgramSketches.{ProgramSketch, with_chosen}
+use Rattle.known_edges.specs.Kept.{IsLawful}
+use Rattle.known_edges.specs.Sizes.{HaveAllRegisters}
+use Rattle.sketches.specs.ThreadValues.{HasValuesAlone}
 use Rattle.cert_forest.specs.Trees.{Cover}
 use Rattle.cover_judge.specs.declared.choice.Choice.{Choice}
 use Rattle.cover_judge.specs.declared.choice.Choice.TheVariants as choice

@@ -4,10 +4,10 @@ use Rattle.std.specs.Prelude.{◌^◌}
 use Rattle.tso_program.specs.declared.outcome.Outcome.{Outcome}
 use Rattle.tso_program.specs.declared.shown.Shown.{Shown}
 use Rattle.tso_program.specs.declared.shown.Shown.TheVariants.{All}
-use Rattle.exec_axioms.specs.ProgramSketches.{ProgramSketch}
-use Rattle.exec_axioms.specs.Kept.{IsLawful}
-use Rattle.exec_axioms.specs.Sizes.{HaveAllRegisters}
-use Rattle.exec_axioms.proofs.ChoicesCounted.{choices_few}
+use Rattle.known_edges.specs.ProgramSketches.{ProgramSketch}
+use Rattle.known_edges.specs.Kept.{IsLawful}
+use Rattle.known_edges.specs.Sizes.{HaveAllRegisters}
+use Rattle.known_edges.proofs.ChoicesCounted.{choices_few}
 use Rattle.cert_forest.specs.declared.node.Node.{Node}
 use Rattle.cert_forest.specs.declared.node.Node.TheVariants as node
 use Rattle.cover_judge.specs.declared.choice.Choice.{Choice}

@@ -3,7 +3,7 @@
 ghost use Rattle.std.specs.Prelude.{◌≡◌, [], IfOk, OnOk, MatchOption};
 ghost use Rattle.tso_program.specs.Shown.{Question};
 ghost use Rattle.candidate_executions.specs.Sketches.{IsWhole};
-ghost use Rattle.exec_axioms.specs.ProgramSketches.{nothing_chosen, mode_in};
+ghost use Rattle.known_edges.specs.ProgramSketches.{nothing_chosen, mode_in};
 ghost use Rattle.cover_judge.specs.Choices.{MayChooseEach};
 ghost use Rattle.branching.specs.Combinations.{AreAlike, IsBase, with_root, with_trace};
 ghost use Rattle.branching.specs.Plans.{IsLast, IsBeforeLast, IsOtherOpen, AreOfOthers, AreOthersFull};
@@ -22,8 +22,8 @@ use crate::watch::Watch;
 use branching::{FullTrace, OpenChoice, Plan, Tally, TraceTree, choices_of};
 use cert_forest::Node;
 use cover_judge::{Choice, sketch_with};
-use exec_axioms::{Mode, Sketch};
 use sketch_covers::{KnownOutcomes, OutcomeIndex, Stop, cover_whole, known_leaf};
+use sketches::{Mode, Sketch};
 use std::alloc::{AllocError, Global};
 use tso_program::Shown;
 

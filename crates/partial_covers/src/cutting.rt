@@ -1,13 +1,13 @@
 //! How a search is cut into parts. It does not depend on who works on them.
 ghost use Rattle.std.specs.Prelude.{IfOk, OnOk, All};
-ghost use Rattle.exec_axioms.specs.ProgramSketches.{ProgramSketch};
+ghost use Rattle.known_edges.specs.ProgramSketches.{ProgramSketch};
 ghost use Rattle.partial_covers.specs.Parts.{IsPartOf};
 ghost use Rattle.branching.specs.declared.plan.LastThread.{LastThread};
 ghost use Rattle.branching.specs.Plans.{IsBeforeLast};
 
 use crate::part::Part;
 use branching::{OpenChoice, Plan, choices_of};
-use exec_axioms::Sketch;
+use sketches::Sketch;
 use std::alloc::{AllocError, Global};
 use tso_program::Shown;
 

@@ -18,8 +18,8 @@ use crate::partial_cover::PartialCover;
 use crate::searching::SearchStart;
 use crate::watch::{JoinWatch, Watch};
 use cert_forest::CoverTree;
-use exec_axioms::Mode;
 use sketch_covers::{KnownOutcomes, OutcomeIndex, Stop};
+use sketches::Mode;
 use std::alloc::{AllocError, Global};
 use tso_program::{Outcome, Program, Shown};
 

@@ -12,7 +12,7 @@ use crate::covering::Covering;
 use crate::unsourced_trees::push_unsourced;
 use crate::watch::Watch;
 use branching::{FullTrace, LastThread, Tally, ThreadTraces, TraceTree};
-use exec_axioms::Sketch;
+use sketches::Sketch;
 use std::alloc::AllocError;
 
 /// A sketch in which all threads but two have their values.

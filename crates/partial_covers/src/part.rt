@@ -1,6 +1,6 @@
 //! Parts of a search. Each has a list of outcomes and a partial cover of its own, so the parts need nothing of one another.
 ghost use Rattle.std.specs.Prelude.{◌≡◌, ◌∷◌, ◌++◌, [], None, IfOk, IfSome};
-ghost use Rattle.exec_axioms.specs.ProgramSketches.{with_chosen};
+ghost use Rattle.known_edges.specs.ProgramSketches.{with_chosen};
 ghost use Rattle.cover_judge.specs.Choices as choices;
 ghost use Rattle.partial_covers.specs.Parts.{IsMadeIn, IsSearched};
 ghost use Rattle.branching.specs.Plans.{IsBeforeLast};
@@ -10,8 +10,8 @@ use crate::partial_cover::PartialCover;
 use crate::watch::{PartWatch, Watch};
 use branching::Plan;
 use cover_judge::{Choice, sketch_with};
-use exec_axioms::{Mode, Sketch};
 use sketch_covers::{KnownOutcomes, OutcomeIndex};
+use sketches::{Mode, Sketch};
 use std::alloc::{AllocError, Global};
 use tso_program::Shown;
 

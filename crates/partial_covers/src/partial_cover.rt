@@ -5,7 +5,7 @@ ghost use Rattle.partial_covers.specs.PartialCovers.{items_of, Has, Lacks};
 
 use cert_forest::Node;
 use cover_judge::Choice;
-use exec_axioms::Sketch;
+use sketches::Sketch;
 use std::alloc::{AllocError, Global};
 use std::mem;
 use tso_machine::Label;

@@ -37,17 +37,17 @@ use Rattle.candidate_executions.proofs.Orders.Lists.{some_value}
 use Rattle.candidate_executions.proofs.Sketches.MoreValues.{end_or_read}
 use Rattle.candidate_executions.proofs.FromRuns.StepsSuffice.{advance}
 use Rattle.candidate_executions.proofs.Orders.WiderRelations.{acyclic_narrower}
-use Rattle.exec_axioms.specs.ProgramSketches.{ProgramSketch, mode_in, trace_in, access_in}
-use Rattle.exec_axioms.specs.Kept.{IsLawful}
-use Rattle.exec_axioms.specs.Known.{HasNoCycle}
-use Rattle.exec_axioms.specs.Completions.{MustEndSo}
-use Rattle.exec_axioms.proofs.Chosen.{once}
-use Rattle.exec_axioms.proofs.Ends.{ends_only}
-use Rattle.exec_axioms.proofs.LastWrites.{of_followed, pair_edge}
-use Rattle.exec_axioms.specs.Complete.{IsComplete}
+use Rattle.known_edges.specs.ProgramSketches.{ProgramSketch, mode_in, trace_in, access_in}
+use Rattle.known_edges.specs.Kept.{IsLawful}
+use Rattle.known_edges.specs.Known.{HasNoCycle}
+use Rattle.sketches.specs.Completions.{MustEndSo}
+use Rattle.known_edges.proofs.Chosen.{once}
+use Rattle.sketches.proofs.Ends.{ends_only}
+use Rattle.sketches.proofs.LastWrites.{of_followed, pair_edge}
+use Rattle.sketches.specs.Complete.{IsComplete}
 use Rattle.run_maker.specs.MadeRuns.{IsMadeRun}
 use Rattle.run_maker.specs.Internal.Orders.{IsKnownOrder}
-use Rattle.exec_axioms.proofs.Completeness.{first_there, second_there}
+use Rattle.sketches.proofs.Completeness.{first_there, second_there}
 use Rattle.run_maker.proofs.PlacesInOrder.{place, place_before, place_same, chosen, chosen_is}
 
 consistent_by : (p : Listing) (m : Machine) (c : Candidate) → ((kind : Kind) → IsOfMode m kind → IsAcyclic (Edge p m c kind)) → IsConsistent p m c

@@ -1,7 +1,7 @@
 //! The accesses of a run to memory, what they read from, and the order in which writes reach memory.
 
-use litmus_text::Litmus;
 use crate::cells::{action_of, instruction_cell, push_value, written};
+use litmus_text::Litmus;
 use std::alloc::{AllocError, Global};
 use tso_machine::Step;
 use tso_program::{Action, Program};

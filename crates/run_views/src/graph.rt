@@ -1,10 +1,10 @@
 //! Graphs in Graphviz's language.
 
 use crate::candidate::{Candidate, candidate_of};
+use crate::cells::push_value;
 use crate::edges::{Edge, Relation};
 use crate::events::{Access, Event};
 use litmus_text::{Litmus, NameTable, location_name};
-use crate::cells::push_value;
 use std::alloc::{AllocError, Global};
 use tso_machine::Step;
 use tso_program::Program;

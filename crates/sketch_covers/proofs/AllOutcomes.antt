@@ -5,7 +5,7 @@ use Rattle.tso_machine.specs.declared.mode.Mode as own
 use Rattle.tso_machine.specs.Machine.{Machine}
 use Rattle.tso_machine.specs.Modes.{machine_of_mode}
 use Rattle.tso_program.specs.Shown.{Question}
-use Rattle.exec_axioms.specs.declared.sketch.Sketch.{Sketch}
+use Rattle.sketches.specs.declared.sketch.Sketch.{Sketch}
 use Rattle.run_maker.specs.declared.run.MadeRun.{MadeRun}
 use Rattle.sketch_covers.specs.declared.stop.Stop.{Stop}
 use Rattle.sketch_covers.specs.declared.stop.Stop.TheVariants as stop

@@ -7,9 +7,10 @@ use Rattle.tso_program.specs.Shown.{asked}
 use Rattle.candidate_executions.specs.declared.event.Event.{Event}
 use Rattle.candidate_executions.specs.declared.event.Kind.{Kind}
 use Rattle.candidate_executions.specs.Sketches.{IsKnownCycle}
-use Rattle.exec_axioms.specs.ProgramSketches.{ProgramSketch, mode_in}
-use Rattle.exec_axioms.specs.Completions.{MustEndSo}
-use Rattle.exec_axioms.specs.Search.{IsSimpleCycle, AreFewAccesses}
+use Rattle.known_edges.specs.ProgramSketches.{ProgramSketch, mode_in}
+use Rattle.sketches.specs.Completions.{MustEndSo}
+use Rattle.sketches.specs.Cycles.{IsSimpleCycle}
+use Rattle.known_edges.specs.FewAccesses.{AreFewAccesses}
 use Rattle.cert_forest.specs.declared.tree.AccessId.{AccessId}
 use Rattle.cert_forest.specs.declared.node.Node.{Node}
 use Rattle.cert_forest.specs.Trees.{Cycle}

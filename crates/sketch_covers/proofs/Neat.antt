@@ -5,8 +5,9 @@ use Rattle.std.specs.Prelude.{◌^◌}
 use Rattle.std.proofs.lemmas.List.{length-map}
 use Rattle.candidate_executions.specs.declared.event.Event.{Event}
 use Rattle.candidate_executions.specs.declared.event.Kind.{Kind}
-use Rattle.exec_axioms.specs.ProgramSketches.{ProgramSketch}
-use Rattle.exec_axioms.specs.Search.{HasSmallNumbers, IsSimpleCycle, AreFewAccesses}
+use Rattle.known_edges.specs.ProgramSketches.{ProgramSketch}
+use Rattle.known_edges.specs.FewAccesses.{HasSmallNumbers, AreFewAccesses}
+use Rattle.sketches.specs.Cycles.{IsSimpleCycle}
 use Rattle.cert_forest.specs.declared.tree.AccessId.{AccessId}
 use Rattle.cert_forest.specs.Trees.{Cycle, Known}
 use Rattle.cert_forest.specs.Limits as limits

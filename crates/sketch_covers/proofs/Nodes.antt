@@ -11,13 +11,13 @@ use Rattle.candidate_executions.specs.Candidates.{IsAccess}
 use Rattle.candidate_executions.proofs.Sketches.GivenValues.{reads_there}
 use Rattle.tso_machine.specs.declared.mode.Mode as own
 use Rattle.tso_machine.specs.Modes.{machine_of_mode}
-use Rattle.exec_axioms.specs.ProgramSketches.{ProgramSketch, mode_in, nothing_chosen, with_chosen}
-use Rattle.exec_axioms.specs.Choices.{MayFollow}
-use Rattle.exec_axioms.specs.Kept.{IsLawful}
-use Rattle.exec_axioms.specs.Sizes.{choice_count, most_choices, HaveAllRegisters}
-use Rattle.exec_axioms.proofs.ChoicesCounted.{event_small}
-use Rattle.exec_axioms.proofs.BranchesCounted.{few_values, few_sources}
-use Rattle.exec_axioms.proofs.Completeness.{read_there, first_there, second_there}
+use Rattle.known_edges.specs.ProgramSketches.{ProgramSketch, mode_in, nothing_chosen, with_chosen}
+use Rattle.known_edges.specs.Choices.{MayFollow}
+use Rattle.known_edges.specs.Kept.{IsLawful}
+use Rattle.known_edges.specs.Sizes.{choice_count, most_choices, HaveAllRegisters}
+use Rattle.known_edges.proofs.ChoicesCounted.{event_small}
+use Rattle.known_edges.proofs.BranchesCounted.{few_values, few_sources}
+use Rattle.sketches.proofs.Completeness.{read_there, first_there, second_there}
 use Rattle.cert_forest.specs.declared.tree.AccessId.{AccessId}
 use Rattle.cert_forest.specs.Trees.{Cover, Value, Source, Order, covers_of}
 use Rattle.cert_forest.specs.Texts.{count_covers}

@@ -6,9 +6,9 @@ use Rattle.tso_program.specs.declared.shown.Shown.{Shown}
 use Rattle.tso_program.specs.Shown.{Question, asked}
 use Rattle.tso_machine.specs.Machine.{Machine}
 use Rattle.candidate_executions.specs.Sketches.{empty_sketch, MustEndAs}
-use Rattle.exec_axioms.specs.ProgramSketches.{ProgramSketch, mode_in}
-use Rattle.exec_axioms.specs.Known.{HasNoCycle}
-use Rattle.exec_axioms.specs.Sizes.{choice_count, most_choices}
+use Rattle.known_edges.specs.ProgramSketches.{ProgramSketch, mode_in}
+use Rattle.known_edges.specs.Known.{HasNoCycle}
+use Rattle.known_edges.specs.Sizes.{choice_count, most_choices}
 use Rattle.cert_forest.specs.Trees.{Cover, Value, Source, Order, Cycle, Known, Covers, NoCover, MoreCovers, covers_of}
 use Rattle.cert_forest.specs.Limits.{cover_depth, covers_depth, HasNumbers, HaveNumbers}
 use Rattle.cert_forest.specs.declared.node.Node.{Node}

@@ -5,7 +5,7 @@ ghost use Rattle.tree_laws.specs.CoverTrees.{event_of};
 ghost use Rattle.branching.specs.Accesses.{IsOfThread};
 
 use cert_forest::AccessId;
-use exec_axioms::Event;
+use sketches::Event;
 use std::alloc::{AllocError, Global};
 
 /// Events of threads as accesses.

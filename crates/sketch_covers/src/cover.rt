@@ -4,8 +4,8 @@ ghost use Rattle.std.specs.Prelude.{◌≡◌, ◌≤◌, ◌<◌, ◌^◌, IfOk
 ghost use Rattle.std.specs.List.{remove_range};
 ghost use Rattle.tso_program.specs.Shown.{asked};
 ghost use Rattle.candidate_executions.specs.Sketches.{IsWhole};
-ghost use Rattle.exec_axioms.specs.ProgramSketches.{mode_in, with_chosen};
-ghost use Rattle.exec_axioms.specs.Complete.{IsComplete};
+ghost use Rattle.known_edges.specs.ProgramSketches.{mode_in, with_chosen};
+ghost use Rattle.sketches.specs.Complete.{IsComplete};
 ghost use Rattle.cert_forest.specs.Nodes.{tree_of, IsTree};
 ghost use Rattle.cover_judge.specs.Choices.{sketch_with, MayChoose};
 ghost use Rattle.branching.specs.OpenChoices.{IsBranch};
@@ -21,7 +21,7 @@ use crate::stop::Stop;
 use branching::{Branch, OpenChoice, WholeAccesses, next_branch, whole_accesses};
 use cert_forest::{Node, Walk, push_known, take_out};
 use cover_judge::{Choice, TreeFault, choose, judge};
-use exec_axioms::Sketch;
+use sketches::Sketch;
 use std::alloc::{AllocError, Global};
 use tso_program::{Outcome, Shown};
 

@@ -3,7 +3,7 @@
 use crate::calls::{LitmusCall, TextCall};
 use crate::refusal::TextRefusal;
 use crate::{
-    certificates, fences, formulas, machines, observations, programs, sets, sketches, syntax,
+    certificates, fences, formulas, machines, observations, programs, sets, sketch_steps, syntax,
     texts, tokens,
 };
 use litmus_text::Litmus;
@@ -27,7 +27,7 @@ pub fn push_of_litmus(
         LitmusCall::Copy => programs::push_copy(program, printed),
         LitmusCall::Action => programs::push_action(words, program, printed),
         LitmusCall::Replay => machines::push_replayed(alloc, words, program, printed),
-        LitmusCall::Sketch => sketches::push_sketch(alloc, words, program, printed),
+        LitmusCall::Sketch => sketch_steps::push_sketch(alloc, words, program, printed),
     }
 }
 

@@ -20,7 +20,7 @@ mod observations;
 mod programs;
 mod refusal;
 mod sets;
-mod sketches;
+mod sketch_steps;
 mod syntax;
 mod texts;
 mod tokens;

@@ -2,11 +2,11 @@
 
 use cert_forest::CertFault;
 use conditions::FormulaFault;
-use exec_axioms::SketchFault;
 use gap_sets::CostFault;
 use litmus_syntax::SyntaxFault;
 use litmus_text::ReadFault;
 use run_maker::MakeFault;
+use sketches::SketchFault;
 use std::alloc::AllocError;
 use thiserror::Error;
 use tso_machine::{ReplayFault, RunFault};

@@ -4,7 +4,7 @@ ghost use Rattle.trace_combinations.specs.TraceCounts.{traces_of, values_at, Are
 ghost use Rattle.trace_combinations.specs.declared.combinations.TheConstants.{MOST_TRACES};
 
 use crate::walk::{Walk, count_from};
-use exec_axioms::{Mode, Sketch};
+use sketches::{Mode, Sketch};
 use std::alloc::{AllocError, Global};
 use tso_program::{Local, Program};
 

@@ -1,6 +1,6 @@
 use Rattle.std.proofs.Common.{◌↔◌, IsTrue, subst}
-use Rattle.exec_axioms.specs.Choices.{IsOrdered}
-use Rattle.exec_axioms.proofs.KnownParts.{not_by}
+use Rattle.known_edges.specs.Choices.{IsOrdered}
+use Rattle.thread_traces.proofs.KnownParts.{not_by}
 use Rattle.tree_laws.specs.CoverTrees.{event_of}
 use Rattle.branching.proofs.NothingLeft.{pair_of, unless}
 use Rattle.branching.proofs.open_choice.needs_order.Goals as goal

@@ -1,7 +1,7 @@
 use Rattle.std.proofs.Common.{◌≡◌, ◌↔◌, ℕ, Option, Some, Contains, true, false, not, IsSome, refl, sym, subst, ap, ◌∙◌}
 use Rattle.std.specs.Option.{is_some}
 use Rattle.candidate_executions.specs.declared.event.Event.{Event}
-use Rattle.exec_axioms.proofs.Chosen.{has_source_by}
+use Rattle.known_edges.proofs.Chosen.{has_source_by}
 use Rattle.tree_laws.specs.CoverTrees.{event_of}
 use Rattle.branching.proofs.open_choice.needs_source.Goals as goal
 

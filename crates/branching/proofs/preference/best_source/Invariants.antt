@@ -1,7 +1,7 @@
 use Rattle.std.proofs.Common.{◌≡◌, ℕ, ◌<◌, None, get_or}
 use Rattle.std.specs.Prelude.{IfSome}
 use Rattle.tree_laws.specs.CoverTrees.{event_of}
-use Rattle.exec_axioms.specs.Complete.{HasItsSource}
+use Rattle.sketches.specs.Complete.{HasItsSource}
 use Rattle.branching.specs.declared.reads_writes.ReadValue.{ReadValue}
 use Rattle.branching.specs.declared.preference.RatedChoice.{RatedChoice}
 use Rattle.branching.specs.OpenChoices.{IsOpen}

@@ -1,6 +1,6 @@
 use Rattle.std.proofs.Common.{sym, subst}
 use Rattle.candidate_executions.specs.Sketches.{IsSourceOf}
-use Rattle.exec_axioms.specs.ProgramSketches.{mode_in}
+use Rattle.known_edges.specs.ProgramSketches.{mode_in}
 use Rattle.tree_laws.specs.CoverTrees.{event_of}
 use Rattle.branching.specs.declared.reads_writes.WrittenValue.{WrittenValue}
 use Rattle.branching.proofs.preference.merit_of_sources.Goals as goal

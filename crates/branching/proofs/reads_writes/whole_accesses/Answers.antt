@@ -1,8 +1,8 @@
 use Rattle.std.proofs.Common.{All, length, ap, sym, subst, ◌∙◌, inl, inr, arith}
 use Rattle.std.proofs.lemmas.Bool.{cases_lt}
 use Rattle.tso_program.specs.declared.listing.Listing.{Listing}
-use Rattle.exec_axioms.proofs.Completeness.{read_there}
-use Rattle.exec_axioms.proofs.Ends.{thread_within}
+use Rattle.sketches.proofs.Completeness.{read_there}
+use Rattle.sketches.proofs.Ends.{thread_within}
 use Rattle.tree_laws.specs.CoverTrees.{event_of}
 use Rattle.branching.specs.Accesses.{IsReadValue, IsWrittenValue}
 use Rattle.branching.proofs.TakenIn.{thread_there}

@@ -1,6 +1,6 @@
 use Rattle.std.proofs.Common.{◌<◌}
 use Rattle.std.specs.Prelude.{All}
-use Rattle.exec_axioms.specs.Choices.{IsRead}
+use Rattle.known_edges.specs.Choices.{IsRead}
 use Rattle.cert_forest.specs.declared.tree.AccessId.{AccessId}
 use Rattle.tree_laws.specs.CoverTrees.{event_of}
 use Rattle.branching.specs.Accesses.{IsReadValue, NamesRead, IsWrittenValue, IsWrite, NamesWrite}

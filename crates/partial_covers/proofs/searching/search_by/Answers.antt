@@ -4,7 +4,7 @@ use Rattle.std.proofs.Crossing.{crosses}
 use Rattle.std.proofs.alloc.Global.TheSendSync as global
 use Rattle.tso_program.proofs.shown.Shown.TheSendSync as shown
 use Rattle.tso_machine.proofs.mode.Mode.TheSendSync as mode
-use Rattle.exec_axioms.proofs.sketch.Sketch.TheSendSync as sketch
+use Rattle.sketches.proofs.sketch.Sketch.TheSendSync as sketch
 use Rattle.cover_judge.proofs.choice.Choice.TheSendSync as choice
 use Rattle.partial_covers.proofs.part.Part.TheSendSync as part
 use Rattle.branching.proofs.trace_size.TraceSize.TheLaws.TheKnot as sizes

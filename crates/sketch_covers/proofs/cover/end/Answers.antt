@@ -4,7 +4,7 @@ use Rattle.sketch_covers.proofs.Neat.{neat_known}
 use Rattle.sketch_covers.proofs.Nodes.{leaf_cover}
 use Rattle.std.specs.Option.{MatchOption}
 use Rattle.tso_program.specs.Shown.{asked}
-use Rattle.exec_axioms.specs.ProgramSketches.{mode_in}
+use Rattle.known_edges.specs.ProgramSketches.{mode_in}
 use Rattle.tree_laws.specs.CoverTrees.{MustEndAsNumber}
 use Rattle.sketch_covers.specs.declared.stop.Stop.TheVariants as stop
 use Rattle.sketch_covers.specs.Covers.{IsEndNotListed}

@@ -1,7 +1,7 @@
 use Rattle.std.proofs.Common.{◌≡◌, refl, subst, arith}
 use Rattle.std.specs.Prelude.{MatchOption}
 use Rattle.tso_program.specs.Shown.{asked}
-use Rattle.exec_axioms.specs.ProgramSketches.{mode_in}
+use Rattle.known_edges.specs.ProgramSketches.{mode_in}
 use Rattle.cert_forest.specs.Trees.{Known}
 use Rattle.tree_laws.specs.CoverTrees.{MustEndAsNumber}
 use Rattle.sketch_covers.specs.Covers.{IsEndNotListed}

@@ -3,7 +3,7 @@ use Rattle.std.specs.Global.{Vec}
 use Rattle.std.proofs.lemmas.List.{length-append}
 use Rattle.tso_program.specs.declared.listing.Listing.{Listing}
 use Rattle.candidate_executions.specs.Values.{IsValueOf}
-use Rattle.exec_axioms.specs.ProgramSketches.{ProgramSketch}
+use Rattle.known_edges.specs.ProgramSketches.{ProgramSketch}
 use Rattle.trace_combinations.specs.TraceCounts.{values_at}
 use Rattle.trace_combinations.proofs.ValuesSoFar.{AreFirstValues, one_more}
 use Rattle.trace_combinations.proofs.combinations.values_of_all.Goals as goal

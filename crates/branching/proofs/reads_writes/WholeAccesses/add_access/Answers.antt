@@ -1,5 +1,5 @@
 use Rattle.std.proofs.Common.{◌≡◌, Some, refl, sym, ap, ◌∙◌, subst}
-use Rattle.exec_axioms.specs.ProgramSketches.{access_in}
+use Rattle.known_edges.specs.ProgramSketches.{access_in}
 use Rattle.tree_laws.specs.CoverTrees.{event_of}
 use Rattle.branching.specs.declared.reads_writes.WholeAccesses.{WholeAccesses}
 use Rattle.branching.proofs.TakenIn.{TakesRead, read_put, read_left, write_put, write_left}

@@ -1,8 +1,8 @@
 use Rattle.std.proofs.Common.{◌≡◌, ◌<◌, ◌+◌, length, ap, inl, inr, arith}
 use Rattle.std.proofs.lemmas.Bool.{cases_lt}
 use Rattle.std.proofs.lemmas.Option.{slice_get_within}
-use Rattle.exec_axioms.specs.ProgramSketches.{trace_in}
-use Rattle.exec_axioms.proofs.Completeness.{read_there}
+use Rattle.known_edges.specs.ProgramSketches.{trace_in}
+use Rattle.sketches.proofs.Completeness.{read_there}
 use Rattle.cert_forest.specs.declared.tree.AccessId.{AccessId}
 use Rattle.tree_laws.specs.CoverTrees.{event_of}
 use Rattle.branching.specs.Accesses.{IsItself}

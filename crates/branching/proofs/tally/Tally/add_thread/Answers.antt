@@ -3,8 +3,8 @@ use Rattle.std.proofs.lemmas.Bool.{cases_lt}
 use Rattle.bit_rows.specs.declared.row.TheConstants.{ROW_BITS}
 use Rattle.candidate_executions.specs.declared.event.Event.TheVariants.{Access as At}
 use Rattle.candidate_executions.specs.Candidates.{Writes}
-use Rattle.exec_axioms.specs.ProgramSketches.{access_in}
-use Rattle.exec_axioms.proofs.Ends.{write_within}
+use Rattle.known_edges.specs.ProgramSketches.{access_in}
+use Rattle.sketches.proofs.Ends.{write_within}
 use Rattle.branching.proofs.tally.Tally.add_thread.Goals as goal
 
 pub loop-access-preserved : goal.loop-access-preserved

@@ -1,6 +1,0 @@
-use Rattle.std.proofs.Common.{◌≡◌, None, All}
-use Rattle.exec_axioms.proofs.known_traces.empty_places.Given as goal
-
--- the places so far are empty
-abbrev pub invariant-loop : goal.invariant-loop
-invariant-loop l = All (λ place. place ≡ None) l.known.items

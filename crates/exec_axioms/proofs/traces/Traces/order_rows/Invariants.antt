@@ -1,8 +1,0 @@
-use Rattle.std.proofs.Common.{◌≡◌, length}
-use Rattle.bit_rows.specs.declared.row.TheConstants.{ROW_BITS}
-use Rattle.exec_axioms.specs.Rows.{InOrder}
-use Rattle.exec_axioms.proofs.Masks.{AreRowsBelow}
-use Rattle.exec_axioms.proofs.traces.Traces.order_rows.Given as goal
-
-abbrev pub invariant-loop-d : goal.invariant-loop-d
-invariant-loop-d l = (length l.rows ≡ ROW_BITS) × AreRowsBelow l.self.events (InOrder l.self.thread_traces l.kind) l.d l.rows

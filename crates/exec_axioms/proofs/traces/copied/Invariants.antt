@@ -1,5 +1,0 @@
-use Rattle.std.proofs.Common.{◌≡◌, take}
-use Rattle.exec_axioms.proofs.traces.copied.Given as goal
-
-abbrev pub invariant-loop-thread_trace : goal.invariant-loop-thread_trace
-invariant-loop-thread_trace l = l.copies.items ≡ take l.thread_trace-index l.thread_traces

@@ -1,7 +1,0 @@
-use Rattle.std.proofs.Common.{◌≡◌, ◌<◌, ℕ, None, Some, slice_get}
-use Rattle.exec_axioms.specs.declared.thread_trace.ThreadTrace.{ThreadTrace}
-use Rattle.exec_axioms.proofs.traces.each_ends.Given as goal
-
--- the threads so far have come to their ends
-abbrev pub invariant-loop-thread_trace : goal.invariant-loop-thread_trace
-invariant-loop-thread_trace l = (k : ℕ) (c : ThreadTrace) → k < l.thread_trace-index → slice_get l.thread_traces k ≡ Some c → c.next ≡ None

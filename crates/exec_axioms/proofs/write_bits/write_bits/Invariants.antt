@@ -1,9 +1,0 @@
-use Rattle.std.proofs.Common.{◌≡◌, ◌<◌, ℕ, Some, slice_get}
-use Rattle.bit_rows.specs.Rows.{IsIn}
-use Rattle.candidate_executions.specs.declared.access.Access.{Access}
-use Rattle.exec_axioms.specs.WriteBits.{write_bit}
-use Rattle.exec_axioms.proofs.write_bits.write_bits.Given as goal
-
--- the bits of what the accesses so far write are there
-abbrev pub invariant-loop-access : goal.invariant-loop-access
-invariant-loop-access l = (i : ℕ) (x : Access) (v : ℕ) → i < l.access-index → slice_get l.accesses i ≡ Some x → x.written ≡ Some v → IsIn l.written (write_bit x.location v)

@@ -1,0 +1,32 @@
+-- Accesses listed by thread and index.
+use Rattle.std.proofs.Common.{◌≡◌, ℕ, ◌<◌, List, [], Some, slice_get, get_or, sym, ◌∙◌, subst, arith}
+use Rattle.std.specs.List.{AllPairs}
+use Rattle.std.proofs.lemmas.Option.{slice_get_within, get_or_from_slice_get, same_Some}
+use Rattle.bit_rows.specs.Rows.{Relates}
+use Rattle.candidate_executions.specs.declared.event.Event.{Event}
+use Rattle.candidate_executions.specs.declared.event.Event.TheVariants.{Initial, Access as At}
+use Rattle.candidate_executions.specs.declared.event.Kind.{Kind}
+use Rattle.candidate_executions.specs.Consistency.{Precedes}
+use Rattle.candidate_executions.specs.Events.{ComesBefore}
+use Rattle.thread_traces.specs.declared.thread_trace.ThreadTrace.{ThreadTrace}
+use Rattle.known_edges.specs.Rows.{InOrder, AreRowsOf}
+use Rattle.known_edges.proofs.Connected.{order_precedes}
+
+-- nothing is listed
+pub none_ordered : AllPairs ComesBefore []
+none_ordered i j d h l = absurd (omega arith)
+
+-- of two listed accesses the one at the earlier place comes before the other
+pub before_in : (events : List Event) → AllPairs ComesBefore events → (i j : ℕ) (a b : Event) → i < j → slice_get events i ≡ Some a → slice_get events j ≡ Some b → ComesBefore a b
+before_in events ordered i j a b less here there = subst (λ x. ComesBefore x b) (get_or_from_slice_get events i a a here)
+    (subst (ComesBefore (get_or events i a)) (get_or_from_slice_get events j b a there) (ordered i j a less (slice_get_within events j b there)))
+
+not_itself : (a : Event) → Precedes a a → ⊥
+not_itself (Initial l) p = p
+not_itself (At t i) p = (let q = p.1 in omega arith)
+
+-- no access comes after itself
+pub order_never_round : (thread_traces : List ThreadTrace) (kind : Kind) (events : List Event) (rows : List ℕ) → AreRowsOf events (InOrder thread_traces kind) rows → (d : ℕ) → Relates rows d d → ⊥
+order_never_round thread_traces kind events rows are d h =
+    let (x, y, at_x, at_y, (a, b, of_x, of_y, o)) = (are d d).0 h in
+    not_itself x (subst (Precedes x) (same_Some y x (sym at_y ∙ at_x)) (order_precedes kind x a y b o))

@@ -1,0 +1,186 @@
+-- Accesses by number: what the rows of a sketch say of its events.
+use Rattle.std.proofs.Common.{◌≡◌, ◌↔◌, ℕ, Bool, IsTrue, List, [], Option, Some, None, Contains, slice_get, get_or, length, refl, sym, ap, ◌∙◌, subst, inl, inr, ◌≤◌, arith}
+use Rattle.std.specs.Prelude.{slice_index}
+use Rattle.std.specs.Option.{option_map_or}
+use Rattle.std.proofs.lemmas.Option.{slice_get_within, slice_get-get_or, get_or_from_slice_get, same_Some}
+use Rattle.bit_rows.specs.Rows.{IsIn, Relates}
+use Rattle.bit_rows.specs.declared.row.TheConstants.{ROW_BITS}
+use Rattle.tso_program.specs.declared.limits.TheConstants.{MAX_THREADS, MAX_INSTRUCTIONS}
+use Rattle.tso_program.specs.declared.listing.Listing.{Listing}
+use Rattle.candidate_executions.specs.declared.access.Access.{Access}
+use Rattle.candidate_executions.specs.declared.event.Event.{Event}
+use Rattle.candidate_executions.specs.declared.event.Event.TheVariants.{Initial, Access as At}
+use Rattle.candidate_executions.specs.declared.event.Kind.{Kind}
+use Rattle.candidate_executions.specs.declared.event.Kind.TheVariants as union
+use Rattle.candidate_executions.specs.Candidates.{Writes, IsAccess}
+use Rattle.candidate_executions.specs.Events.{ComesBefore}
+use Rattle.candidate_executions.specs.Consistency.{IsOfMode}
+use Rattle.candidate_executions.specs.Sketches.{IsWhole, IsPair, given_to, next_read}
+use Rattle.tso_machine.specs.declared.mode.Mode.{Mode}
+use Rattle.tso_machine.specs.declared.mode.Mode.TheVariants.{Sequential, Fenced}
+use Rattle.thread_traces.specs.declared.thread_trace.ThreadTrace.{ThreadTrace}
+use Rattle.tso_machine.specs.Modes.{machine_of_mode}
+use Rattle.known_edges.specs.ProgramSketches.{ProgramSketch, mode_in, trace_in, access_in}
+use Rattle.known_edges.specs.Kept.{view_of, KeepsTraces}
+use Rattle.known_edges.specs.Known.{IsInitialWrite}
+use Rattle.known_edges.specs.Choices.{IsOrdered}
+use Rattle.known_edges.specs.Writes.{HasLater, IsLastWith, IsWritten}
+use Rattle.known_edges.specs.Rows.{accesses_at, access_of, IsOfThreads, AreAccesses, EachEnds, FitRow, AreRowsOf, HasWrites, IsRowOf, IsWriteAt, main_kind, rows_of}
+use Rattle.known_edges.proofs.TracesKept.{trace_accesses, no_accesses, no_trace, trace_next, past_next}
+use Rattle.candidate_executions.proofs.Orders.Lists.{some_value}
+use Rattle.thread_traces.proofs.KnownParts.{of_some}
+use Rattle.known_edges.proofs.Connected.{HasNumber}
+use Rattle.known_edges.proofs.ChoicesCounted.{few_accesses}
+use Rattle.known_edges.proofs.BranchesCounted.{not_before_itself}
+
+-- what stands in the rows at two numbers
+pub at_numbers : (events : List Event) (R : Event → Event → Type 0) (rows : List ℕ) (d e : ℕ) (x y : Event) → AreRowsOf events R rows →
+    slice_get events d ≡ Some x → slice_get events e ≡ Some y → Relates rows d e ↔ R x y
+at_numbers events R rows d e x y are at to_at = (
+  λ h. (let (a, b, at_a, at_b, r) = (are d e).0 h in
+      subst (λ z. R z y) (same_Some a x (sym at_a ∙ at)) (subst (λ z. R a z) (same_Some b y (sym at_b ∙ to_at)) r)),
+  λ r. (are d e).1 (x, y, at, to_at, r),
+)
+
+-- what is contained has a number
+pub number_of : (events : List Event) (x : Event) → Contains events x → HasNumber events x
+number_of events x (k, l, q) = (k, slice_get-get_or events k x l ∙ ap Some q)
+
+pub contained : (events : List Event) (x : Event) → HasNumber events x → Contains events x
+contained events x (k, at) = (k, slice_get_within events k x at, get_or_from_slice_get events k x x at)
+
+-- the rows of a union of the mode
+pub rows_of_kind : (p : Listing) (mode : Mode) (kind : Kind) (events : List Event) (R : Kind → Event → Event → Type 0) (main global : List ℕ) → IsOfMode (machine_of_mode p mode) kind →
+    AreRowsOf events (R (main_kind mode)) main → AreRowsOf events (R union.Global) global → AreRowsOf events (R kind) (rows_of kind main global)
+rows_of_kind p Sequential union.Sequential events R main global of_mode a b = a
+rows_of_kind p Sequential union.Location events R main global of_mode a b = absurd of_mode
+rows_of_kind p Sequential union.Global events R main global of_mode a b = b
+rows_of_kind p (Fenced gaps) union.Sequential events R main global of_mode a b = absurd of_mode
+rows_of_kind p (Fenced gaps) union.Location events R main global of_mode a b = a
+rows_of_kind p (Fenced gaps) union.Global events R main global of_mode a b = b
+
+module _ (p : Listing) (mode : Mode) (thread_traces : List ThreadTrace) (sources pairs : List (Event × Event)) (kept : KeepsTraces p mode thread_traces sources pairs) where
+  abbrev s : ProgramSketch
+  s = view_of p mode thread_traces sources pairs
+
+  pub accesses_same : (t : ℕ) → accesses_at thread_traces t ≡ (trace_in s t).accesses
+  accesses_same t = go (slice_get thread_traces t) refl
+    where
+      go : (o : Option ThreadTrace) → slice_get thread_traces t ≡ o → accesses_at thread_traces t ≡ (trace_in s t).accesses
+      go (Some c) e = ap (λ q. option_map_or (λ (x : ThreadTrace). x.accesses) q []) e ∙ sym (trace_accesses p mode thread_traces sources pairs kept t c e)
+      go None e = ap (λ q. option_map_or (λ (x : ThreadTrace). x.accesses) q []) e ∙ sym (no_accesses p mode thread_traces sources pairs kept t e)
+
+  pub is_access : (e : Event) → IsAccess s.program (mode_in s) (given_to s.chosen) e ↔ IsOfThreads thread_traces e
+  is_access (Initial l) = (λ h. h, λ h. h)
+  is_access (At t i) = let same = ap length (accesses_same t) in (λ h. omega arith, λ h. omega arith)
+
+  pub access_same : (e : Event) → IsOfThreads thread_traces e → access_of thread_traces e ≡ access_in s e
+  access_same (Initial l) h = absurd h
+  access_same (At t i) h = ap (λ xs. slice_get xs i) (accesses_same t)
+
+  -- both writes of a pair are accesses
+  writes_access : (e : Event) (l v : ℕ) → Writes (access_in s) e l v → (e ≡ Initial l → ⊥) → IsAccess s.program (mode_in s) (given_to s.chosen) e
+  writes_access (Initial m) l v w other = absurd (other (ap (λ n. Initial n) (ap (λ (x : Access). x.location) (same_Some _ w.0 w.1) ∙ w.2)))
+  writes_access (At t i) l v w other = slice_get_within _ i w.0 w.1
+
+  pub pair_accesses : (d e : Event) → IsPair s.program (mode_in s) s.chosen d e → IsAccess s.program (mode_in s) (given_to s.chosen) d × IsAccess s.program (mode_in s) (given_to s.chosen) e
+  pair_accesses d e h = let (l, v, u, w, w2, a, b) = h.1 in (writes_access d l v w a, writes_access e l u w2 b)
+
+  -- the threads are few
+  pub courses_few : length thread_traces ≤ MAX_THREADS
+  courses_few = let same = kept.one_each in let few = kept.lawful.within.shared.few_threads in omega arith
+
+  -- no thread has many accesses
+  pub courses_short : (t : ℕ) → length (accesses_at thread_traces t) ≤ MAX_INSTRUCTIONS
+  courses_short t = go (slice_get thread_traces t) refl
+    where
+      go : (o : Option ThreadTrace) → slice_get thread_traces t ≡ o → length (accesses_at thread_traces t) ≤ MAX_INSTRUCTIONS
+      go (Some c) e = let short = (kept.traces_are t c e).few in let same = ap (λ q. length (option_map_or (λ (x : ThreadTrace). x.accesses) q [])) e in omega arith
+      go None e = let same = ap (λ q. length (option_map_or (λ (x : ThreadTrace). x.accesses) q [])) e in omega arith
+
+  -- once each read has its value, each thread has come to its end
+  pub whole_ends : IsWhole s.program (mode_in s) s.chosen → EachEnds thread_traces
+  whole_ends whole t c at = (kept.traces_are t c at).next ∙ sym (trace_next p mode thread_traces sources pairs kept t c at) ∙ whole t
+
+  -- and the other way round
+  pub ends_whole : EachEnds thread_traces → IsWhole s.program (mode_in s) s.chosen
+  ends_whole ends t = go (slice_get thread_traces t) refl
+    where
+      go : (o : Option ThreadTrace) → slice_get thread_traces t ≡ o → next_read s.program (mode_in s) s.chosen t ≡ None
+      go (Some c) e = trace_next p mode thread_traces sources pairs kept t c e ∙ sym (kept.traces_are t c e).next ∙ ends t c e
+      go None e = past_next p mode thread_traces sources pairs kept t (no_trace p mode thread_traces sources pairs kept t e)
+
+  -- accesses that come by thread and index are few
+  pub fit_row : FitRow thread_traces
+  fit_row events ordered each =
+      let few = (few_accesses s kept.lawful events (λ i j d h l same. not_before_itself _ (subst (λ e. ComesBefore e (get_or events j d)) same (ordered i j d h l)))
+      (λ e has. (is_access e).1 (each e has))).few in
+      omega arith
+
+  module _ (events : List Event) (accesses : AreAccesses thread_traces events) where
+    -- all accesses have numbers in a row
+    pub accesses_few : length events ≤ ROW_BITS
+    accesses_few = fit_row events accesses.ordered (λ e has. (accesses.exact e).0 has)
+
+    pub access_number : (e : Event) → IsAccess s.program (mode_in s) (given_to s.chosen) e → HasNumber events e
+    access_number e h = number_of events e ((accesses.exact e).1 ((is_access e).0 h))
+
+  -- both writes of a chosen pair have numbers
+  pub chosen_numbers : (events : List Event) → (IsWhole s.program (mode_in s) s.chosen → AreAccesses thread_traces events) → (d e : Event) → Contains pairs (d, e) → HasNumber events d × HasNumber events e
+  chosen_numbers events all d e h =
+      let both = pair_accesses d e (kept.lawful.is_sketch.pairs d e h) in
+      let accesses = all (kept.lawful.whole d e (inr h)) in
+      (access_number events accesses d both.0, access_number events accesses e both.1)
+
+  -- so have two writes that are in order
+  pub ordered_numbers : (events : List Event) → (IsWhole s.program (mode_in s) s.chosen → AreAccesses thread_traces events) → (d e : Event) → IsOrdered s d e → HasNumber events d × HasNumber events e
+  ordered_numbers events all d e (inl h) = chosen_numbers events all d e h
+  ordered_numbers events all d e (inr h) = let numbers = chosen_numbers events all e d h in (numbers.1, numbers.0)
+
+  -- the row of an event has a number where a pair puts a write after the event
+  pub later_test : (events : List Event) (later : List ℕ) (d : ℕ) (x : Event) (b : Bool) → (IsWhole s.program (mode_in s) s.chosen → AreAccesses thread_traces events) → AreRowsOf events (λ d e. Contains pairs (d, e)) later →
+      slice_get events d ≡ Some x → (IsTrue b ↔ ((k : ℕ) × IsIn (slice_index later d) k)) → IsTrue b ↔ HasLater s x
+  later_test events later d x b all rows at test = (
+    λ t.
+        let (k, there) = test.0 t in
+        let (y, z, at_y, at_z, chosen) = (rows d k).0 there in
+        (z, subst (λ e. Contains pairs (e, z)) (same_Some y x (sym at_y ∙ at)) chosen),
+    λ (z, chosen).
+        let (k, at_k) = (chosen_numbers events all x z chosen).1 in
+        test.1 (k, (at_numbers events (λ d e. Contains pairs (d, e)) later d k x z rows at at_k).1 chosen),
+  )
+
+  -- an access that writes the location
+  write_at : (l : ℕ) (e : Event) → IsWriteAt thread_traces l e → IsWritten s l
+  write_at l (Initial m) (y, a, q, w) = absurd (cc)
+  write_at l (At t i) (y, a, q, w) =
+      let (v, r) = some_value y.written w in
+      (t, (i, (v, (y, sym (access_same (At t i) (slice_get_within _ i y a)) ∙ a, q, r))))
+
+  -- the row of a location's writes has a number where some access writes the location
+  pub written_test : (events : List Event) (row l : ℕ) (b : Bool) → AreAccesses thread_traces events → IsRowOf events (IsWriteAt thread_traces l) row → (IsTrue b ↔ ((k : ℕ) × IsIn row k)) → IsTrue b ↔ IsWritten s l
+  written_test events row l b accesses is_row test = (
+    λ h. (let (k, there) = test.0 h in let (x, at, write) = (is_row k).0 there in write_at l x write),
+    λ (t, (i, (v, w))).
+        let there = (is_access (At t i)).0 (slice_get_within _ i w.0 w.1) in
+        let (k, at) = number_of events (At t i) ((accesses.exact (At t i)).1 there) in
+        test.1 (k, (is_row k).1 (At t i, at, (w.0, access_same (At t i) there ∙ w.1, w.2, of_some w.0.written v w.3))),
+  )
+
+  -- an access outside the row of the writes is the last write of no location
+  pub never_last : (events : List Event) (row d : ℕ) (x : Event) → HasWrites thread_traces events row → IsOfThreads thread_traces x → slice_get events d ≡ Some x → (IsIn row d → ⊥) → (l v : ℕ) → IsLastWith s l v x → ⊥
+  never_last events row d x holds own at none l v last =
+      let w = last.0 in
+      none (holds l d x at (w.0, access_same x own ∙ w.1, w.2, of_some w.0.written v w.3))
+
+  -- the numbered events are the accesses, once each read has its value
+  pub number_exact : (events : List Event) → AreAccesses thread_traces events → (e : Event) → Contains events e ↔ IsAccess s.program (mode_in s) (given_to s.chosen) e
+  number_exact events accesses e = (λ h. (is_access e).1 ((accesses.exact e).0 h), λ h. (accesses.exact e).1 ((is_access e).0 h))
+
+-- an event with a number is an access
+pub number_access : (thread_traces : List ThreadTrace) (events : List Event) → ((e : Event) → Contains events e → IsOfThreads thread_traces e) → (e : Event) → HasNumber events e → IsOfThreads thread_traces e
+number_access thread_traces events of_threads e h = of_threads e (contained events e h)
+
+pub number_own : (thread_traces : List ThreadTrace) (e : Event) → IsOfThreads thread_traces e → IsInitialWrite e → ⊥
+number_own thread_traces (Initial l) h i = h
+number_own thread_traces (At t j) h i = i

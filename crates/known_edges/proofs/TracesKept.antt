@@ -1,0 +1,62 @@
+-- The trace that is kept of each thread is the trace under its given values.
+use Rattle.std.proofs.Common.{◌≡◌, ℕ, ◌<◌, ◌≤◌, List, [], Some, None, slice_get, length, ap, ◌∙◌, subst, inl, inr, IsSome, arith}
+use Rattle.std.specs.Prelude.{unwrap_or, option_map}
+use Rattle.std.proofs.lemmas.Bool.{cases_lt}
+use Rattle.std.proofs.lemmas.Option.{slice_get-map}
+use Rattle.tso_program.specs.declared.listing.Listing.{Listing}
+use Rattle.tso_program.specs.Listings.{action, code_of, start_of}
+use Rattle.candidate_executions.specs.declared.event.Event.{Event}
+use Rattle.candidate_executions.specs.Traces.{trace, fenced_gaps}
+use Rattle.candidate_executions.specs.Sketches as sketches
+use Rattle.candidate_executions.proofs.Orders.Lists.{get_some}
+use Rattle.tso_machine.specs.declared.mode.Mode.{Mode}
+use Rattle.thread_traces.specs.declared.thread_trace.ThreadTrace.{ThreadTrace}
+use Rattle.tso_machine.specs.Modes.{machine_of_mode}
+use Rattle.known_edges.specs.ProgramSketches.{ProgramSketch, trace_in}
+use Rattle.known_edges.specs.Kept.{given_in, view_of, KeepsTraces}
+use Rattle.known_edges.specs.Sizes.{HaveAllRegisters}
+use Rattle.thread_traces.proofs.TracesKept.{past_end, no_code, no_action}
+
+module _ (p : Listing) (mode : Mode) (thread_traces : List ThreadTrace) (sources pairs : List (Event × Event)) (kept : KeepsTraces p mode thread_traces sources pairs) where
+  abbrev s : ProgramSketch
+  s = view_of p mode thread_traces sources pairs
+
+  pub trace_given : (t : ℕ) (c : ThreadTrace) → slice_get thread_traces t ≡ Some c → given_in thread_traces t ≡ c.given
+  trace_given t c e = ap (λ o. unwrap_or o []) (slice_get-map (λ (x : ThreadTrace). x.given) thread_traces t ∙ ap (option_map (λ (x : ThreadTrace). x.given)) e)
+
+  pub trace_accesses : (t : ℕ) (c : ThreadTrace) → slice_get thread_traces t ≡ Some c → (trace_in s t).accesses ≡ c.accesses
+  trace_accesses t c e =
+      ap (λ given. (trace (action p.threads t) (fenced_gaps (machine_of_mode p mode) t) (length (code_of p.threads t)) 0 (start_of p.threads t) given).accesses) (trace_given t c e)
+      ∙ (kept.traces_are t c e).accesses
+
+  pub trace_last : (t : ℕ) (c : ThreadTrace) → slice_get thread_traces t ≡ Some c → (trace_in s t).last ≡ c.last
+  trace_last t c e =
+      ap (λ given. (trace (action p.threads t) (fenced_gaps (machine_of_mode p mode) t) (length (code_of p.threads t)) 0 (start_of p.threads t) given).last) (trace_given t c e)
+      ∙ (kept.traces_are t c e).last
+
+  pub no_trace : (t : ℕ) → slice_get thread_traces t ≡ None → length p.threads ≤ t
+  no_trace t e = let h = past_end thread_traces t e in let same = kept.one_each in omega arith
+
+  pub no_accesses : (t : ℕ) → slice_get thread_traces t ≡ None → (trace_in s t).accesses ≡ []
+  no_accesses t e =
+      ap (λ code. (trace (action p.threads t) (fenced_gaps (machine_of_mode p mode) t) (length code) 0 (start_of p.threads t) (given_in thread_traces t)).accesses)
+      (no_code p.threads t (no_trace t e))
+
+  pub trace_next : (t : ℕ) (c : ThreadTrace) → slice_get thread_traces t ≡ Some c →
+      sketches.next_read p (machine_of_mode p mode) s.chosen t ≡ sketches.read_by (action p.threads t c.last)
+  trace_next t c e = ap (λ l. sketches.read_by (action p.threads t l)) (trace_last t c e)
+
+  pub past_next : (t : ℕ) → length p.threads ≤ t → sketches.next_read p (machine_of_mode p mode) s.chosen t ≡ None
+  past_next t h = ap sketches.read_by (no_action p.threads t (trace_in s t).last h)
+
+  -- a thread with a next read is there
+  pub reads_there : (t : ℕ) → IsSome (sketches.next_read p (machine_of_mode p mode) s.chosen t) → t < length thread_traces
+  reads_there t some = elim (cases_lt t (length thread_traces)) [
+    | inl h ↦ h
+    | inr h ↦ (let same = kept.one_each in
+        let none : IsSome {T = ℕ} None = subst (λ o. IsSome o) (past_next t (omega arith)) some in absurd (cc))
+  ]
+
+  -- each thread has six registers
+  pub six_registers : HaveAllRegisters p.threads
+  six_registers t h = (let same = kept.one_each in let (c, at) = get_some thread_traces t (omega arith) in (kept.traces_are t c at).registers)

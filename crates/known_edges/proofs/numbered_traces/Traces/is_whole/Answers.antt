@@ -1,0 +1,6 @@
+use Rattle.std.proofs.Common.{◌↔◌, IsTrue, subst}
+use Rattle.known_edges.specs.Rows.{NumberedTraces, EachEnds}
+use Rattle.known_edges.proofs.numbered_traces.Traces.is_whole.Goals as goal
+
+pub returns : goal.returns
+returns c = subst (λ (x : NumberedTraces). IsTrue c.self.inside.whole ↔ EachEnds x.thread_traces) c.self.view_is c.self.invariant.ends

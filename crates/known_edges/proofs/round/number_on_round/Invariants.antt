@@ -1,0 +1,10 @@
+use Rattle.std.proofs.Common.{◌<◌}
+use Rattle.bit_rows.specs.Rows.{IsIn}
+use Rattle.bit_rows.specs.declared.row.TheConstants.{ROW_BITS}
+use Rattle.known_edges.proofs.round.number_on_round.Given as goal
+
+abbrev pub invariant-loop-open : goal.invariant-loop-open
+invariant-loop-open l = (l.d < ROW_BITS) × IsIn l.row l.d
+
+abbrev pub decreases-loop-open : goal.decreases-loop-open
+decreases-loop-open l = l.open

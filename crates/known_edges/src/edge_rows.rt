@@ -1,0 +1,201 @@
+//! The known edges in rows, and what a choice adds to them.
+ghost use Rattle.std.specs.Prelude.{◌≡◌, ◌↔◌, ◌≤◌, [], ◌∷◌, ◌++◌, IsTrue, List, length};
+ghost use Rattle.bit_rows.specs.declared.row.TheConstants.{ROW_BITS};
+ghost use Rattle.tso_program.specs.declared.listing.Listing.{Listing};
+ghost use Rattle.candidate_executions.specs.declared.event.Event.{Event};
+ghost use Rattle.known_edges.specs.Kept.{view_of};
+ghost use Rattle.known_edges.specs.Choices.{MayRead, MayFollow};
+ghost use Rattle.known_edges.specs.Known.{HasCycle};
+ghost use Rattle.known_edges.specs.Rows.{rows_of, IsAlike, AreSourceRows, AreOrderRows, IsRepresented, ClosesOnce, ClosesTwice};
+
+use crate::access_rows::{if_far, if_fenced, readers_of, writes_after};
+use crate::numbered_traces::Traces;
+use bit_rows::{ROW_BITS, Relation, joined, minus, put_rows};
+use candidate_executions::{Event, Kind};
+use tso_machine::Mode;
+
+/// Between accesses by their numbers: the chosen orders, and the known edges of the mode's unions. The
+/// main one is Sequential in sequential mode, which has no other, and else Location.
+#[derive(Drop)]
+pub struct EdgeRows {
+    pub later: [u32; ROW_BITS],
+    pub main: Relation,
+    pub global: Relation,
+}
+
+/// The rows between which a read's source makes edges: the read's, the source's, and that of the writes
+/// after the source.
+#[derive(Drop)]
+pub(crate) struct SourceRows {
+    reader: u32,
+    written: u32,
+    after: u32,
+}
+
+/// The rows between which an order of two writes makes edges: the first's, the second's, that of the
+/// reads that have the first as their source, and that of these and the first.
+#[derive(Drop)]
+pub(crate) struct OrderRows {
+    before: u32,
+    after: u32,
+    readers: u32,
+    earlier: u32,
+}
+
+impl EdgeRows {
+    /// The same rows.
+    pub fn copy(&self) -> EdgeRows
+        ensures { result ≡ self.now }
+    {
+        EdgeRows {
+            later: self.later,
+            main: self.main.copy(),
+            global: self.global.copy(),
+        }
+    }
+
+    /// The known edges of a union.
+    pub fn of_union(&self, kind: Kind) -> &Relation
+        ensures { result.now ≡ rows_of kind self.now.main self.now.global }
+    {
+        match kind {
+            Kind::Sequential | Kind::Location => &self.main,
+            Kind::Global => &self.global,
+        }
+    }
+
+    /// The rows between which a read's source makes edges.
+    fn rows_of_source(&self, traces: &Traces, read: Event, source: Event) -> SourceRows
+        requires few { length traces.now.events ≤ ROW_BITS }
+        requires alike { IsAlike traces.now.events self.now.later }
+        ensures { AreSourceRows traces.now.thread_traces traces.now.events self.now.later read source result }
+    {
+        let reader = traces.row_of(read);
+        let written = traces.row_of(source);
+        let after = writes_after(traces, &self.later, source, written);
+        SourceRows {
+            reader,
+            written,
+            after: minus(after, reader),
+        }
+    }
+
+    /// The edges of a read's source: from it to the read, and from the read to the writes after it. In the
+    /// global union it counts only where it is of another thread.
+    pub fn connect_source(&mut self, mode: &Mode, traces: &Traces, read: Event, source: Event)
+        requires few { length traces.now.events ≤ ROW_BITS }
+        requires alike { IsAlike traces.now.events self.old.later }
+        ensures { (p : Listing) (sources pairs : List (Event × Event)) → IsRepresented p mode.now traces.now.thread_traces traces.now.events sources pairs self.old.later self.old.main self.old.global
+            → MayRead (view_of p mode.now traces.now.thread_traces sources pairs) read source
+            → IsRepresented p mode.now traces.now.thread_traces traces.now.events (sources ++ (read, source) ∷ []) pairs self.new.later self.new.main self.new.global }
+    {
+        let rows = self.rows_of_source(traces, read, source);
+        self.main.connect(rows.written, rows.reader);
+        self.main.connect(rows.reader, rows.after);
+        let far = if_far(source, read, rows.written);
+        self.global.connect(if_fenced(*mode, far), rows.reader);
+        self.global
+            .connect(if_fenced(*mode, rows.reader), rows.after);
+    }
+
+    /// Whether a path of known edges would lead back to where it began if these edges were made.
+    pub fn closes_source(&self, mode: &Mode, traces: &Traces, read: Event, source: Event) -> bool
+        requires few { length traces.now.events ≤ ROW_BITS }
+        requires alike { IsAlike traces.now.events self.now.later }
+        ensures { (p : Listing) (sources pairs : List (Event × Event)) → IsRepresented p mode.now traces.now.thread_traces traces.now.events sources pairs self.now.later self.now.main self.now.global
+            → MayRead (view_of p mode.now traces.now.thread_traces sources pairs) read source
+            → IsTrue result ↔ HasCycle (view_of p mode.now traces.now.thread_traces (sources ++ (read, source) ∷ []) pairs) }
+    {
+        let rows = self.rows_of_source(traces, read, source);
+        let (reader, after) = (rows.reader, rows.after);
+        if self.main.closes_twice(rows.written, reader, reader, after) {
+            return true;
+        }
+        let far = if_far(source, read, rows.written);
+        self.global_closes_twice(mode, far, reader, after)
+    }
+
+    /// Whether the global union would have a path back to where it began if the first row were connected
+    /// to the second, and that to the third. Sequential mode has no global union.
+    fn global_closes_twice(&self, mode: &Mode, far: u32, reader: u32, after: u32) -> bool
+        ensures { ClosesTwice mode.now self.now.global far reader after result }
+    {
+        match mode {
+            Mode::Sequential => self.global.has_round(),
+            Mode::Fenced(_) => self.global.closes_twice(far, reader, reader, after),
+        }
+    }
+
+    /// The same if the first row were connected to the second.
+    fn global_closes(&self, mode: &Mode, from: u32, to: u32) -> bool
+        ensures { ClosesOnce mode.now self.now.global from to result }
+    {
+        match mode {
+            Mode::Sequential => self.global.has_round(),
+            Mode::Fenced(_) => self.global.closes(from, to),
+        }
+    }
+
+    /// The edges of an order of two writes: from the first, and from the reads that have it as their
+    /// source, to the second.
+    pub fn connect_order(
+        &mut self,
+        mode: &Mode,
+        traces: &Traces,
+        sources: &[(Event, Event)],
+        first: Event,
+        second: Event,
+    )
+        requires { length traces.now.events ≤ ROW_BITS }
+        ensures { (p : Listing) (pairs : List (Event × Event)) → IsRepresented p mode.now traces.now.thread_traces traces.now.events sources.now pairs self.old.later self.old.main self.old.global
+            → MayFollow (view_of p mode.now traces.now.thread_traces sources.now pairs) first second
+            → IsRepresented p mode.now traces.now.thread_traces traces.now.events sources.now (pairs ++ (first, second) ∷ []) self.new.later self.new.main self.new.global }
+    {
+        let rows = rows_of_order(traces, sources, first, second);
+        put_rows(&mut self.later, rows.before, rows.after);
+        self.main.connect(rows.earlier, rows.after);
+        self.global
+            .connect(if_fenced(*mode, rows.earlier), rows.after);
+    }
+
+    /// Whether a path of known edges would lead back to where it began if these edges were made.
+    pub fn closes_order(
+        &self,
+        mode: &Mode,
+        traces: &Traces,
+        sources: &[(Event, Event)],
+        first: Event,
+        second: Event,
+    ) -> bool
+        requires { length traces.now.events ≤ ROW_BITS }
+        ensures { (p : Listing) (pairs : List (Event × Event)) → IsRepresented p mode.now traces.now.thread_traces traces.now.events sources.now pairs self.now.later self.now.main self.now.global
+            → MayFollow (view_of p mode.now traces.now.thread_traces sources.now pairs) first second
+            → IsTrue result ↔ HasCycle (view_of p mode.now traces.now.thread_traces sources.now (pairs ++ (first, second) ∷ [])) }
+    {
+        let rows = rows_of_order(traces, sources, first, second);
+        if self.main.closes(rows.earlier, rows.after) {
+            return true;
+        }
+        self.global_closes(mode, rows.earlier, rows.after)
+    }
+}
+
+/// The rows between which an order of two writes makes edges.
+fn rows_of_order(
+    traces: &Traces,
+    sources: &[(Event, Event)],
+    first: Event,
+    second: Event,
+) -> OrderRows
+    requires { length traces.now.events ≤ ROW_BITS }
+    ensures { AreOrderRows traces.now.events sources.now first second result }
+{
+    let before = traces.row_of(first);
+    let readers = readers_of(sources, traces, first, second);
+    OrderRows {
+        before,
+        after: traces.row_of(second),
+        readers,
+        earlier: joined(before, readers),
+    }
+}

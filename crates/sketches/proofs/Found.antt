@@ -1,0 +1,19 @@
+-- Where a search for cycles begins and ends.
+use Rattle.std.proofs.Common.{List, Option, Some, None, IfSome, MatchOption, Vec, Global}
+use Rattle.candidate_executions.specs.declared.event.Event.{Event}
+use Rattle.candidate_executions.specs.declared.event.Kind.{Kind}
+use Rattle.known_edges.specs.ProgramSketches.{ProgramSketch}
+use Rattle.known_edges.specs.Kept.{IsLawful}
+use Rattle.sketches.specs.Cycles.{IsSimpleCycle}
+use Rattle.known_edges.specs.FewAccesses.{AreFewAccesses}
+use Rattle.known_edges.proofs.ChoicesCounted.{few_accesses}
+use Rattle.known_edges.proofs.Found.{cycle_of_accesses}
+
+-- a cycle with no event twice is short
+pub simple_few : (s : ProgramSketch) (kind : Kind) (es : List Event) → IsLawful s → IsSimpleCycle s kind es → AreFewAccesses s es
+simple_few s kind es lawful simple = few_accesses s lawful es simple.distinct (cycle_of_accesses s kind es lawful simple.cycle)
+
+pub some_few : (s : ProgramSketch) (found : Option (Kind × Vec Event Global)) (N : Type 0) → IsLawful s →
+    MatchOption found N (λ cycle. IsSimpleCycle s cycle.0 cycle.1.items) → IfSome found (λ cycle. AreFewAccesses s cycle.1.items)
+some_few s None N lawful h = tt
+some_few s (Some cycle) N lawful simple = simple_few s cycle.0 cycle.1.items lawful simple

@@ -1,0 +1,195 @@
+-- What is shown of the writes that may be the last of a location.
+use Rattle.std.proofs.Common.{◌≡◌, ◌↔◌, ◌⊎◌, ℕ, ◌<◌, Bool, true, false, IsTrue, List, [], ◌∷◌, ◌++◌, Option, Some, None, Contains, length, refl, sym, ap, ◌∙◌, subst, inl, inr, arith}
+use Rattle.std.specs.Prelude.{◌==◌, slice_index, slice_index_or, slice_set, IfSome}
+use Rattle.std.proofs.lemmas.Bool.{cases_eq}
+use Rattle.std.proofs.lemmas.List.{get_or-set_same, get_or-set_other, length-set}
+use Rattle.std.proofs.lemmas.List.Elements.{Contains-push, Contains-push_cases, Contains-append_left}
+use Rattle.std.proofs.lemmas.Option.{same_Some, slice_get_within}
+use Rattle.candidate_executions.proofs.Orders.Lists.{none_here}
+use Rattle.tso_program.specs.declared.limits.TheConstants.{MAX_LOCATIONS}
+use Rattle.tso_program.specs.declared.shown.Shown.{Shown}
+use Rattle.tso_program.specs.Shown.{shown_value}
+use Rattle.candidate_executions.specs.declared.access.Access.{Access}
+use Rattle.candidate_executions.specs.declared.event.Event.{Event}
+use Rattle.candidate_executions.specs.declared.event.Event.TheVariants.{Initial, Access as At}
+use Rattle.candidate_executions.specs.Candidates.{Writes}
+use Rattle.known_edges.specs.ProgramSketches.{ProgramSketch, mode_in, access_in}
+use Rattle.candidate_executions.specs.Sketches.{MayBeLast}
+use Rattle.known_edges.specs.Kept.{IsLawful}
+use Rattle.known_edges.specs.Writes.{IsLastWith, HasLater, IsWritten}
+use Rattle.sketches.specs.Endings.{MayEndBy, IsOwn, EndsSo, MayBe, MayBeBy, Differ, IsLastValue, AreLastValues}
+use Rattle.thread_traces.proofs.KnownParts.{yes, no}
+use Rattle.sketches.proofs.Ends.{last_by}
+
+-- one event writes one value to one location
+pub same_location : (s : ProgramSketch) (e : Event) (l m v w : ℕ) → Writes (access_in s) e l v → Writes (access_in s) e m w → l ≡ m
+same_location s e l m v w a b = sym a.2 ∙ ap (λ (z : Access). z.location) (same_Some a.0 b.0 (sym a.1 ∙ b.1)) ∙ b.2
+
+pub same_value : (s : ProgramSketch) (e : Event) (l m v w : ℕ) → Writes (access_in s) e l v → Writes (access_in s) e m w → v ≡ w
+same_value s e l m v w a b = same_Some v w (sym a.3 ∙ ap (λ (z : Access). z.written) (same_Some a.0 b.0 (sym a.1 ∙ b.1)) ∙ b.3)
+
+-- a write is an access, or the initial one
+own_or_initial : (s : ProgramSketch) (e : Event) (l v : ℕ) → Writes (access_in s) e l v → IsOwn s e ⊎ ((e ≡ Initial l) × (v ≡ slice_index s.program.memory l))
+own_or_initial s (At t i) l v w = inl (slice_get_within _ i w.0 w.1)
+own_or_initial s (Initial m) l v w =
+    let at : m ≡ l = same_location s (Initial m) m l (slice_index s.program.memory m) v (_, refl, refl, refl) w in
+    inr (ap Initial at, same_value s (Initial m) l m v (slice_index s.program.memory m) w (_, refl, refl, refl) ∙ ap (slice_index s.program.memory) at)
+
+own_apart : (s : ProgramSketch) (e : Event) (l : ℕ) → IsOwn s e → e ≡ Initial l → ⊥
+own_apart s (Initial m) l own q = own
+own_apart s (At t i) l own q = cc
+
+-- ---- the value that is kept for a location
+
+module _ (s : ProgramSketch) (shown : Shown) (l : ℕ) where
+  -- with no more events
+  last_same : (es : List Event) (x : Event) → ((v : ℕ) → IsLastWith s l v x → ⊥) → (o : Option ℕ) → IsLastValue s shown (Contains es) l o → IsLastValue s shown (Contains (es ++ x ∷ [])) l o
+  last_same es x other o before = by o before
+    where
+      old : (v : ℕ) → MayEndBy s (Contains (es ++ x ∷ [])) l v → MayEndBy s (Contains es) l v
+      old v (e, has, last) = elim (Contains-push_cases es x e has) [
+        | inl h ↦ (e, h, last)
+        | inr q ↦ absurd (other v (subst (IsLastWith s l v) (sym q) last))
+      ]
+
+      by : (o : Option ℕ) → IsLastValue s shown (Contains es) l o → IsLastValue s shown (Contains (es ++ x ∷ [])) l o
+      by None none = λ v may. none v (old v may)
+      by (Some u) ((w, (e, has, last)), each) = ((w, (e, Contains-append_left es (x ∷ []) e has, last)), λ v may. each v (old v may))
+
+  -- with one more
+  last_more : (es : List Event) (x : Event) (v : ℕ) → IsLastWith s l v x → (o : Option ℕ) → IfSome o (λ before. before ≡ shown_value shown l v) → IsLastValue s shown (Contains es) l o →
+      IsLastValue s shown (Contains (es ++ x ∷ [])) l (Some (shown_value shown l v))
+  last_more es x v is o alike before = (
+    (v, (x, Contains-push es x, is)),
+    λ w (e, has, last). elim (Contains-push_cases es x e has) [
+      | inl h ↦ old o alike before w (e, h, last)
+      | inr q ↦ ap (shown_value shown l) (same_value s x l l w v (subst (IsLastWith s l w) (sym q) last).0 is.0)
+    ],
+  )
+    where
+      old : (o : Option ℕ) → IfSome o (λ before. before ≡ shown_value shown l v) → IsLastValue s shown (Contains es) l o → (w : ℕ) → MayEndBy s (Contains es) l w → shown_value shown l w ≡ shown_value shown l v
+      old None alike none w may = absurd (none w may)
+      old (Some u) alike (there, each) w may = each w may ∙ alike
+
+  -- or with one of which something else is shown
+  last_differs : (es : List Event) (x : Event) (v : ℕ) → l < length s.program.memory → IsLastWith s l v x → (o : Option ℕ) → (IfSome o (λ before. before ≡ shown_value shown l v) → ⊥) →
+      IsLastValue s shown (Contains es) l o → Differ s shown
+  last_differs es x v h is None other none = absurd (other tt)
+  last_differs es x v h is (Some u) other ((w, (e, has, last)), each) = record {
+    location = l;
+    there = h;
+    first = w;
+    second = v;
+    first_ends = (e, last);
+    second_ends = (x, is);
+    differ = λ q. other (sym (each w (e, has, last)) ∙ q);
+  }
+
+  -- of all accesses
+  last_all : (es : List Event) → ((e : Event) → Contains es e ↔ IsOwn s e) → (o : Option ℕ) → IsLastValue s shown (Contains es) l o → IsLastValue s shown (IsOwn s) l o
+  last_all es exact None none = λ v (e, own, last). none v (e, (exact e).1 own, last)
+  last_all es exact (Some u) ((w, (e, has, last)), each) = ((w, (e, (exact e).0 has, last)), λ v (d, own, also). each v (d, (exact d).1 own, also))
+
+  -- no other write may be the last where an access may be
+  pub kept_end : (o : Option ℕ) (u : ℕ) → o ≡ Some u → IsLastValue s shown (IsOwn s) l o → EndsSo s shown l u
+  kept_end None u q none = absurd cc
+  kept_end (Some k) u q ((w, (d, own, last)), each) = λ v (e, may). elim (own_or_initial s e l v may.0) [
+    | inl here ↦ each v (e, here, may) ∙ same_Some k u q
+    | inr initial ↦ absurd (own_apart s d l own (may.1.only_initial initial.0 d w last.0))
+  ]
+
+  -- and where none may be, the initial write alone may be
+  pub initial_end : (o : Option ℕ) → o ≡ None → IsLastValue s shown (IsOwn s) l o → EndsSo s shown l (shown_value shown l (slice_index s.program.memory l))
+  initial_end (Some k) q there = absurd cc
+  initial_end None q none = λ v (e, may). elim (own_or_initial s e l v may.0) [
+    | inl own ↦ absurd (none v (e, own, may))
+    | inr initial ↦ ap (shown_value shown l) initial.1
+  ]
+
+  -- the value is the held one
+  pub kept_test : (o : Option ℕ) (u held : ℕ) (b : Bool) → o ≡ Some u → IsLastValue s shown (IsOwn s) l o → (IsTrue b ↔ (u ≡ held)) → IsTrue b ↔ EndsSo s shown l held
+  kept_test o u held b q last test = (
+    λ t v may. kept_end o u q last v may ∙ test.0 t,
+    λ ends. test.1 (go o q last ends),
+  )
+    where
+      go : (o : Option ℕ) → o ≡ Some u → IsLastValue s shown (IsOwn s) l o → EndsSo s shown l held → u ≡ held
+      go None q none ends = absurd cc
+      go (Some k) q ((w, (d, own, last)), each) ends = sym (same_Some k u q) ∙ sym (each w (d, own, last)) ∙ ends w (d, last)
+
+  -- the initial value is the held one
+  pub initial_ends : (o : Option ℕ) (held : ℕ) → o ≡ None → IsLastValue s shown (IsOwn s) l o → shown_value shown l (slice_index s.program.memory l) ≡ held → EndsSo s shown l held
+  initial_ends o held q last same = λ v may. initial_end o q last v may ∙ same
+
+  -- where it is not, an access writes the location, or the location does not end so
+  pub written_ends : (o : Option ℕ) (held : ℕ) (b : Bool) → IsLawful s → o ≡ None → IsLastValue s shown (IsOwn s) l o → (shown_value shown l (slice_index s.program.memory l) ≡ held → ⊥) →
+      (IsTrue b ↔ IsWritten s l) → IsTrue b ↔ EndsSo s shown l held
+  written_ends (Some k) held b lawful q there other test = absurd cc
+  written_ends None held true lawful q none other test = yes (EndsSo s shown l held) (λ v (e, may). elim (own_or_initial s e l v may.0) [
+    | inl own ↦ absurd (none v (e, own, may))
+    | inr initial ↦ (
+        let (t, h) = test.0 refl in
+        let (i, h2) = h in
+        let (w, writes) = h2 in
+        let same : At t i ≡ Initial l = may.1.only_initial initial.0 (At t i) w writes in
+        absurd cc)
+  ])
+  written_ends None held false lawful q none other test = no (EndsSo s shown l held)
+      (λ ends. other (ends (slice_index s.program.memory l) (Initial l, ((_, refl, refl, refl), (last_by s l (Initial l) false free refl test).0 refl))))
+    where
+      free : HasLater s (Initial l) → ⊥
+      free (d, h) =
+          let (differ, (m, v, w, first, second, not_first, not_second)) = lawful.is_sketch.pairs (Initial l) d h in
+          not_first (ap Initial (ap (λ (z : Access). z.location) (same_Some _ first.0 first.1) ∙ first.2))
+
+-- ---- the values that are kept for all locations
+
+module _ (s : ProgramSketch) (shown : Shown) where
+  pub values_same : (es : List Event) (x : Event) (values : List (Option ℕ)) → ((l v : ℕ) → l < length s.program.memory → IsLastWith s l v x → ⊥) →
+      AreLastValues s shown (Contains es) values → AreLastValues s shown (Contains (es ++ x ∷ [])) values
+  values_same es x values other before = record { long = before.long; each = λ l h. last_same s shown l es x (λ v. other l v h) (slice_index_or values l None) (before.each l h) }
+
+  pub values_more : (es : List Event) (x : Event) (l v : ℕ) (values : List (Option ℕ)) → l < MAX_LOCATIONS → IsLastWith s l v x → IfSome (slice_index_or values l None) (λ before. before ≡ shown_value shown l v) →
+      AreLastValues s shown (Contains es) values → AreLastValues s shown (Contains (es ++ x ∷ [])) (slice_set values l (Some (shown_value shown l v)))
+  values_more es x l v values few is alike before = record { long = length-set values l (Some (shown_value shown l v)) ∙ before.long; each = each }
+    where
+      each : (m : ℕ) → m < length s.program.memory → IsLastValue s shown (Contains (es ++ x ∷ [])) m (slice_index_or (slice_set values l (Some (shown_value shown l v))) m None)
+      each m h = elim (cases_eq m l) [
+        | inl q ↦ subst (λ n. IsLastValue s shown (Contains (es ++ x ∷ [])) n (slice_index_or (slice_set values l (Some (shown_value shown l v))) n None)) (sym q)
+            (subst (IsLastValue s shown (Contains (es ++ x ∷ [])) l) (sym (get_or-set_same values l (Some (shown_value shown l v)) None (let long = before.long in omega arith)))
+            (last_more s shown l es x v is (slice_index_or values l None) alike (before.each l (subst (λ n. n < length s.program.memory) q h))))
+        | inr n ↦ subst (IsLastValue s shown (Contains (es ++ x ∷ [])) m) (sym (get_or-set_other values l m (Some (shown_value shown l v)) None n))
+            (last_same s shown m es x (λ w last. n (same_location s x m l w v last.0 is.0)) (slice_index_or values m None) (before.each m h))
+      ]
+
+  pub values_differ : (es : List Event) (x : Event) (l v : ℕ) (values : List (Option ℕ)) → l < length s.program.memory → IsLastWith s l v x → (IfSome (slice_index_or values l None) (λ before. before ≡ shown_value shown l v) → ⊥) →
+      AreLastValues s shown (Contains es) values → Differ s shown
+  values_differ es x l v values h is other before = last_differs s shown l es x v h is (slice_index_or values l None) other (before.each l h)
+
+  pub values_all : (es : List Event) (values : List (Option ℕ)) → ((e : Event) → Contains es e ↔ IsOwn s e) → AreLastValues s shown (Contains es) values → AreLastValues s shown (IsOwn s) values
+  values_all es values exact before = record { long = before.long; each = λ l h. last_all s shown l es exact (slice_index_or values l None) (before.each l h) }
+
+-- ---- whether a location may end with a value, or with another
+
+module _ (s : ProgramSketch) (l v : ℕ) (is : Bool) where
+  -- none of no events does
+  pub none_does : MayBeBy s l v is (Contains []) → ⊥
+  none_does (e, has, does) = none_here e has
+
+  -- nor does one more that doesn't
+  pub no_more_does : (es : List Event) (x : Event) → (MayBeBy s l v is (Contains es) → ⊥) → ((w : ℕ) → IsLastWith s l w x → (w == v) ≡ is → ⊥) → MayBeBy s l v is (Contains (es ++ x ∷ [])) → ⊥
+  no_more_does es x none other (e, has, (w, last, so)) = elim (Contains-push_cases es x e has) [
+    | inl h ↦ none (e, h, (w, last, so))
+    | inr q ↦ other w (subst (IsLastWith s l w) (sym q) last) so
+  ]
+
+  -- where no access does, the initial write does or none
+  pub initial_does : (es : List Event) (b : Bool) → ((e : Event) → Contains es e ↔ IsOwn s e) → (MayBeBy s l v is (Contains es) → ⊥) →
+      (IsTrue b ↔ (((slice_index s.program.memory l == v) ≡ is) × MayBeLast s.program (mode_in s) s.chosen l (Initial l))) → IsTrue b ↔ MayBe s l v is
+  initial_does es b exact none test = (
+    λ t. (let (so, last) = test.0 t in (slice_index s.program.memory l, (Initial l, ((_, refl, refl, refl), last)), so)),
+    λ (w, (e, last), so). elim (own_or_initial s e l w last.0) [
+      | inl own ↦ absurd (none (e, (exact e).1 own, (w, last, so)))
+      | inr initial ↦ test.1 (sym (ap (λ (n : ℕ). n == v) initial.1) ∙ so, subst (MayBeLast s.program (mode_in s) s.chosen l) initial.0 last.1)
+    ],
+  )

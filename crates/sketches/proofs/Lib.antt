@@ -1,0 +1,13 @@
+pub mod ThreadValues
+pub mod Completed
+pub mod Cycles
+pub mod Walks
+pub mod Sources
+pub mod Found
+pub mod Ends
+pub mod LastValues
+pub mod RoundTrips
+pub mod LastWrites
+pub mod Completeness
+pub mod Known
+pub mod ValuesGiven

@@ -1,0 +1,8 @@
+use Rattle.std.proofs.Common.{◌≡◌, ℕ, ◌<◌, get_or}
+use Rattle.candidate_executions.specs.declared.event.Event.{Event}
+use Rattle.sketches.specs.Complete.{IsOrderedWith}
+use Rattle.sketches.proofs.complete.is_ordered_with_all.Given as goal
+
+-- the event is in order with each of those so far
+abbrev pub invariant-loop-other : goal.invariant-loop-other
+invariant-loop-other l = (k : ℕ) (e : Event) → k < l.other-index → get_or l.events k e ≡ e → IsOrderedWith l.sketch l.event e

@@ -1,0 +1,23 @@
+use Rattle.std.proofs.Common.{IsTrue, ◌↔◌, List, [], ◌∷◌, ◌++◌, sym, subst}
+use Rattle.std.specs.Arc.{arc_value}
+use Rattle.tso_program.specs.declared.listing.Listing.{Listing}
+use Rattle.candidate_executions.specs.declared.event.Event.{Event}
+use Rattle.candidate_executions.specs.Sketches.{with_pair}
+use Rattle.known_edges.specs.ProgramSketches.{ProgramSketch, with_chosen}
+use Rattle.known_edges.specs.Kept.{view_of}
+use Rattle.known_edges.specs.Choices.{MayFollow}
+use Rattle.known_edges.specs.Rows.{NumberedTraces, IsRepresented}
+use Rattle.known_edges.specs.Known.{HasCycle}
+use Rattle.sketches.proofs.sketch.Sketch.closes_order.Goals as goal
+
+pub returns : goal.returns
+returns c =
+    let may = subst (λ (s : ProgramSketch). MayFollow s c.args.first c.args.second) (sym c.self.view_is) c.requires in
+    let kept = subst (λ (t : NumberedTraces). (p : Listing) (pairs : List (Event × Event)) → IsRepresented p c.self.inside.mode t.thread_traces t.events c.as_slice-sources.result.now pairs c.self.inside.rows.later c.self.inside.rows.main c.self.inside.rows.global →
+    MayFollow (view_of p c.self.inside.mode t.thread_traces c.as_slice-sources.result.now pairs) c.args.first c.args.second →
+    IsTrue c.closes_order.result ↔ HasCycle (view_of p c.self.inside.mode t.thread_traces c.as_slice-sources.result.now (pairs ++ (c.args.first, c.args.second) ∷ []))) c.deref.ensures c.closes_order.ensures in
+    let closes = subst (λ (sources : List (Event × Event)). (p : Listing) (pairs : List (Event × Event)) → IsRepresented p c.self.inside.mode (arc_value c.self.inside.traces).thread_traces (arc_value c.self.inside.traces).events sources pairs c.self.inside.rows.later c.self.inside.rows.main c.self.inside.rows.global →
+    MayFollow (view_of p c.self.inside.mode (arc_value c.self.inside.traces).thread_traces sources pairs) c.args.first c.args.second →
+    IsTrue c.closes_order.result ↔ HasCycle (view_of p c.self.inside.mode (arc_value c.self.inside.traces).thread_traces sources (pairs ++ (c.args.first, c.args.second) ∷ []))) c.as_slice-sources.ensures.value kept in
+    subst (λ (s : ProgramSketch). IsTrue c.closes_order.result ↔ HasCycle (with_chosen s (with_pair s.chosen c.args.first c.args.second))) c.self.view_is
+    (closes c.self.inside.program c.self.inside.pairs.items c.self.invariant may)

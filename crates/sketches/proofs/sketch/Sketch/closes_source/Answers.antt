@@ -1,0 +1,19 @@
+use Rattle.std.proofs.Common.{IsTrue, ◌↔◌, List, [], ◌∷◌, ◌++◌, sym, subst}
+use Rattle.tso_program.specs.declared.listing.Listing.{Listing}
+use Rattle.candidate_executions.specs.declared.event.Event.{Event}
+use Rattle.candidate_executions.specs.Sketches.{with_source}
+use Rattle.known_edges.specs.ProgramSketches.{ProgramSketch, with_chosen}
+use Rattle.known_edges.specs.Kept.{view_of}
+use Rattle.known_edges.specs.Choices.{MayRead}
+use Rattle.known_edges.specs.Rows.{NumberedTraces, IsRepresented}
+use Rattle.known_edges.specs.Known.{HasCycle}
+use Rattle.sketches.proofs.sketch.Sketch.closes_source.Goals as goal
+
+pub returns : goal.returns
+returns c =
+    let may = subst (λ (s : ProgramSketch). MayRead s c.args.read c.args.source) (sym c.self.view_is) c.requires in
+    let closes = subst (λ (t : NumberedTraces). (p : Listing) (sources pairs : List (Event × Event)) → IsRepresented p c.self.inside.mode t.thread_traces t.events sources pairs c.self.inside.rows.later c.self.inside.rows.main c.self.inside.rows.global →
+    MayRead (view_of p c.self.inside.mode t.thread_traces sources pairs) c.args.read c.args.source →
+    IsTrue c.closes_source.result ↔ HasCycle (view_of p c.self.inside.mode t.thread_traces (sources ++ (c.args.read, c.args.source) ∷ []) pairs)) c.deref.ensures c.closes_source.ensures in
+    subst (λ (s : ProgramSketch). IsTrue c.closes_source.result ↔ HasCycle (with_chosen s (with_source s.chosen c.args.read c.args.source))) c.self.view_is
+    (closes c.self.inside.program c.self.inside.sources.items c.self.inside.pairs.items c.self.invariant may)

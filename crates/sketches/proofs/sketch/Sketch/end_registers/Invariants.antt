@@ -1,0 +1,11 @@
+use Rattle.std.proofs.Common.{◌≡◌, ℕ, ◌<◌, [], get_or, length}
+use Rattle.tso_program.specs.Shown.{shown_registers}
+use Rattle.known_edges.specs.ProgramSketches.{trace_in}
+use Rattle.sketches.proofs.sketch.Sketch.end_registers.Given as goal
+
+-- what is shown of the registers of the threads so far
+abbrev pub invariant-loop-t : goal.invariant-loop-t
+invariant-loop-t l = record {
+  many : length l.registers.items ≡ l.t;
+  each : (k : ℕ) → k < l.t → get_or l.registers.items k [] ≡ shown_registers l.shown k (trace_in l.self k).last.registers;
+}

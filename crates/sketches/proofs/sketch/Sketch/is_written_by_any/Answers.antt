@@ -1,0 +1,17 @@
+use Rattle.std.proofs.Common.{ap, length, arith}
+use Rattle.known_edges.specs.Writes.{IsWritten, IsWrittenBy}
+use Rattle.known_edges.proofs.Lookups.{each_index}
+use Rattle.thread_traces.proofs.KnownParts.{no, not_by}
+use Rattle.sketches.proofs.Ends.{thread_within}
+use Rattle.sketches.proofs.sketch.Sketch.is_written_by_any.Goals as goal
+
+pub loop-t-preserved : goal.loop-t-preserved
+loop-t-preserved c = each_index (λ t. IsWrittenBy c.args.self.now t c.args.location → ⊥) c.loop-t.t c.loop-t.invariant (not_by _ _ c.thread_writes.ensures c.if-thread_writes.false)
+
+pub returns : goal.returns
+returns c = no (IsWritten c.args.self.now c.args.location)
+    (λ h. (
+    let same = ap (λ s. length s.program.threads) c.self.view_is in
+    let threads = ap length c.threads.ensures.value in
+    let within = thread_within c.args.self.now h.0 c.args.location h.1 in
+    c.loop-t.invariant h.0 (omega arith) h.1))

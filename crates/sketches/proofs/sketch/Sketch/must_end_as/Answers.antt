@@ -1,0 +1,59 @@
+use Rattle.std.proofs.Common.{◌↔◌, Bool, Result, Ok, Err, IfOk, IsTrue, sym, subst}
+use Rattle.std.specs.Prelude.{OnErr}
+use Rattle.tso_program.specs.declared.shown.Shown.{Shown}
+use Rattle.tso_program.specs.declared.shown.Shown.TheVariants.{Truth}
+use Rattle.tso_program.specs.Shown.{ShowsValues}
+use Rattle.candidate_executions.specs.Sketches.{EndsAs, EndsInTruth}
+use Rattle.known_edges.specs.ProgramSketches.{ProgramSketch, mode_in}
+use Rattle.sketches.specs.Completions.{EndsOnlyAs}
+use Rattle.known_edges.specs.Kept.{IsLawful}
+use Rattle.sketches.proofs.Ends.{of_values, values_test, ends_only}
+use Rattle.sketches.proofs.Known.{only_if}
+use Rattle.sketches.proofs.sketch.Sketch.must_end_as.Goals as goal
+
+pub returns-in-All-clause-ends : goal.returns-in-All-clause-ends
+returns-in-All-clause-ends c =
+    let of : ShowsValues c.args.shown.now = subst ShowsValues (sym c.in-All.is) tt in
+    values_test c.args.self.now c.args.shown.now c.args.outcome.now c.ends_whole.result of c.ends_whole.ensures
+
+pub returns-in-All-clause-completions : goal.returns-in-All-clause-completions
+returns-in-All-clause-completions c = λ t.
+    let s = c.args.self.now in
+    let lawful = subst (λ (s : ProgramSketch). IsLawful s) c.self.view_is c.self.invariant.kept.lawful in
+    let of : ShowsValues c.args.shown.now = subst ShowsValues (sym c.in-All.is) tt in
+    ends_only s c.args.shown.now c.args.outcome.now lawful (of_values s c.args.shown.now c.args.outcome.now of (c.ends_whole.ensures.0 t))
+
+pub returns-in-Only-clause-ends : goal.returns-in-Only-clause-ends
+returns-in-Only-clause-ends c =
+    let of : ShowsValues c.args.shown.now = subst ShowsValues (sym c.in-Only.is) tt in
+    values_test c.args.self.now c.args.shown.now c.args.outcome.now c.ends_whole-in-Only.result of c.ends_whole-in-Only.ensures
+
+pub returns-in-Only-clause-completions : goal.returns-in-Only-clause-completions
+returns-in-Only-clause-completions c = λ t.
+    let s = c.args.self.now in
+    let lawful = subst (λ (s : ProgramSketch). IsLawful s) c.self.view_is c.self.invariant.kept.lawful in
+    let of : ShowsValues c.args.shown.now = subst ShowsValues (sym c.in-Only.is) tt in
+    ends_only s c.args.shown.now c.args.outcome.now lawful (of_values s c.args.shown.now c.args.outcome.now of (c.ends_whole-in-Only.ensures.0 t))
+
+pub returns-in-Truth-clause-ends : goal.returns-in-Truth-clause-ends
+returns-in-Truth-clause-ends c =
+    let s = c.args.self.now in
+    subst (λ (shown : Shown). IfOk c.ends_told.result (λ (ends : Bool). IsTrue ends ↔ EndsAs s.program (mode_in s) s.chosen shown c.args.outcome.now)) (sym c.in-Truth.is) c.ends_told.ensures
+
+pub returns-in-Truth-clause-completions : goal.returns-in-Truth-clause-completions
+returns-in-Truth-clause-completions c =
+    let s = c.args.self.now in
+    let o = c.args.outcome.now in
+    let f = c.in-Truth.formula in
+    let lawful = subst (λ (s : ProgramSketch). IsLawful s) c.self.view_is c.self.invariant.kept.lawful in
+    only_if (EndsInTruth s.program (mode_in s) s.chosen f o) (EndsOnlyAs s c.args.shown.now o) c.ends_told.result c.ends_told.ensures
+    (λ ends. subst (λ (shown : Shown). EndsOnlyAs s shown o) (sym c.in-Truth.is) (ends_only s (Truth f) o lawful ends))
+
+-- a formula is no value
+on_refusal : {E : Type 0} (P : Type 0) (r : Result Bool E) → P → OnErr r P
+on_refusal P (Ok b) p = tt
+on_refusal P (Err e) p = p
+
+pub returns-in-Truth-clause-refused : goal.returns-in-Truth-clause-refused
+returns-in-Truth-clause-refused c =
+    on_refusal (ShowsValues c.args.shown.now → ⊥) c.ends_told.result (λ values. let none : ⊥ = subst ShowsValues c.in-Truth.is values in none)

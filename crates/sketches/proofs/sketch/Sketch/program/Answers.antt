@@ -1,0 +1,15 @@
+use Rattle.std.proofs.Common.{subst}
+use Rattle.std.specs.Arc.{arc_value}
+use Rattle.known_edges.specs.ProgramSketches.{ProgramSketch}
+use Rattle.known_edges.specs.Kept.{IsLawful}
+use Rattle.known_edges.specs.Sizes.{HaveAllRegisters}
+use Rattle.known_edges.proofs.TracesKept.{six_registers}
+use Rattle.known_edges.proofs.ChoicesCounted.{choices_few}
+use Rattle.sketches.proofs.sketch.Sketch.program.Goals as goal
+
+pub returns-clause-few : goal.returns-clause-few
+returns-clause-few c = choices_few c.args.self.now (subst (λ (s : ProgramSketch). IsLawful s) c.self.view_is c.self.invariant.kept.lawful)
+
+pub returns-clause-registers : goal.returns-clause-registers
+returns-clause-registers c = subst (λ (s : ProgramSketch). HaveAllRegisters s.program.threads) c.self.view_is
+    (six_registers c.self.inside.program c.self.inside.mode (arc_value c.self.inside.traces).thread_traces c.self.inside.sources.items c.self.inside.pairs.items c.self.invariant.kept)

@@ -1,0 +1,8 @@
+use Rattle.std.proofs.Common.{ℕ, ◌<◌}
+use Rattle.candidate_executions.specs.declared.event.Event.TheVariants.{Access as At}
+use Rattle.known_edges.specs.Writes.{WritesTo}
+use Rattle.sketches.proofs.sketch.Sketch.thread_writes.Given as goal
+
+-- none of the accesses so far writes the location
+abbrev pub invariant-loop-i : goal.invariant-loop-i
+invariant-loop-i l = (k : ℕ) → k < l.i → WritesTo l.self (At l.t k) l.location → ⊥

@@ -1,0 +1,23 @@
+use Rattle.std.proofs.Common.{◌≡◌, ◌∙◌, sym, subst}
+use Rattle.candidate_executions.specs.Sketches as sketches
+use Rattle.known_edges.specs.ProgramSketches.{with_chosen}
+use Rattle.sketches.specs.ValueSketches.{MarkedThread, IsValueMarkOf}
+use Rattle.sketches.proofs.ValuesGiven.{back_kept, back_parts}
+use Rattle.sketches.proofs.value_sketch.ValueSketch.take_back.Goals as goal
+
+pub invariant_of-self : goal.invariant_of-self
+invariant_of-self c =
+    let (earlier, value, is, now) = c.requires in
+    let own = subst (λ (m : MarkedThread). IsValueMarkOf m earlier) (sym c.mark.view_is) is in
+    let same = c.self.view_is ∙ subst (λ (m : MarkedThread). c.args.self.now ≡ with_chosen earlier (sketches.with_value earlier.chosen m.thread value)) (sym c.mark.view_is) now in
+    record {
+      kept = back_kept c.self.inside.base.program c.self.inside.base.mode c.self.inside.thread_traces.items c.self.invariant.kept (record { thread = c.mark.inside.thread; trace = c.mark.inside.trace }) earlier value own same;
+      lists_are = c.self.invariant.lists_are;
+      known_are = c.self.invariant.known_are;
+    }
+
+pub returns : goal.returns
+returns c earlier value is now =
+    let own = subst (λ (m : MarkedThread). IsValueMarkOf m earlier) (sym c.mark.view_is) is in
+    let same = c.self.view_is ∙ subst (λ (m : MarkedThread). c.args.self.now ≡ with_chosen earlier (sketches.with_value earlier.chosen m.thread value)) (sym c.mark.view_is) now in
+    back_parts c.self.inside.base.program c.self.inside.base.mode c.self.inside.thread_traces.items c.self.invariant.kept (record { thread = c.mark.inside.thread; trace = c.mark.inside.trace }) earlier value own same

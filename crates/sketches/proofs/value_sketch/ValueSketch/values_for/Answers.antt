@@ -1,0 +1,35 @@
+use Rattle.std.proofs.Common.{◌≡◌, ◌∙◌, ◌↔◌, ◌<◌, ℕ, List, Contains, length, get_or, refl, sym, ap, subst, arith}
+use Rattle.std.proofs.lemmas.Option.{slice_get_read}
+use Rattle.std.specs.Prelude.{Result, Ok, Err, IfOk}
+use Rattle.std.specs.List.Sorted.{IsStrictlyIncreasing}
+use Rattle.tso_program.specs.declared.listing.Listing.{Listing}
+use Rattle.candidate_executions.specs.Values.{IsValueOf}
+use Rattle.known_edges.specs.ProgramSketches.{ProgramSketch}
+use Rattle.thread_traces.specs.ValueLists.{AreValueLists, IsValueList}
+use Rattle.sketches.proofs.value_sketch.ValueSketch.values_for.Goals as goal
+
+-- what holds of a list holds of an equal one that is handed out
+handed : {E : Type 0} (r : Result (List ℕ) E) (values : List ℕ) (P : List ℕ → Type 0) → IfOk r (λ other. other ≡ values) → P values → IfOk r P
+handed (Ok other) values P same is = subst P (sym same) is
+handed (Err e) values P same is = tt
+
+-- the list of a location
+listed : (p q : Listing) (lists : List (List ℕ)) (location : ℕ) (values : List ℕ) → p ≡ q → AreValueLists p lists → location < length q.memory → values ≡ get_or lists location values → IsValueList q location values
+listed p q lists location values same are there at =
+    let many : length lists ≡ length q.memory = are.one_each ∙ ap (λ (x : Listing). length x.memory) same in
+    let here : location < length lists = omega arith in
+    subst (λ (x : Listing). IsValueList x location values) same (are.each location values (slice_get_read lists (length lists) location values refl here at))
+
+pub returns-clause-exact : goal.returns-clause-exact
+returns-clause-exact c =
+    let values = c.index-lists-location.result in
+    let at = subst (λ (ls : List (List ℕ)). values ≡ get_or ls c.args.location values) c.as_slice-lists.ensures.value c.index-lists-location.is in
+    let is = listed c.self.inside.base.program c.args.self.now.program c.self.inside.values.items c.args.location values (ap (λ (s : ProgramSketch). s.program) c.self.view_is) c.self.invariant.lists_are c.requires at in
+    handed c.copy.result values (λ others. (v : ℕ) → Contains others v ↔ IsValueOf c.args.self.now.program c.args.location v) c.copy.ensures is.exact
+
+pub returns-clause-ascending : goal.returns-clause-ascending
+returns-clause-ascending c =
+    let values = c.index-lists-location.result in
+    let at = subst (λ (ls : List (List ℕ)). values ≡ get_or ls c.args.location values) c.as_slice-lists.ensures.value c.index-lists-location.is in
+    let is = listed c.self.inside.base.program c.args.self.now.program c.self.inside.values.items c.args.location values (ap (λ (s : ProgramSketch). s.program) c.self.view_is) c.self.invariant.lists_are c.requires at in
+    handed c.copy.result values IsStrictlyIncreasing c.copy.ensures is.ascending

@@ -1,0 +1,64 @@
+-- The parts of how a sketch must end.
+use Rattle.std.specs.Prelude.{◌≡◌, ◌==◌, ℕ, ◌<◌, Bool, List, Option, None, MatchOption, length, map, slice_index, slice_index_or}
+use Rattle.std.specs.List.{range_with_len}
+use Rattle.tso_program.specs.declared.limits.TheConstants.{MAX_LOCATIONS}
+use Rattle.tso_program.specs.declared.shown.Shown.{Shown}
+use Rattle.tso_program.specs.Shown.{shown_value}
+use Rattle.candidate_executions.specs.declared.event.Event.{Event}
+use Rattle.candidate_executions.specs.Candidates.{IsAccess}
+use Rattle.candidate_executions.specs.Sketches.{given_to}
+use Rattle.known_edges.specs.ProgramSketches.{ProgramSketch, mode_in, trace_in}
+use Rattle.known_edges.specs.Writes.{IsLastWith}
+
+-- the registers where the threads stop
+abbrev pub final_registers : ProgramSketch → List (List ℕ)
+final_registers s = map (λ t. (trace_in s t).last.registers) (range_with_len 0 (length s.program.threads))
+
+-- a write that may be the last of the location writes the value
+abbrev pub MayEndWith : ProgramSketch → ℕ → ℕ → Type 0
+MayEndWith s l v = (e : Event) × IsLastWith s l v e
+
+-- the same of a write of which P holds
+abbrev pub MayEndBy : ProgramSketch → (Event → Type 0) → ℕ → ℕ → Type 0
+MayEndBy s P l v = (e : Event) × P e × IsLastWith s l v e
+
+-- an access of the sketch
+abbrev pub IsOwn : ProgramSketch → Event → Type 0
+IsOwn s e = IsAccess s.program (mode_in s) (given_to s.chosen) e
+
+-- the held value is shown of each write that may be the last of the location
+abbrev pub EndsSo : ProgramSketch → Shown → ℕ → ℕ → Type 0
+EndsSo s shown l held = (v : ℕ) → MayEndWith s l v → shown_value shown l v ≡ held
+
+-- the memory has these values
+pub record HasEnds (s : ProgramSketch) (shown : Shown) (memory : List ℕ) : Type 0 where
+  pub long : length memory ≡ length s.program.memory
+  pub each : (l : ℕ) → l < length memory → EndsSo s shown l (slice_index memory l)
+
+-- a write that may be the last of the location writes a value that is this one, or is not
+abbrev pub MayBe : ProgramSketch → ℕ → ℕ → Bool → Type 0
+MayBe s l v is = (w : ℕ) × MayEndWith s l w × ((w == v) ≡ is)
+
+-- the same of a write of which P holds
+abbrev pub MayBeBy : ProgramSketch → ℕ → ℕ → Bool → (Event → Type 0) → Type 0
+MayBeBy s l v is P = (e : Event) × P e × ((w : ℕ) × IsLastWith s l w e × ((w == v) ≡ is))
+
+-- two writes that may be the last of a location have values that are not shown alike
+pub record Differ (s : ProgramSketch) (shown : Shown) : Type 0 where
+  pub location : ℕ
+  pub there : location < length s.program.memory
+  pub first : ℕ
+  pub second : ℕ
+  pub first_ends : MayEndWith s location first
+  pub second_ends : MayEndWith s location second
+  pub differ : shown_value shown location first ≡ shown_value shown location second → ⊥
+
+-- what is shown of the writes of which P holds and that may be the last of the location, if there are any
+abbrev pub IsLastValue : ProgramSketch → Shown → (Event → Type 0) → ℕ → Option ℕ → Type 0
+IsLastValue s shown P l last = MatchOption last ((v : ℕ) → MayEndBy s P l v → ⊥)
+    (λ u. ((v : ℕ) × MayEndBy s P l v) × ((v : ℕ) → MayEndBy s P l v → shown_value shown l v ≡ u))
+
+-- the same for each location
+pub record AreLastValues (s : ProgramSketch) (shown : Shown) (P : Event → Type 0) (values : List (Option ℕ)) : Type 0 where
+  pub long : length values ≡ MAX_LOCATIONS
+  pub each : (l : ℕ) → l < length s.program.memory → IsLastValue s shown P l (slice_index_or values l None)

@@ -1,0 +1,9 @@
+pub mod Completions
+pub mod Complete
+pub mod Cycles
+pub mod Endings
+pub mod Marks
+pub mod ThreadValues
+pub mod Knowledge
+pub mod ValueSketches
+pub mod Internal

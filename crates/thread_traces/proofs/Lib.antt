@@ -1,0 +1,11 @@
+pub mod TraceSteps
+pub mod TracesKept
+pub mod KnownParts
+pub mod Walks
+pub mod Accesses
+pub mod Gathered
+pub mod KnownValues
+pub mod AccessesCounted
+pub mod EventsCounted
+pub mod ThreadRows
+pub mod ValuesGiven

@@ -1,0 +1,23 @@
+-- A thread that is not there has no code.
+use Rattle.std.proofs.Common.{◌≡◌, ℕ, zero, suc, ◌≤◌, List, [], ◌∷◌, None, slice_get, length, ap, arith}
+use Rattle.std.specs.Option.{option_map_or}
+use Rattle.std.proofs.lemmas.Option.{slice_get_past}
+use Rattle.tso_program.specs.declared.listing.Thread.{Thread}
+use Rattle.tso_program.specs.declared.action.Local.{Local}
+use Rattle.tso_program.specs.declared.action.Action.TheVariants.{Stop}
+use Rattle.tso_program.specs.Listings.{action, code_of}
+use Rattle.tso_program.specs.Actions.{act}
+
+-- nothing stands past the end
+pub past_end : {A : Type 0} (xs : List A) (i : ℕ) → slice_get xs i ≡ None → length xs ≤ i
+past_end [] i e = omega arith
+past_end (x ∷ xs) zero e = absurd cc
+past_end (x ∷ xs) (suc i) e = let h = past_end xs i e in omega arith
+
+-- a thread that is not there has no code
+pub no_code : (threads : List Thread) (t : ℕ) → length threads ≤ t → code_of threads t ≡ []
+no_code threads t h = ap (λ o. option_map_or (λ (x : Thread). x.code) o []) (slice_get_past threads t h)
+
+-- and stands still
+pub no_action : (threads : List Thread) (t : ℕ) (s : Local) → length threads ≤ t → action threads t s ≡ Stop
+no_action threads t s h = ap (λ code. act (slice_get code s.place) s) (no_code threads t h)

@@ -1,0 +1,6 @@
+use Rattle.std.proofs.Common.{◌≡◌, None, All}
+use Rattle.thread_traces.proofs.known_traces.empty_places.Given as goal
+
+-- the places so far are empty
+abbrev pub invariant-loop : goal.invariant-loop
+invariant-loop l = All (λ place. place ≡ None) l.known.items

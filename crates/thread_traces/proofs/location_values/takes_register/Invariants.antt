@@ -1,0 +1,9 @@
+use Rattle.std.proofs.Common.{◌≡◌, ℕ, ◌<◌, Some}
+use Rattle.tso_program.specs.declared.instruction.Instr.{Instr}
+use Rattle.tso_program.specs.Listings.{instr_at}
+use Rattle.thread_traces.specs.Immediates.{StoresRegister}
+use Rattle.thread_traces.proofs.location_values.takes_register.Given as goal
+
+-- none of the threads so far stores a register there
+abbrev pub invariant-loop-thread : goal.invariant-loop-thread
+invariant-loop-thread l = (t k : ℕ) (x : Instr) → t < l.thread-index → instr_at l.threads t k ≡ Some x → StoresRegister l.location x → ⊥

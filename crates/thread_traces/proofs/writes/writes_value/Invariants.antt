@@ -1,0 +1,7 @@
+use Rattle.std.proofs.Common.{◌≡◌, ◌<◌, ℕ, Some, slice_get}
+use Rattle.candidate_executions.specs.declared.access.Access.{Access}
+use Rattle.thread_traces.proofs.writes.writes_value.Given as goal
+
+-- none of the accesses so far writes the value to the location
+abbrev pub invariant-loop-access : goal.invariant-loop-access
+invariant-loop-access l = (i : ℕ) (x : Access) → i < l.access-index → slice_get l.accesses i ≡ Some x → x.location ≡ l.location → x.written ≡ Some l.value → ⊥

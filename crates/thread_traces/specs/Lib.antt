@@ -1,0 +1,6 @@
+pub mod ThreadTraces
+pub mod ThreadOrder
+pub mod WriteBits
+pub mod Immediates
+pub mod ValueLists
+pub mod KnownTraces

@@ -1,0 +1,29 @@
+//! What a thread does under given values: its trace, and the order of its accesses.
+//!
+//! A thread is walked until a read lacks a value. Its trace has its accesses with their sections, its state where
+//! it stops, and in rows of bits the program order that each union keeps. Also here: which values a location may
+//! hold.
+//!
+//! Begin with `thread_trace_of` and `SharedTrace`. Free to change: what is kept beside a trace, which bits stand
+//! for what a thread writes (`write_bits.rt`), and which traces are known again and where (`known_traces.rt`).
+//! Relied on: a trace is that of the definitions, its rows have just the kept program order, a value that is
+//! written has its bit, and the values of a location are all that it may hold, ascending.
+#![tactic(auto)]
+
+mod known_traces;
+mod location_values;
+mod sections;
+mod shared_values;
+mod thread_order;
+mod thread_trace;
+mod walk;
+mod write_bits;
+mod writes;
+
+pub use known_traces::{KnownTrace, keep_trace, known_after, values_number};
+pub use location_values::values_of;
+pub use shared_values::{SharedValues, value_lists};
+pub use thread_order::is_kept_by;
+pub use thread_trace::{SharedTrace, ThreadTrace, thread_trace_at};
+pub use walk::thread_trace_of;
+pub use writes::{is_value, is_write_to, writes_any};
