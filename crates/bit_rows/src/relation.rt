@@ -1,6 +1,6 @@
 //! Relations, and what they lead to.
 ghost use Rattle.std.specs.Prelude.{◌≡◌, ◌↔◌, ◌⊎◌, ◌<◌, ◌≤◌, ℕ, List, IsTrue, MatchOption, length};
-ghost use Rattle.bit_rows.specs.Rows.{IsIn, Relates, Reaches, LeadsInto, Meets, AreConnected, HasRound, IsTransitive};
+ghost use Rattle.bit_rows.specs.Rows.{IsIn, RowHas, Reaches, LeadsInto, Meets, AreConnected, HasRound, IsTransitive};
 ghost use Rattle.bit_rows.specs.declared.row.TheConstants.{ROW_BITS};
 
 use crate::row::{ROW_BITS, common, has, has_any, joined, lowest, meets, with, without};
@@ -29,7 +29,7 @@ impl Model for Relation {
 impl Relation {
     /// No number is related to any.
     pub fn empty() -> Relation
-        ensures { (d e : ℕ) → Relates result d e → ⊥ }
+        ensures { (d e : ℕ) → RowHas result d e → ⊥ }
     {
         Relation {
             next: [0; ROW_BITS],
@@ -41,7 +41,7 @@ impl Relation {
     /// The order with these rows: what a number leads to is what it is related to.
     pub fn of_order(rows: [u32; ROW_BITS]) -> Relation
         requires transitive { IsTransitive rows }
-        requires irreflexive { (d : ℕ) → Relates rows d d → ⊥ }
+        requires irreflexive { (d : ℕ) → RowHas rows d d → ⊥ }
         ensures { result ≡ rows }
     {
         Relation {
@@ -66,7 +66,7 @@ impl Relation {
     pub fn has(&self, d: u8, e: u8) -> bool
         requires from { d < ROW_BITS }
         requires to { e < ROW_BITS }
-        ensures { IsTrue result ↔ Relates self.now d e }
+        ensures { IsTrue result ↔ RowHas self.now d e }
     {
         has(self.next[d as usize], e)
     }
@@ -74,7 +74,7 @@ impl Relation {
     /// The numbers to which d is related.
     pub fn row(&self, d: u8) -> u32
         requires { d < ROW_BITS }
-        ensures { (e : ℕ) → IsIn result e ↔ Relates self.now d e }
+        ensures { (e : ℕ) → IsIn result e ↔ RowHas self.now d e }
     {
         self.next[d as usize]
     }
@@ -87,7 +87,7 @@ impl Relation {
         self.reach[d as usize]
     }
 
-    /// Relates each number of the first row to each of the second.
+    /// RowHas each number of the first row to each of the second.
     pub fn connect(&mut self, from: u32, to: u32)
         ensures { AreConnected self.old from to self.new }
     {
@@ -170,8 +170,8 @@ pub fn put_rows(next: &mut [u32], from: u32, to: u32)
 /// leads to one of these.
 fn put_reach(reach: &mut [u32], from: u32, beyond: u32)
     requires { length reach.old ≡ ROW_BITS }
-    ensures { (d e : ℕ) → Relates reach.new d e
-        ↔ (Relates reach.old d e ⊎ ((IsIn from d ⊎ Meets reach.old d from) × IsIn beyond e)) }
+    ensures { (d e : ℕ) → RowHas reach.new d e
+        ↔ (RowHas reach.old d e ⊎ ((IsIn from d ⊎ Meets reach.old d from) × IsIn beyond e)) }
 {
     for d in 0..ROW_BITS as u8 {
         let row = reach[d as usize];

@@ -5,18 +5,18 @@ use Rattle.known_edges.specs.ProgramSketches.{ProgramSketch, with_chosen}
 use Rattle.cover_judge.specs.declared.choice.Choice.{Choice}
 use Rattle.cover_judge.specs.Choices.{sketch_with}
 use Rattle.branching.specs.declared.traces.TraceTree.{TraceTree}
-use Rattle.branching.specs.Traces.{Traces, traces, trees_of, root, IsTraceTree, AreTraceTrees}
+use Rattle.branching.specs.Traces.{Traces, traces, trace_trees, root, IsTraceTree, AreTraceTrees}
 
 module _ (t : ℕ) (s : ProgramSketch) where
   -- as many trees as choices
-  pub as_many_trees : (ts : List Traces) (cs : List Choice) → AreTraceTrees t s (trees_of ts) cs → length ts ≡ length cs
+  pub as_many_trees : (ts : List Traces) (cs : List Choice) → AreTraceTrees t s (trace_trees ts) cs → length ts ≡ length cs
   as_many_trees [] [] are = refl
   as_many_trees [] (c ∷ cs) are = absurd are
   as_many_trees (x ∷ ts) [] are = absurd are
   as_many_trees (x ∷ ts) (c ∷ cs) are = ap suc (as_many_trees ts cs are.2)
 
   -- each at the sketch after its choice
-  pub each_tree : (ts : List Traces) (cs : List Choice) → AreTraceTrees t s (trees_of ts) cs → (i : ℕ) (d : Traces) (e : Choice) → i < length ts →
+  pub each_tree : (ts : List Traces) (cs : List Choice) → AreTraceTrees t s (trace_trees ts) cs → (i : ℕ) (d : Traces) (e : Choice) → i < length ts →
       (root (get_or ts i d) ≡ with_chosen s (sketch_with s.chosen (get_or cs i e))) × IsTraceTree t (get_or ts i d)
   each_tree [] cs are i d e h = absurd (omega arith)
   each_tree (x ∷ ts) [] are i d e h = absurd are
@@ -24,8 +24,8 @@ module _ (t : ℕ) (s : ProgramSketch) where
   each_tree (x ∷ ts) (c ∷ cs) are (suc i) d e h = each_tree ts cs are.2 i d e (omega arith)
 
   -- one more
-  pub one_more_tree : (ts : List Traces) (cs : List Choice) (x : Traces) (c : Choice) → AreTraceTrees t s (trees_of ts) cs → root x ≡ with_chosen s (sketch_with s.chosen c) → IsTraceTree t x →
-      AreTraceTrees t s (trees_of (ts ++ x ∷ [])) (cs ++ c ∷ [])
+  pub one_more_tree : (ts : List Traces) (cs : List Choice) (x : Traces) (c : Choice) → AreTraceTrees t s (trace_trees ts) cs → root x ≡ with_chosen s (sketch_with s.chosen c) → IsTraceTree t x →
+      AreTraceTrees t s (trace_trees (ts ++ x ∷ [])) (cs ++ c ∷ [])
   one_more_tree [] [] x c are at is = (at, is, tt)
   one_more_tree [] (d ∷ cs) x c are at is = absurd are
   one_more_tree (y ∷ ts) [] x c are at is = absurd are
@@ -38,7 +38,7 @@ get_mapped f (x ∷ xs) zero d e h = refl
 get_mapped f (x ∷ xs) (suc i) d e h = get_mapped f xs i d e (omega arith)
 
 -- a child in memory
-pub child_tree : (t : ℕ) (u : ProgramSketch) (choices : List Choice) (after : List TraceTree) → AreTraceTrees t u (trees_of (map traces after)) choices → (i : ℕ) (item : TraceTree) (d : Choice) →
+pub child_tree : (t : ℕ) (u : ProgramSketch) (choices : List Choice) (after : List TraceTree) → AreTraceTrees t u (trace_trees (map traces after)) choices → (i : ℕ) (item : TraceTree) (d : Choice) →
     i < length after → item ≡ get_or after i item → (root (traces item) ≡ with_chosen u (sketch_with u.chosen (get_or choices i d))) × IsTraceTree t (traces item)
 child_tree t u choices after are i item d h at =
     let many = length-map after traces in
@@ -48,8 +48,8 @@ child_tree t u choices after are i item d h at =
 
 -- one child more in memory
 pub child_more : (t : ℕ) (u : ProgramSketch) (choices : List Choice) (after more : List TraceTree) (i : ℕ) (d : Choice) (item : TraceTree) → i < length choices → more ≡ after ++ item ∷ [] →
-    AreTraceTrees t u (trees_of (map traces after)) (take i choices) → root (traces item) ≡ with_chosen u (sketch_with u.chosen (get_or choices i d)) → IsTraceTree t (traces item) →
-    AreTraceTrees t u (trees_of (map traces more)) (take (i + 1) choices)
+    AreTraceTrees t u (trace_trees (map traces after)) (take i choices) → root (traces item) ≡ with_chosen u (sketch_with u.chosen (get_or choices i d)) → IsTraceTree t (traces item) →
+    AreTraceTrees t u (trace_trees (map traces more)) (take (i + 1) choices)
 child_more t u choices after more i d item h pushed are at is =
-    subst (λ ts. AreTraceTrees t u (trees_of ts) (take (i + 1) choices)) (sym (ap (map traces) pushed ∙ map-append traces after (item ∷ [])))
-    (subst (λ cs. AreTraceTrees t u (trees_of (map traces after ++ traces item ∷ [])) cs) (sym (take_more choices i d h)) (one_more_tree t u (map traces after) (take i choices) (traces item) (get_or choices i d) are at is))
+    subst (λ ts. AreTraceTrees t u (trace_trees ts) (take (i + 1) choices)) (sym (ap (map traces) pushed ∙ map-append traces after (item ∷ [])))
+    (subst (λ cs. AreTraceTrees t u (trace_trees (map traces after ++ traces item ∷ [])) cs) (sym (take_more choices i d h)) (one_more_tree t u (map traces after) (take i choices) (traces item) (get_or choices i d) are at is))

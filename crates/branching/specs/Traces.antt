@@ -7,7 +7,7 @@ use Rattle.branching.specs.declared.traces.FullTrace.{FullTrace}
 use Rattle.branching.specs.declared.traces.TraceTree.{TraceTree}
 use Rattle.branching.specs.declared.traces.TraceTree.TheOpen as t
 use Rattle.branching.specs.declared.traces.TraceTree.TheFolds.{fold-TraceTree}
-use Rattle.branching.specs.Tallies.{IsTallyOf, IsOwn}
+use Rattle.branching.specs.Tallies.{IsTallyOf, IsThisThread}
 
 -- the traces of a thread, without where they lie in memory, and several in order
 mutual
@@ -19,13 +19,13 @@ mutual
     NoTraces : Several
     MoreTraces : Traces → Several → Several
 
-abbrev pub trees_of : List Traces → Several
-trees_of [] = NoTraces
-trees_of (t ∷ ts) = MoreTraces t (trees_of ts)
+abbrev pub trace_trees : List Traces → Several
+trace_trees [] = NoTraces
+trace_trees (t ∷ ts) = MoreTraces t (trace_trees ts)
 
 -- one node, with what each child stands for in its place
 abbrev pub trace_node : t.TraceTree-F Traces → Traces
-trace_node (t.Read sketch choices after) = Read sketch choices.items (trees_of after.items)
+trace_node (t.Read sketch choices after) = Read sketch choices.items (trace_trees after.items)
 trace_node (t.Full trace) = Full trace
 
 abbrev pub traces : TraceTree → Traces
@@ -44,7 +44,7 @@ first_choices (Full trace) = []
 -- thread t has no next read, and this is what it reads and writes
 pub record IsFullTrace (t : ℕ) (trace : FullTrace) : Type 0 where
   pub full : IsValueOpen trace.sketch t → ⊥
-  pub tally : IsTallyOf trace.sketch (IsOwn t) trace.tally
+  pub tally : IsTallyOf trace.sketch (IsThisThread t) trace.tally
 
 abbrev mutual
   -- a tree for each value of thread t's next read, or a full trace

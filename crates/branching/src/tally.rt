@@ -3,9 +3,9 @@
 //! Each location with a value has a bit in rows of bits. Two may share one: then a read may seem to have a
 //! source that it has not, and a sketch decides. No read seems to lack a source that it has.
 ghost use Rattle.std.specs.Prelude.{◌≡◌, ◌≢◌, ◌<◌, ◌≤◌, ◌↔◌, ◌⊎◌, ◌%◌, ℕ, [], Some, None, IsTrue, IfOk, OnOk, IfSome, slice_index, length};
-ghost use Rattle.bit_rows.specs.Rows.{Relates};
+ghost use Rattle.bit_rows.specs.Rows.{RowHas};
 ghost use Rattle.bit_rows.specs.declared.row.TheConstants.{ROW_BITS};
-ghost use Rattle.branching.specs.Tallies.{IsMarked, IsTallyOf, IsOwn, IsOther, IsNeither, Joins, TakesAccess, TakesThread, LacksWrite, LacksWriteOfBoth};
+ghost use Rattle.branching.specs.Tallies.{HasBit, IsTallyOf, IsThisThread, IsOther, IsNeither, Joins, TakesAccess, TakesThread, LacksWrite, LacksWriteOfBoth};
 
 use crate::reads_writes::ReadValue;
 use bit_rows::{ROW_BITS, has, joined, put_rows, with};
@@ -36,7 +36,7 @@ impl Tally {
 
     /// The tally of a thread's accesses.
     pub fn of_thread(alloc: Global, sketch: &Sketch, t: u8) -> Result<Tally, AllocError>
-        ensures { IfOk result (IsTallyOf sketch.now (IsOwn t)) }
+        ensures { IfOk result (IsTallyOf sketch.now (IsThisThread t)) }
     {
         let mut tally = Tally::none(alloc);
         tally.add_thread(sketch, t)?;
@@ -162,7 +162,7 @@ fn later_value(sketch: &Sketch, access: Access) -> Option<u32>
 fn join_rows(rows: &mut [u32], more: &[u32])
     requires rows { length rows.old ≡ ROW_BITS }
     requires more { length more.now ≡ ROW_BITS }
-    ensures { (d e : ℕ) → d < ROW_BITS → Relates rows.old d e ⊎ Relates more.now d e → Relates rows.new d e }
+    ensures { (d e : ℕ) → d < ROW_BITS → RowHas rows.old d e ⊎ RowHas more.now d e → RowHas rows.new d e }
 {
     for d in 0..ROW_BITS {
         rows[d] = joined(rows[d], more[d]);
@@ -172,7 +172,7 @@ fn join_rows(rows: &mut [u32], more: &[u32])
 /// Sets the bit of a location with a value.
 fn mark(rows: &mut [u32], location: u8, value: u32)
     requires { length rows.old ≡ ROW_BITS }
-    ensures { (d e : ℕ) → Relates rows.new d e ↔ (Relates rows.old d e ⊎ ((d ≡ location % ROW_BITS) × (e ≡ value % ROW_BITS))) }
+    ensures { (d e : ℕ) → RowHas rows.new d e ↔ (RowHas rows.old d e ⊎ ((d ≡ location % ROW_BITS) × (e ≡ value % ROW_BITS))) }
 {
     let row = with(0, location % ROW_BITS as u8);
     put_rows(rows, row, with(0, (value % ROW_BITS as u32) as u8));
@@ -181,7 +181,7 @@ fn mark(rows: &mut [u32], location: u8, value: u32)
 /// Whether a location with a value has its bit.
 fn is_marked(rows: &[u32], location: u8, value: u32) -> bool
     requires { length rows.now ≡ ROW_BITS }
-    ensures { IsTrue result ↔ IsMarked rows.now location value }
+    ensures { IsTrue result ↔ HasBit rows.now location value }
 {
     let row = rows[location as usize % ROW_BITS];
     has(row, (value % ROW_BITS as u32) as u8)
@@ -204,8 +204,8 @@ fn lacking_of(reads: &[ReadValue], one: &[u32], other: &[u32]) -> Option<AccessI
 fn lacks_write(tallied: &ReadValue, one: &[u32], other: &[u32]) -> bool
     requires one { length one.now ≡ ROW_BITS }
     requires other { length other.now ≡ ROW_BITS }
-    ensures one { IsTrue result → IsMarked one.now tallied.now.location tallied.now.value → ⊥ }
-    ensures other { IsTrue result → IsMarked other.now tallied.now.location tallied.now.value → ⊥ }
+    ensures one { IsTrue result → HasBit one.now tallied.now.location tallied.now.value → ⊥ }
+    ensures other { IsTrue result → HasBit other.now tallied.now.location tallied.now.value → ⊥ }
 {
     !is_marked(one, tallied.location, tallied.value)
         && !is_marked(other, tallied.location, tallied.value)

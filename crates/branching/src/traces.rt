@@ -1,7 +1,7 @@
 //! What one thread does under the values that its reads may take, worked out once.
 ghost use Rattle.std.specs.Prelude.{◌≡◌, IfOk, map};
 ghost use Rattle.cover_judge.specs.Choices.{IsValueOpen, MayChooseEach};
-ghost use Rattle.branching.specs.Traces.{traces, trees_of, root, IsTraceTree, AreTraceTrees, IsFullTrace};
+ghost use Rattle.branching.specs.Traces.{traces, trace_trees, root, IsTraceTree, AreTraceTrees, IsFullTrace};
 
 use crate::tally::Tally;
 use cover_judge::{Choice, sketch_with, value_choices};
@@ -59,7 +59,7 @@ fn trees_after(
     choices: &[Choice],
 ) -> Result<Vec<TraceTree>, AllocError>
     requires { MayChooseEach sketch.now choices.now }
-    ensures { IfOk result (λ after. AreTraceTrees t sketch.now (trees_of (map traces after.items)) choices.now) }
+    ensures { IfOk result (λ after. AreTraceTrees t sketch.now (trace_trees (map traces after.items)) choices.now) }
 {
     // For the proof alone: what holds of every sketch is known where its program is read.
     let _ = sketch.program();

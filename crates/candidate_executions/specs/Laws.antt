@@ -46,19 +46,19 @@ EveryRunIsShort = (p : Listing) (mode : Machine) (labels : List Label) (o : Outc
     ((t : ℕ) → length (code_of p.threads t) ≤ n) → IsRun p mode labels o → length labels ≤ length p.threads * (n + n)
 
 -- the candidate has these two accesses of thread t, the first before the second
-pub record AreInOrder (p : Listing) (gaps : Gaps) (c : Candidate) (t i j : ℕ) (x y : Access) : Type 0 where
+pub record HasInProgramOrder (p : Listing) (gaps : Gaps) (c : Candidate) (t i j : ℕ) (x y : Access) : Type 0 where
   pub first : access p (StoreBufferMachine gaps) c (At t i) ≡ Some x
   pub second : access p (StoreBufferMachine gaps) c (At t j) ≡ Some y
   pub in_order : i < j
 
 -- the sections of a plain store and of a later access of its thread differ exactly where a fence, a fenced gap or an exchange lies between them
 abbrev pub SectionsTellFences : Type 0
-SectionsTellFences = (p : Listing) (gaps : Gaps) (c : Candidate) (t i j : ℕ) (x y : Access) → AreInOrder p gaps c t i j x y → x.read ≡ None →
+SectionsTellFences = (p : Listing) (gaps : Gaps) (c : Candidate) (t i j : ℕ) (x y : Access) → HasInProgramOrder p gaps c t i j x y → x.read ≡ None →
     (x.section ≢ y.section) ↔ LiesBetween (action p.threads t) (gaps t) (path_of p c t) i j
 
 -- program order is kept but from a plain store to a plain load with no fence, no fenced gap and no exchange between them
 abbrev pub KeptOrderIsTold : Type 0
-KeptOrderIsTold = (p : Listing) (gaps : Gaps) (c : Candidate) (t i j : ℕ) (x y : Access) → AreInOrder p gaps c t i j x y →
+KeptOrderIsTold = (p : Listing) (gaps : Gaps) (c : Candidate) (t i j : ℕ) (x y : Access) → HasInProgramOrder p gaps c t i j x y →
     KeepsOrder x y ↔ (IsSome x.read ⊎ (IsSome y.written ⊎ LiesBetween (action p.threads t) (gaps t) (path_of p c t) i j))
 
 -- no edge of any union leads into an initial write

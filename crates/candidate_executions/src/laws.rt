@@ -1,7 +1,7 @@
 //! The laws of candidate executions: each function's contract is a theorem, and calling it does
 //! nothing.
 ghost use Rattle.candidate_executions.specs.Laws.{EveryRunIsACandidate, EveryRunIsACompletion, EveryCandidateIsARun, EveryOrderIsARun, EveryRunIsShort, SectionsTellFences, KeptOrderIsTold, NoEdgeLeadsIntoInitial, CyclesAreOfAccesses, EveryCandidateCompletesEmpty, EmptyIsASketch, AValueKeepsASketch, ASourceKeepsASketch, APairKeepsASketch, EachCompletionHasAValue, EachCompletionHasTheValues, EachCompletionHasASource, EachCompletionHasAnOrder, EachCompletionEndsSo, OutcomesAreOne, AKnownEdgeIsAnEdge, AKnownCycleIsACycle, NoKnownEdgeLeadsIntoInitial, KnownCyclesAreOfAccesses};
-ghost use Rattle.candidate_executions.specs.StoreBuffering.{StoreBufferingIsTold};
+ghost use Rattle.candidate_executions.specs.StoreBuffering.{StoreBufferingCandidates};
 ghost use Rattle.candidate_executions.specs.ExampleRuns.{RunsShowTheirMarks};
 
 /// Every run of a mode's machine is one of a consistent candidate execution with the run's outcome,
@@ -50,7 +50,7 @@ pub fn cycles_are_of_accesses()
 /// The definitions at store buffering: consistent with no fence, and not with both, nor
 /// sequentially.
 pub fn store_buffering_is_told()
-    ensures { StoreBufferingIsTold }
+    ensures { StoreBufferingCandidates }
 {}
 
 /// A search begins with a sketch that every candidate completes, and each choice that it makes

@@ -2,7 +2,7 @@
 use Rattle.std.proofs.Common.{◌≡◌, ℕ, zero, suc, List, [], ◌∷◌, length, All, refl, sym, ap, ◌∙◌, subst}
 use Rattle.std.proofs.lemmas.Option.{same_Some}
 use Rattle.gap_sets.specs.Gaps.{SetOfGaps}
-use Rattle.gap_sets.specs.Regions.{without_gap, children_of}
+use Rattle.gap_sets.specs.Regions.{without_gap, child_regions}
 use Rattle.gap_sets.specs.declared.region.Region.{Region}
 use Rattle.tso_program.specs.declared.listing.Listing.{Listing}
 use Rattle.tso_program.specs.declared.outcome.Outcome.{Outcome}
@@ -53,7 +53,7 @@ pub none_without : {A : Type 0} (P : A → Type 0) (xs : List A) (n : ℕ) → A
 none_without P xs n all first = first.without (found_has P xs n first.value first.there all)
 
 module _ (p : Listing) (costs : List ℕ) (answer : SetOfGaps) (runs : List (List Label)) where
-  long : (numbers : List ℕ) (n : Region) → length (children_of n numbers) ≡ length numbers
+  long : (numbers : List ℕ) (n : Region) → length (child_regions n numbers) ≡ length numbers
   long [] n = refl
   long (gap ∷ numbers) n = ap suc (long numbers (without_gap n gap))
 
@@ -66,10 +66,10 @@ module _ (p : Listing) (costs : List ℕ) (answer : SetOfGaps) (runs : List (Lis
   mutual
     pub valid_gap_is_not_wrong : (tree : Gap) (n : Region) (path : List ℕ) → IsValidGap p costs answer runs tree n → gaps.FirstWrongGap p costs answer runs tree n path → ⊥
     valid_gap_is_not_wrong (Split number children) n [] (numbers, split, valid) wrong =
-        wrong numbers split (many_gaps children (children_of n numbers) valid ∙ long numbers n)
+        wrong numbers split (many_gaps children (child_regions n numbers) valid ∙ long numbers n)
     valid_gap_is_not_wrong (Split number children) n (child ∷ path) (numbers, split, valid) (others, split_too, many, wrong) =
-        valid_gaps_have_no_wrong children (children_of n others) child path
-        (subst (λ gs. AreValidGaps p costs answer runs children (children_of n gs)) (one_list_of_gaps p runs n number numbers others split split_too) valid) wrong
+        valid_gaps_have_no_wrong children (child_regions n others) child path
+        (subst (λ gs. AreValidGaps p costs answer runs children (child_regions n gs)) (one_list_of_gaps p runs n number numbers others split split_too) valid) wrong
     valid_gap_is_not_wrong Bound n [] valid wrong = valid wrong
     valid_gap_is_not_wrong Bound n (child ∷ path) valid wrong = wrong
 

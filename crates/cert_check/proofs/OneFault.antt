@@ -4,7 +4,7 @@ use Rattle.std.proofs.lemmas.Bool.{cases_lt}
 use Rattle.std.proofs.lemmas.List.{get_or-take, length-take}
 use Rattle.std.proofs.lemmas.Option.{slice_get_within, get_or_from_slice_get}
 use Rattle.gap_sets.specs.Gaps.{SetOfGaps}
-use Rattle.gap_sets.specs.Regions.{all_sets, children_of}
+use Rattle.gap_sets.specs.Regions.{all_sets, child_regions}
 use Rattle.gap_sets.specs.declared.region.Region.{Region}
 use Rattle.tso_program.specs.declared.listing.Listing.{Listing}
 use Rattle.tso_program.specs.declared.outcome.Outcome.{Outcome}
@@ -55,8 +55,8 @@ module _ (p : Listing) (costs : List ℕ) (answer : SetOfGaps) (runs : List (Lis
     one_wrong_gap (Split number children) n [] (j ∷ other) wrong (numbers, split, many, below) = absurd (wrong numbers split many)
     one_wrong_gap (Split number children) n (i ∷ path) [] (numbers, split, many, below) wrong = absurd (wrong numbers split many)
     one_wrong_gap (Split number children) n (i ∷ path) (j ∷ other) (numbers, split, many, below) (others, split_too, many_too, below_too) =
-        one_wrong_gap_child children (children_of n numbers) i j path other below
-        (subst (λ gs. gaps.FirstWrongGapChild p costs answer runs children (children_of n gs) j other) (one_list_of_gaps p runs n number others numbers split_too split) below_too)
+        one_wrong_gap_child children (child_regions n numbers) i j path other below
+        (subst (λ gs. gaps.FirstWrongGapChild p costs answer runs children (child_regions n gs) j other) (one_list_of_gaps p runs n number others numbers split_too split) below_too)
     one_wrong_gap Bound n [] [] wrong also = refl
     one_wrong_gap Bound n [] (j ∷ other) wrong also = absurd also
     one_wrong_gap Bound n (i ∷ path) other wrong also = absurd wrong

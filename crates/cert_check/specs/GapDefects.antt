@@ -2,7 +2,7 @@
 use Rattle.std.specs.Prelude.{◌≡◌, ℕ, zero, suc, List, [], ◌∷◌, length}
 use Rattle.gap_sets.specs.Gaps.{SetOfGaps}
 use Rattle.gap_sets.specs.Order.{Better}
-use Rattle.gap_sets.specs.Regions.{children_of}
+use Rattle.gap_sets.specs.Regions.{child_regions}
 use Rattle.gap_sets.specs.declared.region.Region.{Region}
 use Rattle.tso_program.specs.declared.listing.Listing.{Listing}
 use Rattle.tso_machine.specs.declared.label.Label.{Label}
@@ -26,7 +26,7 @@ module _ (p : Listing) (costs : List ℕ) (answer : SetOfGaps) (runs : List (Lis
     FirstWrongGap (Split number children) region [] = HasWrongGapRoot (Split number children) region
     FirstWrongGap (Split number children) region (child ∷ path) =
         (gaps : List ℕ) × IsSplitBy p runs region number gaps × (count_gaps children ≡ length gaps)
-        × FirstWrongGapChild children (children_of region gaps) child path
+        × FirstWrongGapChild children (child_regions region gaps) child path
     FirstWrongGap Bound region [] = HasWrongGapRoot Bound region
     FirstWrongGap Bound region (child ∷ path) = ⊥
 

@@ -6,7 +6,7 @@ ghost use Rattle.tso_program.specs.Tree.{Tree};
 ghost use Rattle.tso_program.specs.Nodes.{nodes_of};
 ghost use Rattle.conditions.specs.Tokens.{sign_of_token};
 ghost use Rattle.conditions.specs.Stack.{Before, ReaderState, next, joined, tree_read, SignsStopAt};
-ghost use Rattle.conditions.specs.Layout.{Goes, LiesBefore, LiesWith, IsTree};
+ghost use Rattle.conditions.specs.Layout.{Goes, LiesBefore, LiesWith, IsFormulaTree};
 
 use crate::fault::FormulaFault;
 use crate::stack::{Waiting, join, sum};
@@ -95,7 +95,7 @@ fn read_connective(
 
 /// The nodes of the formula that the tokens spell.
 pub fn read(alloc: Global, tokens: &[Token]) -> Result<Vec<Node>, FormulaFault>
-    ensures read { IfOk result (λ nodes. IsTree (tree_read (map sign_of_token tokens.now)) nodes.items) }
+    ensures read { IfOk result (λ nodes. IsFormulaTree (tree_read (map sign_of_token tokens.now)) nodes.items) }
     ensures refused { (at : ℕ) → result ≡ Err (Refused at) → SignsStopAt (map sign_of_token tokens.now) at }
 {
     let mut nodes = Vec::new(alloc);

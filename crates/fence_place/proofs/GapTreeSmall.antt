@@ -3,7 +3,7 @@ use Rattle.std.proofs.Common.{◌≡◌, ℕ, suc, ◌+◌, ◌<◌, ◌≤◌, 
 use Rattle.std.specs.Prelude.{slice_get}
 use Rattle.std.proofs.lemmas.Option.{same_Some, slice_get_within}
 use Rattle.std.proofs.lemmas.List.Kept.{AllPairs-from_increasing}
-use Rattle.gap_sets.specs.Regions.{children_of, open_gaps}
+use Rattle.gap_sets.specs.Regions.{child_regions, open_gaps}
 use Rattle.gap_sets.specs.declared.region.Region.{Region}
 use Rattle.gap_sets.specs.declared.gap_set.TheConstants.{MAX_GAPS}
 use Rattle.tso_machine.specs.declared.label.Label.{Label}
@@ -46,12 +46,12 @@ module _ (s : SearchState) (facts : Facts s) (runs : List (List Label)) (few : l
         let gaps = open_gaps f.passed e.node.never in
         let few_gaps = small_set s.question facts.within f at.of_question at.foreign in
         let less = kids_less e.node gaps (AllPairs-from_increasing gaps (open_ascending f.passed e.node.never)) (open_undecided f.passed e.node few_gaps at.passes_none) in
-        let each : AreSmall (undecided e.node) (length (children_of e.node gaps)) kids =
-        each_small (undecided e.node) kids first (children_of e.node gaps) (subst (λ count. AreRecorded s.entries numbers kids first count) (sym (as_many e.node gaps)) recorded)
+        let each : AreSmall (undecided e.node) (length (child_regions e.node gaps)) kids =
+        each_small (undecided e.node) kids first (child_regions e.node gaps) (subst (λ count. AreRecorded s.entries numbers kids first count) (sym (as_many e.node gaps)) recorded)
         at.kids less in
         let deep : gaps_depth kids ≤ undecided e.node = each.deep in
-        let count : count_gaps kids ≡ length (children_of e.node gaps) = each.as_many in
-        let long : length (children_of e.node gaps) ≡ length gaps = as_many e.node gaps in
+        let count : count_gaps kids ≡ length (child_regions e.node gaps) = each.as_many in
+        let long : length (child_regions e.node gaps) ≡ length gaps = as_many e.node gaps in
         let up : length gaps ≤ MAX_GAPS = few_open f.passed e.node.never in
         let within : number < length runs = slice_get_within runs number f.labels ((listed place number numbered).runs_at e f first there split) in
         subst (λ (m : Region). IsSmall (suc (undecided m)) (Split number kids)) is

@@ -4,7 +4,7 @@ use Rattle.std.specs.Prelude.{slice_get}
 use Rattle.std.proofs.lemmas.Option.{same_Some}
 use Rattle.gap_sets.specs.Gaps.{SetOfGaps}
 use Rattle.gap_sets.specs.Order.{Better}
-use Rattle.gap_sets.specs.Regions.{without_gap, children_of, open_gaps}
+use Rattle.gap_sets.specs.Regions.{without_gap, child_regions, open_gaps}
 use Rattle.gap_sets.specs.declared.region.Region.{Region}
 use Rattle.tso_program.specs.Shown.{Question}
 use Rattle.tso_machine.specs.declared.label.Label.{Label}
@@ -22,7 +22,7 @@ use Rattle.fence_place.specs.Recorded.{AreNumbersOf, IsRecorded, AreRecorded}
 use Rattle.fence_place.proofs.Bounds.{bounded}
 
 -- as many children as gaps
-pub as_many : (n : Region) (gaps : List ℕ) → length (children_of n gaps) ≡ length gaps
+pub as_many : (n : Region) (gaps : List ℕ) → length (child_regions n gaps) ≡ length gaps
 as_many n [] = refl
 as_many n (gap ∷ gaps) = let e = as_many (without_gap n gap) gaps in omega arith
 
@@ -67,7 +67,7 @@ module _ (s : SearchState) (facts : Facts s) (answer : SetOfGaps) (is_answer : I
         subst (λ (m : Region). Valid (Split number kids) m) is (
           gaps,
           split_by e.node place first number f at ((listed place number numbered).runs_at e f first there split),
-          each_valid kids first (children_of e.node gaps) (subst (λ count. AreRecorded s.entries numbers kids first count) (sym (as_many e.node gaps)) recorded) at.kids,
+          each_valid kids first (child_regions e.node gaps) (subst (λ count. AreRecorded s.entries numbers kids first count) (sym (as_many e.node gaps)) recorded) at.kids,
         )
 
     each_valid : (ts : GapTrees) (first : ℕ) (ns : List Region) → AreRecorded s.entries numbers ts first (length ns) →

@@ -11,7 +11,7 @@ use Rattle.hunt_board.specs.Seats.{HuntView}
 use Rattle.fence_place.specs.declared.worker.Stop.{Stop}
 use Rattle.fence_place.specs.declared.worker.Stop.TheVariants.{Later, Beaten, NoRun, OutOfMemory}
 use Rattle.fence_place.specs.declared.worker.Worker.{Worker}
-use Rattle.fence_place.specs.Internal.Workers.{HasEnded, MayStop, NoneLacksRun, FaultIsAfter, lacks_run_for}
+use Rattle.fence_place.specs.Internal.Workers.{HasStopped, MayStop, NoneLacksRun, FaultIsAfter, lacks_run_for}
 use Rattle.fence_place.specs.Faults.{MayHuntFail}
 use Rattle.fence_place.specs.declared.fault.PlaceFault.{PlaceFault}
 use Rattle.fence_place.specs.declared.fault.PlaceFault.TheVariants as fault
@@ -32,9 +32,9 @@ none_lacked (Some NoRun) may = sym may
 none_lacked (Some OutOfMemory) may = refl
 
 -- where a worker lacked a run the oracle may lack runs
-pub may_lack : (h : HuntView) (may : Bool) (workers : List Worker) → All (HasEnded h may) workers → ¬ NoneLacksRun workers → may ≡ true
+pub may_lack : (h : HuntView) (may : Bool) (workers : List Worker) → All (HasStopped h may) workers → ¬ NoneLacksRun workers → may ≡ true
 may_lack h true workers ended lacked = refl
-may_lack h false workers ended lacked = absurd (lacked (λ place w at. none_lacked w.stop ((element (HasEnded h false) workers place w at ended).1)))
+may_lack h false workers ended lacked = absurd (lacked (λ place w at. none_lacked w.stop ((element (HasStopped h false) workers place w at ended).1)))
 
 -- a set that isn't better than the best one
 pub beaten : (costs : List ℕ) (own : Option Serving) (best set : SetOfGaps) → MatchOption own (Some best ≡ None) (λ b. (Some best ≡ Some b.gaps) × IsServing b) → ¬ Better costs set best → IsBeatenBy costs own set
@@ -42,7 +42,7 @@ beaten costs None best set is worse = absurd (none-some best (sym is))
 beaten costs (Some b) best set is worse = (b, refl, subst (λ (gaps : SetOfGaps). ¬ Better costs set gaps) (same_Some best b.gaps is.0) worse)
 
 -- the fault of a hunt, where its workers have ended as they may
-pub hunt_fails : (h : HuntView) (may : Bool) (workers : List Worker) (why : PlaceFault) → All (HasEnded h may) workers → FaultIsAfter workers why → MayHuntFail may why
+pub hunt_fails : (h : HuntView) (may : Bool) (workers : List Worker) (why : PlaceFault) → All (HasStopped h may) workers → FaultIsAfter workers why → MayHuntFail may why
 hunt_fails h may workers fault.Workers ended is = is
 hunt_fails h may workers fault.Costs ended is = is
 hunt_fails h may workers fault.NotCertified ended is = may_lack h may workers ended is

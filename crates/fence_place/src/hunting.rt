@@ -5,7 +5,7 @@ ghost use Rattle.search_core.specs.States.{IsStart};
 ghost use Rattle.hunt_board.specs.Seats.{IsOf, IsFresh};
 ghost use Rattle.fence_place.specs.Faults.{AreTooFewOrMany, HasOtherLength, HuntFaultIs, MayHuntFail};
 ghost use Rattle.fence_place.specs.Internal.Searches.{IsSearchFor};
-ghost use Rattle.fence_place.specs.Internal.Workers.{IsReady, HasEnded, NoneLacksRun, FaultIsOf, FaultIsAfter};
+ghost use Rattle.fence_place.specs.Internal.Workers.{IsReadyWorker, HasStopped, NoneLacksRun, FaultIsOf, FaultIsAfter};
 
 use crate::PlaceFault;
 use crate::arguments::judge_arguments;
@@ -76,9 +76,9 @@ fn work_all<R: Threads + Wait + Sync, O: Oracle>(
     oracle: &O,
     mut row: Vec<Worker>,
 ) -> Vec<Worker>
-    requires ready { All (IsReady shared.now.hunt) row.items }
+    requires ready { All (IsReadyWorker shared.now.hunt) row.items }
     requires oracle { O.question oracle.now ≡ shared.now.hunt.question }
-    ensures { All (HasEnded shared.now.hunt (O.may_lack_runs oracle.now)) result.items }
+    ensures { All (HasStopped shared.now.hunt (O.may_lack_runs oracle.now)) result.items }
 {
     let threads = row.len().max(1);
     thread::for_each_mut(
@@ -86,8 +86,8 @@ fn work_all<R: Threads + Wait + Sync, O: Oracle>(
         row.as_mut_slice(),
         threads,
         &|_, worker|
-            requires { IsReady shared.now.hunt worker.now × (O.question oracle.now ≡ shared.now.hunt.question) }
-            ensures { HasEnded shared.entry.now.hunt (O.may_lack_runs oracle.entry.now) worker.exit.now }
+            requires { IsReadyWorker shared.now.hunt worker.now × (O.question oracle.now ≡ shared.now.hunt.question) }
+            ensures { HasStopped shared.entry.now.hunt (O.may_lack_runs oracle.entry.now) worker.exit.now }
         { work(rt, shared, oracle, worker) },
     );
     row
@@ -100,7 +100,7 @@ fn workers_at(
     mut seats: Vec<HuntSeat>,
 ) -> Result<Vec<Worker>, AllocError>
     requires { All (IsFresh hunt.now) seats.items }
-    ensures { IfOk result (λ row. All (IsReady hunt.now) row.items) }
+    ensures { IfOk result (λ row. All (IsReadyWorker hunt.now) row.items) }
 {
     let mut row = Vec::with_capacity(alloc, seats.len())?;
     while let Some(seat) = seats.pop() {

@@ -5,9 +5,9 @@ ghost use Rattle.cover_solver.specs.Facts.{AreOf, IsForeignValue};
 ghost use Rattle.cover_solver.specs.Verdicts.{IsVerdictOf, PassesNoneOf};
 ghost use Rattle.search_core.specs.Events.{IsBeatenBy};
 ghost use Rattle.hunt_board.specs.Seats.{IsOf};
-ghost use Rattle.hunt_board.specs.Settlings.{IsLawful, MaySettle};
+ghost use Rattle.hunt_board.specs.Settlings.{IsLawfulSettling, MaySettle};
 ghost use Rattle.fence_place.specs.Internal.Sharing.{CanSplit};
-ghost use Rattle.fence_place.specs.Internal.Workers.{HasDealtWith, HasEnded, IsAt, IsReady, IsStillAt, IsToSettle, MayStop, lacks_run};
+ghost use Rattle.fence_place.specs.Internal.Workers.{HasDealtWith, HasStopped, IsAt, IsReadyWorker, IsStillAt, IsToSettle, MayStop, lacks_run};
 
 use crate::known::known_run;
 use crate::sharing::{ceiling_below, copy_of_posted, share};
@@ -88,9 +88,9 @@ pub(crate) fn work<W: Wait, O: Oracle>(
     oracle: &O,
     worker: &mut Worker,
 )
-    requires ready { IsReady shared.now.hunt worker.old }
+    requires ready { IsReadyWorker shared.now.hunt worker.old }
     requires oracle { O.question oracle.now ≡ shared.now.hunt.question }
-    ensures { HasEnded shared.now.hunt (O.may_lack_runs oracle.now) worker.new }
+    ensures { HasStopped shared.now.hunt (O.may_lack_runs oracle.now) worker.new }
 {
     for _ in wait.forever() {
         let Next::Work(node) = shared.hunt.next(wait, &mut worker.seat) else {
@@ -132,7 +132,7 @@ fn known_settling(
     node: &Region,
 ) -> Option<Settling>
     requires { IsAt hunt.now worker.old (Some node.now) }
-    ensures lawful { IfSome result (IsLawful hunt.now worker.new.seat.best node.now) }
+    ensures lawful { IfSome result (IsLawfulSettling hunt.now worker.new.seat.best node.now) }
     ensures still { IsStillAt hunt.now worker.old worker.new node.now }
 {
     if is_beaten(hunt.costs(), &worker.seat, &node.must) {

@@ -6,7 +6,7 @@ use Rattle.tree_laws.specs.Certificates.{IsValidCertificate}
 use Rattle.report.specs.Answers.{accepted_line}
 use Rattle.fencecheck.specs.Inputs.{ArePartsOf}
 use Rattle.fencecheck.specs.Verdicts.{IsVerdict, accepted, refused, IsAccepted, handed_in}
-use Rattle.fencecheck.specs.Replies.{IsReplyToInput, judged, no_input}
+use Rattle.fencecheck.specs.Replies.{IsVerdictOnInput, judged, no_input}
 use Rattle.fencecheck.specs.Laws.{IsCertified, AcceptedInputsAreCertified}
 
 certified : (bytes litmus certificate line : List ℕ) → ArePartsOf bytes litmus certificate → IsAccepted litmus certificate None line → IsCertified bytes line
@@ -34,7 +34,7 @@ of_verdict : (bytes litmus certificate line : List ℕ) (status : ℕ) → ArePa
 of_verdict bytes litmus certificate _ _ parts (accepted line is) zero = certified bytes litmus certificate line parts is
 of_verdict bytes litmus certificate _ _ parts (refused why is) zero = absurd (omega (arith, zero))
 
-of_reply : (bytes line : List ℕ) (status : ℕ) → IsReplyToInput (Some bytes) status line → status ≡ 0 → IsCertified bytes line
+of_reply : (bytes line : List ℕ) (status : ℕ) → IsVerdictOnInput (Some bytes) status line → status ≡ 0 → IsCertified bytes line
 of_reply bytes _ _ (judged held litmus certificate status line holds parts is) zero =
     of_verdict bytes litmus certificate line status (subst (λ (xs : List ℕ). ArePartsOf xs litmus certificate) (sym holds) parts) is zero
 of_reply bytes _ _ (no_input why is) zero = absurd (omega (arith, zero))

@@ -58,9 +58,9 @@ pub record ReadsEnough (old new : Option (List ℕ)) : Type 0 where
 -- What is read of the input for the words after the program's name: with no words no more than shows that a part of it is too
 -- long; where files are named, no more than shows that the litmus file is, and nothing where that is not `-`. Nothing is read
 -- where the words are no command.
-abbrev pub ReadsFor : List (List ℕ) → Option (List ℕ) → Option (List ℕ) → Type 0
-ReadsFor [] old new = ReadsEnough old new
-ReadsFor (litmus ∷ []) old new = new ≡ old
-ReadsFor (litmus ∷ certificate ∷ []) old new = ReadsOfInput TEXT_LIMIT litmus old new
-ReadsFor (litmus ∷ certificate ∷ costs ∷ []) old new = ReadsOfInput TEXT_LIMIT litmus old new
-ReadsFor (litmus ∷ certificate ∷ costs ∷ word ∷ words) old new = new ≡ old
+abbrev pub ReadsForVerdict : List (List ℕ) → Option (List ℕ) → Option (List ℕ) → Type 0
+ReadsForVerdict [] old new = ReadsEnough old new
+ReadsForVerdict (litmus ∷ []) old new = new ≡ old
+ReadsForVerdict (litmus ∷ certificate ∷ []) old new = ReadsOfInput TEXT_LIMIT litmus old new
+ReadsForVerdict (litmus ∷ certificate ∷ costs ∷ []) old new = ReadsOfInput TEXT_LIMIT litmus old new
+ReadsForVerdict (litmus ∷ certificate ∷ costs ∷ word ∷ words) old new = new ≡ old

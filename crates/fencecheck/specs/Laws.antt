@@ -10,7 +10,7 @@ use Rattle.cert_forest.specs.Limits.{IsCertificate}
 use Rattle.tree_laws.specs.Certificates.{IsValidCertificate}
 use Rattle.report.specs.Answers.{accepted_line}
 use Rattle.fencecheck.specs.Verdicts.{handed_in}
-use Rattle.fencecheck.specs.Replies.{IsReplyToInput}
+use Rattle.fencecheck.specs.Replies.{IsVerdictOnInput}
 
 -- The bytes are a litmus text and after it the text of a certificate that is valid for its program with cost 1 for each gap,
 -- and the line is made of the certificate's set and cost.
@@ -27,4 +27,4 @@ pub record IsCertified (bytes line : List ℕ) : Type 0 where
 
 -- where the reply to an input alone has status 0, the input is so certified
 abbrev pub AcceptedInputsAreCertified : Type 0
-AcceptedInputsAreCertified = (bytes line : List ℕ) → IsReplyToInput (Some bytes) 0 line → IsCertified bytes line
+AcceptedInputsAreCertified = (bytes line : List ℕ) → IsVerdictOnInput (Some bytes) 0 line → IsCertified bytes line

@@ -23,25 +23,25 @@ usage_text =
 
 -- The reply to an input alone: a litmus text and a certificate after it, with each gap of cost 1. An input with a part that is too
 -- long is refused, whatever comes after the bytes that show it.
-pub data IsReplyToInput (input : Option (List ℕ)) : ℕ → List ℕ → Type 0 where
+pub data IsVerdictOnInput (input : Option (List ℕ)) : ℕ → List ℕ → Type 0 where
   judged : (bytes litmus certificate : List ℕ) (status : ℕ) (text : List ℕ) → HoldsBytes input bytes → ArePartsOf bytes litmus certificate
-      → IsVerdict litmus certificate None status text → IsReplyToInput input status text
-  no_input : (why : FileFault) → IsReadFault (IsTooLongInput input) why → IsReplyToInput input 1 (file_line why)
+      → IsVerdict litmus certificate None status text → IsVerdictOnInput input status text
+  no_input : (why : FileFault) → IsReadFault (IsTooLongInput input) why → IsVerdictOnInput input 1 (file_line why)
 
 -- the names of a litmus file, of a certificate's and maybe of one of costs
-pub record FileNames : Type 0 where
+pub record JudgedFiles : Type 0 where
   pub litmus : List ℕ
   pub certificate : List ℕ
   pub costs : Option (List ℕ)
 
 -- what the files of these names hold; `-` as the litmus file is the input
-pub record AreOfFiles (names : FileNames) (input : Option (List ℕ)) (files : List ℕ → Option (List ℕ)) (litmus certificate : List ℕ) (costs : Option (List ℕ)) : Type 0 where
+pub record AreOfFiles (names : JudgedFiles) (input : Option (List ℕ)) (files : List ℕ → Option (List ℕ)) (litmus certificate : List ℕ) (costs : Option (List ℕ)) : Type 0 where
   pub of_litmus : AreOfFile TEXT_LIMIT names.litmus input files litmus
   pub of_certificate : AreWithin CERTIFICATE_LIMIT (files names.certificate) certificate
   pub of_costs : AreOfFileIfNamed TEXT_LIMIT names.costs files costs
 
 -- why a file isn't read: the first that isn't, where those before it are
-pub data IsFilesFault (names : FileNames) (input : Option (List ℕ)) (files : List ℕ → Option (List ℕ)) (why : FileFault) : Type 0 where
+pub data IsFilesFault (names : JudgedFiles) (input : Option (List ℕ)) (files : List ℕ → Option (List ℕ)) (why : FileFault) : Type 0 where
   no_litmus : IsFileFault TEXT_LIMIT names.litmus input files why → IsFilesFault names input files why
   no_certificate : (litmus : List ℕ) → AreOfFile TEXT_LIMIT names.litmus input files litmus
       → IsReadFault (IsTooLong CERTIFICATE_LIMIT (files names.certificate)) why → IsFilesFault names input files why
@@ -49,7 +49,7 @@ pub data IsFilesFault (names : FileNames) (input : Option (List ℕ)) (files : L
       → AreWithin CERTIFICATE_LIMIT (files names.certificate) certificate → IsNamedFileFault TEXT_LIMIT names.costs files why → IsFilesFault names input files why
 
 -- the reply to files
-pub data IsReplyToFiles (names : FileNames) (input : Option (List ℕ)) (files : List ℕ → Option (List ℕ)) : ℕ → List ℕ → Type 0 where
+pub data IsReplyToFiles (names : JudgedFiles) (input : Option (List ℕ)) (files : List ℕ → Option (List ℕ)) : ℕ → List ℕ → Type 0 where
   judged : (litmus certificate : List ℕ) (costs : Option (List ℕ)) (status : ℕ) (text : List ℕ) → AreOfFiles names input files litmus certificate costs
       → IsVerdict litmus certificate costs status text → IsReplyToFiles names input files status text
   no_file : (why : FileFault) → IsFilesFault names input files why → IsReplyToFiles names input files 1 (file_line why)
@@ -64,9 +64,9 @@ pub data IsReplyToWord (word : List ℕ) : ℕ → List ℕ → Type 0 where
   misused : (status : ℕ) (text : List ℕ) → word ≢ codes "--version" → IsUsage status text → IsReplyToWord word status text
 
 -- what the program prints for the words after its name, an input and files, with which status
-abbrev pub IsOutput : List (List ℕ) → Option (List ℕ) → (List ℕ → Option (List ℕ)) → ℕ → List ℕ → Type 0
-IsOutput [] input files = IsReplyToInput input
-IsOutput (word ∷ []) input files = IsReplyToWord word
-IsOutput (litmus ∷ certificate ∷ []) input files = IsReplyToFiles (record { litmus = litmus; certificate = certificate; costs = None }) input files
-IsOutput (litmus ∷ certificate ∷ costs ∷ []) input files = IsReplyToFiles (record { litmus = litmus; certificate = certificate; costs = Some costs }) input files
-IsOutput (litmus ∷ certificate ∷ costs ∷ word ∷ words) input files = IsUsage
+abbrev pub IsCheckOutput : List (List ℕ) → Option (List ℕ) → (List ℕ → Option (List ℕ)) → ℕ → List ℕ → Type 0
+IsCheckOutput [] input files = IsVerdictOnInput input
+IsCheckOutput (word ∷ []) input files = IsReplyToWord word
+IsCheckOutput (litmus ∷ certificate ∷ []) input files = IsReplyToFiles (record { litmus = litmus; certificate = certificate; costs = None }) input files
+IsCheckOutput (litmus ∷ certificate ∷ costs ∷ []) input files = IsReplyToFiles (record { litmus = litmus; certificate = certificate; costs = Some costs }) input files
+IsCheckOutput (litmus ∷ certificate ∷ costs ∷ word ∷ words) input files = IsUsage

@@ -4,8 +4,8 @@ ghost use Rattle.std.specs.Prelude.{◌≡◌, ◌==◌, ◌||◌, IfOk, IfErr, 
 ghost use Rattle.program_streams.specs.Streams.{Prints};
 ghost use Rattle.program_streams.specs.Files.{ReadsOfInput};
 ghost use Rattle.fencecheck.specs.Verdicts.{IsVerdict};
-ghost use Rattle.fencecheck.specs.Replies.{usage_text, AreOfFiles, IsFilesFault, IsReplyToInput, IsReplyToFiles, IsOutput};
-ghost use Rattle.fencecheck.specs.Inputs.{ReadsEnough, ReadsFor};
+ghost use Rattle.fencecheck.specs.Replies.{usage_text, AreOfFiles, IsFilesFault, IsVerdictOnInput, IsReplyToFiles, IsCheckOutput};
+ghost use Rattle.fencecheck.specs.Inputs.{ReadsEnough, ReadsForVerdict};
 ghost use Rattle.fencecheck.specs.Internal.Names.{file_names_of};
 
 use crate::advice::{Subject, refusal_advice, unread, unread_advice, unread_input_advice};
@@ -67,7 +67,7 @@ fn print_verdict<W: Console>(
 
 /// Judges what the reader gives: a litmus text, and after it a certificate.
 fn run_input<R: Read, W: Console>(alloc: Global, input: &mut R, output: &mut W) -> u8
-    ensures printed { Prints (IsReplyToInput (R.remaining input.old)) (W.contents output.old) (W.contents output.new) result }
+    ensures printed { Prints (IsVerdictOnInput (R.remaining input.old)) (W.contents output.old) (W.contents output.new) result }
     ensures read { ReadsEnough (R.remaining input.old) (R.remaining input.new) }
 {
     match read_joined(alloc, input) {
@@ -190,8 +190,8 @@ pub fn run_command<S: FileStore, R: Read, W: Console>(
     input: &mut R,
     output: &mut W,
 ) -> u8
-    ensures printed { Prints (IsOutput (map string_bytes words.now) (R.remaining input.old) (S.held files.now)) (W.contents output.old) (W.contents output.new) result }
-    ensures read { ReadsFor (map string_bytes words.now) (R.remaining input.old) (R.remaining input.new) }
+    ensures printed { Prints (IsCheckOutput (map string_bytes words.now) (R.remaining input.old) (S.held files.now)) (W.contents output.old) (W.contents output.new) result }
+    ensures read { ReadsForVerdict (map string_bytes words.now) (R.remaining input.old) (R.remaining input.new) }
 {
     if asks_version(words) {
         return print(output, version_line(alloc, NAME), 0);

@@ -7,7 +7,7 @@ use Rattle.placed_text.specs.declared.writing.PlacedText.{PlacedText}
 use Rattle.placed_text.specs.PlacedTexts.{IsPlacedText}
 use Rattle.std.specs.Prelude.{Bool}
 use Rattle.fencer.specs.declared.delivery.Answer.{Answer}
-use Rattle.fencer.specs.Deliveries.{AreApart, HoldsFile, KeepFiles, KeepFilesBut}
+use Rattle.fencer.specs.Deliveries.{AreTwoNames, HoldsFile, KeepFiles, KeepFilesBut}
 use Rattle.fencer.specs.Placements.{DeliversTexts, PrintsPlacement}
 
 -- the lines that were joined are those of the texts
@@ -17,7 +17,7 @@ delivered_texts litmus costs kind check json texts (Ok answer) placed delivered 
 delivered_texts litmus costs kind check json texts (Err why) placed delivered = tt
 
 -- a file holds what was written to it, if it is not the one that is written next
-pub still_held : (first second : Option (List ℕ)) (left next : List ℕ → Option (List ℕ)) (text : List ℕ) → HoldsFile first left text → KeepFiles second left next → AreApart first second → HoldsFile first next text
+pub still_held : (first second : Option (List ℕ)) (left next : List ℕ → Option (List ℕ)) (text : List ℕ) → HoldsFile first left text → KeepFiles second left next → AreTwoNames first second → HoldsFile first next text
 still_held None second left next text held kept apart = tt
 still_held (Some name) second left next text held kept apart = subst (λ (bytes : Option (List ℕ)). HoldsBytes bytes text) (sym (kept name (λ is. apart name refl is))) held
 

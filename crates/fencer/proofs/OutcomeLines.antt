@@ -4,20 +4,20 @@ use Rattle.tso_program.specs.declared.outcome.Outcome.{Outcome}
 use Rattle.tso_program.specs.declared.shown.Shown.{Shown}
 use Rattle.tso_machine.specs.declared.label.Label.{Label}
 use Rattle.litmus_reader.specs.Names.{TextNames}
-use Rattle.report.specs.Answers.{outcome_line, labels_line}
+use Rattle.report.specs.Answers.{outcome_line, printed_labels}
 use Rattle.fencer.specs.Outcomes.{outcome_lines, run_line_at}
 
 one_more : (names : TextNames) (shown : Shown) (outcomes : List Outcome) (runs : List (List Label)) (i : ℕ) (d : Outcome) → i < length outcomes
     → outcome_lines names shown (take i outcomes) runs ++ (outcome_line names shown (get_or outcomes i d) ++ run_line_at runs i) ≡ outcome_lines names shown (take (suc i) outcomes) runs
 one_more names shown [] runs i d lt = absurd (omega arith)
 one_more names shown (o ∷ outcomes) [] zero d lt = refl
-one_more names shown (o ∷ outcomes) (run ∷ runs) zero d lt = sym (append-nil (outcome_line names shown o ++ labels_line run))
+one_more names shown (o ∷ outcomes) (run ∷ runs) zero d lt = sym (append-nil (outcome_line names shown o ++ printed_labels run))
 one_more names shown (o ∷ outcomes) [] (suc i) d lt =
     let line = outcome_line names shown o in
     append_assoc line (outcome_lines names shown (take i outcomes) []) (outcome_line names shown (get_or outcomes i d) ++ [])
     ∙ ap (λ (bs : List ℕ). line ++ bs) (one_more names shown outcomes [] i d (omega arith))
 one_more names shown (o ∷ outcomes) (run ∷ runs) (suc i) d lt =
-    let line = outcome_line names shown o ++ labels_line run in
+    let line = outcome_line names shown o ++ printed_labels run in
     append_assoc line (outcome_lines names shown (take i outcomes) runs) (outcome_line names shown (get_or outcomes i d) ++ run_line_at runs i)
     ∙ ap (λ (bs : List ℕ). line ++ bs) (one_more names shown outcomes runs i d (omega arith))
 

@@ -3,7 +3,7 @@ use Rattle.std.proofs.Common.{◌≡◌, ℕ, Bool, false, List, Option, Result,
 use Rattle.std.specs.Global.{Vec}
 use Rattle.program_streams.specs.Streams.{Prints}
 use Rattle.program_streams.proofs.Printed.{prints_more}
-use Rattle.fencer.specs.Refused.{IsRefused, RefusalSays}
+use Rattle.fencer.specs.Refused.{PrintsRefusal, RefusalSays}
 
 -- what is said of a line that is known
 of_line : {E : Type 0} (json : Bool) (made : Result (Vec ℕ) E) (line text : List ℕ) → IfOk made (λ v. v.items ≡ line) → IsOkAnd made (λ v. RefusalSays json v.items text) → RefusalSays json line text
@@ -11,12 +11,12 @@ of_line json (Ok v) line text is says = subst (λ (l : List ℕ). RefusalSays js
 of_line json (Err e) line text is says = absurd says
 
 pub prints_refusal : {E : Type 0} (json : Bool) (made : Result (Vec ℕ) E) (line : List ℕ) (A : ℕ → List ℕ → Type 0) (old new : Option (List ℕ)) (result : ℕ)
-    → ((text : List ℕ) → RefusalSays json line text → A 1 text) → IfOk made (λ v. v.items ≡ line) → Prints (IsRefused json made) old new result → Prints A old new result
+    → ((text : List ℕ) → RefusalSays json line text → A 1 text) → IfOk made (λ v. v.items ≡ line) → Prints (PrintsRefusal json made) old new result → Prints A old new result
 prints_refusal json made line A old new result may is told =
-    prints_more (IsRefused json made) A old new result (λ status text refused. subst (λ (s : ℕ). A s text) (sym refused.0) (may text (of_line json made line text is refused.1))) told
+    prints_more (PrintsRefusal json made) A old new result (λ status text refused. subst (λ (s : ℕ). A s text) (sym refused.0) (may text (of_line json made line text is refused.1))) told
 
 -- the same where the line is printed
 pub prints_refused_line : {E : Type 0} (made : Result (Vec ℕ) E) (line : List ℕ) (A : ℕ → List ℕ → Type 0) (old new : Option (List ℕ)) (result : ℕ)
-    → A 1 line → IfOk made (λ v. v.items ≡ line) → Prints (IsRefused false made) old new result → Prints A old new result
+    → A 1 line → IfOk made (λ v. v.items ≡ line) → Prints (PrintsRefusal false made) old new result → Prints A old new result
 prints_refused_line made line A old new result may is told =
     prints_refusal false made line A old new result (λ text same. subst (A 1) (sym same) may) is told

@@ -25,12 +25,12 @@ HoldsFile None left written = ⊤
 HoldsFile (Some name) left written = HoldsBytes (left name) written
 
 -- the two names are not the same
-abbrev pub AreApart : Option (List ℕ) → Option (List ℕ) → Type 0
-AreApart first second = (name : List ℕ) → first ≡ Some name → second ≡ Some name → ⊥
+abbrev pub AreTwoNames : Option (List ℕ) → Option (List ℕ) → Type 0
+AreTwoNames first second = (name : List ℕ) → first ≡ Some name → second ≡ Some name → ⊥
 
 -- the files that are written, where they are named, hold the two texts; where their names are the same, it holds the second text
 pub record HoldsFiles (first second : Option (List ℕ)) (left : List ℕ → Option (List ℕ)) (answer : Answer) : Type 0 where
-  pub in_first : AreApart first second → HoldsFile first left answer.first.items
+  pub in_first : AreTwoNames first second → HoldsFile first left answer.first.items
   pub in_second : HoldsFile second left answer.second.items
 
 -- the lines with their status where the files that are named hold what is written to them; or that one can't be written

@@ -21,7 +21,7 @@ use Rattle.sketch_covers.specs.OutcomeNumbers.{AreRunsOf}
 use Rattle.sketch_covers.specs.Ascending.{Ascend}
 use Rattle.litmus_reader.specs.Names.{TextNames}
 use Rattle.litmus_reader.specs.Shown.{shown_as, question_of}
-use Rattle.report.specs.Answers.{labels_line, outcome_line}
+use Rattle.report.specs.Answers.{printed_labels, outcome_line}
 use Rattle.documents.specs.Documents.{IsOutcomesDocument, IsOutcomesWithRunsDocument}
 use Rattle.report.specs.Observations.{is_true_of, observation_line, condition_line}
 use Rattle.fencer_words.specs.declared.job.OutcomeQuery.{OutcomeQuery}
@@ -44,11 +44,11 @@ ListsRuns false q mode runs outcomes = runs ≡ []
 abbrev pub outcome_lines : TextNames → Shown → List Outcome → List (List Label) → List ℕ
 outcome_lines names shown [] runs = []
 outcome_lines names shown (o ∷ outcomes) [] = outcome_line names shown o ++ outcome_lines names shown outcomes []
-outcome_lines names shown (o ∷ outcomes) (run ∷ runs) = outcome_line names shown o ++ labels_line run ++ outcome_lines names shown outcomes runs
+outcome_lines names shown (o ∷ outcomes) (run ∷ runs) = outcome_line names shown o ++ printed_labels run ++ outcome_lines names shown outcomes runs
 
 -- the line of the run of this number, where there is one
 abbrev pub run_line_at : List (List Label) → ℕ → List ℕ
-run_line_at runs number = option_map_or labels_line (slice_get runs number) []
+run_line_at runs number = option_map_or printed_labels (slice_get runs number) []
 
 -- the lines of a list: how many outcomes it has, each of them as far as it is shown, with its run where there is one, and what they show of the condition
 abbrev pub list_text : Litmus Listing → Shown → List Outcome → List (List Label) → List ℕ

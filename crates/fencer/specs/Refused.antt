@@ -9,5 +9,5 @@ RefusalSays false line text = text ≡ line
 RefusalSays true line text = IsRefusalDocument line text
 
 -- what is printed of a line that could be made, with status 1
-abbrev pub IsRefused : {E : Type 0} → Bool → Result (Vec ℕ) E → ℕ → List ℕ → Type 0
-IsRefused json made status text = (status ≡ 1) × IsOkAnd made (λ line. RefusalSays json line.items text)
+abbrev pub PrintsRefusal : {E : Type 0} → Bool → Result (Vec ℕ) E → ℕ → List ℕ → Type 0
+PrintsRefusal json made status text = (status ≡ 1) × IsOkAnd made (λ line. RefusalSays json line.items text)

@@ -17,14 +17,14 @@ use Rattle.fencer.specs.Refused.{RefusalSays}
 use Rattle.fencer.specs.Replays.{label_words_text, PrintsRun, HasNoRun}
 
 -- the lines end so
-abbrev pub EndsSo : List ℕ → List ℕ → Type 0
-EndsSo lines ending = (table : List ℕ) × (lines ≡ table ++ ending)
+abbrev pub HasEnding : List ℕ → List ℕ → Type 0
+HasEnding lines ending = (table : List ℕ) × (lines ≡ table ++ ending)
 
 -- the lines are a table, and after it those that a replay prints; the document is that of the same run
 pub record PrintsTrace (model : Model) (labels bytes lines document : List ℕ) : Type 0 where
   pub ending : List ℕ
   pub run : PrintsRun model labels bytes ending
-  pub printed : EndsSo lines ending
+  pub printed : HasEnding lines ending
   pub told : IsTraceDocument run.litmus model run.steps run.outcome run.passed document
 
 -- what is delivered: the lines or the document, and the page of the document

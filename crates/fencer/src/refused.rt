@@ -2,7 +2,7 @@
 
 ghost use Rattle.std.specs.Prelude.{IfOk, IsOkAnd};
 ghost use Rattle.program_streams.specs.Streams.{Prints};
-ghost use Rattle.fencer.specs.Refused.{IsRefused, RefusalSays};
+ghost use Rattle.fencer.specs.Refused.{PrintsRefusal, RefusalSays};
 
 use documents::{Message as Said, refusal_document};
 use messages::Message;
@@ -67,7 +67,7 @@ pub(crate) fn tell_refusal<W: Console>(
     message: Result<Message, AllocError>,
     output: &mut W,
 ) -> u8
-    ensures { Prints (IsRefused json line) (W.contents output.old) (W.contents output.new) result }
+    ensures { Prints (PrintsRefusal json line) (W.contents output.old) (W.contents output.new) result }
 {
     let text = refusal_text(alloc, json, line, &message);
     refuse(output, text, written(alloc, &message))

@@ -163,17 +163,17 @@ pub record AreWorkers (text : Text) (workers : ℕ) : Type 0 where
 -- ---- jobs
 
 -- the run that is asked about
-pub record IsRunOf (rows : List Row) (asked : Run) : Type 0 where
+pub record IsRunAsked (rows : List Row) (asked : Run) : Type 0 where
   pub model : asked.model ≡ model_in rows
   pub litmus : string_bytes asked.litmus ≡ text_in (codes "litmus") rows
   pub labels : map string_bytes asked.labels.items ≡ texts_in (codes "label") rows
 
 -- the job that the command of this name asks for, by the rows of its values
 abbrev pub IsJobOf : Text → List Row → Job → Type 0
-IsJobOf name rows (Replay asked) = (name ≡ codes "replay") × IsRunOf rows asked
+IsJobOf name rows (Replay asked) = (name ≡ codes "replay") × IsRunAsked rows asked
 IsJobOf name rows (Trace asked) =
     (name ≡ codes "trace")
-    × IsRunOf rows asked.run
+    × IsRunAsked rows asked.run
     × (option_map string_bytes asked.graph ≡ first_of (codes "dot") rows)
     × (option_map string_bytes asked.page ≡ first_of (codes "html") rows)
     × (asked.json ≡ is_flagged (codes "json") rows)

@@ -2,7 +2,7 @@
 
 ghost use Rattle.std.specs.Prelude.{◌≡◌, option_map};
 ghost use Rattle.fencer_words.specs.CommandFiles.{file_of_litmus, files_of, has_clash, is_same};
-ghost use Rattle.fencer_words.specs.Internal.Names.{names_of};
+ghost use Rattle.fencer_words.specs.Internal.Names.{kept_names};
 
 use crate::job::Job;
 
@@ -24,7 +24,7 @@ fn file_of_litmus(litmus: &str) -> Option<&str>
 
 /// The files of a job.
 pub(crate) fn files_of(job: &Job) -> FileNames<'_>
-    ensures { names_of result ≡ files_of job.now }
+    ensures { kept_names result ≡ files_of job.now }
 {
     let (litmus, costs, first, second) = match job {
         Job::Replay(run) => (&run.litmus, None, None, None),
@@ -75,7 +75,7 @@ fn is_same(name: Option<&str>, other: Option<&str>) -> bool
 
 /// Whether a file that is written is a file that is read, or is written twice.
 pub(crate) fn has_clash(names: FileNames<'_>) -> bool
-    ensures { result ≡ has_clash (names_of names.entry) }
+    ensures { result ≡ has_clash (kept_names names.entry) }
 {
     is_same(names.first, names.litmus)
         || is_same(names.first, names.costs)

@@ -2,7 +2,7 @@
 
 ghost use Rattle.std.specs.Prelude.{◌≡◌, false, IfOk, codes, map, string_bytes};
 ghost use Rattle.clap.specs.Words.{found_of, rows_of, rule_of};
-ghost use Rattle.fencer_words.specs.CommandLines.{label_rule, replay_app, texts_in, IsJobOf, IsRunOf};
+ghost use Rattle.fencer_words.specs.CommandLines.{label_rule, replay_app, texts_in, IsJobOf, IsRunAsked};
 ghost use Rattle.fencer_words.specs.Commands.{IsBuiltAs};
 
 use crate::arguments::{
@@ -67,7 +67,7 @@ fn labels_in(alloc: Global, matches: &ArgMatches<'_>) -> Result<Vec<String>, All
 
 /// The run that is asked about.
 pub fn run_in(alloc: Global, matches: &ArgMatches<'_>) -> Result<Run, AllocError>
-    ensures { IfOk result (IsRunOf (rows_of (found_of matches.now))) }
+    ensures { IfOk result (IsRunAsked (rows_of (found_of matches.now))) }
 {
     Ok(Run {
         model: model_in(matches),

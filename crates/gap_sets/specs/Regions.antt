@@ -23,9 +23,9 @@ abbrev pub without_gap : Region → ℕ → Region
 without_gap region gap = record region { never = set.insert region.never gap }
 
 -- for each of the gaps in order, the sets that hold it and none of those before it
-abbrev pub children_of : Region → List ℕ → List Region
-children_of region [] = []
-children_of region (gap ∷ gaps) = with_gap region gap ∷ children_of (without_gap region gap) gaps
+abbrev pub child_regions : Region → List ℕ → List Region
+child_regions region [] = []
+child_regions region (gap ∷ gaps) = with_gap region gap ∷ child_regions (without_gap region gap) gaps
 
 -- the set has none of these gaps
 abbrev pub HasNoneOf : SetOfGaps → List ℕ → Type 0

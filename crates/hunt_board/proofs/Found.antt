@@ -10,7 +10,7 @@ use Rattle.std.proofs.lemmas.Bool.Decides.{nat_tests}
 use Rattle.std.proofs.lemmas.Option.{same_Some, none-some}
 use Rattle.std.proofs.lemmas.List.Kept.{AllPairs-from_increasing}
 use Rattle.gap_sets.specs.Gaps.{SetOfGaps, IsGapSet}
-use Rattle.gap_sets.specs.Regions.{all_sets, with_gap, without_gap, IsInRegion, children_of, HasNoneOf, open_gaps}
+use Rattle.gap_sets.specs.Regions.{all_sets, with_gap, without_gap, IsInRegion, child_regions, HasNoneOf, open_gaps}
 use Rattle.gap_sets.specs.declared.region.Region.{Region}
 use Rattle.tso_program.specs.Shown.{Question}
 use Rattle.tso_program.specs.Limits.{IsWithinLimits}
@@ -24,16 +24,16 @@ use Rattle.search_core.specs.declared.entry.Status.TheVariants.{Open, Held, Spli
 use Rattle.search_core.specs.Records.{Outcome, IsOutcome, finished_state}
 use Rattle.search_core.proofs.Kept.{Facts, facts_of}
 use Rattle.search_core.proofs.Sets.{gap_set, passed_gaps}
-use Rattle.hunt_board.specs.Internal.Places.{Leads, StandsOnlyAt, ends, goes, child_by, child_in, child_of}
+use Rattle.hunt_board.specs.Internal.Places.{WalkLeads, StandsOnlyAt, ends, goes, child_by, child_in, child_of}
 use Rattle.hunt_board.proofs.Parents.{IsChildAt, HaveParents, parents_of}
 
 -- a walk ends at one place
-pub same_end : (entries : List Entry) (n : Region) (place a b : ℕ) → Leads entries n place a → Leads entries n place b → a ≡ b
+pub same_end : (entries : List Entry) (n : Region) (place a b : ℕ) → WalkLeads entries n place a → WalkLeads entries n place b → a ≡ b
 same_end entries n place a b (ends _ none) (ends _ none') = refl
 same_end entries n place a b (ends _ none) (goes _ child _ some rest) = absurd (none-some child (sym none ∙ some))
 same_end entries n place a b (goes _ child _ some rest) (ends _ none) = absurd (none-some child (sym none ∙ some))
 same_end entries n place a b (goes _ child _ some rest) (goes _ child' _ some' rest') =
-    same_end entries n child a b rest (subst (λ k. Leads entries n k b) (sym (same_Some child child' (sym some ∙ some'))) rest')
+    same_end entries n child a b rest (subst (λ k. WalkLeads entries n k b) (sym (same_Some child child' (sym some ∙ some'))) rest')
 
 -- a set has what it had, and the new gap
 kept_old : (s : SetOfGaps) (gap q : ℕ) → set.contains s q ≡ true → set.contains (set.insert s gap) q ≡ true
@@ -67,7 +67,7 @@ others : (x : ℕ) (xs : List ℕ) → AllPairs (λ a b. a < b) (x ∷ xs) → A
 others x xs up i j d h l = up (suc i) (suc j) d (omega arith) (omega arith)
 
 -- a set in the region of a child is in that of its parent
-in_parent : (n : Region) (gaps : List ℕ) (i : ℕ) (c : Region) (other : SetOfGaps) → slice_get (children_of n gaps) i ≡ Some c → IsInRegion c other → IsInRegion n other
+in_parent : (n : Region) (gaps : List ℕ) (i : ℕ) (c : Region) (other : SetOfGaps) → slice_get (child_regions n gaps) i ≡ Some c → IsInRegion c other → IsInRegion n other
 in_parent n [] i c other e inside = absurd (none-some c e)
 in_parent n (gap ∷ gaps) zero c other e inside =
     let here : IsInRegion (with_gap n gap) other = subst (λ (d : Region). IsInRegion d other) (sym (same_Some (with_gap n gap) c e)) inside in
@@ -77,7 +77,7 @@ in_parent n (gap ∷ gaps) (suc i) c other e inside =
     record { holds = rest.holds; avoids = λ q h. rest.avoids q (kept_old n.never gap q h) }
 
 -- and the child is that of the first of the gaps that the set has
-is_first : (n : Region) (gaps : List ℕ) (i : ℕ) (c : Region) (other : SetOfGaps) (k : ℕ) → slice_get (children_of n gaps) i ≡ Some c → IsInRegion c other →
+is_first : (n : Region) (gaps : List ℕ) (i : ℕ) (c : Region) (other : SetOfGaps) (k : ℕ) → slice_get (child_regions n gaps) i ≡ Some c → IsInRegion c other →
     position_from (set.contains other) k gaps ≡ Some (k + i)
 is_first n [] i c other k e inside = absurd (none-some c e)
 is_first n (gap ∷ gaps) zero c other k e inside =
@@ -96,7 +96,7 @@ no_first other k (gap ∷ gaps) none =
     ∙ no_first other (k + 1) gaps (λ q here. none q (later_is_here gap gaps q here))
 
 -- what the sets of a child must have is in its region, where it is so of its parent, which neither must nor must not have the gaps
-child_holds : (n : Region) (gaps : List ℕ) (i : ℕ) (c : Region) → slice_get (children_of n gaps) i ≡ Some c → AllPairs (λ a b. a < b) gaps → HasNoneOf n.must gaps → HasNoneOf n.never gaps →
+child_holds : (n : Region) (gaps : List ℕ) (i : ℕ) (c : Region) → slice_get (child_regions n gaps) i ≡ Some c → AllPairs (λ a b. a < b) gaps → HasNoneOf n.must gaps → HasNoneOf n.never gaps →
     IsInRegion n n.must → IsInRegion c c.must
 child_holds n [] i c e up must never holds = absurd (none-some c e)
 child_holds n (gap ∷ gaps) zero c e up must never holds = subst (λ (d : Region). IsInRegion d d.must) (same_Some (with_gap n gap) c e) (record {
@@ -160,10 +160,10 @@ module _ (o : Outcome) (is : IsOutcome o) where
   ]
 
   -- the walk for a set of a node comes to it
-  comes : (bound place : ℕ) → place < bound → (e : Entry) → slice_get o.entries place ≡ Some e → (m : Region) (end : ℕ) → IsInRegion e.node m.must → Leads o.entries m place end → Leads o.entries m 0 end
+  comes : (bound place : ℕ) → place < bound → (e : Entry) → slice_get o.entries place ≡ Some e → (m : Region) (end : ℕ) → IsInRegion e.node m.must → WalkLeads o.entries m place end → WalkLeads o.entries m 0 end
   comes zero place below e there m end inside rest = absurd (omega arith)
   comes (suc bound) place below e there m end inside rest = elim (parents place e there) [
-    | inl root ↦ subst (λ (k : ℕ). Leads o.entries m k end) root.0 rest
+    | inl root ↦ subst (λ (k : ℕ). WalkLeads o.entries m k end) root.0 rest
     | inr c ↦ comes bound c.parent (let h = earlier place e.node c in omega arith) c.above c.there m end
         (in_parent c.above.node (open_gaps c.run.passed c.above.node.never) c.number e.node m.must c.is_child inside)
         (goes c.parent place end (goes_there place e.node c m inside) rest)
@@ -180,9 +180,9 @@ module _ (o : Outcome) (is : IsOutcome o) where
       by_status Cut h = refl
       by_status Confirmed h = refl
 
-  found : (place : ℕ) (e : Entry) → slice_get o.entries place ≡ Some e → Leads o.entries e.node 0 place
+  found : (place : ℕ) (e : Entry) → slice_get o.entries place ≡ Some e → WalkLeads o.entries e.node 0 place
   found place e there =
       comes (suc place) place (omega arith) e there e.node place (holds (suc place) place (omega arith) e there) (ends place (ends_there place e there))
 
-  pub stands_only : (n : Region) (place : ℕ) → Leads o.entries n 0 place → StandsOnlyAt o.entries n place
-  stands_only n place leads p e there same = same_end o.entries n 0 p place (subst (λ (m : Region). Leads o.entries m 0 p) same (found p e there)) leads
+  pub stands_only : (n : Region) (place : ℕ) → WalkLeads o.entries n 0 place → StandsOnlyAt o.entries n place
+  stands_only n place leads p e there same = same_end o.entries n 0 p place (subst (λ (m : Region). WalkLeads o.entries m 0 p) same (found p e there)) leads

@@ -17,10 +17,10 @@ use Rattle.search_core.proofs.Places.{get_here, get_else, get_old}
 use Rattle.hunt_board.specs.declared.settling.Event.{Event}
 use Rattle.hunt_board.specs.declared.settling.Event.TheVariants as event
 use Rattle.hunt_board.specs.declared.settling.Receipt.{Receipt}
-use Rattle.hunt_board.specs.Receipts.{IsEventOf as IsEventTold, IsReceiptOf, Stands, StandApart, NameAll, IsFirstWrong}
+use Rattle.hunt_board.specs.Receipts.{IsReceiptEvent as IsEventTold, IsReceiptOf, Stands, StandApart, NameAll, IsFirstWrong}
 use Rattle.hunt_board.specs.Internal.Settled.{IsSameEvent, SaysSame}
 use Rattle.hunt_board.specs.Internal.Marks.{HasMark, IsMarked, IsNotMarked}
-use Rattle.hunt_board.specs.Internal.Places.{Leads, StandsOnlyAt}
+use Rattle.hunt_board.specs.Internal.Places.{WalkLeads, StandsOnlyAt}
 use Rattle.hunt_board.proofs.Found.{same_end}
 
 -- what is at a place of a list's front
@@ -61,7 +61,7 @@ all_marked (false ∷ marks) k all h = absurd (let few = few_marked marks in ome
 pub record AreMarked (entries : List Entry) (receipts : List Receipt) (marks : List Bool) (count : ℕ) : Type 0 where
   pub long : length marks ≡ length entries
   pub stand : (j : ℕ) (r : Receipt) → j < count → slice_get receipts j ≡ Some r → Stands entries r
-  pub are_marked : (j place : ℕ) (r : Receipt) → j < count → slice_get receipts j ≡ Some r → Leads entries r.node 0 place → slice_get marks place ≡ Some true
+  pub are_marked : (j place : ℕ) (r : Receipt) → j < count → slice_get receipts j ≡ Some r → WalkLeads entries r.node 0 place → slice_get marks place ≡ Some true
   pub apart : (j i : ℕ) (q r : Receipt) → j < i → i < count → slice_get receipts j ≡ Some q → slice_get receipts i ≡ Some r → q.node ≢ r.node
   pub named : (place : ℕ) (e : Entry) → slice_get marks place ≡ Some true → slice_get entries place ≡ Some e → (j : ℕ) × (r : Receipt) × (j < count) × (slice_get receipts j ≡ Some r) × IsReceiptOf e r
   pub as_many : marked marks ≡ count
@@ -87,17 +87,17 @@ module _ (entries : List Entry) (receipts : List Receipt) (marks : List Bool) (c
       | inr not_less ↦ subst (Stands entries) (is_x j r (omega arith) there) stands_x
     ]
 
-    marked_on : (j place : ℕ) (r : Receipt) → j < count + 1 → slice_get receipts j ≡ Some r → Leads entries r.node 0 place → slice_get (set marks is.place true) place ≡ Some true
+    marked_on : (j place : ℕ) (r : Receipt) → j < count + 1 → slice_get receipts j ≡ Some r → WalkLeads entries r.node 0 place → slice_get (set marks is.place true) place ≡ Some true
     marked_on j place r h there leads = elim (cases_lt j count) [
       | inl less ↦ stays place (so.are_marked j place r less there leads)
       | inr not_less ↦ (let same : x ≡ r = is_x j r (omega arith) there in
-          let end : place ≡ is.place = same_end entries x.node 0 place is.place (subst (λ (y : Receipt). Leads entries y.node 0 place) (sym same) leads) is.leads in
+          let end : place ≡ is.place = same_end entries x.node 0 place is.place (subst (λ (y : Receipt). WalkLeads entries y.node 0 place) (sym same) leads) is.leads in
           ap (slice_get (set marks is.place true)) end ∙ get_here marks is.place false true is.has)
     ]
 
     new_node : (j : ℕ) (q : Receipt) → j < count → slice_get receipts j ≡ Some q → q.node ≢ x.node
     new_node j q less there same = true≢false (same_Some true false
-        (sym (so.are_marked j is.place q less there (subst (λ n. Leads entries n 0 is.place) (sym same) is.leads)) ∙ is.has))
+        (sym (so.are_marked j is.place q less there (subst (λ n. WalkLeads entries n 0 is.place) (sym same) is.leads)) ∙ is.has))
 
     apart_on : (j i : ℕ) (q r : Receipt) → j < i → i < count + 1 → slice_get receipts j ≡ Some q → slice_get receipts i ≡ Some r → q.node ≢ r.node
     apart_on j i q r before h there there' = elim (cases_lt i count) [
@@ -243,7 +243,7 @@ module _ (e : Entry) (settled : Settled) (r : Receipt) (told : IsSettledAs e set
   }
 
 -- the mark of the receipt's node
-abbrev pub mark_of : (entries : List Entry) (r : Receipt) (marks : List Bool) (place : ℕ) (settled : Settled) (mark b : Bool) → Leads entries r.node 0 place →
+abbrev pub mark_of : (entries : List Entry) (r : Receipt) (marks : List Bool) (place : ℕ) (settled : Settled) (mark b : Bool) → WalkLeads entries r.node 0 place →
     ((e : Entry) × (slice_get entries place ≡ Some e) × IsSettledAs e settled) → SaysSame settled r → length marks ≡ length entries → mark ≡ get_or marks place mark → mark ≡ b →
     HasMark entries r marks b
 mark_of entries r marks place settled mark b leads found says long read is = record {

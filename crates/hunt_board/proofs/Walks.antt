@@ -3,7 +3,7 @@ use Rattle.std.proofs.Common.{◌≡◌, ℕ, zero, suc, ◌+◌, ◌<◌, List,
 use Rattle.std.specs.Prelude.{slice_get}
 use Rattle.std.proofs.lemmas.Option.{same_Some, slice_get_within}
 use Rattle.gap_sets.specs.Gaps.{SetOfGaps}
-use Rattle.gap_sets.specs.Regions.{open_gaps, children_of, with_gap, without_gap}
+use Rattle.gap_sets.specs.Regions.{open_gaps, child_regions, with_gap, without_gap}
 use Rattle.gap_sets.specs.declared.region.Region.{Region}
 use Rattle.cover_solver.specs.Facts.{Foreign}
 use Rattle.search_core.specs.declared.entry.Entry.{Entry}
@@ -21,7 +21,7 @@ none_there None none = refl
 none_there (Some x) none = absurd (none x refl)
 
 -- a node has a child for each gap
-kid_there : (n : Region) (gaps : List ℕ) (i : ℕ) → i < length gaps → (c : Region) × (slice_get (children_of n gaps) i ≡ Some c)
+kid_there : (n : Region) (gaps : List ℕ) (i : ℕ) → i < length gaps → (c : Region) × (slice_get (child_regions n gaps) i ≡ Some c)
 kid_there n [] i h = absurd (omega arith)
 kid_there n (gap ∷ gaps) zero h = (with_gap n gap, refl)
 kid_there n (gap ∷ gaps) (suc i) h = kid_there (without_gap n gap) gaps i (omega arith)

@@ -12,12 +12,12 @@ pub record PostedRun : Type 0 where
   pub run : Option Foreign
 
 -- the cell at the place has that name
-abbrev pub IsIn : List ℕ → PostedRun → Type 0
-IsIn cells p = slice_get cells p.place ≡ Some p.cell
+abbrev pub IsInCell : List ℕ → PostedRun → Type 0
+IsInCell cells p = slice_get cells p.place ≡ Some p.cell
 
 -- where the cell of this index in a seat's row lies
-abbrev pub place_of : ℕ → ℕ → Option ℕ
-place_of seat index = if nat_lt index ROW_CELLS then Some (seat * ROW_CELLS + index) else None
+abbrev pub cell_place : ℕ → ℕ → Option ℕ
+cell_place seat index = if nat_lt index ROW_CELLS then Some (seat * ROW_CELLS + index) else None
 
 -- the cell of this index in the seat's row is there
 pub record IsThere (cells : List ℕ) (seat index : ℕ) : Type 0 where

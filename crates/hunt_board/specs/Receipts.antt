@@ -12,24 +12,24 @@ use Rattle.hunt_board.specs.declared.fault.CloseFault.TheVariants as fault
 use Rattle.hunt_board.specs.Seats.{HuntView}
 
 -- so the node was settled; of a split the event has the gaps that its run passes
-abbrev pub IsEventOf : Status → Event → Type 0
-IsEventOf Open e = ⊥
-IsEventOf Held e = ⊥
-IsEventOf (Split run first) (event.Split passed) = run.passed ≡ passed
-IsEventOf (Split run first) event.Cut = ⊥
-IsEventOf (Split run first) event.Confirmed = ⊥
-IsEventOf Cut (event.Split passed) = ⊥
-IsEventOf Cut event.Cut = Unit {0}
-IsEventOf Cut event.Confirmed = ⊥
-IsEventOf Confirmed (event.Split passed) = ⊥
-IsEventOf Confirmed event.Cut = ⊥
-IsEventOf Confirmed event.Confirmed = Unit {0}
+abbrev pub IsReceiptEvent : Status → Event → Type 0
+IsReceiptEvent Open e = ⊥
+IsReceiptEvent Held e = ⊥
+IsReceiptEvent (Split run first) (event.Split passed) = run.passed ≡ passed
+IsReceiptEvent (Split run first) event.Cut = ⊥
+IsReceiptEvent (Split run first) event.Confirmed = ⊥
+IsReceiptEvent Cut (event.Split passed) = ⊥
+IsReceiptEvent Cut event.Cut = Unit {0}
+IsReceiptEvent Cut event.Confirmed = ⊥
+IsReceiptEvent Confirmed (event.Split passed) = ⊥
+IsReceiptEvent Confirmed event.Cut = ⊥
+IsReceiptEvent Confirmed event.Confirmed = Unit {0}
 
 -- the receipt says how the node was settled, and by which seat
 pub record IsReceiptOf (e : Entry) (r : Receipt) : Type 0 where
   pub node : r.node ≡ e.node
   pub seat : r.seat ≡ e.seat
-  pub event : IsEventOf e.status r.event
+  pub event : IsReceiptEvent e.status r.event
 
 -- it is the receipt of some node of the record
 abbrev pub Stands : List Entry → Receipt → Type 0
@@ -47,14 +47,14 @@ pub record NameAll (entries : List Entry) (receipts : List Receipt) : Type 0 whe
   pub whole : (place : ℕ) (e : Entry) → slice_get entries place ≡ Some e → (i : ℕ) × (r : Receipt) × (slice_get receipts i ≡ Some r) × IsReceiptOf e r
 
 -- an earlier receipt is of the same node
-abbrev pub IsRepeated : List Receipt → ℕ → Receipt → Type 0
-IsRepeated receipts i r = (j : ℕ) × (q : Receipt) × (j < i) × (slice_get receipts j ≡ Some q) × (q.node ≡ r.node)
+abbrev pub IsSecondReceipt : List Receipt → ℕ → Receipt → Type 0
+IsSecondReceipt receipts i r = (j : ℕ) × (q : Receipt) × (j < i) × (slice_get receipts j ≡ Some q) × (q.node ≡ r.node)
 
 -- the first receipt that is of no node of the record, or of the same node as an earlier one
 pub record IsFirstWrong (entries : List Entry) (receipts : List Receipt) (i : ℕ) : Type 0 where
   pub receipt : Receipt
   pub there : slice_get receipts i ≡ Some receipt
-  pub wrong : (¬ Stands entries receipt) ⊎ IsRepeated receipts i receipt
+  pub wrong : (¬ Stands entries receipt) ⊎ IsSecondReceipt receipts i receipt
   pub before : StandApart entries (take i receipts)
 
 -- what a search of the hunt's question and costs leaves when it is done

@@ -32,8 +32,8 @@ abbrev pub IsOf : HuntView → SeatView → Type 0
 IsOf h s = IsSeatOf (word_of h) s.known × IfSome s.best (λ best. best.question ≡ h.question)
 
 -- the same seat, but for the node that it holds
-abbrev pub with_node : SeatView → Option Region → SeatView
-with_node s node = record s { node = node }
+abbrev pub holding_node : SeatView → Option Region → SeatView
+holding_node s node = record s { node = node }
 
 -- the same seat, but for the best set
 abbrev pub with_best : SeatView → Option Serving → SeatView

@@ -14,25 +14,25 @@ use Rattle.hunt_board.specs.declared.settling.Event.TheVariants as event
 use Rattle.hunt_board.specs.declared.settling.Receipt.{Receipt}
 use Rattle.hunt_board.specs.declared.settling.Next.{Next}
 use Rattle.hunt_board.specs.declared.settling.Next.TheVariants.{Work, Done}
-use Rattle.hunt_board.specs.Seats.{HuntView, SeatView, with_node, with_best}
+use Rattle.hunt_board.specs.Seats.{HuntView, SeatView, holding_node, with_best}
 
 -- for a node, at a seat that has confirmed this best set: an oracle's verdict on what the node's sets must have; a ceiling of the hunt, which that costs more
 -- than; or that is not better than the seat's best set
-abbrev pub IsLawful : HuntView → Option facts.Serving → Region → Settling → Type 0
-IsLawful h best n (Asked said) = IsVerdictOf h.question n.must said
-IsLawful h best n (Cut ceiling) = IsCeilingOf h.question h.costs ceiling × MatchOption ceiling ⊥ (λ bound. bound.cost < total h.costs n.must)
-IsLawful h best n Best = IsBeatenBy h.costs best n.must
+abbrev pub IsLawfulSettling : HuntView → Option facts.Serving → Region → Settling → Type 0
+IsLawfulSettling h best n (Asked said) = IsVerdictOf h.question n.must said
+IsLawfulSettling h best n (Cut ceiling) = IsCeilingOf h.question h.costs ceiling × MatchOption ceiling ⊥ (λ bound. bound.cost < total h.costs n.must)
+IsLawfulSettling h best n Best = IsBeatenBy h.costs best n.must
 
 -- the seat holds a node for which the settling is lawful
 abbrev pub MaySettle : HuntView → SeatView → Settling → Type 0
-MaySettle h s how = MatchOption s.node ⊥ (λ n. IsLawful h s.best n how)
+MaySettle h s how = MatchOption s.node ⊥ (λ n. IsLawfulSettling h s.best n how)
 
 -- what becomes of the node
-abbrev pub event_of : Settling → Event
-event_of (Asked (verdict.Foreign run)) = event.Split run.passed
-event_of (Asked (verdict.Serves served)) = event.Confirmed
-event_of (Cut ceiling) = event.Cut
-event_of Best = event.Cut
+abbrev pub settling_event : Settling → Event
+settling_event (Asked (verdict.Foreign run)) = event.Split run.passed
+settling_event (Asked (verdict.Serves served)) = event.Confirmed
+settling_event (Cut ceiling) = event.Cut
+settling_event Best = event.Cut
 
 -- the settling is by a foreign run
 abbrev pub IsByRun : Settling → Type 0
@@ -50,14 +50,14 @@ IsOwnBestAfter costs Best before after = after ≡ before
 
 -- the seat after it settled its node: it holds nothing, and only its best set may be another
 pub record IsSettled (h : HuntView) (how : Settling) (before after : SeatView) : Type 0 where
-  pub same : after ≡ with_best (with_node before None) after.best
+  pub same : after ≡ with_best (holding_node before None) after.best
   pub best : IsOwnBestAfter h.costs how before.best after.best
 
 -- the receipt of a seat's node for the settling
 pub record IsReceiptFor (s : SeatView) (how : Settling) (receipt : Receipt) : Type 0 where
   pub seat : receipt.seat ≡ s.number
   pub node : s.node ≡ Some receipt.node
-  pub event : receipt.event ≡ event_of how
+  pub event : receipt.event ≡ settling_event how
 
 -- the node that there is to work on
 abbrev pub node_of : Next → Option Region

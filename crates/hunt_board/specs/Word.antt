@@ -18,9 +18,9 @@ number_of None = no_ceiling
 number_of (Some cost) = cost
 
 -- the same of a ceiling
-abbrev pub number_in : Option Bound → ℕ
-number_in None = no_ceiling
-number_in (Some bound) = bound.cost
+abbrev pub ceiling_number : Option Bound → ℕ
+ceiling_number None = no_ceiling
+ceiling_number (Some bound) = bound.cost
 
 -- what the answer costs
 abbrev pub goal_of : Problem → ℕ
@@ -82,7 +82,7 @@ pub record Ruled (goal : ℕ) (s : State ℕ View) : Type 0 where
   pub views : (i : ℕ) (v : View) → get_elem? s.views i ≡ some v → Fits goal (slice_index s.words 0) v
 
 -- the seat holds no slot, is not spent and has the goal
-pub record IsLive (goal : ℕ) (me : Me ℕ View) : Type 0 where
+pub record IsLiveSeat (goal : ℕ) (me : Me ℕ View) : Type 0 where
   pub goal_is : me.0.goal ≡ goal
   pub live : me.0.live ≡ true
   pub slots : me.1 ≡ []
@@ -91,7 +91,7 @@ pub record IsLive (goal : ℕ) (me : Me ℕ View) : Type 0 where
 pub record SitsAt (table : TableId) (about : Problem) (of : TableId) (me : Me ℕ View) : Type 0 where
   pub of_table : of ≡ table
   pub one_word : table.words ≡ 1
-  pub live : IsLive (goal_of about) me
+  pub live : IsLiveSeat (goal_of about) me
 
 -- the number found is no more than the seat's least, which it becomes
 pub record Loaded (t : Step ℕ) (me : Me ℕ View) (n : ℕ) (after : Me ℕ View) : Type 0 where

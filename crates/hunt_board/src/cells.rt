@@ -3,7 +3,7 @@ ghost use Rattle.std.specs.Prelude.{◌≡◌, ◌<◌, ◌≤◌, ◌*◌, ◌+
 ghost use Rattle.tso_program.specs.Shown.{asked};
 ghost use Rattle.cover_solver.specs.Facts.{IsForeignValue};
 ghost use Rattle.once_cell.specs.Once.{cell_name};
-ghost use Rattle.hunt_board.specs.Cells.{IsIn, IsThere, place_of, run_in};
+ghost use Rattle.hunt_board.specs.Cells.{IsInCell, IsThere, cell_place, run_in};
 
 use cover_solver::ForeignRun;
 use once_cell::race::{Note, OnceBox};
@@ -57,7 +57,7 @@ pub enum PostFault {
 
 /// Where the cell of this index in a seat's row lies, if the row has it.
 fn place_of(seat: u8, index: usize) -> Option<usize>
-    ensures { result ≡ place_of seat index }
+    ensures { result ≡ cell_place seat index }
 {
     if index < ROW_CELLS {
         Some(usize::from(seat) * ROW_CELLS + index)
@@ -81,8 +81,8 @@ impl RunCells {
 
     /// Posts a run in a seat's row.
     pub fn post(&self, seat: u8, index: usize, run: ForeignRun) -> Result<Posted, PostFault>
-        ensures posted { IfOk result (λ posted. IsIn (map cell_name self.now.cells.items) posted × (posted.run ≡ Some run)) }
-        ensures place { IfOk result (λ posted. Some posted.place ≡ place_of seat index) }
+        ensures posted { IfOk result (λ posted. IsInCell (map cell_name self.now.cells.items) posted × (posted.run ≡ Some run)) }
+        ensures place { IfOk result (λ posted. Some posted.place ≡ cell_place seat index) }
         ensures back { IfErr result (λ fault. run_in fault ≡ run) }
         ensures full { ROW_CELLS ≤ index → result ≡ Err (PostFault.RowFull run) }
         ensures refused { index < ROW_CELLS → IfErr result (λ fault. fault ≡ PostFault.Refused run) }
@@ -98,7 +98,7 @@ impl RunCells {
 
     /// The very run that was posted.
     pub fn posted(&self, posted: &mut Posted) -> &ForeignRun
-        requires { IsIn (map cell_name self.now.cells.items) posted.old }
+        requires { IsInCell (map cell_name self.now.cells.items) posted.old }
         ensures run { posted.old.run ≡ Some result.now }
         ensures same { posted.new ≡ posted.old }
     {

@@ -8,12 +8,12 @@ ghost use Rattle.search_core.specs.Ceilings.{IsCeilingOf};
 ghost use Rattle.search_core.specs.States.{IsStart, HoldsOnly};
 ghost use Rattle.search_core.specs.Events.{TakesNode};
 ghost use Rattle.search_core.specs.Records.{IsOutcome};
-ghost use Rattle.hunt_board.specs.Cells.{IsIn, IsThere, place_of, run_in};
+ghost use Rattle.hunt_board.specs.Cells.{IsInCell, IsThere, cell_place, run_in};
 ghost use Rattle.hunt_board.specs.declared.cells.TheConstants.{ROW_CELLS};
-ghost use Rattle.hunt_board.specs.Seats.{HuntView, IsOf, AreFresh, word_of, with_node, with_known, with_posted};
+ghost use Rattle.hunt_board.specs.Seats.{HuntView, IsOf, AreFresh, word_of, holding_node, with_known, with_posted};
 ghost use Rattle.hunt_board.specs.Settlings.{MaySettle, IsByRun, IsSettled, IsReceiptFor, node_of};
 ghost use Rattle.hunt_board.specs.Receipts.{NameAll, CloseFaultIs};
-ghost use Rattle.hunt_board.specs.Word.{IsSeatOf, no_ceiling, number_in, with_least, word_with};
+ghost use Rattle.hunt_board.specs.Word.{IsSeatOf, no_ceiling, ceiling_number, with_least, word_with};
 ghost use Rattle.hunt_board.specs.Internal.Events.{IsFor, IsLawfulThere};
 
 use crate::cells::{PostFault, Posted, RunCells};
@@ -112,7 +112,7 @@ impl Hunt {
     pub fn next<R: Wait>(&self, rt: &R, seat: &mut HuntSeat) -> Next
         requires of { IsOf self.now seat.old }
         requires free { seat.old.node ≡ None }
-        ensures seat { seat.new ≡ with_node seat.old (node_of result) }
+        ensures seat { seat.new ≡ holding_node seat.old (node_of result) }
         ensures gaps { IfSome (node_of result) (λ n. AreGapsOf self.now.question.program n.must) }
     {
         let taken = self.take_when_open(rt, seat.number);
@@ -159,7 +159,7 @@ impl Hunt {
     pub fn give_back<R: Wait>(&self, rt: &R, seat: &mut HuntSeat)
         requires of { IsOf self.now seat.old }
         requires holds { IsSome seat.old.node }
-        ensures { seat.new ≡ with_node seat.old None }
+        ensures { seat.new ≡ holding_node seat.old None }
     {
         self.reopen(rt, seat.number);
         self.opened.notify_all();
@@ -170,8 +170,8 @@ impl Hunt {
     pub fn ceiling(&self, seat: &mut HuntSeat) -> Ceiling
         requires { IsOf self.now seat.old }
         ensures of { IsCeilingOf self.now.question self.now.costs result }
-        ensures least { number_in result ≤ seat.old.known.least }
-        ensures seat { seat.new ≡ with_known seat.old (with_least seat.old.known (number_in result)) }
+        ensures least { ceiling_number result ≤ seat.old.known.least }
+        ensures seat { seat.new ≡ with_known seat.old (with_least seat.old.known (ceiling_number result)) }
     {
         self.word
             .ceiling(&mut seat.word, &self.program, &self.shown, &self.costs)
@@ -192,8 +192,8 @@ impl Hunt {
     pub fn post(&self, seat: &mut HuntSeat, run: ForeignRun) -> Result<Posted, PostFault>
         requires of { IsOf self.now seat.old }
         requires question { run.question ≡ self.now.question }
-        ensures posted { IfOk result (λ posted. IsIn self.now.cells posted × (posted.run ≡ Some run)) }
-        ensures place { IfOk result (λ posted. Some posted.place ≡ place_of seat.old.number seat.old.posted) }
+        ensures posted { IfOk result (λ posted. IsInCell self.now.cells posted × (posted.run ≡ Some run)) }
+        ensures place { IfOk result (λ posted. Some posted.place ≡ cell_place seat.old.number seat.old.posted) }
         ensures seat { OnOk result (seat.new ≡ with_posted seat.old (seat.old.posted + 1)) }
         ensures unchanged { OnErr result (seat.new ≡ seat.old) }
         ensures back { IfErr result (λ fault. run_in fault ≡ run) }
@@ -207,7 +207,7 @@ impl Hunt {
 
     /// The very run that was posted. Takes no memory and never waits.
     pub fn posted(&self, posted: &mut Posted) -> &ForeignRun
-        requires { IsIn self.now.cells posted.old }
+        requires { IsInCell self.now.cells posted.old }
         ensures run { posted.old.run ≡ Some result.now }
         ensures same { posted.new ≡ posted.old }
     {

@@ -4,7 +4,7 @@ ghost use Rattle.std.specs.Bool.{MatchBool};
 ghost use Rattle.gap_sets.specs.Regions.{open_gaps};
 ghost use Rattle.hunt_board.specs.Receipts.{NameAll};
 ghost use Rattle.hunt_board.specs.Internal.Marks.{IsMarked, IsNotMarked, RecordFaultIs};
-ghost use Rattle.hunt_board.specs.Internal.Places.{Leads, StandsOnlyAt, child_of, number_of_child};
+ghost use Rattle.hunt_board.specs.Internal.Places.{WalkLeads, StandsOnlyAt, child_of, number_of_child};
 ghost use Rattle.hunt_board.specs.Internal.Settled.{IsSameEvent, SaysSame};
 
 use crate::{CloseFault, Event, Receipt};
@@ -86,7 +86,7 @@ fn is_same_event(recorded: search_core::Event<'_>, event: &Event) -> bool
 /// Where the node of this region stands in the record, if it stands there at all: a walk from the root, at
 /// each split to the child of the first gap that the node's sets must have.
 fn place_of(finished: &Finished, node: &Region) -> usize
-    ensures leads { Leads finished.now.entries node.now 0 result }
+    ensures leads { WalkLeads finished.now.entries node.now 0 result }
     ensures only { StandsOnlyAt finished.now.entries node.now result }
 {
     // For the proof alone: what holds of every record is known where its program is read.

@@ -4,7 +4,7 @@ ghost use Rattle.gap_sets.specs.Order.{Better};
 ghost use Rattle.gap_sets.specs.declared.region.Region.{Region};
 ghost use Rattle.cover_solver.specs.Facts.{Serving, IsServing};
 ghost use Rattle.search_core.specs.Events.{IsBestAfter};
-ghost use Rattle.hunt_board.specs.Seats.{SeatView, with_node, with_best, with_known};
+ghost use Rattle.hunt_board.specs.Seats.{SeatView, holding_node, with_best, with_known};
 ghost use Rattle.hunt_board.specs.Settlings.{IsOwnBestAfter};
 ghost use Rattle.hunt_board.specs.Word.{IsSeatOf, with_least, word_with};
 ghost use Rattle.hunt_board.specs.Internal.Confirmed.{serving_of, newer, IsKept};
@@ -132,7 +132,7 @@ impl HuntSeat {
     /// The seat holds nothing more, and the set, if there is one, is its best.
     pub(crate) fn let_go(&mut self, best: Option<Confirmed>)
         requires { IfSome best IsKept }
-        ensures { self.new ≡ with_best (with_node self.old None) (newer self.old.best (serving_of best)) }
+        ensures { self.new ≡ with_best (holding_node self.old None) (newer self.old.best (serving_of best)) }
     {
         self.node = None;
         if best.is_some() {

@@ -1,6 +1,6 @@
 //! How a node is settled, and what is given for it.
 ghost use Rattle.std.specs.Prelude.{◌≡◌};
-ghost use Rattle.hunt_board.specs.Settlings.{event_of};
+ghost use Rattle.hunt_board.specs.Settlings.{settling_event};
 
 use cover_solver::Verdict;
 use gap_sets::{GapSet, Region};
@@ -46,7 +46,7 @@ pub enum Next {
 impl Settling {
     /// What becomes of the node.
     pub(crate) fn event(&self) -> Event
-        ensures { result ≡ event_of self.now }
+        ensures { result ≡ settling_event self.now }
     {
         match self {
             Settling::Asked(Verdict::Foreign(run)) => Event::Split(run.passed()),

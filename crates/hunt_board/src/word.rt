@@ -3,7 +3,7 @@ ghost use Rattle.std.specs.Prelude.{◌≡◌, ◌≤◌, IfOk, IfSome, min};
 ghost use Rattle.gap_sets.specs.Order.{total};
 ghost use Rattle.tso_program.specs.Shown.{asked};
 ghost use Rattle.search_core.specs.Ceilings.{IsCeilingOf, problem};
-ghost use Rattle.hunt_board.specs.Word.{HasLowered, IsSeatOf, goal_of, no_ceiling, number_in, number_of, with_least, word_with};
+ghost use Rattle.hunt_board.specs.Word.{HasLowered, IsSeatOf, goal_of, no_ceiling, ceiling_number, number_of, with_least, word_with};
 
 use crate::rule::{View, WordRule};
 use crate::steps;
@@ -30,13 +30,13 @@ pub struct WordSeat {
 
 impl Model for WordSeat {
     ghost use Rattle.std.specs.Prelude.{◌≡◌};
-    ghost use Rattle.hunt_board.specs.Word.{Known, IsLive};
+    ghost use Rattle.hunt_board.specs.Word.{Known, IsLiveSeat};
 
     ghost Value = { Known };
 
     ghost view = { λ s. record { table = s.seat.table_id; goal = s.seat.me.0.goal; least = s.seat.me.0.least } };
 
-    ghost invariant = { λ s. IsLive s.seat.me.0.goal s.seat.me × (s.seat.table_id.words ≡ 1) };
+    ghost invariant = { λ s. IsLiveSeat s.seat.me.0.goal s.seat.me × (s.seat.table_id.words ≡ 1) };
 }
 
 impl CeilingWord {
@@ -106,8 +106,8 @@ impl CeilingWord {
         requires seat { IsSeatOf (word_with self.now.table.shared.key self.now.table.shared.table_id) seat.old }
         requires problem { self.now.table.shared.key ≡ problem (asked program.now shown.now) costs.now }
         ensures of { IsCeilingOf (asked program.now shown.now) costs.now result }
-        ensures least { number_in result ≤ seat.old.least }
-        ensures seat { seat.new ≡ with_least seat.old (number_in result) }
+        ensures least { ceiling_number result ≤ seat.old.least }
+        ensures seat { seat.new ≡ with_least seat.old (ceiling_number result) }
     {
         // For the proof alone: that jumps lead forward is known where the threads are read.
         let _ = program.threads();

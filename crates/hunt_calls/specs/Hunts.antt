@@ -1,7 +1,7 @@
 -- What a script over a hunt has in hand.
 use Rattle.std.specs.Prelude.{IfSome}
 use Rattle.tso_machine.specs.Outcomes.{AreGapsOf}
-use Rattle.hunt_board.specs.Cells.{IsIn}
+use Rattle.hunt_board.specs.Cells.{IsInCell}
 use Rattle.hunt_board.specs.Seats.{HuntView, IsOf}
 use Rattle.hunt_calls.specs.declared.hunts.Hand.{Hand}
 
@@ -9,4 +9,4 @@ use Rattle.hunt_calls.specs.declared.hunts.Hand.{Hand}
 pub record IsSound (h : HuntView) (hand : Hand) : Type 0 where
   pub of : IsOf h hand.seat
   pub gaps : IfSome hand.seat.node (λ n. AreGapsOf h.question.program n.must)
-  pub posted : IfSome hand.posted (IsIn h.cells)
+  pub posted : IfSome hand.posted (IsInCell h.cells)

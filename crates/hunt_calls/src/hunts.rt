@@ -5,7 +5,7 @@ ghost use Rattle.cover_solver.specs.Facts.{IsForeignValue};
 ghost use Rattle.cover_solver.specs.Verdicts.{IsVerdictOf, PassesNoneOf};
 ghost use Rattle.search_core.specs.Events.{IsBeatenBy};
 ghost use Rattle.hunt_board.specs.Seats.{IsOf};
-ghost use Rattle.hunt_board.specs.Settlings.{IsLawful};
+ghost use Rattle.hunt_board.specs.Settlings.{IsLawfulSettling};
 ghost use Rattle.hunt_calls.specs.Hunts.{IsSound};
 
 use crate::beside::{fill, lower, post, push_ceiling, push_look, push_posted};
@@ -123,7 +123,7 @@ fn settling_of(
 ) -> Result<Settling, HuntRefusal>
     requires of_table { hunt.now.question ≡ table.now.question }
     requires gaps { AreGapsOf hunt.now.question.program node.now.must }
-    ensures { IfOk result (IsLawful hunt.now seat.now.best node.now) }
+    ensures { IfOk result (IsLawfulSettling hunt.now seat.now.best node.now) }
 {
     let (name, labels) = split_at_byte(word, b':');
     if name == b"split".as_slice() {

@@ -18,13 +18,13 @@ use Rattle.known_edges.specs.ProgramSketches.{ProgramSketch, mode_in}
 use Rattle.known_edges.specs.Kept.{view_of}
 use Rattle.known_edges.specs.Known.{HasCycle}
 use Rattle.known_edges.specs.Choices.{MayRead, MayFollow}
-use Rattle.known_edges.specs.Rows.{AreRowsOf, AreSourceRows, AreOrderRows, ClosesOnce, ClosesTwice, IsRepresented, main_kind, rows_of}
+use Rattle.known_edges.specs.Rows.{AreRowsOf, AreSourceRows, AreOrderRows, ClosesOnce, ClosesTwice, IsRepresented, main_kind, union_rows}
 use Rattle.known_edges.proofs.Found.{cycle_of_accesses, kind_of}
 use Rattle.known_edges.proofs.Numbered.{access_number, rows_of_kind}
 use Rattle.known_edges.proofs.Rounds.{cycle_down, cycle_up}
 use Rattle.known_edges.proofs.RowsKept.{source_represented, pair_represented}
 
-side : (kind : Kind) (main global : List ℕ) → HasRound (rows_of kind main global) → HasRound main ⊎ HasRound global
+side : (kind : Kind) (main global : List ℕ) → HasRound (union_rows kind main global) → HasRound main ⊎ HasRound global
 side union.Sequential main global h = inl h
 side union.Location main global h = inl h
 side union.Global main global h = inr h
@@ -37,7 +37,7 @@ module _ (p : Listing) (mode : Mode) (thread_traces : List ThreadTrace) (events 
   round_of : HasCycle v → HasRound main ⊎ HasRound global
   round_of (kind, (es, cycle)) =
       let rows = rows_of_kind p mode kind events (λ (k : Kind). KnownEdgeOfMode v.program (mode_in v) v.chosen k) main global (kind_of v kind es cycle) is.rows.main_rows is.rows.global_rows in
-      side kind main global (cycle_down (KnownEdgeOfMode v.program (mode_in v) v.chosen kind) events (rows_of kind main global) rows es cycle
+      side kind main global (cycle_down (KnownEdgeOfMode v.program (mode_in v) v.chosen kind) events (union_rows kind main global) rows es cycle
       (λ e has. access_number p mode thread_traces sources pairs is.kept events (is.rows.all whole) e (cycle_of_accesses v kind es is.kept.lawful cycle e has)))
 
   cycle_of : HasRound main ⊎ HasRound global → HasCycle v

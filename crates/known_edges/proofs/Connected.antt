@@ -1,7 +1,7 @@
 -- What a choice adds to the known edges, and that the rows are brought up to date with it.
 use Rattle.std.proofs.Common.{◌≡◌, ◌≢◌, ◌↔◌, ◌⊎◌, ℕ, List, [], ◌∷◌, ◌++◌, Some, Contains, slice_get, refl, sym, ap, ◌∙◌, subst, inl, inr}
 use Rattle.std.proofs.lemmas.List.Elements.{Contains-append_left, Contains-push, Contains-push_cases}
-use Rattle.bit_rows.specs.Rows.{IsIn, Relates}
+use Rattle.bit_rows.specs.Rows.{IsIn, RowHas}
 use Rattle.tso_program.specs.declared.listing.Listing.{Listing}
 use Rattle.candidate_executions.specs.declared.access.Access.{Access}
 use Rattle.candidate_executions.specs.declared.event.Event.{Event}
@@ -25,7 +25,7 @@ HasNumber events x = (d : ℕ) × (slice_get events d ≡ Some x)
 
 -- rows that are connected
 pub connected : (events : List Event) (R S : Event → Event → Type 0) (A B : Event → Type 0) (from to : ℕ) (old new : List ℕ) → AreRowsOf events R old →
-    IsRowOf events A from → IsRowOf events B to → ((d e : ℕ) → Relates new d e ↔ (Relates old d e ⊎ (IsIn from d × IsIn to e))) →
+    IsRowOf events A from → IsRowOf events B to → ((d e : ℕ) → RowHas new d e ↔ (RowHas old d e ⊎ (IsIn from d × IsIn to e))) →
     ((x y : Event) → HasNumber events x → HasNumber events y → S x y ↔ (R x y ⊎ (A x × B y))) → AreRowsOf events S new
 connected events R S A B from to old new rows of_from of_to each same d e = (
   λ h. elim ((each d e).0 h) [

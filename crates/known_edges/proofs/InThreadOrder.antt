@@ -2,7 +2,7 @@
 use Rattle.std.proofs.Common.{◌≡◌, ℕ, ◌<◌, List, [], Some, slice_get, get_or, sym, ◌∙◌, subst, arith}
 use Rattle.std.specs.List.{AllPairs}
 use Rattle.std.proofs.lemmas.Option.{slice_get_within, get_or_from_slice_get, same_Some}
-use Rattle.bit_rows.specs.Rows.{Relates}
+use Rattle.bit_rows.specs.Rows.{RowHas}
 use Rattle.candidate_executions.specs.declared.event.Event.{Event}
 use Rattle.candidate_executions.specs.declared.event.Event.TheVariants.{Initial, Access as At}
 use Rattle.candidate_executions.specs.declared.event.Kind.{Kind}
@@ -26,7 +26,7 @@ not_itself (Initial l) p = p
 not_itself (At t i) p = (let q = p.1 in omega arith)
 
 -- no access comes after itself
-pub order_never_round : (thread_traces : List ThreadTrace) (kind : Kind) (events : List Event) (rows : List ℕ) → AreRowsOf events (InOrder thread_traces kind) rows → (d : ℕ) → Relates rows d d → ⊥
+pub order_never_round : (thread_traces : List ThreadTrace) (kind : Kind) (events : List Event) (rows : List ℕ) → AreRowsOf events (InOrder thread_traces kind) rows → (d : ℕ) → RowHas rows d d → ⊥
 order_never_round thread_traces kind events rows are d h =
     let (x, y, at_x, at_y, (a, b, of_x, of_y, o)) = (are d d).0 h in
     not_itself x (subst (Precedes x) (same_Some y x (sym at_y ∙ at_x)) (order_precedes kind x a y b o))

@@ -19,7 +19,7 @@ use Rattle.tso_machine.specs.declared.mode.Mode.{Mode}
 use Rattle.thread_traces.specs.declared.thread_trace.ThreadTrace.{ThreadTrace}
 use Rattle.known_edges.specs.ProgramSketches.{ProgramSketch, mode_in}
 use Rattle.known_edges.specs.Kept.{view_of, KeepsTraces}
-use Rattle.known_edges.specs.Rows.{AreLocated}
+use Rattle.known_edges.specs.Rows.{HaveLocations}
 use Rattle.known_edges.proofs.Numbered.{accesses_same}
 
 -- each of the accesses is of one of so many locations
@@ -60,7 +60,7 @@ module _ (p : Listing) (mode : Mode) (thread_traces : List ThreadTrace) (sources
   abbrev s : ProgramSketch
   s = view_of p mode thread_traces sources pairs
 
-  pub are_located : AreLocated thread_traces
+  pub are_located : HaveLocations thread_traces
   are_located (Initial l) x at = absurd cc
   are_located (At t i) x at =
       let few = kept.lawful.within.shared.few_locations in

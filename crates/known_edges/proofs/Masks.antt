@@ -3,7 +3,7 @@ use Rattle.std.proofs.Common.{◌≡◌, ◌≢◌, ◌↔◌, ◌⊎◌, ℕ, �
 use Rattle.std.proofs.lemmas.Bool.{cases_lt, cases_eq}
 use Rattle.std.proofs.lemmas.List.{get_or-set_same, get_or-set_other}
 use Rattle.std.proofs.lemmas.Option.{slice_get_within, slice_get-get_or, get_or_from_slice_get, same_Some}
-use Rattle.bit_rows.specs.Rows.{IsIn, Relates, IsTransitive}
+use Rattle.bit_rows.specs.Rows.{IsIn, RowHas, IsTransitive}
 use Rattle.bit_rows.proofs.Bits.{none_in_zero}
 use Rattle.candidate_executions.specs.declared.event.Event.{Event}
 use Rattle.candidate_executions.specs.declared.event.Event.TheVariants.{Initial}
@@ -100,7 +100,7 @@ readers_all events sources source except n row all = row_by events (IsReaderBelo
 -- the rows of the first n events
 abbrev pub AreRowsBelow : List Event → (Event → Event → Type 0) → ℕ → List ℕ → Type 0
 AreRowsBelow events R n rows =
-    (d e : ℕ) → Relates rows d e ↔ ((d < n) × ((x : Event) × (slice_get events d ≡ Some x) × Holds events (R x) e))
+    (d e : ℕ) → RowHas rows d e ↔ ((d < n) × ((x : Event) × (slice_get events d ≡ Some x) × Holds events (R x) e))
 
 -- the next row is written
 pub rows_more : (events : List Event) (R : Event → Event → Type 0) (n row : ℕ) (rows : List ℕ) → n < length events → n < length rows → AreRowsBelow events R n rows →
@@ -126,7 +126,7 @@ rows_all events R n rows all below d e = (
   λ (x, y, at, to, r). (below d e).1 ((let l = slice_get_within events d x at in omega arith), (x, at, (y, to, r))),
 )
 
-pub rows_begin : (events : List Event) (R : Event → Event → Type 0) (rows : List ℕ) → ((d e : ℕ) → Relates rows d e → ⊥) → AreRowsBelow events R 0 rows
+pub rows_begin : (events : List Event) (R : Event → Event → Type 0) (rows : List ℕ) → ((d e : ℕ) → RowHas rows d e → ⊥) → AreRowsBelow events R 0 rows
 rows_begin events R rows empty d e = (λ h. absurd (empty d e h), λ h. absurd (let l = h.0 in omega arith))
 
 -- rows of a relation that joins its steps join theirs

@@ -4,7 +4,7 @@ use Rattle.std.specs.List.{AllPairs}
 use Rattle.std.proofs.lemmas.Bool.{cases_eq}
 use Rattle.std.proofs.lemmas.List.Elements.{Contains-append_left, Contains-push}
 use Rattle.std.proofs.lemmas.Option.{slice_get-get_or}
-use Rattle.bit_rows.specs.Rows.{IsIn, Relates}
+use Rattle.bit_rows.specs.Rows.{IsIn, RowHas}
 use Rattle.candidate_executions.specs.declared.event.Event.{Event}
 use Rattle.candidate_executions.specs.declared.event.Event.TheVariants.{Initial}
 use Rattle.known_edges.specs.Rounds.{AreRelated, HaveEvents, IsRound}
@@ -24,7 +24,7 @@ pub record IsWalk (events : List Event) (rows : List ℕ) (row : ℕ) (path : Li
   pub covers : (k : ℕ) → IsIn row k → IsIn open_numbers k ⊎ Contains path (event_at events k)
 
 module _ (events : List Event) (rows : List ℕ) (row : ℕ) (path : List Event) (d open_numbers next rest : ℕ) (numbered : HaveEvents events rows) (walk : IsWalk events rows row path d open_numbers)
-    (edge : Relates rows d next) where
+    (edge : RowHas rows d next) where
   abbrev longer : List Event
   longer = path ++ event_at events d ∷ []
 

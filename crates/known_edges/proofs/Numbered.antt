@@ -3,7 +3,7 @@ use Rattle.std.proofs.Common.{◌≡◌, ◌↔◌, ℕ, Bool, IsTrue, List, [],
 use Rattle.std.specs.Prelude.{slice_index}
 use Rattle.std.specs.Option.{option_map_or}
 use Rattle.std.proofs.lemmas.Option.{slice_get_within, slice_get-get_or, get_or_from_slice_get, same_Some}
-use Rattle.bit_rows.specs.Rows.{IsIn, Relates}
+use Rattle.bit_rows.specs.Rows.{IsIn, RowHas}
 use Rattle.bit_rows.specs.declared.row.TheConstants.{ROW_BITS}
 use Rattle.tso_program.specs.declared.limits.TheConstants.{MAX_THREADS, MAX_INSTRUCTIONS}
 use Rattle.tso_program.specs.declared.listing.Listing.{Listing}
@@ -25,7 +25,7 @@ use Rattle.known_edges.specs.Kept.{view_of, KeepsTraces}
 use Rattle.known_edges.specs.Known.{IsInitialWrite}
 use Rattle.known_edges.specs.Choices.{IsOrdered}
 use Rattle.known_edges.specs.Writes.{HasLater, IsLastWith, IsWritten}
-use Rattle.known_edges.specs.Rows.{accesses_at, access_of, IsOfThreads, AreAccesses, EachEnds, FitRow, AreRowsOf, HasWrites, IsRowOf, IsWriteAt, main_kind, rows_of}
+use Rattle.known_edges.specs.Rows.{accesses_at, traced_access, IsOfThreads, AreAccesses, EachEnds, FitRow, AreRowsOf, HasWrites, IsRowOf, IsWriteAt, main_kind, union_rows}
 use Rattle.known_edges.proofs.TracesKept.{trace_accesses, no_accesses, no_trace, trace_next, past_next}
 use Rattle.candidate_executions.proofs.Orders.Lists.{some_value}
 use Rattle.thread_traces.proofs.KnownParts.{of_some}
@@ -35,7 +35,7 @@ use Rattle.known_edges.proofs.BranchesCounted.{not_before_itself}
 
 -- what stands in the rows at two numbers
 pub at_numbers : (events : List Event) (R : Event → Event → Type 0) (rows : List ℕ) (d e : ℕ) (x y : Event) → AreRowsOf events R rows →
-    slice_get events d ≡ Some x → slice_get events e ≡ Some y → Relates rows d e ↔ R x y
+    slice_get events d ≡ Some x → slice_get events e ≡ Some y → RowHas rows d e ↔ R x y
 at_numbers events R rows d e x y are at to_at = (
   λ h. (let (a, b, at_a, at_b, r) = (are d e).0 h in
       subst (λ z. R z y) (same_Some a x (sym at_a ∙ at)) (subst (λ z. R a z) (same_Some b y (sym at_b ∙ to_at)) r)),
@@ -51,7 +51,7 @@ contained events x (k, at) = (k, slice_get_within events k x at, get_or_from_sli
 
 -- the rows of a union of the mode
 pub rows_of_kind : (p : Listing) (mode : Mode) (kind : Kind) (events : List Event) (R : Kind → Event → Event → Type 0) (main global : List ℕ) → IsOfMode (machine_of_mode p mode) kind →
-    AreRowsOf events (R (main_kind mode)) main → AreRowsOf events (R union.Global) global → AreRowsOf events (R kind) (rows_of kind main global)
+    AreRowsOf events (R (main_kind mode)) main → AreRowsOf events (R union.Global) global → AreRowsOf events (R kind) (union_rows kind main global)
 rows_of_kind p Sequential union.Sequential events R main global of_mode a b = a
 rows_of_kind p Sequential union.Location events R main global of_mode a b = absurd of_mode
 rows_of_kind p Sequential union.Global events R main global of_mode a b = b
@@ -74,7 +74,7 @@ module _ (p : Listing) (mode : Mode) (thread_traces : List ThreadTrace) (sources
   is_access (Initial l) = (λ h. h, λ h. h)
   is_access (At t i) = let same = ap length (accesses_same t) in (λ h. omega arith, λ h. omega arith)
 
-  pub access_same : (e : Event) → IsOfThreads thread_traces e → access_of thread_traces e ≡ access_in s e
+  pub access_same : (e : Event) → IsOfThreads thread_traces e → traced_access thread_traces e ≡ access_in s e
   access_same (Initial l) h = absurd h
   access_same (At t i) h = ap (λ xs. slice_get xs i) (accesses_same t)
 

@@ -20,7 +20,7 @@ use Rattle.candidate_executions.proofs.Sections.SectionsRise.{from_section}
 use Rattle.thread_traces.specs.declared.thread_trace.ThreadTrace.{ThreadTrace}
 use Rattle.known_edges.specs.Known.{OrderPart}
 use Rattle.known_edges.specs.Kept.{KeepsTraces}
-use Rattle.known_edges.specs.Rows.{access_of, InOrder, AreOfSketch}
+use Rattle.known_edges.specs.Rows.{traced_access, InOrder, AreOfSketch}
 use Rattle.known_edges.proofs.Numbered.{accesses_same}
 use Rattle.known_edges.proofs.Unchosen.{precedes_then}
 
@@ -77,15 +77,15 @@ kept_then x y z first second (inr (inr n)) k = inr (inr (λ e. n (let low = firs
 
 module _ (p : Listing) (mode : Mode) (thread_traces : List ThreadTrace) (sources pairs : List (Event × Event)) (kept : KeepsTraces p mode thread_traces sources pairs) where
   -- sections rise from an access to a later one of its thread
-  rise_in : (d e : Event) (x y : Access) → Precedes d e → access_of thread_traces d ≡ Some x → access_of thread_traces e ≡ Some y → Rises x y
+  rise_in : (d e : Event) (x y : Access) → Precedes d e → traced_access thread_traces d ≡ Some x → traced_access thread_traces e ≡ Some y → Rises x y
   rise_in (Initial l) e x y h a b = absurd h
   rise_in (At t i) (Initial l) x y h a b = absurd h
   rise_in (At t i) (At u j) x y h a b =
       let same = accesses_same p mode thread_traces sources pairs kept t in
       sections_rise (action p.threads t) (fenced_gaps (machine_of_mode p mode) t) _ 0 (start_of p.threads t) _ i j x y h.1
-      (sym (ap (λ xs. slice_get xs i) same) ∙ a) (sym (ap (λ xs. slice_get xs j) same) ∙ subst (λ v. access_of thread_traces (At v j) ≡ Some y) (sym h.0) b)
+      (sym (ap (λ xs. slice_get xs i) same) ∙ a) (sym (ap (λ xs. slice_get xs j) same) ∙ subst (λ v. traced_access thread_traces (At v j) ≡ Some y) (sym h.0) b)
 
-  parts_then : (kind : Kind) (d e f : Event) (x y z : Access) → access_of thread_traces d ≡ Some x → access_of thread_traces e ≡ Some y → access_of thread_traces f ≡ Some z →
+  parts_then : (kind : Kind) (d e f : Event) (x y z : Access) → traced_access thread_traces d ≡ Some x → traced_access thread_traces e ≡ Some y → traced_access thread_traces f ≡ Some z →
       OrderPart kind d x e y → OrderPart kind e y f z → OrderPart kind d x f z
   parts_then union.Sequential d e f x y z a b c h k = precedes_then d e f h k
   parts_then union.Location d e f x y z a b c h k = (precedes_then d e f h.0 k.0, h.1 ∙ k.1)

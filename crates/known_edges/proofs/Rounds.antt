@@ -1,7 +1,7 @@
 -- Cycles of known edges, seen in the rows.
 use Rattle.std.proofs.Common.{◌≡◌, ◌↔◌, ℕ, suc, List, [], ◌∷◌, Some, Contains, slice_get, refl, sym, ◌∙◌, subst, arith}
 use Rattle.std.proofs.lemmas.Option.{same_Some, slice_get_within}
-use Rattle.bit_rows.specs.Rows.{IsIn, Relates, Reaches, HasRound, Leads as Path}
+use Rattle.bit_rows.specs.Rows.{IsIn, RowHas, Reaches, HasRound, RowsLead as Path}
 use Rattle.bit_rows.proofs.Paths.{reaches_then}
 use Rattle.tso_program.specs.declared.listing.Listing.{Listing}
 use Rattle.tso_machine.specs.declared.mode.Mode.{Mode}
@@ -14,7 +14,7 @@ use Rattle.thread_traces.specs.declared.thread_trace.ThreadTrace.{ThreadTrace}
 use Rattle.known_edges.specs.ProgramSketches.{ProgramSketch, mode_in}
 use Rattle.known_edges.specs.Kept.{view_of, IsLawful}
 use Rattle.known_edges.specs.Rounds.{AreRelated, HaveEvents, GoesOnIn}
-use Rattle.known_edges.specs.Rows.{AreRowsOf, IsRepresented, rows_of}
+use Rattle.known_edges.specs.Rows.{AreRowsOf, IsRepresented, union_rows}
 use Rattle.known_edges.proofs.Connected.{HasNumber}
 use Rattle.known_edges.proofs.Numbered.{at_numbers, rows_of_kind, access_number}
 use Rattle.known_edges.proofs.Found.{cycle_of_accesses}
@@ -53,7 +53,7 @@ module _ (R : Event → Event → Type 0) (events : List Event) (rows : List ℕ
   round_cycle (e ∷ es) h = leads_by e es e h
 
 -- a number on a cycle is related to another one
-next_on : (rows : List ℕ) (d : ℕ) → Reaches rows d d → (m : ℕ) × Relates rows d m × Reaches rows m m
+next_on : (rows : List ℕ) (d : ℕ) → Reaches rows d d → (m : ℕ) × RowHas rows d m × Reaches rows m m
 next_on rows d ([], h) = (d, h, ([], h))
 next_on rows d (m ∷ es, h) = (m, h.0, reaches_then rows m d m (es, h.1) ([], h.0))
 
@@ -85,7 +85,7 @@ cycle_up R events rows are d (ds, h) =
 -- the rows of a union of the mode have its known edges
 pub known_rows : (p : Listing) (mode : Mode) (thread_traces : List ThreadTrace) (events : List Event) (sources pairs : List (Event × Event)) (later main global : List ℕ) →
     IsRepresented p mode thread_traces events sources pairs later main global → (s : ProgramSketch) → view_of p mode thread_traces sources pairs ≡ s → (kind : Kind) → IsOfMode (mode_in s) kind →
-    (rows : List ℕ) → rows ≡ rows_of kind main global → AreRowsOf events (KnownEdgeOfMode s.program (mode_in s) s.chosen kind) rows
+    (rows : List ℕ) → rows ≡ union_rows kind main global → AreRowsOf events (KnownEdgeOfMode s.program (mode_in s) s.chosen kind) rows
 known_rows p mode thread_traces events sources pairs later main global represented s view kind of_mode rows same =
     let parts : ProgramSketch = view_of p mode thread_traces sources pairs in
     let are = rows_of_kind p mode kind events (λ (kind : Kind). KnownEdgeOfMode parts.program (mode_in parts) parts.chosen kind) main global
@@ -96,7 +96,7 @@ known_rows p mode thread_traces events sources pairs later main global represent
 -- where they have no round, no known edges of the union make a cycle
 pub no_round_no_cycle : (p : Listing) (mode : Mode) (thread_traces : List ThreadTrace) (events : List Event) (sources pairs : List (Event × Event)) (later main global : List ℕ) →
     IsRepresented p mode thread_traces events sources pairs later main global → (s : ProgramSketch) → view_of p mode thread_traces sources pairs ≡ s → (kind : Kind) → IsOfMode (mode_in s) kind →
-    (rows : List ℕ) → rows ≡ rows_of kind main global → (HasRound rows → ⊥) → (es : List Event) → IsKnownCycle s.program (mode_in s) s.chosen kind es → ⊥
+    (rows : List ℕ) → rows ≡ union_rows kind main global → (HasRound rows → ⊥) → (es : List Event) → IsKnownCycle s.program (mode_in s) s.chosen kind es → ⊥
 no_round_no_cycle p mode thread_traces events sources pairs later main global represented s view kind of_mode rows same none es cycle = no_cycle_yet s lawful not_whole kind es cycle
   where
     lawful : IsLawful s

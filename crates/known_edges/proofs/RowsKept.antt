@@ -1,7 +1,7 @@
 -- The rows of a sketch at its start, and after each choice.
 use Rattle.std.proofs.Common.{◌≡◌, ◌↔◌, ◌⊎◌, ℕ, ◌<◌, List, [], ◌∷◌, ◌++◌, Some, None, Contains, slice_get, get_or, length, refl, sym, ap, ◌∙◌, subst, inl, inr}
 use Rattle.std.proofs.lemmas.Option.{slice_get-get_or, same_Some}
-use Rattle.bit_rows.specs.Rows.{IsIn, Relates, AreConnected}
+use Rattle.bit_rows.specs.Rows.{IsIn, RowHas, AreConnected}
 use Rattle.tso_program.specs.declared.listing.Listing.{Listing}
 use Rattle.candidate_executions.specs.declared.access.Access.{Access}
 use Rattle.candidate_executions.specs.declared.event.Event.{Event}
@@ -18,7 +18,7 @@ use Rattle.thread_traces.specs.declared.thread_trace.ThreadTrace.{ThreadTrace}
 use Rattle.known_edges.specs.ProgramSketches.{ProgramSketch, mode_in, access_in, with_chosen}
 use Rattle.known_edges.specs.Kept.{view_of, KeepsTraces}
 use Rattle.known_edges.specs.Choices.{MayRead, MayFollow}
-use Rattle.known_edges.specs.Rows.{accesses_at, access_of, IsOfThreads, IsRowOf, AreRowsOf, InOrder, IsWriteAt, ReadsBut, IsAfter, HasOrder, AreSourceRows, AreOrderRows, IsRepresented, main_kind}
+use Rattle.known_edges.specs.Rows.{accesses_at, traced_access, IsOfThreads, IsRowOf, AreRowsOf, InOrder, IsWriteAt, ReadsBut, IsAfter, HasOrder, AreSourceRows, AreOrderRows, IsRepresented, main_kind}
 use Rattle.known_edges.proofs.KnownParts.{to_relates}
 use Rattle.known_edges.proofs.Chosen.{source_kept, pair_kept}
 use Rattle.known_edges.proofs.Masks.{row_joined, row_by}
@@ -58,7 +58,7 @@ module _ (p : Listing) (mode : Mode) (thread_traces : List ThreadTrace) (events 
       )
 
   -- so the rows of program order are those of the sketch
-  pub begun : (later : List ℕ) → ((d e : ℕ) → Relates later d e → ⊥) → IsRepresented p mode thread_traces events sources pairs later main global
+  pub begun : (later : List ℕ) → ((d e : ℕ) → RowHas later d e → ⊥) → IsRepresented p mode thread_traces events sources pairs later main global
   begun later empty = record {
     kept = kept;
     rows = record {
@@ -78,7 +78,7 @@ module _ (p : Listing) (mode : Mode) (thread_traces : List ThreadTrace) (events 
 
 -- rows where no pair is chosen are empty
 pub later_empty : (events : List Event) (pairs : List (Event × Event)) (later : List ℕ) → AreRowsOf events (λ d e. Contains pairs (d, e)) later → ((d e : Event) → Contains pairs (d, e) → ⊥) →
-    (d e : ℕ) → Relates later d e → ⊥
+    (d e : ℕ) → RowHas later d e → ⊥
 later_empty events pairs later are none d e h = let (x, y, at, to_at, has) = (are d e).0 h in none x y has
 
 module _ (p : Listing) (mode : Mode) (thread_traces : List ThreadTrace) (events : List Event) (sources pairs : List (Event × Event)) (later main global : List ℕ)
@@ -185,7 +185,7 @@ module _ (p : Listing) (mode : Mode) (thread_traces : List ThreadTrace) (events 
       ],
     )
       where
-        has_access : (e : Event) → IsOfThreads thread_traces e → (y : Access) × (access_of thread_traces e ≡ Some y)
+        has_access : (e : Event) → IsOfThreads thread_traces e → (y : Access) × (traced_access thread_traces e ≡ Some y)
         has_access (Initial l) h = absurd h
         has_access (At u j) h = get_some (accesses_at thread_traces u) j h
           where
@@ -210,8 +210,8 @@ module _ (p : Listing) (mode : Mode) (thread_traces : List ThreadTrace) (events 
     twice : (kind : Kind) (A : Event → Type 0) (near reader far after : ℕ) (old between new : List ℕ) → AreRowsOf events (KnownEdgeOfMode v.program (mode_in v) v.chosen kind) old →
         ((d e : Event) → (IsOfMode (mode_in v) kind × Step v is.kept.lawful read source may kind d e) ↔ (A d × (e ≡ read))) →
         IsRowOf events A near → IsRowOf events (λ e. e ≡ read) reader → IsRowOf events (λ d. IsOfMode (mode_in v) kind × (d ≡ read)) far → IsRowOf events Comes after →
-        ((d e : ℕ) → Relates between d e ↔ (Relates old d e ⊎ (IsIn near d × IsIn reader e))) →
-        ((d e : ℕ) → Relates new d e ↔ (Relates between d e ⊎ (IsIn far d × IsIn after e))) → AreRowsOf events (KnownEdgeOfMode w.program (mode_in w) w.chosen kind) new
+        ((d e : ℕ) → RowHas between d e ↔ (RowHas old d e ⊎ (IsIn near d × IsIn reader e))) →
+        ((d e : ℕ) → RowHas new d e ↔ (RowHas between d e ⊎ (IsIn far d × IsIn after e))) → AreRowsOf events (KnownEdgeOfMode w.program (mode_in w) w.chosen kind) new
     twice kind A near reader far after old between new rows steps of_near of_reader of_far of_after put put_after =
         connected events (λ d e. KnownEdgeOfMode v.program (mode_in v) v.chosen kind d e ⊎ (A d × (e ≡ read))) (KnownEdgeOfMode w.program (mode_in w) w.chosen kind) (λ d. IsOfMode (mode_in v) kind × (d ≡ read)) Comes far after between new
         (connected events (KnownEdgeOfMode v.program (mode_in v) v.chosen kind) (λ d e. KnownEdgeOfMode v.program (mode_in v) v.chosen kind d e ⊎ (A d × (e ≡ read))) A (λ e. e ≡ read) near reader old between rows of_near of_reader put (λ x y _ _. (λ h. h, λ h. h)))

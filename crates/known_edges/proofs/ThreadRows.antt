@@ -8,7 +8,7 @@ use Rattle.candidate_executions.specs.declared.event.Event.{Event}
 use Rattle.candidate_executions.specs.declared.event.Event.TheVariants.{Initial, Access as At}
 use Rattle.candidate_executions.specs.declared.event.Kind.{Kind}
 use Rattle.thread_traces.specs.declared.thread_trace.ThreadTrace.{ThreadTrace}
-use Rattle.known_edges.specs.Rows.{accesses_at, access_of, AreAccesses, AreStarts, InOrder, IsRowOf, KeepsNumbers, NumberedTraces}
+use Rattle.known_edges.specs.Rows.{accesses_at, traced_access, AreAccesses, AreStarts, InOrder, IsRowOf, KeepsTraceNumbers, NumberedTraces}
 use Rattle.thread_traces.specs.ThreadOrder.{IsLaterIn}
 use Rattle.known_edges.proofs.Accesses.{no_trace}
 use Rattle.known_edges.proofs.KnownParts.{order_part}
@@ -43,7 +43,7 @@ module _ (thread_traces : List ThreadTrace) (events : List Event) (starts : List
           let also = number_by d k t i j start here (subst (λ v. slice_get events k ≡ Some (At v j)) (sym same) at) sum in
           (row_is k).1 (
             (let within = slice_get_within events k (At u j) at in omega arith),
-            (j, (own_is j).1 (less, (x, y, of_x, subst (λ v. access_of thread_traces (At v j) ≡ Some y) (sym same) of_y, kept)), also),
+            (j, (own_is j).1 (less, (x, y, of_x, subst (λ v. traced_access thread_traces (At v j) ≡ Some y) (sym same) of_y, kept)), also),
           )
 
 -- where an access with a number stands: in a thread that is there, from whose start the numbers go on
@@ -56,7 +56,7 @@ pub record IsPlaced (thread_traces : List ThreadTrace) (events : List Event) (d 
   pub low : d < ROW_BITS
 
 pub placed : (thread_traces : List ThreadTrace) (events : List Event) (whole : Bool) (starts counts written : List ℕ) (x : NumberedTraces) (d t i : ℕ) (e : Event) →
-    KeepsNumbers thread_traces events whole starts counts written → record { thread_traces = thread_traces; events = events } ≡ x → slice_get x.events d ≡ Some e → e ≡ At t i → IsPlaced thread_traces events d t i
+    KeepsTraceNumbers thread_traces events whole starts counts written → record { thread_traces = thread_traces; events = events } ≡ x → slice_get x.events d ≡ Some e → e ≡ At t i → IsPlaced thread_traces events d t i
 placed thread_traces events whole starts counts written x d t i e keeps is at same =
     let here : slice_get events d ≡ Some (At t i) = ap (λ (y : NumberedTraces). slice_get y.events d) is ∙ at ∙ ap Some same in
     let has = contained events (At t i) (d, here) in

@@ -3,13 +3,13 @@ use Rattle.std.proofs.Common.{◌≡◌, ◌↔◌, ◌⊎◌, ℕ, ◌+◌, ◌
 use Rattle.std.proofs.lemmas.Bool.{cases_lt}
 use Rattle.std.proofs.lemmas.Option.{slice_get-get_or, same_Some}
 use Rattle.std.proofs.lemmas.List.{get_or_past}
-use Rattle.bit_rows.specs.Rows.{IsIn, Relates}
+use Rattle.bit_rows.specs.Rows.{IsIn, RowHas}
 use Rattle.bit_rows.proofs.Bits.{none_in_zero}
 use Rattle.tso_program.specs.declared.limits.TheConstants.{MAX_LOCATIONS}
 use Rattle.candidate_executions.specs.declared.event.Event.{Event}
 use Rattle.candidate_executions.specs.declared.event.Event.TheVariants.{Initial}
 use Rattle.thread_traces.specs.declared.thread_trace.ThreadTrace.{ThreadTrace}
-use Rattle.known_edges.specs.Rows.{IsWriteAt, AreLocated}
+use Rattle.known_edges.specs.Rows.{IsWriteAt, HaveLocations}
 use Rattle.known_edges.proofs.Masks.{IsRowBelow}
 
 -- the next event is put in where F holds
@@ -35,17 +35,17 @@ AreWriteRowsBelow thread_traces events n rows = (l : ℕ) → IsRowBelow events 
 
 pub writes_more : (thread_traces : List ThreadTrace) (events : List Event) (n : ℕ) (location : Option ℕ) (rows next : List ℕ) → n < length events → AreWriteRowsBelow thread_traces events n rows →
     ((l : ℕ) → (location ≡ Some l) ↔ IsWriteAt thread_traces l (get_or events n (Initial 0))) →
-    ((l k : ℕ) → Relates next l k ↔ (Relates rows l k ⊎ ((location ≡ Some l) × (k ≡ n)))) → AreWriteRowsBelow thread_traces events (n + 1) next
+    ((l k : ℕ) → RowHas next l k ↔ (RowHas rows l k ⊎ ((location ≡ Some l) × (k ≡ n)))) → AreWriteRowsBelow thread_traces events (n + 1) next
 writes_more thread_traces events n location rows next within below is each l =
     row_step events (IsWriteAt thread_traces l) (location ≡ Some l) n (slice_index rows l) (slice_index next l) within (below l) (is l) (each l)
 
 -- a write is to one of the locations
-pub write_located : (thread_traces : List ThreadTrace) (e : Event) (location : Option ℕ) → AreLocated thread_traces → ((l : ℕ) → (location ≡ Some l) → IsWriteAt thread_traces l e) → IfSome location (λ l. l < MAX_LOCATIONS)
+pub write_located : (thread_traces : List ThreadTrace) (e : Event) (location : Option ℕ) → HaveLocations thread_traces → ((l : ℕ) → (location ≡ Some l) → IsWriteAt thread_traces l e) → IfSome location (λ l. l < MAX_LOCATIONS)
 write_located thread_traces e (Some l) located is = (let (y, at, same, wr) = is l refl in subst (λ z. z < MAX_LOCATIONS) same (located e y at))
 write_located thread_traces e None located is = tt
 
 -- what is in a row is joined, if it is in one of the first n and these are all
-pub joined_rows : (rows : List ℕ) (n all : ℕ) → length rows ≤ n → ((d e : ℕ) → d < n → IsIn (get_or rows d 0) e → IsIn all e) → (d e : ℕ) → Relates rows d e → IsIn all e
+pub joined_rows : (rows : List ℕ) (n all : ℕ) → length rows ≤ n → ((d e : ℕ) → d < n → IsIn (get_or rows d 0) e → IsIn all e) → (d e : ℕ) → RowHas rows d e → IsIn all e
 joined_rows rows n all end joined d e here = elim (cases_lt d n) [
   | inl low ↦ joined d e low here
   | inr high ↦ absurd (none_in_zero e (subst (λ r. IsIn r e) (get_or_past rows d 0 (omega arith)) here))

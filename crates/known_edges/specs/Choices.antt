@@ -12,8 +12,8 @@ abbrev pub IsRead : ProgramSketch → Event → Type 0
 IsRead s e = (x : Access) × (access_in s e ≡ Some x) × IsSome x.read
 
 -- the event reads this value from the location
-abbrev pub ReadsFrom : ProgramSketch → Event → ℕ → ℕ → Type 0
-ReadsFrom s e l v = (x : Access) × (access_in s e ≡ Some x) × (x.read ≡ Some v) × (x.location ≡ l)
+abbrev pub ReadsThisValue : ProgramSketch → Event → ℕ → ℕ → Type 0
+ReadsThisValue s e l v = (x : Access) × (access_in s e ≡ Some x) × (x.read ≡ Some v) × (x.location ≡ l)
 
 -- the event writes this value
 abbrev pub IsValueWritten : ProgramSketch → ℕ → Event → Type 0

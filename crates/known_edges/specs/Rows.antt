@@ -2,7 +2,7 @@
 use Rattle.std.specs.Prelude.{◌≡◌, ◌≢◌, ◌↔◌, ◌⊎◌, ◌+◌, ◌<◌, ◌≤◌, ℕ, Bool, IsTrue, List, [], Option, Some, None, IsSome, slice_get, slice_index, length, Contains}
 use Rattle.std.specs.List.{AllPairs}
 use Rattle.std.specs.Option.{option_map_or}
-use Rattle.bit_rows.specs.Rows.{IsIn, Relates, AreConnected, HasRound}
+use Rattle.bit_rows.specs.Rows.{IsIn, RowHas, AreConnected, HasRound}
 use Rattle.tso_program.specs.declared.listing.Listing.{Listing}
 use Rattle.candidate_executions.specs.declared.access.Access.{Access}
 use Rattle.candidate_executions.specs.declared.event.Event.{Event}
@@ -27,9 +27,9 @@ abbrev pub accesses_at : List ThreadTrace → ℕ → List Access
 accesses_at thread_traces t = option_map_or (λ (c : ThreadTrace). c.accesses) (slice_get thread_traces t) []
 
 -- what an access reads and writes
-abbrev pub access_of : List ThreadTrace → Event → Option Access
-access_of thread_traces (Initial l) = None
-access_of thread_traces (At t i) = slice_get (accesses_at thread_traces t) i
+abbrev pub traced_access : List ThreadTrace → Event → Option Access
+traced_access thread_traces (Initial l) = None
+traced_access thread_traces (At t i) = slice_get (accesses_at thread_traces t) i
 
 -- one of thread t's first n accesses
 abbrev pub IsEarly : ℕ → ℕ → Event → Type 0
@@ -53,20 +53,20 @@ IsRowOf events P row = (d : ℕ) → IsIn row d ↔ ((x : Event) × (slice_get e
 -- the rows have the numbers of those pairs of events of which R holds
 abbrev pub AreRowsOf : List Event → (Event → Event → Type 0) → List ℕ → Type 0
 AreRowsOf events R rows =
-    (d e : ℕ) → Relates rows d e ↔ ((x : Event) × (y : Event) × (slice_get events d ≡ Some x) × (slice_get events e ≡ Some y) × R x y)
+    (d e : ℕ) → RowHas rows d e ↔ ((x : Event) × (y : Event) × (slice_get events d ≡ Some x) × (slice_get events e ≡ Some y) × R x y)
 
 -- the union has program order from d to e
 abbrev pub InOrder : List ThreadTrace → Kind → Event → Event → Type 0
 InOrder thread_traces kind d e =
-    (x : Access) × (y : Access) × (access_of thread_traces d ≡ Some x) × (access_of thread_traces e ≡ Some y) × OrderPart kind d x e y
+    (x : Access) × (y : Access) × (traced_access thread_traces d ≡ Some x) × (traced_access thread_traces e ≡ Some y) × OrderPart kind d x e y
 
 -- the locations of the accesses are among those that a program has
-abbrev pub AreLocated : List ThreadTrace → Type 0
-AreLocated thread_traces = (e : Event) (x : Access) → access_of thread_traces e ≡ Some x → x.location < MAX_LOCATIONS
+abbrev pub HaveLocations : List ThreadTrace → Type 0
+HaveLocations thread_traces = (e : Event) (x : Access) → traced_access thread_traces e ≡ Some x → x.location < MAX_LOCATIONS
 
 -- an access that writes the location
 abbrev pub IsWriteAt : List ThreadTrace → ℕ → Event → Type 0
-IsWriteAt thread_traces l e = (y : Access) × (access_of thread_traces e ≡ Some y) × (y.location ≡ l) × IsSome y.written
+IsWriteAt thread_traces l e = (y : Access) × (traced_access thread_traces e ≡ Some y) × (y.location ≡ l) × IsSome y.written
 
 -- the rows have for each location the accesses that write it
 abbrev pub AreWriteRows : List ThreadTrace → List Event → List ℕ → Type 0
@@ -82,11 +82,11 @@ ReadsBut sources source except read = Contains sources (read, source) × (read �
 
 -- what stands in the rows of one event is one
 abbrev pub IsAlike : List Event → List ℕ → Type 0
-IsAlike events rows = (j k d : ℕ) → slice_get events j ≡ slice_get events k → Relates rows j d → Relates rows k d
+IsAlike events rows = (j k d : ℕ) → slice_get events j ≡ slice_get events k → RowHas rows j d → RowHas rows k d
 
 -- d is in the row of the event
 abbrev pub IsAfter : List Event → List ℕ → Event → ℕ → Type 0
-IsAfter events rows event d = (k : ℕ) × (slice_get events k ≡ Some event) × Relates rows k d
+IsAfter events rows event d = (k : ℕ) × (slice_get events k ≡ Some event) × RowHas rows k d
 
 -- the union that a mode has alone, or beside the global one
 abbrev pub main_kind : Mode → Kind
@@ -94,10 +94,10 @@ main_kind Sequential = union.Sequential
 main_kind (Fenced gaps) = union.Location
 
 -- the rows of a union
-abbrev pub rows_of : Kind → List ℕ → List ℕ → List ℕ
-rows_of union.Sequential main global = main
-rows_of union.Location main global = main
-rows_of union.Global main global = global
+abbrev pub union_rows : Kind → List ℕ → List ℕ → List ℕ
+union_rows union.Sequential main global = main
+union_rows union.Location main global = main
+union_rows union.Global main global = global
 
 -- what the threads do, and the accesses that have numbers, their places
 pub record NumberedTraces : Type 0 where
@@ -137,7 +137,7 @@ abbrev pub AreBeyond : List Event → ℕ → List Event → Type 0
 AreBeyond old t new = (d u i : ℕ) → slice_get new d ≡ Some (At u i) → (slice_get old d ≡ Some (At u i)) ⊎ ((u ≡ t) × (length old + i ≡ d))
 
 -- what is kept beside the traces: whether each thread has come to its end, the accesses that have numbers, the starts of the threads, how many accesses they have, and the writes to each location
-pub record KeepsNumbers (thread_traces : List ThreadTrace) (events : List Event) (whole : Bool) (starts counts written : List ℕ) : Type 0 where
+pub record KeepsTraceNumbers (thread_traces : List ThreadTrace) (events : List Event) (whole : Bool) (starts counts written : List ℕ) : Type 0 where
   pub numbered : AreNumbered thread_traces events
   pub ends : IsTrue whole ↔ EachEnds thread_traces
   pub starts_are : AreStarts events starts

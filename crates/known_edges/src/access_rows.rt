@@ -1,7 +1,7 @@
 //! Rows of accesses by their numbers, their places among all accesses.
 ghost use Rattle.std.specs.Prelude.{◌≡◌, ◌<◌, ◌↔◌, ℕ, Some, MatchOption, Contains, length, slice_get, ◌⊎◌, IsTrue};
 ghost use Rattle.candidate_executions.specs.declared.event.Event.{Event};
-ghost use Rattle.bit_rows.specs.Rows.{IsIn, Relates, LeadsInto};
+ghost use Rattle.bit_rows.specs.Rows.{IsIn, RowHas, LeadsInto};
 ghost use Rattle.bit_rows.specs.declared.row.TheConstants.{ROW_BITS};
 ghost use Rattle.known_edges.specs.Rows.{IsRowOf, IsWriteAt, ReadsBut, IsAlike, IsAfter};
 ghost use Rattle.tso_machine.specs.declared.mode.Mode.TheVariants.{Sequential};
@@ -35,7 +35,7 @@ pub(crate) fn readers_of(
 fn row_at(rows: &[u32], number: u32) -> u32
     requires { length rows.now ≡ ROW_BITS }
     ensures from { (d : ℕ) → IsIn result d → LeadsInto rows.now number d }
-    ensures whole { (k : ℕ) → IsIn number k → (j : ℕ) × IsIn number j × ((d : ℕ) → Relates rows.now j d → IsIn result d) }
+    ensures whole { (k : ℕ) → IsIn number k → (j : ℕ) × IsIn number j × ((d : ℕ) → RowHas rows.now j d → IsIn result d) }
 {
     match lowest(number) {
         Some(d) => rows[d as usize],
@@ -91,7 +91,7 @@ pub fn has_either(rows: &[u32], d: u8, e: u8) -> bool
     requires rows { length rows.now ≡ ROW_BITS }
     requires first { d < ROW_BITS }
     requires second { e < ROW_BITS }
-    ensures { IsTrue result ↔ (Relates rows.now d e ⊎ Relates rows.now e d) }
+    ensures { IsTrue result ↔ (RowHas rows.now d e ⊎ RowHas rows.now e d) }
 {
     has(rows[d as usize], e) || has(rows[e as usize], d)
 }

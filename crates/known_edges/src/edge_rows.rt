@@ -6,7 +6,7 @@ ghost use Rattle.candidate_executions.specs.declared.event.Event.{Event};
 ghost use Rattle.known_edges.specs.Kept.{view_of};
 ghost use Rattle.known_edges.specs.Choices.{MayRead, MayFollow};
 ghost use Rattle.known_edges.specs.Known.{HasCycle};
-ghost use Rattle.known_edges.specs.Rows.{rows_of, IsAlike, AreSourceRows, AreOrderRows, IsRepresented, ClosesOnce, ClosesTwice};
+ghost use Rattle.known_edges.specs.Rows.{union_rows, IsAlike, AreSourceRows, AreOrderRows, IsRepresented, ClosesOnce, ClosesTwice};
 
 use crate::access_rows::{if_far, if_fenced, readers_of, writes_after};
 use crate::numbered_traces::Traces;
@@ -56,7 +56,7 @@ impl EdgeRows {
 
     /// The known edges of a union.
     pub fn of_union(&self, kind: Kind) -> &Relation
-        ensures { result.now ≡ rows_of kind self.now.main self.now.global }
+        ensures { result.now ≡ union_rows kind self.now.main self.now.global }
     {
         match kind {
             Kind::Sequential | Kind::Location => &self.main,

@@ -2,12 +2,12 @@
 ghost use Rattle.std.specs.Prelude.{◌≡◌, ◌≤◌, ◌<◌, ◌↔◌, ◌⊎◌, ℕ, [], Some, IfOk, OnOk, IsTrue, IfSome, MatchOption, Contains, length, slice_get};
 ghost use Rattle.std.specs.List.{AllPairs};
 ghost use Rattle.tso_program.specs.declared.limits.TheConstants.{MAX_THREADS, MAX_INSTRUCTIONS};
-ghost use Rattle.bit_rows.specs.Rows.{IsIn, Relates};
+ghost use Rattle.bit_rows.specs.Rows.{IsIn, RowHas};
 ghost use Rattle.bit_rows.specs.declared.row.TheConstants.{ROW_BITS};
 ghost use Rattle.candidate_executions.specs.declared.event.Event.{Event};
 ghost use Rattle.candidate_executions.specs.Events.{ComesBefore};
 ghost use Rattle.known_edges.specs.Known.{IsInitialWrite};
-ghost use Rattle.known_edges.specs.Rows.{accesses_at, access_of, AreAccesses, AreBeyond, AreCounts, AreLocated, AreNumbered, AreOfSketch, AreStarts, AreWriteRows, EachEnds, FitRow, HasWrites, IsEarly, IsOfThreads, IsRowOf, IsWriteAt, InOrder, AreRowsOf};
+ghost use Rattle.known_edges.specs.Rows.{accesses_at, traced_access, AreAccesses, AreBeyond, AreCounts, HaveLocations, AreNumbered, AreOfSketch, AreStarts, AreWriteRows, EachEnds, FitRow, HasWrites, IsEarly, IsOfThreads, IsRowOf, IsWriteAt, InOrder, AreRowsOf};
 
 use bit_rows::{ROW_BITS, Relation, joined, raised, with};
 use candidate_executions::{Access, Event, Kind};
@@ -33,11 +33,11 @@ impl Model for Traces {
 
     ghost Value = { NumberedTraces };
 
-    ghost use Rattle.known_edges.specs.Rows.{KeepsNumbers};
+    ghost use Rattle.known_edges.specs.Rows.{KeepsTraceNumbers};
 
     ghost view = { λ t. record { thread_traces = t.thread_traces.items; events = t.events.items } };
 
-    ghost invariant = { λ t. KeepsNumbers t.thread_traces.items t.events.items t.whole t.starts t.counts t.written };
+    ghost invariant = { λ t. KeepsTraceNumbers t.thread_traces.items t.events.items t.whole t.starts t.counts t.written };
 }
 
 impl Traces {
@@ -176,7 +176,7 @@ impl Traces {
 
 /// The numbers of all rows.
 fn joined_all(rows: &[u32]) -> u32
-    ensures { (d e : ℕ) → Relates rows.now d e → IsIn result e }
+    ensures { (d e : ℕ) → RowHas rows.now d e → IsIn result e }
 {
     let mut all = 0;
     for row in rows {
@@ -237,7 +237,7 @@ fn number_accesses(
 /// For each location the row of the accesses that write it.
 fn write_rows(thread_traces: &[SharedTrace], events: &[Event]) -> [u32; MAX_LOCATIONS]
     requires few { length events.now ≤ ROW_BITS }
-    requires located { AreLocated thread_traces.now }
+    requires located { HaveLocations thread_traces.now }
     ensures { AreWriteRows thread_traces.now events.now result }
 {
     let mut rows = [0; MAX_LOCATIONS];
@@ -251,7 +251,7 @@ fn write_rows(thread_traces: &[SharedTrace], events: &[Event]) -> [u32; MAX_LOCA
 fn put_write(rows: &mut [u32], location: Option<u8>, number: u8)
     requires number { number < ROW_BITS }
     requires there { IfSome location (λ l. l < length rows.old) }
-    ensures { (l k : ℕ) → Relates rows.new l k ↔ (Relates rows.old l k ⊎ ((location ≡ Some l) × (k ≡ number))) }
+    ensures { (l k : ℕ) → RowHas rows.new l k ↔ (RowHas rows.old l k ⊎ ((location ≡ Some l) × (k ≡ number))) }
 {
     if let Some(l) = location {
         let place = l as usize;
@@ -302,7 +302,7 @@ fn push_thread(accesses: u8, t: u8, events: &mut Vec<Event>) -> Result<(), Alloc
 
 /// What an access reads and writes.
 pub fn access_at(thread_traces: &[SharedTrace], event: Event) -> Option<Access>
-    ensures { result ≡ access_of thread_traces.now event }
+    ensures { result ≡ traced_access thread_traces.now event }
 {
     match event {
         Event::Initial(_) => None,

@@ -1,6 +1,6 @@
 //! Rounds of related numbers, as lists of events.
 ghost use Rattle.std.specs.Prelude.{◌≡◌, ◌≤◌, ◌<◌, ℕ, IfOk, length, drop};
-ghost use Rattle.bit_rows.specs.Rows.{IsIn, Relates, Reaches, HasRound};
+ghost use Rattle.bit_rows.specs.Rows.{IsIn, RowHas, Reaches, HasRound};
 ghost use Rattle.bit_rows.specs.declared.row.TheConstants.{ROW_BITS};
 ghost use Rattle.known_edges.specs.Rounds.{GoesOnIn, HaveEvents, IsRound};
 
@@ -71,7 +71,7 @@ fn next_number(relation: &Relation, row: u32, d: u8) -> u8
     requires below { d < ROW_BITS }
     requires there { IsIn row d }
     requires on { GoesOnIn relation.now row }
-    ensures { (result < ROW_BITS) × IsIn row result × Relates relation.now d result }
+    ensures { (result < ROW_BITS) × IsIn row result × RowHas relation.now d result }
 {
     lowest_of(common(relation.row(d), row))
 }

@@ -33,7 +33,7 @@ use Rattle.branching.specs.declared.reads_writes.ReadValue.{ReadValue}
 use Rattle.branching.specs.declared.tally.Tally.{Tally}
 use Rattle.branching.specs.Combinations.{AreAlike}
 use Rattle.sketch_covers.specs.Covers.{IsCoverAt}
-use Rattle.branching.specs.Tallies.{IsMarked, IsTallyOf, IsTalliedRead, IsOwn, IsOther, LacksWriteOfBoth}
+use Rattle.branching.specs.Tallies.{HasBit, IsTallyOf, IsTalliedRead, IsThisThread, IsOther, LacksWriteOfBoth}
 use Rattle.sketch_covers.proofs.Nodes.{node_cover, covers_none}
 
 none_when : (o : Option ℕ) → (IsSome o → ⊥) → o ≡ None
@@ -106,7 +106,7 @@ module _ (s u : ProgramSketch) (t : ℕ) (lawful : IsLawful s) (alone : HasValue
     | inr other ↦ next_elsewhere v other ∙ none_when _ (others v other)
   ]
 
-  module _ (mine others : Tally) (own_tally : IsTallyOf u (IsOwn t) mine) (other_tally : IsTallyOf s (IsOther t) others) where
+  module _ (mine others : Tally) (own_tally : IsTallyOf u (IsThisThread t) mine) (other_tally : IsTallyOf s (IsOther t) others) where
     -- the reads of both are reads of the sketch
     tallied_here : (r : ReadValue) → Contains mine.reads.items r → IsTalliedRead merged r
     tallied_here r here =
@@ -131,15 +131,15 @@ module _ (s u : ProgramSketch) (t : ℕ) (lawful : IsLawful s) (alone : HasValue
         }
 
     -- each write of a thread has its bit in one of the two
-    marked : (v i l w : ℕ) → Writes (access_in merged) (At v i) l w → IsMarked mine.written l w ⊎ IsMarked others.written l w
+    marked : (v i l w : ℕ) → Writes (access_in merged) (At v i) l w → HasBit mine.written l w ⊎ HasBit others.written l w
     marked v i l w (x, at, loc, is) = elim (cases_eq v t) [
       | inl e ↦ inl (own_tally.written v i l w e (x, sym (access_here v i e) ∙ at, loc, is))
       | inr other ↦ inr (other_tally.written v i l w other (x, sym (access_elsewhere v i other) ∙ at, loc, is))
     ]
 
-    module _ (r : ReadValue) (is : IsTalliedRead merged r) (not_mine : IsMarked mine.written r.location r.value → ⊥) (not_others : IsMarked others.written r.location r.value → ⊥) where
-      unmarked : (rows : List ℕ) (l w : ℕ) → (IsMarked rows r.location r.value → ⊥) → r.location ≡ l → r.value ≡ w → IsMarked rows l w → ⊥
-      unmarked rows l w none at same h = none (subst (λ (m : ℕ). IsMarked rows m r.value) (sym at) (subst (λ (n : ℕ). IsMarked rows l n) (sym same) h))
+    module _ (r : ReadValue) (is : IsTalliedRead merged r) (not_mine : HasBit mine.written r.location r.value → ⊥) (not_others : HasBit others.written r.location r.value → ⊥) where
+      unmarked : (rows : List ℕ) (l w : ℕ) → (HasBit rows r.location r.value → ⊥) → r.location ≡ l → r.value ≡ w → HasBit rows l w → ⊥
+      unmarked rows l w none at same h = none (subst (λ (m : ℕ). HasBit rows m r.value) (sym at) (subst (λ (n : ℕ). HasBit rows l n) (sym same) h))
 
       no_write : (d : Event) (l w : ℕ) → is.access.location ≡ l → r.value ≡ w → Writes (access_in merged) d l w → ⊥
       no_write (Initial m) l w at same (x, e, loc, wrote) =

@@ -16,7 +16,7 @@ use Rattle.branching.specs.declared.tally.Tally.{Tally}
 use Rattle.branching.specs.declared.traces.FullTrace.{FullTrace}
 use Rattle.branching.specs.Combinations.{AreAlike, IsBase, IsRest, with_trace}
 use Rattle.branching.specs.Plans.{IsBeforeLast}
-use Rattle.branching.specs.Tallies.{IsMarked, IsTalliedRead, IsOther, Joins}
+use Rattle.branching.specs.Tallies.{HasBit, IsTalliedRead, IsOther, Joins}
 use Rattle.branching.specs.Traces.{IsFullTrace}
 use Rattle.partial_covers.proofs.CombinedCovers.{traces_still}
 use Rattle.partial_covers.proofs.CombinedSketches.{access_here, access_elsewhere, next_here, next_elsewhere}
@@ -64,7 +64,7 @@ module _ (s : ProgramSketch) (t : ℕ) (last : LastThread) (rest : Tally) (trace
       ))
     ]
 
-    written_after : (v i l w : ℕ) → IsOther last.thread v → Writes (access_in merged) (At v i) l w → IsMarked joined.written l w
+    written_after : (v i l w : ℕ) → IsOther last.thread v → Writes (access_in merged) (At v i) l w → HasBit joined.written l w
     written_after v i l w other (x, at, loc, wrote) = elim (cases_eq v t) [
       | inl e ↦ joins.second l w (full.tally.written v i l w e (x, sym (access_here s trace.sketch t lawful before.alone is.there own alike v i e) ∙ at, loc, wrote))
       | inr differ ↦ joins.first l w (is.tally.written v i l w (differ, other) (x, sym (access_elsewhere s trace.sketch t lawful before.alone is.there own alike v i differ) ∙ at, loc, wrote))

@@ -15,7 +15,7 @@ use Rattle.cover_judge.specs.Choices.{IsValueOpen, AreValueChoices, sketch_with}
 use Rattle.branching.specs.declared.traces.TraceTree.{TraceTree}
 use Rattle.branching.specs.Combinations.{AreAlike, with_root}
 use Rattle.sketch_covers.specs.Covers.{IsCoverAt, IsCoverAfter}
-use Rattle.branching.specs.Traces.{Traces, Read, traces, trees_of, root, first_choices, IsTraceTree}
+use Rattle.branching.specs.Traces.{Traces, Read, traces, trace_trees, root, first_choices, IsTraceTree}
 use Rattle.partial_covers.proofs.CombinedCovers.{child_alike, child_cover, child_parts}
 use Rattle.partial_covers.proofs.CombinedSketches.{lawful_merged, values_merged}
 use Rattle.cover_judge.proofs.ChoicesJudged.{next_is_open}
@@ -24,9 +24,9 @@ use Rattle.sketch_covers.proofs.Nodes.{few_choices}
 use Rattle.branching.proofs.TraceTrees.{as_many_trees, child_tree}
 
 module _ (s : ProgramSketch) (t : ℕ) (alone : HasValuesAlone s.chosen) (there : t < length s.program.threads) (lawful : IsLawful s) (u : ProgramSketch) (own : IsLawful u) (choices : List Choice) (after : List TraceTree)
-    (x : Traces) (is : x ≡ Read u choices (trees_of (map traces after))) (is_tree : IsTraceTree t x) (is_alike : AreAlike (root x) s) (shown : Shown) where
+    (x : Traces) (is : x ≡ Read u choices (trace_trees (map traces after))) (is_tree : IsTraceTree t x) (is_alike : AreAlike (root x) s) (shown : Shown) where
   abbrev node : Traces
-  node = Read u choices (trees_of (map traces after))
+  node = Read u choices (trace_trees (map traces after))
 
   abbrev merged : ProgramSketch
   merged = with_root t s node

@@ -20,7 +20,7 @@ use Rattle.branching.specs.declared.traces.TraceTree.{TraceTree}
 use Rattle.branching.specs.Combinations.{with_root}
 use Rattle.sketch_covers.specs.Covers.{IsCoverAt, IsCoverAfter}
 use Rattle.sketch_covers.specs.Pushing.{Begins}
-use Rattle.branching.specs.Traces.{Traces, Read, traces, trees_of, root, first_choices, IsTraceTree}
+use Rattle.branching.specs.Traces.{Traces, Read, traces, trace_trees, root, first_choices, IsTraceTree}
 use Rattle.partial_covers.specs.UnsourcedTraces.{Takes, Closes}
 use Rattle.sketch_covers.proofs.Covering.{Covering, none_covered, one_covered, all_covered, pushes_as}
 use Rattle.sketch_covers.proofs.Nodes.{few_choices}
@@ -42,7 +42,7 @@ abbrev pub ClosesSome : ℕ → Tally → Traces → ℕ → List Node → List 
 ClosesSome t others x i old new = (s : ProgramSketch) (shown : Shown) (outcomes : List Outcome) → Takes t others (root x) s →
     Covering (with_root t s x) shown (first_choices x) (root_over t x) old outcomes i new
 
-module _ (t : ℕ) (others : Tally) (u : ProgramSketch) (own : IsLawful u) (choices : List Choice) (after : List TraceTree) (x : Traces) (is : x ≡ Read u choices (trees_of (map traces after))) (is_tree : IsTraceTree t x) where
+module _ (t : ℕ) (others : Tally) (u : ProgramSketch) (own : IsLawful u) (choices : List Choice) (after : List TraceTree) (x : Traces) (is : x ≡ Read u choices (trace_trees (map traces after))) (is_tree : IsTraceTree t x) where
   pub closes_none : (old new : List Node) → new ≡ old ++ root_over t x ∷ [] → ClosesSome t others x 0 old new
   closes_none old new pushed s shown outcomes takes =
       let lawful = lawful_at s t takes.base.alone takes.base.there takes.lawful u own choices after x is is_tree takes.alike shown in

@@ -89,7 +89,7 @@ pub record IsReady (p : Listing) (start : SearchStart) : Type 0 where
   pub planned : IsPlanned start.sketch start.plan start.parts.items
 
 -- so, and the covers of its parts are so
-pub record IsStart (p : Listing) (shown : Shown) (outcomes : KnownOutcomes) (start : SearchStart) : Type 0 where
+pub record IsCoveredStart (p : Listing) (shown : Shown) (outcomes : KnownOutcomes) (start : SearchStart) : Type 0 where
   pub sketch : start.sketch ≡ nothing_chosen p (modes.Fenced set.empty)
   pub plan : MatchOption start.plan (IsWhole start.sketch.program (mode_in start.sketch) start.sketch.chosen) (λ plan. IsLast start.sketch plan.last)
   pub parts : ArePartsFor start.sketch shown outcomes [] start.parts.items

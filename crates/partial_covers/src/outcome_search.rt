@@ -8,7 +8,7 @@ ghost use Rattle.sketch_covers.specs.Covers.{IsWholeCover};
 ghost use Rattle.sketch_covers.specs.OutcomeNumbers.{IsInOrder, AreRunsOf};
 ghost use Rattle.partial_covers.specs.PartialCovers.{IsPartialCover};
 ghost use Rattle.sketch_covers.specs.declared.outcome_index.OutcomeIndex.{OutcomeIndex as IndexValue};
-ghost use Rattle.partial_covers.specs.Parts.{IsStart};
+ghost use Rattle.partial_covers.specs.Parts.{IsCoveredStart};
 ghost use Rattle.sketch_covers.specs.KnownOutcomes.{by_number, AreInOrder, HasRunOfEach, Grows, StopIs};
 ghost use Rattle.sketch_covers.specs.declared.known_outcomes.KnownOutcomes.TheVariants.{Open};
 
@@ -43,7 +43,7 @@ pub fn all_outcomes<W: Watch>(
     mode: Mode,
     watch: &W,
 ) -> Result<OutcomeCover, AllocError>
-    requires { (none : IndexValue) → IsStart program.now shown.now (Open none mode) start }
+    requires { (none : IndexValue) → IsCoveredStart program.now shown.now (Open none mode) start }
     ensures in_order { IfOk result (λ all. IsInOrder all.found) }
     ensures runs { IfOk result (λ all. AreRunsOf (asked program.now shown.now) (machine_of_mode program.now mode) all.found.runs all.found.outcomes.items) }
     ensures kept { IfOk result (λ all. IsPartialCover program.now shown.now all.found.by_number.items all.kept) }
@@ -79,7 +79,7 @@ fn partial_of_all<'a, W: Watch>(
     mode: &Mode,
     watch: &W,
 ) -> Result<Covering<'a>, AllocError>
-    requires { (none : IndexValue) → IsStart program.now shown.now (Open none mode.now) start }
+    requires { (none : IndexValue) → IsCoveredStart program.now shown.now (Open none mode.now) start }
     ensures in_order { IfOk result (λ all. AreInOrder all.outcomes) }
     ensures runs { IfOk result (λ all. HasRunOfEach (asked program.now shown.now) all.outcomes) }
     ensures open { IfOk result (λ all. (found : IndexValue) × (all.outcomes ≡ Open found mode.now)) }

@@ -2,7 +2,7 @@
 ghost use Rattle.std.specs.Prelude.{◌<◌, IfOk, All};
 ghost use Rattle.sketch_covers.specs.declared.outcome_index.OutcomeIndex.{OutcomeIndex};
 ghost use Rattle.sketch_covers.specs.declared.known_outcomes.KnownOutcomes.TheVariants.{Open};
-ghost use Rattle.partial_covers.specs.Parts.{IsSearched, AreSearched, IsReady, IsStart};
+ghost use Rattle.partial_covers.specs.Parts.{IsSearched, AreSearched, IsReady, IsCoveredStart};
 ghost use Rattle.branching.specs.Plans.{IsBeforeLast};
 
 use crate::cutting::parts_of;
@@ -33,7 +33,7 @@ pub fn start_alone(
     shown: &Shown,
     mode: &Mode,
 ) -> Result<SearchStart, AllocError>
-    ensures { IfOk result (λ start. (none : OutcomeIndex) → IsStart program.now shown.now (Open none mode.now) start) }
+    ensures { IfOk result (λ start. (none : OutcomeIndex) → IsCoveredStart program.now shown.now (Open none mode.now) start) }
 {
     let SearchStart {
         sketch,
@@ -61,7 +61,7 @@ pub fn start_by<R: Threads + Sync, W: Watch + Sync>(
     mode: &Mode,
     watch: &W,
 ) -> Result<SearchStart, AllocError>
-    ensures { IfOk result (λ start. (none : OutcomeIndex) → IsStart program.now shown.now (Open none mode.now) start) }
+    ensures { IfOk result (λ start. (none : OutcomeIndex) → IsCoveredStart program.now shown.now (Open none mode.now) start) }
 {
     let SearchStart {
         sketch,

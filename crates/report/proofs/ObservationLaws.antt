@@ -10,7 +10,7 @@ use Rattle.tso_program.specs.declared.atom.Atom.{Atom}
 use Rattle.tso_program.specs.Tree.{Tree}
 use Rattle.tso_program.specs.Truth.{truth}
 use Rattle.report.specs.Observations.{some_meets, all_meet, frequency}
-use Rattle.report.specs.Laws.{ObservationsAreTold, Meets, FailsFormula}
+use Rattle.report.specs.Laws.{ObservationsAreTold, MeetsFormula, FailsFormula}
 
 -- ---- tests of a list
 
@@ -78,10 +78,10 @@ module _ (f : Tree Atom) (outcomes : List Outcome) where
   abbrev all : Bool
   all = all_meet f outcomes
 
-  any_meets : some ≡ true → Any (Meets f) outcomes
+  any_meets : some ≡ true → Any (MeetsFormula f) outcomes
   any_meets = Any-from_list_any meets outcomes
 
-  some_is : Any (Meets f) outcomes → some ≡ true
+  some_is : Any (MeetsFormula f) outcomes → some ≡ true
   some_is = list_any-from_Any meets outcomes
 
   pub never : frequency f outcomes ≡ codes "Never" → All (FailsFormula f) outcomes
@@ -90,16 +90,16 @@ module _ (f : Tree Atom) (outcomes : List Outcome) where
   pub is_never : All (FailsFormula f) outcomes → frequency f outcomes ≡ codes "Never"
   is_never none = word_as some all false all (list_any_none meets outcomes none) refl
 
-  pub always : frequency f outcomes ≡ codes "Always" → Any (Meets f) outcomes × All (Meets f) outcomes
+  pub always : frequency f outcomes ≡ codes "Always" → Any (MeetsFormula f) outcomes × All (MeetsFormula f) outcomes
   always e = let a = always_is some all e in (any_meets a.0, AllPass-from_list_all meets outcomes a.1)
 
-  pub is_always : Any (Meets f) outcomes × All (Meets f) outcomes → frequency f outcomes ≡ codes "Always"
+  pub is_always : Any (MeetsFormula f) outcomes × All (MeetsFormula f) outcomes → frequency f outcomes ≡ codes "Always"
   is_always h = word_as some all true true (some_is h.0) (list_all-from_AllPass meets outcomes h.1)
 
-  pub sometimes : frequency f outcomes ≡ codes "Sometimes" → Any (Meets f) outcomes × Any (FailsFormula f) outcomes
+  pub sometimes : frequency f outcomes ≡ codes "Sometimes" → Any (MeetsFormula f) outcomes × Any (FailsFormula f) outcomes
   sometimes e = let a = sometimes_is some all e in (any_meets a.0, some_fails meets outcomes a.1)
 
-  pub is_sometimes : Any (Meets f) outcomes × Any (FailsFormula f) outcomes → frequency f outcomes ≡ codes "Sometimes"
+  pub is_sometimes : Any (MeetsFormula f) outcomes × Any (FailsFormula f) outcomes → frequency f outcomes ≡ codes "Sometimes"
   is_sometimes h = word_as some all true false (some_is h.0) (not_all_pass meets outcomes h.1)
 
   pub not_exists : not some ≡ true → All (FailsFormula f) outcomes

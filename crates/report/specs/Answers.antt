@@ -18,8 +18,8 @@ after_space [] = []
 after_space (b ∷ bs) = 32 ∷ b ∷ bs
 
 -- the labels of a run
-abbrev pub labels_line : List Label → List ℕ
-labels_line labels = codes "run" ++ after_space (run_text labels) ++ 10 ∷ []
+abbrev pub printed_labels : List Label → List ℕ
+printed_labels labels = codes "run" ++ after_space (run_text labels) ++ 10 ∷ []
 
 abbrev pub outcome_line : TextNames → Shown → Outcome → List ℕ
 outcome_line names shown outcome = codes "outcome:" ++ after_space (outcome_text names shown outcome) ++ 10 ∷ []

@@ -58,14 +58,14 @@ cost_text (cost.TooLarge gap) = codes "TooLarge " ++ decimal gap
 cost_text cost.TooMany = codes "TooMany"
 cost_text cost.OutOfMemory = codes "OutOfMemory"
 
-abbrev pub cost_line : ℕ → CostFault → List ℕ
-cost_line line fault = refused (codes "costs 4 Cost line " ++ decimal line ++ 32 ∷ cost_text fault)
+abbrev pub cost_fault_line : ℕ → CostFault → List ℕ
+cost_fault_line line fault = refused (codes "costs 4 Cost line " ++ decimal line ++ 32 ∷ cost_text fault)
 
 abbrev pub costs_line : CostTextFault → List ℕ
 costs_line (costs.Line line) = refused_at (codes "costs 1 Line line") line
 costs_line (costs.NoSuchGap line) = refused_at (codes "costs 2 NoSuchGap line") line
 costs_line (costs.Repeated line) = refused_at (codes "costs 3 Repeated line") line
-costs_line (costs.Cost line fault) = cost_line line fault
+costs_line (costs.Cost line fault) = cost_fault_line line fault
 costs_line costs.OutOfMemory = refused (codes "costs 5 OutOfMemory")
 
 abbrev pub run_line : RunFault → List ℕ

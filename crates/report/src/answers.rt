@@ -1,7 +1,7 @@
 //! The lines of runs and of answers.
 
 ghost use Rattle.std.specs.Prelude.{◌≡◌, ◌++◌, IfOk, OnOk, codes};
-ghost use Rattle.report.specs.Answers.{after_space, labels_line, outcome_line, passed_line, without_line, shown_word, set_line, answer_line};
+ghost use Rattle.report.specs.Answers.{after_space, printed_labels, outcome_line, passed_line, without_line, shown_word, set_line, answer_line};
 
 use crate::places::{push_gap, push_gaps};
 use canonical_text::write_outcome;
@@ -24,7 +24,7 @@ fn push_after_space(line: &mut Vec<u8>, text: &[u8]) -> Result<(), AllocError>
 
 /// The labels of a run.
 pub fn labels_line(alloc: Global, labels: &[Label]) -> Result<Vec<u8>, AllocError>
-    ensures { IfOk result (λ line. line.items ≡ labels_line labels.now) }
+    ensures { IfOk result (λ line. line.items ≡ printed_labels labels.now) }
 {
     let text = write_run(alloc, labels)?;
     let mut line = Vec::from_slice(alloc, b"run")?;

@@ -1,7 +1,7 @@
 //! The lines of refusals: the part that refuses, the fault's number and name, and where it shows.
 
 ghost use Rattle.std.specs.Prelude.{◌≡◌, IfOk, string_bytes};
-ghost use Rattle.report.specs.Faults.{refused, refused_at, litmus_line, program_line, program_text, costs_line, cost_line, cost_text, run_line, replay_line};
+ghost use Rattle.report.specs.Faults.{refused, refused_at, litmus_line, program_line, program_text, costs_line, cost_fault_line, cost_text, run_line, replay_line};
 
 use cost_text::CostTextFault;
 use gap_sets::CostFault;
@@ -71,7 +71,7 @@ pub fn costs_line(alloc: Global, fault: CostTextFault) -> Result<Vec<u8>, AllocE
 
 /// Why a gap may not cost what a line of a cost file says.
 fn cost_line(alloc: Global, line: usize, fault: CostFault) -> Result<Vec<u8>, AllocError>
-    ensures { IfOk result (λ text. text.items ≡ cost_line line fault) }
+    ensures { IfOk result (λ text. text.items ≡ cost_fault_line line fault) }
 {
     let inner = cost_text(alloc, fault)?;
     let what = format!(in alloc; "costs 4 Cost line {line} {inner}")?;

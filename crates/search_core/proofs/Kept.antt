@@ -6,7 +6,7 @@ use Rattle.std.specs.Ordering.{nat_cmp}
 use Rattle.std.proofs.lemmas.Option.{same_Some, none-some, slice_get_within}
 use Rattle.gap_sets.specs.Gaps.{SetOfGaps}
 use Rattle.gap_sets.specs.Order.{total, Better}
-use Rattle.gap_sets.specs.Regions.{all_sets, with_gap, without_gap, children_of, open_gaps}
+use Rattle.gap_sets.specs.Regions.{all_sets, with_gap, without_gap, child_regions, open_gaps}
 use Rattle.gap_sets.specs.declared.region.Region.{Region}
 use Rattle.gap_sets.proofs.Orders.{not_itself}
 use Rattle.tso_program.specs.declared.listing.Listing.{Listing}
@@ -63,7 +63,7 @@ pub record Facts (s : SearchState) : Type 0 where
 
 -- the gaps that children must have are the program's
 module _ (p : Listing) where
-  kids_of : (n : Region) (gaps : List ℕ) → AreGapsOf p n.must → ((gap : ℕ) → Contains gaps gap → gap < gap_count p.threads) → Each (λ (c : Region). AreGapsOf p c.must) (children_of n gaps)
+  kids_of : (n : Region) (gaps : List ℕ) → AreGapsOf p n.must → ((gap : ℕ) → Contains gaps gap → gap < gap_count p.threads) → Each (λ (c : Region). AreGapsOf p c.must) (child_regions n gaps)
   kids_of n [] of each k c e = absurd (none-some c e)
   kids_of n (gap ∷ gaps) of each zero c e = subst (λ (d : Region). AreGapsOf p d.must) (same_Some (with_gap n gap) c e)
       (λ q h. elim (new_or_old n.must gap q h) [ inl same ↦ subst (λ g. g < gap_count p.threads) same (each gap (first_is_here gap gaps)) | inr old ↦ of q old ])

@@ -6,7 +6,7 @@ use Rattle.std.proofs.lemmas.List.{length-set}
 use Rattle.std.specs.FinSet as set
 use Rattle.gap_sets.specs.Gaps.{SetOfGaps, IsGapSet}
 use Rattle.gap_sets.specs.Order.{total, Better}
-use Rattle.gap_sets.specs.Regions.{IsInRegion, children_of, HasNoneOf, open_gaps}
+use Rattle.gap_sets.specs.Regions.{IsInRegion, child_regions, HasNoneOf, open_gaps}
 use Rattle.gap_sets.specs.declared.region.Region.{Region}
 use Rattle.gap_sets.proofs.Orders.{not_itself, chained}
 use Rattle.tso_program.specs.Shown.{Question}
@@ -100,10 +100,10 @@ module _ (q : Question) (costs : List ℕ) (within : IsWithinLimits q.program.th
 
       -- the children follow the entries
       module _ (seat : ℕ) (behind : more ≡ open_entries seat (children e.node f.passed)) where
-        in_child : (gaps : SetOfGaps) (child : Region) → Contains (children_of e.node (open_gaps f.passed e.node.never)) child → IsInRegion child gaps →
+        in_child : (gaps : SetOfGaps) (child : Region) → Contains (child_regions e.node (open_gaps f.passed e.node.never)) child → IsInRegion child gaps →
             IsLive (changed es place e x there same more) gaps
         in_child gaps child here inside =
-            let regions = children_of e.node (open_gaps f.passed e.node.never) in
+            let regions = child_regions e.node (open_gaps f.passed e.node.never) in
             let at : slice_get regions here.0 ≡ Some child = slice_get-get_or regions here.0 child here.1 ∙ ap Some here.2 in
             record {
               place = length es + here.0;

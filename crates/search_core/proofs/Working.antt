@@ -14,7 +14,7 @@ use Rattle.std.proofs.Math.Nat.{one-le-pow, two-pow-succ}
 use Rattle.std.proofs.lemmas.List.FromFn.{length-range_with_len}
 use Rattle.std.proofs.lemmas.List.Sums.{sum_by-cons, sum_by-le, length-filter, count_by-le-length, sum_by-set, sum_by-append}
 use Rattle.gap_sets.specs.Gaps.{SetOfGaps, IsGapSet}
-use Rattle.gap_sets.specs.Regions.{with_gap, without_gap, children_of, open_gaps}
+use Rattle.gap_sets.specs.Regions.{with_gap, without_gap, child_regions, open_gaps}
 use Rattle.gap_sets.specs.declared.region.Region.{Region}
 use Rattle.gap_sets.specs.declared.gap_set.TheConstants.{MAX_GAPS}
 use Rattle.gap_sets.proofs.Ranges.{sum-lt}
@@ -127,19 +127,19 @@ after_first n gap gaps up each q here =
     (old.0, still_open n gap first.0 first.1 q (not_again gap gaps up q here) old.1)
 
 -- the children's work together is less
-pub kids_work : (n : Region) (gaps : List ℕ) → AllPairs (λ a b. a < b) gaps → AreUndecided n gaps → sum_by work_of (children_of n gaps) < work_of n
+pub kids_work : (n : Region) (gaps : List ℕ) → AllPairs (λ a b. a < b) gaps → AreUndecided n gaps → sum_by work_of (child_regions n gaps) < work_of n
 kids_work n [] up each = one-le-pow (undecided n) 2 (omega arith)
 kids_work n (gap ∷ gaps) up each =
     let first = each gap (first_is_here gap gaps) in
     let child = with_gap n gap in
     let rest = without_gap n gap in
-    let others : sum_by work_of (children_of rest gaps) < work_of rest = kids_work rest gaps (later gap gaps up) (after_first n gap gaps up each) in
-    let parts : sum_by work_of (child ∷ children_of rest gaps) ≡ work_of child + sum_by work_of (children_of rest gaps) = sum_by-cons work_of child (children_of rest gaps) in
+    let others : sum_by work_of (child_regions rest gaps) < work_of rest = kids_work rest gaps (later gap gaps up) (after_first n gap gaps up each) in
+    let parts : sum_by work_of (child ∷ child_regions rest gaps) ≡ work_of child + sum_by work_of (child_regions rest gaps) = sum_by-cons work_of child (child_regions rest gaps) in
     let two : work_of child + work_of rest ≤ work_of n = halves (undecided child) (undecided rest) (undecided n) (with_less n gap first.0 first.1) (without_less n gap first.0 first.1) in
     omega arith
 
 -- and each decides more
-pub kids_less : (n : Region) (gaps : List ℕ) → AllPairs (λ a b. a < b) gaps → AreUndecided n gaps → Each (λ (c : Region). undecided c < undecided n) (children_of n gaps)
+pub kids_less : (n : Region) (gaps : List ℕ) → AllPairs (λ a b. a < b) gaps → AreUndecided n gaps → Each (λ (c : Region). undecided c < undecided n) (child_regions n gaps)
 kids_less n [] up each k c e = absurd (none-some c e)
 kids_less n (gap ∷ gaps) up each zero c e =
     let first = each gap (first_is_here gap gaps) in
@@ -184,9 +184,9 @@ opened_work seat (c ∷ cs) =
 pub split_work : (seat : ℕ) (passed : SetOfGaps) (n : Region) → IsGapSet passed → AreApart passed n.must → work_left (open_entries seat (children n passed)) < work_of n
 split_work seat passed n small apart =
     let gaps = open_gaps passed n.never in
-    let less : sum_by work_of (children_of n gaps) < work_of n =
+    let less : sum_by work_of (child_regions n gaps) < work_of n =
     kids_work n gaps (AllPairs-from_increasing gaps (open_ascending passed n.never)) (open_undecided passed n small apart) in
-    let same : work_left (open_entries seat (children n passed)) ≡ sum_by work_of (children_of n gaps) = opened_work seat (children_of n gaps) in
+    let same : work_left (open_entries seat (children n passed)) ≡ sum_by work_of (child_regions n gaps) = opened_work seat (child_regions n gaps) in
     omega arith
 
 -- a live node changes, and others are opened

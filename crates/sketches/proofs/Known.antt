@@ -30,7 +30,7 @@ use Rattle.known_edges.specs.Known.{HasNoCycle}
 use Rattle.sketches.specs.Completions.{MustEndSo}
 use Rattle.sketches.proofs.LastWrites.{some_last}
 use Rattle.known_edges.specs.ProgramSketches.{ProgramSketch, mode_in, trace_in}
-use Rattle.sketches.specs.Knowledge.{IsKnown, Knows}
+use Rattle.sketches.specs.Knowledge.{IsKnownTruth, Knows}
 use Rattle.sketches.specs.Internal.KnownWalk.{after_node, KnowsLeft}
 use Rattle.known_edges.specs.KnownTruths.{joined}
 use Rattle.sketches.specs.Endings.{final_registers, MayBe}
@@ -75,7 +75,7 @@ module _ (s : ProgramSketch) where
   knows_const false = record { of_true = (λ t. absurd (let f : false ≡ true = t in cc), λ e. absurd (let f : false ≡ true = e in cc)); of_false = (λ t. refl, λ e. refl) }
 
   -- nothing is known of an atom of which neither truth is
-  knows_open : (a : Atom) → ((b : Bool) → IsKnown s (tree.Atom a) b → ⊥) → Knows s (tree.Atom a) (record { is_true = false; is_false = false })
+  knows_open : (a : Atom) → ((b : Bool) → IsKnownTruth s (tree.Atom a) b → ⊥) → Knows s (tree.Atom a) (record { is_true = false; is_false = false })
   knows_open a none = record {
     of_true = (λ t. absurd (let f : false ≡ true = t in cc), λ known. absurd (none true known));
     of_false = (λ t. absurd (let f : false ≡ true = t in cc), λ known. absurd (none false known));
@@ -120,14 +120,14 @@ module _ (s : ProgramSketch) where
   -- an operand and the one that waits
   pub knows_joined : (f : Tree Atom) (h : Half) (left : Left) (k : Knowledge) (hs : List Half) → KnowsLeft s h left → Knows s f k → Knows s (after_node node.End f (h ∷ hs)).0 (joined left k)
   knows_joined f (AndOf g) (OfAnd j) k hs left right = record {
-    of_true = and_test j.is_true k.is_true (IsKnown s g true) (IsKnown s f true) left.of_true right.of_true;
-    of_false = or_test j.is_false k.is_false (IsKnown s g false) (IsKnown s f false) left.of_false right.of_false;
+    of_true = and_test j.is_true k.is_true (IsKnownTruth s g true) (IsKnownTruth s f true) left.of_true right.of_true;
+    of_false = or_test j.is_false k.is_false (IsKnownTruth s g false) (IsKnownTruth s f false) left.of_false right.of_false;
   }
   knows_joined f (AndOf g) (OfOr j) k hs left right = absurd left
   knows_joined f (OrOf g) (OfAnd j) k hs left right = absurd left
   knows_joined f (OrOf g) (OfOr j) k hs left right = record {
-    of_true = or_test j.is_true k.is_true (IsKnown s g true) (IsKnown s f true) left.of_true right.of_true;
-    of_false = and_test j.is_false k.is_false (IsKnown s g false) (IsKnown s f false) left.of_false right.of_false;
+    of_true = or_test j.is_true k.is_true (IsKnownTruth s g true) (IsKnownTruth s f true) left.of_true right.of_true;
+    of_false = and_test j.is_false k.is_false (IsKnownTruth s g false) (IsKnownTruth s f false) left.of_false right.of_false;
   }
 
   -- a register where its thread stops
@@ -193,12 +193,12 @@ module _ (s : ProgramSketch) (f : Tree Atom) where
           ap (λ x. is_value x v) (slice_get_past end.memory l (omega arith)) ∙ past h
     ]
 
-    pub one_truth : (b c : Bool) → IsKnown s f b → IsKnown s f c → b ≡ c
+    pub one_truth : (b c : Bool) → IsKnownTruth s f b → IsKnownTruth s f c → b ≡ c
     one_truth b c first second =
         sym (known_is_true (KnownAtom s.program (mode_in s) s.chosen) (is_true_at end) atom_so b f first)
         ∙ known_is_true (KnownAtom s.program (mode_in s) s.chosen) (is_true_at end) atom_so c f second
 
-  pub must_tell : (b : Bool) (o : Outcome) → IsLawful s → IsKnown s f b → o ≡ told b → MustEndSo s (Truth f) o
+  pub must_tell : (b : Bool) (o : Outcome) → IsLawful s → IsKnownTruth s f b → o ≡ told b → MustEndSo s (Truth f) o
   must_tell b o lawful known is = record {
     must_end = record { truth = b; known = known; is_told = is };
     only = λ acyclic other also. also.is_told ∙ ap told (one_truth lawful acyclic also.truth b also.known known) ∙ sym is;

@@ -18,9 +18,9 @@ use Rattle.candidate_executions.proofs.Orders.Lists.{none_here, first_or_later, 
 use Rattle.known_edges.specs.ProgramSketches.{ProgramSketch, mode_in, access_in}
 use Rattle.known_edges.specs.Kept.{IsLawful}
 use Rattle.known_edges.specs.Known.{HasNoCycle}
-use Rattle.sketches.specs.Cycles.{IsNext}
+use Rattle.sketches.specs.Cycles.{IsSuccessor}
 use Rattle.known_edges.specs.Writes.{WritesTo}
-use Rattle.sketches.specs.Endings.{MayEndWith}
+use Rattle.sketches.specs.Endings.{SketchMayEndWith}
 use Rattle.known_edges.proofs.ChoicesCounted.{events, events_has}
 use Rattle.sketches.proofs.RoundTrips.{round_trip}
 
@@ -120,7 +120,7 @@ module _ (s : ProgramSketch) (l : ℕ) (lawful : IsLawful s) (fs : List Event) (
   there (At t i) v w n = (exact (At t i)).1 (events_has s lawful t i w.0 w.1, (v, w))
 
   -- where each such write has one after it, there is a cycle
-  goes : (e : Event) → Contains fs e → ((d : Event) × Contains s.chosen.pairs (e, d)) → (d : Event) × IsNext (KnownEdgeOfMode s.program (mode_in s) s.chosen (followed_union (mode_in s))) fs e d
+  goes : (e : Event) → Contains fs e → ((d : Event) × Contains s.chosen.pairs (e, d)) → (d : Event) × IsSuccessor (KnownEdgeOfMode s.program (mode_in s) s.chosen (followed_union (mode_in s))) fs e d
   goes e has (d, h) =
       let (differ, (m, v, w, first, second, not_first, not_second)) = lawful.is_sketch.pairs e d h in
       let (u, own_write) = writes_of s l e ((exact e).0 has).1 in
@@ -128,7 +128,7 @@ module _ (s : ProgramSketch) (l : ℕ) (lawful : IsLawful s) (fs : List Event) (
       (d, (there d w (subst (λ z. Writes (access_in s) d z w) at second) (λ q. not_second (q ∙ ap Initial (sym at))), pair_edge s e d lawful h))
 
   -- if there is no such write, the initial write may be the last
-  initial_last : ((e : Event) → Contains fs e → ⊥) → MayEndWith s l (slice_index s.program.memory l)
+  initial_last : ((e : Event) → Contains fs e → ⊥) → SketchMayEndWith s l (slice_index s.program.memory l)
   initial_last none = (
     Initial l,
     (
@@ -142,7 +142,7 @@ module _ (s : ProgramSketch) (l : ℕ) (lawful : IsLawful s) (fs : List Event) (
     ),
   )
 
-  found : HasNoCycle s → (v : ℕ) × MayEndWith s l v
+  found : HasNoCycle s → (v : ℕ) × SketchMayEndWith s l v
   found acyclic = elim (some_end s.chosen.pairs fs) [
     | inl (e, here, none) ↦
         (let is = ((exact e).0 here).1 in
@@ -151,12 +151,12 @@ module _ (s : ProgramSketch) (l : ℕ) (lawful : IsLawful s) (fs : List Event) (
     | inr each ↦ by fs refl each
   ]
     where
-      by : (es : List Event) → fs ≡ es → ((e : Event) → Contains fs e → (d : Event) × Contains s.chosen.pairs (e, d)) → (v : ℕ) × MayEndWith s l v
+      by : (es : List Event) → fs ≡ es → ((e : Event) → Contains fs e → (d : Event) × Contains s.chosen.pairs (e, d)) → (v : ℕ) × SketchMayEndWith s l v
       by [] q each = (slice_index s.program.memory l, initial_last (λ e h. none_here e (subst (λ xs. Contains xs e) q h)))
       by (x ∷ es) q each = absurd
           (let (round, cycle) = round_trip (KnownEdgeOfMode s.program (mode_in s) s.chosen (followed_union (mode_in s))) fs (λ e h. goes e h (each e h)) (subst (λ xs. 0 < length xs) (sym q) (omega arith)) in
           acyclic (followed_union (mode_in s)) round cycle)
 
 -- each location has a write that may be its last
-pub some_last : (s : ProgramSketch) (l : ℕ) → IsLawful s → HasNoCycle s → (v : ℕ) × MayEndWith s l v
+pub some_last : (s : ProgramSketch) (l : ℕ) → IsLawful s → HasNoCycle s → (v : ℕ) × SketchMayEndWith s l v
 some_last s l lawful acyclic = (let (fs, exact) = sifted s l (events s lawful) in found s l lawful fs exact acyclic)

@@ -15,8 +15,8 @@ use Rattle.candidate_executions.specs.Sketches.{IsSourceOf, given_to}
 use Rattle.thread_traces.specs.declared.thread_trace.ThreadTrace.{ThreadTrace}
 use Rattle.known_edges.specs.ProgramSketches.{ProgramSketch, mode_in, access_in}
 use Rattle.known_edges.specs.Kept.{view_of, KeepsTraces}
-use Rattle.known_edges.specs.Choices.{ReadsFrom, IsValueWritten}
-use Rattle.known_edges.specs.Rows.{access_of, IsRowOf, IsWriteAt, AreAccesses}
+use Rattle.known_edges.specs.Choices.{ReadsThisValue, IsValueWritten}
+use Rattle.known_edges.specs.Rows.{traced_access, IsRowOf, IsWriteAt, AreAccesses}
 use Rattle.sketches.specs.Internal.Listed.{HasNumberIn, FollowInOrder}
 use Rattle.thread_traces.proofs.KnownParts.{of_some}
 use Rattle.known_edges.proofs.Lawful.{none_in}
@@ -83,7 +83,7 @@ all_listed P events row left old listed is none e = (
 )
 
 module _ (p : Listing) (mode : Mode) (thread_traces : List ThreadTrace) (sources pairs : List (Event × Event)) (kept : KeepsTraces p mode thread_traces sources pairs)
-    (events : List Event) (accesses : AreAccesses thread_traces events) (read : Event) (l v : ℕ) (at : ReadsFrom (view_of p mode thread_traces sources pairs) read l v)
+    (events : List Event) (accesses : AreAccesses thread_traces events) (read : Event) (l v : ℕ) (at : ReadsThisValue (view_of p mode thread_traces sources pairs) read l v)
     (writes reader others : ℕ) (of_writes : IsRowOf events (IsWriteAt thread_traces l) writes) (of_reader : IsRowOf events (λ e. e ≡ read) reader)
     (each : (k : ℕ) → IsIn others k ↔ (IsIn writes k × (IsIn reader k → ⊥))) where
   abbrev s : ProgramSketch
@@ -102,7 +102,7 @@ module _ (p : Listing) (mode : Mode) (thread_traces : List ThreadTrace) (sources
       let (z, at_z, (y, ay, loc, wr)) = (of_writes j).0 ((each j).0 here).0 in
       let same : z ≡ e = same_Some z e (sym at_z ∙ at_j) in
       let alike = access_same p mode thread_traces sources pairs kept e ((is_access p mode thread_traces sources pairs kept e).0 (of_threads e j at_j)) in
-      let is : y ≡ x = same_Some y x (sym (subst (λ w. access_of thread_traces w ≡ Some y) same ay) ∙ alike ∙ ax) in
+      let is : y ≡ x = same_Some y x (sym (subst (λ w. traced_access thread_traces w ≡ Some y) same ay) ∙ alike ∙ ax) in
       (rx, v, at_read, reads, (λ q. ((each j).0 here).1 ((of_reader j).1 (e, at_j, q))), (x, ax, ap (λ (w : Access). w.location) (sym is) ∙ loc ∙ sym own, wx))
 
   gives_write : (e : Event) → IsAccess s.program (mode_in s) (given_to s.chosen) e → Gives e → HasNumberIn events others e × IsValueWritten s v e

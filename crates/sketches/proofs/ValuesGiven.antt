@@ -12,7 +12,7 @@ use Rattle.known_edges.specs.ProgramSketches.{ProgramSketch, mode_in, with_chose
 use Rattle.sketches.specs.ThreadValues.{with_values}
 use Rattle.known_edges.specs.Kept.{view_of, KeepsTraces}
 use Rattle.sketches.specs.ValueSketches.{MarkedThread, IsValueMarkOf, LacksSource}
-use Rattle.known_edges.specs.Rows.{EachEnds, access_of}
+use Rattle.known_edges.specs.Rows.{EachEnds, traced_access}
 use Rattle.sketches.proofs.ThreadValues.{merged_kept, merged_parts}
 use Rattle.known_edges.proofs.Numbered.{ends_whole, accesses_same}
 use Rattle.known_edges.proofs.TracesKept.{trace_accesses, no_accesses}
@@ -56,13 +56,13 @@ module _ (p : Listing) (mode : Mode) (thread_traces : List ThreadTrace) (kept : 
 -- ---- a read that lacks a source
 
 module _ (p : Listing) (mode : Mode) (thread_traces : List ThreadTrace) (kept : KeepsTraces p mode thread_traces [] []) (ends : EachEnds thread_traces)
-    (read : Event) (x : Access) (value : ℕ) (at : access_of thread_traces read ≡ Some x) (reads : x.read ≡ Some value)
+    (read : Event) (x : Access) (value : ℕ) (at : traced_access thread_traces read ≡ Some x) (reads : x.read ≡ Some value)
     (not_first : slice_index p.memory x.location ≡ value → ⊥)
     (not_written : (t i : ℕ) (c : ThreadTrace) (y : Access) → slice_get thread_traces t ≡ Some c → slice_get c.accesses i ≡ Some y → y.location ≡ x.location → y.written ≡ Some value → ⊥) where
   abbrev s : ProgramSketch
   s = view_of p mode thread_traces [] []
 
-  access_is : (e : Event) (y : Access) → access_of thread_traces e ≡ Some y → access_in s e ≡ Some y
+  access_is : (e : Event) (y : Access) → traced_access thread_traces e ≡ Some y → access_in s e ≡ Some y
   access_is (Initial l) y q = absurd cc
   access_is (At t i) y q = ap (λ xs. slice_get xs i) (sym (accesses_same p mode thread_traces [] [] kept t)) ∙ q
 

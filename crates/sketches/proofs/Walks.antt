@@ -4,10 +4,10 @@ use Rattle.std.specs.List.{AllPairs, remove}
 use Rattle.std.proofs.lemmas.List.Elements.{Contains-append_left, Contains-push}
 use Rattle.candidate_executions.specs.declared.event.Event.{Event}
 use Rattle.candidate_executions.specs.Consistency.{IsCycle}
-use Rattle.sketches.specs.Cycles.{IsNext}
+use Rattle.sketches.specs.Cycles.{IsSuccessor}
 use Rattle.thread_traces.proofs.Walks.{IsWalk, contains_remove, path_more, path_drop, pairs_drop, round, distinct_more}
 
-module _ (R : Event → Event → Type 0) (nodes path open_nodes : List Event) (now next : Event) (walk : IsWalk R nodes path now open_nodes) (edge : IsNext R nodes now next) where
+module _ (R : Event → Event → Type 0) (nodes path open_nodes : List Event) (now next : Event) (walk : IsWalk R nodes path now open_nodes) (edge : IsSuccessor R nodes now next) where
   -- the walk comes back
   pub comes_back : (i : ℕ) → slice_get (path ++ now ∷ []) i ≡ Some next → IsCycle R (drop i (path ++ now ∷ [])) × AllPairs (λ d e. d ≢ e) (drop i (path ++ now ∷ []))
   comes_back i at = (

@@ -16,9 +16,9 @@ abbrev pub IsEnd : (Event → Event → Type 0) → List Event → Event → Typ
 IsEnd R nodes e = (f : Event) → Contains nodes f → R e f → ⊥
 
 -- an edge leads from e to f, which is one of these events
-abbrev pub IsNext : (Event → Event → Type 0) → List Event → Event → Event → Type 0
-IsNext R nodes e f = Contains nodes f × R e f
+abbrev pub IsSuccessor : (Event → Event → Type 0) → List Event → Event → Event → Type 0
+IsSuccessor R nodes e f = Contains nodes f × R e f
 
 -- an edge leads from each of these events to one of them
 abbrev pub EachGoesOn : (Event → Event → Type 0) → List Event → Type 0
-EachGoesOn R nodes = (e : Event) → Contains nodes e → (f : Event) × IsNext R nodes e f
+EachGoesOn R nodes = (e : Event) → Contains nodes e → (f : Event) × IsSuccessor R nodes e f

@@ -15,8 +15,8 @@ abbrev pub final_registers : ProgramSketch → List (List ℕ)
 final_registers s = map (λ t. (trace_in s t).last.registers) (range_with_len 0 (length s.program.threads))
 
 -- a write that may be the last of the location writes the value
-abbrev pub MayEndWith : ProgramSketch → ℕ → ℕ → Type 0
-MayEndWith s l v = (e : Event) × IsLastWith s l v e
+abbrev pub SketchMayEndWith : ProgramSketch → ℕ → ℕ → Type 0
+SketchMayEndWith s l v = (e : Event) × IsLastWith s l v e
 
 -- the same of a write of which P holds
 abbrev pub MayEndBy : ProgramSketch → (Event → Type 0) → ℕ → ℕ → Type 0
@@ -28,7 +28,7 @@ IsOwn s e = IsAccess s.program (mode_in s) (given_to s.chosen) e
 
 -- the held value is shown of each write that may be the last of the location
 abbrev pub EndsSo : ProgramSketch → Shown → ℕ → ℕ → Type 0
-EndsSo s shown l held = (v : ℕ) → MayEndWith s l v → shown_value shown l v ≡ held
+EndsSo s shown l held = (v : ℕ) → SketchMayEndWith s l v → shown_value shown l v ≡ held
 
 -- the memory has these values
 pub record HasEnds (s : ProgramSketch) (shown : Shown) (memory : List ℕ) : Type 0 where
@@ -37,7 +37,7 @@ pub record HasEnds (s : ProgramSketch) (shown : Shown) (memory : List ℕ) : Typ
 
 -- a write that may be the last of the location writes a value that is this one, or is not
 abbrev pub MayBe : ProgramSketch → ℕ → ℕ → Bool → Type 0
-MayBe s l v is = (w : ℕ) × MayEndWith s l w × ((w == v) ≡ is)
+MayBe s l v is = (w : ℕ) × SketchMayEndWith s l w × ((w == v) ≡ is)
 
 -- the same of a write of which P holds
 abbrev pub MayBeBy : ProgramSketch → ℕ → ℕ → Bool → (Event → Type 0) → Type 0
@@ -49,8 +49,8 @@ pub record Differ (s : ProgramSketch) (shown : Shown) : Type 0 where
   pub there : location < length s.program.memory
   pub first : ℕ
   pub second : ℕ
-  pub first_ends : MayEndWith s location first
-  pub second_ends : MayEndWith s location second
+  pub first_ends : SketchMayEndWith s location first
+  pub second_ends : SketchMayEndWith s location second
   pub differ : shown_value shown location first ≡ shown_value shown location second → ⊥
 
 -- what is shown of the writes of which P holds and that may be the last of the location, if there are any

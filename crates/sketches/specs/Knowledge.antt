@@ -7,10 +7,10 @@ use Rattle.known_edges.specs.declared.known_truth.Knowledge.{Knowledge}
 use Rattle.known_edges.specs.ProgramSketches.{ProgramSketch, mode_in}
 
 -- the formula is known to be so
-abbrev pub IsKnown : ProgramSketch → Tree Atom → Bool → Type 0
-IsKnown s f b = KnownBy (KnownAtom s.program (mode_in s) s.chosen) b f
+abbrev pub IsKnownTruth : ProgramSketch → Tree Atom → Bool → Type 0
+IsKnownTruth s f b = KnownBy (KnownAtom s.program (mode_in s) s.chosen) b f
 
 -- what is known of it
 pub record Knows (s : ProgramSketch) (f : Tree Atom) (k : Knowledge) : Type 0 where
-  pub of_true : IsTrue k.is_true ↔ IsKnown s f true
-  pub of_false : IsTrue k.is_false ↔ IsKnown s f false
+  pub of_true : IsTrue k.is_true ↔ IsKnownTruth s f true
+  pub of_false : IsTrue k.is_false ↔ IsKnownTruth s f false

@@ -3,7 +3,7 @@ ghost use Rattle.std.specs.Prelude.{◌≡◌, ◌↔◌, ◌⊎◌, ◌<◌, �
 ghost use Rattle.std.specs.List.{AllPairs};
 ghost use Rattle.candidate_executions.specs.declared.event.Event.{Event};
 ghost use Rattle.known_edges.specs.ProgramSketches.{mode_in, with_chosen};
-ghost use Rattle.known_edges.specs.Choices.{IsRead, ReadsFrom, IsValueWritten, SourcesFaultIs, HasSource, IsOrdered, MayRead, MayFollow, SourceFaultIs, OrderFaultIs};
+ghost use Rattle.known_edges.specs.Choices.{IsRead, ReadsThisValue, IsValueWritten, SourcesFaultIs, HasSource, IsOrdered, MayRead, MayFollow, SourceFaultIs, OrderFaultIs};
 ghost use Rattle.candidate_executions.specs.Events.{ComesBefore};
 ghost use Rattle.candidate_executions.specs.Sketches.{IsSourceOf, IsPair, IsWhole, with_source, with_pair};
 ghost use Rattle.known_edges.specs.Known.{HasCycle};
@@ -45,7 +45,7 @@ impl Sketch {
         value: u32,
     ) -> Result<Vec<Event>, AllocError>
         requires whole { IsWhole self.now.program (mode_in self.now) self.now.chosen }
-        requires reads { ReadsFrom self.now read location value }
+        requires reads { ReadsThisValue self.now read location value }
         ensures exact { IfOk result (λ sources. (source : Event) → Contains sources.items source ↔ IsSourceOf self.now.program (mode_in self.now) self.now.chosen source read) }
         ensures ordered { IfOk result (λ sources. AllPairs ComesBefore sources.items) }
         ensures few { IfOk result (λ sources. length sources.items ≤ most_sources) }
@@ -106,7 +106,7 @@ impl Sketch {
 
     /// The location that an event reads, and the value.
     fn location_and_value(&self, event: Event) -> Option<(u8, u32)>
-        ensures { MatchOption result (IsRead self.now event → ⊥) (λ found. ReadsFrom self.now event found.0 found.1) }
+        ensures { MatchOption result (IsRead self.now event → ⊥) (λ found. ReadsThisValue self.now event found.0 found.1) }
     {
         let access = self.access(event)?;
         let value = access.read?;

@@ -11,12 +11,12 @@ use Rattle.tso_program.specs.declared.listing.Listing.{Listing}
 use Rattle.tso_program.specs.Listings.{instr_at, code_of}
 use Rattle.tso_program.proofs.Found.{code_found}
 use Rattle.candidate_executions.specs.Values.{Occurs, IsImmediate, IsKnown, TakesRegister, IsValueOf}
-use Rattle.thread_traces.specs.Immediates.{number_stored, any_number, stored_number, HasNumber}
+use Rattle.thread_traces.specs.Immediates.{number_stored, any_number, stored_number, HasImmediate}
 use Rattle.thread_traces.proofs.TracesKept.{no_code}
 
 -- a number of the first n threads' instructions
 abbrev pub IsNumberBelow : List Thread → Option ℕ → ℕ → ℕ → Type 0
-IsNumberBelow threads location n v = (t : ℕ) × (t < n) × HasNumber (code_of threads t) location v
+IsNumberBelow threads location n v = (t : ℕ) × (t < n) × HasImmediate (code_of threads t) location v
 
 -- a number of the first n instructions
 abbrev pub HasNumberBelow : List Instr → Option ℕ → ℕ → ℕ → Type 0
@@ -75,7 +75,7 @@ number_more code location i v x at = (
 pub number_none : (code : List Instr) (location : Option ℕ) (v : ℕ) → HasNumberBelow code location 0 v → ⊥
 number_none code location v h = let n = h.2 in omega arith
 
-pub number_all : (code : List Instr) (location : Option ℕ) (n v : ℕ) → length code ≤ n → HasNumberBelow code location n v ↔ HasNumber code location v
+pub number_all : (code : List Instr) (location : Option ℕ) (n v : ℕ) → length code ≤ n → HasNumberBelow code location n v ↔ HasImmediate code location v
 number_all code location n v h = (
   λ a. (a.0, a.1, a.3, a.4),
   λ b. (b.0, b.1, (let k = slice_get_within code b.0 b.1 b.2 in omega arith), b.2, b.3),
@@ -107,17 +107,17 @@ numbers_skip code location i d old now h is come =
 
 -- the first n threads, and one more
 pub thread_more : (threads : List Thread) (location : Option ℕ) (i v : ℕ) (thread : Thread) → i < length threads → thread ≡ get_or threads i thread →
-    (IsNumberBelow threads location i v ⊎ HasNumber thread.code location v) ↔ IsNumberBelow threads location (i + 1) v
+    (IsNumberBelow threads location i v ⊎ HasImmediate thread.code location v) ↔ IsNumberBelow threads location (i + 1) v
 thread_more threads location i v thread h is =
     let code : code_of threads i ≡ thread.code = code_found threads i thread (slice_get_read threads (length threads) i thread refl h is) in (
       λ a. elim a [
         | inl b ↦ (b.0, (let n = b.1 in omega arith), b.2)
-        | inr b ↦ (i, omega arith, subst (λ c. HasNumber c location v) (sym code) b)
+        | inr b ↦ (i, omega arith, subst (λ c. HasImmediate c location v) (sym code) b)
       ],
       λ a. elim (cases_lt a.0 i) [
         | inl l ↦ inl (a.0, l, a.2)
         | inr g ↦ (let same : a.0 ≡ i = (let n = a.1 in omega arith) in
-            inr (subst (λ c. HasNumber c location v) (ap (code_of threads) same ∙ code) a.2))
+            inr (subst (λ c. HasImmediate c location v) (ap (code_of threads) same ∙ code) a.2))
       ],
     )
 
@@ -163,9 +163,9 @@ IsGatheredBelow p l n v = (v ≡ slice_index p.memory l) ⊎ IsNumberBelow p.thr
 
 -- one thread more
 pub gathered_more : (p : Listing) (l i : ℕ) (thread : Thread) (code : List Instr) (old now next : List ℕ) → i < length p.threads → thread ≡ get_or p.threads i thread → code ≡ thread.code →
-    HasCome (IsGatheredBelow p l i) old now → HasCome (HasNumber code (Some l)) now next → HasCome (IsGatheredBelow p l (i + 1)) old next
+    HasCome (IsGatheredBelow p l i) old now → HasCome (HasImmediate code (Some l)) now next → HasCome (IsGatheredBelow p l (i + 1)) old next
 gathered_more p l i thread code old now next h is same first second =
-    come_by (λ v. IsGatheredBelow p l i v ⊎ HasNumber thread.code (Some l) v) (IsGatheredBelow p l (i + 1)) old next
+    come_by (λ v. IsGatheredBelow p l i v ⊎ HasImmediate thread.code (Some l) v) (IsGatheredBelow p l (i + 1)) old next
     (λ v. (
       λ a. elim a [
         | inl (inl q) ↦ inl q
@@ -177,7 +177,7 @@ gathered_more p l i thread code old now next h is same first second =
         | inr b ↦ elim ((thread_more p.threads (Some l) i v thread h is).1 b) [ inl x ↦ inl (inr x) | inr x ↦ inr x ]
       ],
     ))
-    (come_more (IsGatheredBelow p l i) (HasNumber thread.code (Some l)) old now next first (subst (λ xs. HasCome (HasNumber xs (Some l)) now next) same second))
+    (come_more (IsGatheredBelow p l i) (HasImmediate thread.code (Some l)) old now next first (subst (λ xs. HasCome (HasImmediate xs (Some l)) now next) same second))
 
 -- all threads, where no register is stored to the location
 pub values_without : (p : Listing) (l n : ℕ) (now : List ℕ) → length p.threads ≤ n → (TakesRegister p l → ⊥) → HasCome (IsGatheredBelow p l n) [] now → (v : ℕ) → Contains now v ↔ IsValueOf p l v

@@ -11,7 +11,7 @@ use Rattle.tso_program.specs.declared.listing.Thread.{Thread}
 use Rattle.tso_program.specs.declared.listing.Listing.{Listing}
 use Rattle.tso_program.specs.Listings.{instr_at, start_of}
 use Rattle.candidate_executions.specs.Values.{IsKnown, TakesRegister}
-use Rattle.thread_traces.specs.Immediates.{HasNumber, StoresRegister, TakesRegisterOf}
+use Rattle.thread_traces.specs.Immediates.{HasImmediate, StoresRegister, TakesRegisterOf}
 use Rattle.thread_traces.proofs.Gathered.{HasCome, come_by, come_more, come_append, IsNumberBelow, thread_more, immediate_all}
 
 -- an initial value of a register of the first n threads
@@ -84,12 +84,12 @@ IsKnownBelow threads n v = (v ≡ 0) ⊎ (IsNumberBelow threads None n v ⊎ IsR
 
 -- one thread more
 pub known_more : (threads : List Thread) (i : ℕ) (thread : Thread) (code : List Instr) (registers old now mid next : List ℕ) → i < length threads → thread ≡ get_or threads i thread →
-    code ≡ thread.code → registers ≡ thread.registers → HasCome (IsKnownBelow threads i) old now → HasCome (HasNumber code None) now mid → next ≡ mid ++ registers →
+    code ≡ thread.code → registers ≡ thread.registers → HasCome (IsKnownBelow threads i) old now → HasCome (HasImmediate code None) now mid → next ≡ mid ++ registers →
     HasCome (IsKnownBelow threads (i + 1)) old next
 known_more threads i thread code registers old now mid next h is same held first second append =
-    let numbers = subst (λ xs. HasCome (HasNumber xs None) now mid) same second in
+    let numbers = subst (λ xs. HasCome (HasImmediate xs None) now mid) same second in
     let third = subst (λ xs. HasCome (Contains xs) mid next) held (subst (HasCome (Contains registers) mid) (sym append) (come_append mid registers)) in
-    come_by (λ v. (IsKnownBelow threads i v ⊎ HasNumber thread.code None v) ⊎ Contains thread.registers v) (IsKnownBelow threads (i + 1)) old next
+    come_by (λ v. (IsKnownBelow threads i v ⊎ HasImmediate thread.code None v) ⊎ Contains thread.registers v) (IsKnownBelow threads (i + 1)) old next
     (λ v. (
       λ a. elim a [
         | inl (inl (inl z)) ↦ inl z
@@ -104,8 +104,8 @@ known_more threads i thread code registers old now mid next h is same held first
         | inr (inr b) ↦ elim ((registers_more threads i v thread h is).1 b) [ inl x ↦ inl (inl (inr (inr x))) | inr x ↦ inr x ]
       ],
     ))
-    (come_more (λ v. IsKnownBelow threads i v ⊎ HasNumber thread.code None v) (Contains thread.registers) old mid next
-    (come_more (IsKnownBelow threads i) (HasNumber thread.code None) old now mid first numbers) third)
+    (come_more (λ v. IsKnownBelow threads i v ⊎ HasImmediate thread.code None v) (Contains thread.registers) old mid next
+    (come_more (IsKnownBelow threads i) (HasImmediate thread.code None) old now mid first numbers) third)
 
 -- all threads, and the initial values of the locations
 pub known_come : (p : Listing) (n : ℕ) (memory old now next : List ℕ) → length p.threads ≤ n → memory ≡ p.memory → HasCome (IsKnownBelow p.threads n) old now → next ≡ now ++ memory →

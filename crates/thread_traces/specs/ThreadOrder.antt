@@ -4,7 +4,7 @@ use Rattle.candidate_executions.specs.declared.event.Kind.{Kind}
 use Rattle.candidate_executions.specs.declared.event.Kind.TheVariants as union
 use Rattle.candidate_executions.specs.declared.access.Access.{Access}
 use Rattle.candidate_executions.specs.Consistency.{KeepsOrder}
-use Rattle.bit_rows.specs.Rows.{Relates}
+use Rattle.bit_rows.specs.Rows.{RowHas}
 use Rattle.thread_traces.specs.declared.thread_trace.OrderedTrace.{OrderedTrace}
 use Rattle.thread_traces.specs.WriteBits.{HaveBits}
 
@@ -21,7 +21,7 @@ IsLaterIn kind accesses i j =
 
 -- the rows have the union's program order between the accesses of a thread
 abbrev pub AreOrderOf : Kind → List Access → List ℕ → Type 0
-AreOrderOf kind accesses rows = (i j : ℕ) → Relates rows i j ↔ IsLaterIn kind accesses i j
+AreOrderOf kind accesses rows = (i j : ℕ) → RowHas rows i j ↔ IsLaterIn kind accesses i j
 
 -- the rows of each union have its program order
 pub record KeepsOrders (c : OrderedTrace) : Type 0 where

@@ -2,7 +2,7 @@
 ghost use Rattle.std.specs.Prelude.{◌≡◌, ◌≤◌, ◌↔◌, ◌⊎◌, ◌<◌, ℕ, [], IsTrue, IfOk, OnOk, Contains, length};
 ghost use Rattle.std.specs.List.Sorted.{IsStrictlyIncreasing};
 ghost use Rattle.candidate_executions.specs.Values.{IsValueOf, IsKnown};
-ghost use Rattle.thread_traces.specs.Immediates.{stored_number, HasNumber, StoresRegister, HasRegisterStore, TakesRegisterOf};
+ghost use Rattle.thread_traces.specs.Immediates.{stored_number, HasImmediate, StoresRegister, HasRegisterStore, TakesRegisterOf};
 
 use std::alloc::{AllocError, Global};
 use tso_program::{Instr, MAX_ACCESSES, Program, Thread};
@@ -59,7 +59,7 @@ fn push_numbers(
     location: Option<u8>,
     values: &mut Vec<u32>,
 ) -> Result<(), AllocError>
-    ensures { OnOk result ((v : ℕ) → Contains values.new.items v ↔ (Contains values.old.items v ⊎ HasNumber code.now location v)) }
+    ensures { OnOk result ((v : ℕ) → Contains values.new.items v ↔ (Contains values.old.items v ⊎ HasImmediate code.now location v)) }
 {
     for instr in code {
         if let Some(value) = number_of(*instr, location) {

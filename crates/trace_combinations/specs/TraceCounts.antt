@@ -55,12 +55,12 @@ pub record IsCountUpTo (most n count : ℕ) : Type 0 where
   pub exact : count < most → count ≡ n
 
 -- what is said of a number
-abbrev pub Says : Combinations → ℕ → Type 0
-Says (Exactly count) n = count ≡ n
-Says (AtLeast count) n = count ≤ n
+abbrev pub CountSays : Combinations → ℕ → Type 0
+CountSays (Exactly count) n = count ≡ n
+CountSays (AtLeast count) n = count ≤ n
 
 -- how many combinations of traces of its threads the program has
 pub record AreCombinations (p : Listing) (combinations : Combinations) : Type 0 where
   pub values : Values
   pub are_values : AreValues p values
-  pub said : Says combinations (combination_count p values (length p.threads))
+  pub said : CountSays combinations (combination_count p values (length p.threads))

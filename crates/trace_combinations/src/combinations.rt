@@ -1,6 +1,6 @@
 //! In how many ways the traces of the threads may be combined.
 ghost use Rattle.std.specs.Prelude.{◌*◌, ◌+◌, ℕ, IfOk};
-ghost use Rattle.trace_combinations.specs.TraceCounts.{traces_of, values_at, AreCombinations, AreValues, IsCountUpTo, Says};
+ghost use Rattle.trace_combinations.specs.TraceCounts.{traces_of, values_at, AreCombinations, AreValues, IsCountUpTo, CountSays};
 ghost use Rattle.trace_combinations.specs.declared.combinations.TheConstants.{MOST_TRACES};
 
 use crate::walk::{Walk, count_from};
@@ -57,7 +57,7 @@ fn count_traces(walk: &Walk<'_>) -> u64
 
 /// So many combinations, each with so many traces of one more thread.
 fn joined(combinations: Combinations, traces: u64) -> Combinations
-    ensures { (n m : ℕ) → Says combinations n → IsCountUpTo (MOST_TRACES + 1) m traces → Says result (n * m) }
+    ensures { (n m : ℕ) → CountSays combinations n → IsCountUpTo (MOST_TRACES + 1) m traces → CountSays result (n * m) }
 {
     let (count, is_whole) = match combinations {
         Combinations::Exactly(count) => (count, traces <= MOST_TRACES),

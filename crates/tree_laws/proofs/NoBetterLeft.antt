@@ -2,7 +2,7 @@
 use Rattle.std.proofs.Common.{◌≡◌, ℕ, true, false, List, [], ◌∷◌, Contains, All, sym, ◌∙◌, subst, inl, inr}
 use Rattle.std.specs.FinSet as set
 use Rattle.gap_sets.specs.Gaps.{SetOfGaps}
-use Rattle.gap_sets.specs.Regions.{IsInRegion, children_of, HasNoneOf}
+use Rattle.gap_sets.specs.Regions.{IsInRegion, child_regions, HasNoneOf}
 use Rattle.gap_sets.specs.declared.region.Region.{Region}
 use Rattle.tso_program.specs.declared.listing.Listing.{Listing}
 use Rattle.tso_program.specs.Shown.{Question}
@@ -36,7 +36,7 @@ module _ (q : Question) (costs : List ℕ) (answer : SetOfGaps) where
       | inr free ↦ (let no : true ≡ false = sym there ∙ none gap ((split.exact gap).1 (passed, free)) in absurd cc)
     ]
 
-    by_split : All (IsForeign q) runs → (n : Region) (number : ℕ) (gaps : List ℕ) → IsSplitBy p runs n number gaps → EachMeans (children_of n gaps) →
+    by_split : All (IsForeign q) runs → (n : Region) (number : ℕ) (gaps : List ℕ) → IsSplitBy p runs n number gaps → EachMeans (child_regions n gaps) →
         EachBetterOfRegionLeavesOutcome q costs answer n
     by_split foreign n number gaps split each other of_program inside better = elim (split_loses_no_set n gaps other inside) [
       | inl (child, here, in_child) ↦ each child here other of_program in_child better
@@ -47,7 +47,7 @@ module _ (q : Question) (costs : List ℕ) (answer : SetOfGaps) where
     module _ (within : IsWithinLimits p.threads p.memory) (have : HaveCosts p costs) (foreign : All (IsForeign q) runs) where
       mutual
         means : (tree : Gap) (n : Region) → IsValidGap p costs answer runs tree n → EachBetterOfRegionLeavesOutcome q costs answer n
-        means (Split number children) n (gaps, split, valid) = by_split foreign n number gaps split (each_means children (children_of n gaps) valid)
+        means (Split number children) n (gaps, split, valid) = by_split foreign n number gaps split (each_means children (child_regions n gaps) valid)
         means Bound n not_better = λ other of_program inside better. absurd (not_better (still_better p costs within have n.must other answer of_program inside.holds better))
 
         each_means : (trees : GapTrees) (ns : List Region) → AreValidGaps p costs answer runs trees ns → EachMeans ns

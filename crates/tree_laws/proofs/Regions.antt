@@ -5,7 +5,7 @@ use Rattle.std.specs.Cmp.{nat_cmp_total}
 use Rattle.std.specs.FinSet as set
 use Rattle.std.proofs.lemmas.Bool.Decides.{nat_tests}
 use Rattle.gap_sets.specs.Gaps.{SetOfGaps}
-use Rattle.gap_sets.specs.Regions.{all_sets, with_gap, without_gap, IsInRegion, children_of, HasNoneOf}
+use Rattle.gap_sets.specs.Regions.{all_sets, with_gap, without_gap, IsInRegion, child_regions, HasNoneOf}
 use Rattle.gap_sets.specs.declared.region.Region.{Region}
 use Rattle.tree_laws.specs.Laws.{ASplitLosesNoSet}
 use Rattle.tree_laws.proofs.Lists.{none_here, first_or_later, first_is_here, later_is_here}
@@ -48,9 +48,9 @@ split_loses_no_set n (gap ∷ gaps) other inside =
     let first : Region = with_gap n gap in
     let rest : Region = without_gap n gap in
     elim (true_or_false (set.contains other gap)) [
-      | inl there ↦ inl (first, first_is_here first (children_of rest gaps), with_it n other inside gap there)
+      | inl there ↦ inl (first, first_is_here first (child_regions rest gaps), with_it n other inside gap there)
       | inr missing ↦ elim (split_loses_no_set rest gaps other (without_it n other inside gap missing)) [
-        | inl (child, here, in_child) ↦ inl (child, later_is_here first (children_of rest gaps) child here, in_child)
+        | inl (child, here, in_child) ↦ inl (child, later_is_here first (child_regions rest gaps) child here, in_child)
         | inr none ↦ inr (none_of gap gaps other missing none)
       ]
     ]

@@ -27,12 +27,12 @@ use Rattle.candidate_executions.specs.Sketches.{Sketch, given_to, IsSourceOf, Is
 use Rattle.candidate_executions.proofs.Orders.WiderRelations.{cycle_wider}
 use Rattle.cert_forest.specs.Trees.{Cover, Value, Source, Order, Cycle, Known, Covers, NoCover, MoreCovers}
 use Rattle.tree_laws.specs.CoverTrees.{event_of, HasNextValues, HasSources, HasNoOrder, MustEndAsNumber, IsValidCover, AreValidCovers}
-use Rattle.tree_laws.specs.TighterModes.{AreAmong, IsNoLooser, in_sequence, each_in_sequence, in_mode}
+use Rattle.tree_laws.specs.TighterModes.{AreGapsAmong, IsNoLooser, in_sequence, each_in_sequence, in_mode}
 use Rattle.tree_laws.specs.Laws.{ATighterModeKeepsACover, ATighterModeKeepsTheValues, ATighterModeKeepsAWholeSketch}
 use Rattle.tree_laws.proofs.WiderTraces.{bare, IsWiderTrace, also, also_back, still_apart, wider_trace}
 
 -- no gap at all is among any gaps
-none_among : (gaps : Gaps) → AreAmong no_gaps gaps
+none_among : (gaps : Gaps) → AreGapsAmong no_gaps gaps
 none_among gaps t i h = absurd cc
 
 module _ (p : Listing) (k : Sketch) where
@@ -50,7 +50,7 @@ module _ (p : Listing) (k : Sketch) where
     back : AreAlso other one
     last : (t : ℕ) → (trace_by p one (given_to k) t).last ≡ (trace_by p other (given_to k) t).last
 
-  module _ (one other : Machine) (among : AreAmong (fenced_gaps one) (fenced_gaps other)) where
+  module _ (one other : Machine) (among : AreGapsAmong (fenced_gaps one) (fenced_gaps other)) where
     wider : (t : ℕ) → IsWiderTrace 0 0 (trace_by p one (given_to k) t) (trace_by p other (given_to k) t)
     wider t = wider_trace (action p.threads t) (fenced_gaps one t) (fenced_gaps other t) (among t) (length (code_of p.threads t)) 0 0 (start_of p.threads t) (given_to k t)
 
@@ -93,7 +93,7 @@ module _ (p : Listing) (k : Sketch) where
         )
 
   -- where one access keeps its order before another, it still does with more gaps fenced
-  module _ (fewer more : Gaps) (among : AreAmong fewer more) where
+  module _ (fewer more : Gaps) (among : AreGapsAmong fewer more) where
     abbrev loosely : Event → Access → Type 0
     loosely e x = access_by p (StoreBufferMachine fewer) (given_to k) e ≡ Some x
 

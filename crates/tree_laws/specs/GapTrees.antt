@@ -4,7 +4,7 @@ use Rattle.std.specs.List.Sorted.{IsStrictlyIncreasing}
 use Rattle.std.specs.FinSet as set
 use Rattle.gap_sets.specs.Gaps.{SetOfGaps}
 use Rattle.gap_sets.specs.Order.{Better}
-use Rattle.gap_sets.specs.Regions.{IsInRegion, children_of}
+use Rattle.gap_sets.specs.Regions.{IsInRegion, child_regions}
 use Rattle.gap_sets.specs.declared.region.Region.{Region}
 use Rattle.tso_program.specs.declared.listing.Listing.{Listing}
 use Rattle.tso_program.specs.Shown.{Question}
@@ -36,7 +36,7 @@ module _ (p : Listing) (costs : List ℕ) (answer : SetOfGaps) (runs : List (Lis
   abbrev mutual
     -- the tree is valid for the region: a child for each gap that a run passes and that the sets may have, or nothing better than the answer is left
     pub IsValidGap : Gap → Region → Type 0
-    IsValidGap (Split number children) region = (gaps : List ℕ) × IsSplitBy p runs region number gaps × AreValidGaps children (children_of region gaps)
+    IsValidGap (Split number children) region = (gaps : List ℕ) × IsSplitBy p runs region number gaps × AreValidGaps children (child_regions region gaps)
     IsValidGap Bound region = ¬ Better costs region.must answer
 
     -- as many trees as regions, each valid for its own

@@ -2,7 +2,7 @@
 use Rattle.std.specs.Prelude.{◌≡◌, ◌↔◌, ◌⊎◌, ℕ, ◌≤◌, List, Contains, All}
 use Rattle.std.specs.List.{AllZip}
 use Rattle.gap_sets.specs.Gaps.{SetOfGaps}
-use Rattle.gap_sets.specs.Regions.{all_sets, IsInRegion, children_of, HasNoneOf}
+use Rattle.gap_sets.specs.Regions.{all_sets, IsInRegion, child_regions, HasNoneOf}
 use Rattle.gap_sets.specs.declared.region.Region.{Region}
 use Rattle.tso_program.specs.declared.listing.Listing.{Listing}
 use Rattle.tso_program.specs.declared.outcome.Outcome.{Outcome}
@@ -67,7 +67,7 @@ IsForeign q labels = (o : Outcome) × IsForeignRun q labels o
 -- a set of a region has none of the gaps that split it, or is in the region of a child
 abbrev pub ASplitLosesNoSet : Type 0
 ASplitLosesNoSet = (region : Region) (gaps : List ℕ) (other : SetOfGaps) → IsInRegion region other →
-    ((child : Region) × Contains (children_of region gaps) child × IsInRegion child other) ⊎ HasNoneOf other gaps
+    ((child : Region) × Contains (child_regions region gaps) child × IsInRegion child other) ⊎ HasNoneOf other gaps
 
 -- a valid gap tree over foreign runs says of its region that each better set leaves an outcome
 abbrev pub AValidGapTreeLeavesNoBetter : Type 0

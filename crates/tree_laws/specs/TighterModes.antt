@@ -6,12 +6,12 @@ use Rattle.candidate_executions.specs.declared.event.Kind.TheVariants as union
 use Rattle.cert_forest.specs.Trees.{Cover, Value, Source, Order, Cycle, Known, Covers, NoCover, MoreCovers}
 
 -- each gap of the first is one of the second
-abbrev pub AreAmong : Gaps → Gaps → Type 0
-AreAmong fewer more = (t i : ℕ) → fewer t i ≡ true → more t i ≡ true
+abbrev pub AreGapsAmong : Gaps → Gaps → Type 0
+AreGapsAmong fewer more = (t i : ℕ) → fewer t i ≡ true → more t i ≡ true
 
 -- the second mode is no looser than the first: it fences each gap that the first does, or is sequential
 abbrev pub IsNoLooser : Machine → Machine → Type 0
-IsNoLooser (StoreBufferMachine fewer) (StoreBufferMachine more) = AreAmong fewer more
+IsNoLooser (StoreBufferMachine fewer) (StoreBufferMachine more) = AreGapsAmong fewer more
 IsNoLooser (StoreBufferMachine fewer) SequentialMachine = Unit {0}
 IsNoLooser SequentialMachine SequentialMachine = Unit {0}
 IsNoLooser SequentialMachine (StoreBufferMachine more) = ⊥

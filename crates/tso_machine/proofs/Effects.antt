@@ -19,7 +19,7 @@ use Rattle.tso_machine.specs.Machine.{put, State, newest, found, is_empty, when_
 use Rattle.tso_machine.specs.Modes.{machine_of_model}
 use Rattle.tso_program.specs.Fences.{gaps_in}
 use Rattle.tso_machine.specs.Faults.{waits, StepFaultIs}
-use Rattle.tso_machine.specs.Internal.Cores.{Core, Cores, core_at, state_of, AreLocated, Fits, after_buffered, after_direct, after_action, ExecFaultIs}
+use Rattle.tso_machine.specs.Internal.Cores.{Core, Cores, core_at, state_of, AreLocated, FitsProgram, after_buffered, after_direct, after_action, ExecFaultIs}
 use Rattle.tso_machine.proofs.Link.{state_set, state_moved, memory_set, located_front, fits_set}
 
 some_is : {A : Type 0} (x y : A) → Some x ≡ Some y → x ≡ y
@@ -98,8 +98,8 @@ module _ (s : Cores) (t : ℕ) (h : t < length s.cores) where
   kept_direct n (Write k v next) x e l = subst (λ (z : Core × List ℕ). (length z.1 ≡ length s.memory) × AreLocated n z.0.buffer) (some_is _ _ e) (length-set s.memory k v, l)
   kept_direct n (Swap k v to next) x e l = subst (λ (z : Core × List ℕ). (length z.1 ≡ length s.memory) × AreLocated n z.0.buffer) (some_is _ _ e) (length-set s.memory k v, l)
 
-  pub exec_fits : (p : Listing) (here : Bool) (model : Model) (a : Action) (x : Core × List ℕ) → Fits p s → IsLocated (length s.memory) a →
-      after_action here model a (core_at s.cores t) s.memory ≡ Some x → Fits p (record { cores = slice_set s.cores t x.0; memory = x.1 })
+  pub exec_fits : (p : Listing) (here : Bool) (model : Model) (a : Action) (x : Core × List ℕ) → FitsProgram p s → IsLocated (length s.memory) a →
+      after_action here model a (core_at s.cores t) s.memory ≡ Some x → FitsProgram p (record { cores = slice_set s.cores t x.0; memory = x.1 })
   exec_fits p here models.Sequential a x fits w e =
       let (long, l) = kept_direct (length p.memory) a x e (fits.stores t) in fits_set p s t x.0 x.1 fits h long l
   exec_fits p here models.Buffered a x fits w e =
@@ -136,9 +136,9 @@ module _ (p : Listing) (gaps : set.FinSet nat_cmp) (model : Model) (s : Cores) (
   gap_is : IsNext → gaps_in p gaps t (core_at s.cores t).local.place ≡ here
   gap_is n = ap (λ (c : Core). gaps_in p gaps t c.local.place) n.found ∙ sym n.gap
 
-  pub exec_done : (x : Core × List ℕ) → IsNext → Fits p s → IsLocated (length p.memory) a → after_action here model a core s.memory ≡ Some x →
+  pub exec_done : (x : Core × List ℕ) → IsNext → FitsProgram p s → IsLocated (length p.memory) a → after_action here model a core s.memory ≡ Some x →
       (step p (machine_of_model p gaps model) (state_of s) (Exec t) ≡ Some (state_of (record { cores = slice_set s.cores t x.0; memory = x.1 })))
-      × Fits p (record { cores = slice_set s.cores t x.0; memory = x.1 })
+      × FitsProgram p (record { cores = slice_set s.cores t x.0; memory = x.1 })
   exec_done x n fits w e =
       let same : after_action (gaps_in p gaps t (core_at s.cores t).local.place) model (action p.threads t (core_at s.cores t).local) (core_at s.cores t) s.memory ≡ Some x =
       (λ j. after_action (gap_is n j) model (action_is n j) (n.found j) s.memory) ∙ e in

@@ -12,7 +12,7 @@ use Rattle.tso_program.specs.declared.outcome.Outcome.{Outcome}
 use Rattle.tso_machine.specs.declared.label.Pending.{Pending}
 use Rattle.tso_program.specs.declared.listing.Listing.{Listing}
 use Rattle.tso_machine.specs.Machine.{put, start, outcome_at}
-use Rattle.tso_machine.specs.Internal.Cores.{Core, Cores, no_core, core_at, state_of, first_core, first_cores, AreLocated, Fits}
+use Rattle.tso_machine.specs.Internal.Cores.{Core, Cores, no_core, core_at, state_of, first_core, first_cores, AreLocated, FitsProgram}
 
 pub put_same : {A : Type 0} (f : ℕ → A) (n : ℕ) (x : A) → put f n x n ≡ x
 put_same f n x = rw (eq-eqb n n refl) refl
@@ -83,7 +83,7 @@ first_long : (threads : List Thread) → length (map first_core threads) ≡ len
 first_long [] = refl
 first_long (x ∷ xs) = ap suc (first_long xs)
 
-pub first_fits : (p : Listing) → Fits p (first_cores p)
+pub first_fits : (p : Listing) → FitsProgram p (first_cores p)
 first_fits p = record {
   threads = first_long p.threads;
   locations = refl;
@@ -102,7 +102,7 @@ map_same [] = refl
 map_same (x ∷ xs) = ap (λ ys. x ∷ ys) (map_same xs)
 
 -- what the lists hold at the end is the outcome
-pub outcome_is : (p : Listing) (s : Cores) (o : Outcome) → Fits p s → o.registers ≡ map (λ (c : Core). c.local.registers) s.cores → o.memory ≡ s.memory →
+pub outcome_is : (p : Listing) (s : Cores) (o : Outcome) → FitsProgram p s → o.registers ≡ map (λ (c : Core). c.local.registers) s.cores → o.memory ≡ s.memory →
     o ≡ outcome_at p (state_of s)
 outcome_is p s o fits r m = λ i. record {
   registers = (r ∙ read_all (λ (c : Core). c.local.registers) no_core s.cores ∙ ap (λ n. map (λ t. (core_at s.cores t).local.registers) (range_with_len 0 n)) fits.threads) i;
@@ -114,8 +114,8 @@ located_front n [] w h a = (h, tt)
 located_front n (x ∷ ws) w h a = (a.0, located_front n ws w h a.1)
 
 -- the lists still fit after a change of one thread and of the memory
-pub fits_set : (p : Listing) (s : Cores) (t : ℕ) (x : Core) (memory : List ℕ) → Fits p s → t < length s.cores → length memory ≡ length s.memory → AreLocated (length p.memory) x.buffer →
-    Fits p (record { cores = slice_set s.cores t x; memory = memory })
+pub fits_set : (p : Listing) (s : Cores) (t : ℕ) (x : Core) (memory : List ℕ) → FitsProgram p s → t < length s.cores → length memory ≡ length s.memory → AreLocated (length p.memory) x.buffer →
+    FitsProgram p (record { cores = slice_set s.cores t x; memory = memory })
 fits_set p s t x memory fits h long a = record {
   threads = length-set s.cores t x ∙ fits.threads;
   locations = long ∙ fits.locations;

@@ -29,7 +29,7 @@ use Rattle.tso_program.specs.Listings.{action}
 use Rattle.tso_machine.specs.Machine.{Machine, SequentialMachine, State, start, step, run, direct, is_empty, from_some, passes_at, passes, HasEnded}
 use Rattle.tso_machine.specs.Modes.{machine_of_model, Passes, ArePassed}
 use Rattle.tso_machine.specs.Faults.{Applies, StepFaultIs, Stops, ReplayFaultIs, fault_of}
-use Rattle.tso_machine.specs.Internal.Cores.{Core, Cores, no_core, core_at, state_of, Fits, Finished, passed_gap, gap_passed_by}
+use Rattle.tso_machine.specs.Internal.Cores.{Core, Cores, no_core, core_at, state_of, FitsProgram, Finished, passed_gap, gap_passed_by}
 
 and_then_alike : (o : Option State) (f g : State → Option State) → ((s : State) → f s ≡ g s) → option_and_then f o ≡ option_and_then g o
 and_then_alike (Some s) f g alike = alike s
@@ -123,7 +123,7 @@ module _ (p : Listing) (mode : Machine) where
   faulted labels n d before OutOfMemory h reached why = tt
 
 -- all threads are at their ends
-pub all_ended : (p : Listing) (s : Cores) → Fits p s → ((t : ℕ) → t < length s.cores → Finished p t (core_at s.cores t)) → HasEnded p (state_of s)
+pub all_ended : (p : Listing) (s : Cores) → FitsProgram p s → ((t : ℕ) → t < length s.cores → Finished p t (core_at s.cores t)) → HasEnded p (state_of s)
 all_ended p s fits each t = elim (cases_lt t (length s.cores)) [
   | inl h ↦ each t h
   | inr h ↦ (let e : core_at s.cores t ≡ no_core = get_or_past s.cores t no_core h in

@@ -7,7 +7,7 @@ ghost use Rattle.tso_program.specs.declared.action.Action.TheVariants.{Stop};
 ghost use Rattle.tso_machine.specs.Machine as machine;
 ghost use Rattle.tso_machine.specs.Machine.{Machine, HasEnded, outcome_at};
 ghost use Rattle.tso_machine.specs.Modes.{machine_of_model};
-ghost use Rattle.tso_machine.specs.Internal.Cores.{state_of, first_cores, Fits, passed_gap, gap_passed_by, core_at, Finished};
+ghost use Rattle.tso_machine.specs.Internal.Cores.{state_of, first_cores, FitsProgram, passed_gap, gap_passed_by, core_at, Finished};
 ghost use Rattle.tso_machine.specs.Faults.{thread_of, StepFaultIs, IsUnfinished};
 ghost use Rattle.tso_machine.specs.Steps.{thread_at};
 ghost use Rattle.gap_sets.specs.declared.gap_set.TheConstants.{MAX_GAPS};
@@ -57,7 +57,7 @@ impl State {
         program: &Program,
         label: Label,
     ) -> Result<ThreadState, StepFault>
-        requires { Fits program.now self.now }
+        requires { FitsProgram program.now self.now }
         ensures found { IfOk result (λ thread. thread ≡ thread_at (state_of self.now) (thread_of label)) }
         ensures err { (mode : Machine) (s : machine.State) → IfErr result (StepFaultIs program.now mode s label) }
     {
@@ -94,7 +94,7 @@ impl State {
 
     /// A thread that isn't at its end or has a waiting store, if there is one.
     pub(crate) fn unfinished(&self, program: &Program) -> Option<u8>
-        requires { Fits program.now self.now }
+        requires { FitsProgram program.now self.now }
         ensures { MatchOption result (HasEnded program.now (state_of self.now)) (λ t. IsUnfinished program.now (state_of self.now) t) }
     {
         let threads = program.threads().len() as u8;
@@ -130,11 +130,11 @@ impl State {
         model: Model,
         label: Label,
     ) -> Result<(), StepFault>
-        requires fits { Fits program.now self.old }
+        requires fits { FitsProgram program.now self.old }
         requires direct { model ≡ models.Sequential → (t : ℕ) → (state_of self.old).buffers t ≡ [] }
         ensures ok { OnOk result (machine.step program.now (machine_of_model program.now fenced.now model) (state_of self.old) label ≡ Some (state_of self.new)) }
         ensures err { IfErr result (StepFaultIs program.now (machine_of_model program.now fenced.now model) (state_of self.old) label) }
-        ensures fits { OnOk result (Fits program.now self.new) }
+        ensures fits { OnOk result (FitsProgram program.now self.new) }
     {
         match label {
             Label::Exec(t) => self.exec(program, fenced, model, t),
@@ -149,10 +149,10 @@ impl State {
         model: Model,
         t: u8,
     ) -> Result<(), StepFault>
-        requires { Fits program.now self.old }
+        requires { FitsProgram program.now self.old }
         ensures ok { OnOk result (machine.step program.now (machine_of_model program.now fenced.now model) (state_of self.old) (event.Exec t) ≡ Some (state_of self.new)) }
         ensures err { IfErr result (StepFaultIs program.now (machine_of_model program.now fenced.now model) (state_of self.old) (event.Exec t)) }
-        ensures fits { OnOk result (Fits program.now self.new) }
+        ensures fits { OnOk result (FitsProgram program.now self.new) }
     {
         let place = t as usize;
         if place >= self.cores.len() {
@@ -169,10 +169,10 @@ impl State {
     }
 
     fn flush(&mut self, program: &Program, t: u8) -> Result<(), StepFault>
-        requires { Fits program.now self.old }
+        requires { FitsProgram program.now self.old }
         ensures ok { OnOk result (machine.flushed (state_of self.old) t ((state_of self.old).buffers t) ≡ Some (state_of self.new)) }
         ensures err { (mode : Machine) → IfErr result (StepFaultIs program.now mode (state_of self.old) (event.Flush t)) }
-        ensures fits { OnOk result (Fits program.now self.new) }
+        ensures fits { OnOk result (FitsProgram program.now self.new) }
     {
         let place = t as usize;
         if place >= program.threads().len() {

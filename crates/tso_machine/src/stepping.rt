@@ -4,7 +4,7 @@ ghost use Rattle.tso_machine.specs.Machine as machine;
 ghost use Rattle.tso_machine.specs.Modes.{machine_of_model};
 ghost use Rattle.tso_machine.specs.Faults.{thread_of, ReplayFaultIs, StepFaultIs};
 ghost use Rattle.tso_machine.specs.Steps.{AreSteps, IsStepBetween};
-ghost use Rattle.tso_machine.specs.Internal.Cores.{state_of, Fits};
+ghost use Rattle.tso_machine.specs.Internal.Cores.{state_of, FitsProgram};
 ghost use Rattle.tso_machine.specs.declared.label.Model.TheVariants as models;
 ghost use Rattle.std.specs.Prelude.{[], ℕ};
 
@@ -40,12 +40,12 @@ fn make_step(
     state: &mut State,
     label: Label,
 ) -> Result<Step, StepFault>
-    requires fits { Fits program.now state.old }
+    requires fits { FitsProgram program.now state.old }
     requires direct { model ≡ models.Sequential → (t : ℕ) → (state_of state.old).buffers t ≡ [] }
     ensures made { OnOk result (machine.step program.now (machine_of_model program.now fenced.now model) (state_of state.old) label ≡ Some (state_of state.new)) }
     ensures step { IfOk result (IsStepBetween (state_of state.old) (state_of state.new) label) }
     ensures err { IfErr result (StepFaultIs program.now (machine_of_model program.now fenced.now model) (state_of state.old) label) }
-    ensures fits { OnOk result (Fits program.now state.new) }
+    ensures fits { OnOk result (FitsProgram program.now state.new) }
 {
     let before = match state.thread(alloc, program, label) {
         Ok(before) => before,

@@ -7,7 +7,7 @@ use Rattle.std.proofs.lemmas.List.FromFn.{fill_by_all, get_or-map-range_with_len
 use Rattle.tso_program.specs.declared.outcome.Outcome.{Outcome}
 use Rattle.tso_program.specs.declared.shown.Shown.{Shown}
 use Rattle.tso_program.specs.declared.shown.Shown.TheVariants.{All, Only, Truth}
-use Rattle.tso_program.specs.Laws.{IsPartOf, AreAlike, register_in, location_in, WhatIsShownIsAlike, ShownRegistersAreKept, ShownLocationsAreKept, OtherRegistersAreZero, OtherLocationsAreZero, EachIsReadOffAll, APartIsShownOfTheWhole, ShowingTwiceIsShowingOnce, EverythingShownIsTheOutcome}
+use Rattle.tso_program.specs.Laws.{ShowsPartOf, HaveOneShape, register_in, location_in, WhatIsShownIsAlike, ShownRegistersAreKept, ShownLocationsAreKept, OtherRegistersAreZero, OtherLocationsAreZero, EachIsReadOffAll, APartIsShownOfTheWhole, ShowingTwiceIsShowingOnce, EverythingShownIsTheOutcome}
 use Rattle.tso_program.specs.Shown.{shows_register, shows_location, value_if, shown_registers, shown_value, show_registers, show_memory, show, shown_values, ShowsValues}
 use Rattle.tso_program.proofs.PartsShown.{any_register, part_of_itself}
 
@@ -35,7 +35,7 @@ registers_by All t held left long each = same_number_lists left held long (λ r 
 registers_by (Only names) t held left long each = fill_by_all (λ r. value_if (shows_register (Only names) t r) (get_or held r 0)) left (length held) 0 long each
 registers_by (Truth f) t held left long each = fill_by_all (λ r. value_if (shows_register (Truth f) t r) (get_or held r 0)) left (length held) 0 long each
 
-registers_within : (small large : Shown) → IsPartOf small large → (t : ℕ) (held : List ℕ) → shown_registers small t (shown_registers large t held) ≡ shown_registers small t held
+registers_within : (small large : Shown) → ShowsPartOf small large → (t : ℕ) (held : List ℕ) → shown_registers small t (shown_registers large t held) ≡ shown_registers small t held
 registers_within small large part t held =
     registers_by small t held (shown_registers small t (shown_registers large t held)) (registers_long small t (shown_registers large t held) ∙ registers_long large t held)
     (λ r h. let long = registers_long large t held in
@@ -67,7 +67,7 @@ pub same_memory : (shown : Shown) (xs ys : List ℕ) → length xs ≡ length ys
 same_memory shown xs ys long each = memory_by shown ys (show_memory shown xs) (memory_long shown xs ∙ long)
     (λ l h. value_at shown xs l (omega arith) ∙ each l (omega arith))
 
-memory_within : (small large : Shown) → IsPartOf small large → (memory : List ℕ) → show_memory small (show_memory large memory) ≡ show_memory small memory
+memory_within : (small large : Shown) → ShowsPartOf small large → (memory : List ℕ) → show_memory small (show_memory large memory) ≡ show_memory small memory
 memory_within small large part memory = same_memory small (show_memory large memory) memory (memory_long large memory)
     (λ l h. let long = memory_long large memory in
     ap (shown_value small l) (value_at large memory l (omega arith)) ∙ within (shows_location small l) (shows_location large l) (get_or memory l 0) (part.locations l))
@@ -97,7 +97,7 @@ pub same_threads : (shown : Shown) (xs ys : List (List ℕ)) → length xs ≡ l
 same_threads shown xs ys long each = threads_by shown ys (show_registers shown xs) (threads_long shown xs ∙ long)
     (λ t h. thread_at shown xs t (omega arith) ∙ each t (omega arith))
 
-threads_within : (small large : Shown) → IsPartOf small large → (registers : List (List ℕ)) → show_registers small (show_registers large registers) ≡ show_registers small registers
+threads_within : (small large : Shown) → ShowsPartOf small large → (registers : List (List ℕ)) → show_registers small (show_registers large registers) ≡ show_registers small registers
 threads_within small large part registers = same_threads small (show_registers large registers) registers (threads_long large registers)
     (λ t h. let long = threads_long large registers in
     ap (shown_registers small t) (thread_at large registers t (omega arith)) ∙ registers_within small large part t (get_or registers t []))
@@ -174,7 +174,7 @@ value_kept shown o l = elim (cases_lt l (length o.memory)) [
 abbrev seen : (shown : Shown) (o : Outcome) → ShowsValues shown → shown_values shown o ≡ show shown o
 seen shown o of = sym (by_values shown o of)
 
-alike_values : (shown : Shown) (o : Outcome) → AreAlike (shown_values shown o) o
+alike_values : (shown : Shown) (o : Outcome) → HaveOneShape (shown_values shown o) o
 alike_values shown o = record {
   threads = threads_long shown o.registers;
   registers = λ t. ap length (thread_kept shown o t) ∙ registers_long shown t (registers_in o t);
@@ -182,7 +182,7 @@ alike_values shown o = record {
 }
 
 pub alike : WhatIsShownIsAlike
-alike shown o of = subst (λ (x : Outcome). AreAlike x o) (seen shown o of) (alike_values shown o)
+alike shown o of = subst (λ (x : Outcome). HaveOneShape x o) (seen shown o of) (alike_values shown o)
 
 pub registers_kept : ShownRegistersAreKept
 registers_kept shown o t r of h =

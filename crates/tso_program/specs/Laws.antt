@@ -53,14 +53,14 @@ abbrev pub location_in : Outcome → ℕ → ℕ
 location_in o l = slice_index o.memory l
 
 -- two outcomes have as many threads, as many registers of each thread, and as many locations
-pub record AreAlike (o other : Outcome) : Type 0 where
+pub record HaveOneShape (o other : Outcome) : Type 0 where
   pub threads : length o.registers ≡ length other.registers
   pub registers : (t : ℕ) → length (slice_index_or o.registers t []) ≡ length (slice_index_or other.registers t [])
   pub locations : length o.memory ≡ length other.memory
 
 -- what is shown of an outcome has as many threads, registers and locations
 abbrev pub WhatIsShownIsAlike : Type 0
-WhatIsShownIsAlike = (shown : Shown) (o : Outcome) → ShowsValues shown → AreAlike (show shown o) o
+WhatIsShownIsAlike = (shown : Shown) (o : Outcome) → ShowsValues shown → HaveOneShape (show shown o) o
 
 -- a register and a location that are shown keep their values
 abbrev pub ShownRegistersAreKept : Type 0
@@ -77,7 +77,7 @@ abbrev pub OtherLocationsAreZero : Type 0
 OtherLocationsAreZero = (shown : Shown) (o : Outcome) (l : ℕ) → ShowsValues shown → shows_location shown l ≡ false → location_in (show shown o) l ≡ 0
 
 -- each register and each location that the one shows, the other shows
-pub record IsPartOf (small large : Shown) : Type 0 where
+pub record ShowsPartOf (small large : Shown) : Type 0 where
   pub of_values : ShowsValues small
   pub in_values : ShowsValues large
   pub registers : (t r : ℕ) → r < REGISTERS → shows_register small t r ≡ true → shows_register large t r ≡ true
@@ -85,7 +85,7 @@ pub record IsPartOf (small large : Shown) : Type 0 where
 
 -- where everything is shown, each other choice of values is a part of it
 abbrev pub EachIsPartOfAll : Type 0
-EachIsPartOfAll = (shown : Shown) → ShowsValues shown → IsPartOf shown All
+EachIsPartOfAll = (shown : Shown) → ShowsValues shown → ShowsPartOf shown All
 
 -- what the one shows of an outcome can be read off what the other shows of it
 abbrev pub IsReadOff : Shown → Shown → Type 0
@@ -93,7 +93,7 @@ IsReadOff small large = (o : Outcome) → show small (show large o) ≡ show sma
 
 -- what a part shows is read off what the whole shows
 abbrev pub APartIsShownOfTheWhole : Type 0
-APartIsShownOfTheWhole = (small large : Shown) → IsPartOf small large → IsReadOff small large
+APartIsShownOfTheWhole = (small large : Shown) → ShowsPartOf small large → IsReadOff small large
 
 -- whatever is shown is read off the outcome itself
 abbrev pub EachIsReadOffAll : Type 0

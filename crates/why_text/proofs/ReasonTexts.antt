@@ -27,7 +27,7 @@ use Rattle.cover_solver.specs.Verdicts.{PassesNoneOf}
 use Rattle.documents.specs.declared.run.Setting.TheVariants.{Without}
 use Rattle.documents.specs.Documents.{IsWhyDocument}
 use Rattle.documents.specs.Runs.{TellsRun}
-use Rattle.why_text.specs.WhyTexts.{Told, IsReason, AreReasons, lines_of, TellsReasons, TellsWhy, none_line, printed_of, reasons_or_none, IsReasonText}
+use Rattle.why_text.specs.WhyTexts.{Told, IsReason, AreReasons, told_lines, TellsReasons, TellsWhy, none_line, printed_of, reasons_or_none, IsReasonText}
 
 -- a foreign run that passes none of some gaps is a run with these gaps fenced
 pub runs_fenced : (run : facts.Foreign) (gaps : SetOfGaps) → facts.IsForeignValue run → PassesNoneOf gaps run → IsShownRun run.question (StoreBufferMachine (gaps_in run.question.program gaps)) run.labels run.outcome
@@ -120,10 +120,10 @@ one_more_reason source shown gaps [] (r ∷ reasons) gap told are is = absurd ar
 one_more_reason source shown gaps (g ∷ so_far) [] gap told are is = absurd are
 one_more_reason source shown gaps (g ∷ so_far) (r ∷ reasons) gap told are is = (are.0, one_more_reason source shown gaps so_far reasons gap told are.1 is)
 
-lines_more : (reasons : List Told) (told : Told) → lines_of (reasons ++ told ∷ []) ≡ lines_of reasons ++ told.0
+lines_more : (reasons : List Told) (told : Told) → told_lines (reasons ++ told ∷ []) ≡ told_lines reasons ++ told.0
 lines_more reasons told =
     ap (λ (ts : List (List ℕ)). concat ts) (map-append (λ (r : Told). r.0) reasons (told ∷ [])) ∙ concat-append (map (λ (r : Told). r.0) reasons) (told.0 ∷ [])
-    ∙ ap (λ (t : List ℕ). lines_of reasons ++ t) (append-nil told.0)
+    ∙ ap (λ (t : List ℕ). told_lines reasons ++ t) (append-nil told.0)
 
 -- the texts with one more
 pub tells_more : (source : Litmus Listing) (shown : Shown) (gaps : SetOfGaps) (so_far : List ℕ) (all : List ℕ) (runs : List (List ℕ)) (gap : ℕ) (told : Told) → TellsReasons source shown gaps so_far all runs

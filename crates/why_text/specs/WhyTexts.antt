@@ -20,7 +20,7 @@ use Rattle.litmus_reader.specs.declared.litmus.Litmus.{Litmus}
 use Rattle.litmus_reader.specs.Texts.{IsLitmus}
 use Rattle.litmus_reader.specs.Shown.{shown_as, question_of}
 use Rattle.cost_text.specs.GivenCosts.{AreGiven}
-use Rattle.report.specs.Answers.{answer_line, labels_line, outcome_line, passed_line, without_line}
+use Rattle.report.specs.Answers.{answer_line, printed_labels, outcome_line, passed_line, without_line}
 use Rattle.documents.specs.declared.run.Setting.TheVariants.{Without}
 use Rattle.documents.specs.Documents.{IsWhyDocument}
 use Rattle.documents.specs.Runs.{TellsRun}
@@ -65,7 +65,7 @@ ending_text source shown outcome passed =
 -- the gap, and a run with its table and how it ends
 abbrev pub reason_text : Litmus Listing → Shown → ℕ → List Label → List ℕ → Outcome → SetOfGaps → List ℕ
 reason_text source shown gap labels table outcome passed =
-    without_line source.program gap ++ labels_line labels ++ table ++ ending_text source shown outcome passed
+    without_line source.program gap ++ printed_labels labels ++ table ++ ending_text source shown outcome passed
 
 -- the text is that of a run, with some table of it
 abbrev pub IsReasonText : Litmus Listing → Shown → ℕ → List Label → Outcome → SetOfGaps → List ℕ → Type 0
@@ -96,8 +96,8 @@ AreReasons source shown gaps (gap ∷ more) [] = ⊥
 AreReasons source shown gaps (gap ∷ more) (told ∷ reasons) = IsReason source shown gaps gap told × AreReasons source shown gaps more reasons
 
 -- the lines of reasons, one after the other
-abbrev pub lines_of : List Told → List ℕ
-lines_of reasons = concat (map (λ told. told.0) reasons)
+abbrev pub told_lines : List Told → List ℕ
+told_lines reasons = concat (map (λ told. told.0) reasons)
 
 -- what the document says of each
 abbrev pub runs_of : List Told → List (List ℕ)
@@ -106,7 +106,7 @@ runs_of reasons = map (λ told. told.1) reasons
 -- the text and the runs have one for each of these gaps, in order
 abbrev pub TellsReasons : Litmus Listing → Shown → SetOfGaps → List ℕ → List ℕ → List (List ℕ) → Type 0
 TellsReasons source shown gaps numbers text runs =
-    (reasons : List Told) × AreReasons source shown gaps numbers reasons × (text ≡ lines_of reasons) × (runs ≡ runs_of reasons)
+    (reasons : List Told) × AreReasons source shown gaps numbers reasons × (text ≡ told_lines reasons) × (runs ≡ runs_of reasons)
 
 -- the text of the reasons; where it has no byte, the line that no gap is needed
 abbrev pub reasons_or_none : Shown → List ℕ → List ℕ
@@ -117,7 +117,7 @@ reasons_or_none shown (byte ∷ bytes) = byte ∷ bytes
 pub record TellsWhy (source : Litmus Listing) (shown : Shown) (costs : List ℕ) (gaps : SetOfGaps) (line text document : List ℕ) : Type 0 where
   pub reasons : List Told
   pub each : AreReasons source shown gaps (numbers_of_set gaps) reasons
-  pub printed : text ≡ line ++ reasons_or_none shown (lines_of reasons)
+  pub printed : text ≡ line ++ reasons_or_none shown (told_lines reasons)
   pub told : IsWhyDocument source shown costs gaps (runs_of reasons) document
 
 -- What the text tells: the litmus text stands for this program, its gaps have these costs, these gaps are the answer; the

@@ -9,7 +9,7 @@ ghost use Rattle.tso_machine.specs.Outcomes.{IsReplayOf, IsTheAnswer};
 ghost use Rattle.cover_solver.specs.Facts as facts;
 ghost use Rattle.cover_solver.specs.Verdicts.{PassesNoneOf};
 ghost use Rattle.tso_program.specs.Listings.{gap_count};
-ghost use Rattle.report.specs.Answers.{labels_line, without_line};
+ghost use Rattle.report.specs.Answers.{printed_labels, without_line};
 ghost use Rattle.why_text.specs.WhyTexts.{is_foreign, met_line, alone_line, foreign_lines, printed_of, ending_text, IsReason};
 
 use cover_solver::{ForeignRun, Oracle, Solver, Verdict};
@@ -181,7 +181,7 @@ fn lines_with(
     table: &[u8],
     ending: &[u8],
 ) -> Result<Vec<u8>, AllocError>
-    ensures { IfOk result (λ lines. lines.items ≡ without_line program.now gap ++ labels_line labels.now ++ table.now ++ ending.now) }
+    ensures { IfOk result (λ lines. lines.items ≡ without_line program.now gap ++ printed_labels labels.now ++ table.now ++ ending.now) }
 {
     let labels = labels_line(alloc, labels)?;
     let mut lines = without_line(alloc, program, gap)?;

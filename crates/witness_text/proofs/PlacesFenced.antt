@@ -8,10 +8,10 @@ use Rattle.std.proofs.lemmas.Bool.Decides.{nat_tests}
 use Rattle.std.proofs.lemmas.List.Elements.{All-nil, All-push, Contains-append_left, Contains-push, Contains-push_cases}
 use Rattle.gap_sets.specs.Gaps.{SetOfGaps}
 use Rattle.tso_program.specs.declared.listing.Thread.{Thread}
-use Rattle.witness_text.specs.FencedGaps.{Place, gap_at, AreGapsAt, IsAtOneOf, IsGap}
+use Rattle.witness_text.specs.FencedGaps.{GapPlace, gap_at_place, AreGapsAt, IsAtOneOf, IsGap}
 
 -- no place
-none_there : (place : Place) → Contains [] place → ⊥
+none_there : (place : GapPlace) → Contains [] place → ⊥
 none_there place (k, lt, is) = omega arith
 
 pub no_place : (threads : List Thread) → AreGapsAt threads [] set.empty
@@ -35,7 +35,7 @@ new_held : (gap new : ℕ) (b : Bool) → new ≡ gap → (eq_by_cmp nat_cmp gap
 new_held gap new b h = grind (arith, nat_tests)
 
 -- one more place
-module _ (threads : List Thread) (places : List Place) (gaps : SetOfGaps) (place : Place) (new : ℕ) (are : AreGapsAt threads places gaps) (is : gap_at threads place ≡ Some new) where
+module _ (threads : List Thread) (places : List GapPlace) (gaps : SetOfGaps) (place : GapPlace) (new : ℕ) (are : AreGapsAt threads places gaps) (is : gap_at_place threads place ≡ Some new) where
   is_gap : IsGap threads place
   is_gap = subst (λ (o : Option ℕ). IsSome o) (sym is) refl
 
@@ -48,7 +48,7 @@ module _ (threads : List Thread) (places : List Place) (gaps : SetOfGaps) (place
   held_at : (gap : ℕ) → IsAtOneOf threads (places ++ place ∷ []) gap → set.contains (set.insert gaps new) gap ≡ true
   held_at gap (other, there, at) = set.contains-insert nat_cmp_total gaps new gap ∙ elim (Contains-push_cases places place other there) [
     | inl old ↦ old_held gap new (set.contains gaps gap) ((are.exact gap).1 (other, old, at))
-    | inr same ↦ new_held gap new (set.contains gaps gap) (let z : Some new ≡ Some gap = sym is ∙ ap (gap_at threads) same ∙ at in cc)
+    | inr same ↦ new_held gap new (set.contains gaps gap) (let z : Some new ≡ Some gap = sym is ∙ ap (gap_at_place threads) same ∙ at in cc)
   ]
 
   pub one_more : AreGapsAt threads (places ++ place ∷ []) (set.insert gaps new)

@@ -13,14 +13,14 @@ use Rattle.tso_machine.specs.Modes.{machine_of_model, ArePassed}
 use Rattle.litmus_reader.specs.declared.litmus.Litmus.{Litmus}
 use Rattle.litmus_reader.specs.Texts.{IsLitmus, IsNoLitmus}
 use Rattle.cover_solver.specs.Witnesses.{HasNoWitness}
-use Rattle.report.specs.Answers.{labels_line, outcome_line, passed_line}
+use Rattle.report.specs.Answers.{printed_labels, outcome_line, passed_line}
 use Rattle.documents.specs.declared.run.Setting.TheVariants.{Machine as OfMachine}
 use Rattle.documents.specs.declared.witness.Sought.{Sought}
 use Rattle.documents.specs.Runs.{TellsRun}
 use Rattle.documents.specs.Witnesses.{IsWitnessDocument}
 use Rattle.witness_text.specs.declared.fault.WitnessFault.{WitnessFault}
 use Rattle.witness_text.specs.declared.fault.WitnessFault.TheVariants as fault
-use Rattle.witness_text.specs.FencedGaps.{Place, AreGapsAt, IsFirstWithoutGap}
+use Rattle.witness_text.specs.FencedGaps.{GapPlace, AreGapsAt, IsFirstWithoutGap}
 
 -- the machine in which a run is sought
 abbrev pub machine_of : Listing → Sought → Machine
@@ -31,17 +31,17 @@ abbrev pub unfenced_machine : Listing → Sought → Machine
 unfenced_machine p sought = machine_of_model p set.empty sought.model
 
 -- the labels, a table, what the run leaves, and the gaps that it passes
-abbrev pub run_text : Litmus Listing → List Label → List ℕ → Outcome → SetOfGaps → List ℕ
-run_text source labels table outcome passed = labels_line labels ++ table ++ outcome_line source.names All outcome ++ passed_line source.program passed
+abbrev pub shown_run_text : Litmus Listing → List Label → List ℕ → Outcome → SetOfGaps → List ℕ
+shown_run_text source labels table outcome passed = printed_labels labels ++ table ++ outcome_line source.names All outcome ++ passed_line source.program passed
 
 -- the text is that of a run, with some table of it
-abbrev pub IsRunText : Litmus Listing → List Label → Outcome → SetOfGaps → List ℕ → Type 0
-IsRunText source labels outcome passed text = (table : List ℕ) × (text ≡ run_text source labels table outcome passed)
+abbrev pub IsShownRunText : Litmus Listing → List Label → Outcome → SetOfGaps → List ℕ → Type 0
+IsShownRunText source labels outcome passed text = (table : List ℕ) × (text ≡ shown_run_text source labels table outcome passed)
 
 -- that no run of the machine meets the formula, or that each does
-abbrev pub none_line : Bool → List ℕ
-none_line true = codes "No run meets the condition." ++ 10 ∷ []
-none_line false = codes "Every run meets the condition." ++ 10 ∷ []
+abbrev pub no_run_line : Bool → List ℕ
+no_run_line true = codes "No run meets the condition." ++ 10 ∷ []
+no_run_line false = codes "Every run meets the condition." ++ 10 ∷ []
 
 -- A run that is sought: of the machine with its gaps fenced, and with none fenced, to an outcome of which the formula has the truth;
 -- the text has its labels, its outcome and the gaps that it passes, none of which is fenced; the document says the same of it.
@@ -54,18 +54,18 @@ pub record TellsWitness (source : Litmus Listing) (sought : Sought) (text run : 
   pub passed : SetOfGaps
   pub passes : ArePassed source.program (unfenced_machine source.program sought) labels passed
   pub avoids : (gap : ℕ) → set.contains sought.fences gap ≡ true → set.contains passed gap ≡ true → ⊥
-  pub printed : IsRunText source labels outcome passed text
+  pub printed : IsShownRunText source labels outcome passed text
   pub document : TellsRun source All (OfMachine sought.model) labels outcome passed run
 
 -- the text and the document tell a run that is sought; or that no run of the machine is such
 pub data TellsSought (source : Litmus Listing) (sought : Sought) : List ℕ → List ℕ → Type 0 where
   found : (text run document : List ℕ) → TellsWitness source sought text run → IsWitnessDocument source sought (Some run) document → TellsSought source sought text document
   none : (document : List ℕ) → HasNoWitness source.program (machine_of source.program sought) source.condition.formula sought.meets → IsWitnessDocument source sought None document
-      → TellsSought source sought (none_line sought.meets) document
+      → TellsSought source sought (no_run_line sought.meets) document
 
 -- What the texts tell: the litmus text stands for this program, which has gaps at the places; with these fenced, a run of the
 -- model's machine to an outcome that meets the condition's formula, or does not, or that there is none.
-pub record IsWitnessText (litmus : List ℕ) (model : Model) (meets : Bool) (places : List Place) (text document : List ℕ) : Type 0 where
+pub record IsWitnessText (litmus : List ℕ) (model : Model) (meets : Bool) (places : List GapPlace) (text document : List ℕ) : Type 0 where
   pub source : Litmus Listing
   pub of_text : IsLitmus litmus source
   pub fences : SetOfGaps
@@ -73,7 +73,7 @@ pub record IsWitnessText (litmus : List ℕ) (model : Model) (meets : Bool) (pla
   pub told : TellsSought source (record { model = model; fences = fences; meets = meets }) text document
 
 -- why nothing is shown: the text is no litmus text, no gap lies at a place, or memory was wanting
-abbrev pub HasNoWitnessText : List ℕ → List Place → WitnessFault → Type 0
+abbrev pub HasNoWitnessText : List ℕ → List GapPlace → WitnessFault → Type 0
 HasNoWitnessText litmus places (fault.Read why) = IsNoLitmus litmus why
 HasNoWitnessText litmus places (fault.NoSuchGap t k) = (source : Litmus Listing) × IsLitmus litmus source × IsFirstWithoutGap source.program.threads places (t, k)
 HasNoWitnessText litmus places fault.OutOfMemory = (source : Litmus Listing) × IsLitmus litmus source

@@ -1,7 +1,7 @@
 //! The lines of a run.
 
 ghost use Rattle.std.specs.Prelude.{◌≡◌, ◌++◌, IfOk};
-ghost use Rattle.witness_text.specs.WitnessTexts.{none_line, run_text};
+ghost use Rattle.witness_text.specs.WitnessTexts.{no_run_line, shown_run_text};
 
 use litmus_text::Litmus;
 use report::{labels_line, outcome_line, passed_line};
@@ -17,7 +17,7 @@ pub(crate) fn run_lines(
     table: &[u8],
     ended: &Ended,
 ) -> Result<Vec<u8>, AllocError>
-    ensures { IfOk result (λ lines. lines.items ≡ run_text litmus.now labels.now table.now ended.now.outcome ended.now.passed) }
+    ensures { IfOk result (λ lines. lines.items ≡ shown_run_text litmus.now labels.now table.now ended.now.outcome ended.now.passed) }
 {
     let passed = passed_line(alloc, &litmus.program, &ended.passed)?;
     let mut ending = outcome_line(alloc, &litmus.names, &Shown::All, &ended.outcome)?;
@@ -30,7 +30,7 @@ pub(crate) fn run_lines(
 
 /// That there is no run whose outcome meets the formula, or none whose outcome does not.
 pub(crate) fn none_line(meets: bool) -> &'static [u8]
-    ensures { result.now ≡ none_line meets }
+    ensures { result.now ≡ no_run_line meets }
 {
     if meets {
         b"No run meets the condition.\n"

@@ -11,7 +11,7 @@ ghost use Rattle.cover_solver.specs.Witnesses.{HasNoWitness, IsWitness};
 ghost use Rattle.documents.specs.declared.run.Setting.TheVariants.{Machine};
 ghost use Rattle.documents.specs.Runs.{TellsRun};
 ghost use Rattle.witness_text.specs.Internal.Replays.{IsReplayed};
-ghost use Rattle.witness_text.specs.WitnessTexts.{machine_of, HasNoWitnessText, IsRunText, IsWitnessText, TellsSought};
+ghost use Rattle.witness_text.specs.WitnessTexts.{machine_of, HasNoWitnessText, IsShownRunText, IsWitnessText, TellsSought};
 
 use crate::early_flushes::with_early_flushes;
 use crate::fault::WitnessFault;
@@ -72,7 +72,7 @@ fn told(
     steps: &[Step],
     ended: &Ended,
 ) -> Result<RunText, AllocError>
-    ensures printed { IfOk result (λ told. IsRunText litmus.now labels.now ended.now.outcome ended.now.passed told.lines.items) }
+    ensures printed { IfOk result (λ told. IsShownRunText litmus.now labels.now ended.now.outcome ended.now.passed told.lines.items) }
     ensures document { IfOk result (λ told. TellsRun litmus.now All (Machine model) (map (λ step. step.label) steps.now) ended.now.outcome ended.now.passed told.run) }
 {
     let table = run_table(alloc, litmus, steps)?;

@@ -11,7 +11,7 @@ use Rattle.candidate_executions.specs.declared.event.Event.TheVariants.{Initial,
 use Rattle.candidate_executions.specs.declared.event.Kind.TheVariants as union
 use Rattle.candidate_executions.specs.Candidates.{trace_of, access, Writes, EndsWith, IsCandidate, HasOutcome}
 use Rattle.candidate_executions.specs.Consistency.{Precedes, KeepsOrder, ReadsFrom, WriteOrder, FromReads, IsCycle, Edge, IsConsistent}
-use Rattle.candidate_executions.specs.StoreBuffering.{both_zero, initial_source, both_gaps, zeros_read, StoreBufferingIsTold}
+use Rattle.candidate_executions.specs.StoreBuffering.{both_zero, initial_source, both_gaps, zeros_read, StoreBufferingCandidates}
 use Rattle.candidate_executions.proofs.Orders.ForwardIsAcyclic.{Pair, Less, acyclic_by}
 
 -- store, load, store, load
@@ -198,7 +198,7 @@ outcome = record { registers = refl; long = refl; memory = ends }
     ends (suc zero) h = (At 1 0, (_, refl, refl, refl), last 1)
     ends (suc (suc l)) h = absurd (omega arith)
 
-pub store_buffering_is_told : StoreBufferingIsTold
+pub store_buffering_is_told : StoreBufferingCandidates
 store_buffering_is_told = record {
   is_candidate = is_candidate;
   outcome = outcome;

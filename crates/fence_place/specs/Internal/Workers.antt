@@ -18,8 +18,8 @@ pub record IsAt (h : HuntView) (w : Worker) (node : Option Region) : Type 0 wher
   pub known : AreOf h.question w.known.items
 
 -- it holds nothing and has not ended
-abbrev pub IsReady : HuntView → Worker → Type 0
-IsReady h w = IsAt h w None × (w.stop ≡ None)
+abbrev pub IsReadyWorker : HuntView → Worker → Type 0
+IsReadyWorker h w = IsAt h w None × (w.stop ≡ None)
 
 -- the oracle lacks a run only where it may
 abbrev pub MayStop : Bool → Stop → Type 0
@@ -47,8 +47,8 @@ pub record HasDealtWith (h : HuntView) (may_lack_runs : Bool) (before after : Wo
   pub stop : after.stop ≡ before.stop
 
 -- it holds nothing, and where it ended early it had cause
-abbrev pub HasEnded : HuntView → Bool → Worker → Type 0
-HasEnded h may_lack_runs w = IsAt h w None × IfSome w.stop (MayStop may_lack_runs)
+abbrev pub HasStopped : HuntView → Bool → Worker → Type 0
+HasStopped h may_lack_runs w = IsAt h w None × IfSome w.stop (MayStop may_lack_runs)
 
 -- whether it ended since the oracle lacked a run
 abbrev pub lacks_run_for : Option Stop → Bool

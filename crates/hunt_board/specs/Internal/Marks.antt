@@ -5,12 +5,12 @@ use Rattle.hunt_board.specs.declared.settling.Receipt.{Receipt}
 use Rattle.hunt_board.specs.declared.fault.CloseFault.{CloseFault}
 use Rattle.hunt_board.specs.declared.fault.CloseFault.TheVariants as fault
 use Rattle.hunt_board.specs.Receipts.{IsReceiptOf, Stands, StandApart, IsFirstWrong}
-use Rattle.hunt_board.specs.Internal.Places.{Leads}
+use Rattle.hunt_board.specs.Internal.Places.{WalkLeads}
 
 -- the receipt is of the node to which the walk leads, whose mark is this
 pub record HasMark (entries : List Entry) (r : Receipt) (marks : List Bool) (mark : Bool) : Type 0 where
   pub place : ℕ
-  pub leads : Leads entries r.node 0 place
+  pub leads : WalkLeads entries r.node 0 place
   pub entry : Entry
   pub there : slice_get entries place ≡ Some entry
   pub is_receipt : IsReceiptOf entry r

@@ -30,9 +30,9 @@ abbrev pub child_of : List Entry → ℕ → Region → Option ℕ
 child_of entries place n = child_in (slice_get entries place) n
 
 -- the walk leads from one place to another, where it ends
-pub data Leads (entries : List Entry) (n : Region) : ℕ → ℕ → Type 0 where
-  ends : (place : ℕ) → child_of entries place n ≡ None → Leads entries n place place
-  goes : (place child end : ℕ) → child_of entries place n ≡ Some child → Leads entries n child end → Leads entries n place end
+pub data WalkLeads (entries : List Entry) (n : Region) : ℕ → ℕ → Type 0 where
+  ends : (place : ℕ) → child_of entries place n ≡ None → WalkLeads entries n place place
+  goes : (place child end : ℕ) → child_of entries place n ≡ Some child → WalkLeads entries n child end → WalkLeads entries n place end
 
 -- the node stands at no other place
 abbrev pub StandsOnlyAt : List Entry → Region → ℕ → Type 0

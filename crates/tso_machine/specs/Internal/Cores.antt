@@ -51,7 +51,7 @@ AreLocated locations [] = Unit {0}
 AreLocated locations (w ∷ ws) = (w.location < locations) × AreLocated locations ws
 
 -- the state has the program's threads and locations
-pub record Fits (p : Listing) (s : Cores) : Type 0 where
+pub record FitsProgram (p : Listing) (s : Cores) : Type 0 where
   pub threads : length s.cores ≡ length p.threads
   pub locations : length s.memory ≡ length p.memory
   pub stores : (t : ℕ) → AreLocated (length p.memory) (core_at s.cores t).buffer

@@ -1,5 +1,5 @@
 use Rattle.std.proofs.Common.{◌≡◌, ◌⊎◌, ℕ, ◌<◌, length}
-use Rattle.bit_rows.specs.Rows.{Relates}
+use Rattle.bit_rows.specs.Rows.{RowHas}
 use Rattle.bit_rows.specs.declared.row.TheConstants.{ROW_BITS}
 use Rattle.branching.proofs.tally.join_rows.Given as goal
 
@@ -7,6 +7,6 @@ use Rattle.branching.proofs.tally.join_rows.Given as goal
 abbrev pub invariant-loop-d : goal.invariant-loop-d
 invariant-loop-d l = record {
   long : length l.rows ≡ ROW_BITS;
-  both : (n e : ℕ) → n < l.d → Relates l.initial.rows n e ⊎ Relates l.more n e → Relates l.rows n e;
-  rest : (n e : ℕ) → n < ROW_BITS → (n < l.d → ⊥) → Relates l.initial.rows n e → Relates l.rows n e;
+  both : (n e : ℕ) → n < l.d → RowHas l.initial.rows n e ⊎ RowHas l.more n e → RowHas l.rows n e;
+  rest : (n e : ℕ) → n < ROW_BITS → (n < l.d → ⊥) → RowHas l.initial.rows n e → RowHas l.rows n e;
 }

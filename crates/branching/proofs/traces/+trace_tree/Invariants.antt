@@ -1,5 +1,5 @@
 use Rattle.std.proofs.Common.{◌+◌, map, take}
-use Rattle.branching.specs.Traces.{traces, trees_of, AreTraceTrees}
+use Rattle.branching.specs.Traces.{traces, trace_trees, AreTraceTrees}
 use Rattle.branching.proofs.Rounds.{rounds}
 use Rattle.branching.proofs.traces.+trace_tree.Given as goal
 
@@ -11,4 +11,4 @@ decreases-trees_after l = rounds l.sketch.now
 
 -- the trees follow the choices so far
 abbrev pub invariant-trees_after-loop-choice : goal.invariant-trees_after-loop-choice
-invariant-trees_after-loop-choice l = AreTraceTrees l.t l.sketch (trees_of (map traces l.after.items)) (take l.choice-index l.choices)
+invariant-trees_after-loop-choice l = AreTraceTrees l.t l.sketch (trace_trees (map traces l.after.items)) (take l.choice-index l.choices)

@@ -3,7 +3,7 @@ use Rattle.std.specs.Prelude.{All, IfSome}
 use Rattle.std.proofs.lemmas.List.Elements.{All-pop, All-push}
 use Rattle.hunt_board.specs.Seats.{SeatView, IsOf, IsFresh}
 use Rattle.cover_solver.specs.Facts.{AreOf}
-use Rattle.fence_place.specs.Internal.Workers.{IsReady}
+use Rattle.fence_place.specs.Internal.Workers.{IsReadyWorker}
 use Rattle.fence_place.proofs.hunting.workers_at.Goals as goal
 
 pub loop-seat-preserved : goal.loop-seat-preserved
@@ -12,7 +12,7 @@ loop-seat-preserved c =
     let popped = All-pop (IsFresh h) c.loop-seat.seats.items c.pop.new.self.items c.pop.result c.pop.ensures.items c.loop-seat.invariant.0 in
     let fresh : IsFresh h c.in-Some.seat = subst (λ (r : Option SeatView). IfSome r (IsFresh h)) c.in-Some.is popped.1 in
     let none : AreOf h.question [] = λ k d below. absurd (omega arith) in
-    let ready : IsReady h c.new.result = (
+    let ready : IsReadyWorker h c.new.result = (
       record {
         of = subst (IsOf h) (sym c.new.ensures.seat) fresh.0;
         holds = ap (λ (s : SeatView). s.node) c.new.ensures.seat ∙ fresh.1;
@@ -21,5 +21,5 @@ loop-seat-preserved c =
       c.new.ensures.stop,
     ) in (
       popped.0,
-      subst (All (IsReady h)) (sym c.in_ok-push.ensures.items) (All-push (IsReady h) c.loop-seat.row.items c.new.result c.loop-seat.invariant.1 ready),
+      subst (All (IsReadyWorker h)) (sym c.in_ok-push.ensures.items) (All-push (IsReadyWorker h) c.loop-seat.row.items c.new.result c.loop-seat.invariant.1 ready),
     )

@@ -1,12 +1,12 @@
 use Rattle.std.proofs.Common.{vec_len}
 use Rattle.std.specs.Prelude.{All}
 use Rattle.hunt_board.specs.Seats.{IsFresh}
-use Rattle.fence_place.specs.Internal.Workers.{IsReady}
+use Rattle.fence_place.specs.Internal.Workers.{IsReadyWorker}
 use Rattle.fence_place.proofs.hunting.workers_at.Given as goal
 
 -- the seats that are left are as they were, and those before them have workers
 abbrev pub invariant-loop-seat : goal.invariant-loop-seat
-invariant-loop-seat l = All (IsFresh l.hunt) l.seats.items × All (IsReady l.hunt) l.row.items
+invariant-loop-seat l = All (IsFresh l.hunt) l.seats.items × All (IsReadyWorker l.hunt) l.row.items
 
 abbrev pub decreases-loop-seat : goal.decreases-loop-seat
 decreases-loop-seat l = vec_len l.seats

@@ -1,10 +1,10 @@
 use Rattle.std.proofs.Common.{refl}
 use Rattle.std.proofs.lemmas.Result.{IfOk-weaker}
 use Rattle.program_streams.proofs.Printed.{prints_made}
-use Rattle.fencer.specs.Refused.{IsRefused}
+use Rattle.fencer.specs.Refused.{PrintsRefusal}
 use Rattle.fencer.proofs.refused.tell_refusal.Goals as goal
 
 pub returns : goal.returns
 returns g c =
-    prints_made c.refusal_text-text.result 1 (IsRefused c.args.json c.args.line) _ _ c.refuse.result
+    prints_made c.refusal_text-text.result 1 (PrintsRefusal c.args.json c.args.line) _ _ c.refuse.result
     (IfOk-weaker c.refusal_text-text.result _ _ (λ text is. (refl, is)) c.refusal_text-text.ensures) c.refuse.ensures

@@ -1,10 +1,10 @@
 use Rattle.std.proofs.Common.{ℕ, ◌-◌, length}
-use Rattle.hunt_board.specs.Internal.Places.{Leads}
+use Rattle.hunt_board.specs.Internal.Places.{WalkLeads}
 use Rattle.hunt_board.proofs.record.place_of.Given as goal
 
 -- what the rest of the walk leads to the whole does
 abbrev pub invariant-loop-child : goal.invariant-loop-child
-invariant-loop-child l = (end : ℕ) → Leads l.finished.entries l.node l.place end → Leads l.finished.entries l.node 0 end
+invariant-loop-child l = (end : ℕ) → WalkLeads l.finished.entries l.node l.place end → WalkLeads l.finished.entries l.node 0 end
 
 abbrev pub decreases-loop-child : goal.decreases-loop-child
 decreases-loop-child l = length l.finished.entries - l.place

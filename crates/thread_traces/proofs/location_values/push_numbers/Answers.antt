@@ -1,7 +1,7 @@
 use Rattle.std.proofs.Common.{◌+◌, ◌∙◌, sym, subst}
 use Rattle.tso_program.specs.declared.instruction.Reg.TheVariants.{Eax}
 use Rattle.tso_program.specs.declared.instruction.Instr.TheVariants.{LoadImm}
-use Rattle.thread_traces.specs.Immediates.{HasNumber}
+use Rattle.thread_traces.specs.Immediates.{HasImmediate}
 use Rattle.thread_traces.proofs.Gathered.{HasCome, HasNumberBelow, come_by, number_all, numbers_push, numbers_skip}
 use Rattle.thread_traces.proofs.location_values.push_numbers.Goals as goal
 use Rattle.thread_traces.proofs.location_values.push_numbers.Goals.{in-Some+in_ok-push, in_default}
@@ -18,5 +18,5 @@ loop-instr-preserved c = elim c.match-number_of.branch [
 ]
 
 pub returns : goal.returns
-returns c = come_by (HasNumberBelow c.args.code.now c.args.location c.loop-instr.instr-index) (HasNumber c.args.code.now c.args.location) c.args.values.now.items c.loop-instr.values.items
+returns c = come_by (HasNumberBelow c.args.code.now c.args.location c.loop-instr.instr-index) (HasImmediate c.args.code.now c.args.location) c.args.values.now.items c.loop-instr.values.items
     (λ v. number_all c.args.code.now c.args.location c.loop-instr.instr-index v c.loop-instr-test.false) c.loop-instr.invariant

@@ -5,7 +5,7 @@ use Rattle.tso_program.specs.declared.listing.Listing.{Listing}
 use Rattle.tso_machine.specs.Machine.{Machine, start, HasEnded}
 use Rattle.tso_machine.specs.Modes.{machine_of_model}
 use Rattle.tso_machine.specs.Faults.{IsUnfinished}
-use Rattle.tso_machine.specs.Internal.Cores.{Cores, state_of, Fits}
+use Rattle.tso_machine.specs.Internal.Cores.{Cores, state_of, FitsProgram}
 use Rattle.tso_machine.proofs.Link.{state_of_first, first_fits, outcome_is}
 use Rattle.tso_machine.proofs.Refused.{no_fault, one_outcome}
 use Rattle.tso_machine.proofs.Runs.{run_on, passed_on, none_passed, faulted, no_stores_by, none_sequential, match_some, match_none}
@@ -15,7 +15,7 @@ pub loop-n-init : goal.loop-n-init
 loop-n-init c = record {
   reached = ap Some (sym (state_of_first c.args.program.now) ∙ ap state_of (sym c.in-Ok.ensures));
   gaps = none_passed c.args.program.now (machine_of_model c.args.program.now c.args.fenced.now c.args.model) c.empty-passed.result c.empty-passed.ensures;
-  fits = subst (λ (s : Cores). Fits c.args.program.now s) (sym c.in-Ok.ensures) (first_fits c.args.program.now);
+  fits = subst (λ (s : Cores). FitsProgram c.args.program.now s) (sym c.in-Ok.ensures) (first_fits c.args.program.now);
 }
 
 pub step-requires-clause-direct : goal.step-requires-clause-direct

@@ -1,7 +1,7 @@
 use Rattle.std.proofs.Common.{◌≡◌, take, Some}
 use Rattle.tso_machine.specs.Machine.{run, start}
 use Rattle.tso_machine.specs.Modes.{machine_of_model, ArePassed}
-use Rattle.tso_machine.specs.Internal.Cores.{state_of, Fits}
+use Rattle.tso_machine.specs.Internal.Cores.{state_of, FitsProgram}
 use Rattle.tso_machine.proofs.replaying.replay.Given as goal
 
 -- the steps so far lead to the state, and pass the gaps passed
@@ -9,5 +9,5 @@ abbrev pub invariant-loop-n : goal.invariant-loop-n
 invariant-loop-n l = record {
   reached : run l.program (machine_of_model l.program l.fenced l.model) (start l.program) (take l.n l.labels) ≡ Some (state_of l.state);
   gaps : ArePassed l.program (machine_of_model l.program l.fenced l.model) (take l.n l.labels) l.passed;
-  fits : Fits l.program l.state;
+  fits : FitsProgram l.program l.state;
 }

@@ -3,7 +3,7 @@ use Rattle.tso_machine.specs.declared.label.Label.TheVariants.{Exec}
 use Rattle.tso_program.specs.declared.listing.Listing.{Listing}
 use Rattle.tso_machine.specs.Machine.{Machine, start}
 use Rattle.tso_machine.specs.Modes.{machine_of_model}
-use Rattle.tso_machine.specs.Internal.Cores.{Cores, state_of, Fits}
+use Rattle.tso_machine.specs.Internal.Cores.{Cores, state_of, FitsProgram}
 use Rattle.tso_machine.proofs.Link.{state_of_first, first_fits}
 use Rattle.tso_machine.proofs.Runs.{run_on, faulted, no_stores_by}
 use Rattle.tso_machine.proofs.Stepped.{steps_on}
@@ -13,7 +13,7 @@ pub loop-n-init : goal.loop-n-init
 loop-n-init c = record {
   reached = ap Some (sym (state_of_first c.args.program.now) ∙ ap state_of (sym c.in-Ok.ensures));
   made = rw c.new-steps.ensures.items tt;
-  fits = subst (λ (s : Cores). Fits c.args.program.now s) (sym c.in-Ok.ensures) (first_fits c.args.program.now);
+  fits = subst (λ (s : Cores). FitsProgram c.args.program.now s) (sym c.in-Ok.ensures) (first_fits c.args.program.now);
 }
 
 pub make_step-requires-clause-direct : goal.make_step-requires-clause-direct

@@ -2,7 +2,7 @@ use Rattle.std.proofs.Common.{◌≡◌, take, Some}
 use Rattle.tso_machine.specs.Machine.{run, start}
 use Rattle.tso_machine.specs.Modes.{machine_of_model}
 use Rattle.tso_machine.specs.Steps.{AreSteps}
-use Rattle.tso_machine.specs.Internal.Cores.{state_of, Fits}
+use Rattle.tso_machine.specs.Internal.Cores.{state_of, FitsProgram}
 use Rattle.tso_machine.proofs.stepping.steps.Given as goal
 
 -- the labels so far lead to the state, by these steps
@@ -10,5 +10,5 @@ abbrev pub invariant-loop-n : goal.invariant-loop-n
 invariant-loop-n l = record {
   reached : run l.program (machine_of_model l.program l.fenced l.model) (start l.program) (take l.n l.labels) ≡ Some (state_of l.state);
   made : AreSteps l.program (machine_of_model l.program l.fenced l.model) (start l.program) (take l.n l.labels) l.steps.items;
-  fits : Fits l.program l.state;
+  fits : FitsProgram l.program l.state;
 }

@@ -3,7 +3,7 @@ use Rattle.candidate_executions.specs.declared.event.Event.TheVariants.{Access a
 use Rattle.candidate_executions.specs.Candidates.{Writes}
 use Rattle.known_edges.specs.ProgramSketches.{access_in}
 use Rattle.branching.specs.declared.reads_writes.ReadValue.{ReadValue}
-use Rattle.branching.specs.Tallies.{IsMarked, IsOldOrOf, KeepsBits}
+use Rattle.branching.specs.Tallies.{HasBit, IsOldOrOf, KeepsBits}
 use Rattle.branching.proofs.tally.Tally.add_thread.Given as goal
 
 -- the thread's first accesses are taken in
@@ -11,5 +11,5 @@ abbrev pub invariant-loop-access : goal.invariant-loop-access
 invariant-loop-access l = record {
   reads : (r : ReadValue) → Contains l.self.reads.items r → IsOldOrOf l.sketch l.t l.fn.self r;
   kept : KeepsBits l.fn.self.written l.self.written;
-  written : (i m v : ℕ) → i < l.access → Writes (access_in l.sketch) (At l.t i) m v → IsMarked l.self.written m v;
+  written : (i m v : ℕ) → i < l.access → Writes (access_in l.sketch) (At l.t i) m v → HasBit l.self.written m v;
 }

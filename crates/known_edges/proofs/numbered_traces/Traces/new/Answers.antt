@@ -2,7 +2,7 @@ use Rattle.std.proofs.Common.{◌≤◌, ℕ, List, length, sym, ap, subst, refl
 use Rattle.tso_program.specs.declared.limits.TheConstants.{MAX_INSTRUCTIONS}
 use Rattle.candidate_executions.specs.declared.event.Event.{Event}
 use Rattle.thread_traces.specs.declared.thread_trace.ThreadTrace.{ThreadTrace}
-use Rattle.known_edges.specs.Rows.{accesses_at, AreAccesses, AreLocated, AreWriteRows, EachEnds, FitRow}
+use Rattle.known_edges.specs.Rows.{accesses_at, AreAccesses, HaveLocations, AreWriteRows, EachEnds, FitRow}
 use Rattle.known_edges.proofs.Located.{are_located}
 use Rattle.known_edges.proofs.Numbered.{courses_short, fit_row}
 use Rattle.known_edges.proofs.Starts.{numbered_all}
@@ -50,4 +50,4 @@ write_rows-written-requires-clause-few c =
 pub write_rows-written-requires-clause-located : goal.write_rows-written-requires-clause-located
 write_rows-written-requires-clause-located c =
     let (p, mode, sources, pairs, kept) = c.requires in
-    subst (λ (thread_traces : List ThreadTrace). AreLocated thread_traces) (sym c.as_slice-3.ensures.value) (are_located p mode c.args.thread_traces.items sources pairs kept)
+    subst (λ (thread_traces : List ThreadTrace). HaveLocations thread_traces) (sym c.as_slice-3.ensures.value) (are_located p mode c.args.thread_traces.items sources pairs kept)

@@ -9,7 +9,7 @@ use Rattle.branching.specs.declared.traces.TraceTree.{TraceTree}
 use Rattle.branching.specs.declared.traces.TraceTree.TheViews as views
 use Rattle.branching.specs.declared.traces.TraceTree.TheFolds.{fold-roll-TraceTree, fold_out-TraceTree}
 use Rattle.branching.specs.Combinations.{with_root}
-use Rattle.branching.specs.Traces.{Traces, Read, traces, trace_node, trees_of, first_choices}
+use Rattle.branching.specs.Traces.{Traces, Read, traces, trace_node, trace_trees, first_choices}
 use Rattle.sketch_covers.specs.KnownOutcomes.{by_number}
 use Rattle.sketch_covers.proofs.Growing.{grows_none}
 use Rattle.partial_covers.specs.declared.covering.Covering.{Covering}
@@ -27,7 +27,7 @@ push_values-requires g t c =
     let old = c.args.self.now in
     let choices = c.in-Read.choices in
     let after = c.in-Read.after.items in
-    let is : traces c.args.tree.now ≡ Read c.in-Read.own c.in-Read.choices.items (trees_of (map traces c.in-Read.after.items)) = search (rules, views.the_lemmas, fold-roll-TraceTree Traces trace_node, fold_out-TraceTree Traces trace_node) in
+    let is : traces c.args.tree.now ≡ Read c.in-Read.own c.in-Read.choices.items (trace_trees (map traces c.in-Read.after.items)) = search (rules, views.the_lemmas, fold-roll-TraceTree Traces trace_node, fold_out-TraceTree Traces trace_node) in
     let few = few_here pair.sketch.now pair.thread c.requires.pair.last.alone c.requires.pair.rest.there c.program.ensures.lawful c.in-Read.own c.program-in-Read.ensures.lawful choices.items after (traces c.args.tree.now) is c.requires.tree c.requires.alike old.shown.now
     (by_number old.outcomes) c.program.ensures.registers in
     omega (arith, few, c.len.ensures, choices.ok.0)
@@ -51,7 +51,7 @@ index-requires g t c =
     let choices = c.in-Read.choices in
     let below = c.in-Read.after in
     let x = traces c.args.tree.now in
-    let is : traces c.args.tree.now ≡ Read c.in-Read.own c.in-Read.choices.items (trees_of (map traces c.in-Read.after.items)) = search (rules, views.the_lemmas, fold-roll-TraceTree Traces trace_node, fold_out-TraceTree Traces trace_node) in
+    let is : traces c.args.tree.now ≡ Read c.in-Read.own c.in-Read.choices.items (trace_trees (map traces c.in-Read.after.items)) = search (rules, views.the_lemmas, fold-roll-TraceTree Traces trace_node, fold_out-TraceTree Traces trace_node) in
     let many = as_many_here pair.sketch.now pair.thread c.requires.pair.last.alone c.requires.pair.rest.there c.program.ensures.lawful c.in-Read.own c.program-in-Read.ensures.lawful choices.items below.items x is c.requires.tree c.requires.alike shown in
     let all = choices_here pair.sketch.now pair.thread c.requires.pair.last.alone c.requires.pair.rest.there c.program.ensures.lawful c.in-Read.own c.program-in-Read.ensures.lawful choices.items below.items x is c.requires.tree c.requires.alike shown in
     let here = subst (λ (xs : List TraceTree). c.loop-i.i < length xs) c.deref-next-items.ensures.value c.loop-i-test.true in
@@ -66,7 +66,7 @@ cover_pair-requires g t c κs within = (
       let i = c.loop-i.i in
       let item = c.next-item.result in
       let x = traces c.args.tree.now in
-      let is : traces c.args.tree.now ≡ Read c.in-Read.own c.in-Read.choices.items (trees_of (map traces c.in-Read.after.items)) = search (rules, views.the_lemmas, fold-roll-TraceTree Traces trace_node, fold_out-TraceTree Traces trace_node) in
+      let is : traces c.args.tree.now ≡ Read c.in-Read.own c.in-Read.choices.items (trace_trees (map traces c.in-Read.after.items)) = search (rules, views.the_lemmas, fold-roll-TraceTree Traces trace_node, fold_out-TraceTree Traces trace_node) in
       let here = subst (λ (xs : List TraceTree). i < length xs) c.deref-next-items.ensures.value c.loop-i-test.true in
       let at_item = subst (λ (xs : List TraceTree). item ≡ get_or xs i item) c.deref-next-items.ensures.value c.next-item.is in (
         within,
@@ -93,7 +93,7 @@ loop-i-preserved g t c =
     let d = choice.Value 0 0 in
     let item = c.next-item.result in
     let x = traces c.args.tree.now in
-    let is : traces c.args.tree.now ≡ Read c.in-Read.own c.in-Read.choices.items (trees_of (map traces c.in-Read.after.items)) = search (rules, views.the_lemmas, fold-roll-TraceTree Traces trace_node, fold_out-TraceTree Traces trace_node) in
+    let is : traces c.args.tree.now ≡ Read c.in-Read.own c.in-Read.choices.items (trace_trees (map traces c.in-Read.after.items)) = search (rules, views.the_lemmas, fold-roll-TraceTree Traces trace_node, fold_out-TraceTree Traces trace_node) in
     let many = as_many_here s pair.thread c.requires.pair.last.alone c.requires.pair.rest.there c.program.ensures.lawful c.in-Read.own c.program-in-Read.ensures.lawful choices.items below.items x is c.requires.tree c.requires.alike shown in
     let all = choices_here s pair.thread c.requires.pair.last.alone c.requires.pair.rest.there c.program.ensures.lawful c.in-Read.own c.program-in-Read.ensures.lawful choices.items below.items x is c.requires.tree c.requires.alike shown in
     let here = subst (λ (xs : List TraceTree). i < length xs) c.deref-next-items.ensures.value c.loop-i-test.true in
@@ -123,7 +123,7 @@ returns-after-loop-i g t c =
     let below = c.in-Read.after in
     let i = c.loop-i.i in
     let x = traces c.args.tree.now in
-    let is : traces c.args.tree.now ≡ Read c.in-Read.own c.in-Read.choices.items (trees_of (map traces c.in-Read.after.items)) = search (rules, views.the_lemmas, fold-roll-TraceTree Traces trace_node, fold_out-TraceTree Traces trace_node) in
+    let is : traces c.args.tree.now ≡ Read c.in-Read.own c.in-Read.choices.items (trace_trees (map traces c.in-Read.after.items)) = search (rules, views.the_lemmas, fold-roll-TraceTree Traces trace_node, fold_out-TraceTree Traces trace_node) in
     let all = choices_here s pair.thread c.requires.pair.last.alone c.requires.pair.rest.there c.program.ensures.lawful c.in-Read.own c.program-in-Read.ensures.lawful choices.items below.items x is c.requires.tree c.requires.alike shown in
     let are = are_here s pair.thread c.requires.pair.last.alone c.requires.pair.rest.there c.program.ensures.lawful c.in-Read.own c.program-in-Read.ensures.lawful choices.items below.items x is c.requires.tree c.requires.alike shown in
     let many = as_many_here s pair.thread c.requires.pair.last.alone c.requires.pair.rest.there c.program.ensures.lawful c.in-Read.own c.program-in-Read.ensures.lawful choices.items below.items x is c.requires.tree c.requires.alike shown in

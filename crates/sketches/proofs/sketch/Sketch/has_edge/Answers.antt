@@ -1,13 +1,13 @@
 use Rattle.std.proofs.Common.{◌≡◌, List, ℕ, Some, slice_get, ap, sym, subst}
 use Rattle.std.specs.Arc.{arc_value}
-use Rattle.bit_rows.specs.Rows.{Relates}
+use Rattle.bit_rows.specs.Rows.{RowHas}
 use Rattle.candidate_executions.specs.declared.event.Event.{Event}
 use Rattle.candidate_executions.specs.declared.event.Kind.{Kind}
 use Rattle.candidate_executions.specs.Consistency.{IsOfMode}
 use Rattle.candidate_executions.specs.Sketches.{KnownEdgeOfMode}
 use Rattle.known_edges.specs.ProgramSketches.{ProgramSketch, mode_in}
 use Rattle.known_edges.specs.Kept.{view_of}
-use Rattle.known_edges.specs.Rows.{NumberedTraces, rows_of}
+use Rattle.known_edges.specs.Rows.{NumberedTraces, union_rows}
 use Rattle.known_edges.proofs.Numbered.{at_numbers, rows_of_kind}
 use Rattle.sketches.proofs.sketch.Sketch.has_edge.Goals as goal
 
@@ -21,9 +21,9 @@ returns-in-Some-Some c =
     let parts : ProgramSketch = view_of c.self.inside.program c.self.inside.mode (arc_value c.self.inside.traces).thread_traces c.self.inside.sources.items c.self.inside.pairs.items in
     let rows = rows_of_kind c.self.inside.program c.self.inside.mode c.args.kind (arc_value c.self.inside.traces).events (λ (kind : Kind). KnownEdgeOfMode parts.program (mode_in parts) parts.chosen kind) c.self.inside.rows.main c.self.inside.rows.global of_mode
     c.self.invariant.rows.main_rows c.self.invariant.rows.global_rows in
-    let both = at_numbers (arc_value c.self.inside.traces).events (KnownEdgeOfMode parts.program (mode_in parts) parts.chosen c.args.kind) (rows_of c.args.kind c.self.inside.rows.main c.self.inside.rows.global) c.in-Some-Some.d c.in-Some-Some.e c.args.from c.args.to rows at to_at in (
+    let both = at_numbers (arc_value c.self.inside.traces).events (KnownEdgeOfMode parts.program (mode_in parts) parts.chosen c.args.kind) (union_rows c.args.kind c.self.inside.rows.main c.self.inside.rows.global) c.in-Some-Some.d c.in-Some-Some.e c.args.from c.args.to rows at to_at in (
       λ t. subst (λ (s : ProgramSketch). KnownEdgeOfMode s.program (mode_in s) s.chosen c.args.kind c.args.from c.args.to) c.self.view_is
-          (both.0 (subst (λ (xs : List ℕ). Relates xs c.in-Some-Some.d c.in-Some-Some.e) c.of_union.ensures (c.has.ensures.0 t))),
-      λ h. c.has.ensures.1 (subst (λ (xs : List ℕ). Relates xs c.in-Some-Some.d c.in-Some-Some.e) (sym c.of_union.ensures)
+          (both.0 (subst (λ (xs : List ℕ). RowHas xs c.in-Some-Some.d c.in-Some-Some.e) c.of_union.ensures (c.has.ensures.0 t))),
+      λ h. c.has.ensures.1 (subst (λ (xs : List ℕ). RowHas xs c.in-Some-Some.d c.in-Some-Some.e) (sym c.of_union.ensures)
           (both.1 (subst (λ (s : ProgramSketch). KnownEdgeOfMode s.program (mode_in s) s.chosen c.args.kind c.args.from c.args.to) (sym c.self.view_is) h))),
     )

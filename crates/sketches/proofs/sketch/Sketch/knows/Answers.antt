@@ -5,7 +5,7 @@ use Rattle.tso_program.specs.declared.instruction.Reg.TheVariants.{Eax}
 use Rattle.tso_program.specs.declared.node.Node.TheVariants as node
 use Rattle.tso_program.specs.Tree.{Tree}
 use Rattle.tso_program.specs.Tree as tree
-use Rattle.tso_program.specs.Nodes.{tree_of, tree_again}
+use Rattle.tso_program.specs.Nodes.{formula_tree, tree_again}
 use Rattle.sketches.specs.Knowledge.{Knows}
 use Rattle.known_edges.specs.declared.known_truth.Knowledge.{Knowledge}
 use Rattle.sketches.proofs.Known.{knows_const, walk_on, walked}
@@ -18,11 +18,11 @@ pub loop-node-preserved : goal.loop-node-preserved
 loop-node-preserved c =
     let (f, (hs, is, knows)) = c.loop-node.invariant in
     let nodes = c.nodes-nodes.result.now in
-    (_, (_, walk_on f hs c.loop-node.node-index nodes (node.Atom (atom.Register 0 Eax 0)) (tree_of nodes) c.loop-node-test.true is, c.in_ok-value.ensures f hs knows))
+    (_, (_, walk_on f hs c.loop-node.node-index nodes (node.Atom (atom.Register 0 Eax 0)) (formula_tree nodes) c.loop-node-test.true is, c.in_ok-value.ensures f hs knows))
 
 pub returns : goal.returns
 returns c =
     let (f, (hs, is, knows)) = c.loop-node.invariant in
     let nodes = c.nodes-nodes.result.now in
-    let same : f ≡ c.args.formula.now = walked f hs c.loop-node.node-index nodes (tree_of nodes) c.loop-node-test.false is ∙ ap tree_of c.nodes-nodes.ensures ∙ tree_again c.args.formula.now in
+    let same : f ≡ c.args.formula.now = walked f hs c.loop-node.node-index nodes (formula_tree nodes) c.loop-node-test.false is ∙ ap formula_tree c.nodes-nodes.ensures ∙ tree_again c.args.formula.now in
     subst (λ (g : Tree Atom). Knows c.args.self.now g c.loop-node.value) same knows.read

@@ -1,10 +1,10 @@
 use Rattle.std.proofs.Common.{◌≡◌, List, drop}
 use Rattle.tso_program.specs.declared.atom.Atom.{Atom}
 use Rattle.tso_program.specs.Tree.{Tree}
-use Rattle.tso_program.specs.Nodes.{Half, build, tree_of}
+use Rattle.tso_program.specs.Nodes.{Half, build, formula_tree}
 use Rattle.sketches.specs.Internal.KnownWalk.{KnowsAll}
 use Rattle.sketches.proofs.sketch.Sketch.knows.Given as goal
 
 -- what is known of the part that was read last, and of the left operands that wait; the nodes that are left make the formula of them
 abbrev pub invariant-loop-node : goal.invariant-loop-node
-invariant-loop-node l = (f : Tree Atom) × ((hs : List Half) × (build f hs (drop l.node-index l.nodes) ≡ tree_of l.nodes) × KnowsAll l.self (f, hs) l.value l.waiting.items)
+invariant-loop-node l = (f : Tree Atom) × ((hs : List Half) × (build f hs (drop l.node-index l.nodes) ≡ formula_tree l.nodes) × KnowsAll l.self (f, hs) l.value l.waiting.items)

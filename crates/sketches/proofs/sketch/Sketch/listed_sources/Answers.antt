@@ -7,7 +7,7 @@ use Rattle.candidate_executions.specs.Events.{ComesBefore}
 use Rattle.candidate_executions.specs.Sketches.{IsSourceOf, IsWhole}
 use Rattle.known_edges.specs.ProgramSketches.{ProgramSketch, mode_in}
 use Rattle.known_edges.specs.Kept.{IsLawful}
-use Rattle.known_edges.specs.Choices.{ReadsFrom, IsValueWritten}
+use Rattle.known_edges.specs.Choices.{ReadsThisValue, IsValueWritten}
 use Rattle.known_edges.specs.Rows.{NumberedTraces, IsRowOf, IsWriteAt}
 use Rattle.sketches.specs.Internal.Listed.{HasNumberIn, FollowInOrder}
 use Rattle.known_edges.proofs.BranchesCounted.{few_sources}
@@ -19,7 +19,7 @@ all_of : (c : goal.In_ok-push_writes) →
     × (AllPairs ComesBefore c.push_if_written.new.sources.items → FollowInOrder c.push_if_written.new.sources.items c.events.result.now c.minus-others.result)
 all_of c =
     let whole = subst (λ (s : ProgramSketch). IsWhole s.program (mode_in s) s.chosen) (sym c.self.view_is) c.requires.whole in
-    let reads = subst (λ (s : ProgramSketch). ReadsFrom s c.args.read c.args.location c.args.value) (sym c.self.view_is) c.requires.reads in
+    let reads = subst (λ (s : ProgramSketch). ReadsThisValue s c.args.read c.args.location c.args.value) (sym c.self.view_is) c.requires.reads in
     let of_writes = subst (λ (t : NumberedTraces). IsRowOf t.events (IsWriteAt t.thread_traces c.args.location) c.writes_to.result) c.deref.ensures c.writes_to.ensures in
     let of_reader = subst (λ (t : NumberedTraces). IsRowOf t.events (λ e. e ≡ c.args.read) c.row_of.result) c.deref-2.ensures c.row_of.ensures in
     let events_are : c.events.result.now ≡ (arc_value c.self.inside.traces).events = c.events.ensures ∙ ap (λ (t : NumberedTraces). t.events) c.deref-3.ensures in

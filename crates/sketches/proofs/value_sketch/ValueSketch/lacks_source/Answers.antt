@@ -1,7 +1,7 @@
 use Rattle.std.proofs.Common.{◌≡◌, ◌∙◌, ℕ, Bool, true, false, not, IsTrue, List, Some, slice_get, slice_index, ap, sym, subst}
 use Rattle.thread_traces.specs.declared.thread_trace.ThreadTrace.{ThreadTrace}
 use Rattle.known_edges.specs.ProgramSketches.{ProgramSketch}
-use Rattle.known_edges.specs.Rows.{EachEnds, access_of}
+use Rattle.known_edges.specs.Rows.{EachEnds, traced_access}
 use Rattle.sketches.specs.ValueSketches.{LacksSource}
 use Rattle.sketches.proofs.ValuesGiven.{lacks}
 use Rattle.sketches.proofs.value_sketch.ValueSketch.lacks_source.Goals as goal
@@ -21,7 +21,7 @@ returns c t =
     let x = c.in-Some.access in
     let value = c.in-Some-read.value in
     let ends = subst (λ (ts : List ThreadTrace). EachEnds ts) here (c.each_ends.ensures.0 c.if-not-each_ends.false) in
-    let at = subst (λ (ts : List ThreadTrace). access_of ts c.args.read ≡ Some x) here (sym c.access_at.ensures ∙ c.in-Some.is) in
+    let at = subst (λ (ts : List ThreadTrace). traced_access ts c.args.read ≡ Some x) here (sym c.access_at.ensures ∙ c.in-Some.is) in
     let same = ap (λ (s : ProgramSketch). s.program.memory) c.self.view_is in
     subst (λ (s : ProgramSketch). LacksSource s c.args.read) c.self.view_is
     (lacks p c.self.inside.base.mode traces c.self.invariant.kept ends c.args.read x value at c.in-Some-read.is

@@ -4,7 +4,7 @@ use Rattle.std.proofs.lemmas.List.{with_items_is}
 use Rattle.tso_program.specs.declared.listing.Listing.{Listing}
 use Rattle.tso_program.specs.Fences.{gaps_in}
 use Rattle.tso_program.specs.Listings.{action}
-use Rattle.tso_machine.specs.Internal.Cores.{Core, Cores, Fits, no_core}
+use Rattle.tso_machine.specs.Internal.Cores.{Core, Cores, FitsProgram, no_core}
 use Rattle.tso_machine.proofs.Link.{read_is}
 use Rattle.tso_machine.proofs.Effects.{IsNext, exec_done, on_ok}
 use Rattle.tso_machine.proofs.state.State.exec.Goals as goal
@@ -13,7 +13,7 @@ pub returns-clause-ok : goal.returns-clause-ok
 returns-clause-ok c =
     let s : Cores = record { cores = c.self.inside.cores.items; memory = c.self.inside.memory.items } in
     let p : Listing = c.args.program.now in
-    let fits : Fits p s = rw c.self.view_is c.requires in
+    let fits : FitsProgram p s = rw c.self.view_is c.requires in
     let place : ℕ = c.args.t in
     let core : Core = c.index_mut-core.result.now in
     let there : place < length s.cores = omega (arith, c.len.ensures, c.self.inside.cores.ok.0) in
@@ -32,7 +32,7 @@ pub returns-clause-fits : goal.returns-clause-fits
 returns-clause-fits c =
     let s : Cores = record { cores = c.self.inside.cores.items; memory = c.self.inside.memory.items } in
     let p : Listing = c.args.program.now in
-    let fits : Fits p s = rw c.self.view_is c.requires in
+    let fits : FitsProgram p s = rw c.self.view_is c.requires in
     let place : ℕ = c.args.t in
     let core : Core = c.index_mut-core.result.now in
     let there : place < length s.cores = omega (arith, c.len.ensures, c.self.inside.cores.ok.0) in
