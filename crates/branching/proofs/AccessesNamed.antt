@@ -1,9 +1,9 @@
 -- Events of threads, and the accesses that name them.
-use Rattle.candidate_executions.specs.declared.event.Event.{Event}
-use Rattle.candidate_executions.specs.declared.event.Event.TheVariants.{Initial, Access as At}
-use Rattle.candidate_executions.specs.Candidates.{IsAccess}
-use Rattle.candidate_executions.specs.Sketches.{given_to}
-use Rattle.known_edges.specs.ProgramSketches.{ProgramSketch, mode_in}
+use Rattle.cover_judge.specs.Event.{Event}
+use Rattle.cover_judge.specs.Event.TheVariants.{Initial, Access as At}
+use Rattle.cover_judge.specs.Candidates.{IsAccess}
+use Rattle.cover_judge.specs.Sketches.{given_to}
+use Rattle.sketches.specs.ProgramSketches.{ProgramSketch, mode_in}
 use Rattle.cert_forest.specs.declared.tree.AccessId.{AccessId}
 use Rattle.branching.specs.Accesses.{IsOfThread}
 

@@ -3,23 +3,23 @@ use Rattle.std.proofs.Common.{◌≡◌, ◌↔◌, ℕ, Bool, true, false, not,
 use Rattle.std.specs.Prelude.{IfSome}
 use Rattle.std.proofs.lemmas.Bool.{cases_lt}
 use Rattle.tso_program.specs.declared.listing.Thread.{Thread}
-use Rattle.candidate_executions.specs.declared.event.Event.{Event}
-use Rattle.candidate_executions.specs.declared.event.Event.TheVariants.{Initial, Access as At}
-use Rattle.candidate_executions.specs.Candidates.{IsAccess, Writes}
-use Rattle.candidate_executions.specs.Sketches as sketches
-use Rattle.candidate_executions.specs.Sketches.{given_to, IsPair, IsWhole}
-use Rattle.known_edges.specs.ProgramSketches.{ProgramSketch, mode_in, trace_in, access_in, with_chosen}
-use Rattle.known_edges.specs.Choices.{IsOrdered, MayFollow}
+use Rattle.cover_judge.specs.Event.{Event}
+use Rattle.cover_judge.specs.Event.TheVariants.{Initial, Access as At}
+use Rattle.cover_judge.specs.Candidates.{IsAccess, Writes}
+use Rattle.cover_judge.specs.Sketches as sketches
+use Rattle.cover_judge.specs.Sketches.{given_to, IsPair, IsWhole}
+use Rattle.sketches.specs.ProgramSketches.{ProgramSketch, mode_in, trace_in, access_in, with_chosen}
+use Rattle.sketches.specs.Choices.{IsOrdered, MayFollow}
 use Rattle.cover_judge.specs.declared.choice.Choice.{Choice}
 use Rattle.cover_judge.specs.declared.choice.Choice.TheVariants as choice
 use Rattle.cover_judge.specs.Choices.{sketch_with, MayChoose, MayChooseEach}
 use Rattle.cover_judge.proofs.ChoicesJudged.{other_way, turned}
-use Rattle.thread_traces.proofs.TracesKept.{no_action}
-use Rattle.known_edges.proofs.Lookups.{same_default}
+use Rattle.sketches.proofs.TracesKept.{no_action}
+use Rattle.sketches.proofs.Lookups.{same_default}
 use Rattle.sketches.specs.Complete.{IsComplete, HasItsSource, IsOrderedWith}
 use Rattle.sketches.proofs.Completeness.{read_there, first_there, second_there}
 use Rattle.cert_forest.specs.declared.tree.AccessId.{AccessId}
-use Rattle.tree_laws.specs.CoverTrees.{event_of}
+use Rattle.cover_judge.specs.CoverTrees.{event_of}
 use Rattle.branching.specs.declared.reads_writes.ReadValue.{ReadValue}
 use Rattle.branching.specs.declared.reads_writes.WrittenValue.{WrittenValue}
 use Rattle.branching.specs.declared.reads_writes.WholeAccesses.{WholeAccesses}

@@ -1,11 +1,11 @@
 -- How many steps a search has left: a choice is one more of those that a sketch can have.
 use Rattle.std.proofs.Common.{◌≡◌, ℕ, ◌+◌, ◌-◌, ◌*◌, ◌<◌, ◌≤◌, ap, ◌∙◌, arith}
-use Rattle.candidate_executions.proofs.Sketches.GivenValues.{reads_there}
-use Rattle.known_edges.specs.ProgramSketches.{ProgramSketch, mode_in, with_chosen}
-use Rattle.known_edges.specs.Kept.{IsLawful}
-use Rattle.known_edges.specs.Sizes.{choice_count, most_choices}
-use Rattle.known_edges.proofs.ChoicesCounted.{value_counted, source_counted, pair_counted}
-use Rattle.tree_laws.specs.CoverTrees.{event_of}
+use Rattle.cover_judge.proofs.GivenValues.{reads_there}
+use Rattle.sketches.specs.ProgramSketches.{ProgramSketch, mode_in, with_chosen}
+use Rattle.sketches.specs.Kept.{IsLawful}
+use Rattle.sketches.specs.Sizes.{choice_count, most_choices}
+use Rattle.sketches.proofs.ChoicesCounted.{value_counted, source_counted, pair_counted}
+use Rattle.cover_judge.specs.CoverTrees.{event_of}
 use Rattle.cover_judge.specs.declared.choice.Choice.{Choice}
 use Rattle.cover_judge.specs.declared.choice.Choice.TheVariants as choice
 use Rattle.cover_judge.specs.Choices.{sketch_with, MayChoose}

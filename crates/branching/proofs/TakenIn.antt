@@ -3,12 +3,12 @@ use Rattle.std.proofs.Common.{◌≡◌, ◌⊎◌, ℕ, List, [], ◌∷◌, �
 use Rattle.std.proofs.lemmas.List.Elements.{All-push, Contains-append_left, Contains-push}
 use Rattle.std.proofs.lemmas.Bool.{cases_lt}
 use Rattle.std.proofs.lemmas.Option.{same_Some}
-use Rattle.candidate_executions.specs.declared.access.Access.{Access}
-use Rattle.known_edges.specs.ProgramSketches.{ProgramSketch, access_in, trace_in}
-use Rattle.known_edges.specs.Choices.{IsRead}
-use Rattle.known_edges.proofs.Accesses.{none_past}
+use Rattle.cover_judge.specs.Access.{Access}
+use Rattle.sketches.specs.ProgramSketches.{ProgramSketch, access_in, trace_in}
+use Rattle.sketches.specs.Choices.{IsRead}
+use Rattle.sketches.proofs.Accesses.{none_past}
 use Rattle.cert_forest.specs.declared.tree.AccessId.{AccessId}
-use Rattle.tree_laws.specs.CoverTrees.{event_of}
+use Rattle.cover_judge.specs.CoverTrees.{event_of}
 use Rattle.branching.specs.declared.reads_writes.ReadValue.{ReadValue}
 use Rattle.branching.specs.declared.reads_writes.WrittenValue.{WrittenValue}
 use Rattle.branching.specs.declared.reads_writes.WholeAccesses.{WholeAccesses}

@@ -1,10 +1,10 @@
 -- Tallies, thread by thread.
 use Rattle.std.proofs.Common.{◌≡◌, ◌⊎◌, ℕ, ◌%◌, List, [], Contains, sym, subst, inl, inr}
 use Rattle.bit_rows.specs.declared.row.TheConstants.{ROW_BITS}
-use Rattle.candidate_executions.specs.declared.event.Event.TheVariants.{Access as At}
-use Rattle.candidate_executions.specs.Candidates.{Writes}
-use Rattle.known_edges.specs.ProgramSketches.{ProgramSketch, access_in}
-use Rattle.known_edges.proofs.Lawful.{none_in}
+use Rattle.cover_judge.specs.Event.TheVariants.{Access as At}
+use Rattle.cover_judge.specs.Candidates.{Writes}
+use Rattle.sketches.specs.ProgramSketches.{ProgramSketch, access_in}
+use Rattle.sketches.proofs.Lawful.{none_in}
 use Rattle.branching.specs.declared.reads_writes.ReadValue.{ReadValue}
 use Rattle.branching.specs.declared.tally.Tally.{Tally}
 use Rattle.branching.specs.Tallies.{IsTallyOf, IsTalliedRead, TakesThread, IsOldOrOf}

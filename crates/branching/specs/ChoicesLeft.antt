@@ -1,9 +1,9 @@
 -- What it says of a sketch that nothing is left to be chosen.
 use Rattle.std.specs.Prelude.{ℕ, ◌<◌, List, Contains, length, slice_index_or}
 use Rattle.std.specs.List.{AllPairs}
-use Rattle.known_edges.specs.ProgramSketches.{ProgramSketch}
+use Rattle.sketches.specs.ProgramSketches.{ProgramSketch}
 use Rattle.sketches.specs.Complete.{HasItsSource, IsOrderedWith}
-use Rattle.tree_laws.specs.CoverTrees.{event_of}
+use Rattle.cover_judge.specs.CoverTrees.{event_of}
 use Rattle.branching.specs.declared.reads_writes.ReadValue.{ReadValue}
 use Rattle.branching.specs.declared.reads_writes.WrittenValue.{WrittenValue}
 

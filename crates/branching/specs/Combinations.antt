@@ -1,7 +1,7 @@
 -- Sketches in which one thread takes its values from another sketch.
 use Rattle.std.specs.Prelude.{◌≡◌, ◌≢◌, ◌<◌, ℕ, length}
-use Rattle.candidate_executions.specs.Sketches.{given_to}
-use Rattle.known_edges.specs.ProgramSketches.{ProgramSketch, with_chosen}
+use Rattle.cover_judge.specs.Sketches.{given_to}
+use Rattle.sketches.specs.ProgramSketches.{ProgramSketch, with_chosen}
 use Rattle.sketches.specs.ThreadValues.{with_values, HasValuesAlone}
 use Rattle.cover_judge.specs.Choices.{IsValueOpen}
 use Rattle.branching.specs.declared.tally.Tally.{Tally}

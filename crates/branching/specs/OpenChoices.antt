@@ -1,10 +1,10 @@
 -- What is left to be chosen in a sketch, and the choices that there are.
 use Rattle.std.specs.Prelude.{◌≡◌, List, [], ◌∷◌}
-use Rattle.candidate_executions.specs.declared.event.Event.{Event}
-use Rattle.candidate_executions.specs.Sketches.{IsPair}
-use Rattle.known_edges.specs.ProgramSketches.{ProgramSketch, mode_in}
-use Rattle.known_edges.specs.Choices.{IsRead, HasSource, IsOrdered, MayFollow}
-use Rattle.tree_laws.specs.CoverTrees.{event_of}
+use Rattle.cover_judge.specs.Event.{Event}
+use Rattle.cover_judge.specs.Sketches.{IsPair}
+use Rattle.sketches.specs.ProgramSketches.{ProgramSketch, mode_in}
+use Rattle.sketches.specs.Choices.{IsRead, HasSource, IsOrdered, MayFollow}
+use Rattle.cover_judge.specs.CoverTrees.{event_of}
 use Rattle.cover_judge.specs.declared.choice.Choice.{Choice}
 use Rattle.cover_judge.specs.declared.choice.Choice.TheVariants as choice
 use Rattle.cover_judge.specs.Choices.{IsValueOpen, IsSourceOpen, AreValueChoices, AreSourceChoices, MayChooseEach}

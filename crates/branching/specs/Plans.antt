@@ -1,7 +1,7 @@
 -- Which thread gets its values last.
 use Rattle.std.specs.Prelude.{◌≡◌, ◌≢◌, ◌<◌, ℕ, List, [], All, IfSome, length}
-use Rattle.candidate_executions.specs.Sketches.{given_to}
-use Rattle.known_edges.specs.ProgramSketches.{ProgramSketch}
+use Rattle.cover_judge.specs.Sketches.{given_to}
+use Rattle.sketches.specs.ProgramSketches.{ProgramSketch}
 use Rattle.sketches.specs.ThreadValues.{HasValuesAlone}
 use Rattle.cover_judge.specs.declared.choice.Choice.{Choice}
 use Rattle.cover_judge.specs.declared.choice.Choice.TheVariants as choice

@@ -1,6 +1,6 @@
 -- What one thread does under the values that its reads may take.
 use Rattle.std.specs.Prelude.{◌≡◌, ℕ, List, [], ◌∷◌}
-use Rattle.known_edges.specs.ProgramSketches.{ProgramSketch, with_chosen}
+use Rattle.sketches.specs.ProgramSketches.{ProgramSketch, with_chosen}
 use Rattle.cover_judge.specs.declared.choice.Choice.{Choice}
 use Rattle.cover_judge.specs.Choices.{IsValueOpen, AreValueChoices, MayChooseEach, sketch_with}
 use Rattle.branching.specs.declared.traces.FullTrace.{FullTrace}

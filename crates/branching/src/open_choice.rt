@@ -1,7 +1,7 @@
 //! What is left to be chosen in a sketch.
 ghost use Rattle.std.specs.Prelude.{◌≡◌, ◌↔◌, IsTrue, false};
-ghost use Rattle.tree_laws.specs.CoverTrees as trees;
-ghost use Rattle.known_edges.specs.Choices.{IsOrdered};
+ghost use Rattle.cover_judge.specs.CoverTrees as trees;
+ghost use Rattle.sketches.specs.Choices.{IsOrdered};
 ghost use Rattle.sketches.specs.Complete.{HasItsSource};
 ghost use Rattle.branching.specs.OpenChoices.{NeedsSource, NeedsOrder};
 ghost use Rattle.branching.specs.Accesses.{IsReadValue, IsWrittenValue};

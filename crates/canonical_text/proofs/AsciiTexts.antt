@@ -6,13 +6,13 @@ use Rattle.std.proofs.lemmas.Str.{IsAscii-append}
 use Rattle.std.proofs.lemmas.Str.Ascii.{IsAscii-nil, IsAscii-cons}
 use Rattle.std.proofs.lemmas.Fmt.{IsAscii-decimal}
 use Rattle.std.proofs.lemmas.Bool.Decides.{nat_tests}
-use Rattle.text_tokens.specs.declared.token.Mark.{Mark}
-use Rattle.text_tokens.specs.declared.token.Mark.TheVariants.{OpenBrace, CloseBrace, OpenBracket, CloseBracket, OpenParen, CloseParen, Semicolon, Bar, Colon, Equals, Comma, Dollar, Tilde, And, Or}
-use Rattle.text_tokens.specs.Bytes.{is_white_space, is_word_byte}
-use Rattle.text_tokens.specs.Marks.{mark_text}
-use Rattle.text_tokens.specs.Tokens.{Tok, Word, Number, Sign, NoToken}
-use Rattle.text_tokens.specs.Pieces.{Piece, Space, Part, token_text, text_of, CanStand, AreApartBefore}
-use Rattle.litmus_lines.specs.FirstLine.{is_visible}
+use Rattle.litmus_reader.specs.Mark.{Mark}
+use Rattle.litmus_reader.specs.Mark.TheVariants.{OpenBrace, CloseBrace, OpenBracket, CloseBracket, OpenParen, CloseParen, Semicolon, Bar, Colon, Equals, Comma, Dollar, Tilde, And, Or}
+use Rattle.litmus_reader.specs.Bytes.{is_white_space, is_word_byte}
+use Rattle.litmus_reader.specs.Marks.{mark_text}
+use Rattle.litmus_reader.specs.Tokens.{Tok, Word, Number, Sign, NoToken}
+use Rattle.litmus_reader.specs.Pieces.{Piece, Space, Part, token_text, text_of, CanStand, AreApartBefore}
+use Rattle.litmus_reader.specs.FirstLine.{is_visible}
 use Rattle.canonical_text.specs.Spelling.{heading}
 use Rattle.canonical_text.proofs.WordsWritten.{and_first, and_second}
 

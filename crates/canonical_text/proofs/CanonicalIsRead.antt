@@ -8,7 +8,7 @@ use Rattle.std.proofs.lemmas.Option.{slice_get-get_or, slice_get_past}
 use Rattle.std.proofs.lemmas.List.FromFn.{fill_by_all, length-map-range_with_len}
 use Rattle.std.proofs.lemmas.Slice.Eq.{bytes_eq-Decides}
 use Rattle.gap_sets.specs.Gaps.{SetOfGaps}
-use Rattle.text_tokens.specs.Tokens.{Tok}
+use Rattle.litmus_reader.specs.Tokens.{Tok}
 use Rattle.tso_program.specs.declared.instruction.Reg.{Reg}
 use Rattle.tso_program.specs.declared.listing.Thread.{Thread}
 use Rattle.tso_program.specs.declared.listing.Listing.{Listing}
@@ -24,7 +24,7 @@ use Rattle.litmus_syntax.specs.Views.{PlaceView, Location, Register, EntryView, 
 use Rattle.litmus_syntax.specs.Grammar.{NoneTwice, labels_in_rows as all_names}
 use Rattle.litmus_syntax.specs.Places.{same_place}
 use Rattle.litmus_reader.specs.declared.litmus.Litmus.{Litmus}
-use Rattle.litmus_lines.specs.FirstLine.{AreVisible}
+use Rattle.litmus_reader.specs.FirstLine.{AreVisible}
 use Rattle.litmus_reader.specs.Names.{TextNames, all_registers, number_in}
 use Rattle.litmus_reader.specs.Places.{entry_place, row_places, sign_places, places, location_name, is_register, names_of, names_among}
 use Rattle.litmus_reader.specs.Names.{is_named}

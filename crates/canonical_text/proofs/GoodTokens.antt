@@ -2,10 +2,10 @@
 use Rattle.std.proofs.Common.{◌≡◌, ℕ, ◌+◌, true, false, List, [], ◌∷◌, map, Option, Some, None, inl, inr, sym, subst}
 use Rattle.std.specs.List.{AllByRecursion}
 use Rattle.std.proofs.lemmas.List.Elements.{recursion_from_All}
-use Rattle.text_tokens.specs.declared.token.Mark.{Mark}
-use Rattle.text_tokens.specs.declared.token.Mark.TheVariants as the
-use Rattle.text_tokens.specs.Tokens.{Tok, Word, Number, Sign, NoToken}
-use Rattle.text_tokens.specs.Lexing.{IsWord, BeginsWith, BeginsWithAll, none, white_space, comment, token}
+use Rattle.litmus_reader.specs.Mark.{Mark}
+use Rattle.litmus_reader.specs.Mark.TheVariants as the
+use Rattle.litmus_reader.specs.Tokens.{Tok, Word, Number, Sign, NoToken}
+use Rattle.litmus_reader.specs.Lexing.{IsWord, BeginsWith, BeginsWithAll, none, white_space, comment, token}
 use Rattle.tso_program.specs.declared.instruction.Reg.{Reg}
 use Rattle.conditions.specs.declared.condition.Quantifier.{Quantifier}
 use Rattle.conditions.specs.declared.condition.Quantifier.TheVariants.{Exists, NotExists, Forall}

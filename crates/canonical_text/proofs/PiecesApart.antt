@@ -7,17 +7,17 @@ use Rattle.std.specs.Fmt.{decimal}
 use Rattle.std.proofs.lemmas.Fmt.{digits_decimal, decimal_nonempty}
 use Rattle.std.proofs.lemmas.Bool.{cases_Bool}
 use Rattle.std.proofs.lemmas.Bool.Decides.{Decides-eqb}
-use Rattle.text_tokens.specs.Bytes.{is_letter}
-use Rattle.text_tokens.specs.Comments.{opens}
-use Rattle.text_tokens.specs.Lexing.{IsWord, NoWordGoesOn}
-use Rattle.text_tokens.proofs.NumberLaws.{own}
-use Rattle.text_tokens.specs.Pieces.{Piece, text_of, AreApartBefore, AreApart}
-use Rattle.text_tokens.proofs.PieceLaws.{AreApartBefore-append}
+use Rattle.litmus_reader.specs.Bytes.{is_letter}
+use Rattle.litmus_reader.specs.Comments.{opens}
+use Rattle.litmus_reader.specs.Lexing.{IsWord, NoWordGoesOn}
+use Rattle.litmus_reader.proofs.NumberLaws.{own}
+use Rattle.litmus_reader.specs.Pieces.{Piece, text_of, AreApartBefore, AreApart}
+use Rattle.litmus_reader.proofs.PieceLaws.{AreApartBefore-append}
 use Rattle.conditions.specs.declared.condition.Quantifier.{Quantifier}
 use Rattle.conditions.specs.declared.condition.Quantifier.TheVariants.{Exists, NotExists, Forall}
 use Rattle.litmus_syntax.specs.Views.{PlaceView, Location, Register, EntryView, CodeView, LoadImm, Copy, Load, StoreImm, Store, Xchg, Fence, CmpImm, CmpReg, Je, Jne, Jmp, CellView, BodyView, SignView, Atom, Const, Not, And, Or, Open, Close, EndingView}
 use Rattle.canonical_text.specs.Spelling.{line_end, next, joined_by, bar, gap, valued_pieces, entry_pieces, initial_pieces, row_end, line_of, column_pieces, header_pieces, code_pieces, label_pieces, cell_pieces, row_pieces, body_pieces, observed_place_pieces, observed_pieces, sign_pieces, condition_pieces, ending_pieces, lines_pieces, sign, space}
-use Rattle.text_tokens.specs.declared.token.Mark.TheVariants as the
+use Rattle.litmus_reader.specs.Mark.TheVariants as the
 use Rattle.canonical_text.specs.Printable.{IsTextNumber, IsLabelName, IsPrintablePlace, IsPrintableEntry, IsPrintableCode, IsPrintableContent, IsPrintableCell, IsPrintableRow, IsPrintable, IsPrintableSign, begins_with_a_word, SignsAreApart, ArePrintable, IsPrintableEnding}
 use Rattle.canonical_text.proofs.WordsWritten.{mov_word, xchg_word, mfence_word, cmp_word, je_word, jne_word, jmp_word, locations_word, exists_word, forall_word, true_word, false_word, not_word, register_word, column_word}
 

@@ -4,9 +4,9 @@ use Rattle.std.specs.Option.{option_to_list}
 use Rattle.std.proofs.lemmas.List.{append-nil}
 use Rattle.std.specs.List.{AllByRecursion, flat_map, range_with_len}
 use Rattle.std.proofs.lemmas.List.Elements.{All-from_recursion}
-use Rattle.text_tokens.specs.declared.token.Mark.TheVariants as the
-use Rattle.text_tokens.specs.Tokens.{Tok, Sign}
-use Rattle.text_tokens.specs.Pieces.{Piece, tokens_of}
+use Rattle.litmus_reader.specs.Mark.TheVariants as the
+use Rattle.litmus_reader.specs.Tokens.{Tok, Sign}
+use Rattle.litmus_reader.specs.Pieces.{Piece, tokens_of}
 use Rattle.conditions.specs.declared.condition.Quantifier.{Quantifier}
 use Rattle.conditions.specs.declared.condition.Quantifier.TheVariants.{Exists, NotExists, Forall}
 use Rattle.litmus_syntax.specs.Views.{PlaceView, Location, Register, EntryView, CodeView, LoadImm, Copy, Load, StoreImm, Store, Xchg, Fence, CmpImm, CmpReg, Je, Jne, Jmp, CellView, BodyView, SignView, Atom, Const, Not, And, Or, Open, Close, EndingView}

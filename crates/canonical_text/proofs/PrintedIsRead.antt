@@ -2,11 +2,11 @@
 use Rattle.std.proofs.Common.{◌≡◌, ℕ, List, [], ◌∷◌, ◌++◌, codes, refl, ap, append_assoc, lit<}
 use Rattle.std.proofs.lemmas.Str.{IsUtf8-from_ascii, IsAscii-append}
 use Rattle.std.proofs.lemmas.List.{append-nil}
-use Rattle.text_tokens.specs.Pieces.{text_of, tokens_of, AreApart}
-use Rattle.text_tokens.proofs.PieceLaws.{pieces_lex}
-use Rattle.text_tokens.specs.Space.{nothing}
-use Rattle.litmus_lines.specs.FirstLine.{AreVisible, IsFirstLine}
-use Rattle.litmus_lines.specs.SkippedLines.{brace}
+use Rattle.litmus_reader.specs.Pieces.{text_of, tokens_of, AreApart}
+use Rattle.litmus_reader.proofs.PieceLaws.{pieces_lex}
+use Rattle.litmus_reader.specs.Space.{nothing}
+use Rattle.litmus_reader.specs.FirstLine.{AreVisible, IsFirstLine}
+use Rattle.litmus_reader.specs.SkippedLines.{brace}
 use Rattle.canonical_text.specs.Spelling.{lines_pieces, ending_pieces, heading}
 use Rattle.canonical_text.specs.Laws.{PrintedPartsAreRead}
 use Rattle.canonical_text.proofs.PiecesApart.{lines_apart}

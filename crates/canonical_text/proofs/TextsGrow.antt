@@ -6,11 +6,11 @@ use Rattle.std.proofs.lemmas.List.{append-nil, take_more, map_push, drop_more, l
 use Rattle.std.proofs.lemmas.List.FromFn.{map-range_with_len_more, length-range_with_len}
 use Rattle.std.proofs.lemmas.Grind.{flat_map-append}
 use Rattle.std.proofs.lemmas.Bool.{lt-ltb}
-use Rattle.text_tokens.specs.declared.token.Mark.TheVariants as the
-use Rattle.text_tokens.specs.Pieces.{Piece, text_of}
+use Rattle.litmus_reader.specs.Mark.TheVariants as the
+use Rattle.litmus_reader.specs.Pieces.{Piece, text_of}
 use Rattle.conditions.specs.declared.condition.Quantifier.{Quantifier}
 use Rattle.litmus_syntax.specs.Views.{PlaceView, EntryView, CodeView, SignView}
-use Rattle.text_tokens.proofs.PieceLaws.{text_of-append}
+use Rattle.litmus_reader.proofs.PieceLaws.{text_of-append}
 use Rattle.tso_program.specs.declared.listing.Thread.{Thread}
 use Rattle.litmus_reader.specs.Names.{TextNames}
 use Rattle.canonical_text.specs.Spelling.{space, line_end, sign, next, joined_by, gap, code_pieces, label_pieces, cell_pieces, observed_place_pieces, observed_pieces, entry_pieces, initial_pieces, sign_pieces, quantifier_pieces, condition_pieces}

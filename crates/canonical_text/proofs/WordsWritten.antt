@@ -4,9 +4,9 @@ use Rattle.std.specs.List.{list_all}
 use Rattle.std.specs.Char.{is_ascii_digit}
 use Rattle.std.specs.Fmt.{decimal}
 use Rattle.std.proofs.lemmas.Fmt.{digits_decimal}
-use Rattle.text_tokens.specs.Bytes.{is_letter, is_word_byte}
-use Rattle.text_tokens.specs.Lexing.{IsWord}
-use Rattle.text_tokens.proofs.NumberLaws.{own}
+use Rattle.litmus_reader.specs.Bytes.{is_letter, is_word_byte}
+use Rattle.litmus_reader.specs.Lexing.{IsWord}
+use Rattle.litmus_reader.proofs.NumberLaws.{own}
 use Rattle.tso_program.specs.declared.instruction.Reg.{Reg}
 use Rattle.tso_program.specs.declared.instruction.Reg.TheVariants.{Eax, Ebx, Ecx, Edx, Esi, Edi}
 use Rattle.litmus_syntax.specs.Words.{reg_of, opens_condition, column_name}

@@ -2,7 +2,7 @@
 use Rattle.std.proofs.Common.{◌≡◌, ℕ, ◌<◌, ◌≤◌, List, Some, All, get_or, take, length, sym, ap, ◌∙◌, subst, arith}
 use Rattle.std.proofs.lemmas.List.{get_or-take, length-take-le}
 use Rattle.std.proofs.lemmas.Option.{slice_get-get_or}
-use Rattle.known_edges.proofs.Lookups.{same_default}
+use Rattle.sketches.proofs.Lookups.{same_default}
 use Rattle.cert_check.specs.Faults.{IsFirstWithout}
 
 module _ {A : Type 0} (P : A → Type 0) (xs : List A) (n : ℕ) where

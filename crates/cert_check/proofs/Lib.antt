@@ -11,3 +11,5 @@ pub mod SetAndCost
 pub mod FirstFaults
 pub mod OneFault
 pub mod Assembled
+-- words of the crates below, passed on
+pub use Rattle.cover_judge.proofs.Answered

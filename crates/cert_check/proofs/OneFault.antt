@@ -13,7 +13,7 @@ use Rattle.tso_program.specs.Shown.{Question}
 use Rattle.tso_machine.specs.declared.label.Label.{Label}
 use Rattle.tso_machine.specs.Machine.{Machine, SequentialMachine, StoreBufferMachine, no_gaps}
 use Rattle.tso_machine.specs.Outcomes.{IsShownRun, AreGapsOf}
-use Rattle.candidate_executions.specs.Sketches.{empty_sketch}
+use Rattle.cover_judge.specs.Sketches.{empty_sketch}
 use Rattle.cert_forest.specs.Trees.{Cover, Gap, Split, Bound, GapTrees, NoGap, MoreGaps}
 use Rattle.tree_laws.specs.CoverTrees.{IsValidCover}
 use Rattle.cert_forest.specs.Certificates.{Certificate}

@@ -10,7 +10,7 @@ use Rattle.tso_program.specs.Fences.{gaps_in}
 use Rattle.tso_machine.specs.declared.label.Label.{Label}
 use Rattle.tso_machine.specs.Machine.{Machine, SequentialMachine, StoreBufferMachine, no_gaps, IsRun}
 use Rattle.tso_machine.specs.Outcomes.{AreGapsOf}
-use Rattle.candidate_executions.specs.Sketches.{empty_sketch}
+use Rattle.cover_judge.specs.Sketches.{empty_sketch}
 use Rattle.tree_laws.specs.CoverTrees.{IsValidCover}
 use Rattle.cert_forest.specs.Certificates.{Certificate}
 use Rattle.cert_forest.specs.Shows.{shows_of}

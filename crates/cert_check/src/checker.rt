@@ -9,7 +9,7 @@ ghost use Rattle.tso_program.specs.Shown.{Question, asked};
 ghost use Rattle.tso_program.specs.Fences.{gaps_in};
 ghost use Rattle.tso_machine.specs.Machine.{SequentialMachine, StoreBufferMachine};
 ghost use Rattle.tso_machine.specs.Outcomes.{Headline, IsTheAnswer};
-ghost use Rattle.candidate_executions.specs.Sketches.{empty_sketch};
+ghost use Rattle.cover_judge.specs.Sketches.{empty_sketch};
 ghost use Rattle.tree_laws.specs.CoverTrees.{IsValidCover};
 ghost use Rattle.tree_laws.specs.GapTrees.{IsValidGap};
 ghost use Rattle.tree_laws.specs.Laws.{IsProved};

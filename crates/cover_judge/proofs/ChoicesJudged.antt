@@ -10,12 +10,12 @@ use Rattle.tso_program.specs.declared.listing.Listing.{Listing}
 use Rattle.tso_program.specs.declared.outcome.Outcome.{Outcome}
 use Rattle.tso_program.specs.declared.shown.Shown.{Shown}
 use Rattle.tso_program.specs.Shown.{asked}
-use Rattle.tso_machine.specs.Machine as machine
+use Rattle.cert_forest.specs.Machine as machine
 use Rattle.candidate_executions.specs.declared.event.Event.{Event}
 use Rattle.candidate_executions.specs.Events.{ComesBefore}
 use Rattle.candidate_executions.specs.Sketches.{Sketch, IsSourceOf, IsPair, IsWhole, MustEndAs}
-use Rattle.known_edges.specs.ProgramSketches.{ProgramSketch, mode_in}
-use Rattle.known_edges.specs.Choices as choices
+use Rattle.sketches.specs.ProgramSketches.{ProgramSketch, mode_in}
+use Rattle.sketches.specs.Choices as choices
 use Rattle.cert_forest.specs.declared.tree.AccessId.{AccessId}
 use Rattle.tree_laws.specs.CoverTrees.{event_of, HasNextValues, HasSources, HasNoOrder, MustEndAsNumber}
 use Rattle.tree_laws.proofs.OneList.{one_list_of_values, one_list_of_sources}

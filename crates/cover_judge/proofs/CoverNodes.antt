@@ -5,7 +5,7 @@ use Rattle.tso_program.specs.declared.outcome.Outcome.{Outcome}
 use Rattle.tso_program.specs.declared.shown.Shown.{Shown}
 use Rattle.tso_program.specs.Shown.{asked}
 use Rattle.candidate_executions.specs.Sketches as sketches
-use Rattle.known_edges.specs.ProgramSketches.{ProgramSketch, mode_in}
+use Rattle.sketches.specs.ProgramSketches.{ProgramSketch, mode_in}
 use Rattle.cert_forest.specs.declared.tree.AccessId.{AccessId}
 use Rattle.cert_forest.specs.Trees.{Cover, Value, Source, Order, covers_of}
 use Rattle.cert_forest.proofs.TreeTexts.{covers_count}

@@ -2,9 +2,9 @@
 use Rattle.std.proofs.Common.{◌≡◌, [], ◌∷◌, refl, sym, subst}
 use Rattle.std.proofs.lemmas.List.{append-nil}
 use Rattle.tso_program.specs.declared.listing.Listing.{Listing}
-use Rattle.tso_machine.specs.Machine.{Machine}
+use Rattle.cert_forest.specs.Machine.{Machine}
 use Rattle.candidate_executions.specs.Sketches.{Sketch}
-use Rattle.known_edges.specs.ProgramSketches.{ProgramSketch, mode_in, with_chosen}
+use Rattle.sketches.specs.ProgramSketches.{ProgramSketch, mode_in, with_chosen}
 use Rattle.sketches.specs.Marks.{ComesAfter}
 use Rattle.tree_laws.specs.CoverTrees.{event_of}
 use Rattle.cover_judge.specs.declared.choice.Choice.{Choice}

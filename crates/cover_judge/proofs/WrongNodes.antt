@@ -3,7 +3,7 @@ use Rattle.std.proofs.Common.{◌≡◌, ℕ, zero, suc, List, [], ◌∷◌, le
 use Rattle.std.proofs.lemmas.List.{length-map}
 use Rattle.tso_program.specs.declared.outcome.Outcome.{Outcome}
 use Rattle.tso_program.specs.Shown.{Question}
-use Rattle.tso_machine.specs.Machine.{Machine}
+use Rattle.cert_forest.specs.Machine.{Machine}
 use Rattle.candidate_executions.specs.Sketches.{Sketch, with_value, with_source, with_pair}
 use Rattle.cert_forest.specs.Trees.{Cover, Value, Source, Order, Cycle, Known, Covers, NoCover, MoreCovers}
 use Rattle.cert_forest.specs.Texts.{count_covers}

@@ -5,7 +5,7 @@ use Rattle.tso_program.specs.declared.outcome.Outcome.{Outcome}
 use Rattle.tso_program.specs.declared.shown.Shown.{Shown}
 use Rattle.tso_program.specs.Shown.{asked}
 use Rattle.candidate_executions.specs.Sketches.{Sketch}
-use Rattle.known_edges.specs.ProgramSketches.{ProgramSketch, mode_in}
+use Rattle.sketches.specs.ProgramSketches.{ProgramSketch, mode_in}
 use Rattle.cert_forest.specs.Trees.{Cover, covers_of}
 use Rattle.tree_laws.specs.CoverTrees.{IsValidCover, AreValidCovers}
 use Rattle.cover_judge.specs.declared.choice.Choice.{Choice}

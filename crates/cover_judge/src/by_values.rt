@@ -4,7 +4,7 @@ ghost use Rattle.std.specs.Prelude.{◌≡◌, ◌<◌, ◌≤◌, OnOk, IfOk, I
 ghost use Rattle.candidate_executions.specs.Sketches.{with_value};
 ghost use Rattle.cert_forest.specs.Nodes.{first_tree};
 ghost use Rattle.cert_forest.specs.Trees.{Value, covers_of};
-ghost use Rattle.known_edges.specs.ProgramSketches.{mode_in};
+ghost use Rattle.sketches.specs.ProgramSketches.{mode_in};
 ghost use Rattle.tree_laws.specs.CoverTrees.{HasNextValues};
 ghost use Rattle.cover_judge.specs.Choices.{MayChoose};
 ghost use Rattle.cover_judge.specs.CoverDefects.{HasNoValues};

@@ -1,7 +1,7 @@
 //! What branches in a sketch.
 ghost use Rattle.std.specs.Prelude.{◌≡◌, ◌↔◌, IsTrue, IfOk, OnOk, OnErr, IfSome, MatchOption, map};
-ghost use Rattle.known_edges.specs.ProgramSketches.{with_chosen};
-ghost use Rattle.known_edges.specs.Choices.{IsOrdered};
+ghost use Rattle.sketches.specs.ProgramSketches.{with_chosen};
+ghost use Rattle.sketches.specs.Choices.{IsOrdered};
 ghost use Rattle.tree_laws.specs.CoverTrees as trees;
 ghost use Rattle.cover_judge.specs.Choices.{sketch_with, MayChoose, MayChooseEach, IsValueOpen, IsSourceOpen, AreValueChoices, AreSourceChoices};
 

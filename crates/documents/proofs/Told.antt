@@ -1,7 +1,7 @@
 -- Documents, from the members that are added one after the other.
 use Rattle.std.proofs.Common.{◌≡◌, ◌∙◌, ℕ, List, [], ◌∷◌, ◌++◌, ap, append_assoc}
 use Rattle.tso_program.specs.declared.listing.Listing.{Listing}
-use Rattle.litmus_reader.specs.declared.litmus.Litmus.{Litmus}
+use Rattle.report.specs.Litmus.{Litmus}
 use Rattle.documents.specs.Documents.{TellsHeading, document_of, IsDocument}
 
 -- one more member after others

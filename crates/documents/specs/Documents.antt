@@ -7,7 +7,7 @@ use Rattle.tso_program.specs.declared.shown.Shown.{Shown}
 use Rattle.tso_program.specs.declared.shown.Shown.TheVariants.{All}
 use Rattle.tso_machine.specs.declared.label.Label.{Label}
 use Rattle.tso_machine.specs.declared.label.Model.{Model}
-use Rattle.litmus_reader.specs.declared.litmus.Litmus.{Litmus}
+use Rattle.report.specs.Litmus.{Litmus}
 use Rattle.report.specs.Observations.{frequency, is_true_of}
 use Rattle.json_text.specs.Texts.{quoted, array_text, member, object_text, truth_text}
 use Rattle.documents.specs.declared.program.ProgramPart.{ProgramPart}

@@ -9,7 +9,7 @@ use Rattle.tso_machine.specs.declared.label.Model.{Model}
 use Rattle.tso_machine.specs.declared.label.Model.TheVariants as models
 use Rattle.tso_machine.specs.RunTexts.{spelling}
 use Rattle.tso_program.specs.Truth.{truth}
-use Rattle.litmus_reader.specs.declared.litmus.Litmus.{Litmus}
+use Rattle.report.specs.Litmus.{Litmus}
 use Rattle.json_text.specs.Texts.{quoted, array_text, member, object_text, truth_text}
 use Rattle.documents.specs.declared.run.Setting.{Setting}
 use Rattle.documents.specs.declared.run.Setting.TheVariants.{Without, Machine}

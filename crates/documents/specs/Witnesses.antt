@@ -1,7 +1,7 @@
 -- The document of a run of which the condition's formula has some truth.
 use Rattle.std.specs.Prelude.{ℕ, List, [], ◌∷◌, Option, Some, None, codes}
 use Rattle.tso_program.specs.declared.listing.Listing.{Listing}
-use Rattle.litmus_reader.specs.declared.litmus.Litmus.{Litmus}
+use Rattle.report.specs.Litmus.{Litmus}
 use Rattle.json_text.specs.Texts.{member, null_text, truth_text}
 use Rattle.documents.specs.declared.run.Setting.TheVariants.{Machine}
 use Rattle.documents.specs.declared.witness.Sought.{Sought}

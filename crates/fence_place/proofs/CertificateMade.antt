@@ -12,10 +12,10 @@ use Rattle.gap_sets.specs.declared.gap_set.TheConstants.{MAX_GAPS}
 use Rattle.tso_program.specs.Shown.{Question}
 use Rattle.tso_program.specs.declared.outcome.Outcome as machine
 use Rattle.tso_program.specs.Limits.{IsWithinLimits}
-use Rattle.tso_machine.specs.declared.label.Label.{Label}
-use Rattle.tso_machine.specs.Machine.{Machine, SequentialMachine, StoreBufferMachine, no_gaps}
+use Rattle.cover_solver.specs.Label.{Label}
+use Rattle.cover_solver.specs.Machine.{Machine, SequentialMachine, StoreBufferMachine, no_gaps}
 use Rattle.tso_program.specs.Fences.{gaps_in as gaps_of_set}
-use Rattle.tso_machine.specs.Outcomes.{IsTheAnswer, IsShownRun, IsSequentialOutcome, AreGapsOf}
+use Rattle.cover_solver.specs.Outcomes.{IsTheAnswer, IsShownRun, IsSequentialOutcome, AreGapsOf}
 use Rattle.known_edges.specs.Sizes.{most_choices}
 use Rattle.cert_forest.specs.Trees.{Cover}
 use Rattle.cert_forest.specs.declared.tree.TheConstants.{MAX_COVER_DEPTH, MAX_GAP_DEPTH}
@@ -23,10 +23,10 @@ use Rattle.cert_forest.specs.Certificates.{Certificate}
 use Rattle.cert_forest.specs.Shows.{shows_of}
 use Rattle.cert_forest.specs.Limits as limits
 use Rattle.cert_forest.specs.Limits.{IsGapTo, gap_depth}
-use Rattle.tree_laws.specs.GapTrees.{IsValidGap}
-use Rattle.tree_laws.specs.Certificates.{IsRunOutside, IsValidCertificate, AreSequentialRuns}
+use Rattle.cover_solver.specs.GapTrees.{IsValidGap}
+use Rattle.cover_solver.specs.Certificates.{IsRunOutside, IsValidCertificate, AreSequentialRuns}
 use Rattle.cover_solver.specs.Facts.{Table, Foreign, IsSequentialTable, IsListOf, IsServing, IsForeignValue}
-use Rattle.sketch_covers.specs.Covers.{IsWholeCover}
+use Rattle.cover_solver.specs.Covers.{IsWholeCover}
 use Rattle.search_core.specs.Work.{undecided}
 use Rattle.search_core.specs.Records.{Outcome, finished_state, IsOutcome}
 use Rattle.search_core.proofs.Kept.{Facts, facts_of}

@@ -6,7 +6,7 @@ use Rattle.std.proofs.lemmas.List.Kept.{AllPairs-from_increasing}
 use Rattle.gap_sets.specs.Regions.{child_regions, open_gaps}
 use Rattle.gap_sets.specs.declared.region.Region.{Region}
 use Rattle.gap_sets.specs.declared.gap_set.TheConstants.{MAX_GAPS}
-use Rattle.tso_machine.specs.declared.label.Label.{Label}
+use Rattle.cover_solver.specs.Label.{Label}
 use Rattle.cert_forest.specs.Trees.{Gap, Split, Bound, GapTrees, NoGap, MoreGaps}
 use Rattle.cert_forest.specs.Texts.{count_gaps}
 use Rattle.cert_forest.specs.Limits.{gap_depth, gaps_depth, HasGapNumbers, HaveGapNumbers}
@@ -14,7 +14,7 @@ use Rattle.search_core.specs.declared.entry.Entry.{Entry}
 use Rattle.search_core.specs.States.{SearchState}
 use Rattle.search_core.specs.Work.{undecided}
 use Rattle.search_core.proofs.Places.{Each}
-use Rattle.tree_laws.proofs.OpenGaps.{open_ascending, few_open}
+use Rattle.cover_solver.proofs.OpenGaps.{open_ascending, few_open}
 use Rattle.search_core.proofs.Changes.{HasNode}
 use Rattle.search_core.proofs.Kept.{Facts}
 use Rattle.search_core.proofs.Working.{kids_less, open_undecided}

@@ -7,14 +7,14 @@ use Rattle.gap_sets.specs.Order.{Better}
 use Rattle.gap_sets.specs.Regions.{without_gap, child_regions, open_gaps}
 use Rattle.gap_sets.specs.declared.region.Region.{Region}
 use Rattle.tso_program.specs.Shown.{Question}
-use Rattle.tso_machine.specs.declared.label.Label.{Label}
-use Rattle.tso_machine.specs.Outcomes.{IsTheAnswer}
+use Rattle.cover_solver.specs.Label.{Label}
+use Rattle.cover_solver.specs.Outcomes.{IsTheAnswer}
 use Rattle.cert_forest.specs.Trees.{Gap, Split, Bound, GapTrees, NoGap, MoreGaps}
-use Rattle.tree_laws.specs.GapTrees.{PassesGap, IsSplitBy, IsValidGap, AreValidGaps}
+use Rattle.cover_solver.specs.GapTrees.{PassesGap, IsSplitBy, IsValidGap, AreValidGaps}
 use Rattle.cover_solver.specs.Facts.{Foreign}
 use Rattle.search_core.specs.declared.entry.Entry.{Entry}
 use Rattle.search_core.specs.States.{SearchState}
-use Rattle.tree_laws.proofs.OpenGaps.{open_exact, open_ascending}
+use Rattle.cover_solver.proofs.OpenGaps.{open_exact, open_ascending}
 use Rattle.search_core.proofs.Changes.{HasNode, IsSplitAt}
 use Rattle.search_core.proofs.Kept.{Facts}
 use Rattle.fence_place.proofs.PassedGaps.{small_set}

@@ -3,7 +3,7 @@ use Rattle.std.proofs.Common.{◌≡◌, subst}
 use Rattle.gap_sets.specs.Gaps.{IsGapSet}
 use Rattle.tso_program.specs.Shown.{Question}
 use Rattle.tso_program.specs.Limits.{IsWithinLimits}
-use Rattle.tso_machine.specs.Outcomes.{AreGapsOf}
+use Rattle.cover_solver.specs.Outcomes.{AreGapsOf}
 use Rattle.cover_solver.specs.Facts.{Foreign, IsForeignValue}
 use Rattle.search_core.proofs.Sets.{gap_set, passed_gaps}
 

@@ -5,11 +5,11 @@ use Rattle.gap_sets.specs.Order.{total}
 use Rattle.tso_program.specs.declared.listing.Listing.{Listing}
 use Rattle.tso_program.specs.declared.shown.Shown.{Shown}
 use Rattle.tso_program.specs.Shown.{Question, asked}
-use Rattle.tso_machine.specs.Outcomes.{Headline, IsTheAnswer}
+use Rattle.cover_solver.specs.Outcomes.{Headline, IsTheAnswer}
 use Rattle.cert_forest.specs.Certificates.{Certificate}
-use Rattle.tree_laws.specs.Certificates.{IsValidCertificate}
-use Rattle.tree_laws.specs.Laws.{IsProved}
-use Rattle.the_answer.specs.Answers.{the_answer, least_cost}
+use Rattle.cover_solver.specs.Certificates.{IsValidCertificate}
+use Rattle.cover_solver.specs.Laws.{IsProved}
+use Rattle.search_core.specs.Answers.{the_answer, least_cost}
 use Rattle.fence_place.specs.declared.placing.Placed.{Placed}
 use Rattle.fence_place.specs.Placements.{IsPlacement}
 use Rattle.fence_place.specs.Proofs.{IsProof}

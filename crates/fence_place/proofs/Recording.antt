@@ -5,7 +5,7 @@ use Rattle.std.proofs.lemmas.Option.{same_Some, none-some, slice_get_within}
 use Rattle.std.proofs.lemmas.List.Elements.{Contains-get_or}
 use Rattle.std.proofs.lemmas.List.Quantifiers.{all_pairs_push}
 use Rattle.gap_sets.specs.Regions.{open_gaps}
-use Rattle.tso_machine.specs.declared.label.Label.{Label}
+use Rattle.cover_solver.specs.Label.{Label}
 use Rattle.cert_forest.specs.Trees.{Gap, gap_trees_of}
 use Rattle.cover_solver.specs.Facts.{Foreign}
 use Rattle.search_core.specs.declared.entry.Entry.{Entry}

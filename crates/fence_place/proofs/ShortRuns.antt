@@ -10,14 +10,14 @@ use Rattle.tso_program.specs.declared.limits.TheConstants.{MAX_THREADS, MAX_INST
 use Rattle.tso_program.specs.Fences.{Gaps}
 use Rattle.tso_program.specs.Listings.{action}
 use Rattle.tso_program.specs.Limits.{IsWithinLimits}
-use Rattle.tso_machine.specs.declared.label.Label.{Label}
-use Rattle.tso_machine.specs.declared.label.Label.TheVariants.{Exec, Flush}
-use Rattle.tso_machine.specs.RunTexts.{IsLabel}
-use Rattle.tso_machine.specs.Machine.{Machine, SequentialMachine, StoreBufferMachine, State, put, direct, buffered, past_gap, step, run, start, IsRun}
-use Rattle.tso_machine.proofs.Runs.{no_action, no_stores}
-use Rattle.candidate_executions.proofs.FromRuns.RunsAreShort.{every_run_is_short}
-use Rattle.fence_laws.proofs.ChangedAt.{put_other}
-use Rattle.fence_laws.proofs.StepCases.{exec_by, flush_by}
+use Rattle.cover_solver.specs.Label.{Label}
+use Rattle.cover_solver.specs.Label.TheVariants.{Exec, Flush}
+use Rattle.cover_solver.specs.RunTexts.{IsLabel}
+use Rattle.cover_solver.specs.Machine.{Machine, SequentialMachine, StoreBufferMachine, State, put, direct, buffered, past_gap, step, run, start, IsRun}
+use Rattle.cover_solver.proofs.Runs.{no_action, no_stores}
+use Rattle.search_core.proofs.RunsAreShort.{every_run_is_short}
+use Rattle.cover_solver.proofs.ChangedAt.{put_other}
+use Rattle.cover_solver.proofs.StepCases.{exec_by, flush_by}
 use Rattle.cert_forest.specs.Limits as limits
 
 abbrev no_step : State → Option State

@@ -2,7 +2,7 @@
 use Rattle.std.specs.Prelude.{◌≡◌, ◌≢◌, ℕ, zero, suc, ◌+◌, true, List, [], ◌∷◌, ◌++◌, Some, slice_get, length, Contains}
 use Rattle.std.specs.List.{AllPairs}
 use Rattle.gap_sets.specs.Regions.{open_gaps}
-use Rattle.tso_machine.specs.declared.label.Label.{Label}
+use Rattle.cover_solver.specs.Label.{Label}
 use Rattle.cert_forest.specs.declared.node.GapNode.{GapNode}
 use Rattle.cert_forest.specs.Trees.{Gap, Split, Bound, GapTrees, NoGap, MoreGaps, gap_trees_of}
 use Rattle.cert_forest.specs.GapNodes.{spell_gap, spell_gaps}

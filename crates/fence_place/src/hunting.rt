@@ -1,6 +1,6 @@
 //! The hunt: workers round one search.
 ghost use Rattle.std.specs.Prelude.{◌≡◌, ◌↔◌, All, Err, IfErr, IfOk, IfSome, IsTrue};
-ghost use Rattle.tso_machine.specs.Outcomes.{IsTheAnswer};
+ghost use Rattle.cover_solver.specs.Outcomes.{IsTheAnswer};
 ghost use Rattle.search_core.specs.States.{IsStart};
 ghost use Rattle.hunt_board.specs.Seats.{IsOf, IsFresh};
 ghost use Rattle.fence_place.specs.Faults.{AreTooFewOrMany, HasOtherLength, HuntFaultIs, MayHuntFail};

@@ -1,8 +1,8 @@
 //! Placing fences.
 ghost use Rattle.std.specs.Prelude.{◌≡◌, IfOk, IfErr, Err, length};
 ghost use Rattle.tso_program.specs.Listings.{gap_count};
-ghost use Rattle.tso_machine.specs.Outcomes.{Headline, IsTheAnswer};
-ghost use Rattle.the_answer.specs.Answers.{the_answer, least_cost};
+ghost use Rattle.cover_solver.specs.Outcomes.{Headline, IsTheAnswer};
+ghost use Rattle.search_core.specs.Answers.{the_answer, least_cost};
 ghost use Rattle.gap_sets.specs.Order.{total};
 ghost use Rattle.fence_place.specs.Placements.{IsPlacement};
 ghost use Rattle.fence_place.specs.Proofs.{IsProof};

@@ -1,6 +1,6 @@
 //! One worker of a hunt.
 ghost use Rattle.std.specs.Prelude.{◌≡◌, ◌⊎◌, ◌++◌, ◌∷◌, [], Some, None, ℕ, IfErr, IfOk, IfSome, IsTrue, OnErr, OnOk, slice_get};
-ghost use Rattle.tso_machine.specs.Outcomes.{AreGapsOf};
+ghost use Rattle.cover_solver.specs.Outcomes.{AreGapsOf};
 ghost use Rattle.cover_solver.specs.Facts.{AreOf, IsForeignValue};
 ghost use Rattle.cover_solver.specs.Verdicts.{IsVerdictOf, PassesNoneOf};
 ghost use Rattle.search_core.specs.Events.{IsBeatenBy};

@@ -2,7 +2,7 @@
 use Rattle.std.proofs.Common.{◌≡◌, ℕ, List, None, Some, refl, sym, ap, ◌∙◌, subst, arith}
 use Rattle.gap_sets.specs.Order.{total}
 use Rattle.tso_program.specs.Shown.{asked}
-use Rattle.tree_laws.specs.Certificates.{IsValidCertificate}
+use Rattle.cert_check.specs.Certificates.{IsValidCertificate}
 use Rattle.report.specs.Answers.{accepted_line}
 use Rattle.fencecheck.specs.Inputs.{ArePartsOf}
 use Rattle.fencecheck.specs.Verdicts.{IsVerdict, accepted, refused, IsAccepted, handed_in}

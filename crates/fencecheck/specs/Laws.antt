@@ -7,7 +7,7 @@ use Rattle.litmus_reader.specs.declared.litmus.Litmus.{Litmus}
 use Rattle.litmus_reader.specs.Texts.{IsLitmus}
 use Rattle.cert_forest.specs.Certificates.{Certificate}
 use Rattle.cert_forest.specs.Limits.{IsCertificate}
-use Rattle.tree_laws.specs.Certificates.{IsValidCertificate}
+use Rattle.cert_check.specs.Certificates.{IsValidCertificate}
 use Rattle.report.specs.Answers.{accepted_line}
 use Rattle.fencecheck.specs.Verdicts.{handed_in}
 use Rattle.fencecheck.specs.Replies.{IsVerdictOnInput}

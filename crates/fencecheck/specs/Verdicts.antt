@@ -6,7 +6,7 @@ use Rattle.tso_program.specs.declared.listing.Listing.{Listing}
 use Rattle.tso_program.specs.declared.shown.Shown.{Shown}
 use Rattle.tso_program.specs.declared.shown.Shown.TheVariants.{All, Truth}
 use Rattle.tso_program.specs.Shown.{asked}
-use Rattle.tso_machine.specs.Outcomes.{Headline}
+use Rattle.report.specs.Outcomes.{Headline}
 use Rattle.litmus_reader.specs.Shown.{shown_by}
 use Rattle.litmus_reader.specs.declared.litmus.Litmus.{Litmus}
 use Rattle.litmus_reader.specs.Texts as litmus_texts
@@ -19,7 +19,7 @@ use Rattle.cert_forest.specs.Certificates.{Certificate}
 use Rattle.cert_forest.specs.Limits.{IsCertificate}
 use Rattle.cert_forest.specs.Exact.{HasMore}
 use Rattle.cost_text.specs.GivenCosts.{AreGiven, AreNotGiven}
-use Rattle.tree_laws.specs.Certificates.{IsValidCertificate}
+use Rattle.cert_check.specs.Certificates.{IsValidCertificate}
 use Rattle.cert_check.specs.Faults.{CheckFaultIs}
 use Rattle.report.specs.Answers.{accepted_line}
 use Rattle.report.specs.CertificateLines.{certificate_line}

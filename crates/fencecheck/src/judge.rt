@@ -3,8 +3,8 @@
 ghost use Rattle.std.specs.Prelude.{◌≡◌, IfOk, IfErr, OnOk, option_map};
 ghost use Rattle.gap_sets.specs.Order.{total};
 ghost use Rattle.tso_program.specs.Shown.{asked};
-ghost use Rattle.tso_machine.specs.Outcomes.{Headline};
-ghost use Rattle.tree_laws.specs.Certificates.{IsValidCertificate};
+ghost use Rattle.report.specs.Outcomes.{Headline};
+ghost use Rattle.cert_check.specs.Certificates.{IsValidCertificate};
 ghost use Rattle.cert_check.specs.Faults.{CheckFaultIs};
 ghost use Rattle.report.specs.Answers.{accepted_line};
 ghost use Rattle.fencecheck.specs.Verdicts.{handed_in, IsAccepted, IsRefused, refusal_line};

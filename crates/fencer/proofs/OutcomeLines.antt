@@ -3,7 +3,7 @@ use Rattle.std.proofs.Common.{◌≡◌, ◌∙◌, ℕ, suc, zero, ◌+◌, ◌
 use Rattle.tso_program.specs.declared.outcome.Outcome.{Outcome}
 use Rattle.tso_program.specs.declared.shown.Shown.{Shown}
 use Rattle.tso_machine.specs.declared.label.Label.{Label}
-use Rattle.litmus_reader.specs.Names.{TextNames}
+use Rattle.litmus_text.specs.Names.{TextNames}
 use Rattle.report.specs.Answers.{outcome_line, printed_labels}
 use Rattle.fencer.specs.Outcomes.{outcome_lines, run_line_at}
 

@@ -3,10 +3,10 @@ use Rattle.std.specs.Prelude.{◌≡◌, ℕ, Bool, true, false, List, Option, S
 use Rattle.program_streams.specs.declared.fault.FileFault.{FileFault}
 use Rattle.program_streams.specs.FileLines.{file_line}
 use Rattle.tso_program.specs.declared.listing.Listing.{Listing}
-use Rattle.litmus_reader.specs.declared.litmus.Litmus.{Litmus}
-use Rattle.litmus_reader.specs.Texts.{IsLitmus}
-use Rattle.cost_text.specs.CostTexts.{IsCostText}
-use Rattle.cost_text.specs.GivenCosts.{AreGiven}
+use Rattle.litmus_text.specs.Litmus.{Litmus}
+use Rattle.litmus_text.specs.Texts.{IsLitmus}
+use Rattle.litmus_text.specs.CostTexts.{IsCostText}
+use Rattle.litmus_text.specs.GivenCosts.{AreGiven}
 use Rattle.gap_list.specs.CostFiles.{cost_file_text}
 use Rattle.gap_list.specs.Lists.{IsGapList}
 use Rattle.placed_text.specs.declared.fault.TextFault.{TextFault}

@@ -14,13 +14,13 @@ use Rattle.tso_machine.specs.declared.label.Model.{Model}
 use Rattle.tso_machine.specs.Machine.{Machine}
 use Rattle.tso_machine.specs.Modes.{machine_of_model}
 use Rattle.tso_machine.specs.Outcomes.{AllowsShown}
-use Rattle.litmus_reader.specs.declared.litmus.Litmus.{Litmus}
-use Rattle.litmus_reader.specs.Texts.{IsLitmus, IsNoLitmus}
+use Rattle.litmus_text.specs.Litmus.{Litmus}
+use Rattle.litmus_text.specs.Texts.{IsLitmus, IsNoLitmus}
 use Rattle.cover_solver.specs.declared.fault.SolveFault.TheVariants as solve
-use Rattle.sketch_covers.specs.OutcomeNumbers.{AreRunsOf}
-use Rattle.sketch_covers.specs.Ascending.{Ascend}
-use Rattle.litmus_reader.specs.Names.{TextNames}
-use Rattle.litmus_reader.specs.Shown.{shown_as, question_of}
+use Rattle.cover_solver.specs.OutcomeNumbers.{AreRunsOf}
+use Rattle.cover_solver.specs.Ascending.{Ascend}
+use Rattle.litmus_text.specs.Names.{TextNames}
+use Rattle.litmus_text.specs.Shown.{shown_as, question_of}
 use Rattle.report.specs.Answers.{printed_labels, outcome_line}
 use Rattle.documents.specs.Documents.{IsOutcomesDocument, IsOutcomesWithRunsDocument}
 use Rattle.report.specs.Observations.{is_true_of, observation_line, condition_line}

@@ -14,8 +14,8 @@ use Rattle.tso_machine.specs.Machine.{IsRun}
 use Rattle.tso_machine.specs.Modes.{machine_of_model, ArePassed}
 use Rattle.tso_machine.specs.Faults.{ReplayFaultIs}
 use Rattle.tso_machine.specs.RunTexts.{IsRunText, RunFaultIs}
-use Rattle.litmus_reader.specs.declared.litmus.Litmus.{Litmus}
-use Rattle.litmus_reader.specs.Texts.{IsLitmus, IsNoLitmus}
+use Rattle.litmus_text.specs.Litmus.{Litmus}
+use Rattle.litmus_text.specs.Texts.{IsLitmus, IsNoLitmus}
 use Rattle.report.specs.Answers.{outcome_line, passed_line}
 use Rattle.fencer.specs.declared.refusals.Refusal.{Refusal}
 use Rattle.fencer.specs.declared.refusals.Refusal.TheVariants as refusal

@@ -6,7 +6,7 @@ ghost use Rattle.tso_program.specs.Shown.{asked as question};
 ghost use Rattle.tso_machine.specs.Modes.{machine_of_model};
 ghost use Rattle.program_streams.specs.Streams.{Prints};
 ghost use Rattle.program_streams.specs.Files.{ReadsOfInput};
-ghost use Rattle.litmus_reader.specs.Shown.{shown_as};
+ghost use Rattle.litmus_text.specs.Shown.{shown_as};
 ghost use Rattle.cover_solver.specs.declared.fault.SolveFault.TheVariants as solve;
 ghost use Rattle.fencer.specs.Outcomes.{listed_kind, list_text as lines_of_list, list_status, run_line_at, ListsOutcomes, ListsRuns, PrintsOutcomes, HasNoList, AreOutcomes, TellsOutcomes};
 

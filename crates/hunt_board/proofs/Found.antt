@@ -14,9 +14,9 @@ use Rattle.gap_sets.specs.Regions.{all_sets, with_gap, without_gap, IsInRegion, 
 use Rattle.gap_sets.specs.declared.region.Region.{Region}
 use Rattle.tso_program.specs.Shown.{Question}
 use Rattle.tso_program.specs.Limits.{IsWithinLimits}
-use Rattle.tree_laws.proofs.Lists.{first_is_here, later_is_here}
-use Rattle.tree_laws.proofs.OpenGaps.{open_exact, open_ascending}
-use Rattle.tree_laws.proofs.Regions.{new_or_old, true_or_false, in_root}
+use Rattle.cover_solver.proofs.Lists.{first_is_here, later_is_here}
+use Rattle.cover_solver.proofs.OpenGaps.{open_exact, open_ascending}
+use Rattle.cover_solver.proofs.Regions.{new_or_old, true_or_false, in_root}
 use Rattle.cover_solver.specs.Facts.{Foreign}
 use Rattle.search_core.specs.declared.entry.Entry.{Entry}
 use Rattle.search_core.specs.declared.entry.Status.{Status}

@@ -4,7 +4,7 @@ use mathlib.Core.Option.{some}
 use lib.ListN.{get_elem?}
 use Rattle.atomic_table.specs.Table.{State, Step, Me}
 use Rattle.atomic_table.specs.Seated.{TableId}
-use Rattle.the_answer.specs.Answers.{least_cost}
+use Rattle.search_core.specs.Answers.{least_cost}
 use Rattle.search_core.specs.Ceilings.{Problem, Bound}
 use Rattle.hunt_board.specs.declared.rule.View.{View}
 

@@ -2,7 +2,7 @@
 ghost use Rattle.std.specs.Prelude.{◌≡◌, ◌↔◌, ◌<◌, ◌≤◌, ◌+◌, ℕ, Some, None, Err, All, IfOk, IfErr, IfSome, IfNone, OnOk, OnErr, IsSome, IsTrue};
 ghost use Rattle.gap_sets.specs.Order.{total};
 ghost use Rattle.tso_program.specs.Shown.{asked};
-ghost use Rattle.tso_machine.specs.Outcomes.{AreGapsOf, IsTheAnswer};
+ghost use Rattle.cover_solver.specs.Outcomes.{AreGapsOf, IsTheAnswer};
 ghost use Rattle.cover_solver.specs.Facts.{IsForeignValue};
 ghost use Rattle.search_core.specs.Ceilings.{IsCeilingOf};
 ghost use Rattle.search_core.specs.States.{IsStart, HoldsOnly};

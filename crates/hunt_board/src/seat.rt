@@ -44,7 +44,7 @@ impl Model for HuntSeat {
     ghost use Rattle.gap_sets.specs.contracts.gap_set.GapSet as gap_set;
     ghost use Rattle.std.specs.Coded.{codes};
     ghost use Rattle.tso_program.specs.Nodes.{tree_code};
-    ghost use Rattle.cert_forest.specs.CoverCodes.{coded_cover};
+    ghost use Rattle.cover_solver.specs.CoverCodes.{coded_cover};
 
     ghost coded = { Prim.hlevel (codes, gap_set.the_row.coded, coded_cover, tree_code) };
 

@@ -8,3 +8,8 @@ pub use Rattle.litmus_reader.specs.Shown
 pub use Rattle.litmus_reader.specs.Texts
 pub use Rattle.tso_program.specs.Fences
 pub use Rattle.tso_program.specs.Listings
+-- words of the crates below, passed on
+pub use Rattle.cost_text.specs.declared.fault.CostTextFault
+pub use Rattle.litmus_reader.specs.Names
+pub use Rattle.litmus_reader.specs.declared.fault.ReadFault
+pub use Rattle.litmus_reader.specs.declared.litmus.Litmus

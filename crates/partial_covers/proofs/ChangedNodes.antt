@@ -10,7 +10,7 @@ use Rattle.cert_forest.specs.declared.node.Node.TheVariants as node
 use Rattle.cert_forest.specs.Trees.{Cover, Value, Source, Order, Cycle, Known, Covers, NoCover, MoreCovers}
 use Rattle.cert_forest.specs.Texts.{count_covers}
 use Rattle.cert_forest.specs.Nodes.{spell, spell_row, known_nodes}
-use Rattle.tree_laws.specs.TighterModes.{in_sequence, each_in_sequence}
+use Rattle.cover_judge.specs.TighterModes.{in_sequence, each_in_sequence}
 use Rattle.partial_covers.specs.NodeChanges.{sequential_node, renumbered_node}
 use Rattle.partial_covers.proofs.OtherNumbers.{IsNear, AreNear, renumbered, renumbered_each}
 

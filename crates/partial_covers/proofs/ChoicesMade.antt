@@ -1,7 +1,7 @@
 -- Choices that are made one after another.
 use Rattle.std.proofs.Common.{◌≡◌, ℕ, zero, suc, ◌+◌, ◌<◌, ◌≤◌, List, [], ◌∷◌, ◌++◌, get_or, length, take, refl, ap, ◌∙◌, arith}
 use Rattle.std.proofs.lemmas.List.{take_more, take_all}
-use Rattle.known_edges.specs.ProgramSketches.{ProgramSketch, mode_in, with_chosen}
+use Rattle.sketches.specs.ProgramSketches.{ProgramSketch, mode_in, with_chosen}
 use Rattle.cover_judge.specs.declared.choice.Choice.{Choice}
 use Rattle.cover_judge.specs.Choices.{MayChoose, sketch_with}
 use Rattle.partial_covers.specs.PartialCovers.{after, unfenced, MayChooseAll}

@@ -8,8 +8,8 @@ use Rattle.tso_program.specs.declared.shown.Shown.{Shown}
 use Rattle.tso_machine.specs.declared.mode.Mode.{Mode}
 use Rattle.candidate_executions.specs.Sketches.{Sketch, given_to}
 use Rattle.candidate_executions.proofs.Sketches.GivenValues.{none_given}
-use Rattle.known_edges.specs.ProgramSketches.{ProgramSketch, nothing_chosen, with_chosen}
-use Rattle.known_edges.specs.Kept.{IsLawful}
+use Rattle.sketches.specs.ProgramSketches.{ProgramSketch, nothing_chosen, with_chosen}
+use Rattle.sketches.specs.Kept.{IsLawful}
 use Rattle.sketches.specs.ThreadValues.{with_values, HasValuesAlone}
 use Rattle.sketches.proofs.ThreadValues.{values_elsewhere}
 use Rattle.cert_forest.specs.Trees.{Cover}

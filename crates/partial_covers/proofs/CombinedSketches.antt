@@ -15,16 +15,16 @@ use Rattle.candidate_executions.specs.Traces.{Trace, trace, fenced_gaps}
 use Rattle.candidate_executions.specs.Sketches.{given_to, with_value, read_by, next_read, IsSourceOf, IsWhole}
 use Rattle.tso_machine.specs.Modes.{machine_of_mode}
 use Rattle.tso_machine.specs.declared.mode.Mode.{Mode}
-use Rattle.known_edges.specs.ProgramSketches.{ProgramSketch, mode_in, trace_in, access_in, with_chosen}
-use Rattle.known_edges.specs.Kept.{IsLawful}
-use Rattle.known_edges.specs.Sizes.{HaveAllRegisters}
+use Rattle.sketches.specs.ProgramSketches.{ProgramSketch, mode_in, trace_in, access_in, with_chosen}
+use Rattle.sketches.specs.Kept.{IsLawful}
+use Rattle.sketches.specs.Sizes.{HaveAllRegisters}
 use Rattle.sketches.specs.ThreadValues.{with_values, HasValuesAlone}
-use Rattle.known_edges.proofs.ChoicesCounted.{choices_few}
-use Rattle.known_edges.proofs.Lawful.{none_in}
+use Rattle.sketches.proofs.ChoicesCounted.{choices_few}
+use Rattle.sketches.proofs.Lawful.{none_in}
 use Rattle.sketches.proofs.ThreadValues.{values_here, values_elsewhere, merged_lawful, values_alone}
 use Rattle.cert_forest.specs.declared.tree.AccessId.{AccessId}
 use Rattle.cert_forest.specs.Trees.{Source, NoCover}
-use Rattle.tree_laws.specs.CoverTrees.{event_of}
+use Rattle.cover_judge.specs.CoverTrees.{event_of}
 use Rattle.cover_judge.specs.declared.choice.Choice.{Choice}
 use Rattle.cover_judge.specs.Choices.{IsValueOpen, AreValueChoices, AreSourceChoices}
 use Rattle.cover_judge.proofs.ChoicesJudged.{source_is_open}

@@ -7,10 +7,10 @@ use Rattle.tso_program.specs.declared.shown.Shown.{Shown}
 use Rattle.tso_machine.specs.declared.mode.Mode.{Mode}
 use Rattle.tso_machine.specs.declared.mode.Mode.TheVariants as modes
 use Rattle.tso_machine.specs.Modes.{machine_of_mode}
-use Rattle.known_edges.specs.ProgramSketches.{ProgramSketch, mode_in, nothing_chosen}
-use Rattle.known_edges.specs.Kept.{IsLawful}
-use Rattle.known_edges.specs.Sizes.{HaveAllRegisters}
-use Rattle.known_edges.proofs.ChoicesCounted.{choices_few}
+use Rattle.sketches.specs.ProgramSketches.{ProgramSketch, mode_in, nothing_chosen}
+use Rattle.sketches.specs.Kept.{IsLawful}
+use Rattle.sketches.specs.Sizes.{HaveAllRegisters}
+use Rattle.sketches.proofs.ChoicesCounted.{choices_few}
 use Rattle.cert_forest.specs.declared.node.Node.{Node}
 use Rattle.cert_forest.specs.declared.node.Node.TheVariants as node
 use Rattle.cert_forest.specs.Trees.{Cover, Value, covers_of}
@@ -18,8 +18,8 @@ use Rattle.cert_forest.specs.Nodes.{spell, spell_all}
 use Rattle.cert_forest.specs.Texts.{count_covers}
 use Rattle.cert_forest.proofs.TreeTexts.{covers_count}
 use Rattle.cert_forest.proofs.PushedTrees.{listed}
-use Rattle.tree_laws.specs.TighterModes.{in_mode}
-use Rattle.tree_laws.proofs.Lists.{first_is_here, later_is_here}
+use Rattle.cover_judge.specs.TighterModes.{in_mode}
+use Rattle.cover_judge.proofs.Lists.{first_is_here, later_is_here}
 use Rattle.cover_judge.specs.declared.choice.Choice.{Choice}
 use Rattle.cover_judge.specs.declared.choice.Choice.TheVariants as choice
 use Rattle.cover_judge.specs.Choices.{AreValueChoices, MayChoose}

@@ -13,14 +13,14 @@ use Rattle.tso_machine.specs.declared.mode.Mode as own
 use Rattle.tso_machine.specs.declared.mode.Mode.TheVariants as modes
 use Rattle.tso_machine.specs.Modes.{machine_of_mode}
 use Rattle.candidate_executions.specs.Sketches.{IsWhole}
-use Rattle.known_edges.specs.ProgramSketches.{ProgramSketch, mode_in}
+use Rattle.sketches.specs.ProgramSketches.{ProgramSketch, mode_in}
 use Rattle.cert_forest.specs.Trees.{Cover}
-use Rattle.tree_laws.specs.TighterModes.{IsNoLooser, in_mode}
-use Rattle.tree_laws.proofs.TighterModes.{tighter_keeps_cover, tighter_keeps_values, tighter_keeps_whole}
+use Rattle.cover_judge.specs.TighterModes.{IsNoLooser, in_mode}
+use Rattle.cover_judge.proofs.TighterModes.{tighter_keeps_cover, tighter_keeps_values, tighter_keeps_whole}
 use Rattle.cover_judge.specs.declared.choice.Choice.{Choice}
 use Rattle.cover_judge.specs.declared.choice.Choice.TheVariants as choice
 use Rattle.cover_judge.specs.Choices.{AreValueChoices}
-use Rattle.tree_laws.proofs.OneList.{one_list_of_values}
+use Rattle.cover_judge.proofs.OneList.{one_list_of_values}
 use Rattle.std.proofs.Common.{map}
 use Rattle.sketch_covers.specs.Covers.{IsCoverAt}
 use Rattle.partial_covers.specs.PartialCovers.{unfenced}

@@ -6,13 +6,13 @@ use Rattle.tso_program.specs.declared.outcome.Outcome.{Outcome}
 use Rattle.tso_program.specs.declared.shown.Shown.{Shown}
 use Rattle.tso_machine.specs.declared.mode.Mode.{Mode}
 use Rattle.candidate_executions.specs.Sketches.{IsWhole}
-use Rattle.known_edges.specs.ProgramSketches.{ProgramSketch, mode_in, nothing_chosen}
+use Rattle.sketches.specs.ProgramSketches.{ProgramSketch, mode_in, nothing_chosen}
 use Rattle.cert_forest.specs.declared.node.Node.{Node}
 use Rattle.cert_forest.specs.Nodes.{spell}
 use Rattle.cover_judge.specs.declared.choice.Choice.{Choice}
 use Rattle.cover_judge.specs.declared.choice.Choice.TheVariants as choice
 use Rattle.cover_judge.specs.Choices.{AreValueChoices, MayChoose}
-use Rattle.tree_laws.proofs.Lists.{first_is_here, later_is_here}
+use Rattle.cover_judge.proofs.Lists.{first_is_here, later_is_here}
 use Rattle.std.proofs.Common.{Contains}
 use Rattle.partial_covers.specs.declared.partial_cover.PartialCover.{PartialCover}
 use Rattle.partial_covers.specs.declared.partial_cover.Piece.{Piece}

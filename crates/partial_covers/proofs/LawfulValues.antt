@@ -10,10 +10,10 @@ use Rattle.candidate_executions.specs.Sketches.{given_to, with_value, next_read}
 use Rattle.candidate_executions.proofs.FromRuns.StepsSuffice.{advance}
 use Rattle.candidate_executions.proofs.Sketches.Choices.{a_value_keeps_a_sketch}
 use Rattle.candidate_executions.proofs.Sketches.GivenValues.{given_same, given_other, reads_there}
-use Rattle.known_edges.specs.Kept.{IsLawful}
-use Rattle.known_edges.specs.ProgramSketches.{ProgramSketch, mode_in, trace_in, with_chosen}
-use Rattle.known_edges.proofs.GivenUsed.{Good, good_more}
-use Rattle.known_edges.proofs.Lawful.{good_of, values_from}
+use Rattle.sketches.specs.Kept.{IsLawful}
+use Rattle.sketches.specs.ProgramSketches.{ProgramSketch, mode_in, trace_in, with_chosen}
+use Rattle.sketches.proofs.GivenUsed.{Good, good_more}
+use Rattle.sketches.proofs.Lawful.{good_of, values_from}
 
 module _ (s : ProgramSketch) (t v l : ℕ) (lawful : IsLawful s) (next : next_read s.program (mode_in s) s.chosen t ≡ Some l) (fits : IsValueOf s.program l v) where
   abbrev more : ProgramSketch

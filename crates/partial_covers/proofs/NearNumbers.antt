@@ -7,7 +7,7 @@ use Rattle.tso_machine.specs.Machine.{Machine}
 use Rattle.candidate_executions.specs.Sketches.{Sketch, with_value, with_source, with_pair}
 use Rattle.cert_forest.specs.Trees.{Cover, Value, Source, Order, Cycle, Known, Covers, NoCover, MoreCovers}
 use Rattle.cert_forest.specs.declared.node.TheConstants.{NEAR_RUNS}
-use Rattle.tree_laws.specs.CoverTrees.{event_of, IsValidCover, AreValidCovers}
+use Rattle.cover_judge.specs.CoverTrees.{event_of, IsValidCover, AreValidCovers}
 use Rattle.partial_covers.proofs.OtherNumbers.{IsNear, AreNear}
 
 module _ (q : Question) (mode : Machine) (outcomes : List Outcome) (few : length outcomes ≤ NEAR_RUNS) where

@@ -5,8 +5,8 @@ use Rattle.tso_program.specs.declared.listing.Listing.{Listing}
 use Rattle.candidate_executions.specs.declared.event.Event.TheVariants.{Access as At}
 use Rattle.candidate_executions.specs.Candidates.{Writes}
 use Rattle.candidate_executions.specs.Sketches.{given_to}
-use Rattle.known_edges.specs.ProgramSketches.{ProgramSketch, access_in}
-use Rattle.known_edges.specs.Kept.{IsLawful}
+use Rattle.sketches.specs.ProgramSketches.{ProgramSketch, access_in}
+use Rattle.sketches.specs.Kept.{IsLawful}
 use Rattle.sketches.specs.ThreadValues.{with_values}
 use Rattle.sketches.proofs.ThreadValues.{values_elsewhere}
 use Rattle.cover_judge.specs.Choices.{IsValueOpen}

@@ -5,9 +5,9 @@ use Rattle.std.proofs.lemmas.List.{map-append, append-nil}
 use Rattle.tso_program.specs.declared.outcome.Outcome.{Outcome}
 use Rattle.tso_program.specs.declared.shown.Shown.{Shown}
 use Rattle.candidate_executions.specs.Sketches.{IsWhole}
-use Rattle.known_edges.specs.ProgramSketches.{ProgramSketch, mode_in}
-use Rattle.known_edges.specs.Kept.{IsLawful}
-use Rattle.known_edges.specs.Sizes.{choice_count, most_choices}
+use Rattle.sketches.specs.ProgramSketches.{ProgramSketch, mode_in}
+use Rattle.sketches.specs.Kept.{IsLawful}
+use Rattle.sketches.specs.Sizes.{choice_count, most_choices}
 use Rattle.cert_forest.specs.declared.node.Node.{Node}
 use Rattle.cert_forest.specs.Nodes.{spell}
 use Rattle.cover_judge.specs.declared.choice.Choice.{Choice}

@@ -11,8 +11,8 @@ use Rattle.tso_program.specs.Shown.{asked}
 use Rattle.tso_machine.specs.declared.mode.Mode.TheVariants as modes
 use Rattle.tso_machine.specs.Machine.{SequentialMachine}
 use Rattle.candidate_executions.specs.Sketches.{empty_sketch}
-use Rattle.known_edges.specs.ProgramSketches.{ProgramSketch, mode_in, nothing_chosen}
-use Rattle.known_edges.proofs.Lookups.{same_default}
+use Rattle.sketches.specs.ProgramSketches.{ProgramSketch, mode_in, nothing_chosen}
+use Rattle.sketches.proofs.Lookups.{same_default}
 use Rattle.cert_forest.specs.declared.node.Node.{Node}
 use Rattle.cert_forest.specs.declared.node.Node.TheVariants as node
 use Rattle.cert_forest.specs.declared.node.TheConstants.{NEAR_RUNS}

@@ -7,11 +7,11 @@ use Rattle.tso_program.specs.declared.shown.Shown.{Shown}
 use Rattle.tso_program.specs.Shown.{Question, asked}
 use Rattle.tso_machine.specs.Machine.{Machine}
 use Rattle.candidate_executions.specs.Sketches.{Sketch, empty_sketch, with_value, with_source, with_pair}
-use Rattle.known_edges.specs.ProgramSketches.{ProgramSketch, mode_in}
+use Rattle.sketches.specs.ProgramSketches.{ProgramSketch, mode_in}
 use Rattle.cert_forest.specs.Trees.{Cover, Value, Source, Order, Cycle, Known, Covers, NoCover, MoreCovers}
 use Rattle.cert_forest.specs.Texts.{count_covers}
 use Rattle.cert_forest.specs.Limits.{cover_depth, covers_depth}
-use Rattle.tree_laws.specs.CoverTrees.{event_of, IsValidCover, AreValidCovers}
+use Rattle.cover_judge.specs.CoverTrees.{event_of, IsValidCover, AreValidCovers}
 use Rattle.sketch_covers.specs.Covers.{IsNeat, AreNeat, IsCoverAt, IsWholeCover}
 use Rattle.sketch_covers.specs.OutcomeNumbers.{HasNumber}
 use Rattle.partial_covers.proofs.OtherNumbers.{renumbered, renumbered_each}

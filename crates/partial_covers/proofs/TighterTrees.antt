@@ -8,8 +8,8 @@ use Rattle.candidate_executions.specs.Sketches.{empty_sketch}
 use Rattle.cert_forest.specs.Trees.{Cover, Value, Source, Order, Cycle, Known, Covers, NoCover, MoreCovers}
 use Rattle.cert_forest.specs.Texts.{count_covers}
 use Rattle.cert_forest.specs.Limits.{cover_depth, covers_depth}
-use Rattle.tree_laws.specs.TighterModes.{IsNoLooser, in_sequence, each_in_sequence, in_mode}
-use Rattle.tree_laws.proofs.TighterModes.{tighter_keeps_cover}
+use Rattle.cover_judge.specs.TighterModes.{IsNoLooser, in_sequence, each_in_sequence, in_mode}
+use Rattle.cover_judge.proofs.TighterModes.{tighter_keeps_cover}
 use Rattle.sketch_covers.specs.Covers.{IsNeat, AreNeat, IsWholeCover}
 
 -- how many trees there are, and how deep they are

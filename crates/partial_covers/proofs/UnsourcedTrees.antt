@@ -4,10 +4,10 @@ use Rattle.std.specs.Prelude.{◌^◌}
 use Rattle.tso_program.specs.declared.outcome.Outcome.{Outcome}
 use Rattle.tso_program.specs.declared.shown.Shown.{Shown}
 use Rattle.tso_program.specs.declared.shown.Shown.TheVariants.{All}
-use Rattle.known_edges.specs.ProgramSketches.{ProgramSketch}
-use Rattle.known_edges.specs.Kept.{IsLawful}
-use Rattle.known_edges.specs.Sizes.{HaveAllRegisters}
-use Rattle.known_edges.proofs.ChoicesCounted.{choices_few}
+use Rattle.sketches.specs.ProgramSketches.{ProgramSketch}
+use Rattle.sketches.specs.Kept.{IsLawful}
+use Rattle.sketches.specs.Sizes.{HaveAllRegisters}
+use Rattle.sketches.proofs.ChoicesCounted.{choices_few}
 use Rattle.cert_forest.specs.declared.node.Node.{Node}
 use Rattle.cert_forest.specs.declared.node.Node.TheVariants as node
 use Rattle.cover_judge.specs.declared.choice.Choice.{Choice}

@@ -1,7 +1,7 @@
 -- What a step of a search for outcomes does to what the search has so far.
 use Rattle.std.specs.Prelude.{◌≡◌, Bool, List}
 use Rattle.tso_program.specs.Shown.{asked}
-use Rattle.known_edges.specs.ProgramSketches.{ProgramSketch}
+use Rattle.sketches.specs.ProgramSketches.{ProgramSketch}
 use Rattle.cover_judge.specs.declared.choice.Choice.{Choice}
 use Rattle.sketch_covers.specs.KnownOutcomes.{by_number, Grows}
 use Rattle.partial_covers.specs.declared.covering.Covering.{Covering}

@@ -6,7 +6,7 @@ use Rattle.tso_program.specs.declared.outcome.Outcome.{Outcome}
 use Rattle.tso_program.specs.declared.shown.Shown.{Shown}
 use Rattle.tso_machine.specs.declared.mode.Mode.TheVariants as modes
 use Rattle.candidate_executions.specs.Sketches.{IsWhole}
-use Rattle.known_edges.specs.ProgramSketches.{ProgramSketch, mode_in, nothing_chosen, with_chosen}
+use Rattle.sketches.specs.ProgramSketches.{ProgramSketch, mode_in, nothing_chosen, with_chosen}
 use Rattle.cert_forest.specs.declared.node.Node.{Node}
 use Rattle.cert_forest.specs.declared.node.Node.TheVariants as node
 use Rattle.cert_forest.specs.Trees.{Cover}

@@ -9,7 +9,7 @@ use Rattle.std.specs.FinSet as set
 use Rattle.tso_program.specs.declared.listing.Listing.{Listing}
 use Rattle.tso_machine.specs.declared.mode.Mode.TheVariants as modes
 use Rattle.candidate_executions.specs.Sketches.{IsWhole}
-use Rattle.known_edges.specs.ProgramSketches.{ProgramSketch, mode_in, nothing_chosen}
+use Rattle.sketches.specs.ProgramSketches.{ProgramSketch, mode_in, nothing_chosen}
 use Rattle.cover_judge.specs.declared.choice.Choice.{Choice}
 use Rattle.sketch_covers.specs.declared.outcome_index.OutcomeIndex.{OutcomeIndex}
 use Rattle.sketch_covers.specs.declared.known_outcomes.KnownOutcomes.{KnownOutcomes}

@@ -3,7 +3,7 @@
 ghost use Rattle.std.specs.Prelude.{◌≡◌, [], IfOk, OnOk, MatchOption};
 ghost use Rattle.tso_program.specs.Shown.{Question};
 ghost use Rattle.candidate_executions.specs.Sketches.{IsWhole};
-ghost use Rattle.known_edges.specs.ProgramSketches.{nothing_chosen, mode_in};
+ghost use Rattle.sketches.specs.ProgramSketches.{nothing_chosen, mode_in};
 ghost use Rattle.cover_judge.specs.Choices.{MayChooseEach};
 ghost use Rattle.branching.specs.Combinations.{AreAlike, IsBase, with_root, with_trace};
 ghost use Rattle.branching.specs.Plans.{IsLast, IsBeforeLast, IsOtherOpen, AreOfOthers, AreOthersFull};

@@ -1,6 +1,6 @@
 //! How a search is cut into parts. It does not depend on who works on them.
 ghost use Rattle.std.specs.Prelude.{IfOk, OnOk, All};
-ghost use Rattle.known_edges.specs.ProgramSketches.{ProgramSketch};
+ghost use Rattle.sketches.specs.ProgramSketches.{ProgramSketch};
 ghost use Rattle.partial_covers.specs.Parts.{IsPartOf};
 ghost use Rattle.branching.specs.declared.plan.LastThread.{LastThread};
 ghost use Rattle.branching.specs.Plans.{IsBeforeLast};

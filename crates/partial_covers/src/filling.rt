@@ -2,7 +2,7 @@
 ghost use Rattle.std.specs.Prelude.{◌≡◌, [], ◌++◌, IfOk, IfErr, OnOk, map};
 ghost use Rattle.tso_program.specs.Shown.{asked};
 ghost use Rattle.tso_machine.specs.Modes.{machine_of_mode};
-ghost use Rattle.known_edges.specs.ProgramSketches.{nothing_chosen};
+ghost use Rattle.sketches.specs.ProgramSketches.{nothing_chosen};
 ghost use Rattle.partial_covers.specs.NodeChanges.{sequential_node, copied_in};
 ghost use Rattle.sketch_covers.specs.Covers.{IsCoverAt};
 ghost use Rattle.partial_covers.specs.PartialCovers.{IsPartialCover, after, MayChooseAll};

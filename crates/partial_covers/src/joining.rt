@@ -3,7 +3,7 @@ ghost use Rattle.std.specs.Prelude.{◌≡◌, List, [], IsTrue, IfSome, OnOk};
 ghost use Rattle.tso_program.specs.declared.shown.Shown.{Shown as ShownValue};
 ghost use Rattle.tso_program.specs.Shown.{Question};
 ghost use Rattle.tso_machine.specs.Machine.{Machine};
-ghost use Rattle.known_edges.specs.ProgramSketches.{ProgramSketch};
+ghost use Rattle.sketches.specs.ProgramSketches.{ProgramSketch};
 ghost use Rattle.cover_judge.specs.declared.choice.Choice.{Choice as ChoiceValue};
 ghost use Rattle.sketch_covers.specs.declared.known_outcomes.KnownOutcomes.{KnownOutcomes as KnownValue};
 ghost use Rattle.sketch_covers.specs.OutcomeNumbers.{IsInOrder, KeepsNumbers, AreRunsOf};

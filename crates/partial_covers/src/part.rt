@@ -1,6 +1,6 @@
 //! Parts of a search. Each has a list of outcomes and a partial cover of its own, so the parts need nothing of one another.
 ghost use Rattle.std.specs.Prelude.{◌≡◌, ◌∷◌, ◌++◌, [], None, IfOk, IfSome};
-ghost use Rattle.known_edges.specs.ProgramSketches.{with_chosen};
+ghost use Rattle.sketches.specs.ProgramSketches.{with_chosen};
 ghost use Rattle.cover_judge.specs.Choices as choices;
 ghost use Rattle.partial_covers.specs.Parts.{IsMadeIn, IsSearched};
 ghost use Rattle.branching.specs.Plans.{IsBeforeLast};

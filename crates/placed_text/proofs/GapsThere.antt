@@ -8,7 +8,7 @@ use Rattle.gap_sets.specs.Gaps.{SetOfGaps, numbers_of_set}
 use Rattle.tso_program.specs.declared.listing.Listing.{Listing}
 use Rattle.tso_program.specs.Listings.{gap_count}
 use Rattle.tso_program.specs.Fences.{first_missing}
-use Rattle.tso_machine.specs.Outcomes.{AreGapsOf}
+use Rattle.cover_solver.specs.Outcomes.{AreGapsOf}
 use Rattle.gap_sets.specs.declared.gap_set.TheConstants.{MAX_GAPS}
 
 not_above : (n gap : ℕ) → gap < n → nat_le n gap ≡ false

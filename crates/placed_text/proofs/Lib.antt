@@ -1,2 +1,4 @@
 pub mod GapsThere
 pub mod Judged
+-- words of the crates below, passed on
+pub use Rattle.cover_judge.proofs.Answered

@@ -6,20 +6,20 @@ use Rattle.tso_program.specs.declared.listing.Listing.{Listing}
 use Rattle.tso_program.specs.declared.shown.Shown.{Shown}
 use Rattle.tso_program.specs.declared.shown.ShownKind.{ShownKind}
 use Rattle.tso_program.specs.Shown.{Question}
-use Rattle.tso_machine.specs.Outcomes.{Headline, IsTheAnswer}
-use Rattle.litmus_reader.specs.declared.litmus.Litmus.{Litmus}
-use Rattle.litmus_reader.specs.Texts.{IsLitmus, IsFencedLitmus}
-use Rattle.canonical_text.specs.Canonical.{canonical_text, litmus_fenced_at}
-use Rattle.cost_text.specs.GivenCosts.{AreGiven}
+use Rattle.cover_solver.specs.Outcomes.{Headline, IsTheAnswer}
+use Rattle.litmus_text.specs.Litmus.{Litmus}
+use Rattle.litmus_text.specs.Texts.{IsLitmus, IsFencedLitmus}
+use Rattle.litmus_text.specs.Canonical.{canonical_text, litmus_fenced_at}
+use Rattle.litmus_text.specs.GivenCosts.{AreGiven}
 use Rattle.documents.specs.Documents.{IsPlacedDocument}
 use Rattle.cert_forest.specs.Certificates.{Certificate}
 use Rattle.cert_forest.specs.Limits.{IsCertificate}
 use Rattle.cert_forest.specs.Texts.{certificate_text}
-use Rattle.tree_laws.specs.Certificates.{IsValidCertificate}
+use Rattle.cover_solver.specs.Certificates.{IsValidCertificate}
 use Rattle.report.specs.Answers.{answer_line}
 use Rattle.fence_place.specs.declared.placing.Placed.{Placed}
 use Rattle.placed_text.specs.declared.writing.PlacedText.{PlacedText}
-use Rattle.litmus_reader.specs.Shown.{shown_as, question_of}
+use Rattle.litmus_text.specs.Shown.{shown_as, question_of}
 
 -- the text is that of a certificate which claims these gaps, and which the checker accepts, since it is valid
 pub record IsCertificateOf (q : Question) (costs : List ℕ) (gaps : SetOfGaps) (text : List ℕ) : Type 0 where

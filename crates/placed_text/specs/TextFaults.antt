@@ -1,14 +1,14 @@
 -- Why nothing is placed in the program of a text. Out of memory comes anywhere, and only as the fault of that name.
 use Rattle.std.specs.Prelude.{◌≡◌, ◌≢◌, ℕ, List, Option, Some, ⊤}
 use Rattle.tso_program.specs.declared.listing.Listing.{Listing}
-use Rattle.litmus_reader.specs.declared.litmus.Litmus.{Litmus}
-use Rattle.litmus_reader.specs.declared.fault.ReadFault.{ReadFault}
-use Rattle.litmus_reader.specs.declared.fault.ReadFault.TheVariants as read_fault
-use Rattle.litmus_reader.specs.Texts.{IsLitmus, IsNoLitmus}
-use Rattle.cost_text.specs.declared.fault.CostTextFault.{CostTextFault}
-use Rattle.cost_text.specs.declared.fault.CostTextFault.TheVariants as cost_fault
-use Rattle.cost_text.specs.CostTexts as cost_texts
-use Rattle.cost_text.specs.GivenCosts.{AreGiven}
+use Rattle.litmus_text.specs.Litmus.{Litmus}
+use Rattle.litmus_text.specs.ReadFault.{ReadFault}
+use Rattle.litmus_text.specs.ReadFault.TheVariants as read_fault
+use Rattle.litmus_text.specs.Texts.{IsLitmus, IsNoLitmus}
+use Rattle.litmus_text.specs.CostTextFault.{CostTextFault}
+use Rattle.litmus_text.specs.CostTextFault.TheVariants as cost_fault
+use Rattle.litmus_text.specs.CostTexts as cost_texts
+use Rattle.litmus_text.specs.GivenCosts.{AreGiven}
 use Rattle.fence_place.specs.Faults.{AreTooFewOrMany}
 use Rattle.placed_text.specs.declared.fault.TextFault.{TextFault}
 use Rattle.placed_text.specs.declared.fault.TextFault.TheVariants as fault

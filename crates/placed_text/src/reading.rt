@@ -1,8 +1,8 @@
 //! What the texts stand for.
 ghost use Rattle.std.specs.Prelude.{◌≡◌, IfErr, IfOk, option_map};
-ghost use Rattle.litmus_reader.specs.Shown.{shown_as};
-ghost use Rattle.litmus_reader.specs.Texts.{IsLitmus};
-ghost use Rattle.cost_text.specs.GivenCosts.{AreGiven};
+ghost use Rattle.litmus_text.specs.Shown.{shown_as};
+ghost use Rattle.litmus_text.specs.Texts.{IsLitmus};
+ghost use Rattle.litmus_text.specs.GivenCosts.{AreGiven};
 ghost use Rattle.placed_text.specs.TextFaults.{HasNoProgram, HasNoCosts};
 
 use crate::TextFault;

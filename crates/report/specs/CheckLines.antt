@@ -1,6 +1,6 @@
 -- The printed lines of the checker's faults, byte for byte.
 use Rattle.std.specs.Prelude.{ℕ, List, ◌∷◌, ◌++◌, codes}
-use Rattle.cover_judge.specs.Paths.{path_text}
+use Rattle.cert_check.specs.Paths.{path_text}
 use Rattle.cert_check.specs.declared.fault.CheckFault.{CheckFault}
 use Rattle.cert_check.specs.declared.fault.CheckFault.TheVariants as check
 use Rattle.report.specs.Faults.{refused, refused_at}

@@ -37,11 +37,11 @@ use Rattle.candidate_executions.proofs.Orders.Lists.{some_value}
 use Rattle.candidate_executions.proofs.Sketches.MoreValues.{end_or_read}
 use Rattle.candidate_executions.proofs.FromRuns.StepsSuffice.{advance}
 use Rattle.candidate_executions.proofs.Orders.WiderRelations.{acyclic_narrower}
-use Rattle.known_edges.specs.ProgramSketches.{ProgramSketch, mode_in, trace_in, access_in}
-use Rattle.known_edges.specs.Kept.{IsLawful}
-use Rattle.known_edges.specs.Known.{HasNoCycle}
+use Rattle.sketches.specs.ProgramSketches.{ProgramSketch, mode_in, trace_in, access_in}
+use Rattle.sketches.specs.Kept.{IsLawful}
+use Rattle.sketches.specs.Known.{HasNoCycle}
 use Rattle.sketches.specs.Completions.{MustEndSo}
-use Rattle.known_edges.proofs.Chosen.{once}
+use Rattle.sketches.proofs.Chosen.{once}
 use Rattle.sketches.proofs.Ends.{ends_only}
 use Rattle.sketches.proofs.LastWrites.{of_followed, pair_edge}
 use Rattle.sketches.specs.Complete.{IsComplete}

@@ -7,7 +7,7 @@ use Rattle.gap_sets.specs.Gaps.{SetOfGaps}
 use Rattle.gap_sets.specs.Order.{total, Better}
 use Rattle.gap_sets.proofs.Orders.{decided}
 use Rattle.tso_program.specs.Listings.{gap_count}
-use Rattle.tso_machine.specs.Outcomes.{Serves, LeavesOutcome, AreGapsOf, IsTheAnswer}
+use Rattle.cover_solver.specs.Outcomes.{Serves, LeavesOutcome, AreGapsOf, IsTheAnswer}
 use Rattle.cover_solver.specs.Facts.{Serving}
 use Rattle.search_core.specs.States.{SearchState, IsDone}
 use Rattle.search_core.specs.Histories.{IsReached}
@@ -15,8 +15,8 @@ use Rattle.search_core.specs.Laws.{IsLive, IsBestSet, IsUndercut, TheAnswerIsNev
 use Rattle.std.specs.List.{range_with_len}
 use Rattle.std.proofs.Common.{zero-add, ◌+◌}
 use Rattle.std.proofs.lemmas.List.FromFn.{length-range_with_len, get_or-range_with_len}
-use Rattle.fence_laws.proofs.AllGapsFenced.{all_serve}
-use Rattle.tree_laws.proofs.Filtered.{has_any, any_has}
+use Rattle.cover_solver.proofs.AllGapsFenced.{all_serve}
+use Rattle.cover_solver.proofs.Filtered.{has_any, any_has}
 use Rattle.search_core.proofs.Sets.{unserved, gap_set}
 use Rattle.search_core.proofs.Kept.{Facts, facts_of}
 

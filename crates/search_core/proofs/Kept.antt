@@ -13,10 +13,10 @@ use Rattle.tso_program.specs.declared.listing.Listing.{Listing}
 use Rattle.tso_program.specs.Shown.{Question}
 use Rattle.tso_program.specs.Listings.{gap_count}
 use Rattle.tso_program.specs.Limits.{IsWithinLimits}
-use Rattle.tso_machine.specs.Outcomes.{Serves, AreGapsOf}
-use Rattle.tree_laws.specs.GapTrees.{HaveCosts}
-use Rattle.tree_laws.proofs.Regions.{new_or_old, in_root}
-use Rattle.tree_laws.proofs.Lists.{first_is_here, later_is_here}
+use Rattle.cover_solver.specs.Outcomes.{Serves, AreGapsOf}
+use Rattle.cover_solver.specs.GapTrees.{HaveCosts}
+use Rattle.cover_solver.proofs.Regions.{new_or_old, in_root}
+use Rattle.cover_solver.proofs.Lists.{first_is_here, later_is_here}
 use Rattle.cover_solver.specs.Facts.{Foreign, Serving, IsForeignValue, IsServing}
 use Rattle.cover_solver.specs.Verdicts.{PassesNoneOf}
 use Rattle.search_core.specs.declared.entry.Entry.{Entry}
@@ -29,7 +29,7 @@ use Rattle.search_core.specs.States.{SearchState, IsStart}
 use Rattle.search_core.specs.Events.{open_entries, IsBeatenBy, IsBestAfter, TakesNode, GivesBack, Splits, Cuts, Confirms, IsEvent, takes, gives_back, splits, cuts, confirms}
 use Rattle.search_core.specs.Histories.{IsReached, starts, goes_on}
 use Rattle.search_core.proofs.Places.{Each, each_behind, each_set, each_mapped}
-use Rattle.tree_laws.proofs.OpenGaps.{open_exact}
+use Rattle.cover_solver.proofs.OpenGaps.{open_exact}
 use Rattle.search_core.proofs.Sets.{gap_set, passed_gaps, not_better}
 use Rattle.search_core.proofs.Changes.{HasNode, IsSplitAt, SplitsHold, changed, node_stays, splits_stay, opened_live, none_live, kids_behind}
 use Rattle.search_core.proofs.NoneLost.{NoneLost, lost_by_none, lost_by_no_cut, lost_by_no_confirming, lost_by_no_split}

@@ -13,3 +13,5 @@ pub mod Moves
 pub mod Working
 pub mod WorkLaws
 pub mod Refusals
+-- words of the crates below, passed on
+pub use Rattle.candidate_executions.proofs.FromRuns.RunsAreShort

@@ -5,7 +5,7 @@ use Rattle.std.proofs.lemmas.Option.{slice_get_within}
 use Rattle.gap_sets.specs.Order.{total}
 use Rattle.gap_sets.specs.declared.region.Region.{Region}
 use Rattle.tso_program.specs.Shown.{Question}
-use Rattle.tso_machine.specs.Outcomes.{AreGapsOf}
+use Rattle.cover_solver.specs.Outcomes.{AreGapsOf}
 use Rattle.cover_solver.specs.Facts.{Foreign, Serving, IsForeignValue, IsServing}
 use Rattle.cover_solver.specs.Verdicts.{PassesNoneOf}
 use Rattle.search_core.specs.declared.entry.Entry.{Entry}

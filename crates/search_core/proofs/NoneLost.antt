@@ -11,11 +11,11 @@ use Rattle.gap_sets.specs.declared.region.Region.{Region}
 use Rattle.gap_sets.proofs.Orders.{not_itself, chained}
 use Rattle.tso_program.specs.Shown.{Question}
 use Rattle.tso_program.specs.Limits.{IsWithinLimits}
-use Rattle.tso_machine.specs.Outcomes.{LeavesOutcome, AreGapsOf}
-use Rattle.tree_laws.specs.GapTrees.{HaveCosts, PassesGap}
-use Rattle.tree_laws.proofs.BetterSets.{still_better}
-use Rattle.tree_laws.proofs.Regions.{split_loses_no_set, true_or_false}
-use Rattle.tree_laws.proofs.AvoidedGaps.{Avoids, leaves_outcome}
+use Rattle.cover_solver.specs.Outcomes.{LeavesOutcome, AreGapsOf}
+use Rattle.cover_solver.specs.GapTrees.{HaveCosts, PassesGap}
+use Rattle.cover_solver.proofs.BetterSets.{still_better}
+use Rattle.cover_solver.proofs.Regions.{split_loses_no_set, true_or_false}
+use Rattle.cover_solver.proofs.AvoidedGaps.{Avoids, leaves_outcome}
 use Rattle.cover_solver.specs.Facts.{Foreign, Serving, IsForeignValue}
 use Rattle.search_core.specs.declared.entry.Entry.{Entry}
 use Rattle.search_core.specs.declared.entry.Status.TheVariants.{Open}
@@ -25,7 +25,7 @@ use Rattle.search_core.specs.Ceilings.{IsCeiling}
 use Rattle.search_core.specs.Events.{open_entries, IsBeatenBy, IsBestAfter}
 use Rattle.search_core.specs.Laws.{IsLive, IsUndercut}
 use Rattle.search_core.proofs.Places.{get_behind, get_mapped}
-use Rattle.tree_laws.proofs.OpenGaps.{open_exact}
+use Rattle.cover_solver.proofs.OpenGaps.{open_exact}
 use Rattle.search_core.proofs.Sets.{no_dearer, gap_set, passed_gaps}
 use Rattle.search_core.proofs.Changes.{changed, moved, still_live}
 

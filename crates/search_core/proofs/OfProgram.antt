@@ -15,8 +15,8 @@ use Rattle.tso_program.specs.Listings.{gap_count, gap_number}
 use Rattle.tso_program.specs.Shown.{Question}
 use Rattle.tso_program.specs.Fences as fences
 use Rattle.tso_program.proofs.Gaps.{gap_below}
-use Rattle.tso_machine.specs.Outcomes.{Serves, AreGapsOf, IsStoreBufferOutcome, IsSequentialOutcome}
-use Rattle.tree_laws.proofs.Filtered.{has_any, any_has, of_filter, to_filter}
+use Rattle.cover_solver.specs.Outcomes.{Serves, AreGapsOf, IsStoreBufferOutcome, IsSequentialOutcome}
+use Rattle.cover_solver.proofs.Filtered.{has_any, any_has, of_filter, to_filter}
 
 -- one term more, where a test passes
 one_more : (f : ℕ → ℕ) (v w : Bool) (x : ℕ) (xs ys : List ℕ) → (v ≡ true → w ≡ true) → sum_by f xs ≤ sum_by f ys → sum_by f (cond v (x ∷ xs) xs) ≤ sum_by f (cond w (x ∷ ys) ys)

@@ -12,8 +12,8 @@ use Rattle.tso_program.specs.Shown.{Question}
 use Rattle.tso_program.specs.Listings.{gap_count}
 use Rattle.tso_program.specs.Limits.{IsWithinLimits}
 use Rattle.tso_program.proofs.Gaps.{gap_below}
-use Rattle.tso_machine.specs.Outcomes.{Serves, LeavesOutcome, AreGapsOf}
-use Rattle.tree_laws.specs.GapTrees.{HaveCosts}
+use Rattle.cover_solver.specs.Outcomes.{Serves, LeavesOutcome, AreGapsOf}
+use Rattle.cover_solver.specs.GapTrees.{HaveCosts}
 use Rattle.cover_solver.specs.Facts.{Foreign, IsForeignValue}
 
 -- a set that serves leaves no outcome

@@ -18,8 +18,8 @@ use Rattle.gap_sets.specs.Regions.{with_gap, without_gap, child_regions, open_ga
 use Rattle.gap_sets.specs.declared.region.Region.{Region}
 use Rattle.gap_sets.specs.declared.gap_set.TheConstants.{MAX_GAPS}
 use Rattle.gap_sets.proofs.Ranges.{sum-lt}
-use Rattle.tree_laws.proofs.Regions.{new_or_old, true_or_false}
-use Rattle.tree_laws.proofs.Lists.{first_is_here, later_is_here}
+use Rattle.cover_solver.proofs.Regions.{new_or_old, true_or_false}
+use Rattle.cover_solver.proofs.Lists.{first_is_here, later_is_here}
 use Rattle.search_core.specs.declared.entry.Entry.{Entry}
 use Rattle.search_core.specs.declared.entry.Status.TheVariants.{Open}
 use Rattle.search_core.specs.Children.{children}
@@ -27,7 +27,7 @@ use Rattle.search_core.specs.Entries.{entry, is_live}
 use Rattle.search_core.specs.Events.{open_entries}
 use Rattle.search_core.specs.Work.{is_undecided, undecided, work_of, live_work, work_left}
 use Rattle.search_core.proofs.Places.{Each}
-use Rattle.tree_laws.proofs.OpenGaps.{open_exact, open_ascending}
+use Rattle.cover_solver.proofs.OpenGaps.{open_exact, open_ascending}
 
 -- a set has what it had, and the new gap
 kept_old : (s : SetOfGaps) (gap q : ℕ) → set.contains s q ≡ true → set.contains (set.insert s gap) q ≡ true

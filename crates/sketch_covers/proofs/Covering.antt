@@ -6,9 +6,9 @@ use Rattle.std.specs.List.{remove_range}
 use Rattle.std.proofs.lemmas.List.{append-nil, length-append, take_all}
 use Rattle.tso_program.specs.declared.outcome.Outcome.{Outcome}
 use Rattle.tso_program.specs.declared.shown.Shown.{Shown}
-use Rattle.known_edges.specs.ProgramSketches.{ProgramSketch}
-use Rattle.known_edges.specs.Kept.{IsLawful}
-use Rattle.known_edges.specs.Sizes.{HaveAllRegisters, choice_count, most_choices}
+use Rattle.sketches.specs.ProgramSketches.{ProgramSketch}
+use Rattle.sketches.specs.Kept.{IsLawful}
+use Rattle.sketches.specs.Sizes.{HaveAllRegisters, choice_count, most_choices}
 use Rattle.cert_forest.specs.declared.tree.AccessId.{AccessId}
 use Rattle.cert_forest.specs.declared.node.Node.{Node}
 use Rattle.cert_forest.specs.declared.node.Node.TheVariants as node

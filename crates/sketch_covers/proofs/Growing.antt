@@ -9,9 +9,9 @@ use Rattle.tso_machine.specs.declared.mode.Mode as own
 use Rattle.tso_machine.specs.Machine.{Machine}
 use Rattle.tso_machine.specs.Modes.{machine_of_mode}
 use Rattle.candidate_executions.specs.Sketches.{Sketch, with_value, with_source, with_pair}
-use Rattle.known_edges.specs.ProgramSketches.{ProgramSketch, mode_in, with_chosen}
+use Rattle.sketches.specs.ProgramSketches.{ProgramSketch, mode_in, with_chosen}
 use Rattle.cert_forest.specs.Trees.{Cover, Value, Source, Order, Cycle, Known, Covers, NoCover, MoreCovers, covers_of}
-use Rattle.tree_laws.specs.CoverTrees.{event_of, IsValidCover, AreValidCovers}
+use Rattle.cover_judge.specs.CoverTrees.{event_of, IsValidCover, AreValidCovers}
 use Rattle.cover_judge.specs.declared.choice.Choice.{Choice}
 use Rattle.cover_judge.specs.Choices.{sketch_with}
 use Rattle.cover_judge.proofs.SketchesAfter.{moved}

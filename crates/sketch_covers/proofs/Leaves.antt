@@ -7,14 +7,14 @@ use Rattle.tso_program.specs.Shown.{asked}
 use Rattle.candidate_executions.specs.declared.event.Event.{Event}
 use Rattle.candidate_executions.specs.declared.event.Kind.{Kind}
 use Rattle.candidate_executions.specs.Sketches.{IsKnownCycle}
-use Rattle.known_edges.specs.ProgramSketches.{ProgramSketch, mode_in}
+use Rattle.sketches.specs.ProgramSketches.{ProgramSketch, mode_in}
 use Rattle.sketches.specs.Completions.{MustEndSo}
 use Rattle.sketches.specs.Cycles.{IsSimpleCycle}
-use Rattle.known_edges.specs.FewAccesses.{AreFewAccesses}
+use Rattle.sketches.specs.FewAccesses.{AreFewAccesses}
 use Rattle.cert_forest.specs.declared.tree.AccessId.{AccessId}
 use Rattle.cert_forest.specs.declared.node.Node.{Node}
 use Rattle.cert_forest.specs.Trees.{Cycle}
-use Rattle.tree_laws.specs.CoverTrees.{event_of, MustEndAsNumber}
+use Rattle.cover_judge.specs.CoverTrees.{event_of, MustEndAsNumber}
 use Rattle.sketch_covers.specs.Covers.{IsEndNotListed, IsLeafAt}
 use Rattle.sketch_covers.specs.OutcomeNumbers.{HasNumber}
 use Rattle.sketch_covers.specs.Pushing.{Pushes, IfKnown}

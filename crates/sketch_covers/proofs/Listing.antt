@@ -11,9 +11,9 @@ use Rattle.tso_machine.specs.Outcomes.{IsShownRun, AllowsShown}
 use Rattle.candidate_executions.specs.Sketches.{empty_sketch}
 use Rattle.candidate_executions.proofs.Sketches.Choices.{empty_is_a_sketch}
 use Rattle.cert_forest.specs.Trees.{Cover}
-use Rattle.tree_laws.specs.CoverTrees.{IsValidCover, IsCovered}
-use Rattle.tree_laws.proofs.CoveredSketches.{valid_covers}
-use Rattle.tree_laws.proofs.ListedOutcomes.{listed}
+use Rattle.cover_judge.specs.CoverTrees.{IsValidCover, IsCovered}
+use Rattle.cover_judge.proofs.CoveredSketches.{valid_covers}
+use Rattle.cover_judge.proofs.ListedOutcomes.{listed}
 use Rattle.sketch_covers.specs.OutcomeNumbers.{AreRunsOf, Keeps}
 
 -- what stands beside a value of the second list

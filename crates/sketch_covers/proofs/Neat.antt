@@ -5,14 +5,14 @@ use Rattle.std.specs.Prelude.{◌^◌}
 use Rattle.std.proofs.lemmas.List.{length-map}
 use Rattle.candidate_executions.specs.declared.event.Event.{Event}
 use Rattle.candidate_executions.specs.declared.event.Kind.{Kind}
-use Rattle.known_edges.specs.ProgramSketches.{ProgramSketch}
-use Rattle.known_edges.specs.FewAccesses.{HasSmallNumbers, AreFewAccesses}
+use Rattle.sketches.specs.ProgramSketches.{ProgramSketch}
+use Rattle.sketches.specs.FewAccesses.{HasSmallNumbers, AreFewAccesses}
 use Rattle.sketches.specs.Cycles.{IsSimpleCycle}
 use Rattle.cert_forest.specs.declared.tree.AccessId.{AccessId}
 use Rattle.cert_forest.specs.Trees.{Cycle, Known}
 use Rattle.cert_forest.specs.Limits as limits
-use Rattle.tree_laws.specs.CoverTrees.{event_of}
-use Rattle.tree_laws.proofs.Lists.{first_is_here, later_is_here}
+use Rattle.cover_judge.specs.CoverTrees.{event_of}
+use Rattle.cover_judge.proofs.Lists.{first_is_here, later_is_here}
 use Rattle.sketch_covers.specs.Covers.{IsNeat}
 
 small_one : (a : AccessId) → HasSmallNumbers (event_of a) → limits.IsAccessId a

@@ -11,19 +11,19 @@ use Rattle.candidate_executions.specs.Candidates.{IsAccess}
 use Rattle.candidate_executions.proofs.Sketches.GivenValues.{reads_there}
 use Rattle.tso_machine.specs.declared.mode.Mode as own
 use Rattle.tso_machine.specs.Modes.{machine_of_mode}
-use Rattle.known_edges.specs.ProgramSketches.{ProgramSketch, mode_in, nothing_chosen, with_chosen}
-use Rattle.known_edges.specs.Choices.{MayFollow}
-use Rattle.known_edges.specs.Kept.{IsLawful}
-use Rattle.known_edges.specs.Sizes.{choice_count, most_choices, HaveAllRegisters}
-use Rattle.known_edges.proofs.ChoicesCounted.{event_small}
-use Rattle.known_edges.proofs.BranchesCounted.{few_values, few_sources}
+use Rattle.sketches.specs.ProgramSketches.{ProgramSketch, mode_in, nothing_chosen, with_chosen}
+use Rattle.sketches.specs.Choices.{MayFollow}
+use Rattle.sketches.specs.Kept.{IsLawful}
+use Rattle.sketches.specs.Sizes.{choice_count, most_choices, HaveAllRegisters}
+use Rattle.sketches.proofs.ChoicesCounted.{event_small}
+use Rattle.sketches.proofs.BranchesCounted.{few_values, few_sources}
 use Rattle.sketches.proofs.Completeness.{read_there, first_there, second_there}
 use Rattle.cert_forest.specs.declared.tree.AccessId.{AccessId}
 use Rattle.cert_forest.specs.Trees.{Cover, Value, Source, Order, covers_of}
 use Rattle.cert_forest.specs.Texts.{count_covers}
 use Rattle.cert_forest.specs.Limits as limits
 use Rattle.cert_forest.specs.Limits.{cover_depth, covers_depth}
-use Rattle.tree_laws.specs.CoverTrees.{event_of, IsValidCover, AreValidCovers}
+use Rattle.cover_judge.specs.CoverTrees.{event_of, IsValidCover, AreValidCovers}
 use Rattle.cover_judge.specs.declared.choice.Choice.{Choice}
 use Rattle.cover_judge.specs.declared.choice.Choice.TheVariants as choice
 use Rattle.cover_judge.specs.Choices.{sketch_with, MayChoose, IsValueOpen, AreValueChoices, AreSourceChoices}

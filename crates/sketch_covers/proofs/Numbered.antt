@@ -12,7 +12,7 @@ use Rattle.std.proofs.lemmas.Option.{same_Some, slice_get_within, slice_get-get_
 use Rattle.std.proofs.lemmas.Slice.Zip.{AllZip-long}
 use Rattle.tso_program.specs.declared.outcome.Outcome.{Outcome}
 use Rattle.tso_machine.specs.declared.label.Label.{Label}
-use Rattle.tree_laws.proofs.Lists.{none_here, first_or_later}
+use Rattle.cover_judge.proofs.Lists.{none_here, first_or_later}
 use Rattle.sketch_covers.specs.declared.outcome_index.OutcomeIndex.{OutcomeIndex}
 use Rattle.sketch_covers.specs.OutcomeNumbers.{HasNumber, KeepsNumbers, IsInOrder, place_in}
 use Rattle.sketch_covers.specs.Ascending.{Ascend, BelongsAt}

@@ -8,9 +8,9 @@ use Rattle.tso_program.specs.declared.listing.Listing.{Listing}
 use Rattle.tso_machine.specs.declared.mode.Mode as own
 use Rattle.tso_machine.specs.Modes.{machine_of_mode}
 use Rattle.tso_machine.specs.Outcomes.{IsShownRun}
-use Rattle.known_edges.specs.ProgramSketches.{ProgramSketch, mode_in}
+use Rattle.sketches.specs.ProgramSketches.{ProgramSketch, mode_in}
 use Rattle.sketches.specs.declared.sketch.Sketch.{Sketch}
-use Rattle.known_edges.specs.Known.{HasNoCycle}
+use Rattle.sketches.specs.Known.{HasNoCycle}
 use Rattle.run_maker.specs.declared.run.MadeRun.{MadeRun}
 use Rattle.sketch_covers.specs.declared.stop.Stop.TheVariants as stop
 use Rattle.sketch_covers.specs.declared.known_outcomes.KnownOutcomes.{KnownOutcomes}

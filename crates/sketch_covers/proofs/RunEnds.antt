@@ -2,7 +2,7 @@
 use Rattle.std.proofs.Common.{◌≡◌, refl, sym, subst}
 use Rattle.tso_program.specs.declared.shown.Shown.{Shown}
 use Rattle.tso_program.specs.Shown.{show}
-use Rattle.known_edges.specs.ProgramSketches.{ProgramSketch}
+use Rattle.sketches.specs.ProgramSketches.{ProgramSketch}
 use Rattle.run_maker.specs.declared.run.MadeRun.{MadeRun}
 use Rattle.run_maker.specs.MadeRuns.{IsMadeRun}
 use Rattle.sketch_covers.specs.ShownRuns.{IsShownRunOf}

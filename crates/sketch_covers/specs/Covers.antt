@@ -6,14 +6,14 @@ use Rattle.tso_program.specs.declared.shown.Shown.{Shown}
 use Rattle.tso_program.specs.Shown.{Question, asked}
 use Rattle.tso_machine.specs.Machine.{Machine}
 use Rattle.candidate_executions.specs.Sketches.{empty_sketch, MustEndAs}
-use Rattle.known_edges.specs.ProgramSketches.{ProgramSketch, mode_in}
-use Rattle.known_edges.specs.Known.{HasNoCycle}
-use Rattle.known_edges.specs.Sizes.{choice_count, most_choices}
+use Rattle.sketches.specs.ProgramSketches.{ProgramSketch, mode_in}
+use Rattle.sketches.specs.Known.{HasNoCycle}
+use Rattle.sketches.specs.Sizes.{choice_count, most_choices}
 use Rattle.cert_forest.specs.Trees.{Cover, Value, Source, Order, Cycle, Known, Covers, NoCover, MoreCovers, covers_of}
 use Rattle.cert_forest.specs.Limits.{cover_depth, covers_depth, HasNumbers, HaveNumbers}
 use Rattle.cert_forest.specs.declared.node.Node.{Node}
 use Rattle.cert_forest.specs.declared.node.Node.TheVariants as node
-use Rattle.tree_laws.specs.CoverTrees.{IsValidCover, AreValidCovers}
+use Rattle.cover_judge.specs.CoverTrees.{IsValidCover, AreValidCovers}
 use Rattle.cover_judge.specs.declared.choice.Choice.{Choice}
 use Rattle.cover_judge.specs.Choices.{sketch_with}
 use Rattle.branching.specs.declared.open_choice.OpenChoice.{OpenChoice}

@@ -7,7 +7,7 @@ use Rattle.tso_machine.specs.Machine.{Machine}
 use Rattle.tso_machine.specs.Modes.{machine_of_mode}
 use Rattle.tso_machine.specs.Outcomes.{IsShownRun}
 use Rattle.candidate_executions.specs.Sketches.{MustEndAs}
-use Rattle.known_edges.specs.ProgramSketches.{ProgramSketch, mode_in}
+use Rattle.sketches.specs.ProgramSketches.{ProgramSketch, mode_in}
 use Rattle.sketch_covers.specs.declared.stop.Stop.{Stop}
 use Rattle.sketch_covers.specs.declared.stop.Stop.TheVariants as stop
 use Rattle.sketch_covers.specs.declared.outcome_index.OutcomeIndex.{OutcomeIndex}

@@ -4,7 +4,7 @@ ghost use Rattle.std.specs.Prelude.{◌≡◌, ◌≤◌, ◌<◌, ◌^◌, IfOk
 ghost use Rattle.std.specs.List.{remove_range};
 ghost use Rattle.tso_program.specs.Shown.{asked};
 ghost use Rattle.candidate_executions.specs.Sketches.{IsWhole};
-ghost use Rattle.known_edges.specs.ProgramSketches.{mode_in, with_chosen};
+ghost use Rattle.sketches.specs.ProgramSketches.{mode_in, with_chosen};
 ghost use Rattle.sketches.specs.Complete.{IsComplete};
 ghost use Rattle.cert_forest.specs.Nodes.{tree_of, IsTree};
 ghost use Rattle.cover_judge.specs.Choices.{sketch_with, MayChoose};

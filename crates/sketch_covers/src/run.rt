@@ -1,6 +1,6 @@
 //! Runs of complete sketches, as far as their outcomes are shown.
 ghost use Rattle.std.specs.Prelude.{◌≡◌, IfOk, MatchOption};
-ghost use Rattle.known_edges.specs.Known.{HasNoCycle};
+ghost use Rattle.sketches.specs.Known.{HasNoCycle};
 ghost use Rattle.sketches.specs.Complete.{IsComplete};
 ghost use Rattle.tso_program.specs.Shown.{show};
 ghost use Rattle.sketch_covers.specs.ShownRuns.{IsShownRunOf};

@@ -1,6 +1,6 @@
 //! What searches, hunts and placers are given.
 ghost use Rattle.std.specs.Prelude.{◌≡◌, IfOk, IsTrue, length};
-ghost use Rattle.tso_machine.specs.Outcomes.{AreGapsOf};
+ghost use Rattle.report.specs.Outcomes.{AreGapsOf};
 ghost use Rattle.tso_program.specs.Listings.{gap_count};
 ghost use Rattle.cover_solver.specs.Verdicts.{PassesNoneOf};
 

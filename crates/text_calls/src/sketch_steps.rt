@@ -2,7 +2,7 @@
 //!
 //! A step is a call's name and its arguments, with `:` between them. `1` is the initial write of location 1 and `0.1` is
 //! access 1 of thread 0. Each step prints a line.
-ghost use Rattle.known_edges.specs.Known.{HasNoCycle};
+ghost use Rattle.sketches.specs.Known.{HasNoCycle};
 
 use crate::input::{
     byte_at, byte_of, gap_set_of, named, number_of, parts_of, split_at_byte, word_at,

@@ -6,7 +6,7 @@ use Rattle.std.proofs.Math.Nat.{eq-or-lt_of_le}
 use Rattle.std.proofs.Math.Seq.{get_or-append_seam}
 use Rattle.std.proofs.lemmas.List.{get_or_append_left, length-map, map_push}
 use Rattle.tso_program.specs.declared.listing.Listing.{Listing}
-use Rattle.candidate_executions.specs.Values.{IsValueOf}
+use Rattle.sketches.specs.Values.{IsValueOf}
 use Rattle.trace_combinations.specs.TraceCounts.{Values, values_at}
 
 -- the first so many locations have their values

@@ -8,7 +8,7 @@ use Rattle.tso_program.specs.declared.action.Action.TheVariants.{Stop, Go, Wait,
 use Rattle.tso_program.specs.declared.listing.Listing.{Listing}
 use Rattle.tso_program.specs.Actions.{loaded}
 use Rattle.tso_program.specs.Listings.{action, start_of, code_of}
-use Rattle.candidate_executions.specs.Values.{IsValueOf}
+use Rattle.sketches.specs.Values.{IsValueOf}
 use Rattle.trace_combinations.specs.declared.combinations.Combinations.{Combinations}
 use Rattle.trace_combinations.specs.declared.combinations.Combinations.TheVariants.{Exactly, AtLeast}
 

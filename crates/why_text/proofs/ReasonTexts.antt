@@ -20,8 +20,8 @@ use Rattle.tso_machine.specs.declared.replaying.Ended.{Ended}
 use Rattle.tso_machine.specs.Machine.{StoreBufferMachine, no_gaps, IsRun}
 use Rattle.tso_machine.specs.Outcomes.{IsForeignRun, IsReplayOf, IsShownRun}
 use Rattle.tso_machine.proofs.Refused.{one_outcome}
-use Rattle.litmus_reader.specs.declared.litmus.Litmus.{Litmus}
-use Rattle.fence_laws.proofs.GapsAvoided.{passed_gaps_tell}
+use Rattle.litmus_text.specs.Litmus.{Litmus}
+use Rattle.cover_solver.proofs.GapsAvoided.{passed_gaps_tell}
 use Rattle.cover_solver.specs.Facts as facts
 use Rattle.cover_solver.specs.Verdicts.{PassesNoneOf}
 use Rattle.documents.specs.declared.run.Setting.TheVariants.{Without}

@@ -5,7 +5,7 @@ ghost use Rattle.tso_program.specs.Listings.{gap_count};
 ghost use Rattle.tso_program.specs.Shown.{asked};
 ghost use Rattle.tso_machine.specs.Outcomes.{IsTheAnswer};
 ghost use Rattle.report.specs.Answers.{answer_line};
-ghost use Rattle.fence_place.specs.Faults.{AreTooFewOrMany};
+ghost use Rattle.placed_text.specs.Faults.{AreTooFewOrMany};
 ghost use Rattle.placed_text.specs.TextFaults.{HasNoPlacedText};
 ghost use Rattle.why_text.specs.WhyTexts.{none_line, reasons_or_none, IsWhyText, TellsReasons, TellsWhy};
 

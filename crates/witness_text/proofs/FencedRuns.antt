@@ -15,8 +15,8 @@ use Rattle.tso_machine.specs.Machine.{StoreBufferMachine, IsRun}
 use Rattle.tso_machine.specs.Modes.{machine_of_model, ArePassed}
 use Rattle.tso_machine.proofs.Refused.{one_outcome}
 use Rattle.tso_machine.proofs.Unfenced.{empty_fences_nothing}
-use Rattle.fence_laws.proofs.GapsAvoided.{fenced_runs_avoid}
-use Rattle.litmus_reader.specs.declared.litmus.Litmus.{Litmus}
+use Rattle.cover_solver.proofs.GapsAvoided.{fenced_runs_avoid}
+use Rattle.litmus_text.specs.Litmus.{Litmus}
 use Rattle.cover_solver.specs.Witnesses.{IsWitness}
 use Rattle.documents.specs.declared.run.Setting.TheVariants.{Machine as OfMachine}
 use Rattle.documents.specs.declared.witness.Sought.{Sought}

@@ -10,8 +10,8 @@ use Rattle.tso_machine.specs.declared.label.Label.{Label}
 use Rattle.tso_machine.specs.declared.label.Model.{Model}
 use Rattle.tso_machine.specs.Machine.{Machine, IsRun}
 use Rattle.tso_machine.specs.Modes.{machine_of_model, ArePassed}
-use Rattle.litmus_reader.specs.declared.litmus.Litmus.{Litmus}
-use Rattle.litmus_reader.specs.Texts.{IsLitmus, IsNoLitmus}
+use Rattle.litmus_text.specs.Litmus.{Litmus}
+use Rattle.litmus_text.specs.Texts.{IsLitmus, IsNoLitmus}
 use Rattle.cover_solver.specs.Witnesses.{HasNoWitness}
 use Rattle.report.specs.Answers.{printed_labels, outcome_line, passed_line}
 use Rattle.documents.specs.declared.run.Setting.TheVariants.{Machine as OfMachine}

@@ -2,7 +2,7 @@
 use Rattle.std.specs.Prelude.{◌≡◌, ◌<◌, ℕ, Bool, false, List, Some, Result, IfErr, OnOk, slice_get}
 use Rattle.gap_sets.specs.declared.region.Region.{Region}
 use Rattle.tso_program.specs.Shown.{Question}
-use Rattle.tso_machine.specs.Outcomes.{AreGapsOf}
+use Rattle.cover_solver.specs.Outcomes.{AreGapsOf}
 use Rattle.cover_solver.specs.declared.fault.SolveFault.{SolveFault}
 use Rattle.cover_solver.specs.Facts.{Foreign, AreOf}
 use Rattle.search_core.specs.declared.entry.Entry.{Entry}

@@ -2,7 +2,7 @@
 use Rattle.std.specs.Prelude.{List}
 use Rattle.tso_program.specs.declared.listing.Listing.{Listing}
 use Rattle.tso_machine.specs.declared.label.Label.{Label}
-use Rattle.litmus_reader.specs.declared.litmus.Litmus.{Litmus}
+use Rattle.litmus_text.specs.Litmus.{Litmus}
 use Rattle.cover_solver.specs.Witnesses.{IsWitness}
 use Rattle.documents.specs.declared.witness.Sought.{Sought}
 use Rattle.witness_text.specs.WitnessTexts.{machine_of}

@@ -1,7 +1,7 @@
 use Rattle.std.proofs.Common.{◌↔◌, IsTrue, subst}
-use Rattle.known_edges.specs.Choices.{IsOrdered}
-use Rattle.thread_traces.proofs.KnownParts.{not_by}
-use Rattle.tree_laws.specs.CoverTrees.{event_of}
+use Rattle.sketches.specs.Choices.{IsOrdered}
+use Rattle.sketches.proofs.KnownParts.{not_by}
+use Rattle.cover_judge.specs.CoverTrees.{event_of}
 use Rattle.branching.proofs.NothingLeft.{pair_of, unless}
 use Rattle.branching.proofs.open_choice.needs_order.Goals as goal
 

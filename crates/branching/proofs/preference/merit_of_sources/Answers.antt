@@ -1,7 +1,7 @@
 use Rattle.std.proofs.Common.{sym, subst}
-use Rattle.candidate_executions.specs.Sketches.{IsSourceOf}
-use Rattle.known_edges.specs.ProgramSketches.{mode_in}
-use Rattle.tree_laws.specs.CoverTrees.{event_of}
+use Rattle.cover_judge.specs.Sketches.{IsSourceOf}
+use Rattle.sketches.specs.ProgramSketches.{mode_in}
+use Rattle.cover_judge.specs.CoverTrees.{event_of}
 use Rattle.branching.specs.declared.reads_writes.WrittenValue.{WrittenValue}
 use Rattle.branching.proofs.preference.merit_of_sources.Goals as goal
 

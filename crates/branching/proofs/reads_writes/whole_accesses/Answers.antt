@@ -3,7 +3,7 @@ use Rattle.std.proofs.lemmas.Bool.{cases_lt}
 use Rattle.tso_program.specs.declared.listing.Listing.{Listing}
 use Rattle.sketches.proofs.Completeness.{read_there}
 use Rattle.sketches.proofs.Ends.{thread_within}
-use Rattle.tree_laws.specs.CoverTrees.{event_of}
+use Rattle.cover_judge.specs.CoverTrees.{event_of}
 use Rattle.branching.specs.Accesses.{IsReadValue, IsWrittenValue}
 use Rattle.branching.proofs.TakenIn.{thread_there}
 use Rattle.branching.proofs.reads_writes.whole_accesses.Goals as goal

@@ -1,8 +1,8 @@
 use Rattle.std.proofs.Common.{◌<◌}
 use Rattle.std.specs.Prelude.{All}
-use Rattle.known_edges.specs.Choices.{IsRead}
+use Rattle.sketches.specs.Choices.{IsRead}
 use Rattle.cert_forest.specs.declared.tree.AccessId.{AccessId}
-use Rattle.tree_laws.specs.CoverTrees.{event_of}
+use Rattle.cover_judge.specs.CoverTrees.{event_of}
 use Rattle.branching.specs.Accesses.{IsReadValue, NamesRead, IsWrittenValue, IsWrite, NamesWrite}
 use Rattle.branching.proofs.reads_writes.whole_accesses.Given as goal
 

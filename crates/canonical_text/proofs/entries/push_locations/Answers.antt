@@ -1,5 +1,5 @@
 use Rattle.std.proofs.Common.{ℕ, List, ◌++◌, ap, ◌∙◌}
-use Rattle.text_tokens.specs.Pieces.{text_of}
+use Rattle.litmus_reader.specs.Pieces.{text_of}
 use Rattle.canonical_text.specs.Spelling.{entry_pieces}
 use Rattle.canonical_text.specs.Canonical.{location_entry}
 use Rattle.canonical_text.proofs.TextsGrow.{number_more}

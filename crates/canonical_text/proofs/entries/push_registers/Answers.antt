@@ -1,6 +1,6 @@
 use Rattle.std.proofs.Common.{ℕ, List, ◌++◌, ◌+◌, drop, get_or, ap, ◌∙◌, append_assoc}
 use Rattle.std.specs.List.{flat_map}
-use Rattle.text_tokens.specs.Pieces.{text_of}
+use Rattle.litmus_reader.specs.Pieces.{text_of}
 use Rattle.tso_program.specs.declared.listing.Thread.{Thread}
 use Rattle.canonical_text.specs.Spelling.{entry_pieces}
 use Rattle.canonical_text.specs.Canonical.{thread_entries, register_entries}

@@ -1,7 +1,7 @@
 use Rattle.std.proofs.Common.{ℕ, List, ◌++◌, get_or, ap, ◌∙◌}
 use Rattle.std.specs.List.{flat_map}
 use Rattle.tso_program.specs.declared.instruction.Reg.TheVariants.{Eax}
-use Rattle.text_tokens.specs.Pieces.{text_of}
+use Rattle.litmus_reader.specs.Pieces.{text_of}
 use Rattle.litmus_reader.specs.Names.{all_registers}
 use Rattle.canonical_text.specs.Spelling.{entry_pieces}
 use Rattle.canonical_text.specs.Canonical.{named_entry}

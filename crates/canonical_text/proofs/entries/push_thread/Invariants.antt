@@ -1,6 +1,6 @@
 use Rattle.std.proofs.Common.{◌≡◌, ◌++◌, take}
 use Rattle.std.specs.List.{flat_map}
-use Rattle.text_tokens.specs.Pieces.{text_of}
+use Rattle.litmus_reader.specs.Pieces.{text_of}
 use Rattle.litmus_reader.specs.Names.{all_registers}
 use Rattle.canonical_text.specs.Spelling.{entry_pieces}
 use Rattle.canonical_text.specs.Canonical.{named_entry}

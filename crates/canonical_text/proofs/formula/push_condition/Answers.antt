@@ -1,6 +1,6 @@
 use Rattle.std.proofs.Common.{ℕ, List, ◌++◌, ◌∷◌, [], map, ap, ◌∙◌}
 use Rattle.std.specs.List.{flat_map}
-use Rattle.text_tokens.specs.Pieces.{text_of}
+use Rattle.litmus_reader.specs.Pieces.{text_of}
 use Rattle.tso_program.specs.declared.atom.Atom.{Atom}
 use Rattle.conditions.specs.declared.token.Token.{Token}
 use Rattle.conditions.specs.Grammar.{Sign}

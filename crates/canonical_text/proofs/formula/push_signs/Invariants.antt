@@ -1,6 +1,6 @@
 use Rattle.std.proofs.Common.{◌≡◌, ◌++◌, take, map}
 use Rattle.std.specs.List.{flat_map}
-use Rattle.text_tokens.specs.Pieces.{text_of}
+use Rattle.litmus_reader.specs.Pieces.{text_of}
 use Rattle.conditions.specs.Tokens.{sign_of_token}
 use Rattle.canonical_text.specs.Spelling.{sign_pieces}
 use Rattle.canonical_text.specs.Canonical.{sign_named}

@@ -1,7 +1,7 @@
 use Rattle.std.proofs.Common.{◌≡◌, ℕ, List, ◌++◌, length, map, sym, ap, ◌∙◌, subst}
 use Rattle.std.specs.Prelude.{IfOk}
 use Rattle.std.proofs.lemmas.List.{append-nil}
-use Rattle.text_tokens.specs.Pieces.{text_of}
+use Rattle.litmus_reader.specs.Pieces.{text_of}
 use Rattle.canonical_text.specs.Spelling.{gap, joined_by, label_pieces}
 use Rattle.tso_program.specs.Fences.{gaps_in}
 use Rattle.litmus_reader.specs.declared.label.Label.{Label}

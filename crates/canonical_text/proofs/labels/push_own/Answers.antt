@@ -1,5 +1,5 @@
 use Rattle.std.proofs.Common.{◌≡◌, ℕ, ◌+◌, List, [], ◌∷◌, ◌++◌, length, map, take, length-append, sym, ap, ◌∙◌, arith}
-use Rattle.text_tokens.specs.Pieces.{text_of}
+use Rattle.litmus_reader.specs.Pieces.{text_of}
 use Rattle.canonical_text.specs.Spelling.{gap, joined_by, label_pieces}
 use Rattle.canonical_text.specs.Canonical.{label_names_at}
 use Rattle.canonical_text.proofs.LabelPlaces.{label_here, label_elsewhere}

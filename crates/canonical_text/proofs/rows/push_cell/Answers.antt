@@ -1,6 +1,6 @@
 use Rattle.std.proofs.Common.{◌≡◌, ℕ, List, ◌++◌, Option, ap, ◌∙◌, subst}
 use Rattle.std.specs.Prelude.{OnOk, option_map}
-use Rattle.text_tokens.specs.Pieces.{text_of}
+use Rattle.litmus_reader.specs.Pieces.{text_of}
 use Rattle.tso_program.specs.declared.instruction.Instr.{Instr}
 use Rattle.tso_program.specs.Listings.{instr_at}
 use Rattle.tso_program.specs.Fences.{gaps_in}

@@ -1,6 +1,6 @@
 use Rattle.std.proofs.Common.{◌≡◌, ◌++◌, map}
 use Rattle.std.specs.List.{range_with_len}
-use Rattle.text_tokens.specs.Pieces.{text_of}
+use Rattle.litmus_reader.specs.Pieces.{text_of}
 use Rattle.canonical_text.specs.Spelling.{bar, column_pieces, joined_by}
 use Rattle.canonical_text.proofs.rows.push_header.Given as goal
 

@@ -1,6 +1,6 @@
 use Rattle.std.proofs.Common.{◌≡◌, ◌++◌, map}
 use Rattle.std.specs.List.{range_with_len}
-use Rattle.text_tokens.specs.Pieces.{text_of}
+use Rattle.litmus_reader.specs.Pieces.{text_of}
 use Rattle.tso_program.specs.Fences.{gaps_in}
 use Rattle.canonical_text.specs.Spelling.{bar, cell_pieces, joined_by}
 use Rattle.canonical_text.specs.Canonical.{moved_labels, cell_of}

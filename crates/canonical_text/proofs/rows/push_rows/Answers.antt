@@ -1,5 +1,5 @@
 use Rattle.std.proofs.Common.{ℕ, List, ◌++◌, ap, ◌∙◌}
-use Rattle.text_tokens.specs.Pieces.{text_of}
+use Rattle.litmus_reader.specs.Pieces.{text_of}
 use Rattle.tso_program.specs.Fences.{gaps_in}
 use Rattle.tso_program.specs.declared.listing.Thread.{Thread}
 use Rattle.canonical_text.specs.Spelling.{row_pieces}

@@ -1,6 +1,6 @@
 use Rattle.std.proofs.Common.{◌≡◌, ◌++◌, map}
 use Rattle.std.specs.List.{flat_map, range_with_len}
-use Rattle.text_tokens.specs.Pieces.{text_of}
+use Rattle.litmus_reader.specs.Pieces.{text_of}
 use Rattle.tso_program.specs.Fences.{gaps_in}
 use Rattle.canonical_text.specs.Spelling.{row_pieces}
 use Rattle.canonical_text.specs.Canonical.{moved_labels, row_of}

@@ -1,6 +1,6 @@
 use Rattle.std.proofs.Common.{◌≡◌, ℕ, List, ◌++◌, length, ap, ◌∙◌}
 use Rattle.std.specs.List.{flat_map}
-use Rattle.text_tokens.specs.Pieces.{Piece, text_of}
+use Rattle.litmus_reader.specs.Pieces.{Piece, text_of}
 use Rattle.tso_program.specs.Fences.{gaps_in}
 use Rattle.tso_program.specs.declared.listing.Listing.{Listing}
 use Rattle.tso_program.specs.declared.listing.Thread.{Thread}

@@ -3,7 +3,7 @@ use Rattle.gap_sets.specs.Regions.{all_sets}
 use Rattle.tso_program.specs.Shown.{asked}
 use Rattle.tso_program.specs.Fences.{gaps_in}
 use Rattle.tso_machine.specs.Machine.{StoreBufferMachine}
-use Rattle.candidate_executions.specs.Sketches.{empty_sketch}
+use Rattle.cover_judge.specs.Sketches.{empty_sketch}
 use Rattle.tree_laws.specs.CoverTrees.{IsValidCover}
 use Rattle.tree_laws.specs.GapTrees.{IsValidGap}
 use Rattle.tree_laws.specs.Certificates.{IsRunOutside, IsValidCertificate}

@@ -11,7 +11,7 @@ use Rattle.cert_forest.proofs.WrittenNodes.{next_is_shorter}
 use Rattle.tso_program.specs.Shown.{asked}
 use Rattle.candidate_executions.specs.Values.{IsValueOf}
 use Rattle.candidate_executions.specs.Sketches as sketches
-use Rattle.known_edges.specs.ProgramSketches.{ProgramSketch, mode_in, with_chosen}
+use Rattle.sketches.specs.ProgramSketches.{ProgramSketch, mode_in, with_chosen}
 use Rattle.sketches.specs.ValueSketches.{LacksSource}
 use Rattle.tree_laws.specs.CoverTrees.{IsValidCover, HasNextValues}
 use Rattle.std.proofs.lemmas.Option.{same_Some}

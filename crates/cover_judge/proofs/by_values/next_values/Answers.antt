@@ -1,5 +1,5 @@
 use Rattle.std.proofs.Common.{◌≡◌, length, sym, ap, ◌∙◌, arith}
-use Rattle.known_edges.specs.ProgramSketches.{mode_in}
+use Rattle.sketches.specs.ProgramSketches.{mode_in}
 use Rattle.tree_laws.specs.CoverTrees.{HasNextValues}
 use Rattle.tree_laws.proofs.OneList.{one_list_of_values}
 use Rattle.cover_judge.specs.CoverDefects.{HasNoValues}

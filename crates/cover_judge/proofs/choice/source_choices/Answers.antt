@@ -2,8 +2,8 @@ use Rattle.std.proofs.Common.{◌↔◌, ◌≡◌, Some, Contains, sym, ap, ◌
 use Rattle.candidate_executions.specs.declared.event.Event.{Event}
 use Rattle.candidate_executions.proofs.Orders.Lists.{some_value}
 use Rattle.candidate_executions.specs.Sketches.{IsSourceOf, IsWhole}
-use Rattle.known_edges.specs.Choices.{IsRead}
-use Rattle.known_edges.specs.ProgramSketches.{mode_in}
+use Rattle.sketches.specs.Choices.{IsRead}
+use Rattle.sketches.specs.ProgramSketches.{mode_in}
 use Rattle.tree_laws.specs.CoverTrees.{event_of}
 use Rattle.cover_judge.specs.declared.choice.Choice.TheVariants as choice
 use Rattle.cover_judge.proofs.ChoicesJudged.{sources_are, sources_may, no_source}

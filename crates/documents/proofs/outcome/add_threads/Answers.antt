@@ -1,5 +1,5 @@
 use Rattle.std.proofs.Common.{ℕ, List, [], ◌++◌, get_or, ap, ◌∙◌}
-use Rattle.canonical_text.proofs.Joined.{flat_range_more}
+use Rattle.report.proofs.Joined.{flat_range_more}
 use Rattle.documents.specs.Parts.{thread_values}
 use Rattle.documents.proofs.outcome.add_threads.Goals as goal
 

@@ -1,6 +1,6 @@
 use Rattle.std.proofs.Common.{◌≡◌, ◌∙◌, ℕ, List, sym, ap, subst}
 use Rattle.gap_sets.specs.Order.{total}
-use Rattle.tso_machine.specs.declared.label.Label.{Label}
+use Rattle.cover_solver.specs.Label.{Label}
 use Rattle.cert_forest.specs.Certificates.{Certificate}
 use Rattle.cert_forest.specs.Limits.{AreShownPlaces}
 use Rattle.cert_forest.specs.Shows.{shows_of}

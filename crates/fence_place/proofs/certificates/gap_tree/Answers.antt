@@ -3,7 +3,7 @@ use Rattle.cert_forest.specs.Trees.{Gap}
 use Rattle.cert_forest.specs.declared.node.GapNode.{GapNode}
 use Rattle.cert_forest.specs.GapNodes.{spell_gap}
 use Rattle.cert_forest.proofs.GapNodeLaws.{is_gap_tree, same_gap}
-use Rattle.cover_judge.proofs.Answered.{if_ok}
+use Rattle.cert_check.proofs.Answered.{if_ok}
 use Rattle.fence_place.specs.Recorded.{IsRecorded}
 use Rattle.fence_place.proofs.certificates.gap_tree.Goals as goal
 

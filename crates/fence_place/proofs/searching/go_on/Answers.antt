@@ -1,6 +1,6 @@
 use Rattle.std.proofs.Common.{sym, subst, ◌<◌, ◌≡◌, ◌∙◌, ℕ, arith}
 use Rattle.tso_program.specs.Shown.{Question}
-use Rattle.tso_machine.specs.Outcomes.{AreGapsOf}
+use Rattle.cover_solver.specs.Outcomes.{AreGapsOf}
 use Rattle.search_core.specs.States.{IsDone}
 use Rattle.search_core.specs.Faults.{TakeFaultIs}
 use Rattle.search_core.specs.Work.{work_left}

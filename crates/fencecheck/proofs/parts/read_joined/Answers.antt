@@ -1,5 +1,5 @@
 use Rattle.std.proofs.Common.{◌+◌, ◌-◌, ◌≤◌, length, subst, arith, vec_len}
-use Rattle.cover_judge.proofs.Answered.{err_up}
+use Rattle.cert_check.proofs.Answered.{err_up}
 use Rattle.program_streams.specs.Streams.{IsReadFault}
 use Rattle.fencecheck.specs.declared.parts.TheConstants.{CERTIFICATE_LIMIT}
 use Rattle.fencecheck.specs.Inputs.{IsCertificateStart, IsTooLongInput}

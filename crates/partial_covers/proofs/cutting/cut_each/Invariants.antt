@@ -1,5 +1,5 @@
 use Rattle.std.specs.Prelude.{All}
-use Rattle.known_edges.specs.ProgramSketches.{ProgramSketch}
+use Rattle.sketches.specs.ProgramSketches.{ProgramSketch}
 use Rattle.partial_covers.specs.Parts.{IsPartOf}
 use Rattle.partial_covers.proofs.cutting.cut_each.Given as goal
 

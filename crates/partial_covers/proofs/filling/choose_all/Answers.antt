@@ -1,5 +1,5 @@
 use Rattle.std.proofs.Common.{get_or, sym, ap, ◌∙◌, subst}
-use Rattle.known_edges.specs.ProgramSketches.{ProgramSketch, with_chosen}
+use Rattle.sketches.specs.ProgramSketches.{ProgramSketch, with_chosen}
 use Rattle.cover_judge.specs.declared.choice.Choice.TheVariants as choice
 use Rattle.cover_judge.specs.Choices.{MayChoose, sketch_with}
 use Rattle.partial_covers.proofs.ChoicesMade.{may_at, one_made, all_made}

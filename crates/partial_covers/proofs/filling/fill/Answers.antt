@@ -4,9 +4,9 @@ use Rattle.tso_program.specs.Shown.{asked}
 use Rattle.tso_program.specs.declared.listing.Listing.{Listing}
 use Rattle.candidate_executions.specs.Sketches.{IsWhole}
 use Rattle.tso_machine.specs.Machine.{Machine}
-use Rattle.known_edges.specs.Kept.{IsLawful}
-use Rattle.known_edges.specs.ProgramSketches.{ProgramSketch, mode_in, nothing_chosen}
-use Rattle.known_edges.specs.Sizes.{HaveAllRegisters}
+use Rattle.sketches.specs.Kept.{IsLawful}
+use Rattle.sketches.specs.ProgramSketches.{ProgramSketch, mode_in, nothing_chosen}
+use Rattle.sketches.specs.Sizes.{HaveAllRegisters}
 use Rattle.partial_covers.specs.declared.partial_cover.Piece.{Piece}
 use Rattle.partial_covers.specs.NodeChanges.{copied_in}
 use Rattle.sketch_covers.specs.Covers.{IsCoverAt}

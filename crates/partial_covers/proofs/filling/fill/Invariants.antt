@@ -1,6 +1,6 @@
 use Rattle.std.proofs.Common.{take}
 use Rattle.tso_program.specs.Shown.{asked}
-use Rattle.known_edges.specs.ProgramSketches.{nothing_chosen}
+use Rattle.sketches.specs.ProgramSketches.{nothing_chosen}
 use Rattle.partial_covers.specs.PartialCovers.{items_before}
 use Rattle.sketch_covers.specs.KnownOutcomes.{by_number, Grows}
 use Rattle.partial_covers.proofs.FilledNodes.{Filled}

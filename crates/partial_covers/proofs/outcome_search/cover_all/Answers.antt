@@ -1,7 +1,7 @@
 use Rattle.std.proofs.Common.{refl, sym, subst, ◌∙◌}
 use Rattle.tso_program.specs.Shown.{asked}
 use Rattle.tso_machine.specs.Modes.{machine_of_mode}
-use Rattle.known_edges.specs.ProgramSketches.{nothing_chosen}
+use Rattle.sketches.specs.ProgramSketches.{nothing_chosen}
 use Rattle.cert_forest.proofs.NodeLaws.{is_tree, same_tree}
 use Rattle.sketch_covers.specs.Covers.{IsWholeCover}
 use Rattle.sketch_covers.specs.KnownOutcomes.{by_number}

@@ -3,7 +3,7 @@ use Rattle.std.specs.FinSet as set
 use Rattle.tso_program.specs.declared.shown.Shown.{Shown}
 use Rattle.tso_program.specs.Shown.{asked}
 use Rattle.tso_machine.specs.declared.mode.Mode.TheVariants as modes
-use Rattle.known_edges.specs.ProgramSketches.{ProgramSketch, nothing_chosen}
+use Rattle.sketches.specs.ProgramSketches.{ProgramSketch, nothing_chosen}
 use Rattle.cover_judge.specs.declared.choice.Choice.{Choice}
 use Rattle.sketch_covers.specs.declared.known_outcomes.KnownOutcomes.{KnownOutcomes}
 use Rattle.sketch_covers.specs.KnownOutcomes.{by_number, HasRunOfEach, StaysOf}

@@ -4,7 +4,7 @@ use Rattle.std.specs.Option.{MatchOption}
 use Rattle.gap_sets.specs.Gaps.{SetOfGaps}
 use Rattle.tso_machine.specs.declared.mode.Mode.TheVariants as modes
 use Rattle.candidate_executions.specs.Sketches.{IsWhole}
-use Rattle.known_edges.specs.ProgramSketches.{nothing_chosen, mode_in}
+use Rattle.sketches.specs.ProgramSketches.{nothing_chosen, mode_in}
 use Rattle.partial_covers.specs.declared.part.Part.{Part}
 use Rattle.branching.specs.declared.plan.Plan.{Plan}
 use Rattle.branching.specs.Plans.{IsLast}

@@ -1,9 +1,9 @@
 use Rattle.std.proofs.Common.{◌≡◌, ℕ, List, Option, Some, None, refl}
 use Rattle.std.specs.Prelude.{option_map}
 use Rattle.tso_program.specs.declared.listing.Listing.{Listing}
-use Rattle.cost_text.specs.declared.fault.CostTextFault.{CostTextFault}
-use Rattle.cost_text.specs.declared.fault.CostTextFault.TheVariants as cost_fault
-use Rattle.cost_text.specs.GivenCosts.{AreNotGiven}
+use Rattle.litmus_text.specs.CostTextFault.{CostTextFault}
+use Rattle.litmus_text.specs.CostTextFault.TheVariants as cost_fault
+use Rattle.litmus_text.specs.GivenCosts.{AreNotGiven}
 use Rattle.placed_text.specs.TextFaults.{AreNoCosts}
 use Rattle.placed_text.proofs.reading.read_gap_costs.Goals as goal
 

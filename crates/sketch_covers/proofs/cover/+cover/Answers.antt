@@ -4,7 +4,7 @@ use Rattle.std.specs.List.{remove_range}
 use Rattle.tso_program.specs.declared.outcome.Outcome.{Outcome}
 use Rattle.tso_program.specs.Shown.{asked}
 use Rattle.sketches.specs.Complete.{IsComplete}
-use Rattle.known_edges.specs.ProgramSketches.{ProgramSketch, with_chosen}
+use Rattle.sketches.specs.ProgramSketches.{ProgramSketch, with_chosen}
 use Rattle.cert_forest.specs.declared.node.Node.{Node}
 use Rattle.cert_forest.specs.Trees.{Cover}
 use Rattle.cert_forest.specs.Nodes.{tree_of}

@@ -4,8 +4,8 @@ use Rattle.sketch_covers.proofs.Neat.{neat_known}
 use Rattle.sketch_covers.proofs.Nodes.{leaf_cover}
 use Rattle.std.specs.Option.{MatchOption}
 use Rattle.tso_program.specs.Shown.{asked}
-use Rattle.known_edges.specs.ProgramSketches.{mode_in}
-use Rattle.tree_laws.specs.CoverTrees.{MustEndAsNumber}
+use Rattle.sketches.specs.ProgramSketches.{mode_in}
+use Rattle.cover_judge.specs.CoverTrees.{MustEndAsNumber}
 use Rattle.sketch_covers.specs.declared.stop.Stop.TheVariants as stop
 use Rattle.sketch_covers.specs.Covers.{IsEndNotListed}
 use Rattle.sketch_covers.specs.KnownOutcomes.{by_number}

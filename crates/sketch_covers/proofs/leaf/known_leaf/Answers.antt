@@ -1,9 +1,9 @@
 use Rattle.std.proofs.Common.{◌≡◌, refl, subst, arith}
 use Rattle.std.specs.Prelude.{MatchOption}
 use Rattle.tso_program.specs.Shown.{asked}
-use Rattle.known_edges.specs.ProgramSketches.{mode_in}
+use Rattle.sketches.specs.ProgramSketches.{mode_in}
 use Rattle.cert_forest.specs.Trees.{Known}
-use Rattle.tree_laws.specs.CoverTrees.{MustEndAsNumber}
+use Rattle.cover_judge.specs.CoverTrees.{MustEndAsNumber}
 use Rattle.sketch_covers.specs.Covers.{IsEndNotListed}
 use Rattle.sketch_covers.specs.KnownOutcomes.{by_number}
 use Rattle.sketch_covers.proofs.Neat.{neat_known}

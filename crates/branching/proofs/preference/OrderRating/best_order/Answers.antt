@@ -1,4 +1,4 @@
-use Rattle.known_edges.proofs.Lookups.{each_index}
+use Rattle.sketches.proofs.Lookups.{each_index}
 use Rattle.branching.specs.ChoicesLeft.{IsInOrderWithLater}
 use Rattle.branching.proofs.preference.OrderRating.best_order.Goals as goal
 

@@ -1,4 +1,4 @@
-use Rattle.tree_laws.specs.CoverTrees.{event_of}
+use Rattle.cover_judge.specs.CoverTrees.{event_of}
 use Rattle.cover_judge.proofs.ChoicesJudged.{other_way}
 use Rattle.branching.proofs.preference.OrderRating.merit_of_orders.Goals as goal
 

@@ -1,6 +1,6 @@
 use Rattle.std.proofs.Common.{◌≡◌, Some, refl, sym, ap, ◌∙◌, subst}
-use Rattle.known_edges.specs.ProgramSketches.{access_in}
-use Rattle.tree_laws.specs.CoverTrees.{event_of}
+use Rattle.sketches.specs.ProgramSketches.{access_in}
+use Rattle.cover_judge.specs.CoverTrees.{event_of}
 use Rattle.branching.specs.declared.reads_writes.WholeAccesses.{WholeAccesses}
 use Rattle.branching.proofs.TakenIn.{TakesRead, read_put, read_left, write_put, write_left}
 use Rattle.branching.proofs.reads_writes.WholeAccesses.add_access.Goals as goal

@@ -1,9 +1,9 @@
 use Rattle.std.proofs.Common.{◌≡◌, ◌%◌, ℕ, subst, inl, inr, arith}
 use Rattle.std.proofs.lemmas.Bool.{cases_lt}
 use Rattle.bit_rows.specs.declared.row.TheConstants.{ROW_BITS}
-use Rattle.candidate_executions.specs.declared.event.Event.TheVariants.{Access as At}
-use Rattle.candidate_executions.specs.Candidates.{Writes}
-use Rattle.known_edges.specs.ProgramSketches.{access_in}
+use Rattle.cover_judge.specs.Event.TheVariants.{Access as At}
+use Rattle.cover_judge.specs.Candidates.{Writes}
+use Rattle.sketches.specs.ProgramSketches.{access_in}
 use Rattle.sketches.proofs.Ends.{write_within}
 use Rattle.branching.proofs.tally.Tally.add_thread.Goals as goal
 

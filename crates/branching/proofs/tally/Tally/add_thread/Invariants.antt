@@ -1,7 +1,7 @@
 use Rattle.std.proofs.Common.{ℕ, ◌<◌, Contains}
-use Rattle.candidate_executions.specs.declared.event.Event.TheVariants.{Access as At}
-use Rattle.candidate_executions.specs.Candidates.{Writes}
-use Rattle.known_edges.specs.ProgramSketches.{access_in}
+use Rattle.cover_judge.specs.Event.TheVariants.{Access as At}
+use Rattle.cover_judge.specs.Candidates.{Writes}
+use Rattle.sketches.specs.ProgramSketches.{access_in}
 use Rattle.branching.specs.declared.reads_writes.ReadValue.{ReadValue}
 use Rattle.branching.specs.Tallies.{HasBit, IsOldOrOf, KeepsBits}
 use Rattle.branching.proofs.tally.Tally.add_thread.Given as goal

@@ -2,7 +2,7 @@ use Rattle.std.proofs.Common.{◌≡◌, ◌<◌, ◌+◌, ℕ, length, sym, sub
 use Rattle.std.proofs.lemmas.Bool.{cases_lt}
 use Rattle.tso_program.specs.declared.listing.Listing.{Listing}
 use Rattle.sketches.proofs.Ends.{thread_within}
-use Rattle.thread_traces.proofs.KnownParts.{not_by}
+use Rattle.sketches.proofs.KnownParts.{not_by}
 use Rattle.branching.specs.Tallies.{IsTallyOf, IsNeither}
 use Rattle.branching.proofs.Tallied.{tally_more, tally_same}
 use Rattle.branching.proofs.tally.Tally.of_rest.Goals as goal

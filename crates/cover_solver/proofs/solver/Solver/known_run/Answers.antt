@@ -1,7 +1,7 @@
 use Rattle.std.proofs.Common.{◌≡◌, ◌∙◌, true, sym, ap, subst}
 use Rattle.std.specs.FinSet as set
 use Rattle.tso_program.specs.Shown.{asked}
-use Rattle.thread_traces.proofs.KnownParts.{not_by}
+use Rattle.sketches.proofs.KnownParts.{not_by}
 use Rattle.cover_solver.specs.Facts.{AreOf, Asked, Foreign, IsForeignValue}
 use Rattle.cover_solver.proofs.solver.Solver.known_run.Goals as goal
 

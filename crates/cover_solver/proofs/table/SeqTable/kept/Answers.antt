@@ -1,6 +1,6 @@
 use Rattle.std.proofs.Common.{◌≡◌, sym, subst}
 use Rattle.std.specs.Arc.{arc_value}
-use Rattle.cover_judge.proofs.Answered.{if_ok}
+use Rattle.partial_covers.proofs.Answered.{if_ok}
 use Rattle.partial_covers.specs.declared.partial_cover.PartialCover.{PartialCover}
 use Rattle.cover_solver.specs.Facts.{Table}
 use Rattle.partial_covers.specs.PartialCovers.{IsPartialCover}

@@ -1,7 +1,7 @@
 use Rattle.std.proofs.Common.{◌≡◌, ◌∙◌, ◌<◌, ◌≤◌, ◌++◌, List, [], ◌∷◌, ℕ, get_or, length, map, refl, sym, ap, subst, arith, rules}
 use Rattle.std.proofs.lemmas.List.{length-append, take_all}
 use Rattle.tso_program.specs.Shown.{asked}
-use Rattle.known_edges.proofs.Lookups.{same_default}
+use Rattle.sketches.proofs.Lookups.{same_default}
 use Rattle.cert_forest.specs.declared.node.Node.TheVariants as node
 use Rattle.cover_judge.specs.declared.choice.Choice.{Choice}
 use Rattle.cover_judge.specs.declared.choice.Choice.TheVariants as choice

@@ -1,7 +1,7 @@
 use Rattle.std.proofs.Common.{◌≡◌, ◌∙◌, ◌++◌, List, map, refl, sym, ap, subst, arith}
 use Rattle.tso_program.specs.Shown.{asked}
-use Rattle.known_edges.specs.Kept.{IsLawful}
-use Rattle.known_edges.specs.ProgramSketches.{ProgramSketch}
+use Rattle.sketches.specs.Kept.{IsLawful}
+use Rattle.sketches.specs.ProgramSketches.{ProgramSketch}
 use Rattle.cert_forest.specs.declared.node.Node.{Node}
 use Rattle.branching.specs.Combinations.{AreAlike, IsBase, with_root, with_trace}
 use Rattle.branching.specs.Traces.{traces, root}

@@ -1,7 +1,7 @@
 use Rattle.std.proofs.Common.{Option, subst}
 use Rattle.std.specs.Option.{MatchOption}
 use Rattle.candidate_executions.specs.Sketches.{IsWhole}
-use Rattle.known_edges.specs.ProgramSketches.{mode_in}
+use Rattle.sketches.specs.ProgramSketches.{mode_in}
 use Rattle.branching.specs.declared.plan.Plan.{Plan}
 use Rattle.branching.specs.Plans.{IsLast}
 use Rattle.partial_covers.proofs.CombinedCovers.{before_first}

@@ -1,5 +1,5 @@
 use Rattle.std.proofs.Common.{subst}
-use Rattle.known_edges.specs.ProgramSketches.{ProgramSketch}
+use Rattle.sketches.specs.ProgramSketches.{ProgramSketch}
 use Rattle.branching.specs.Combinations.{with_root}
 use Rattle.branching.specs.Traces.{traces}
 use Rattle.partial_covers.specs.Coverings.{Covers}

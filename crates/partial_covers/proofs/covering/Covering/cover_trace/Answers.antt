@@ -1,7 +1,7 @@
 use Rattle.std.proofs.Common.{refl, sym, subst}
 use Rattle.tso_program.specs.Shown.{asked}
 use Rattle.candidate_executions.specs.Sketches.{IsWhole}
-use Rattle.known_edges.specs.ProgramSketches.{ProgramSketch, mode_in}
+use Rattle.sketches.specs.ProgramSketches.{ProgramSketch, mode_in}
 use Rattle.cert_forest.specs.Trees.{Source, NoCover}
 use Rattle.branching.specs.Combinations.{with_trace}
 use Rattle.sketch_covers.specs.KnownOutcomes.{by_number}

@@ -5,7 +5,7 @@ use Rattle.std.specs.Prelude.{IfSome, IfNone}
 use Rattle.std.specs.Option.{option_copied}
 use Rattle.std.specs.Borrow.{Bor}
 use Rattle.std.proofs.lemmas.Option.{none-some}
-use Rattle.tso_machine.specs.Outcomes.{IsTheAnswer}
+use Rattle.cover_solver.specs.Outcomes.{IsTheAnswer}
 use Rattle.cover_solver.specs.Facts.{Serving}
 use Rattle.search_core.proofs.Answered.{best_is_answer, found_is_answer}
 use Rattle.search_core.proofs.tree.SearchTree.answer.Goals as goal

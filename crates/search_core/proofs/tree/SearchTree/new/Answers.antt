@@ -6,7 +6,7 @@ use Rattle.tso_program.specs.declared.listing.Listing.{Listing}
 use Rattle.tso_program.specs.Shown.{Question, asked}
 use Rattle.tso_program.specs.Limits.{IsWithinLimits}
 use Rattle.tso_program.specs.Listings.{gap_count}
-use Rattle.tree_laws.specs.GapTrees.{HaveCosts}
+use Rattle.cover_solver.specs.GapTrees.{HaveCosts}
 use Rattle.search_core.specs.declared.entry.Entry.{Entry}
 use Rattle.search_core.specs.declared.entry.Status.TheVariants.{Open}
 use Rattle.search_core.specs.Entries.{entry}
